@@ -29,6 +29,7 @@ pub struct Section<'a> {
     pub bytes: &'a [u8],
     pub size: u64,
     pub is_allocated: bool,
+    pub is_code: bool,
     /// Whether linkers keep its symbols as far apart as they are.
     pub is_whole: bool,
     /// In the order of their offsets.
@@ -183,6 +184,7 @@ fn read_object<'a>(path: String, bytes: &'a [u8]) -> Result<Object<'a>, Reason> 
             bytes,
             size: section.sh_size(LE),
             is_allocated: flags & u64::from(elf::SHF_ALLOC) != 0,
+            is_code: flags & u64::from(elf::SHF_EXECINSTR) != 0,
             is_whole: flags & u64::from(elf::SHF_MERGE) == 0,
             relocations: Vec::new(),
         });

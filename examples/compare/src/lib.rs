@@ -1,12 +1,17 @@
 //! Compares what two linkers made of each relocation of the same objects.
 
+mod align;
 pub mod elf;
+mod forms;
 mod made;
+mod recognise;
 pub mod report;
+mod side;
+mod targets;
 mod walk;
 
 use linker_utils::elf::Architecture;
-use walk::{Made, Side};
+use side::{Made, Side};
 
 /// A relocation, and what each linker made of it.
 pub struct Line {
@@ -43,7 +48,7 @@ pub fn compare<'a>(
     step: &dyn Fn(u64, u64),
     mut each: impl FnMut(Line),
 ) -> Result<Counts, (usize, elf::Reason)> {
-    let definers = walk::definers(objects);
+    let definers = side::definers(objects);
     let sections: usize = objects.iter().map(|object| object.sections.len()).sum();
     let (total, done) = (4 * sections as u64, std::cell::Cell::new(0));
     let advance = || {

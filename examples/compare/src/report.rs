@@ -1,7 +1,7 @@
 //! Places, symbols and choices as text and as JSON.
 
 use crate::elf::{Home, Object, Relocation};
-use crate::walk::{Made, Target};
+use crate::side::{Made, Target};
 use crate::{Counts, Line};
 use linker_utils::elf::Architecture;
 use object::elf::{STT_FILE, STT_SECTION};
