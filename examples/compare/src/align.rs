@@ -5,7 +5,7 @@
 //! count that leave most of the bytes that no relocation changes, and most instructions as they were
 //! or as a known rewrite makes them.
 
-use crate::elf::{Linked, Section};
+use crate::elf::{Linked, Relocation, Section};
 use crate::made;
 use crate::recognise;
 use linker_utils::elf::Architecture;
@@ -71,6 +71,37 @@ pub fn window(
     None
 }
 
+/// Whether the bytes of a section at an address are those around an offset, as far as no relocation
+/// changes them: up to those before and behind that may delete some, and but for one in four. If so,
+/// returned is how many are.
+pub fn fits(linked: &Linked, it: &Section, offset: u64, address: u64) -> Option<usize> {
+    let architecture = linked.architecture;
+    let may_delete = |one: &&Relocation| {
+        made::may_delete(architecture, one.code) || made::is_mark(architecture, one.code)
+    };
+    let (before, after) = it.relocations.split_at(it.relocations.partition_point(|one| one.offset < offset));
+    // rewrites may change the instruction and the next one
+    let past = |one: &Relocation| one.offset + made::len(architecture, one.code).max(4) + 4;
+    let start = before.iter().rev().find(may_delete).map_or(0, past).min(offset);
+    let end = after.iter().find(may_delete).map_or(it.bytes.len() as u64, |one| one.offset);
+    let (mut all, mut others, mut at) = (0, 0, start);
+    let mut compare = |from: u64, to: u64| {
+        let Some(original) = it.bytes.get(from as usize..to as usize) else { return };
+        let there = linked.bytes_at(address.wrapping_add(from).wrapping_sub(offset));
+        let there = there.unwrap_or(&[]).iter().map(Some).chain(std::iter::repeat(None));
+        all += original.len();
+        others += original.iter().zip(there).filter(|(a, b)| Some(*a) != *b).count();
+    };
+    for one in &it.relocations {
+        if one.offset >= start && one.offset < end {
+            compare(at, one.offset.saturating_sub(4).max(at));
+            at = at.max(past(one));
+        }
+    }
+    compare(at, end);
+    (4 * others <= all).then_some(all - others)
+}
+
 /// The relocations at one offset.
 struct Site {
     first: usize,
@@ -105,9 +136,8 @@ fn sites(architecture: Architecture, it: &Section) -> Vec<Site> {
 /// What may have been deleted up to an offset.
 #[derive(Clone, Copy)]
 struct State {
-    /// What an address is above its offset, here and where the part of the section begins.
+    /// What an address is above its offset.
     delta: u64,
-    first: u64,
     cost: u32,
     /// The last deletion, an index of `Walk::deletions`.
     last: Option<usize>,
@@ -146,11 +176,7 @@ pub fn map_of(linked: &Linked, it: &Section, anchors: &Anchors) -> Anchors {
     let Some((first, address)) = anchors.first().copied() else { return map };
     let delta = address.wrapping_sub(*first);
     if *first > 0 {
-        // before the first symbol any bytes may be deleted
-        let sites = between(0, *first);
-        let most: u64 = sites.iter().filter(|site| site.may_shrink()).map(Site::len).sum();
-        let deltas = (0..=most.min(64)).step_by(2).map(|deleted| delta.wrapping_add(deleted));
-        walk.part(&mut map, sites, (0, *first), deltas, Some(delta));
+        walk.part_before(&mut map, between(0, *first), (*first, delta));
     }
     let ends = anchors.iter().skip(1).map(Some).chain([None]);
     for ((from, address), end) in anchors.iter().zip(ends) {
@@ -161,7 +187,7 @@ pub fn map_of(linked: &Linked, it: &Section, anchors: &Anchors) -> Anchors {
         if wanted == Some(delta) || !may_shrink(sites) {
             map.push((*from, *address));
         } else {
-            walk.part(&mut map, sites, (*from, to), [delta], wanted);
+            walk.part(&mut map, sites, (*from, to), delta, wanted);
         }
     }
     map
@@ -178,36 +204,71 @@ impl Site {
 }
 
 impl Walk<'_> {
-    /// The deletions between two offsets, with what the first address may be, and what the last one
-    /// has to be above its offset.
+    /// The deletions between two offsets, with what the address of the first is above it, and what
+    /// that of the last has to be.
     fn part(
         &mut self,
         map: &mut Anchors,
         sites: &[Site],
         (from, to): (u64, u64),
-        deltas: impl IntoIterator<Item = u64>,
+        delta: u64,
         wanted: Option<u64>,
     ) {
-        let state = |delta| State { delta, first: delta, cost: 0, last: None };
-        let mut states: Vec<State> = deltas.into_iter().map(state).collect();
+        let mut states = vec![State { delta, cost: 0, last: None }];
         let mut at = from;
         for site in sites {
             self.compare(&mut states, at, site.start);
-            states = self.after(&states, site);
+            let after = states.iter().flat_map(|state| self.deletions_of(*state, site));
+            states = self.best(after.collect());
             at = at.max(site.end);
         }
         self.compare(&mut states, at, to);
         states.sort_by_key(|state| (wanted.is_some_and(|delta| delta != state.delta), state.cost));
-        let Some(best) = states.first() else { return };
+        map.push((from, from.wrapping_add(delta)));
         let start = map.len();
-        let mut last = best.last;
-        while let Some((place, before)) = last.map(|last| self.deletions[last]) {
-            map.push(place);
-            last = before;
-        }
-        map.push((from, from.wrapping_add(best.first)));
+        map.extend(self.take_deletions(&states));
         map[start..].reverse();
-        self.deletions.clear();
+    }
+
+    /// The deletions from a section's start to an offset, by what that one's address is above it.
+    fn part_before(&mut self, map: &mut Anchors, sites: &[Site], (to, delta): (u64, u64)) {
+        let mut states = vec![State { delta, cost: 0, last: None }];
+        let mut at = to;
+        for site in sites.iter().rev() {
+            self.compare(&mut states, site.end, at);
+            let most = if site.is_alignment { site.len() } else { site.len().min(8) };
+            let before = states.iter().flat_map(|state| {
+                let before = (0..=most).step_by(2).map(|deleted| State {
+                    delta: state.delta.wrapping_add(deleted),
+                    ..*state
+                });
+                let all = before.flat_map(|before| {
+                    let after = self.deletions_of(before, site).into_iter();
+                    after.map(move |(after, place)| (State { delta: before.delta, ..after }, after.delta, place))
+                });
+                let all = all.filter(|(_, after, _)| *after == state.delta);
+                all.map(|(state, _, place)| (state, place)).collect::<Vec<_>>()
+            });
+            states = self.best(before.collect());
+            at = at.min(site.start);
+        }
+        self.compare(&mut states, 0, at);
+        states.sort_by_key(|state| state.cost);
+        let start = states.first().map_or(delta, |state| state.delta);
+        map.push((0, start));
+        map.extend(self.take_deletions(&states));
+    }
+
+    /// Those of the first state, the last one first.
+    fn take_deletions(&mut self, states: &[State]) -> Anchors {
+        let deletions = std::mem::take(&mut self.deletions);
+        let mut last = states.first().and_then(|state| state.last);
+        let next = || {
+            let (place, before) = deletions[last?];
+            last = before;
+            Some(place)
+        };
+        std::iter::from_fn(next).collect()
     }
 
     /// Counts the bytes between two offsets that aren't as they were.
@@ -225,67 +286,69 @@ impl Walk<'_> {
         }
     }
 
-    /// The states behind the relocations at an offset.
-    fn after(&mut self, states: &[State], site: &Site) -> Vec<State> {
-        let mut all = Vec::<State>::new();
-        for state in states {
-            for (place, cost) in self.deletions_of(state, site) {
-                let mut after = *state;
-                after.cost += cost;
-                if let Some((offset, address)) = place {
-                    self.deletions.push(((offset, address), state.last));
-                    after.last = Some(self.deletions.len() - 1);
-                    after.delta = address.wrapping_sub(offset);
-                }
-                match all.iter_mut().find(|one| one.delta == after.delta) {
-                    Some(one) if one.cost > after.cost => *one = after,
-                    Some(_) => {}
-                    None => all.push(after),
-                }
+    /// The states to follow, with the deletions that lead to them: of those at one address the
+    /// likeliest.
+    fn best(&mut self, all: Vec<(State, Option<(u64, u64)>)>) -> Vec<State> {
+        let mut best = Vec::<(State, Option<(u64, u64)>)>::new();
+        for (state, place) in all {
+            match best.iter_mut().find(|(one, _)| one.delta == state.delta) {
+                Some(one) if one.0.cost > state.cost => *one = (state, place),
+                Some(_) => {}
+                None => best.push((state, place)),
             }
         }
-        all.sort_by_key(|state| state.cost);
-        let most = all[0].cost + MARGIN;
-        all.retain(|state| state.cost <= most);
-        all.truncate(MOST);
-        all
+        best.sort_by_key(|(state, _)| state.cost);
+        let most = best.first().map_or(0, |(state, _)| state.cost) + MARGIN;
+        best.retain(|(state, _)| state.cost <= most);
+        best.truncate(MOST);
+        let with_deletion = |(mut state, place): (State, Option<(u64, u64)>)| {
+            if let Some(place) = place {
+                self.deletions.push((place, state.last));
+                state.last = Some(self.deletions.len() - 1);
+            }
+            state
+        };
+        best.into_iter().map(with_deletion).collect()
     }
 
-    /// What may be deleted at an offset: the offset behind it with its address, and how unlikely
-    /// that is.
-    fn deletions_of(&self, state: &State, site: &Site) -> Vec<(Option<(u64, u64)>, u32)> {
+    /// The states behind the relocations at an offset, and the offset behind deleted bytes with its
+    /// address.
+    fn deletions_of(&self, state: State, site: &Site) -> Vec<(State, Option<(u64, u64)>)> {
         let architecture = self.linked.architecture;
         let place = site.start.wrapping_add(state.delta);
-        let relocations = || site.first..site.first + site.count;
+        let relocations = site.first..site.first + site.count;
+        let after = |deleted: u64, cost: u32| State {
+            delta: state.delta.wrapping_sub(deleted),
+            cost: state.cost + cost,
+            ..state
+        };
         if site.is_alignment {
-            let mut all = relocations().map(|index| &self.it.relocations[index]);
+            let mut all = self.it.relocations[relocations].iter();
             let nops = all.find_map(|one| made::alignment(architecture, one, place));
             return match nops {
                 Some((nops, kept)) if kept < nops => {
-                    let after = (site.start + nops, place.wrapping_add(kept));
-                    vec![(Some(after), 0), (None, UNKNOWN)]
+                    let place = (site.start + nops, place.wrapping_add(kept));
+                    vec![(after(nops - kept, 0), Some(place)), (after(0, UNKNOWN), None)]
                 }
-                _ => vec![(None, 0)],
+                _ => vec![(after(0, 0), None)],
             };
         }
-        let values = || relocations().filter(|index| {
+        let is_value = |index: &usize| {
             !made::is_mark(architecture, self.it.relocations[*index].code)
-        });
+        };
+        let values: Vec<usize> = relocations.filter(is_value).collect();
         let counts: &[u64] = if site.is_marked { &[0, 2, 4, 6, 8] } else { &[0] };
-        let mut found = Vec::new();
-        for count in counts.iter().take_while(|count| **count <= site.len()) {
-            let choices: Vec<_> = values()
-                .map(|index| recognise::deletion(self.linked, self.it, index, place, *count))
-                .collect();
-            let start = choices.iter().flatten().next();
-            let cost = UNKNOWN * choices.iter().filter(|one| one.is_none()).count() as u32;
-            let after = match (count, start) {
-                (0, _) => None,
-                (_, Some(start)) => Some((site.start + start + count, place.wrapping_add(*start))),
-                _ => Some((site.end, place.wrapping_add(site.len() - count))),
-            };
-            found.push((after, cost));
-        }
-        found
+        let counts = counts.iter().copied().take_while(|count| *count <= site.len());
+        let all = counts.map(|count| {
+            let starts = values.iter().map(|index| {
+                recognise::deletion(self.linked, self.it, *index, place, count)
+            });
+            let starts: Vec<_> = starts.collect();
+            let unknown = starts.iter().filter(|one| one.is_none()).count();
+            let start = starts.into_iter().flatten().next().unwrap_or(site.len() - count);
+            let past = (site.start + start + count, place.wrapping_add(start));
+            (after(count, UNKNOWN * unknown as u32), (count > 0).then_some(past))
+        });
+        all.collect()
     }
 }

@@ -20,6 +20,8 @@ pub struct Line {
     pub place: String,
     pub architecture: Architecture,
     pub relocation: u32,
+    /// Where it is in each file.
+    pub addresses: [Option<u64>; 2],
     /// The symbol and the addend.
     pub symbol: String,
     pub made: [Made; 2],
@@ -72,6 +74,9 @@ pub fn compare<'a>(
             let names = report::names_of(object, index);
             let [a, b] = &mut sides;
             let both = a.take_made(at, index).into_iter().zip(b.take_made(at, index));
+            let addresses = |offset| {
+                [&*a, &*b].map(|side| side.address_in(at, index, offset))
+            };
             for (one, (a, b)) in section.relocations.iter().zip(both) {
                 if made::is_mark(object.architecture, one.code) {
                     continue;
@@ -87,6 +92,7 @@ pub fn compare<'a>(
                     place: report::place(&names, &section.name, one.offset),
                     architecture: object.architecture,
                     relocation: one.code,
+                    addresses: addresses(one.offset),
                     symbol: report::symbol(object, one),
                     made: [a, b],
                 });

@@ -5,7 +5,7 @@ use crate::elf::{Definition, Home, Linked, Object, Reason, Symbol};
 use crate::targets::Pending;
 use linker_utils::elf::Architecture;
 use object::elf::{STT_FILE, STT_GNU_IFUNC, STT_SECTION, STT_TLS};
-use std::collections::HashMap;
+use std::collections::{HashMap, HashSet};
 
 /// What a relocation leads to.
 #[derive(Clone, PartialEq, Eq)]
@@ -77,6 +77,74 @@ fn may_delete(architecture: Architecture) -> bool {
     matches!(architecture, Architecture::RiscV | Architecture::LoongArch64)
 }
 
+/// Whether a name is that of a compiler's or an assembler's label.
+pub fn is_label(name: &str) -> bool {
+    name.starts_with(['.', '$']) || name.contains(char::is_control)
+}
+
+/// Where the objects' local symbols are.
+struct LocalSymbols {
+    /// By object and symbol.
+    addresses: HashMap<(usize, usize), u64>,
+    /// Those whose names are there more than once, and that are known by their order.
+    repeated: HashSet<(usize, usize)>,
+}
+
+impl LocalSymbols {
+    /// The file has a name as often as the objects that are linked do, in their order. Where it has
+    /// it less often, some object isn't linked, and the bytes of the sections tell which symbol is
+    /// which.
+    fn new(linked: &Linked, objects: &[Object]) -> LocalSymbols {
+        let mut by_name = HashMap::<&str, Vec<(usize, usize)>>::new();
+        for (index, object) in objects.iter().enumerate() {
+            for (at, symbol) in object.symbols.iter().enumerate() {
+                let Home::Section(section) = symbol.home else { continue };
+                if symbol.is_local && is_named(symbol) && object.sections[section].is_allocated {
+                    by_name.entry(&symbol.name).or_default().push((index, at));
+                }
+            }
+        }
+        let (mut addresses, mut repeated) = (HashMap::new(), HashSet::new());
+        for (name, symbols) in by_name {
+            let Some(there) = linked.locals.get(name) else { continue };
+            let is_label = is_label(name);
+            let fits = |(index, at): (usize, usize), address: u64| {
+                let symbol = &objects[index].symbols[at];
+                let Home::Section(section) = symbol.home else { return false };
+                let it = &objects[index].sections[section];
+                // another object may have the label too, so that some bytes have to tell
+                let least = if is_label && it.is_code { 8 } else { 0 };
+                align::fits(linked, it, symbol.value, address).is_some_and(|same| same >= least)
+            };
+            let in_order = || symbols.iter().copied().zip(there.iter().copied());
+            if symbols.len() == there.len() && in_order().all(|(one, address)| fits(one, address)) {
+                addresses.extend(in_order());
+                repeated.extend(symbols.iter().filter(|_| symbols.len() > 1));
+                continue;
+            }
+            if is_label || symbols.len().max(there.len()) > 64 {
+                continue;
+            }
+            // those of which one is at one address only, and no other is
+            let all = |one: (usize, usize)| there.iter().filter(move |there| fits(one, **there));
+            let mut found = HashMap::<u64, Vec<(usize, usize)>>::new();
+            for one in symbols.iter().copied() {
+                let is_one = all(one).take(2).count() == 1;
+                for address in all(one) {
+                    let claims = found.entry(*address).or_default();
+                    claims.push(one);
+                    if !is_one {
+                        claims.push(one);
+                    }
+                }
+            }
+            let sure = found.into_iter().filter(|(_, claims)| claims.len() == 1);
+            addresses.extend(sure.map(|(address, claims)| (claims[0], address)));
+        }
+        LocalSymbols { addresses, repeated }
+    }
+}
+
 /// An error where symbols of one section, with their offsets and addresses, are in another order or
 /// at other distances than where a linker leaves them.
 fn check_distances(
@@ -101,37 +169,28 @@ impl<'a> Side<'a> {
         objects: &'a [Object<'a>],
         definers: &'a HashMap<&'a str, usize>,
     ) -> Result<Side<'a>, Reason> {
-        // local symbols by their order, where the file has as many of the name as the objects
-        let mut counts = HashMap::<&str, usize>::new();
-        let locals = |object: &'a Object<'a>| {
-            object.symbols.iter().filter(|one| {
-                one.is_local && is_named(one) && matches!(one.home, Home::Section(_))
-            })
-        };
-        for symbol in objects.iter().flat_map(locals) {
-            *counts.entry(&symbol.name).or_default() += 1;
-        }
-        let mut seen = HashMap::<&str, usize>::new();
+        let locals = LocalSymbols::new(linked, objects);
         let (mut anchors, mut repeated) = (Vec::new(), Vec::new());
         for (index, object) in objects.iter().enumerate() {
             let mut of_sections = vec![Anchors::new(); object.sections.len()];
             let mut firm = vec![Vec::new(); object.sections.len()];
-            for symbol in &object.symbols {
+            for (at, symbol) in object.symbols.iter().enumerate() {
                 let Home::Section(section) = symbol.home else { continue };
                 let name = symbol.name.as_str();
                 if !is_named(symbol) || !object.sections[section].is_allocated {
                     continue;
                 }
                 let address = if symbol.is_local {
-                    let at = seen.entry(name).or_default();
-                    *at += 1;
-                    let found = linked.locals.get(name);
-                    found.filter(|all| counts.get(name) == Some(&all.len())).map(|all| all[*at - 1])
+                    locals.addresses.get(&(index, at)).copied()
                 } else if definers.get(name) == Some(&index) {
                     // linkers make hidden symbols local ones
                     let hidden = || linked.locals.get(name).filter(|all| all.len() == 1);
+                    let fits = |address: &u64| {
+                        let it = &object.sections[section];
+                        align::fits(linked, it, symbol.value, *address).is_some()
+                    };
                     let global = linked.globals.get(name).map(|one| one.address);
-                    global.or_else(|| hidden().map(|all| all[0]))
+                    global.or_else(|| hidden().map(|all| all[0]).filter(fits))
                 } else {
                     None
                 };
@@ -139,7 +198,7 @@ impl<'a> Side<'a> {
                 if !symbol.is_local && !symbol.is_weak && object.sections[section].is_whole {
                     firm[section].push((symbol.value, address, name));
                 }
-                if symbol.is_local && counts.get(name) != Some(&1) {
+                if symbol.is_local && locals.repeated.contains(&(index, at)) {
                     repeated.push((index, section, (symbol.value, address)));
                 } else {
                     of_sections[section].push((symbol.value, address));
