@@ -7,6 +7,7 @@ mod made;
 mod recognise;
 pub mod report;
 mod side;
+mod stubs;
 mod targets;
 mod walk;
 

@@ -1,6 +1,6 @@
 //! Places, symbols and choices as text and as JSON.
 
-use crate::elf::{Home, Object, Relocation};
+use crate::elf::{Home, Object, Relocation, is_label};
 use crate::side::{Made, Target};
 use crate::{Counts, Line};
 use linker_utils::elf::Architecture;
@@ -12,7 +12,7 @@ pub fn names_of<'a>(object: &'a Object<'a>, section: usize) -> Vec<(u64, &'a str
     let mut names: Vec<(u64, &str)> = object
         .symbols
         .iter()
-        .filter(|one| one.home == Home::Section(section) && !one.name.starts_with(['.', '$']))
+        .filter(|one| one.home == Home::Section(section) && !is_label(&one.name))
         .filter(|one| !one.name.is_empty() && !matches!(one.kind, STT_SECTION | STT_FILE))
         .map(|one| (one.value, one.name.as_str()))
         .collect();

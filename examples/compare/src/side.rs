@@ -1,7 +1,7 @@
 //! A linked file beside the objects: where their sections are in it.
 
 use crate::align::{self, Anchors};
-use crate::elf::{Definition, Home, Linked, Object, Reason, Symbol};
+use crate::elf::{Definition, Home, Linked, Object, Reason, Symbol, is_label};
 use crate::targets::Pending;
 use linker_utils::elf::Architecture;
 use object::elf::{STT_FILE, STT_GNU_IFUNC, STT_SECTION, STT_TLS};
@@ -40,7 +40,6 @@ pub struct Side<'a> {
     pub definers: &'a HashMap<&'a str, usize>,
     /// What the file says of the objects' global symbols.
     pub globals: Vec<Vec<Option<Definition>>>,
-    pub got_base: u64,
     pub anchors: Vec<Vec<Anchors>>,
     /// The same after the deletions.
     pub maps: Vec<Vec<Anchors>>,
@@ -77,11 +76,6 @@ fn may_delete(architecture: Architecture) -> bool {
     matches!(architecture, Architecture::RiscV | Architecture::LoongArch64)
 }
 
-/// Whether a name is that of a compiler's or an assembler's label.
-pub fn is_label(name: &str) -> bool {
-    name.starts_with(['.', '$']) || name.contains(char::is_control)
-}
-
 /// Where the objects' local symbols are.
 struct LocalSymbols {
     /// By object and symbol.
@@ -107,6 +101,7 @@ impl LocalSymbols {
         let (mut addresses, mut repeated) = (HashMap::new(), HashSet::new());
         for (name, symbols) in by_name {
             let Some(there) = linked.locals.get(name) else { continue };
+            let there: Vec<u64> = there.iter().map(|one| one.address).collect();
             let is_label = is_label(name);
             let fits = |(index, at): (usize, usize), address: u64| {
                 let symbol = &objects[index].symbols[at];
@@ -190,7 +185,7 @@ impl<'a> Side<'a> {
                         align::fits(linked, it, symbol.value, *address).is_some()
                     };
                     let global = linked.globals.get(name).map(|one| one.address);
-                    global.or_else(|| hidden().map(|all| all[0]).filter(fits))
+                    global.or_else(|| hidden().map(|all| all[0].address).filter(fits))
                 } else {
                     None
                 };
@@ -213,17 +208,6 @@ impl<'a> Side<'a> {
             }
             anchors.push(of_sections);
         }
-        let base = |name: &str| {
-            let local = linked.locals.get(name).and_then(|all| all.first().copied());
-            linked.globals.get(name).map(|one| one.address).or(local)
-        };
-        let got_base = match linked.architecture {
-            // the psABI: the TOC base is 0x8000 bytes behind the GOT's start
-            Architecture::Ppc64 => {
-                base(".TOC.").unwrap_or(linked.got_start.wrapping_add(0x8000))
-            }
-            _ => base("_GLOBAL_OFFSET_TABLE_").unwrap_or(linked.got_start),
-        };
         let all = anchors.iter().zip(objects).map(|(anchors, object)| {
             let sections = anchors.iter().zip(&object.sections);
             sections.map(|(anchors, section)| align::map_of(linked, section, anchors)).collect()
@@ -240,7 +224,6 @@ impl<'a> Side<'a> {
             objects,
             definers,
             globals,
-            got_base,
             anchors,
             maps,
             repeated,
@@ -304,7 +287,7 @@ impl<'a> Side<'a> {
         let global = || self.globals[object][index].map(|one| (one.address, one.other));
         let local = || {
             let found = self.linked.locals.get(&symbol.name)?;
-            (found.len() == 1).then(|| (found[0], 0))
+            (found.len() == 1).then(|| (found[0].address, found[0].other))
         };
         match symbol.home {
             Home::Section(_) if !symbol.is_local && !symbol.name.is_empty() => {
@@ -317,7 +300,7 @@ impl<'a> Side<'a> {
                 Some((self.address_in(object, section, symbol.value)?, symbol.other))
             }
             Home::Absolute => Some((symbol.value, 0)),
-            Home::Undefined if symbol.name == ".TOC." => Some((self.got_base, 0)),
+            Home::Undefined if symbol.name == ".TOC." => Some((self.linked.got_base, 0)),
             Home::Undefined if symbol.is_weak => {
                 let is_hidden = self.definers.contains_key(symbol.name.as_str());
                 let hidden = || local().filter(|_| is_hidden);

@@ -18,6 +18,7 @@ pub struct Pending {
 
 impl<'a> Side<'a> {
     fn name_of(&self, address: u64) -> String {
+        let address = self.linked.stubs.resolver(address);
         match self.linked.name_at(address) {
             Some((name, 0)) => name.to_string(),
             Some((name, distance)) if distance < 1 << 20 => format!("{name}+{distance:#x}"),
@@ -30,7 +31,7 @@ impl<'a> Side<'a> {
         let linked = self.linked;
         let base = match field.base {
             Base::Nothing => 0,
-            Base::GlobalPointer => self.global_pointer(),
+            Base::GlobalPointer => linked.address_of("__global_pointer$").unwrap_or(0),
         };
         let with = |symbol: u64| {
             let symbol = symbol.wrapping_sub(base);
@@ -42,15 +43,18 @@ impl<'a> Side<'a> {
             let entries = [0, local];
             let is_ppc64 = linked.architecture == Architecture::Ppc64;
             let entries = if is_ppc64 { &entries[..] } else { &entries[..1] };
-            if field.is_through_got() {
-                for content in [address, address.wrapping_add(operands.addend as u64)] {
-                    for got_entry in linked.got_of.get(&content).into_iter().flatten() {
-                        if field.leads(&Operands { got_entry: *got_entry, ..with(address) }) {
-                            return Target::AsWritten;
-                        }
-                    }
+            // an indirect function's may be that of its stub
+            let is_there = linked.stubs.same(&address).iter().any(|address| {
+                if !field.is_through_got() {
+                    return entries.iter().any(|by| field.leads(&with(address.wrapping_add(*by))));
                 }
-            } else if entries.iter().any(|by| field.leads(&with(address.wrapping_add(*by)))) {
+                [*address, address.wrapping_add(operands.addend as u64)].iter().any(|content| {
+                    linked.got_of.get(content).into_iter().flatten().any(|got_entry| {
+                        field.leads(&Operands { got_entry: *got_entry, ..with(*address) })
+                    })
+                })
+            });
+            if is_there {
                 return Target::AsWritten;
             }
         }
@@ -104,7 +108,7 @@ impl<'a> Side<'a> {
         let operands = Operands {
             addend: field.addend,
             place: field.place,
-            got_base: self.got_base,
+            got_base: self.linked.got_base,
             symbol_size: symbol.size,
             ..Operands::default()
         };
@@ -141,12 +145,6 @@ impl<'a> Side<'a> {
         row.is_some_and(|row| row.kind() == RelocationKind::RelativeRiscVLow12)
     }
 
-    fn global_pointer(&self) -> u64 {
-        let name = "__global_pointer$";
-        let local = self.linked.locals.get(name).and_then(|all| all.first().copied());
-        self.linked.globals.get(name).map(|one| one.address).or(local).unwrap_or(0)
-    }
-
     /// Once for each relocation and each choice of it.
     fn add_pending(&mut self, one: Pending) {
         let is_same = |last: &&Pending| {
@@ -170,11 +168,14 @@ impl<'a> Side<'a> {
             }
             return self.bits(field);
         };
-        let entries = self.linked.got_of.get(&address);
+        let same = self.linked.stubs.same(&address);
         let mut addresses = Vec::new();
         match row.asks_for_got() {
-            true => addresses.extend(entries.into_iter().flatten()),
-            false => addresses.push(address),
+            true => {
+                let entries = same.iter().filter_map(|address| self.linked.got_of.get(address));
+                addresses.extend(entries.flatten());
+            }
+            false => addresses.extend_from_slice(same),
         }
         if addresses.iter().any(|symbol| field.leads(&Operands { symbol: *symbol, ..low })) {
             return Target::AsWritten;
