@@ -2,7 +2,7 @@
 //! that leads to.
 
 use crate::elf::{Relocation, Section};
-use crate::forms::{self, Base, Form};
+use crate::forms::{self, Addend, Base, Form};
 use linker_utils::architecture::Relaxation;
 use linker_utils::elf::{Architecture, InstructionRewrite, Operands, Row};
 use linker_utils::reading::{FieldValue, read, solve};
@@ -28,6 +28,9 @@ pub struct Chosen {
 impl Chosen {
     /// Whether it changes instructions.
     pub fn is_rewrite(&self) -> bool {
+        if let Kind::Own(form) = self.kind {
+            return !form.name.is_empty();
+        }
         !matches!(
             self.kind,
             Kind::Library(
@@ -150,23 +153,27 @@ impl Before {
         Before { architecture, code: one.code, bytes, offset: one.offset - start, addend: one.addend }
     }
 
-    /// The choices after which the linked bytes are as they are, the library's before others.
+    /// The library's choices after which the linked bytes are as they are.
     pub fn choices(&self, others: &[FieldBits], linked: &[u8]) -> Vec<Chosen> {
-        let (architecture, code) = (self.architecture, self.code);
         let (bytes, offset) = (&self.bytes, self.offset);
-        let all =
-            recognise::architecture::recognise(architecture, code, bytes, offset, others, linked);
-        let mut all: Vec<_> = all
-            .into_iter()
-            .flatten()
-            .map(|made| Chosen {
-                kind: Kind::Library(made.choice.kind),
-                relocation: made.choice.relocation,
-            })
-            .collect();
-        let own = forms::form(architecture, code, bytes, offset as usize, linked);
-        all.extend(own.map(|(form, relocation)| Chosen { kind: Kind::Own(form), relocation }));
-        all
+        recognise::architecture::recognise(
+            self.architecture, self.code, bytes, offset, others, linked,
+        )
+        .into_iter()
+        .flatten()
+        .map(|made| {
+            let kind = Kind::Library(made.choice.kind);
+            Chosen { kind, relocation: made.choice.relocation }
+        })
+        .collect()
+    }
+
+    /// A rewrite that the library doesn't list.
+    pub fn own_choice(&self, linked: &[u8]) -> Option<Chosen> {
+        let (bytes, offset) = (&self.bytes, self.offset as usize);
+        let (form, relocation) =
+            forms::form(self.architecture, self.code, bytes, offset, linked)?;
+        Some(Chosen { kind: Kind::Own(form), relocation })
     }
 
     /// The same of a second rewrite, after one that deletes nothing: what is before the second one,
@@ -203,7 +210,14 @@ impl Before {
             Kind::Library(kind) => {
                 kind.apply(&mut self.bytes.clone(), &mut at, &mut addend);
             }
-            Kind::Own(form) => (addend, base) = (form.addend.unwrap_or(addend), form.base),
+            Kind::Own(form) => {
+                base = form.base;
+                match form.addend {
+                    Addend::Same => {}
+                    Addend::Plus(more) => addend = addend.wrapping_add(more),
+                    Addend::Nothing => addend = 0,
+                }
+            }
         }
         if let Some((start, count)) = chosen.deleted() {
             let start = self.offset + start;

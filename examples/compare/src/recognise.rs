@@ -34,6 +34,17 @@ impl Found {
     }
 }
 
+/// What is looked for.
+#[derive(Clone, Copy)]
+enum Pass {
+    /// A rewrite of the library.
+    Library,
+    /// One that it doesn't list.
+    Own,
+    /// Two of the library, one after the other.
+    Twice,
+}
+
 /// A relocation of a section, and where the section's bytes are in the linked file.
 #[derive(Clone, Copy)]
 pub struct At<'a> {
@@ -53,8 +64,9 @@ impl Side<'_> {
         if let Some(best) = best.as_mut().filter(|best| best.is_alone()) {
             best.is_through_got = true; // the word is an entry of the GOT
         }
-        let direct = self.recognise_as(at, &word);
-        let direct = direct.filter(|direct| direct.is_sure() && !direct.is_through_got);
+        let direct = self.recognise_as(at, &word).filter(|direct| !direct.is_through_got);
+        let is_unknown = best.is_none();
+        let direct = direct.filter(|direct| direct.is_sure() || is_unknown);
         match (best, direct) {
             (Some(mut best), Some(direct)) if best.is_sure() => {
                 if best.is_alone() && direct.is_alone() {
@@ -94,19 +106,26 @@ impl Side<'_> {
             Architecture::X86_64 => &[(6, 12), (4, 12), (6, len), (3, len), (0, len)],
             _ => &[(4, 8), (0, 8), (4, 4), (0, 4), (0, len)],
         };
-        // one rewrite, or else a second one after another
-        [false, true].into_iter().find_map(|is_second| {
+        let mut try_windows = |windows: &[(u64, u64)], pass| {
             let mut best = None;
             for (back, forward) in windows {
                 let start = one.offset.saturating_sub(*back);
                 let end = (one.offset + forward.max(&len)).min(at.it.bytes.len() as u64);
-                self.recognise_in(at, one, (start, end), is_second, &mut best);
+                self.recognise_in(at, one, (start, end), pass, &mut best);
                 if best.is_some() {
                     break;
                 }
             }
             best
-        })
+        };
+        let mut best = try_windows(windows, Pass::Library);
+        if best.as_ref().is_none_or(|best| !best.is_sure()) {
+            let own = try_windows(windows.get(3..).unwrap_or(&[]), Pass::Own);
+            if best.is_none() || own.as_ref().is_some_and(Found::is_sure) {
+                best = own;
+            }
+        }
+        best.or_else(|| try_windows(windows, Pass::Twice))
     }
 
     /// The same in a window of the section.
@@ -115,7 +134,7 @@ impl Side<'_> {
         at: At,
         one: &Relocation,
         (start, end): (u64, u64),
-        is_second: bool,
+        pass: Pass,
         best: &mut Option<Found>,
     ) {
         let (architecture, linked) = (self.linked.architecture, self.linked);
@@ -125,11 +144,13 @@ impl Side<'_> {
         let own = (one.offset, one.offset + made::len(architecture, one.code));
         let Some(window) = align::window(linked, at.it, at.map, (start, end), own) else { return };
         let before = Before::new(architecture, one, at.it, (start, end));
-        let mut found: Vec<_> = if is_second {
-            before.choices_after(&others, &window.bytes)
-        } else {
-            let all = before.choices(&others, &window.bytes).into_iter();
-            all.map(|chosen| (before.clone(), chosen, None)).collect()
+        let alone = |chosen| (before.clone(), chosen, None);
+        let mut found: Vec<_> = match pass {
+            Pass::Library => {
+                before.choices(&others, &window.bytes).into_iter().map(alone).collect()
+            }
+            Pass::Own => before.own_choice(&window.bytes).into_iter().map(alone).collect(),
+            Pass::Twice => before.choices_after(&others, &window.bytes),
         };
         // a high part alone may lead to its symbol by either relocation: its low half tells
         found.sort_by_key(|(_, chosen, _)| chosen.relocation != one.code);
@@ -198,7 +219,8 @@ pub fn deletion(
         }
         let behind = it.bytes.get(past as usize..end as usize)?;
         let before = Before::new(architecture, one, it, (start, end));
-        let found = before.choices(&others, &[there, behind].concat());
+        let linked = [there, behind].concat();
+        let found = before.choices(&others, &linked).into_iter().chain(before.own_choice(&linked));
         let found = found.into_iter().find(|one| one.deleted_count() == deleted)?;
         Some(found.deleted().map_or(0, |(start, _)| start))
     })
