@@ -13,11 +13,14 @@ use linker_utils::elf::Architecture;
 /// Offsets of a section, by offset, and their addresses.
 pub type Anchors = Vec<(u64, u64)>;
 
+/// The address of what isn't in the linked file, in `Anchors`.
+pub const NOWHERE: u64 = 1 << 62;
+
 /// The address of an offset, by what is at or before it.
 pub fn address_in(map: &Anchors, offset: u64) -> Option<u64> {
     let after = map.partition_point(|(start, _)| *start <= offset);
     let (start, address) = map.get(after.saturating_sub(1))?;
-    Some(address.wrapping_add(offset).wrapping_sub(*start))
+    (*address != NOWHERE).then(|| address.wrapping_add(offset).wrapping_sub(*start))
 }
 
 /// Some bytes of a section as they are in the linked file.
@@ -48,14 +51,16 @@ pub fn window(
     for (offset, there) in next {
         // the bytes that are deleted before the next offset
         let past = address.wrapping_add(offset - at);
-        let deleted = if offset == u64::MAX { 0 } else { past.wrapping_sub(there) };
-        let kept = (offset - at).checked_sub(deleted)?.min(end - at);
+        let deleted = past.wrapping_sub(there);
+        // or else what is behind is somewhere else
+        let is_near = offset != u64::MAX && deleted <= offset - at;
+        let kept = (offset - at).checked_sub(if is_near { deleted } else { 0 })?.min(end - at);
         if kept > 0 {
             found.bytes.extend(linked.bytes_at(address)?.get(..kept as usize)?);
         }
         at += kept;
-        if at == end {
-            return Some(found);
+        if at == end || !is_near {
+            return (at == end).then_some(found);
         }
         let to = offset.min(end);
         if own.0 <= at && to <= own.1 {
@@ -81,7 +86,10 @@ pub fn fits(linked: &Linked, it: &Section, offset: u64, address: u64) -> Option<
     };
     let (before, after) = it.relocations.split_at(it.relocations.partition_point(|one| one.offset < offset));
     // rewrites may change the instruction and the next one
-    let past = |one: &Relocation| one.offset + made::len(architecture, one.code).max(4) + 4;
+    let past = |one: &Relocation| match made::alignment(architecture, one, 0) {
+        Some((nops, _)) => one.offset + nops,
+        None => one.offset + made::len(architecture, one.code).max(4) + 4,
+    };
     let start = before.iter().rev().find(may_delete).map_or(0, past).min(offset);
     let end = after.iter().find(may_delete).map_or(it.bytes.len() as u64, |one| one.offset);
     let (mut all, mut others, mut at) = (0, 0, start);

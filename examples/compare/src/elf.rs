@@ -86,6 +86,10 @@ pub struct Linked<'a> {
     /// What addresses of the GOT count from: on PowerPC64 the TOC pointer.
     pub got_base: u64,
     pub stubs: Stubs,
+    /// Names, addresses and bytes of the sections.
+    sections: Vec<(String, u64, &'a [u8])>,
+    /// What dynamic relocations put at addresses.
+    moved: HashMap<u64, Entry>,
 }
 
 #[derive(Clone, Copy)]
@@ -327,8 +331,12 @@ pub fn read_linked<'a>(bytes: &'a [u8]) -> Result<Linked<'a>, Reason> {
     }
     let mut got = Vec::new();
     let mut got_start = None;
+    let mut sections = Vec::new();
     for section in table.iter() {
         let (name, bytes) = name_and_bytes(&table, section, bytes)?;
+        if section.sh_flags(LE) & u64::from(elf::SHF_ALLOC) != 0 {
+            sections.push((name.clone(), section.sh_addr(LE), bytes));
+        }
         if !name.starts_with(".got") || section.sh_type(LE) != elf::SHT_PROGBITS {
             continue;
         }
@@ -357,13 +365,37 @@ pub fn read_linked<'a>(bytes: &'a [u8]) -> Result<Linked<'a>, Reason> {
         _ => address("_GLOBAL_OFFSET_TABLE_").unwrap_or(got_start),
     };
     let stubs = Stubs::new(architecture, &code, &resolvers, got_base);
-    Ok(Linked { architecture, segments, globals, locals, by_address, got, got_of, got_base, stubs })
+    Ok(Linked {
+        architecture,
+        segments,
+        globals,
+        locals,
+        by_address,
+        got,
+        got_of,
+        got_base,
+        stubs,
+        sections,
+        moved,
+    })
 }
 
-impl Linked<'_> {
+impl<'a> Linked<'a> {
     /// The symbol of a name that linkers define.
     pub fn address_of(&self, name: &str) -> Option<u64> {
         first_of(&self.globals, &self.locals, name).map(|one| one.address)
+    }
+
+    /// The addresses and bytes of the sections of a name.
+    pub fn tables(&self, name: &str) -> impl Iterator<Item = (u64, &'a [u8])> {
+        let all = self.sections.iter().filter(move |(section, _, _)| section == name);
+        all.map(|(_, address, bytes)| (*address, *bytes))
+    }
+
+    /// What a word of 8 bytes leads to.
+    pub fn word_at(&self, address: u64) -> Option<Entry> {
+        let word = || Some(u64::from_le_bytes(*self.bytes_at(address)?.first_chunk()?));
+        self.moved.get(&address).cloned().or_else(|| word().map(Entry::Address))
     }
 
     /// The bytes from an address on, to the end of what the file has there.

@@ -8,6 +8,7 @@ mod recognise;
 pub mod report;
 mod side;
 mod stubs;
+mod tables;
 mod targets;
 mod walk;
 

@@ -80,6 +80,10 @@ pub fn is_mark(architecture: Architecture, code: u32) -> bool {
     ["_NONE", "_RELAX", "_ALIGN"].iter().any(|end| name.ends_with(end))
 }
 
+pub fn is_uleb128(architecture: Architecture, code: u32) -> bool {
+    architecture.name(code).is_some_and(|name| name.ends_with("_ULEB128"))
+}
+
 /// Whether a relocation says that bytes of those at its offset may be deleted. A mark of the first
 /// instruction of RISC-V's TLS descriptors counts for all four.
 pub fn may_delete(architecture: Architecture, code: u32) -> bool {

@@ -2,6 +2,7 @@
 
 use crate::align::{self, Anchors};
 use crate::elf::{Definition, Home, Linked, Object, Reason, Symbol, is_label};
+use crate::tables::Frames;
 use crate::targets::Pending;
 use linker_utils::elf::Architecture;
 use object::elf::{STT_FILE, STT_GNU_IFUNC, STT_SECTION, STT_TLS};
@@ -235,7 +236,9 @@ impl<'a> Side<'a> {
     /// Finds the places of all sections, as far as they can be found; `step` is called for each
     /// section that was looked at.
     pub fn locate(&mut self, step: &dyn Fn()) {
+        let frames = Frames::new(self.linked);
         for _ in 0..5 {
+            self.find_tables(&frames);
             self.pending.clear();
             self.made.clear();
             for object in 0..self.objects.len() {

@@ -243,7 +243,13 @@ impl<'a> Side<'a> {
             }
             match one.field.number(&one.operands) {
                 Some((number, 0, 64)) => bases.push(number.wrapping_sub(one.value)),
-                Some((number, 0, end)) => lows.push((number.wrapping_sub(one.value), end)),
+                Some((number, 0, end)) => {
+                    lows.push((number.wrapping_sub(one.value), end));
+                    if end == 32 {
+                        // in the same 2^32 bytes
+                        highs.push((one.field.place, 32));
+                    }
+                }
                 Some((number, start, _)) => highs.push((number.wrapping_sub(one.value), start)),
                 None => {}
             }

@@ -4,7 +4,7 @@ use crate::align;
 use crate::elf::{Home, Relocation, Section};
 use crate::made;
 use crate::recognise::At;
-use crate::side::{Made, Side};
+use crate::side::{Made, Side, Target};
 use linker_utils::elf::RelocationKind;
 
 impl<'a> Side<'a> {
@@ -26,13 +26,21 @@ impl<'a> Side<'a> {
                 continue;
             }
             let Some(found) = self.recognise(At { object, it, index, map: &map }) else {
-                all[index] = if one.offset < covered {
-                    Made::Part
-                } else {
-                    let place = align::address_in(&map, one.offset).unwrap_or(0);
-                    let len = made::len(architecture, one.code).max(4) as usize;
-                    let bytes = self.linked.bytes_at(place).unwrap_or(&[]);
-                    Made::Unknown(bytes[..bytes.len().min(len)].to_vec())
+                let place = align::address_in(&map, one.offset);
+                all[index] = match place.and_then(|place| self.linked.bytes_at(place)) {
+                    _ if one.offset < covered => Made::Part,
+                    // sums aren't read, and these have as many bytes as their numbers
+                    Some(_) if made::is_uleb128(architecture, one.code) => Made::Chosen {
+                        rewrite: None,
+                        relocation: one.code,
+                        is_through_got: false,
+                        target: Target::Nothing,
+                    },
+                    Some(bytes) => {
+                        let len = made::len(architecture, one.code).max(4) as usize;
+                        Made::Unknown(bytes[..bytes.len().min(len)].to_vec())
+                    }
+                    None => Made::Nowhere,
                 };
                 continue;
             };
