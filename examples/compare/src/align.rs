@@ -110,6 +110,17 @@ pub fn fits(linked: &Linked, it: &Section, offset: u64, address: u64) -> Option<
     (4 * others <= all).then_some(all - others)
 }
 
+/// How much is different of a section's next bytes from an offset on, if that is at an address.
+pub fn differences(linked: &Linked, it: &Section, offset: u64, address: u64) -> u32 {
+    let sites = sites(linked.architecture, it);
+    let end = (it.bytes.len() as u64).min(offset + 1024);
+    let place = |offset| sites.partition_point(|site| site.start < offset);
+    let sites = &sites[place(offset)..place(end)];
+    let delta = address.wrapping_sub(offset);
+    let mut walk = Walk { linked, it, deletions: Vec::new() };
+    walk.part(&mut Anchors::new(), sites, (offset, end), delta, None)
+}
+
 /// The relocations at one offset.
 struct Site {
     first: usize,
@@ -213,7 +224,7 @@ impl Site {
 
 impl Walk<'_> {
     /// The deletions between two offsets, with what the address of the first is above it, and what
-    /// that of the last has to be.
+    /// that of the last has to be. Returned is how unlikely they are.
     fn part(
         &mut self,
         map: &mut Anchors,
@@ -221,7 +232,7 @@ impl Walk<'_> {
         (from, to): (u64, u64),
         delta: u64,
         wanted: Option<u64>,
-    ) {
+    ) -> u32 {
         let mut states = vec![State { delta, cost: 0, last: None }];
         let mut at = from;
         for site in sites {
@@ -236,6 +247,7 @@ impl Walk<'_> {
         let start = map.len();
         map.extend(self.take_deletions(&states));
         map[start..].reverse();
+        states.first().map_or(0, |state| state.cost)
     }
 
     /// The deletions from a section's start to an offset, by what that one's address is above it.
@@ -283,8 +295,8 @@ impl Walk<'_> {
     fn compare(&self, states: &mut [State], from: u64, to: u64) {
         let unit = 2;
         let Some(original) = self.it.bytes.get(from as usize..to as usize) else { return };
-        if original.is_empty() || states.len() == 1 {
-            return; // there is nothing to choose
+        if original.is_empty() {
+            return;
         }
         for state in states {
             let there = self.linked.bytes_at(from.wrapping_add(state.delta)).unwrap_or(&[]);

@@ -65,6 +65,8 @@ pub struct Symbol {
 
 pub struct Object<'a> {
     pub path: String,
+    /// Whether it is a member of an archive, which may not be linked.
+    pub is_member: bool,
     pub architecture: Architecture,
     pub sections: Vec<Section<'a>>,
     pub symbols: Vec<Symbol>,
@@ -175,7 +177,11 @@ fn symbols_of(
     Ok(all)
 }
 
-fn read_object<'a>(path: String, bytes: &'a [u8]) -> Result<Object<'a>, Reason> {
+fn read_object<'a>(
+    path: String,
+    is_member: bool,
+    bytes: &'a [u8],
+) -> Result<Object<'a>, Reason> {
     let (head, architecture) = head(bytes)?;
     if head.e_type.get(LE) != elf::ET_REL {
         return Err("this isn't a relocatable object".into());
@@ -229,13 +235,13 @@ fn read_object<'a>(path: String, bytes: &'a [u8]) -> Result<Object<'a>, Reason> 
         }
         target.relocations.sort_by_key(|one| one.offset);
     }
-    Ok(Object { path, architecture, sections, symbols })
+    Ok(Object { path, is_member, architecture, sections, symbols })
 }
 
 /// The object of a file, or those of an archive.
 pub fn read_objects<'a>(path: &str, bytes: &'a [u8]) -> Result<Vec<Object<'a>>, Reason> {
     if !bytes.starts_with(b"!<arch>\n") {
-        return Ok(vec![read_object(path.into(), bytes)?]);
+        return Ok(vec![read_object(path.into(), false, bytes)?]);
     }
     let archive = ArchiveFile::parse(bytes).map_err(because)?;
     let mut objects = Vec::new();
@@ -243,7 +249,7 @@ pub fn read_objects<'a>(path: &str, bytes: &'a [u8]) -> Result<Vec<Object<'a>>, 
         let member = member.map_err(because)?;
         let name = text(member.name());
         let data = member.data(bytes).map_err(because)?;
-        let object = read_object(format!("{path}({name})"), data);
+        let object = read_object(format!("{path}({name})"), true, data);
         objects.push(object.map_err(|reason| format!("{name}: {reason}"))?);
     }
     Ok(objects)

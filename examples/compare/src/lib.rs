@@ -8,6 +8,7 @@ mod recognise;
 pub mod report;
 mod side;
 mod stubs;
+mod symbols;
 mod tables;
 mod targets;
 mod walk;
@@ -52,7 +53,6 @@ pub fn compare<'a>(
     step: &dyn Fn(u64, u64),
     mut each: impl FnMut(Line),
 ) -> Result<Counts, (usize, elf::Reason)> {
-    let definers = side::definers(objects);
     let sections: usize = objects.iter().map(|object| object.sections.len()).sum();
     let (total, done) = (4 * sections as u64, std::cell::Cell::new(0));
     let advance = || {
@@ -60,7 +60,7 @@ pub fn compare<'a>(
         step(done.get().min(total), total);
     };
     let side = |which: usize| {
-        Side::new(files[which], objects, &definers).map_err(|reason| (which, reason))
+        Side::new(files[which], objects).map_err(|reason| (which, reason))
     };
     let mut sides = [side(0)?, side(1)?];
     for side in &mut sides {
