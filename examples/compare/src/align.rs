@@ -110,15 +110,17 @@ pub fn fits(linked: &Linked, it: &Section, offset: u64, address: u64) -> Option<
     (4 * others <= all).then_some(all - others)
 }
 
-/// How much is different of a section's next bytes from an offset on, if that is at an address.
-pub fn differences(linked: &Linked, it: &Section, offset: u64, address: u64) -> u32 {
+/// How much is different of a section's next bytes from an offset on, if that is at an address, and
+/// how many bytes they are.
+pub fn differences(linked: &Linked, it: &Section, offset: u64, address: u64) -> (u32, u64) {
     let sites = sites(linked.architecture, it);
     let end = (it.bytes.len() as u64).min(offset + 1024);
     let place = |offset| sites.partition_point(|site| site.start < offset);
     let sites = &sites[place(offset)..place(end)];
     let delta = address.wrapping_sub(offset);
     let mut walk = Walk { linked, it, deletions: Vec::new() };
-    walk.part(&mut Anchors::new(), sites, (offset, end), delta, None)
+    let end = end.max(offset);
+    (walk.part(&mut Anchors::new(), sites, (offset, end), delta, None), end - offset)
 }
 
 /// The relocations at one offset.

@@ -34,12 +34,14 @@ pub struct Form {
     pub deleted: Option<(u64, u64)>,
     pub addend: Addend,
     pub base: Base,
+    /// Whether the next relocation is part of it.
+    pub skips_next: bool,
 }
 
 const NOTHING: u32 = 0; // R_*_NONE of each architecture
 
 fn plain(name: &'static str) -> Form {
-    Form { name, deleted: None, addend: Addend::Same, base: Base::Nothing }
+    Form { name, deleted: None, addend: Addend::Same, base: Base::Nothing, skips_next: false }
 }
 
 fn deletes(name: &'static str, start: u64, count: u64) -> Form {
@@ -97,6 +99,12 @@ fn riscv(
             let jalr = word(original, offset + 4)? & 0xf80 | 0x67;
             let is_jalr = after()? & 0xfffff == jalr;
             is_jalr.then_some((deletes("CallToJalr", 4, 4), R_RISCV_LO12_I))
+        }
+        // of an undefined weak function: auipc stays, and jalr counts from 0
+        ("R_RISCV_CALL" | "R_RISCV_CALL_PLT", 0) => {
+            let jalr = word(original, offset + 4)? & 0xf80 | 0x67;
+            let is_zero = word(linked, offset + 4)? == jalr && after()? == before;
+            is_zero.then_some((plain("BaseToZero"), NOTHING))
         }
         ("R_RISCV_HI20", 2) => {
             let after = u16::from_le_bytes(*linked.get(offset..)?.first_chunk()?);
@@ -164,6 +172,11 @@ fn loongarch(name: &str, before: u32, after: u32) -> Option<(Form, u32)> {
             };
             Some((plain(name), R_LARCH_TLS_LE_LO12))
         }
+        // after the high part is deleted
+        "R_LARCH_TLS_LE_LO12" => {
+            let is_same = (before ^ after) & !(rj | 0x003f_fc00) == 0 && after & rj == 0;
+            is_same.then_some((plain("BaseToZero"), R_LARCH_TLS_LE_LO12))
+        }
         // of an undefined weak function: jirl $ra, $zero, 0 and jirl $zero, $zero, 0
         "R_LARCH_B26" => {
             let is_call = before >> 26 == 0x15; // or else a jump
@@ -190,9 +203,18 @@ fn ppc64(name: &str, code: u32, before: u32, after: u32) -> Option<(Form, u32)> 
     // GNU ld leaves `addis` with 0 away, and the next instruction counts from the thread pointer
     let is_from_thread = after & RA == 13 << 16;
     let absolute = |name| Form { addend: Addend::Nothing, ..plain(name) };
+    let call = |name| Form { skips_next: true, ..plain(name) };
     match name {
         "R_PPC64_TPREL16_HA" => (after == PPC64_NOP).then_some((plain("AddisToNop"), NOTHING)),
         "R_PPC64_GOT_TPREL16_LO_DS" => (after == PPC64_NOP).then_some((plain("LdToNop"), NOTHING)),
+        "R_PPC64_GOT_TLSGD16_LO" | "R_PPC64_GOT_TLSLD16_LO" => {
+            (after == PPC64_NOP).then_some((plain("AddiToNop"), NOTHING))
+        }
+        // the call of __tls_get_addr: addi 3,13,x@tprel@l, and addi 3,13,0x1000
+        "R_PPC64_TLSGD" => (after & 0xffff_0000 == 0x386d_0000)
+            .then_some((call("CallToAddi, BaseToThread"), R_PPC64_TPREL16_LO)),
+        "R_PPC64_TLSLD" => (after == 0x386d_1000)
+            .then_some((call("CallToAddi4096, BaseToThread"), NOTHING)),
         "R_PPC64_TPREL16_LO" | "R_PPC64_TPREL16_LO_DS" => {
             let field = if name.ends_with("_DS") { 0xfffc } else { 0xffff };
             let is_same = (before ^ after) & !(RA | field) == 0;

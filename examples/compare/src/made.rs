@@ -57,8 +57,12 @@ impl Chosen {
     }
 
     pub fn skips_next(&self) -> bool {
-        let Kind::Library(kind) = self.kind else { return false };
-        matches!(kind.next_modifier(), RelocationModifier::SkipNextRelocation)
+        match self.kind {
+            Kind::Library(kind) => {
+                matches!(kind.next_modifier(), RelocationModifier::SkipNextRelocation)
+            }
+            Kind::Own(form) => form.skips_next,
+        }
     }
 
     /// Where the deleted bytes begin, behind the relocation's offset, and how many they are.

@@ -45,8 +45,25 @@ fn name(architecture: Architecture, code: u32) -> String {
     architecture.name(code).map_or_else(|| format!("relocation {code}"), str::to_string)
 }
 
+/// A text without control characters, which names may have: the local labels of LoongArch's
+/// assembler do.
+fn printable(text: &str) -> String {
+    let mut shown = String::with_capacity(text.len());
+    for one in text.chars() {
+        match one.is_control() {
+            true => shown.extend(one.escape_default()),
+            false => shown.push(one),
+        }
+    }
+    shown
+}
+
 /// What a linker made of a relocation, in words.
 pub fn words(line: &Line, made: &Made) -> String {
+    printable(&said(line, made))
+}
+
+fn said(line: &Line, made: &Made) -> String {
     match made {
         Made::Chosen { rewrite, relocation, is_through_got, target } => {
             let mut said = match rewrite {
@@ -86,7 +103,7 @@ fn as_json(line: &Line, made: &Made) -> Value {
                 "through_got": is_through_got, "target": target, "known": known,
             })
         }
-        _ => json!({ "other": words(line, made) }),
+        _ => json!({ "other": said(line, made) }),
     }
 }
 
@@ -108,5 +125,5 @@ pub fn counts_as_json(counts: &Counts) -> Value {
 /// `PLACE  RELOCATION SYMBOL`, without what was made of it.
 pub fn head(line: &Line) -> String {
     let relocation = name(line.architecture, line.relocation);
-    format!("{}: {}  {relocation} {}", line.object, line.place, line.symbol)
+    printable(&format!("{}: {}  {relocation} {}", line.object, line.place, line.symbol))
 }

@@ -68,7 +68,7 @@ impl<'a> Side<'a> {
                 let address = if symbol.is_local {
                     locals.addresses.get(&(index, at)).copied()
                 } else if definers.of.get(name) == Some(&index) {
-                    symbols::address_of_global(linked, object, symbol)
+                    definers.address(linked, object, symbol)
                 } else {
                     None
                 };

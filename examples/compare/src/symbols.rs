@@ -12,6 +12,8 @@ pub struct Definers<'a> {
     pub is_linked: Vec<bool>,
     /// Which object defines each global symbol.
     pub of: HashMap<&'a str, usize>,
+    /// The names of the linked objects' local symbols.
+    locals: HashSet<&'a str>,
 }
 
 impl<'a> Definers<'a> {
@@ -25,23 +27,26 @@ impl<'a> Definers<'a> {
             }
         }
         // those members are that define a symbol of the file which no other object does
-        let mut is_linked: Vec<bool> = objects.iter().map(|object| !object.is_member).collect();
+        let is_linked = objects.iter().map(|object| !object.is_member).collect();
+        let mut it = Definers { is_linked, of: HashMap::new(), locals: HashSet::new() };
+        it.locals.extend(it.local_names(objects));
         for (name, symbols) in &all {
             if let [(index, symbol)] = symbols[..] {
                 let is_there = is_named(symbol) || linked.globals.contains_key(*name);
-                is_linked[index] |=
-                    is_there && address_of_global(linked, &objects[index], symbol).is_some();
+                it.is_linked[index] |=
+                    is_there && it.address(linked, &objects[index], symbol).is_some();
             }
         }
+        it.locals.extend(it.local_names(objects));
         // of those that are linked rather one where it isn't weak, whose bytes are there
         let differences = |index: usize, symbol: &Symbol| {
             let Home::Section(section) = symbol.home else { return u32::MAX };
             let address = linked.globals.get(&symbol.name).map(|one| one.address);
             let it = &objects[index].sections[section];
-            address.map_or(0, |address| align::differences(linked, it, symbol.value, address))
+            address.map_or(0, |address| align::differences(linked, it, symbol.value, address).0)
         };
         let first = |symbols: &[(usize, &Symbol)]| {
-            let is_behind = |(index, one): &(usize, &Symbol)| (!is_linked[*index], one.is_weak);
+            let is_behind = |(index, one): &(usize, &Symbol)| (!it.is_linked[*index], one.is_weak);
             let best = symbols.iter().map(is_behind).min();
             let best = symbols.iter().filter(|one| Some(is_behind(one)) == best);
             if best.clone().count() == 1 {
@@ -51,20 +56,29 @@ impl<'a> Definers<'a> {
         };
         let of = all.into_iter().filter_map(|(name, symbols)| Some((name, first(&symbols)?)));
         let of = of.collect();
-        Definers { is_linked, of }
+        Definers { of, ..it }
     }
-}
 
-/// Where a global symbol of an object is, if the object is the one that defines it. Linkers make
-/// hidden symbols local ones, which may be another object's, of the same name.
-pub fn address_of_global(linked: &Linked, object: &Object, symbol: &Symbol) -> Option<u64> {
-    let Home::Section(section) = symbol.home else { return None };
-    if let Some(global) = linked.globals.get(&symbol.name) {
-        return Some(global.address);
+    fn local_names(&self, objects: &'a [Object<'a>]) -> Vec<&'a str> {
+        let linked = objects.iter().zip(&self.is_linked).filter(|(_, is_linked)| **is_linked);
+        let all = linked.flat_map(|(object, _)| &object.symbols);
+        let all = all.filter(|one| one.is_local && matches!(one.home, Home::Section(_)));
+        all.map(|one| one.name.as_str()).collect()
     }
-    let hidden = linked.locals.get(&symbol.name).filter(|all| all.len() == 1)?[0].address;
-    let it = &object.sections[section];
-    align::fits(linked, it, symbol.value, hidden).map(|_| hidden)
+
+    /// Where a global symbol is, if the object is the one that defines it. Linkers make hidden symbols
+    /// local ones, if these aren't other objects'.
+    pub fn address(&self, linked: &Linked, object: &Object, symbol: &Symbol) -> Option<u64> {
+        let Home::Section(section) = symbol.home else { return None };
+        if let Some(global) = linked.globals.get(&symbol.name) {
+            return Some(global.address);
+        }
+        let hidden = linked.locals.get(&symbol.name).filter(|all| all.len() == 1)?[0].address;
+        let it = &object.sections[section];
+        let is_it = !self.locals.contains(symbol.name.as_str())
+            && align::fits(linked, it, symbol.value, hidden).is_some();
+        is_it.then_some(hidden)
+    }
 }
 
 /// Whether a symbol says where its section is. That of an indirect function may be its stub's.
@@ -127,7 +141,9 @@ impl LocalSymbols {
                 let Home::Section(section) = symbol.home else { return None };
                 let it = &objects[index].sections[section];
                 let is_like = fits((index, at), address);
-                is_like.then(|| align::differences(linked, it, symbol.value, address))
+                let found = is_like.then(|| align::differences(linked, it, symbol.value, address))?;
+                let (differences, len) = found;
+                (u64::from(differences) <= 6 + len / 64).then_some(differences)
             });
         }
         found
