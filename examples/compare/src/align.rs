@@ -80,6 +80,9 @@ pub fn window(
 /// changes them: up to those before and behind that may delete some, and but for one in four. If so,
 /// returned is how many are.
 pub fn fits(linked: &Linked, it: &Section, offset: u64, address: u64) -> Option<usize> {
+    if it.bytes.is_empty() {
+        return Some(0);
+    }
     let architecture = linked.architecture;
     let may_delete = |one: &&Relocation| {
         made::may_delete(architecture, one.code) || made::is_mark(architecture, one.code)
@@ -113,8 +116,11 @@ pub fn fits(linked: &Linked, it: &Section, offset: u64, address: u64) -> Option<
 /// How much is different of a section's next bytes from an offset on, if that is at an address, and
 /// how many bytes they are.
 pub fn differences(linked: &Linked, it: &Section, offset: u64, address: u64) -> (u32, u64) {
+    if it.bytes.is_empty() {
+        return (0, 0);
+    }
     let sites = sites(linked.architecture, it);
-    let end = (it.bytes.len() as u64).min(offset + 1024);
+    let end = (it.bytes.len() as u64).min(offset.saturating_add(1024));
     let place = |offset| sites.partition_point(|site| site.start < offset);
     let sites = &sites[place(offset)..place(end)];
     let delta = address.wrapping_sub(offset);
@@ -180,6 +186,9 @@ struct Walk<'a> {
 
 /// The places of a section, by those of its symbols and by what is deleted between them.
 pub fn map_of(linked: &Linked, it: &Section, anchors: &Anchors) -> Anchors {
+    if it.bytes.is_empty() {
+        return anchors.clone();
+    }
     let all = sites(linked.architecture, it);
     let may_shrink = |sites: &[Site]| sites.iter().any(Site::may_shrink);
     // what is inside of instructions or nops doesn't say what is deleted before and after

@@ -22,7 +22,7 @@ def output(*command):
 
 
 class Linked:
-    def __init__(self, path):
+    def __init__(self, architecture, path):
         it = Object(path)
         # the relocations that a linker leaves are of addresses
         tables = {section.name: section.relocations for section in it.sections}
@@ -33,7 +33,9 @@ class Linked:
             words = re.match(r" *([0-9a-f]+): +\t?(.*)$", line)
             if words:
                 text = re.sub(r"(#|//| ;) .*|<.*?>", "", words[2].replace("\t", " "))
-                text = re.sub(r"(?<![a-z0-9_])-?0x[0-9a-f]+(?![a-z0-9_])", "N", text)
+                # (PowerPC64's registers are numbers)
+                number = "-[0-9]+|[0-9]{3,}" if architecture == "powerpc64le" else "-?[0-9]+"
+                text = re.sub(rf"(?<![a-z0-9_])(-?0x[0-9a-f]+|{number})(?![a-z0-9_])", "N", text)
                 self.starts.append(int(words[1], 16))
                 self.code[self.starts[-1]] = re.sub(r" +", " ", text).strip()
 
@@ -45,7 +47,7 @@ def main():
     architecture, folder, *linked = sys.argv[1:]
     path = join(folder, "program.o")
     it = Object(path)
-    files = [Linked(join(folder, name)) for name in linked]
+    files = [Linked(architecture, join(folder, name)) for name in linked]
     names = {}
     for line in output("llvm-readelf-19", "-rW", path).splitlines():
         words = line.split()
