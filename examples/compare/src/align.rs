@@ -1,5 +1,5 @@
-//! Which bytes linkers deleted of a section, by what is left. On RISC-V and LoongArch they delete
-//! more than the library's rewrites do, and symbols tell only what was deleted between two.
+//! Which bytes linkers deleted of a section, by what is left. On RISC-V and LoongArch they
+//! delete more than the library's rewrites do, and symbols tell only how much was deleted between two.
 //!
 //! Each relocation that may be relaxed is tried with all numbers of deleted bytes. The deletions
 //! count that leave most of the bytes that no relocation changes, and most instructions as they were
@@ -7,78 +7,18 @@
 
 use crate::elf::{Linked, Relocation, Section};
 use crate::made;
+use crate::map::Anchors;
 use crate::recognise;
 use linker_utils::elf::Architecture;
+use std::ops::Range;
 
-/// Offsets of a section, by offset, and their addresses.
-pub type Anchors = Vec<(u64, u64)>;
+/// Of how many bytes before and behind an offset `fits` and `differences` look at.
+const BEFORE: u64 = 256;
+const BEHIND: u64 = 1024;
 
-/// The address of what isn't in the linked file, in `Anchors`.
-pub const NOWHERE: u64 = 1 << 62;
-
-/// The address of an offset, by what is at or before it.
-pub fn address_in(map: &Anchors, offset: u64) -> Option<u64> {
-    let after = map.partition_point(|(start, _)| *start <= offset);
-    let (start, address) = map.get(after.saturating_sub(1))?;
-    (*address != NOWHERE).then(|| address.wrapping_add(offset).wrapping_sub(*start))
-}
-
-/// Some bytes of a section as they are in the linked file.
-pub struct Window {
-    /// Without those that were deleted of a relocation, and with the object's where others were.
-    pub bytes: Vec<u8>,
-    /// How many were deleted of the relocation.
-    pub deleted: u64,
-    /// Where they would begin if none before the relocation were deleted.
-    pub address: u64,
-}
-
-/// The bytes between two offsets of a section, of a relocation that is of those between two others.
-pub fn window(
-    linked: &Linked,
-    it: &Section,
-    map: &Anchors,
-    (start, end): (u64, u64),
-    own: (u64, u64),
-) -> Option<Window> {
-    let after = map.partition_point(|(offset, _)| *offset <= start);
-    let (mut at, mut address) = (start, address_in(map, start)?);
-    let before = own.0.wrapping_sub(start);
-    let place = address_in(map, own.0)?;
-    let mut found =
-        Window { bytes: Vec::new(), deleted: 0, address: place.wrapping_sub(before) };
-    let next = map[after..].iter().copied().chain([(u64::MAX, 0)]);
-    for (offset, there) in next {
-        // the bytes that are deleted before the next offset
-        let past = address.wrapping_add(offset - at);
-        let deleted = past.wrapping_sub(there);
-        // or else what is behind is somewhere else
-        let is_near = offset != u64::MAX && deleted <= offset - at;
-        let kept = (offset - at).checked_sub(if is_near { deleted } else { 0 })?.min(end - at);
-        if kept > 0 {
-            found.bytes.extend(linked.bytes_at(address)?.get(..kept as usize)?);
-        }
-        at += kept;
-        if at == end || !is_near {
-            return (at == end).then_some(found);
-        }
-        let to = offset.min(end);
-        if own.0 <= at && to <= own.1 {
-            found.deleted += to - at;
-        } else {
-            found.bytes.extend(it.bytes.get(at as usize..to as usize)?);
-        }
-        (at, address) = (to, there);
-        if at == end {
-            return Some(found);
-        }
-    }
-    None
-}
-
-/// Whether the bytes of a section at an address are those around an offset, as far as no relocation
-/// changes them: up to those before and behind that may delete some, and but for one in four. If so,
-/// returned is how many are.
+/// Whether the bytes of a section at an address are those around an offset, as far as no
+/// relocation changes them: up to those before and behind that may delete some, and but for one in
+/// four. If so, returned is how many are.
 pub fn fits(linked: &Linked, it: &Section, offset: u64, address: u64) -> Option<usize> {
     if it.bytes.is_empty() {
         return Some(0);
@@ -87,14 +27,17 @@ pub fn fits(linked: &Linked, it: &Section, offset: u64, address: u64) -> Option<
     let may_delete = |one: &&Relocation| {
         made::may_delete(architecture, one.code) || made::is_mark(architecture, one.code)
     };
-    let (before, after) = it.relocations.split_at(it.relocations.partition_point(|one| one.offset < offset));
     // rewrites may change the instruction and the next one
     let past = |one: &Relocation| match made::alignment(architecture, one, 0) {
         Some((nops, _)) => one.offset + nops,
         None => one.offset + made::len(architecture, one.code).max(4) + 4,
     };
-    let start = before.iter().rev().find(may_delete).map_or(0, past).min(offset);
-    let end = after.iter().find(may_delete).map_or(it.bytes.len() as u64, |one| one.offset);
+    let (first, last) = (offset.saturating_sub(BEFORE), offset.saturating_add(BEHIND));
+    let near = &it.relocations[between(it, first, last.min(it.bytes.len() as u64))];
+    let (before, after) = near.split_at(near.partition_point(|one| one.offset < offset));
+    let start = before.iter().rev().find(may_delete).map_or(first, past).min(offset);
+    let end = last.min(it.bytes.len() as u64);
+    let end = after.iter().find(may_delete).map_or(end, |one| one.offset);
     let (mut all, mut others, mut at) = (0, 0, start);
     let mut compare = |from: u64, to: u64| {
         let Some(original) = it.bytes.get(from as usize..to as usize) else { return };
@@ -103,11 +46,9 @@ pub fn fits(linked: &Linked, it: &Section, offset: u64, address: u64) -> Option<
         all += original.len();
         others += original.iter().zip(there).filter(|(a, b)| Some(*a) != *b).count();
     };
-    for one in &it.relocations {
-        if one.offset >= start && one.offset < end {
-            compare(at, one.offset.saturating_sub(4).max(at));
-            at = at.max(past(one));
-        }
+    for one in near.iter().filter(|one| one.offset >= start && one.offset < end) {
+        compare(at, one.offset.saturating_sub(4).max(at));
+        at = at.max(past(one));
     }
     compare(at, end);
     (4 * others <= all).then_some(all - others)
@@ -116,48 +57,49 @@ pub fn fits(linked: &Linked, it: &Section, offset: u64, address: u64) -> Option<
 /// How much is different of a section's next bytes from an offset on, if that is at an address, and
 /// how many bytes they are.
 pub fn differences(linked: &Linked, it: &Section, offset: u64, address: u64) -> (u32, u64) {
-    if it.bytes.is_empty() {
-        return (0, 0);
-    }
-    let sites = sites(linked.architecture, it);
-    let end = (it.bytes.len() as u64).min(offset.saturating_add(1024));
-    let place = |offset| sites.partition_point(|site| site.start < offset);
-    let sites = &sites[place(offset)..place(end)];
+    let end = (it.bytes.len() as u64).min(offset.saturating_add(BEHIND)).max(offset);
+    let sites = sites(linked.architecture, it, between(it, offset, end));
     let delta = address.wrapping_sub(offset);
     let mut walk = Walk { linked, it, deletions: Vec::new() };
-    let end = end.max(offset);
-    (walk.part(&mut Anchors::new(), sites, (offset, end), delta, None), end - offset)
+    let cost = walk.part(&mut Anchors::new(), &sites, (offset, end), delta, None);
+    (cost, end - offset)
+}
+
+/// The indices of the relocations from an offset on and up to another one.
+fn between(it: &Section, from: u64, to: u64) -> Range<usize> {
+    let start = it.relocations.partition_point(|one| one.offset < from);
+    let end = it.relocations.partition_point(|one| one.offset < to);
+    start..end.max(start)
 }
 
 /// The relocations at one offset.
 struct Site {
-    first: usize,
-    count: usize,
+    indices: Range<usize>,
     start: u64,
     end: u64,
     is_marked: bool,
     is_alignment: bool,
 }
 
-fn sites(architecture: Architecture, it: &Section) -> Vec<Site> {
-    let mut sites = Vec::<Site>::new();
-    for (index, one) in it.relocations.iter().enumerate() {
-        let nops = made::alignment(architecture, one, 0).map(|(nops, _)| nops);
-        let len = nops.unwrap_or_else(|| made::len(architecture, one.code));
-        let end = (one.offset + len).min(it.bytes.len() as u64).max(one.offset);
-        let is_marked = made::may_delete(architecture, one.code);
-        if sites.last().is_none_or(|last| last.start != one.offset) {
-            let (start, is_alignment) = (one.offset, false);
-            sites.push(Site { first: index, count: 0, start, end, is_marked, is_alignment });
-        }
-        if let Some(last) = sites.last_mut() {
-            last.count += 1;
-            last.end = last.end.max(end);
-            last.is_marked |= is_marked;
-            last.is_alignment |= nops.is_some();
-        }
-    }
-    sites
+fn sites(architecture: Architecture, it: &Section, indices: Range<usize>) -> Vec<Site> {
+    let mut first = indices.start;
+    let all = it.relocations[indices].chunk_by(|one, next| one.offset == next.offset);
+    all.map(|all| {
+        let nops = |one: &Relocation| {
+            made::alignment(architecture, one, 0).map(|(nops, _)| nops)
+        };
+        let is_alignment = all.iter().any(|one| nops(one).is_some());
+        let is_marked = all.iter().any(|one| made::may_delete(architecture, one.code));
+        let lens = all.iter().map(|one| {
+            nops(one).unwrap_or_else(|| made::len(architecture, one.code))
+        });
+        let start = all[0].offset;
+        let end = (start + lens.max().unwrap_or(0)).min(it.bytes.len() as u64).max(start);
+        let indices = first..first + all.len();
+        first = indices.end;
+        Site { indices, start, end, is_marked, is_alignment }
+    })
+    .collect()
 }
 
 /// What may have been deleted up to an offset.
@@ -189,7 +131,7 @@ pub fn map_of(linked: &Linked, it: &Section, anchors: &Anchors) -> Anchors {
     if it.bytes.is_empty() {
         return anchors.clone();
     }
-    let all = sites(linked.architecture, it);
+    let all = sites(linked.architecture, it, 0..it.relocations.len());
     let may_shrink = |sites: &[Site]| sites.iter().any(Site::may_shrink);
     // what is inside of instructions or nops doesn't say what is deleted before and after
     let is_inside = |offset: u64| {
@@ -275,10 +217,12 @@ impl Walk<'_> {
                 });
                 let all = before.flat_map(|before| {
                     let after = self.deletions_of(before, site).into_iter();
-                    after.map(move |(after, place)| (State { delta: before.delta, ..after }, after.delta, place))
+                    let after = after.filter(|(after, _)| after.delta == state.delta);
+                    after.map(move |(after, place)| {
+                        (State { delta: before.delta, ..after }, place)
+                    })
                 });
-                let all = all.filter(|(_, after, _)| *after == state.delta);
-                all.map(|(state, _, place)| (state, place)).collect::<Vec<_>>()
+                all.collect::<Vec<_>>()
             });
             states = self.best(before.collect());
             at = at.min(site.start);
@@ -347,14 +291,13 @@ impl Walk<'_> {
     fn deletions_of(&self, state: State, site: &Site) -> Vec<(State, Option<(u64, u64)>)> {
         let architecture = self.linked.architecture;
         let place = site.start.wrapping_add(state.delta);
-        let relocations = site.first..site.first + site.count;
         let after = |deleted: u64, cost: u32| State {
             delta: state.delta.wrapping_sub(deleted),
             cost: state.cost + cost,
             ..state
         };
         if site.is_alignment {
-            let mut all = self.it.relocations[relocations].iter();
+            let mut all = self.it.relocations[site.indices.clone()].iter();
             let nops = all.find_map(|one| made::alignment(architecture, one, place));
             return match nops {
                 Some((nops, kept)) if kept < nops => {
@@ -367,13 +310,13 @@ impl Walk<'_> {
         let is_value = |index: &usize| {
             !made::is_mark(architecture, self.it.relocations[*index].code)
         };
-        let values: Vec<usize> = relocations.filter(is_value).collect();
+        let values: Vec<usize> = site.indices.clone().filter(is_value).collect();
         let counts: &[u64] = if site.is_marked { &[0, 2, 4, 6, 8] } else { &[0] };
         let counts = counts.iter().copied().take_while(|count| *count <= site.len());
         let all = counts.map(|count| {
-            let starts = values.iter().map(|index| {
-                recognise::deletion(self.linked, self.it, *index, place, count)
-            });
+            let starts = values
+                .iter()
+                .map(|index| recognise::deletion(self.linked, self.it, *index, place, count));
             let starts: Vec<_> = starts.collect();
             let unknown = starts.iter().filter(|one| one.is_none()).count();
             let start = starts.into_iter().flatten().next().unwrap_or(site.len() - count);

@@ -4,6 +4,7 @@ mod align;
 pub mod elf;
 mod forms;
 mod made;
+mod map;
 mod recognise;
 pub mod report;
 mod side;

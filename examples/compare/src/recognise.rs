@@ -1,6 +1,6 @@
 //! The rewrite after which the linked bytes are as they are.
 
-use crate::align::{self, Anchors};
+use crate::map::{self, Anchors};
 use crate::elf::{Home, Linked, Relocation, Section};
 use crate::made::{self, Before, Chosen};
 use crate::side::{Side, Target};
@@ -142,7 +142,7 @@ impl Side<'_> {
             return;
         };
         let own = (one.offset, one.offset + made::len(architecture, one.code));
-        let Some(window) = align::window(linked, at.it, at.map, (start, end), own) else { return };
+        let Some(window) = map::window(linked, at.it, at.map, (start, end), own) else { return };
         let before = Before::new(architecture, one, at.it, (start, end));
         let alone = |chosen| (before.clone(), chosen, None);
         let mut found: Vec<_> = match pass {
@@ -189,7 +189,7 @@ fn has_same_opcode(linked: &Linked, at: At) -> bool {
     let before = at.it.relocations[..at.index].iter().rev().take(4).map(end);
     let start = before.max().unwrap_or(0).max(one.offset.saturating_sub(3));
     let Some(original) = at.it.bytes.get(start as usize..one.offset as usize) else { return true };
-    let there = align::address_in(at.map, start).and_then(|address| linked.bytes_at(address));
+    let there = map::address_in(at.map, start).and_then(|address| linked.bytes_at(address));
     there.is_some_and(|there| there.starts_with(original))
 }
 

@@ -1,7 +1,8 @@
 //! A linked file beside the objects: where their sections are in it.
 
-use crate::align::{self, Anchors};
+use crate::align;
 use crate::elf::{Definition, Home, Linked, Object, Reason, Symbol};
+use crate::map::{self, Anchors};
 use crate::symbols::{self, Definers, LocalSymbols};
 use crate::tables::Frames;
 use crate::targets::Pending;
@@ -163,7 +164,7 @@ impl<'a> Side<'a> {
     }
 
     pub fn address_in(&self, object: usize, section: usize, offset: u64) -> Option<u64> {
-        align::address_in(&self.maps[object][section], offset)
+        map::address_in(&self.maps[object][section], offset)
     }
 
     /// The address of an object's symbol, and what local entry it has.

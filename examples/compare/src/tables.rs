@@ -2,8 +2,8 @@
 //! information of functions, of which linkers leave records out, and arrays of functions, which they
 //! sort.
 
-use crate::align::{self, Anchors};
 use crate::elf::{Entry, Home, Linked, Relocation, Section};
+use crate::map::{self, Anchors};
 use crate::side::Side;
 use std::collections::{HashMap, HashSet};
 
@@ -111,7 +111,7 @@ impl Frames {
             let first = it.relocations.partition_point(|one| one.offset < at);
             let of_function = it.relocations.get(first).filter(|one| one.offset == at);
             let found = of_function.and_then(&function).and_then(|address| self.0.get(&address));
-            let (record, common) = found.copied().unwrap_or((align::NOWHERE, align::NOWHERE));
+            let (record, common) = found.copied().unwrap_or((map::NOWHERE, map::NOWHERE));
             anchors.insert(frame.start, record);
             if found.is_some() || !anchors.contains_key(&cie) {
                 anchors.entry(cie).and_modify(|place| *place = (*place).min(common)).or_insert(common);
@@ -149,7 +149,7 @@ impl Side<'_> {
                 } else {
                     continue;
                 };
-                let is_any = anchors.iter().any(|(_, address)| *address != align::NOWHERE);
+                let is_any = anchors.iter().any(|(_, address)| *address != map::NOWHERE);
                 if is_any && anchors != self.anchors[object][index] {
                     new.push((object, index, anchors));
                 }

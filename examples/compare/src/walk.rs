@@ -1,8 +1,8 @@
 //! What was made of each relocation of a section.
 
-use crate::align;
 use crate::elf::{Home, Relocation, Section};
 use crate::made;
+use crate::map;
 use crate::recognise::At;
 use crate::side::{Made, Side, Target};
 use linker_utils::elf::RelocationKind;
@@ -26,7 +26,7 @@ impl<'a> Side<'a> {
                 continue;
             }
             let Some(found) = self.recognise(At { object, it, index, map: &map }) else {
-                let place = align::address_in(&map, one.offset);
+                let place = map::address_in(&map, one.offset);
                 all[index] = match place.and_then(|place| self.linked.bytes_at(place)) {
                     _ if one.offset < covered => Made::Part,
                     // sums aren't read, and these have as many bytes as their numbers
