@@ -1,11 +1,17 @@
 //! Relocatable objects, archives of them, and linked files.
 
+use crate::stubs::{self, Stubs};
 use linker_utils::elf::Architecture;
 use object::LittleEndian;
 use object::elf::{self, FileHeader64, SectionHeader64};
 use object::read::archive::ArchiveFile;
 use object::read::elf::{FileHeader, ProgramHeader, Rela, SectionHeader, SectionTable, Sym};
 use std::collections::HashMap;
+
+/// Whether a name is that of a compiler's or an assembler's label.
+pub fn is_label(name: &str) -> bool {
+    name.starts_with(['.', '$']) || name.contains(char::is_control)
+}
 
 /// Why a file can't be read, in a sentence without its name.
 pub type Reason = String;
@@ -29,6 +35,7 @@ pub struct Section<'a> {
     pub bytes: &'a [u8],
     pub size: u64,
     pub is_allocated: bool,
+    pub is_code: bool,
     /// Whether linkers keep its symbols as far apart as they are.
     pub is_whole: bool,
     /// In the order of their offsets.
@@ -58,6 +65,8 @@ pub struct Symbol {
 
 pub struct Object<'a> {
     pub path: String,
+    /// Whether it is a member of an archive, which may not be linked.
+    pub is_member: bool,
     pub architecture: Architecture,
     pub sections: Vec<Section<'a>>,
     pub symbols: Vec<Symbol>,
@@ -69,15 +78,20 @@ pub struct Linked<'a> {
     segments: Vec<(u64, &'a [u8])>,
     /// The addresses of each name of global symbols, and of local ones in the table's order.
     pub globals: HashMap<String, Definition>,
-    pub locals: HashMap<String, Vec<u64>>,
+    pub locals: HashMap<String, Vec<Definition>>,
     /// Address and name, by address.
     pub by_address: Vec<(u64, String)>,
     /// The words of the GOT: what each leads to, and its address.
     pub got: Vec<(u64, Entry)>,
     /// The entries of each content.
     pub got_of: HashMap<u64, Vec<u64>>,
-    /// Where the GOT begins.
-    pub got_start: u64,
+    /// What addresses of the GOT count from: on PowerPC64 the TOC pointer.
+    pub got_base: u64,
+    pub stubs: Stubs,
+    /// Names, addresses and bytes of the sections.
+    sections: Vec<(String, u64, &'a [u8])>,
+    /// What dynamic relocations put at addresses.
+    moved: HashMap<u64, Entry>,
 }
 
 #[derive(Clone, Copy)]
@@ -163,7 +177,11 @@ fn symbols_of(
     Ok(all)
 }
 
-fn read_object<'a>(path: String, bytes: &'a [u8]) -> Result<Object<'a>, Reason> {
+fn read_object<'a>(
+    path: String,
+    is_member: bool,
+    bytes: &'a [u8],
+) -> Result<Object<'a>, Reason> {
     let (head, architecture) = head(bytes)?;
     if head.e_type.get(LE) != elf::ET_REL {
         return Err("this isn't a relocatable object".into());
@@ -183,6 +201,7 @@ fn read_object<'a>(path: String, bytes: &'a [u8]) -> Result<Object<'a>, Reason> 
             bytes,
             size: section.sh_size(LE),
             is_allocated: flags & u64::from(elf::SHF_ALLOC) != 0,
+            is_code: flags & u64::from(elf::SHF_EXECINSTR) != 0,
             is_whole: flags & u64::from(elf::SHF_MERGE) == 0,
             relocations: Vec::new(),
         });
@@ -216,13 +235,13 @@ fn read_object<'a>(path: String, bytes: &'a [u8]) -> Result<Object<'a>, Reason> 
         }
         target.relocations.sort_by_key(|one| one.offset);
     }
-    Ok(Object { path, architecture, sections, symbols })
+    Ok(Object { path, is_member, architecture, sections, symbols })
 }
 
 /// The object of a file, or those of an archive.
 pub fn read_objects<'a>(path: &str, bytes: &'a [u8]) -> Result<Vec<Object<'a>>, Reason> {
     if !bytes.starts_with(b"!<arch>\n") {
-        return Ok(vec![read_object(path.into(), bytes)?]);
+        return Ok(vec![read_object(path.into(), false, bytes)?]);
     }
     let archive = ArchiveFile::parse(bytes).map_err(because)?;
     let mut objects = Vec::new();
@@ -230,7 +249,7 @@ pub fn read_objects<'a>(path: &str, bytes: &'a [u8]) -> Result<Vec<Object<'a>>, 
         let member = member.map_err(because)?;
         let name = text(member.name());
         let data = member.data(bytes).map_err(because)?;
-        let object = read_object(format!("{path}({name})"), data);
+        let object = read_object(format!("{path}({name})"), true, data);
         objects.push(object.map_err(|reason| format!("{name}: {reason}"))?);
     }
     Ok(objects)
@@ -242,17 +261,29 @@ fn words(address: u64, bytes: &[u8]) -> impl Iterator<Item = (u64, u64)> + '_ {
     })
 }
 
+/// A global symbol, or the first local one of a name.
+fn first_of(
+    globals: &HashMap<String, Definition>,
+    locals: &HashMap<String, Vec<Definition>>,
+    name: &str,
+) -> Option<Definition> {
+    globals.get(name).or_else(|| locals.get(name)?.first()).copied()
+}
+
 pub fn read_linked<'a>(bytes: &'a [u8]) -> Result<Linked<'a>, Reason> {
     let (head, architecture) = head(bytes)?;
     if !matches!(head.e_type.get(LE), elf::ET_EXEC | elf::ET_DYN) {
         return Err("this isn't a linked file".into());
     }
-    let mut segments = Vec::new();
+    let (mut segments, mut code) = (Vec::new(), Vec::new());
     for segment in head.program_headers(LE, bytes).map_err(because)? {
         if segment.p_type(LE) == elf::PT_LOAD && segment.p_filesz(LE) != 0 {
             let data = segment.data(LE, bytes);
             let data = data.map_err(|()| "a segment ends past the file's end".to_string())?;
             segments.push((segment.p_vaddr(LE), data));
+            if segment.p_flags(LE) & elf::PF_X != 0 {
+                code.push((segment.p_vaddr(LE), data));
+            }
         }
     }
     segments.sort_by_key(|(address, _)| *address);
@@ -261,17 +292,17 @@ pub fn read_linked<'a>(bytes: &'a [u8]) -> Result<Linked<'a>, Reason> {
     if symbols.is_empty() {
         return Err("it has no symbol table".into());
     }
-    let (mut globals, mut locals) = (HashMap::new(), HashMap::<String, Vec<u64>>::new());
+    let (mut globals, mut locals) = (HashMap::new(), HashMap::<String, Vec<Definition>>::new());
     let mut by_address = Vec::new();
     for symbol in symbols {
         let is_other = matches!(symbol.kind, elf::STT_SECTION | elf::STT_FILE);
         if symbol.home == Home::Undefined || symbol.name.is_empty() || is_other {
             continue;
         }
+        let definition = Definition { address: symbol.value, other: symbol.other };
         if symbol.is_local {
-            locals.entry(symbol.name.clone()).or_default().push(symbol.value);
+            locals.entry(symbol.name.clone()).or_default().push(definition);
         } else {
-            let definition = Definition { address: symbol.value, other: symbol.other };
             globals.entry(symbol.name.clone()).or_insert(definition);
         }
         if symbol.kind != elf::STT_TLS {
@@ -280,9 +311,9 @@ pub fn read_linked<'a>(bytes: &'a [u8]) -> Result<Linked<'a>, Reason> {
     }
     // of symbols at one address those come first whose names are no compiler's labels
     by_address.sort_by(|(a, one), (b, other)| {
-        (a, one.starts_with(['.', '$']), one).cmp(&(b, other.starts_with(['.', '$']), other))
+        (a, is_label(one), one).cmp(&(b, is_label(other), other))
     });
-    let mut moved = HashMap::new();
+    let (mut moved, mut resolvers) = (HashMap::new(), HashMap::new());
     for section in table.iter().filter(|section| section.sh_flags(LE) & 2 != 0) {
         let Some((all, link)) = section.rela(LE, bytes).map_err(because)? else {
             continue;
@@ -298,13 +329,20 @@ pub fn read_linked<'a>(bytes: &'a [u8]) -> Result<Linked<'a>, Reason> {
                 }
                 _ => continue,
             };
+            if stubs::is_indirect(architecture, one.r_type(LE, false)) {
+                resolvers.insert(one.r_offset(LE), one.r_addend(LE) as u64);
+            }
             moved.insert(one.r_offset(LE), entry);
         }
     }
     let mut got = Vec::new();
     let mut got_start = None;
+    let mut sections = Vec::new();
     for section in table.iter() {
         let (name, bytes) = name_and_bytes(&table, section, bytes)?;
+        if section.sh_flags(LE) & u64::from(elf::SHF_ALLOC) != 0 {
+            sections.push((name.clone(), section.sh_addr(LE), bytes));
+        }
         if !name.starts_with(".got") || section.sh_type(LE) != elf::SHT_PROGBITS {
             continue;
         }
@@ -326,10 +364,46 @@ pub fn read_linked<'a>(bytes: &'a [u8]) -> Result<Linked<'a>, Reason> {
         }
     }
     let got_start = got_start.unwrap_or(0);
-    Ok(Linked { architecture, segments, globals, locals, by_address, got, got_of, got_start })
+    let address = |name: &str| first_of(&globals, &locals, name).map(|one| one.address);
+    let got_base = match architecture {
+        // the psABI: the TOC base is 0x8000 bytes behind the GOT's start
+        Architecture::Ppc64 => address(".TOC.").unwrap_or(got_start.wrapping_add(0x8000)),
+        _ => address("_GLOBAL_OFFSET_TABLE_").unwrap_or(got_start),
+    };
+    let stubs = Stubs::new(architecture, &code, &resolvers, got_base);
+    Ok(Linked {
+        architecture,
+        segments,
+        globals,
+        locals,
+        by_address,
+        got,
+        got_of,
+        got_base,
+        stubs,
+        sections,
+        moved,
+    })
 }
 
-impl Linked<'_> {
+impl<'a> Linked<'a> {
+    /// The symbol of a name that linkers define.
+    pub fn address_of(&self, name: &str) -> Option<u64> {
+        first_of(&self.globals, &self.locals, name).map(|one| one.address)
+    }
+
+    /// The addresses and bytes of the sections of a name.
+    pub fn tables(&self, name: &str) -> impl Iterator<Item = (u64, &'a [u8])> {
+        let all = self.sections.iter().filter(move |(section, _, _)| section == name);
+        all.map(|(_, address, bytes)| (*address, *bytes))
+    }
+
+    /// What a word of 8 bytes leads to.
+    pub fn word_at(&self, address: u64) -> Option<Entry> {
+        let word = || Some(u64::from_le_bytes(*self.bytes_at(address)?.first_chunk()?));
+        self.moved.get(&address).cloned().or_else(|| word().map(Entry::Address))
+    }
+
     /// The bytes from an address on, to the end of what the file has there.
     pub fn bytes_at(&self, address: u64) -> Option<&[u8]> {
         let after = self.segments.partition_point(|(start, _)| *start <= address);

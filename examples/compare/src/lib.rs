@@ -1,12 +1,21 @@
 //! Compares what two linkers made of each relocation of the same objects.
 
+mod align;
 pub mod elf;
+mod forms;
 mod made;
+mod map;
+mod recognise;
 pub mod report;
+mod side;
+mod stubs;
+mod symbols;
+mod tables;
+mod targets;
 mod walk;
 
 use linker_utils::elf::Architecture;
-use walk::{Made, Side};
+use side::{Made, Side};
 
 /// A relocation, and what each linker made of it.
 pub struct Line {
@@ -15,6 +24,8 @@ pub struct Line {
     pub place: String,
     pub architecture: Architecture,
     pub relocation: u32,
+    /// Where it is in each file.
+    pub addresses: [Option<u64>; 2],
     /// The symbol and the addend.
     pub symbol: String,
     pub made: [Made; 2],
@@ -43,7 +54,6 @@ pub fn compare<'a>(
     step: &dyn Fn(u64, u64),
     mut each: impl FnMut(Line),
 ) -> Result<Counts, (usize, elf::Reason)> {
-    let definers = walk::definers(objects);
     let sections: usize = objects.iter().map(|object| object.sections.len()).sum();
     let (total, done) = (4 * sections as u64, std::cell::Cell::new(0));
     let advance = || {
@@ -51,7 +61,7 @@ pub fn compare<'a>(
         step(done.get().min(total), total);
     };
     let side = |which: usize| {
-        Side::new(files[which], objects, &definers).map_err(|reason| (which, reason))
+        Side::new(files[which], objects).map_err(|reason| (which, reason))
     };
     let mut sides = [side(0)?, side(1)?];
     for side in &mut sides {
@@ -67,6 +77,9 @@ pub fn compare<'a>(
             let names = report::names_of(object, index);
             let [a, b] = &mut sides;
             let both = a.take_made(at, index).into_iter().zip(b.take_made(at, index));
+            let addresses = |offset| {
+                [&*a, &*b].map(|side| side.address_in(at, index, offset))
+            };
             for (one, (a, b)) in section.relocations.iter().zip(both) {
                 if made::is_mark(object.architecture, one.code) {
                     continue;
@@ -82,6 +95,7 @@ pub fn compare<'a>(
                     place: report::place(&names, &section.name, one.offset),
                     architecture: object.architecture,
                     relocation: one.code,
+                    addresses: addresses(one.offset),
                     symbol: report::symbol(object, one),
                     made: [a, b],
                 });

@@ -1,57 +1,81 @@
-//! What the library says of a relocation: its choices, its field, and what that leads to.
+//! What stands at a relocation: the library's choices and this program's own, the field, and what
+//! that leads to.
 
-use crate::elf::Relocation;
+use crate::elf::{Relocation, Section};
+use crate::forms::{self, Addend, Base, Form};
 use linker_utils::architecture::Relaxation;
-use linker_utils::elf::{Architecture, Choice, InstructionRewrite, Operands, Row};
-use linker_utils::relaxation::RelocationModifier;
+use linker_utils::elf::{Architecture, InstructionRewrite, Operands, Row};
 use linker_utils::reading::{FieldValue, read, solve};
 use linker_utils::recognise::{self, FieldBits};
+use linker_utils::relaxation::RelocationModifier;
 use linker_utils::{aarch64, loongarch64, ppc64, riscv64, x86_64};
 
-pub type Chosen = Choice<Relaxation, u32>;
-
-/// The rewrites after which the linked bytes are as they are.
-pub fn choices(
-    architecture: Architecture,
-    code: u32,
-    original: &[u8],
-    offset: u64,
-    others: &[FieldBits],
-    linked: &[u8],
-) -> Vec<Chosen> {
-    recognise::architecture::recognise(architecture, code, original, offset, others, linked)
-        .into_iter()
-        .flatten()
-        .map(|made| made.choice)
-        .collect()
+/// A rewrite.
+#[derive(Clone, Copy)]
+pub enum Kind {
+    Library(Relaxation),
+    /// One that the library doesn't list.
+    Own(Form),
 }
 
-/// Whether a choice changes instructions.
-pub fn is_rewrite(kind: Relaxation) -> bool {
-    !matches!(
-        kind,
-        Relaxation::AArch64(aarch64::RelaxationKind::NoOp)
-            | Relaxation::RiscV(riscv64::RelaxationKind::NoOp)
-            | Relaxation::LoongArch64(loongarch64::RelaxationKind::NoOp)
-            | Relaxation::Ppc64(ppc64::RelaxationKind::NoOp)
-            | Relaxation::X86_64(x86_64::RelaxationKind::NoOp)
-    )
+/// A rewrite, and the relocation after it, `r_type`.
+#[derive(Clone, Copy)]
+pub struct Chosen {
+    pub kind: Kind,
+    pub relocation: u32,
 }
 
-/// The rewrite's name, and nothing for `NoOp`.
-pub fn rewrite_name(kind: Relaxation) -> Option<String> {
-    is_rewrite(kind).then(|| match kind {
-        Relaxation::AArch64(kind) => format!("{kind:?}"),
-        Relaxation::RiscV(kind) => format!("{kind:?}"),
-        Relaxation::LoongArch64(kind) => format!("{kind:?}"),
-        Relaxation::Ppc64(kind) => format!("{kind:?}"),
-        Relaxation::X86_64(kind) => format!("{kind:?}"),
-        _ => format!("{kind:?}"),
-    })
-}
+impl Chosen {
+    /// Whether it changes instructions.
+    pub fn is_rewrite(&self) -> bool {
+        if let Kind::Own(form) = self.kind {
+            return !form.name.is_empty();
+        }
+        !matches!(
+            self.kind,
+            Kind::Library(
+                Relaxation::AArch64(aarch64::RelaxationKind::NoOp)
+                    | Relaxation::RiscV(riscv64::RelaxationKind::NoOp)
+                    | Relaxation::LoongArch64(loongarch64::RelaxationKind::NoOp)
+                    | Relaxation::Ppc64(ppc64::RelaxationKind::NoOp)
+                    | Relaxation::X86_64(x86_64::RelaxationKind::NoOp)
+            )
+        )
+    }
 
-pub fn skips_next(kind: Relaxation) -> bool {
-    matches!(kind.next_modifier(), RelocationModifier::SkipNextRelocation)
+    /// The rewrite's name, and nothing for `NoOp`.
+    pub fn name(&self) -> Option<String> {
+        self.is_rewrite().then(|| match self.kind {
+            Kind::Own(form) => form.name.to_string(),
+            Kind::Library(Relaxation::AArch64(kind)) => format!("{kind:?}"),
+            Kind::Library(Relaxation::RiscV(kind)) => format!("{kind:?}"),
+            Kind::Library(Relaxation::LoongArch64(kind)) => format!("{kind:?}"),
+            Kind::Library(Relaxation::Ppc64(kind)) => format!("{kind:?}"),
+            Kind::Library(Relaxation::X86_64(kind)) => format!("{kind:?}"),
+            Kind::Library(kind) => format!("{kind:?}"),
+        })
+    }
+
+    pub fn skips_next(&self) -> bool {
+        match self.kind {
+            Kind::Library(kind) => {
+                matches!(kind.next_modifier(), RelocationModifier::SkipNextRelocation)
+            }
+            Kind::Own(form) => form.skips_next,
+        }
+    }
+
+    /// Where the deleted bytes begin, behind the relocation's offset, and how many they are.
+    pub fn deleted(&self) -> Option<(u64, u64)> {
+        match self.kind {
+            Kind::Library(kind) => kind.deleted().map(|one| (one.start, u64::from(one.count))),
+            Kind::Own(form) => form.deleted,
+        }
+    }
+
+    pub fn deleted_count(&self) -> u64 {
+        self.deleted().map_or(0, |(_, count)| count)
+    }
 }
 
 /// Whether a relocation only marks or pads.
@@ -60,9 +84,27 @@ pub fn is_mark(architecture: Architecture, code: u32) -> bool {
     ["_NONE", "_RELAX", "_ALIGN"].iter().any(|end| name.ends_with(end))
 }
 
-/// Whether a relocation says that the one at its offset may be relaxed.
-pub fn is_relax(architecture: Architecture, code: u32) -> bool {
-    architecture.name(code).is_some_and(|name| name.ends_with("_RELAX"))
+pub fn is_uleb128(architecture: Architecture, code: u32) -> bool {
+    architecture.name(code).is_some_and(|name| name.ends_with("_ULEB128"))
+}
+
+/// Whether a relocation says that bytes of those at its offset may be deleted. A mark of the first
+/// instruction of RISC-V's TLS descriptors counts for all four.
+pub fn may_delete(architecture: Architecture, code: u32) -> bool {
+    architecture
+        .name(code)
+        .is_some_and(|name| name.ends_with("_RELAX") || name.starts_with("R_RISCV_TLSDESC_"))
+}
+
+/// How many bytes of instructions or data a relocation is of.
+pub fn len(architecture: Architecture, code: u32) -> u64 {
+    let window = architecture.row(code).map_or(0, |row| row.window() as u64);
+    match architecture {
+        Architecture::X86_64 => window,
+        _ if window > 0 || is_mark(architecture, code) => window,
+        // some only say what an instruction is for
+        _ => 4,
+    }
 }
 
 /// Of an alignment how many bytes of nops the object has, and how many stay at a place.
@@ -92,6 +134,8 @@ pub struct Field {
     pub place: u64,
     /// The addend after the rewrite.
     pub addend: i64,
+    /// What it counts from.
+    pub base: Base,
 }
 
 /// A relocation and the bytes around it, before a rewrite.
@@ -106,18 +150,38 @@ pub struct Before {
 }
 
 impl Before {
+    /// A relocation of a section, with a window of its bytes.
     pub fn new(
         architecture: Architecture,
         one: &Relocation,
-        bytes: &[u8],
-        offset: u64,
+        it: &Section,
+        (start, end): (u64, u64),
     ) -> Before {
-        Before { architecture, code: one.code, bytes: bytes.to_vec(), offset, addend: one.addend }
+        let bytes = it.bytes[start as usize..end as usize].to_vec();
+        Before { architecture, code: one.code, bytes, offset: one.offset - start, addend: one.addend }
     }
 
-    /// The choices after which the linked bytes are as they are.
+    /// The library's choices after which the linked bytes are as they are.
     pub fn choices(&self, others: &[FieldBits], linked: &[u8]) -> Vec<Chosen> {
-        choices(self.architecture, self.code, &self.bytes, self.offset, others, linked)
+        let (bytes, offset) = (&self.bytes, self.offset);
+        recognise::architecture::recognise(
+            self.architecture, self.code, bytes, offset, others, linked,
+        )
+        .into_iter()
+        .flatten()
+        .map(|made| {
+            let kind = Kind::Library(made.choice.kind);
+            Chosen { kind, relocation: made.choice.relocation }
+        })
+        .collect()
+    }
+
+    /// A rewrite that the library doesn't list.
+    pub fn own_choice(&self, linked: &[u8]) -> Option<Chosen> {
+        let (bytes, offset) = (&self.bytes, self.offset as usize);
+        let (form, relocation) =
+            forms::form(self.architecture, self.code, bytes, offset, linked)?;
+        Some(Chosen { kind: Kind::Own(form), relocation })
     }
 
     /// The same of a second rewrite, after one that deletes nothing: what is before the second one,
@@ -131,14 +195,15 @@ impl Before {
         let all: Vec<_> = all.map(|offset| FieldBits { offset, bits: u64::MAX }).collect();
         let mut found = Vec::new();
         for first in self.choices(&all, &self.bytes) {
-            if !is_rewrite(first.kind) {
+            let Kind::Library(kind) = first.kind else { continue };
+            if !first.is_rewrite() {
                 continue;
             }
             let mut after = self.clone();
-            first.kind.apply(&mut after.bytes, &mut after.offset, &mut after.addend);
+            kind.apply(&mut after.bytes, &mut after.offset, &mut after.addend);
             after.code = first.relocation;
             for chosen in after.choices(others, linked) {
-                if is_rewrite(chosen.kind) {
+                if chosen.is_rewrite() {
                     found.push((after.clone(), chosen, Some(first)));
                 }
             }
@@ -147,19 +212,31 @@ impl Before {
     }
 
     /// The field of a choice's relocation, in linked bytes that are at an address.
-    pub fn field(&self, chosen: Chosen, linked: &[u8], address: u64) -> Option<Field> {
-        let (mut after, mut at, mut addend) = (self.bytes.clone(), self.offset, self.addend);
-        chosen.kind.apply(&mut after, &mut at, &mut addend);
-        if let Some(deleted) = chosen.kind.deleted() {
-            let start = self.offset + deleted.start;
+    pub fn field(&self, chosen: &Chosen, linked: &[u8], address: u64) -> Option<Field> {
+        let (mut at, mut addend, mut base) = (self.offset, self.addend, Base::Nothing);
+        match chosen.kind {
+            Kind::Library(kind) => {
+                kind.apply(&mut self.bytes.clone(), &mut at, &mut addend);
+            }
+            Kind::Own(form) => {
+                base = form.base;
+                match form.addend {
+                    Addend::Same => {}
+                    Addend::Plus(more) => addend = addend.wrapping_add(more),
+                    Addend::Nothing => addend = 0,
+                }
+            }
+        }
+        if let Some((start, count)) = chosen.deleted() {
+            let start = self.offset + start;
             if at >= start {
-                at = at.saturating_sub(u64::from(deleted.count)).max(start);
+                at = at.saturating_sub(count).max(start);
             }
         }
         let row = self.architecture.row(chosen.relocation)?;
         let bytes = linked.get(usize::try_from(at).ok()?..)?;
         let value = read(&row, bytes)?;
-        Some(Field { row, value, place: address.wrapping_add(at), addend })
+        Some(Field { row, value, place: address.wrapping_add(at), addend, base })
     }
 }
 

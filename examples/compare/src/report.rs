@@ -1,7 +1,7 @@
 //! Places, symbols and choices as text and as JSON.
 
-use crate::elf::{Home, Object, Relocation};
-use crate::walk::{Made, Target};
+use crate::elf::{Home, Object, Relocation, is_label};
+use crate::side::{Made, Target};
 use crate::{Counts, Line};
 use linker_utils::elf::Architecture;
 use object::elf::{STT_FILE, STT_SECTION};
@@ -12,7 +12,7 @@ pub fn names_of<'a>(object: &'a Object<'a>, section: usize) -> Vec<(u64, &'a str
     let mut names: Vec<(u64, &str)> = object
         .symbols
         .iter()
-        .filter(|one| one.home == Home::Section(section) && !one.name.starts_with(['.', '$']))
+        .filter(|one| one.home == Home::Section(section) && !is_label(&one.name))
         .filter(|one| !one.name.is_empty() && !matches!(one.kind, STT_SECTION | STT_FILE))
         .map(|one| (one.value, one.name.as_str()))
         .collect();
@@ -45,8 +45,25 @@ fn name(architecture: Architecture, code: u32) -> String {
     architecture.name(code).map_or_else(|| format!("relocation {code}"), str::to_string)
 }
 
+/// A text without control characters, which names may have: the local labels of LoongArch's
+/// assembler do.
+fn printable(text: &str) -> String {
+    let mut shown = String::with_capacity(text.len());
+    for one in text.chars() {
+        match one.is_control() {
+            true => shown.extend(one.escape_default()),
+            false => shown.push(one),
+        }
+    }
+    shown
+}
+
 /// What a linker made of a relocation, in words.
 pub fn words(line: &Line, made: &Made) -> String {
+    printable(&said(line, made))
+}
+
+fn said(line: &Line, made: &Made) -> String {
     match made {
         Made::Chosen { rewrite, relocation, is_through_got, target } => {
             let mut said = match rewrite {
@@ -86,7 +103,7 @@ fn as_json(line: &Line, made: &Made) -> Value {
                 "through_got": is_through_got, "target": target, "known": known,
             })
         }
-        _ => json!({ "other": words(line, made) }),
+        _ => json!({ "other": said(line, made) }),
     }
 }
 
@@ -94,7 +111,7 @@ pub fn line_as_json(line: &Line) -> Value {
     json!({
         "object": line.object, "place": line.place, "symbol": line.symbol,
         "relocation": name(line.architecture, line.relocation), "same": line.is_same(),
-        "a": as_json(line, &line.made[0]), "b": as_json(line, &line.made[1]),
+        "addresses": line.addresses, "a": as_json(line, &line.made[0]), "b": as_json(line, &line.made[1]),
     })
 }
 
@@ -108,5 +125,5 @@ pub fn counts_as_json(counts: &Counts) -> Value {
 /// `PLACE  RELOCATION SYMBOL`, without what was made of it.
 pub fn head(line: &Line) -> String {
     let relocation = name(line.architecture, line.relocation);
-    format!("{}: {}  {relocation} {}", line.object, line.place, line.symbol)
+    printable(&format!("{}: {}  {relocation} {}", line.object, line.place, line.symbol))
 }

@@ -1,0 +1,69 @@
+//! Where the offsets of a section are in a linked file.
+
+use crate::elf::{Linked, Section};
+
+/// Offsets of a section, by offset, and their addresses.
+pub type Anchors = Vec<(u64, u64)>;
+
+/// The address of what isn't in the linked file, in `Anchors`.
+pub const NOWHERE: u64 = 1 << 62;
+
+/// The address of an offset, by what is at or before it.
+pub fn address_in(map: &Anchors, offset: u64) -> Option<u64> {
+    let after = map.partition_point(|(start, _)| *start <= offset);
+    let (start, address) = map.get(after.saturating_sub(1))?;
+    (*address != NOWHERE).then(|| address.wrapping_add(offset).wrapping_sub(*start))
+}
+
+/// Some bytes of a section as they are in the linked file.
+pub struct Window {
+    /// Without those that were deleted of a relocation, and with the object's where others were.
+    pub bytes: Vec<u8>,
+    /// How many were deleted of the relocation.
+    pub deleted: u64,
+    /// Where they would begin if none before the relocation were deleted.
+    pub address: u64,
+}
+
+/// The bytes between two offsets of a section, for a relocation that is of those between two others.
+pub fn window(
+    linked: &Linked,
+    it: &Section,
+    map: &Anchors,
+    (start, end): (u64, u64),
+    own: (u64, u64),
+) -> Option<Window> {
+    let after = map.partition_point(|(offset, _)| *offset <= start);
+    let (mut at, mut address) = (start, address_in(map, start)?);
+    let before = own.0.wrapping_sub(start);
+    let place = address_in(map, own.0)?;
+    let address_of_start = place.wrapping_sub(before);
+    let mut found = Window { bytes: Vec::new(), deleted: 0, address: address_of_start };
+    let next = map[after..].iter().copied().chain([(u64::MAX, 0)]);
+    for (offset, there) in next {
+        // the bytes that are deleted before the next offset
+        let past = address.wrapping_add(offset - at);
+        let deleted = past.wrapping_sub(there);
+        // or else what is behind is somewhere else
+        let is_near = offset != u64::MAX && deleted <= offset - at;
+        let kept = (offset - at).checked_sub(if is_near { deleted } else { 0 })?.min(end - at);
+        if kept > 0 {
+            found.bytes.extend(linked.bytes_at(address)?.get(..kept as usize)?);
+        }
+        at += kept;
+        if at == end || !is_near {
+            return (at == end).then_some(found);
+        }
+        let to = offset.min(end);
+        if own.0 <= at && to <= own.1 {
+            found.deleted += to - at;
+        } else {
+            found.bytes.extend(it.bytes.get(at as usize..to as usize)?);
+        }
+        (at, address) = (to, there);
+        if at == end {
+            return Some(found);
+        }
+    }
+    None
+}
