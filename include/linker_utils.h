@@ -714,6 +714,8 @@ struct linker_utils_relocation_reach {
  * - PowerPC64's _HA, of the biased value, and _HI: from -2^31 up, below 2^31
  * - AArch64's MOVW relocations of G0, G1 and G2 that set a signed value: from -2^16, -2^32 or -2^48
  *   up, below 2^16, 2^32 or 2^48
+ * - R_RISCV_RVC_LUI: from -0x20800 up, below 0x1f800. Of these -0x800 up, below 0x800, can't be
+ *   written, since the ISA reserves the immediate 0 of `c.lui`
  * - R_X86_64_GOT32, R_RISCV_PLT32 and R_RISCV_GOT32_PCREL: from -2^31 up, below 2^31
  * A relocation without a range takes a part of every value: R_AARCH64_ADR_PREL_PG_HI21_NC writes 0
  * for 2^33. LINKER_UTILS_UNKNOWN_ARCHITECTURE; LINKER_UTILS_UNKNOWN_RELOCATION. */
@@ -734,14 +736,18 @@ struct linker_utils_relocation_entry {
  * - In an instruction, the form's bits become the bits of the value that the relocation takes.
  *   Those that the form only ORs need not be 0 before. All other bits are unchanged, except for the
  *   opcode of MOVN and MOVZ, which depends on the value's sign; their shift has to be the first of
- *   the relocation's bits. MOVN and MOVZ of 32 bits (bit 31 is 0) keep their size.
+ *   the relocation's bits. MOVN and MOVZ of 32 bits (bit 31 is 0) keep their size. A MOVK there
+ *   stays a MOVK, with the value's bits as they are.
+ * - A `jirl` at R_LARCH_PCALA_LO12 gets bits 2 to 17 of the low 12 bits of the value, which are
+ *   read in two's complement, and accepts only multiples of 4.
  * - A PowerPC64 instruction of DQ-form (lq, lxv, stxv, lxvp, stxvp) at a relocation of DS-form
  *   keeps its low 4 bits, and accepts only multiples of 16.
  * - A relocation without a value writes nothing.
  * LINKER_UTILS_UNKNOWN_ARCHITECTURE; LINKER_UTILS_UNKNOWN_RELOCATION; LINKER_UTILS_UNSUPPORTED for
  * R_RISCV_SET_ULEB128, R_RISCV_SUB_ULEB128, R_LARCH_ADD_ULEB128 and R_LARCH_SUB_ULEB128, for which
  * there is `linker_utils_write_uleb128`, and for R_LARCH_CALL30, since no manual says how far its
- * pair goes; LINKER_UTILS_TOO_SHORT; LINKER_UTILS_MISALIGNED; LINKER_UTILS_OUT_OF_REACH. */
+ * pair goes; LINKER_UTILS_TOO_SHORT; LINKER_UTILS_MISALIGNED; LINKER_UTILS_OUT_OF_REACH, also where
+ * the immediate of a `c.lui` would be 0. */
 static inline uint32_t linker_utils_relocate(uint16_t machine, uint32_t r_type, int64_t value,
                                              uint8_t *dest, size_t dest_len);
 
@@ -1288,7 +1294,8 @@ struct linker_utils_field_value {
  *   bits are known.
  * - The value of PowerPC64's and LoongArch's adjusted high halves has their `bias` in it, so that
  *   the rounding is 0: `linker_utils_solve` takes the bias off.
- * - MOVN and MOVZ have 16 bits and the sign.
+ * - MOVN and MOVZ have 16 bits and the sign; a MOVK has 16 bits.
+ * - A `jirl` at R_LARCH_PCALA_LO12 has bits 2 to 11, and bits 0 and 1 are 0.
  * - Whole bytes have the low bits of the value; that of R_RISCV_SET6 has 6.
  *
  * LINKER_UTILS_TOO_SHORT where there are fewer bytes than the field has.

@@ -26,7 +26,7 @@ pub fn apply(row: &RelocationKindInfo, operands: &Operands, bytes: &mut [u8]) ->
 /// number of 33 bits. A `movn` or `movz` is one of 64 bits, and has the shift of its relocation.
 pub fn aarch64() {}
 
-/// LoongArch: `pcalau12i` with an instruction that adds 12 bits, and the five instructions for 64
+/// LoongArch: `pcalau12i` with an instruction that adds 12 bits, or with a `jirl`, and the five instructions for 64
 /// bits, also through the GOT and for each model of TLS; numbers of 32 and of 64 bits by parts;
 /// branches, `pcaddi` and calls; differences of labels. In pairs the value of the high part, which
 /// nothing else checks, is a number of 32 bits.

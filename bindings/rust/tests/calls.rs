@@ -680,6 +680,12 @@ fn tells_what_relocations_mean() {
             LoongArch64,
             102,
             "R_LARCH_ALIGN",
+            in_bytes(RelocationKind::Alignment, 0),
+        ),
+        (
+            LoongArch64,
+            20,
+            "R_LARCH_MARK_LA",
             in_bytes(RelocationKind::None, 0),
         ),
         (

@@ -41,6 +41,67 @@ fn moves_keep_the_size_of_their_register() {
 }
 
 #[test]
+fn movk_stays_movk() {
+    // as ld.lld links them; GNU ld writes the same for values that aren't negative
+    for (r_type, value, before, after) in [
+        (287, 0x1234, 0xf280_0000, 0xf282_4680),
+        (287, 0x122c, 0x7280_0003, 0x7282_4583),
+        (287, -0x1004, 0xf280_0000, 0xf29d_ff80),
+        (289, -0x1010, 0xf2a2_4681, 0xf2bf_ffe1),
+        (291, 0x1220, 0xf2c0_0002, 0xf2c0_0002),
+        (270, -5, 0xf280_0004, 0xf29f_ff64),
+        (271, 0x1234_5678, 0xf2a0_0005, 0xf2a2_4685),
+    ] {
+        let found = word(Architecture::AArch64, r_type, value, before);
+        assert_eq!(found, Ok(after), "{before:x}");
+    }
+}
+
+#[test]
+fn jumps_take_the_low_part_in_words() {
+    // `R_LARCH_PCALA_LO12` at `jirl`
+    for (value, before, after) in [
+        (0x300134, 0x4c00_0181, 0x4c01_3581),
+        (0x300234, 0x4c00_0181, 0x4c02_3581),
+        (0x3007fc, 0x4c00_0181, 0x4c07_fd81),
+        (0x300800, 0x4c00_0180, 0x4ff8_0180),
+        (0x300ffc, 0x4c00_0180, 0x4fff_fd80),
+    ] {
+        let found = word(Architecture::LoongArch64, 72, value, before);
+        assert_eq!(found, Ok(after), "{value:x}");
+        let read = read_value(Architecture::LoongArch64, 72, &after.to_le_bytes());
+        let low = read.expect("a value");
+        let bits = (low.first_bit, low.end_bit, low.bits);
+        assert_eq!(bits, (0, 12, value as u64 % 4096), "{value:x}");
+    }
+    assert_eq!(
+        word(Architecture::LoongArch64, 72, 0x300136, 0x4c00_0181),
+        Err(Status::Misaligned)
+    );
+    assert_eq!(
+        word(Architecture::LoongArch64, 72, 0x300136, 0x02c0_0084),
+        Ok(0x02c4_d884)
+    );
+}
+
+#[test]
+fn c_lui_has_no_immediate_0() {
+    // `R_RISCV_RVC_LUI`, whose words are the assemblers'
+    for (value, after) in [
+        (0x800, Ok(vec![0x05, 0x65])),
+        (-0x801, Ok(vec![0x7d, 0x75])),
+        (0x1f7ff, Ok(vec![0x7d, 0x65])),
+        (-0x20800, Ok(vec![0x01, 0x75])),
+        (0x7ff, Err(Status::OutOfReach)),
+        (0, Err(Status::OutOfReach)),
+        (-0x800, Err(Status::OutOfReach)),
+    ] {
+        let found = written(Architecture::RiscV, 46, value, &[0x01, 0x65]);
+        assert_eq!(found, after, "{value}");
+    }
+}
+
+#[test]
 fn displacements_of_dq_form_are_in_units_of_16() {
     // `R_PPC64_TOC16_LO_DS`: `lxv` and `stxv` of vs35, `lxv` of vs3, `lq`, `lxvp` and `stxvp`
     let dq = [

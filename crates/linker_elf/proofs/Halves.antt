@@ -312,15 +312,17 @@ ppc64_holds f bits v before after small inside units w start long = tt
 instruction_holds : (insn : RelocationInstruction) (kind : RelocationKind) (bits : BitRange)
     (own : Bounds) (v : ℤ) (before after : List ℕ) → FitsSigned w64 v → bits.end ≤ 64
     → IsWithin (reach_of_size kind (BitMasking bits insn) own) v
-    → IsInUnits (BitMasking bits insn) v before → InstructionWritten insn bits v before after
+    → IsInUnits (BitMasking bits insn) v before → IsWritten (BitMasking bits insn) kind v before after
     → InstructionHolds insn bits v (window_of (relocation_form insn) after)
 instruction_holds (AArch64 f) kind bits own v before after small inside within units w = tt
 instruction_holds (RiscV f) kind bits own v before after small inside within units w =
     riscv_holds f bits own v (int_lt v (pos 0)) w.clear (window_of (riscv_form f) after) small inside within w.written
 instruction_holds (Ppc64 f) kind bits own v before after small inside within units w =
     ppc64_holds f bits v before after small inside units w
+instruction_holds (LoongArch64 Call36) kind bits own v before after small inside within units w =
+    loongarch_holds Call36 bits own v (int_lt v (pos 0)) w.clear (window_of (loongarch_form Call36) after) inside within w.written
 instruction_holds (LoongArch64 f) kind bits own v before after small inside within units w =
-    loongarch_holds f bits own v (int_lt v (pos 0)) w.clear (window_of (loongarch_form f) after) inside within w.written
+    λ start end aligned. tt
 
 size_holds : (size : RelocationSize) (kind : RelocationKind) (own : Bounds) (v : ℤ)
     (before after : List ℕ) → FitsSigned w64 v → takes_size kind size ≡ true

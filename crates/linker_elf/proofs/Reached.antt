@@ -7,7 +7,7 @@ use Rattle.linker_elf.specs.Agrees.{RowFits, SizeFits}
 use Rattle.linker_elf.specs.Elf.{IsWithin}
 use Rattle.linker_elf.specs.Bounds.{least_within, last_within}
 use Rattle.linker_elf.specs.Reach.{reach_of}
-use Rattle.linker_elf.specs.Relocate.{HoldsBits, IsReached}
+use Rattle.linker_elf.specs.Relocate.{HoldsBits, IsReached, IsEncoded}
 use Rattle.linker_elf.specs.Rows.{Bounds}
 use Rattle.linker_elf.specs.declared.elf.RelocationSize.{RelocationSize}
 use Rattle.linker_elf.specs.declared.elf.RelocationSize.TheVariants.{ByteSize, BitMasking}
@@ -27,8 +27,10 @@ holds (ByteSize n) v bytes fits = tt
 holds (BitMasking bits insn) v bytes fits = fits.fits _ _
 
 pub reached_from : (row : RelocationKindInfo) (v : ℤ) (bytes : List ℕ) → FitsSigned w64 v → RowFits row
-    → least_within (reach_of row) ≤ℤ v → v ≤ℤ last_within (reach_of row) → IsReached row v bytes
-reached_from row v bytes small fits low high = (
+    → least_within (reach_of row) ≤ℤ v → v ≤ℤ last_within (reach_of row) → IsEncoded row.size v
+    → IsReached row v bytes
+reached_from row v bytes small fits low high encoded = (
   within_from (reach_of row) v low high small,
   holds row.size v bytes fits,
+  encoded,
 )

@@ -1,30 +1,35 @@
 -- What the machine reads of an instruction into which a relocation's value was written.
 use Rattle.std.proofs.Common.{FitsSigned, ◌≡◌, ℕ, ◌+◌, ◌-◌, ◌<◌, ◌≤◌, ◌^◌, ◌&&◌, Bool, ltb, arith}
 use Rattle.std.proofs.Common.{IsTrue, true, false, not, refl, sym, ◌∙◌, ap, subst, List, ℤ, pos}
-use Rattle.std.proofs.Common.{negsuc, int_lt, Some, None, inl, inr, ◌==◌, ◌%◌}
+use Rattle.std.proofs.Common.{negsuc, int_lt, Some, None, inl, inr, ◌==◌, ◌%◌, ◌/◌, ◌*ℤ◌, ◌-ℤ◌}
+use Rattle.std.proofs.Common.{unsigned_abs, if◌then◌else◌}
 use Rattle.std.specs.Prelude.{⊤, ◌⊎◌}
-use Rattle.std.specs.Int.{w64, bit_at, int_rem_euclid}
+use Rattle.std.specs.Int.{w64, bit_at, cast_unsigned, int_rem_euclid}
 use Rattle.std.proofs.lemmas.Bool.{lt-ltb, ltb-true, eqb-true, and_parts, cases_lt}
+use Rattle.std.proofs.lemmas.Int.{ints, int_rem_euclid_is}
+use Rattle.linker_base.proofs.Pairs.{signed_cases}
+use Rattle.std.proofs.lemmas.Nat.{mod_below, pow_pos}
 use Rattle.linker_base.specs.Bits.{field}
-use Rattle.linker_base.specs.Form.{ImmediateBit, BitsWritten, IsClear, is_clear_at, window_of, replaced}
+use Rattle.linker_base.specs.Form.{ImmediateBit, BitsWritten, IsClear, is_clear_at, window_of, replaced, one_field, Fits}
 use Rattle.linker_base.specs.declared.bit_misc.BitRange.{BitRange}
 use Rattle.linker_base.proofs.ConsecutiveBits.{consecutive_bits_all}
-use Rattle.linker_base.proofs.Immediates.{always_clear}
+use Rattle.linker_base.proofs.Immediates.{always_clear, layout_laid, subst_below}
 use Rattle.linker_elf.specs.AArch64.{aarch64_form, shift_of, access_scale}
 use Rattle.linker_elf.specs.Agrees.{InstructionAgrees, SizeAgrees, AgreesBy, AgreesInReach}
 use Rattle.linker_elf.specs.Agrees.{is_of_halves, is_of_words, bits_from, IsSameIn, aarch64_reads}
-use Rattle.linker_elf.specs.Elf.{IsWithin, relocation_form}
-use Rattle.linker_elf.specs.LoongArch.{loongarch_form}
+use Rattle.linker_elf.specs.Elf.{IsWithin, bit_bounds, relocation_form, relocation_layout}
+use Rattle.linker_elf.specs.LoongArch.{loongarch_form, shift10_imm16}
 use Rattle.linker_elf.specs.Ppc64.{ppc64_form}
 use Rattle.linker_elf.specs.Reach.{aarch64_reach, riscv_reach, loongarch_reach, ppc64_reach}
 use Rattle.linker_elf.specs.Reach.{reach_of_size, reach_of}
 use Rattle.linker_elf.specs.Relocate.{places_cleared, ored_cleared, bits_taken}
 use Rattle.linker_elf.specs.Relocate.{InstructionWritten, IsWritten, InstructionReads, SizeReads}
 use Rattle.linker_elf.specs.Relocate.{takes_size, is_supported, is_call30, IsAligned, IsAccepted}
-use Rattle.linker_elf.specs.Relocate.{IsInUnits, MoveReads, with_bit_31_if}
+use Rattle.linker_elf.specs.Relocate.{IsInUnits, IsInWords, MoveReads, with_bit_31_if}
+use Rattle.linker_elf.specs.Relocate.{stays_movk, is_movk, is_low_jump, low_part, insn_at, bits_at, value_at}
 use Rattle.linker_elf.specs.Rows.{Bounds}
 use Rattle.linker_elf.specs.declared.aarch64.forms.AArch64Instruction.{AArch64Instruction}
-use Rattle.linker_elf.specs.declared.aarch64.forms.AArch64Instruction.TheVariants.{Movnz, MachOLow12}
+use Rattle.linker_elf.specs.declared.aarch64.forms.AArch64Instruction.TheVariants.{Movkz, Movnz, MachOLow12}
 use Rattle.linker_elf.specs.declared.loongarch64.forms.LoongArch64Instruction.{LoongArch64Instruction}
 use Rattle.linker_elf.specs.declared.loongarch64.forms.LoongArch64Instruction.TheVariants.{Shift10, Call36}
 use Rattle.linker_elf.specs.declared.ppc64.forms.Ppc64Instruction.{Ppc64Instruction}
@@ -32,6 +37,7 @@ use Rattle.linker_elf.specs.declared.ppc64.forms.Ppc64Instruction.TheVariants.{D
 use Rattle.linker_elf.specs.declared.elf.RelocationInstruction.{RelocationInstruction}
 use Rattle.linker_elf.specs.declared.elf.RelocationInstruction.TheVariants.{AArch64, RiscV, Ppc64, LoongArch64}
 use Rattle.linker_elf.specs.declared.elf.RelocationKind.{RelocationKind}
+use Rattle.linker_elf.specs.declared.elf.Sign.TheVariants.{Signed}
 use Rattle.linker_elf.specs.declared.elf.RelocationKindInfo.{RelocationKindInfo}
 use Rattle.linker_elf.specs.declared.elf.RelocationSize.{RelocationSize}
 use Rattle.linker_elf.specs.declared.elf.RelocationSize.TheVariants.{ByteSize, BitMasking}
@@ -39,7 +45,8 @@ use Rattle.linker_elf.specs.declared.riscv64.forms.RiscVInstruction.{RiscVInstru
 use Rattle.linker_elf.specs.declared.riscv64.forms.RiscVInstruction.TheVariants.{UType, IType, SType}
 use Rattle.linker_elf.specs.declared.riscv64.forms.RiscVInstruction.TheVariants.{CluiType, UiType}
 use Rattle.linker_elf.proofs.Clearing.{same_window, clear_after}
-use Rattle.linker_elf.proofs.Agreement.{rem_rem, from_zero}
+use Rattle.linker_elf.proofs.Agreement.{rem_rem, from_zero, layout_agrees}
+use Rattle.linker_elf.proofs.MovedBits.{signed_fits}
 use Rattle.linker_elf.proofs.Placed.{reads_as}
 use Rattle.linker_elf.proofs.Taken.{taken_is_field, taken_below, taken_in_units}
 
@@ -255,19 +262,237 @@ taken_bits_inside kind bits insn takes =
     let below = ltb-true bits.end 65 ends.1 in
     (ltb-true bits.start bits.end ends.0, omega arith)
 
+-- ---- MOVK, and `jirl` at a low part
+
+-- a write elsewhere places the row's bits of the value in the row's form
+pub plain_written : (insn : RelocationInstruction) (kind : RelocationKind) (bits : BitRange) (v : ℤ)
+    (before after : List ℕ)
+    → stays_movk insn bits (window_of (relocation_form insn) before) ≡ false
+    → is_low_jump insn kind (window_of (relocation_form insn) before) ≡ false
+    → IsWritten (BitMasking bits insn) kind v before after → InstructionWritten insn bits v before after
+plain_written insn kind bits v before after move jump w =
+    subst (λ t. InstructionWritten insn (if t then record { start = 2; end = 18 } else bits)
+    (if t then low_part v else v) before after) jump
+    (subst (λ t. InstructionWritten (if t then AArch64 Movkz else insn)
+    (bits_at insn kind bits (window_of (relocation_form insn) before))
+    (value_at insn kind v (window_of (relocation_form insn) before)) before after) move w)
+
+-- at a MOVK it places them in that form
+pub movk_written : (insn : RelocationInstruction) (kind : RelocationKind) (bits : BitRange) (v : ℤ)
+    (before after : List ℕ)
+    → stays_movk insn bits (window_of (relocation_form insn) before) ≡ true
+    → IsWritten (BitMasking bits insn) kind v before after
+    → InstructionWritten (AArch64 Movkz) bits v before after
+movk_written (AArch64 Movnz) kind bits v before after move w =
+    subst (λ t. InstructionWritten (if t then AArch64 Movkz else AArch64 Movnz) bits v before after) move w
+movk_written (AArch64 f) kind bits v before after move w = cc
+movk_written (RiscV f) kind bits v before after move w = cc
+movk_written (Ppc64 f) kind bits v before after move w = cc
+movk_written (LoongArch64 f) kind bits v before after move w = cc
+
+-- and at a `jirl` bits 2 to 17 of the low part
+pub jump_written : (insn : RelocationInstruction) (kind : RelocationKind) (bits : BitRange) (v : ℤ)
+    (before after : List ℕ)
+    → is_low_jump insn kind (window_of (relocation_form insn) before) ≡ true
+    → IsWritten (BitMasking bits insn) kind v before after
+    → InstructionWritten (LoongArch64 Shift10) (record { start = 2; end = 18 }) (low_part v) before
+    after
+jump_written (LoongArch64 Shift10) kind bits v before after jump w =
+    subst (λ t. InstructionWritten (LoongArch64 Shift10)
+    (if t then record { start = 2; end = 18 } else bits) (if t then low_part v else v) before after)
+    jump w
+jump_written (LoongArch64 f) kind bits v before after jump w = cc
+jump_written (AArch64 f) kind bits v before after jump w = cc
+jump_written (RiscV f) kind bits v before after jump w = cc
+jump_written (Ppc64 f) kind bits v before after jump w = cc
+
+-- MOVK takes 16 bits at most
+pub few_bits : (insn : RelocationInstruction) (bits : BitRange) (x : ℕ)
+    → stays_movk insn bits x ≡ true → bits.end - bits.start ≤ 16
+few_bits (AArch64 Movnz) bits x move =
+    let short = ltb-true (bits.end - bits.start) 17
+    (and_parts (is_movk x) (ltb (bits.end - bits.start) 17) move).1 in
+    omega arith
+few_bits (AArch64 f) bits x move = cc
+few_bits (RiscV f) bits x move = cc
+few_bits (Ppc64 f) bits x move = cc
+few_bits (LoongArch64 f) bits x move = cc
+
+taken_short : (bits : BitRange) (v : ℤ) → bits.end - bits.start ≤ 16 → bits_taken bits v < 2 ^ 16
+taken_short bits v short =
+    subst_below (bits_taken bits v) (bits.end - bits.start) 16
+    (mod_below (cast_unsigned w64 v / 2 ^ bits.start) (2 ^ (bits.end - bits.start))
+    (pow_pos (bits.end - bits.start))) short
+
+-- the low part is short
+low_within : (v : ℤ) → IsWithin (Some (bit_bounds 18 Signed)) (low_part v)
+low_within v =
+    let f = bits_taken (record { start = 0; end = 12 }) v in
+    let small : f < 2 ^ 12 = omega arith in
+    elim (signed_cases 12 f) [
+      | inl a ↦ subst (IsWithin (Some (bit_bounds 18 Signed))) (sym a.1)
+          (omega (arith, ints), omega (arith, ints))
+      | inr a ↦ subst (IsWithin (Some (bit_bounds 18 Signed))) (sym a.1)
+          (omega (arith, ints), omega (arith, ints))
+    ]
+
+pub low_fits : (v : ℤ) → FitsSigned w64 (low_part v)
+low_fits v = signed_fits 12 (bits_taken (record { start = 0; end = 12 }) v) (omega arith) (omega arith) (omega arith)
+
+-- what is written fits the form in which it is
+pub fits_at : (insn : RelocationInstruction) (kind : RelocationKind) (bits : BitRange) (v : ℤ)
+    (x : ℕ) → Fits (relocation_form insn) (bits_taken bits v) x
+    → Fits (relocation_form (insn_at insn bits x))
+    (bits_taken (bits_at insn kind bits x) (value_at insn kind v x)) x
+fits_at (AArch64 Movnz) kind bits v x fits = by_movk (stays_movk (AArch64 Movnz) bits x) refl
+  where
+    by_movk : (move : Bool) → stays_movk (AArch64 Movnz) bits x ≡ move
+        → Fits (relocation_form (if move then AArch64 Movkz else AArch64 Movnz)) (bits_taken bits v) x
+    by_movk true e = taken_short bits v (few_bits (AArch64 Movnz) bits x e)
+    by_movk false e = fits
+fits_at (LoongArch64 Shift10) kind bits v x fits = by_jump (is_low_jump (LoongArch64 Shift10) kind x)
+  where
+    by_jump : (jump : Bool) → Fits (loongarch_form Shift10)
+        (bits_taken (if jump then record { start = 2; end = 18 } else bits)
+        (if jump then low_part v else v)) x
+    by_jump true = taken_short (record { start = 2; end = 18 }) (low_part v) (omega arith)
+    by_jump false = fits
+fits_at (AArch64 f) kind bits v x fits = fits
+fits_at (RiscV f) kind bits v x fits = fits
+fits_at (Ppc64 f) kind bits v x fits = fits
+fits_at (LoongArch64 f) kind bits v x fits = fits
+
+-- the window is that of the row's form
+pub window_at : (insn : RelocationInstruction) (bits : BitRange) (x : ℕ)
+    → (relocation_form (insn_at insn bits x)).window ≡ (relocation_form insn).window
+window_at (AArch64 Movnz) bits x = by_movk (stays_movk (AArch64 Movnz) bits x)
+  where
+    by_movk : (move : Bool)
+        → (relocation_form (if move then AArch64 Movkz else AArch64 Movnz)).window
+        ≡ (relocation_form (AArch64 Movnz)).window
+    by_movk true = refl
+    by_movk false = refl
+window_at (AArch64 f) bits x = refl
+window_at (RiscV f) bits x = refl
+window_at (Ppc64 f) bits x = refl
+window_at (LoongArch64 f) bits x = refl
+
+pub value_fits : (insn : RelocationInstruction) (kind : RelocationKind) (v : ℤ) (x : ℕ)
+    → FitsSigned w64 v → FitsSigned w64 (value_at insn kind v x)
+value_fits insn kind v x small = by_jump (is_low_jump insn kind x)
+  where
+    by_jump : (jump : Bool) → FitsSigned w64 (if jump then low_part v else v)
+    by_jump true = low_fits v
+    by_jump false = small
+
+movk_reads : (bits : BitRange) (v : ℤ) (before after : List ℕ) → bits.end ≤ 64
+    → bits.end - bits.start ≤ 16 → InstructionWritten (AArch64 Movkz) bits v before after
+    → (aarch64_form Movkz).machine (window_of (aarch64_form Movkz) after) ≡ pos (bits_taken bits v)
+movk_reads bits v before after inside short w =
+    let small = taken_short bits v short in
+    let sum = layout_laid (relocation_layout (AArch64 Movkz)) refl (bits_taken bits v)
+    (int_lt v (pos 0)) w.clear (window_of (aarch64_form Movkz) after) (taken_below bits v inside)
+    w.written (aarch64_clear Movkz (window_of (aarch64_form Movkz) before) w.clear w.clears) in
+    ap pos (sum ∙ omega arith)
+
+-- the low part of a multiple of 4 is one
+low_aligned : (v : ℤ) → FitsSigned w64 v → IsAligned 4 v → IsAligned 4 (low_part v)
+low_aligned v small aligned =
+    let bits : BitRange = record { start = 0; end = 12 } in
+    let f = bits_taken bits v in
+    let is : pos f ≡ int_rem_euclid v (pos (2 ^ 12)) =
+    taken_is_field bits v small (omega arith) (omega arith)
+    ∙ ap (λ z. int_rem_euclid z (pos (2 ^ 12))) (from_zero v) in
+    let rest : f % 4 ≡ 0 =
+    ap unsigned_abs (rem_rem v f 12 2 (omega arith) is ∙ aligned) in
+    elim (signed_cases 12 f) [
+      | inl a ↦ subst (IsAligned 4) (sym a.1) (ap pos rest)
+      | inr a ↦ subst (IsAligned 4) (sym a.1) (less f (omega arith) rest)
+    ]
+  where
+    less : (f : ℕ) → f < 2 ^ 12 → f % 4 ≡ 0 → IsAligned 4 (pos f -ℤ pos (2 ^ 12))
+    less f short rest =
+        int_rem_euclid_is (pos f -ℤ pos (2 ^ 12)) (pos 4) 4 (2 ^ 10 - f / 4) 0 (omega arith) refl
+        (omega (arith, ints))
+
+jump_reads : (v : ℤ) (before after : List ℕ) → FitsSigned w64 v → IsAligned 4 v
+    → InstructionWritten (LoongArch64 Shift10) (record { start = 2; end = 18 }) (low_part v) before
+    after
+    → (loongarch_form Shift10).machine (window_of (loongarch_form Shift10) after) *ℤ pos 4
+    ≡ low_part v
+jump_reads v before after small aligned w =
+    let bits : BitRange = record { start = 2; end = 18 } in
+    let z = low_part v in
+    let x = window_of (loongarch_form Shift10) before in
+    let y = window_of (loongarch_form Shift10) after in
+    let multiple = low_aligned v small aligned in
+    let reads : (loongarch_form Shift10).machine y ≡ bits_from 2 z =
+    layout_agrees (one_field shift10_imm16) refl 2 18 (Some (bit_bounds 18 Signed)) 4 refl z
+    (bits_taken bits z) w.clear y (low_within v) multiple
+    (taken_is_field bits z (low_fits v) (omega arith) (omega arith))
+    (loongarch_ready Shift10 true bits x w.clear w.clears (λ e t. omega arith) refl) w.written in
+    ap (λ m. m *ℤ pos 4) reads ∙ four_times z multiple
+  where
+    four_times : (z : ℤ) → IsAligned 4 z → bits_from 2 z *ℤ pos 4 ≡ z
+    four_times (pos n) e = let rest : n % 4 ≡ 0 = ap unsigned_abs e in ap pos (omega arith)
+    four_times (negsuc n) e = omega (arith, ints)
+
+field_reads : (is_signed : Bool) (insn : RelocationInstruction) (kind : RelocationKind)
+    (bits : BitRange) (reached : Bounds) (a : ℕ) (v : ℤ) (before after : List ℕ)
+    → FitsSigned w64 v → bits.start < bits.end → bits.end ≤ 64 → IsInside insn reached v
+    → IsAligned a v → IsInUnits (BitMasking bits insn) v before
+    → IsInWords (BitMasking bits insn) kind v before
+    → IsWritten (BitMasking bits insn) kind v before after
+    → InstructionAgrees is_signed insn bits reached a
+    → SizeReads is_signed (BitMasking bits insn) kind reached v before after
+field_reads is_signed insn kind bits reached a v before after small some inside within aligned units
+    words w agrees =
+    record {
+      other = λ move jump.
+          instruction_reads is_signed insn bits reached a v before after small some inside within
+          aligned units (plain_written insn kind bits v before after move jump w) agrees;
+      movk = λ move.
+          of_movk insn move
+          (movk_reads bits v before after inside (few_bits insn bits (window_of (relocation_form insn) before) move)
+          (movk_written insn kind bits v before after move w));
+      jump = λ jump.
+          of_jump insn jump
+          (jump_reads v before after small (words jump) (jump_written insn kind bits v before after jump w));
+    }
+  where
+    of_movk : (insn : RelocationInstruction)
+        → stays_movk insn bits (window_of (relocation_form insn) before) ≡ true
+        → (aarch64_form Movkz).machine (window_of (aarch64_form Movkz) after) ≡ pos (bits_taken bits v)
+        → (aarch64_form Movkz).machine (window_of (relocation_form insn) after) ≡ pos (bits_taken bits v)
+    of_movk (AArch64 Movnz) move e = e
+    of_movk (AArch64 f) move e = cc
+    of_movk (RiscV f) move e = cc
+    of_movk (Ppc64 f) move e = cc
+    of_movk (LoongArch64 f) move e = cc
+
+    of_jump : (insn : RelocationInstruction)
+        → is_low_jump insn kind (window_of (relocation_form insn) before) ≡ true
+        → (loongarch_form Shift10).machine (window_of (loongarch_form Shift10) after) *ℤ pos 4 ≡ low_part v
+        → (loongarch_form Shift10).machine (window_of (relocation_form insn) after) *ℤ pos 4 ≡ low_part v
+    of_jump (LoongArch64 Shift10) jump e = e
+    of_jump (LoongArch64 f) jump e = cc
+    of_jump (AArch64 f) jump e = cc
+    of_jump (RiscV f) jump e = cc
+    of_jump (Ppc64 f) jump e = cc
+
 size_reads : (is_signed : Bool) (size : RelocationSize) (kind : RelocationKind) (reached : Bounds)
     (a : ℕ) (v : ℤ) (before after : List ℕ)
     → FitsSigned w64 v → takes_size kind size ≡ true → IsInsideSize size reached v → IsAligned a v
-    → IsInUnits size v before
+    → IsInUnits size v before → IsInWords size kind v before
     → IsWritten size kind v before after → SizeAgrees is_signed size reached a
-    → SizeReads is_signed size reached v before after
-size_reads is_signed (ByteSize n) kind reached a v before after small takes within aligned units w
-    agrees = tt
+    → SizeReads is_signed size kind reached v before after
+size_reads is_signed (ByteSize n) kind reached a v before after small takes within aligned units words
+    w agrees = tt
 size_reads is_signed (BitMasking bits insn) kind reached a v before after small takes within aligned
-    units w agrees =
+    units words w agrees =
     let t = taken_bits_inside kind bits insn takes in
-    instruction_reads is_signed insn bits reached a v before after small t.0 t.1 within aligned units
-    w agrees
+    field_reads is_signed insn kind bits reached a v before after small t.0 t.1 within aligned units
+    words w agrees
 
 -- a row that can be written takes bits of its size
 pub supported_size : (row : RelocationKindInfo) → is_supported row ≡ true
@@ -279,19 +504,20 @@ supported_size row h =
 
 pub row_reads : (is_signed : Bool) (row : RelocationKindInfo) (v : ℤ) (before after : List ℕ)
     → FitsSigned w64 v → IsAccepted row v before → IsWritten row.size row.kind v before after
-    → AgreesBy is_signed row → SizeReads is_signed row.size row.range.bounds v before after
+    → AgreesBy is_signed row → SizeReads is_signed row.size row.kind row.range.bounds v before after
 row_reads is_signed row v before after small accepted w agrees =
     size_reads is_signed row.size row.kind row.range.bounds row.alignment v before after small
     (supported_size row accepted.supported)
     (own_size row.kind row.size row.range.bounds v accepted.reached.0)
-    accepted.aligned.0 accepted.aligned.1 w agrees
+    accepted.aligned.0 accepted.aligned.1 accepted.aligned.2 w agrees
 
 pub row_reads_in_reach : (is_signed : Bool) (row : RelocationKindInfo) (v : ℤ)
     (before after : List ℕ)
     → FitsSigned w64 v → IsAccepted row v before → IsWritten row.size row.kind v before after
-    → AgreesInReach is_signed row → SizeReads is_signed row.size (reach_of row) v before after
+    → AgreesInReach is_signed row
+    → SizeReads is_signed row.size row.kind (reach_of row) v before after
 row_reads_in_reach is_signed row v before after small accepted w agrees =
     size_reads is_signed row.size row.kind (reach_of row) row.alignment v before after small
     (supported_size row accepted.supported)
     (reached_size row.size (reach_of row) v accepted.reached.0)
-    accepted.aligned.0 accepted.aligned.1 w agrees
+    accepted.aligned.0 accepted.aligned.1 accepted.aligned.2 w agrees

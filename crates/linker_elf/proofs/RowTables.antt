@@ -16,7 +16,7 @@ use Rattle.linker_elf.specs.contracts.riscv64.relocations.RiscVRelocation as ris
 use Rattle.linker_elf.specs.declared.riscv64.relocations.TheConstants as riscv64_table
 use Rattle.linker_elf.specs.declared.riscv64.relocations.RiscVRelocation.{RiscVRelocation}
 use Rattle.linker_elf.specs.declared.riscv64.relocations.RiscVRelocation.TheVariants.{R_RISCV_NONE}
-use Rattle.linker_elf.specs.LoongArchRelocations.{loongarch_row, loongarch_raw_row}
+use Rattle.linker_elf.specs.LoongArchRelocations.{loongarch_row, loongarch_raw_row, raw_name}
 use Rattle.linker_elf.specs.contracts.loongarch64.relocations.LoongArch64Relocation as loongarch64
 use Rattle.linker_elf.specs.declared.loongarch64.relocations.TheConstants as loongarch64_table
 use Rattle.linker_elf.specs.declared.loongarch64.relocations.LoongArch64Relocation.{LoongArch64Relocation}
@@ -53,7 +53,7 @@ loongarch_rows R_LARCH_NONE = record { row_is = refl; entry_is = refl }
 loongarch_rows name = record { row_is = refl; entry_is = refl }
 
 pub loongarch_raw_rows : (name : LoongArch64Relocation)
-    → raw_info_in (slice_index_or loongarch64_table.ROWS.now (tag_of loongarch64.the_type name) None)
+    → raw_info_in (slice_index_or loongarch64_table.ROWS.now (tag_of loongarch64.the_type (raw_name name)) None)
     ≡ loongarch_raw_row name
 loongarch_raw_rows R_LARCH_NONE = refl
 loongarch_raw_rows name = refl

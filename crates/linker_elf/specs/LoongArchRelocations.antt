@@ -10,7 +10,8 @@ use Rattle.linker_elf.specs.declared.elf.RelocationKind.TheVariants.{AbsoluteAdd
 use Rattle.linker_elf.specs.declared.elf.RelocationKind.TheVariants.{AbsoluteLowPart}
 use Rattle.linker_elf.specs.declared.elf.RelocationKind.TheVariants.{AbsoluteSubtraction}
 use Rattle.linker_elf.specs.declared.elf.RelocationKind.TheVariants.{AbsoluteSubtractionWord6}
-use Rattle.linker_elf.specs.declared.elf.RelocationKind.TheVariants.{DtpOff, Got, GotRelative}
+use Rattle.linker_elf.specs.declared.elf.RelocationKind.TheVariants.{Alignment, DtpOff, Got}
+use Rattle.linker_elf.specs.declared.elf.RelocationKind.TheVariants.{GotRelative}
 use Rattle.linker_elf.specs.declared.elf.RelocationKind.TheVariants.{GotRelativeLoongArch64}
 use Rattle.linker_elf.specs.declared.elf.RelocationKind.TheVariants.{GotTpOff, GotTpOffGot}
 use Rattle.linker_elf.specs.declared.elf.RelocationKind.TheVariants.{GotTpOffLoongArch64}
@@ -71,6 +72,7 @@ loongarch_relocation r.R_LARCH_TLS_DTPREL32 =
     with_row 8 (codes "R_LARCH_TLS_DTPREL32") (bytes_row DtpOff 4)
 loongarch_relocation r.R_LARCH_TLS_DTPREL64 =
     with_row 9 (codes "R_LARCH_TLS_DTPREL64") (bytes_row DtpOff 8)
+loongarch_relocation r.R_LARCH_MARK_LA = with_row 20 (codes "R_LARCH_MARK_LA") (bytes_row NoValue 0)
 loongarch_relocation r.R_LARCH_ADD8 =
     with_row 47 (codes "R_LARCH_ADD8") (bytes_row AbsoluteAddition 1)
 loongarch_relocation r.R_LARCH_ADD16 =
@@ -153,7 +155,7 @@ loongarch_relocation r.R_LARCH_TLS_GD_HI20 =
 loongarch_relocation r.R_LARCH_32_PCREL =
     with_row 99 (codes "R_LARCH_32_PCREL") (signed_row 32 (bytes_row Relative 4))
 loongarch_relocation r.R_LARCH_RELAX = with_row 100 (codes "R_LARCH_RELAX") (bytes_row NoValue 0)
-loongarch_relocation r.R_LARCH_ALIGN = with_row 102 (codes "R_LARCH_ALIGN") (bytes_row NoValue 0)
+loongarch_relocation r.R_LARCH_ALIGN = with_row 102 (codes "R_LARCH_ALIGN") (bytes_row Alignment 0)
 loongarch_relocation r.R_LARCH_PCREL20_S2 =
     with_row 103 (codes "R_LARCH_PCREL20_S2") (branch_row Relative 22 Shift5)
 loongarch_relocation r.R_LARCH_ADD6 =
@@ -207,13 +209,20 @@ loongarch_row name = (loongarch_relocation name).row
 
 -- the names that the crate this one is a port of has no row for
 abbrev pub is_own : LoongArch64Relocation → Bool
+is_own r.R_LARCH_MARK_LA = true
 is_own r.R_LARCH_TLS_LD_PCREL20_S2 = true
 is_own r.R_LARCH_TLS_GD_PCREL20_S2 = true
 is_own r.R_LARCH_TLS_DESC_PCREL20_S2 = true
 is_own name = false
 
--- the rows without those
+-- the name whose row it has for a name: its `R_LARCH_ALIGN` has no kind of its own
+abbrev pub raw_name : LoongArch64Relocation → LoongArch64Relocation
+raw_name r.R_LARCH_ALIGN = r.R_LARCH_RELAX
+raw_name name = name
+
+-- the rows without those, and with that of no kind
 abbrev pub loongarch_raw_row : LoongArch64Relocation → Option RelocationKindInfo
+loongarch_raw_row r.R_LARCH_ALIGN = Some (bytes_row NoValue 0)
 loongarch_raw_row name = if is_own name then None else loongarch_row name
 
 -- V + S + A of the first of a pair, and V - S - A of the second

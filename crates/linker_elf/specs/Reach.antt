@@ -34,6 +34,10 @@ riscv_pair_bounds = (neg_ℤ (pos (2 ^ 31 + 0x800)), pos (2 ^ 31 - 0x800))
 abbrev pub clui_bounds : ℤ × ℤ
 clui_bounds = (neg_ℤ (pos 0x20800), pos 0x1f800)
 
+-- Of those `c.lui` has none whose high part is 0: the ISA reserves its immediate 0.
+abbrev pub clui_hole : ℤ × ℤ
+clui_hole = (neg_ℤ (pos 0x800), pos 0x800)
+
 -- `pcaddu18i` with a `jirl` of 16 signed bits, in units of 4 bytes
 abbrev pub call36_bounds : ℤ × ℤ
 call36_bounds = (neg_ℤ (pos (2 ^ 37 + 0x20000)), pos (2 ^ 37 - 0x20000))

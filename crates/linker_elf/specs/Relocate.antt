@@ -6,7 +6,7 @@ use Rattle.std.specs.Prelude.{replicate, ℤ, pos, ◌+ℤ◌, ◌-ℤ◌, ◌*�
 use Rattle.std.specs.Prelude.{⊤}
 use Rattle.std.specs.Int.{w64, byte_len, cast_unsigned, from_le_bytes, to_le_bytes, int_rem_euclid}
 use Rattle.std.specs.Int.{bit_at}
-use Rattle.linker_base.specs.Bits.{field}
+use Rattle.linker_base.specs.Bits.{field, signed}
 use Rattle.linker_base.specs.Form.{ImmediateBit, Mark, replaced, ored, cleared, BitsWritten}
 use Rattle.linker_base.specs.Form.{Written, Fits, window_of, IsSameModulo}
 use Rattle.linker_base.specs.declared.bit_misc.BitRange.{BitRange}
@@ -16,11 +16,11 @@ use Rattle.linker_elf.specs.Agrees.{is_of_halves, is_of_words, AgreesBy, AgreesI
 use Rattle.linker_elf.specs.Elf.{IsWithin, bit_bounds, relocation_form}
 use Rattle.linker_elf.specs.LoongArch.{loongarch_form, reach}
 use Rattle.linker_elf.specs.Ppc64.{ppc64_form}
-use Rattle.linker_elf.specs.Reach.{reach_of}
+use Rattle.linker_elf.specs.Reach.{reach_of, clui_hole}
 use Rattle.linker_elf.specs.RiscV.{riscv_form}
 use Rattle.linker_elf.specs.Value.{sum_64, difference_64, value_of}
 use Rattle.linker_elf.specs.declared.elf.value.Operands.{Operands}
-use Rattle.linker_elf.specs.declared.aarch64.forms.AArch64Instruction.TheVariants.{Movnz}
+use Rattle.linker_elf.specs.declared.aarch64.forms.AArch64Instruction.TheVariants.{Movkz, Movnz}
 use Rattle.linker_elf.specs.declared.loongarch64.forms.LoongArch64Instruction.{LoongArch64Instruction}
 use Rattle.linker_elf.specs.declared.loongarch64.forms.LoongArch64Instruction.TheVariants.{Shift10}
 use Rattle.linker_elf.specs.declared.loongarch64.forms.LoongArch64Instruction.TheVariants.{Call30}
@@ -34,6 +34,7 @@ use Rattle.linker_elf.specs.declared.elf.RelocationInstruction.TheVariants.{Loon
 use Rattle.linker_elf.specs.declared.elf.RelocationKind.{RelocationKind}
 use Rattle.linker_elf.specs.declared.elf.RelocationKind.TheVariants.{Relative, AbsoluteSetWord6}
 use Rattle.linker_elf.specs.declared.elf.RelocationKind.TheVariants.{AbsoluteAddition}
+use Rattle.linker_elf.specs.declared.elf.RelocationKind.TheVariants.{AbsoluteLowPart}
 use Rattle.linker_elf.specs.declared.elf.RelocationKind.TheVariants.{AbsoluteAdditionWord6}
 use Rattle.linker_elf.specs.declared.elf.RelocationKind.TheVariants.{AbsoluteSubtraction}
 use Rattle.linker_elf.specs.declared.elf.RelocationKind.TheVariants.{AbsoluteSubtractionWord6}
@@ -145,12 +146,53 @@ pub record InstructionWritten (insn : RelocationInstruction) (bits : BitRange) (
   pub rest : drop (byte_len (relocation_form insn).window) after
       ≡ drop (byte_len (relocation_form insn).window) before
 
+-- ---- MOVK, where a row is for MOVN and MOVZ
+
+-- MOVK of 32 or of 64 bits (Arm Architecture Reference Manual, "MOVK")
+abbrev pub is_movk : ℕ → Bool
+is_movk word = field word 23 31 == 0xe5
+
+-- It has no form with a sign, and stays what it is.
+abbrev pub stays_movk : RelocationInstruction → BitRange → ℕ → Bool
+stays_movk (AArch64 Movnz) bits before = is_movk before && nat_lt (bits.end - bits.start) 17
+stays_movk insn bits before = false
+
+-- the form in which the bits are written
+abbrev pub insn_at : RelocationInstruction → BitRange → ℕ → RelocationInstruction
+insn_at insn bits before = if stays_movk insn bits before then AArch64 Movkz else insn
+
+-- ---- `jirl`, where a row is for 12 bits of an address
+
+-- `jirl` (LoongArch Reference Manual, volume 1, "JIRL")
+abbrev pub is_jirl : ℕ → Bool
+is_jirl word = field word 26 32 == 19
+
+-- the row of `R_LARCH_PCALA_LO12` at a `jirl`, which jumps from the page of a `pcalau12i`
+abbrev pub is_low_jump : RelocationInstruction → RelocationKind → ℕ → Bool
+is_low_jump (LoongArch64 Shift10) AbsoluteLowPart before = is_jirl before
+is_low_jump insn kind before = false
+
+-- the low 12 bits of a value in two's complement
+abbrev pub low_part : ℤ → ℤ
+low_part v = signed 12 (bits_taken (record { start = 0; end = 12 }) v)
+
+-- Such a jump gets bits 2 to 17 of that number, as a branch with 16 bits does of a distance.
+abbrev pub bits_at : RelocationInstruction → RelocationKind → BitRange → ℕ → BitRange
+bits_at insn kind bits before =
+    if is_low_jump insn kind before then record { start = 2; end = 18 } else bits
+
+abbrev pub value_at : RelocationInstruction → RelocationKind → ℤ → ℕ → ℤ
+value_at insn kind v before = if is_low_jump insn kind before then low_part v else v
+
 -- ---- what is written
 
 abbrev pub IsWritten : RelocationSize → RelocationKind → ℤ → List ℕ → List ℕ → Type 0
 IsWritten (ByteSize n) kind v before after =
     after ≡ low_bytes n (number_written kind v (number_of_bytes n before)) ++ drop n before
-IsWritten (BitMasking bits insn) kind v before after = InstructionWritten insn bits v before after
+IsWritten (BitMasking bits insn) kind v before after =
+    let word = window_of (relocation_form insn) before in
+    InstructionWritten (insn_at insn bits word) (bits_at insn kind bits word)
+    (value_at insn kind v word) before after
 
 -- what MOVN or MOVZ of 32 bits leaves in its register
 abbrev pub moved_32 : ℕ → ℤ
@@ -205,10 +247,21 @@ InstructionReads is_signed (LoongArch64 f) bits bounds v before after =
     → IsSameIn bounds (bits.end - bits.start) (loongarch_reads f is_signed after)
     (bits_from bits.start v)
 
-abbrev pub SizeReads : Bool → RelocationSize → Option (ℤ × ℤ) → ℤ → List ℕ → List ℕ → Type 0
-SizeReads is_signed (ByteSize n) bounds v before after = ⊤
-SizeReads is_signed (BitMasking bits insn) bounds v before after =
-    InstructionReads is_signed insn bits bounds v (window_of (relocation_form insn) before)
+-- The same, but that MOVK takes the bits as they are, and a `jirl` jumps by the low part.
+pub record FieldReads (is_signed : Bool) (insn : RelocationInstruction) (kind : RelocationKind)
+    (bits : BitRange) (bounds : Option (ℤ × ℤ)) (v : ℤ) (before after : ℕ) : Type 0 where
+  pub other : stays_movk insn bits before ≡ false → is_low_jump insn kind before ≡ false
+      → InstructionReads is_signed insn bits bounds v before after
+  pub movk : stays_movk insn bits before ≡ true
+      → (aarch64_form Movkz).machine after ≡ pos (bits_taken bits v)
+  pub jump : is_low_jump insn kind before ≡ true
+      → (loongarch_form Shift10).machine after *ℤ pos 4 ≡ low_part v
+
+abbrev pub SizeReads : Bool → RelocationSize → RelocationKind → Option (ℤ × ℤ) → ℤ → List ℕ
+    → List ℕ → Type 0
+SizeReads is_signed (ByteSize n) kind bounds v before after = ⊤
+SizeReads is_signed (BitMasking bits insn) kind bounds v before after =
+    FieldReads is_signed insn kind bits bounds v (window_of (relocation_form insn) before)
     (window_of (relocation_form insn) after)
 
 -- ---- the number that whole bytes hold
@@ -274,9 +327,16 @@ IsInUnits (BitMasking bits (Ppc64 Ds)) v bytes =
     is_dq_form (window_of (ppc64_form Ds) bytes) ≡ true → IsAligned 16 v
 IsInUnits size v bytes = ⊤
 
+-- a multiple of 4, for a `jirl`
+abbrev pub IsInWords : RelocationSize → RelocationKind → ℤ → List ℕ → Type 0
+IsInWords (ByteSize n) kind v bytes = ⊤
+IsInWords (BitMasking bits insn) kind v bytes =
+    is_low_jump insn kind (window_of (relocation_form insn) bytes) ≡ true → IsAligned 4 v
+
 -- a multiple of the alignment of the row and of its instruction
 abbrev pub IsMultiple : RelocationKindInfo → ℤ → List ℕ → Type 0
-IsMultiple row v bytes = IsAligned row.alignment v × IsInUnits row.size v bytes
+IsMultiple row v bytes =
+    IsAligned row.alignment v × IsInUnits row.size v bytes × IsInWords row.size row.kind v bytes
 
 -- the form holds the bits, as it does of each row of the relocation tables
 abbrev pub HoldsBits : RelocationSize → ℤ → List ℕ → Type 0
@@ -284,8 +344,14 @@ HoldsBits (ByteSize n) v bytes = ⊤
 HoldsBits (BitMasking bits insn) v bytes =
     Fits (relocation_form insn) (bits_taken bits v) (window_of (relocation_form insn) bytes)
 
+-- an encoding that isn't reserved holds the value
+abbrev pub IsEncoded : RelocationSize → ℤ → Type 0
+IsEncoded (BitMasking bits (RiscV CluiType)) v = ¬ IsWithin (Some clui_hole) v
+IsEncoded size v = ⊤
+
 abbrev pub IsReached : RelocationKindInfo → ℤ → List ℕ → Type 0
-IsReached row v bytes = IsWithin (reach_of row) v × HoldsBits row.size v bytes
+IsReached row v bytes =
+    IsWithin (reach_of row) v × HoldsBits row.size v bytes × IsEncoded row.size v
 
 -- the value is written
 pub record IsAccepted (row : RelocationKindInfo) (v : ℤ) (bytes : List ℕ) : Type 0 where
@@ -369,9 +435,9 @@ pub record WritesRow (row : RelocationKindInfo) (v : ℤ) (before after : List �
   pub written : IsWritten row.size row.kind v before after
   pub number : SizeNumber row.size row.kind v before after
   pub machine : (is_signed : Bool) → AgreesBy is_signed row
-      → SizeReads is_signed row.size row.range.bounds v before after
+      → SizeReads is_signed row.size row.kind row.range.bounds v before after
   pub reached : (is_signed : Bool) → AgreesInReach is_signed row
-      → SizeReads is_signed row.size (reach_of row) v before after
+      → SizeReads is_signed row.size row.kind (reach_of row) v before after
   pub pairs : SizeHolds row.size v after
 
 -- The value is rejected, with the error whose cause it has, and nothing is written.
@@ -380,10 +446,12 @@ RejectsValue row v before after error = IsCause row v before error × (after ≡
 
 -- ---- values in reach
 
--- A value can be written: it is within the row's reach, and a multiple of its alignment.
+-- A value can be written: it is within the row's reach, an encoding holds it, and it is a multiple
+-- of the row's alignment.
 pub record IsInReach (row : RelocationKindInfo) (v : ℤ) : Type 0 where
   pub supported : is_supported row ≡ true
   pub within : IsWithin (reach_of row) v
+  pub encoded : IsEncoded row.size v
   pub aligned : IsAligned row.alignment v
 
 abbrev pub ReachesValue : RelocationKindInfo → Option ℤ → Type 0

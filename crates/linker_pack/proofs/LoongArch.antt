@@ -1,5 +1,5 @@
 -- What calls and addresses of LoongArch become.
-use Rattle.std.proofs.Common.{◌≡◌, ℕ, ◌+◌, ◌*◌, ◌^◌, ◌<◌, List, length, take, drop, refl, subst, ◌∙◌, ap, arith, inl, inr, ℤ, pos, ◌+ℤ◌, Bool, true, false, int_lt, Some}
+use Rattle.std.proofs.Common.{◌≡◌, ℕ, ◌+◌, ◌*◌, ◌^◌, ◌<◌, List, length, take, drop, refl, subst, ◌∙◌, ap, arith, inl, inr, ℤ, pos, ◌+ℤ◌, Bool, true, false, int_lt, Some, eqb, not}
 use Rattle.std.specs.Prelude.{IsSomeAnd, ◌*ℤ◌, ◌⊎◌}
 use Rattle.std.specs.Int.{w32, w64, from_le_bytes, to_le_bytes}
 use Rattle.std.proofs.lemmas.Bool.{agree_below}
@@ -8,7 +8,8 @@ use Rattle.linker_base.specs.Bits.{field}
 use Rattle.linker_base.specs.Form.{window_of, is_placed}
 use Rattle.linker_base.specs.declared.bit_misc.BitRange.{BitRange}
 use Rattle.linker_elf.specs.Elf.{IsWithin, bit_bounds}
-use Rattle.linker_elf.specs.Relocate.{InstructionWritten, bits_taken, places_cleared}
+use Rattle.linker_elf.specs.Relocate.{InstructionWritten, bits_taken, places_cleared, is_jirl}
+use Rattle.linker_riscv64.proofs.Jumps.{word_of_front}
 use Rattle.linker_elf.specs.LoongArch.{loongarch_form, reach}
 use Rattle.linker_elf.specs.declared.elf.RelocationInstruction.TheVariants.{LoongArch64}
 use Rattle.linker_elf.specs.declared.elf.Sign.TheVariants.{Signed}
@@ -73,14 +74,20 @@ module _ (section : List ℕ) (o place target : ℕ) (written : List ℕ) (branc
         (calls (operands_of place target) small place (take 8 (drop o section)) written applied tt));
   }
 
-  address_is : AreRelocated section o place target written → IsFarAddress section o place target written
-  address_is applied = record {
+  -- `addi.d` is no `jirl`
+  no_jirl : IsPcalaAt section o → is_jirl (from_le_bytes w32 (take 4 (drop (o + 4) section))) ≡ false
+  no_jirl pair =
+      let opcode : field (from_le_bytes w32 (drop (o + 4) section)) 26 32 ≡ 0 = let second = pair.second in omega arith in
+      ap (λ w. eqb (field w 26 32) 19) (word_of_front (drop (o + 4) section)) ∙ ap (λ q. eqb q 19) opcode
+
+  address_is : IsPcalaAt section o → AreRelocated section o place target written → IsFarAddress section o place target written
+  address_is pair applied = record {
     high = applied.high;
     low = applied.low;
     computes = subst (λ a. IsAddress (page_and_low (operands_of place target) (from_le_bytes w32 (take 4 written)) (from_le_bytes w32 (drop 4 written))) a) (target_is target t)
         (relative.0 (operands_of place target) small place (take 4 (drop o section)) (take 4 written) applied.high
         (subst (λ v. IsSomeAnd v (IsWithin (Some (bit_bounds 32 Signed)))) applied.high.value_is applied.pages)
-        (sum_64 place 4) (take 4 (drop (o + 4) section)) (drop 4 written) applied.low tt);
+        (sum_64 place 4) (take 4 (drop (o + 4) section)) (drop 4 written) applied.low (ap not (no_jirl pair)));
   }
 
   pub becomes_short : (kind : Kind) → IsKindAt section o kind → length written ≡ 4 → IsRelocated (short_template section o kind) place target written → LoongArchBecomes section o place target written
@@ -93,7 +100,7 @@ module _ (section : List ℕ) (o place target : ℕ) (written : List ℕ) (branc
 
   pub becomes_long : (kind : Kind) → IsKindAt section o kind → length written ≡ 8 → IsLongOf section o kind place target written → LoongArchBecomes section o place target written
   becomes_long Call here len applied = far_call here len (call_is applied)
-  becomes_long Address pair len applied = far_address pair len (address_is applied)
+  becomes_long Address pair len applied = far_address pair len (address_is pair applied)
 
 -- ---- what is accepted and rejected
 

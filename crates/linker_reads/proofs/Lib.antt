@@ -3,6 +3,7 @@ pub mod Proper
 pub mod Ranges
 pub mod Reached
 pub mod Aligned
+pub mod Kept
 pub mod BitFields
 pub mod Written
 pub mod Shifts

@@ -2,17 +2,17 @@
 use Rattle.std.proofs.Common.{◌≡◌, ℕ, ◌+◌, ◌-◌, ◌*◌, ◌/◌, ◌%◌, ◌^◌, ◌<◌, ◌≤◌, refl}
 use Rattle.std.proofs.Common.{subst, arith, Bool, true, false, ltb, ◌&&◌, ℤ, Some, None, List}
 use Rattle.std.proofs.Common.{if◌then◌else◌, eqb, not, inl, inr}
-use Rattle.std.proofs.lemmas.Bool.{and_parts, ltb-true, lt-ltb, le-ltb, cases_lt}
+use Rattle.std.proofs.lemmas.Bool.{and_from, and_parts, ltb-true, lt-ltb, le-ltb, cases_lt}
 use Rattle.std.proofs.lemmas.Nat.{mod_below, pow_pos}
 use Rattle.std.specs.Int.{w64, cast_unsigned}
 use Rattle.linker_base.specs.Form.{window_of}
 use Rattle.linker_base.specs.declared.bit_misc.BitRange.{BitRange}
 use Rattle.linker_elf.specs.Elf.{relocation_form}
-use Rattle.linker_elf.specs.Relocate.{number_of_bytes}
+use Rattle.linker_elf.specs.Relocate.{number_of_bytes, stays_movk, insn_at, is_low_jump}
 use Rattle.linker_elf.specs.Rows.{Bounds}
 use Rattle.linker_elf.specs.Value.{sum_64, difference_64}
 use Rattle.linker_elf.specs.declared.aarch64.forms.AArch64Instruction.{AArch64Instruction}
-use Rattle.linker_elf.specs.declared.aarch64.forms.AArch64Instruction.TheVariants.{Movnz}
+use Rattle.linker_elf.specs.declared.aarch64.forms.AArch64Instruction.TheVariants.{Movkz, Movnz}
 use Rattle.linker_elf.specs.declared.elf.RelocationInstruction.{RelocationInstruction}
 use Rattle.linker_elf.specs.declared.elf.RelocationInstruction.TheVariants.{RiscV, Ppc64}
 use Rattle.linker_elf.specs.declared.elf.RelocationInstruction.TheVariants.{LoongArch64, AArch64}
@@ -24,7 +24,7 @@ use Rattle.linker_reads.proofs.Ranges.{upper_below, moved_below}
 use Rattle.linker_reads.specs.Fields.{IsProper}
 use Rattle.linker_reads.specs.Reading.{holds_value, holds_bits, holds_field, are_signed, bits_held}
 use Rattle.linker_reads.specs.Reading.{immediate_of, bits_within, holds_some, number_held, with_alignment}
-use Rattle.linker_reads.specs.Reading.{bits_read, bits_of_bytes, bytes_read, field_read}
+use Rattle.linker_reads.specs.Reading.{bits_read, bits_of_bytes, bytes_read, field_read, jump_read}
 use Rattle.linker_reads.specs.Reading.{leaves_one, up_to_sign, with_reach, least_sum, steps_above}
 use Rattle.linker_reads.specs.declared.fields.FieldValue.{FieldValue}
 
@@ -110,6 +110,35 @@ proper_bits insn start known x h =
           (pow_pos (known.end - start - (known.start - start))));
     }
 
+-- a MOVK has 16 bits
+pub held_at : (insn : RelocationInstruction) (bits : BitRange) (reached : Bounds) (x : ℕ)
+    → holds_some insn bits (bits_held insn bits reached) ≡ true
+    → holds_some (insn_at insn bits x) bits (bits_held (insn_at insn bits x) bits reached) ≡ true
+held_at (AArch64 Movnz) bits reached x h = by_movk (stays_movk (AArch64 Movnz) bits x)
+  where
+    some_held : (short : Bool) → bits.start < bits.end
+        → ltb (bits.start + 0) (if short then bits.end else bits.start + 16) ≡ true
+    some_held true some = lt-ltb (bits.start + 0) bits.end (omega arith)
+    some_held false some = lt-ltb (bits.start + 0) (bits.start + 16) (omega arith)
+
+    by_movk : (move : Bool)
+        → holds_some (if move then AArch64 Movkz else AArch64 Movnz) bits
+        (bits_held (if move then AArch64 Movkz else AArch64 Movnz) bits reached) ≡ true
+    by_movk true =
+        let known = bits_held (AArch64 Movnz) bits reached in
+        let a = and_parts (ltb bits.start bits.end)
+        (ltb bits.end 65 && (ltb known.start known.end && holds_bits (AArch64 Movnz) bits)) h in
+        let b = and_parts (ltb bits.end 65) (ltb known.start known.end && holds_bits (AArch64 Movnz) bits) a.1 in
+        and_from (ltb bits.start bits.end) _ a.0
+        (and_from (ltb bits.end 65) _ b.0
+        (and_from (ltb (bits.start + 0) (if ltb bits.end (bits.start + 16) then bits.end else bits.start + 16))
+        true (some_held (ltb bits.end (bits.start + 16)) (ltb-true bits.start bits.end a.0)) refl))
+    by_movk false = h
+held_at (AArch64 f) bits reached x h = h
+held_at (RiscV f) bits reached x h = h
+held_at (Ppc64 f) bits reached x h = h
+held_at (LoongArch64 f) bits reached x h = h
+
 -- ---- bytes
 
 proper_bytes : (n number : ℕ) → 0 < n → n ≤ 64 → IsProper (bytes_read n number)
@@ -137,8 +166,19 @@ proper_field kind (ByteSize n) reached bytes h =
     let s = some_of_bytes kind n (ltb-true 0 n parts.0) (ltb-true n 9 few.0) in
     proper_bytes (bits_of_bytes kind n) (number_of_bytes n bytes) s.0 s.1
 proper_field kind (BitMasking bits insn) reached bytes h =
-    proper_bits insn bits.start (bits_held insn bits reached)
-    (window_of (relocation_form insn) bytes) (bits_are_held insn bits reached h)
+    let word = window_of (relocation_form insn) bytes in
+    let form = insn_at insn bits word in
+    by_jump (is_low_jump insn kind word)
+    (bits_read form bits.start (bits_held form bits reached) (window_of (relocation_form form) bytes))
+    (proper_bits form bits.start (bits_held form bits reached) (window_of (relocation_form form) bytes)
+    (bits_are_held form bits reached (held_at insn bits reached word h)))
+  where
+    by_jump : (jump : Bool) (f : FieldValue) → IsProper f
+        → IsProper (if jump then jump_read (window_of (relocation_form insn) bytes) else f)
+    by_jump true f proper =
+        let x = window_of (relocation_form insn) bytes in
+        record { some = omega arith; inside = omega arith; small = omega arith }
+    by_jump false f proper = proper
 
 -- ---- with what the reach adds
 

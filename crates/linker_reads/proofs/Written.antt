@@ -22,13 +22,16 @@ use Rattle.linker_elf.specs.Elf.{IsWithin, bit_bounds, relocation_form, relocati
 use Rattle.linker_elf.specs.LoongArch.{loongarch_form, shift10_low, shift10_imm16, pcaddu18i_imm, jirl_imm}
 use Rattle.linker_elf.specs.Ppc64.{ppc64_form}
 use Rattle.linker_elf.specs.Relocate.{InstructionWritten, bits_taken, ppc64_reads}
+use Rattle.linker_elf.specs.Relocate.{IsInWords, IsAligned, stays_movk, is_low_jump, insn_at, low_part}
+use Rattle.linker_elf.proofs.Relocated.{plain_written, movk_written, jump_written}
+use Rattle.linker_reads.proofs.Kept.{movk_kept, no_movk_after, low_jump_kept}
 use Rattle.linker_elf.specs.Relocate.{IsInUnits, HoldsBits, with_bit_31_if, whole_number, IsWritten, SizeNumber, number_of_bytes}
 use Rattle.linker_elf.specs.Relocate.{is_supported, takes_size}
 use Rattle.linker_elf.specs.RiscV.{riscv_form, riscv_places, ui_high, ui_low}
 use Rattle.linker_elf.specs.Rows.{Bounds}
 use Rattle.linker_elf.specs.Value.{sum_64}
 use Rattle.linker_elf.specs.declared.aarch64.forms.AArch64Instruction.{AArch64Instruction}
-use Rattle.linker_elf.specs.declared.aarch64.forms.AArch64Instruction.TheVariants.{Movnz}
+use Rattle.linker_elf.specs.declared.aarch64.forms.AArch64Instruction.TheVariants.{Movkz, Movnz}
 use Rattle.linker_elf.specs.declared.aarch64.forms.AArch64Instruction.TheVariants.{MachOLow12}
 use Rattle.linker_elf.specs.declared.elf.RelocationInstruction.{RelocationInstruction}
 use Rattle.linker_elf.specs.declared.elf.RelocationInstruction.TheVariants.{RiscV, Ppc64}
@@ -50,7 +53,7 @@ use Rattle.linker_elf.specs.declared.riscv64.forms.RiscVInstruction.TheVariants.
 use Rattle.linker_elf.specs.declared.riscv64.forms.RiscVInstruction.TheVariants.{UiType}
 use Rattle.linker_elf.proofs.Agreement.{from_zero, quotient_low, quotient_high, le_yes}
 use Rattle.linker_elf.proofs.Clearing.{clear_after}
-use Rattle.linker_elf.proofs.LoongArch.{loongarch_machine, shift10_low_sum}
+use Rattle.linker_elf.proofs.LoongArch.{loongarch_machine, shift10_low_sum, shift10_low_field}
 use Rattle.linker_elf.proofs.Placed.{reads_as}
 use Rattle.linker_elf.proofs.RiscV.{u_laid, clui_laid, riscv_machine}
 use Rattle.linker_elf.proofs.Taken.{taken_below, taken_in_units, taken_is_field}
@@ -59,7 +62,7 @@ use Rattle.linker_reads.proofs.BitFields.{sum_bits, layout_bits, part_of_part, o
 use Rattle.linker_reads.proofs.Numbers.{IsShort, short}
 use Rattle.linker_reads.specs.Fields.{IsOfValue}
 use Rattle.linker_reads.specs.Reading.{immediate_of, bits_within, bits_held, bits_read, holds_bits, are_signed}
-use Rattle.linker_reads.specs.Reading.{holds_value, holds_field, field_read, bytes_read, bits_of_bytes}
+use Rattle.linker_reads.specs.Reading.{holds_value, holds_field, field_read, bytes_read, bits_of_bytes, jump_read}
 use Rattle.linker_reads.proofs.Proper.{some_of_bytes}
 
 -- ---- forms of one field
@@ -577,12 +580,109 @@ bytes_value n number v fits most same =
 
 -- ---- rows
 
+-- Nowhere else a MOVK or a `jirl` stands after a write.
+place_kept : (insn : RelocationInstruction) (kind : RelocationKind) (bits : BitRange) (v : ℤ)
+    (before after : List ℕ)
+    → stays_movk insn bits (window_of (relocation_form insn) before) ≡ false
+    → is_low_jump insn kind (window_of (relocation_form insn) before) ≡ false
+    → InstructionWritten insn bits v before after
+    → (stays_movk insn bits (window_of (relocation_form insn) after) ≡ false)
+    × (is_low_jump insn kind (window_of (relocation_form insn) after) ≡ false)
+place_kept (AArch64 Movnz) kind bits v before after move jump w = (
+  ap (λ is. is && ltb (bits.end - bits.start) 17) (no_movk_after bits v before after w),
+  refl,
+)
+place_kept (AArch64 f) kind bits v before after move jump w = (refl, refl)
+place_kept (RiscV f) kind bits v before after move jump w = (refl, refl)
+place_kept (Ppc64 f) kind bits v before after move jump w = (refl, refl)
+place_kept (LoongArch64 Shift10) kind bits v before after move jump w =
+    (refl, low_jump_kept kind bits v before after w ∙ jump)
+place_kept (LoongArch64 f) kind bits v before after move jump w = (refl, refl)
+
+plain_field : (insn : RelocationInstruction) (kind : RelocationKind) (bits : BitRange)
+    (reached : Bounds) (v : ℤ) (after : List ℕ)
+    → stays_movk insn bits (window_of (relocation_form insn) after) ≡ false
+    → is_low_jump insn kind (window_of (relocation_form insn) after) ≡ false
+    → IsOfValue (bits_read insn bits.start (bits_held insn bits reached)
+    (window_of (relocation_form insn) after)) v
+    → IsOfValue (field_read kind (BitMasking bits insn) reached after) v
+plain_field insn kind bits reached v after move jump is =
+    let x = window_of (relocation_form insn) after in
+    subst (λ j. IsOfValue (if j then jump_read x
+    else bits_read (insn_at insn bits x) bits.start (bits_held (insn_at insn bits x) bits reached)
+    (window_of (relocation_form (insn_at insn bits x)) after)) v) (sym jump)
+    (subst (λ m. IsOfValue (bits_read (if m then AArch64 Movkz else insn) bits.start
+    (bits_held (if m then AArch64 Movkz else insn) bits reached)
+    (window_of (relocation_form (if m then AArch64 Movkz else insn)) after)) v) (sym move) is)
+
+-- where MOVK stays
+movk_field : (insn : RelocationInstruction) (kind : RelocationKind) (bits : BitRange)
+    (reached : Bounds) (v : ℤ) (before after : List ℕ) → FitsSigned w64 v → bits.start < bits.end
+    → bits.end ≤ 64 → IsWithin reached v
+    → stays_movk insn bits (window_of (relocation_form insn) before) ≡ true
+    → IsWritten (BitMasking bits insn) kind v before after
+    → IsOfValue (field_read kind (BitMasking bits insn) reached after) v
+movk_field (AArch64 Movnz) kind bits reached v before after fits order inside within move w =
+    let x = window_of (aarch64_form Movnz) before in
+    let y = window_of (aarch64_form Movnz) after in
+    let laid = movk_written (AArch64 Movnz) kind bits v before after move w in
+    let kept : stays_movk (AArch64 Movnz) bits y ≡ true =
+    ap (λ is. is && ltb (bits.end - bits.start) 17) (movk_kept bits v before after laid) ∙ move in
+    subst (λ m. IsOfValue (bits_read (if m then AArch64 Movkz else AArch64 Movnz) bits.start
+    (bits_held (if m then AArch64 Movkz else AArch64 Movnz) bits reached)
+    (window_of (relocation_form (if m then AArch64 Movkz else AArch64 Movnz)) after)) v) (sym kept)
+    (aarch64_read Movkz bits reached v before after fits order inside refl within laid)
+movk_field (AArch64 f) kind bits reached v before after fits order inside within move w = cc
+movk_field (RiscV f) kind bits reached v before after fits order inside within move w = cc
+movk_field (Ppc64 f) kind bits reached v before after fits order inside within move w = cc
+movk_field (LoongArch64 f) kind bits reached v before after fits order inside within move w = cc
+
+-- where a `jirl` has the low part
+jump_value : (v : ℤ) (before after : List ℕ) → FitsSigned w64 v → IsAligned 4 v
+    → InstructionWritten (LoongArch64 Shift10) (record { start = 2; end = 18 }) (low_part v) before
+    after
+    → IsOfValue (jump_read (window_of (loongarch_form Shift10) after)) v
+jump_value v before after fits aligned w =
+    let bits : BitRange = record { start = 2; end = 18 } in
+    let c = cast_unsigned w64 v in
+    let f = field c 0 12 in
+    let d = cast_unsigned w64 (low_part v) in
+    let g = bits_taken bits (low_part v) in
+    let y = window_of (loongarch_form Shift10) after in
+    let small : f < 2 ^ 12 = omega arith in
+    let rest : c % 2 ^ 2 ≡ 0 =
+    ap unsigned_abs (rest_is v 2 fits (omega arith) (omega arith) ∙ aligned) in
+    let low : field d 2 12 ≡ field f 2 12 =
+    number_bits twos_complement 12 f 2 12 small (omega arith) (omega arith) in
+    let here : field y 10 22 ≡ g % 2 ^ 12 =
+    sym (shift10_low_field y) ∙ shift10_low_sum g w.clear y (taken_below bits (low_part v) (omega arith)) w.written in
+    unrounded c 0 12 (cast_below v fits) ∙ omega arith
+
+jump_field : (insn : RelocationInstruction) (kind : RelocationKind) (bits : BitRange)
+    (reached : Bounds) (v : ℤ) (before after : List ℕ) → FitsSigned w64 v
+    → is_low_jump insn kind (window_of (relocation_form insn) before) ≡ true
+    → IsAligned 4 v → IsWritten (BitMasking bits insn) kind v before after
+    → IsOfValue (field_read kind (BitMasking bits insn) reached after) v
+jump_field (LoongArch64 Shift10) kind bits reached v before after fits jump aligned w =
+    let y = window_of (loongarch_form Shift10) after in
+    let laid = jump_written (LoongArch64 Shift10) kind bits v before after jump w in
+    let kept : is_low_jump (LoongArch64 Shift10) kind y ≡ true =
+    low_jump_kept kind (record { start = 2; end = 18 }) (low_part v) before after laid ∙ jump in
+    subst (λ j. IsOfValue (if j then jump_read y
+    else bits_read (LoongArch64 Shift10) bits.start (bits_held (LoongArch64 Shift10) bits reached) y) v)
+    (sym kept) (jump_value v before after fits aligned laid)
+jump_field (LoongArch64 f) kind bits reached v before after fits jump aligned w = cc
+jump_field (AArch64 f) kind bits reached v before after fits jump aligned w = cc
+jump_field (RiscV f) kind bits reached v before after fits jump aligned w = cc
+jump_field (Ppc64 f) kind bits reached v before after fits jump aligned w = cc
+
 pub field_written : (kind : RelocationKind) (size : RelocationSize) (reached : Bounds) (v : ℤ)
     (before after : List ℕ) → FitsSigned w64 v → holds_field kind size reached ≡ true
     → IsWithin reached v → HoldsBits size v before → IsInUnits size v before
+    → IsInWords size kind v before
     → IsWritten size kind v before after → SizeNumber size kind v before after
     → IsOfValue (field_read kind size reached after) v
-field_written kind (ByteSize n) reached v before after fits holds within fit units w number =
+field_written kind (ByteSize n) reached v before after fits holds within fit units words w number =
     let parts = and_parts (ltb 0 n) (ltb n 9 && holds_value kind) holds in
     let few = and_parts (ltb n 9) (holds_value kind) parts.1 in
     let some = ltb-true 0 n parts.0 in
@@ -591,14 +691,17 @@ field_written kind (ByteSize n) reached v before after fits holds within fit uni
     (some_of_bytes kind n some short).1
     (whole_bits kind n (number_of_bytes n after) (number_of_bytes n before) v fits some short few.1
     number)
-field_written kind (BitMasking bits insn) reached v before after fits holds within fit units w number =
+field_written kind (BitMasking bits insn) reached v before after fits holds within fit units words w
+    number =
     let known = bits_held insn bits reached in
     let a = and_parts (ltb bits.start bits.end)
     (ltb bits.end 65 && (ltb known.start known.end && holds_bits insn bits)) holds in
     let b = and_parts (ltb bits.end 65) (ltb known.start known.end && holds_bits insn bits) a.1 in
     let c = and_parts (ltb known.start known.end) (holds_bits insn bits) b.1 in
     let below = ltb-true bits.end 65 b.0 in
-    by_insn insn bits (ltb-true bits.start bits.end a.0) (omega arith) c.1 fit units w
+    by_place (stays_movk insn bits (window_of (relocation_form insn) before))
+    (is_low_jump insn kind (window_of (relocation_form insn) before)) refl refl
+    (ltb-true bits.start bits.end a.0) (omega arith) c.1
   where
     by_insn : (g : RelocationInstruction) (bits : BitRange) → bits.start < bits.end → bits.end ≤ 64
         → holds_bits g bits ≡ true → HoldsBits (BitMasking bits g) v before
@@ -613,6 +716,21 @@ field_written kind (BitMasking bits insn) reached v before after fits holds with
         ppc64_read f bits reached v before after fits order inside holds units w
     by_insn (LoongArch64 f) bits order inside holds fit units w =
         loongarch_read f bits reached v before after fits order inside holds fit w
+
+    by_place : (move jump : Bool)
+        → stays_movk insn bits (window_of (relocation_form insn) before) ≡ move
+        → is_low_jump insn kind (window_of (relocation_form insn) before) ≡ jump
+        → bits.start < bits.end → bits.end ≤ 64 → holds_bits insn bits ≡ true
+        → IsOfValue (field_read kind (BitMasking bits insn) reached after) v
+    by_place false false move jump order inside holds =
+        let plain = plain_written insn kind bits v before after move jump w in
+        let kept = place_kept insn kind bits v before after move jump plain in
+        plain_field insn kind bits reached v after kept.0 kept.1
+        (by_insn insn bits order inside holds fit units plain)
+    by_place true jump move jump_is order inside holds =
+        movk_field insn kind bits reached v before after fits order inside within move w
+    by_place false true move jump order inside holds =
+        jump_field insn kind bits reached v before after fits jump (words jump) w
 
 -- a row that can be written has an alignment
 pub some_alignment : (row : RelocationKindInfo) → is_supported row ≡ true → 0 < row.alignment

@@ -11,6 +11,7 @@ use Rattle.linker_elf.specs.AArch64.{movnz}
 use Rattle.linker_elf.specs.Elf.{relocation_form, bit_bounds}
 use Rattle.linker_elf.specs.Reach.{reach_of}
 use Rattle.linker_elf.specs.Relocate.{number_of_bytes, ppc64_reads, window_len, WritesRow}
+use Rattle.linker_elf.specs.Relocate.{is_low_jump, insn_at}
 use Rattle.linker_elf.specs.Rows.{Bounds}
 use Rattle.linker_elf.specs.Value.{sum_64, difference_64}
 use Rattle.linker_elf.specs.declared.aarch64.forms.AArch64Instruction.TheVariants.{Adr, Movkz}
@@ -161,11 +162,21 @@ bytes_read n number =
       rounding = 0;
     }
 
+-- a `jirl` at the low part of an address has its bits 2 to 11, and bits 0 and 1 are 0
+abbrev pub jump_read : ℕ → FieldValue
+jump_read x =
+    record { known = record { start = 0; end = 12 }; bits = field x 10 20 * 4; rounding = 0 }
+
+-- A MOVK is read as one.
 abbrev pub field_read : RelocationKind → RelocationSize → Bounds → List ℕ → FieldValue
 field_read kind (ByteSize n) reached bytes =
     bytes_read (bits_of_bytes kind n) (number_of_bytes n bytes)
 field_read kind (BitMasking bits insn) reached bytes =
-    bits_read insn bits.start (bits_held insn bits reached) (window_of (relocation_form insn) bytes)
+    let word = window_of (relocation_form insn) bytes in
+    if is_low_jump insn kind word then jump_read word
+    else bits_read (insn_at insn bits word) bits.start
+    (bits_held (insn_at insn bits word) bits reached)
+    (window_of (relocation_form (insn_at insn bits word)) bytes)
 
 -- ---- which rows hold their value
 

@@ -17,7 +17,7 @@ ghost use Rattle.linker_reads.specs.Reading.{holds_value, holds_bits, holds_fiel
 ghost use Rattle.linker_reads.specs.Reading.{are_signed, bits_held, rounding_of, bits_read};
 ghost use Rattle.linker_reads.specs.Reading.{bits_of_bytes, bytes_read, field_read, with_reach};
 ghost use Rattle.linker_reads.specs.Reading.{leaves_one, up_to_sign, with_alignment, value_read};
-ghost use Rattle.linker_reads.specs.Reading.{IsReadBack};
+ghost use Rattle.linker_reads.specs.Reading.{IsReadBack, holds_some, jump_read};
 
 use crate::fields::{FieldValue, bits_of, power_of_two};
 use linker_base::bit_misc::{BitExtraction, BitRange};
@@ -324,6 +324,41 @@ fn number_of_bytes(len: usize, bytes: &[u8]) -> u64
     u64::from_le_bytes(word)
 }
 
+/// What stands in a `jirl` at the low part of an address: bits 2 to 11 of the value, of which bits 0 and 1 are 0.
+fn jump_read(bytes: &[u8]) -> FieldValue
+    requires { 4 ≤ length bytes.now }
+    ensures { result ≡ jump_read (window_of (loongarch_form LoongArch64Instruction.Shift10) bytes.now) }
+{
+    let word = u32_from_slice(bytes) as u64;
+    FieldValue {
+        known: bits(0, 12),
+        bits: word.extract_bit_range(10..20) * 4,
+        rounding: 0,
+    }
+}
+
+/// What stands in an instruction of a form.
+fn instruction_read(
+    insn: RelocationInstruction,
+    range: BitRange,
+    reach: AllowedRange,
+    bytes: &[u8],
+) -> FieldValue
+    requires room { byte_len (relocation_form insn).window ≤ length bytes.now }
+    requires held { holds_some insn range (bits_held insn range reach.bounds) ≡ true }
+    ensures { result
+        ≡ bits_read insn range.start (bits_held insn range reach.bounds)
+        (window_of (relocation_form insn) bytes.now) }
+{
+    let known = bits_held(insn, range, reach);
+    let number = number_held(insn, bytes);
+    FieldValue {
+        known,
+        bits: bits_of(number, known.start - range.start, known.end - range.start),
+        rounding: rounding_of(insn),
+    }
+}
+
 /// What stands in the field.
 fn field_read(row: &RelocationKindInfo, reach: AllowedRange, bytes: &[u8]) -> FieldValue
     requires room { size_len row.now.size ≤ length bytes.now }
@@ -346,13 +381,10 @@ fn field_read(row: &RelocationKindInfo, reach: AllowedRange, bytes: &[u8]) -> Fi
             }
         }
         RelocationSize::BitMasking { range, insn } => {
-            let known = bits_held(insn, range, reach);
-            let number = number_held(insn, bytes);
-            FieldValue {
-                known,
-                bits: bits_of(number, known.start - range.start, known.end - range.start),
-                rounding: rounding_of(insn),
+            if insn.is_low_jump(row.kind, bytes) {
+                return jump_read(bytes);
             }
+            instruction_read(insn.written_at(range, bytes), range, reach, bytes)
         }
     }
 }

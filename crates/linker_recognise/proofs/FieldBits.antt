@@ -9,7 +9,7 @@ use Rattle.linker_elf.specs.AArch64.{access_scale, low12_places}
 use Rattle.linker_elf.specs.Elf.{relocation_form}
 use Rattle.linker_elf.specs.Inner.FormLaws.{scale_small}
 use Rattle.linker_elf.specs.LoongArch.{loongarch_form, shift10_low}
-use Rattle.linker_elf.specs.Relocate.{is_dq_form}
+use Rattle.linker_elf.specs.Relocate.{is_dq_form, insn_at, bits_at}
 use Rattle.linker_elf.specs.declared.aarch64.forms.AArch64Instruction.TheVariants as aarch64
 use Rattle.linker_elf.specs.declared.elf.RelocationInstruction.{RelocationInstruction}
 use Rattle.linker_elf.specs.declared.elf.RelocationInstruction.TheVariants.{AArch64, LoongArch64, Ppc64, RiscV}
@@ -123,7 +123,10 @@ number_agrees kind n w h = bytes_agree n w h
 size_agrees : (size : RelocationSize) (kind : RelocationKind) (bytes : List ℕ) (w : ℕ) → w < 64
     → (bit_at (size_mask size kind bytes) w == 1) ≡ is_size_bit size kind bytes w
 size_agrees (ByteSize n) kind bytes w h = number_agrees kind n w h
-size_agrees (BitMasking bits insn) kind bytes w h = instruction_agrees insn bits (window_of (relocation_form insn) bytes) w h
+size_agrees (BitMasking bits insn) kind bytes w h =
+    let word = window_of (relocation_form insn) bytes in
+    instruction_agrees (insn_at insn bits word) (bits_at insn kind bits word)
+    (window_of (relocation_form (insn_at insn bits word)) bytes) w h
 
 pub field_agrees : (row : RelocationKindInfo) (bytes : List ℕ) (w : ℕ) → w < 64
     → (bit_at (field_mask row bytes) w == 1) ≡ is_field_bit row bytes w

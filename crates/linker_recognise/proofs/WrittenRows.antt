@@ -14,6 +14,7 @@ use Rattle.linker_elf.specs.Elf.{relocation_form}
 use Rattle.linker_elf.specs.LoongArch.{loongarch_form}
 use Rattle.linker_elf.specs.Ppc64.{ppc64_form}
 use Rattle.linker_elf.specs.RiscV.{riscv_form}
+use Rattle.linker_elf.specs.Relocate.{insn_at, bits_at, value_at, is_low_jump}
 use Rattle.linker_elf.specs.Relocate.{IsWritten, InstructionWritten, WritesRow, window_len, size_len, bits_taken, takes_size, SizeNumber, number_of_bytes, number_written, low_bytes}
 use Rattle.linker_elf.specs.declared.aarch64.forms.AArch64Instruction.{AArch64Instruction}
 use Rattle.linker_elf.specs.declared.aarch64.forms.AArch64Instruction.TheVariants.{Movnz}
@@ -256,12 +257,20 @@ module _ (row : RelocationKindInfo) (v : ℤ) (before after : List ℕ) (bytes :
   of_bytes n false e is =
       whole_writes_field row (subst (λ s. IsWhole s row.kind) (sym e) (whole_kind row.kind is)) v before after writes
 
+  few_at : (jump : Bool) (bits : BitRange) → bits.end < 65
+      → (if jump then record { start = 2; end = 18 } else bits).end
+      - (if jump then record { start = 2; end = 18 } else bits).start ≤ 64
+  few_at true bits below = omega arith
+  few_at false bits below = omega arith
+
   of_size : (size : RelocationSize) → row.size ≡ size → AreSameButFor row before after
   of_size (ByteSize n) e = of_bytes n (is_low_six row.kind) e refl
   of_size (BitMasking bits insn) e =
       let parts = and_parts (nat_lt bits.start bits.end && nat_lt bits.end 65) _ (takes (BitMasking bits insn) e) in
       let below = ltb-true bits.end 65 (and_parts (nat_lt bits.start bits.end) (nat_lt bits.end 65) parts.0).1 in
-      all_same (BitMasking bits insn) e (instruction_same insn bits v before after bytes (omega arith)
+      let word = window_of (relocation_form insn) before in
+      all_same (BitMasking bits insn) e (instruction_same (insn_at insn bits word) (bits_at insn row.kind bits word)
+      (value_at insn row.kind v word) before after bytes (few_at (is_low_jump insn row.kind word) bits below)
       (subst (λ s. IsWritten s row.kind v before after) e writes.written))
 
 -- whatever the row is

@@ -9,7 +9,7 @@ use Rattle.linker_base.specs.Form.{is_placed, window_of}
 use Rattle.linker_base.specs.declared.bit_misc.BitRange.{BitRange}
 use Rattle.linker_elf.specs.Elf.{relocation_form}
 use Rattle.linker_elf.specs.LoongArch.{shift10_low}
-use Rattle.linker_elf.specs.Relocate.{is_dq_form, window_len}
+use Rattle.linker_elf.specs.Relocate.{is_dq_form, window_len, insn_at, bits_at}
 use Rattle.linker_elf.specs.declared.aarch64.forms.AArch64Instruction.TheVariants.{Movnz}
 use Rattle.linker_elf.specs.declared.loongarch64.forms.LoongArch64Instruction.TheVariants.{Shift10}
 use Rattle.linker_elf.specs.declared.ppc64.forms.Ppc64Instruction.TheVariants.{Ds}
@@ -48,11 +48,14 @@ is_instruction_bit (Ppc64 Ds) bits x w =
     is_placed ((relocation_form (Ppc64 Ds)).places x) w && not (is_dq_form x && nat_lt w 4)
 is_instruction_bit insn bits x w = is_placed ((relocation_form insn).places x) w
 
--- of the number that the window's bytes make; of at most 8 bytes
+-- Of the number that the window's bytes make; of at most 8 bytes. Of a MOVK those of that form, and
+-- of a `jirl` at the low part of an address all 16 bits.
 abbrev pub is_size_bit : RelocationSize → RelocationKind → List ℕ → ℕ → Bool
 is_size_bit (ByteSize n) kind bytes w = is_value_bit kind w && nat_lt w (8 * n)
 is_size_bit (BitMasking bits insn) kind bytes w =
-    is_instruction_bit insn bits (window_of (relocation_form insn) bytes) w
+    let word = window_of (relocation_form insn) bytes in
+    is_instruction_bit (insn_at insn bits word) (bits_at insn kind bits word)
+    (window_of (relocation_form (insn_at insn bits word)) bytes) w
 
 abbrev pub is_field_bit : RelocationKindInfo → List ℕ → ℕ → Bool
 is_field_bit row bytes w = nat_lt w 64 && is_size_bit row.size row.kind bytes w

@@ -6,7 +6,7 @@ ghost use Rattle.std.specs.Prelude.{◌^◌, ◌||◌};
 ghost use Rattle.std.specs.Int.{bit_at, byte_len};
 ghost use Rattle.linker_base.specs.Form.{window_of};
 ghost use Rattle.linker_elf.specs.Elf.{relocation_form};
-ghost use Rattle.linker_elf.specs.Relocate.{window_len, is_dq_form};
+ghost use Rattle.linker_elf.specs.Relocate.{window_len, is_dq_form, bits_at};
 ghost use Rattle.linker_elf.specs.declared.elf.RelocationKindInfo.{RelocationKindInfo};
 ghost use Rattle.linker_recognise.specs.Fields.{is_field_bit, is_instruction_bit, is_in, is_in_one};
 ghost use Rattle.linker_recognise.specs.Fields.{IsSameBut, AreSameButFor};
@@ -143,6 +143,24 @@ fn number_bits(kind: RelocationKind, len: usize) -> u64
     }
 }
 
+/// The bits of a value that a write of a row places: a `jirl` at the low part of an address gets 16.
+#[inline(always)]
+fn placed_bits(
+    insn: RelocationInstruction,
+    kind: RelocationKind,
+    range: BitRange,
+    bytes: &[u8],
+) -> BitRange
+    requires { byte_len (relocation_form insn).window ≤ length bytes.now }
+    ensures { result ≡ bits_at insn kind range (window_of (relocation_form insn) bytes.now) }
+{
+    if insn.is_low_jump(kind, bytes) {
+        BitRange { start: 2, end: 18 }
+    } else {
+        range
+    }
+}
+
 /// The bits that a write of a row may change, as a mask.
 #[inline(always)]
 fn mask_of(row: &Row, bytes: &[u8]) -> u64
@@ -152,13 +170,17 @@ fn mask_of(row: &Row, bytes: &[u8]) -> u64
     let info = row.info();
     match info.size {
         RelocationSize::ByteSize(len) => number_bits(info.kind, len as usize),
-        RelocationSize::BitMasking { range, insn } => instruction_bits(insn, range, bytes),
+        RelocationSize::BitMasking { range, insn } => {
+            let placed = placed_bits(insn, info.kind, range, bytes);
+            instruction_bits(insn.written_at(range, bytes), placed, bytes)
+        }
     }
 }
 
 /// Which bits of the bytes that `bytes` begins with a write of a row may change, bit 0 the lowest
 /// of the first byte. Of an instruction these are the bits of its form, and for `Movnz` those of
-/// the opcode that it sets. All other bits are the same after each write. Requires the row's
+/// the opcode that it sets, except at a MOVK; at a `jirl` at `R_LARCH_PCALA_LO12` they are all 16 of
+/// its immediate. All other bits are the same after each write. Requires the row's
 /// window.
 ///
 /// ```

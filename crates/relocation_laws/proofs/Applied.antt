@@ -21,6 +21,8 @@ use Rattle.linker_elf.specs.Ppc64.{ppc64_form}
 use Rattle.linker_elf.specs.Reach.{reach_of}
 use Rattle.linker_elf.specs.Relocate.{InstructionWritten, SizeReads, SizeHolds, bits_taken}
 use Rattle.linker_elf.specs.Relocate.{IsAligned, IsInUnits, ppc64_reads, places_cleared}
+use Rattle.linker_elf.specs.Relocate.{IsWritten, stays_movk, is_low_jump}
+use Rattle.linker_elf.specs.declared.elf.RelocationKind.{RelocationKind}
 use Rattle.linker_elf.specs.RiscV.{riscv_form}
 use Rattle.linker_elf.specs.Value.{value_of}
 use Rattle.linker_elf.specs.declared.aarch64.forms.AArch64Instruction.{AArch64Instruction}
@@ -37,7 +39,7 @@ use Rattle.linker_elf.specs.declared.elf.value.Operands.{Operands}
 use Rattle.linker_elf.proofs.Agreement.{layout_check, layout_agrees}
 use Rattle.linker_elf.proofs.Clearing.{clear_after}
 use Rattle.linker_elf.proofs.Halves.{row_holds}
-use Rattle.linker_elf.proofs.Relocated.{row_reads_in_reach}
+use Rattle.linker_elf.proofs.Relocated.{row_reads_in_reach, plain_written as rows_written}
 use Rattle.linker_elf.proofs.Placed.{reads_as}
 use Rattle.linker_elf.proofs.Taken.{taken_is_field, taken_below, taken_in_units}
 use Rattle.relocation_laws.specs.Schemes.{IsApplied}
@@ -59,7 +61,7 @@ module _ (row : RelocationKindInfo) (o : Operands) (before after : List ℕ)
   holds = row_holds row applied.value before after fits applied.accepted applied.written
 
   pub reads : (is_signed : Bool) → AgreesInReach is_signed row
-      → SizeReads is_signed row.size (reach_of row) applied.value before after
+      → SizeReads is_signed row.size row.kind (reach_of row) applied.value before after
   reads is_signed agrees =
       row_reads_in_reach is_signed row applied.value before after fits applied.accepted
       applied.written agrees
@@ -84,6 +86,31 @@ pub aligned_low : (n k : ℕ) (v : ℤ) → n < 2 ^ 64 → k < 65 → cast_signe
 aligned_low n k v below short is aligned =
     ap unsigned_abs (sym (cast_low n k below short)
     ∙ ap (λ z. int_rem_euclid z (pos (2 ^ k))) is ∙ aligned)
+
+-- A form whose layout is sound is neither that for MOVN and MOVZ nor the one for `jirl`.
+no_movk : (insn : RelocationInstruction) → is_sound_layout (relocation_layout insn) ≡ true
+    → (bits : BitRange) (x : ℕ) → stays_movk insn bits x ≡ false
+no_movk (AArch64 Movnz) sound bits x = cc
+no_movk (AArch64 f) sound bits x = refl
+no_movk (RiscV f) sound bits x = refl
+no_movk (Ppc64 f) sound bits x = refl
+no_movk (LoongArch64 f) sound bits x = refl
+
+no_low_jump : (insn : RelocationInstruction) → is_sound_layout (relocation_layout insn) ≡ true
+    → (kind : RelocationKind) (x : ℕ) → is_low_jump insn kind x ≡ false
+no_low_jump (LoongArch64 Shift10) sound kind x = cc
+no_low_jump (LoongArch64 f) sound kind x = refl
+no_low_jump (AArch64 f) sound kind x = refl
+no_low_jump (RiscV f) sound kind x = refl
+no_low_jump (Ppc64 f) sound kind x = refl
+
+pub sound_written : (insn : RelocationInstruction) → is_sound_layout (relocation_layout insn) ≡ true
+    → (kind : RelocationKind) (bits : BitRange) (v : ℤ) (before after : List ℕ)
+    → IsWritten (BitMasking bits insn) kind v before after → InstructionWritten insn bits v before after
+sound_written insn sound kind bits v before after w =
+    rows_written insn kind bits v before after
+    (no_movk insn sound bits (window_of (relocation_form insn) before))
+    (no_low_jump insn sound kind (window_of (relocation_form insn) before)) w
 
 -- the places that the form only ORs hold 0 once they are cleared
 clear_of : (insn : RelocationInstruction) → is_sound_layout (relocation_layout insn) ≡ true

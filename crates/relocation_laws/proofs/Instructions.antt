@@ -26,7 +26,7 @@ use Rattle.relocation_laws.specs.Schemes.{IsApplied, IsAddress, AreAddresses}
 use Rattle.relocation_laws.specs.Schemes.{symbol_address, plt_address, entry_and_addend}
 use Rattle.relocation_laws.specs.Schemes.{entry_address}
 use Rattle.relocation_laws.specs.Schemes.{place, got_base, tls_base, zero, size_and_addend}
-use Rattle.relocation_laws.proofs.Applied.{insn_reads, is_plain, begins, fits, value_is, reads_within, aligned_low, stands, taken_bits}
+use Rattle.relocation_laws.proofs.Applied.{insn_reads, is_plain, begins, fits, value_is, reads_within, aligned_low, stands, taken_bits, sound_written}
 use Rattle.relocation_laws.proofs.Sums.{Leads, difference_leads, itself_leads, sum_below}
 use Rattle.relocation_laws.proofs.Sums.{difference_below, multiple_part}
 
@@ -130,7 +130,8 @@ module _ (kind : RelocationKind) (start end : ℕ) (insn : RelocationInstruction
       let parts = read_parts insn start end b a ok in
       let is = value_is row o before after applied (cast_signed w64 n) e in
       reads_within insn parts.sound (record { start = start; end = end }) applied.value before after
-      applied.written parts.inside b a parts.check
+      (sound_written insn parts.sound kind (record { start = start; end = end }) applied.value before
+      after applied.written) parts.inside b a parts.check
       (fits row o before after applied n below is) parts.some within applied.accepted.aligned.0
       parts.from applied.accepted.aligned.1
       ∙ ap (bits_from start) (sym is)
@@ -147,18 +148,20 @@ module _ (kind : RelocationKind) (start end : ℕ) (insn : RelocationInstruction
       (subst (λ m. IsAligned m applied.value) is_power applied.accepted.aligned.0)
 
   -- what stands at the places
-  pub field_sum : is_sound_layout (relocation_layout insn) ≡ true → is_plain insn ≡ true
+  pub field_sum : (sound : is_sound_layout (relocation_layout insn) ≡ true) → is_plain insn ≡ true
       → end ≤ 64 → (n : ℕ) → n < 2 ^ 64
       → value_of (row_of kind start end insn mask range a bias thunkable implicit) o
       ≡ Some (cast_signed w64 n)
-      → place_sum ((relocation_form insn).places applied.written.clear)
+      → place_sum ((relocation_form insn).places (sound_written insn sound kind
+      (record { start = start; end = end }) applied.value before after applied.written).clear)
       (window_of (relocation_form insn) after)
       ≡ (field n start end - field n start end % 2 ^ low_of (relocation_layout insn))
       % 2 ^ high_of (relocation_layout insn)
   field_sum sound plain inside n below e =
       let row = row_of kind start end insn mask range a bias thunkable implicit in
       let bits : BitRange = record { start = start; end = end } in
-      stands insn sound bits applied.value before after applied.written inside plain
+      stands insn sound bits applied.value before after
+      (sound_written insn sound kind bits applied.value before after applied.written) inside plain
       ∙ ap (λ f. (f - f % 2 ^ low_of (relocation_layout insn))
       % 2 ^ high_of (relocation_layout insn))
       (taken_bits bits n applied.value below

@@ -1,7 +1,7 @@
 -- Moves of 16 bits of AArch64.
 use Rattle.std.proofs.Common.{◌≡◌, ℕ, ◌+◌, ◌-◌, ◌*◌, ◌/◌, ◌%◌, ◌^◌, ◌<◌, ◌≤◌, Bool, true, false, refl, sym, ◌∙◌, ap, subst}
 use Rattle.std.proofs.Common.{arith, List, ℤ, pos, negsuc, ◌+ℤ◌, ◌-ℤ◌, ◌*ℤ◌, Option, Some, None, suc, unsigned_abs}
-use Rattle.std.proofs.Common.{eqb}
+use Rattle.std.proofs.Common.{eqb, ltb, not, true, false, Bool}
 use Rattle.std.specs.Prelude.{◌==◌, ◌&&◌}
 use Rattle.std.specs.Int.{w32, w64, bit_at, cast_signed, from_le_bytes, int_rem_euclid}
 use Rattle.std.proofs.lemmas.Bool.{and_parts, eqb-true}
@@ -15,7 +15,7 @@ use Rattle.linker_elf.specs.AArch64.{aarch64_form, shift_of}
 use Rattle.linker_elf.specs.Agrees.{bits_from, AgreesInReach, IsSameIn, aarch64_reads}
 use Rattle.linker_elf.specs.Elf.{IsWithin}
 use Rattle.linker_elf.specs.Reach.{reach_of}
-use Rattle.linker_elf.specs.Relocate.{MoveReads}
+use Rattle.linker_elf.specs.Relocate.{MoveReads, is_movk, stays_movk}
 use Rattle.linker_elf.specs.Value.{value_of, sum_64}
 use Rattle.linker_elf.specs.declared.aarch64.forms.AArch64Instruction.TheVariants.{Movkz, Movnz}
 use Rattle.linker_elf.specs.declared.elf.AllowedRange.{AllowedRange}
@@ -448,6 +448,15 @@ movz_first s {begin} {target} {number} leads short within ok e =
     (subst (λ b. IsWithin b applied.value) within applied.accepted.reached.0) ok n below (e o) in
     ap (λ z. bits_from s (z *ℤ pos (2 ^ s))) m ∙ scaled (field n s (s + 16)) s ∙ sym m ∙ r
 
+-- a MOVK alone stays one
+no_movk : (x : ℕ) (bits : BitRange) → not (is_movk x) ≡ true
+    → stays_movk (AArch64 Movnz) bits x ≡ false
+no_movk x bits h = by_word (is_movk x) h
+  where
+    by_word : (is : Bool) → not is ≡ true → (is && ltb (bits.end - bits.start) 17) ≡ false
+    by_word true h = cc
+    by_word false h = refl
+
 -- a move of 64 bits
 wide_reads : (bits : BitRange) (b : Option (ℤ × ℤ)) (v : ℤ) (before after : ℕ)
     → bit_at before 31 ≡ 1 → MoveReads (bit_at before 31 == 0) bits b v after
@@ -467,16 +476,17 @@ pub movn_first : (s : ℕ) {begin target number : Operands → ℕ} → IsNumber
     thunkable implicit) o ≡ Some (cast_signed w64 (number o)))
     → IsFirst (row_of kind s (s + 16) (AArch64 Movnz) mask range a bias
     thunkable implicit)
-    (of_words (λ x. shift_of x == s && bit_at x 31 == 1)) s movn_or_movz number
+    (of_words (λ x. (shift_of x == s && bit_at x 31 == 1) && not (is_movk x))) s movn_or_movz number
 movn_first s {begin} {target} {number} leads within agrees e = λ o small before after applied holds.
     let n = number o in
     let below = (leads o small).below in
     let is = value_is _ o before after applied (cast_signed w64 n) (e o) in
     let x = from_le_bytes w32 before in
-    let both = and_parts (eqb (shift_of x) s) (eqb (bit_at x 31) 1) holds in
+    let parts = and_parts (eqb (shift_of x) s && eqb (bit_at x 31) 1) (not (is_movk x)) holds in
+    let both = and_parts (eqb (shift_of x) s) (eqb (bit_at x 31) 1) parts.0 in
     let wide = eqb-true (bit_at x 31) 1 both.1 in
     let same = wide_reads _ _ applied.value x (from_le_bytes w32 after) wide
-    (reads _ o before after applied n below is false agrees
+    ((reads _ o before after applied n below is false agrees).other (no_movk x (record { start = s; end = s + 16 }) parts.1) refl
     (eqb-true (shift_of x) s both.0) (λ narrow. absurd (let e : 1 ≡ 0 = sym wide ∙ narrow in omega arith))) in
     subst (λ b. IsSameIn b (s + 16 - s) (aarch64_reads Movnz s (from_le_bytes w32 after))
     (bits_from s applied.value)) within same
@@ -493,16 +503,17 @@ pub movn_highest : {begin target number : Operands → ℕ} → IsNumber begin t
     thunkable implicit) o ≡ Some (cast_signed w64 (number o)))
     → IsHighest (row_of kind 48 64 (AArch64 Movnz) mask range a bias
     thunkable implicit)
-    (of_words (λ x. shift_of x == 48 && bit_at x 31 == 1)) movn_or_movz number
+    (of_words (λ x. (shift_of x == 48 && bit_at x 31 == 1) && not (is_movk x))) movn_or_movz number
 movn_highest {begin} {target} {number} leads within agrees e = λ o small before after applied holds.
     let n = number o in
     let below = (leads o small).below in
     let is = value_is _ o before after applied (cast_signed w64 n) (e o) in
     let x = from_le_bytes w32 before in
-    let both = and_parts (eqb (shift_of x) 48) (eqb (bit_at x 31) 1) holds in
+    let parts = and_parts (eqb (shift_of x) 48 && eqb (bit_at x 31) 1) (not (is_movk x)) holds in
+    let both = and_parts (eqb (shift_of x) 48) (eqb (bit_at x 31) 1) parts.0 in
     let wide = eqb-true (bit_at x 31) 1 both.1 in
     let same = wide_reads _ _ applied.value x (from_le_bytes w32 after) wide
-    (reads _ o before after applied n below is false agrees
+    ((reads _ o before after applied n below is false agrees).other (no_movk x (record { start = 48; end = 64 }) parts.1) refl
     (eqb-true (shift_of x) 48 both.0) (λ narrow. absurd (let e : 1 ≡ 0 = sym wide ∙ narrow in omega arith))) in
     (subst (λ b. IsSameIn b 16 (aarch64_reads Movnz 48 (from_le_bytes w32 after))
     (bits_from 48 applied.value)) within same).0

@@ -26,6 +26,7 @@ use Rattle.relocation_laws.specs.AArch64Laws.{got_page}
 use Rattle.relocation_laws.specs.Schemes.{IsApplied, IsAddress, AreAddresses}
 use Rattle.relocation_laws.proofs.Instructions.{IsNumber, IsSmall, absolute, row_of, is_read}
 use Rattle.relocation_laws.proofs.Instructions.{reads_bits, field_sum, multiple}
+use Rattle.relocation_laws.proofs.Applied.{sound_written}
 use Rattle.relocation_laws.proofs.Sums.{halves_sum, page_halves_sum, sum_below, difference_below}
 
 -- ---- offsets
@@ -68,10 +69,12 @@ offset_reads f is kind k mask range bias thunkable implicit o before after appli
     let none : n % 2 ^ k ≡ 0 =
     multiple kind k 12 (AArch64 f) mask range (2 ^ k) bias thunkable implicit o before after applied
     n k below (omega arith) refl e in
-    let held : place_sum ((aarch64_form f).places applied.written.clear) x ≡ v =
+    let clear = (sound_written (AArch64 f) is.0 kind (record { start = k; end = 12 }) applied.value
+    before after applied.written).clear in
+    let held : place_sum ((aarch64_form f).places clear) x ≡ v =
     sum ∙ ap (λ l. (v - v % 2 ^ l) % 2 ^ high_of (aarch64_layout f)) is.1
     ∙ ap (λ h. (v - v % 2 ^ 0) % 2 ^ h) is.2 ∙ omega arith in
-    ap (λ z. z *ℤ pos (2 ^ k)) (is.3 applied.written.clear x ∙ ap pos held)
+    ap (λ z. z *ℤ pos (2 ^ k)) (is.3 clear x ∙ ap pos held)
     ∙ ap pos (units n k short none)
 
 -- ---- pairs

@@ -2,7 +2,7 @@
 use Rattle.relocation_laws.proofs.Sums.{high_sum}
 use Rattle.relocation_laws.specs.Schemes.{without_low}
 use Rattle.std.proofs.Common.{◌≡◌, ℕ, ◌+◌, ◌-◌, ◌*◌, ◌/◌, ◌%◌, ◌^◌, ◌<◌, Bool, refl, sym, ◌∙◌, ap}
-use Rattle.std.proofs.Common.{subst}
+use Rattle.std.proofs.Common.{subst, true, false}
 use Rattle.std.proofs.Common.{arith, List, ℤ, pos, ◌+ℤ◌, ◌-ℤ◌, ◌*ℤ◌, inl, inr, Option, Some, None}
 use Rattle.std.specs.Int.{w64, cast_signed, int_rem_euclid}
 use Rattle.std.proofs.lemmas.Int.{ints, int_rem_euclid_is}
@@ -28,8 +28,12 @@ use Rattle.linker_elf.proofs.LoongArch.{shift5_places, shift10_low_sum, shift10_
 use Rattle.linker_elf.proofs.LoongArchAddresses.{page_and_distance, made, first_of_five}
 use Rattle.linker_elf.proofs.LoongArchAddresses.{high_of_five, five_from}
 use Rattle.relocation_laws.specs.LoongArchLaws.{upper_and_or, four}
-use Rattle.relocation_laws.specs.Schemes.{IsApplied, IsAddress, AreAddresses, place}
-use Rattle.relocation_laws.proofs.Applied.{holds, value_is, taken_bits}
+use Rattle.relocation_laws.specs.Schemes.{IsApplied, IsAddress, AreAddresses, place, Premise}
+use Rattle.relocation_laws.specs.Schemes.{Holds, none, of_words}
+use Rattle.relocation_laws.proofs.Applied.{holds, reads, value_is, taken_bits}
+use Rattle.linker_elf.proofs.Relocated.{plain_written}
+use Rattle.linker_elf.specs.Agrees.{AgreesInReach}
+use Rattle.linker_elf.specs.Relocate.{is_jirl, is_low_jump}
 use Rattle.linker_elf.proofs.Taken.{taken_below}
 use Rattle.relocation_laws.proofs.Halves.{IsRounded}
 use Rattle.relocation_laws.proofs.Instructions.{IsNumber, IsSmall, absolute, row_of}
@@ -68,8 +72,10 @@ pub low_field : (kind : RelocationKind) (start : ℕ) (mask : Option PageMask)
     thunkable implicit) o before after) (n : ℕ) → n < 2 ^ 64 → start + 12 < 65
     → value_of (row_of kind start (start + 12) (LoongArch64 Shift10) mask range a bias thunkable
     implicit) o ≡ Some (cast_signed w64 n)
+    → is_low_jump (LoongArch64 Shift10) kind (window_of (loongarch_form Shift10) before) ≡ false
     → field (window_of (loongarch_form Shift10) after) 10 22 ≡ field n start (start + 12)
-low_field kind start mask range a bias thunkable implicit o before after applied n below inside e =
+low_field kind start mask range a bias thunkable implicit o before after applied n below inside e
+    plain =
     let row = row_of kind start (start + 12) (LoongArch64 Shift10) mask range a bias thunkable
     implicit in
     let f = field n start (start + 12) in
@@ -79,10 +85,12 @@ low_field kind start mask range a bias thunkable implicit o before after applied
     let small : f < 2 ^ 12 =
     subst (λ w. f < 2 ^ w) width
     (mod_below (n / 2 ^ start) (2 ^ (start + 12 - start)) (pow_pos (start + 12 - start))) in
+    let w = plain_written (LoongArch64 Shift10) kind (record { start = start; end = start + 12 })
+    applied.value before after refl plain applied.written in
     sym (shift10_low_field (window_of (loongarch_form Shift10) after))
-    ∙ shift10_low_sum _ applied.written.clear (window_of (loongarch_form Shift10) after)
+    ∙ shift10_low_sum _ w.clear (window_of (loongarch_form Shift10) after)
     (taken_below (record { start = start; end = start + 12 }) applied.value (omega arith))
-    applied.written.written
+    w.written
     ∙ ap (λ x. x % 2 ^ 12) bits ∙ omega arith
 
 -- what a high immediate in two's complement reads, of a number of 32 bits
@@ -114,6 +122,11 @@ rounded_low t l e =
 abbrev pub page_distance : (Operands → ℕ) → Operands → ℕ
 page_distance target o = difference_64 (page (sum_64 (target o) 0x800)) (page o.place)
 
+-- where the premise of a low part holds, its instruction isn't a `jirl` that jumps by it
+abbrev IsPlainBy : RelocationKind → Premise → Type 0
+IsPlainBy kind premise =
+    (x : ℕ) (v : ℤ) → Holds premise x v → is_low_jump (LoongArch64 Shift10) kind x ≡ false
+
 pub page_pairs : {target : Operands → ℕ} → IsSmall target
     → (operands : Operands → ℕ → Operands)
     → {kind : RelocationKind} {mask : Option PageMask} {range : AllowedRange} {a : ℕ}
@@ -128,6 +141,7 @@ pub page_pairs : {target : Operands → ℕ} → IsSmall target
     → value_of (row_of kind2 0 12 (LoongArch64 Shift10) mask2 range2 a2 bias2
     thunkable2 implicit2)
     (operands o at) ≡ Some (cast_signed w64 (absolute target o)))
+    → (premise : Premise) → IsPlainBy kind2 premise
     → (o : Operands) → AreAddresses o
     → (at : ℕ) (before after : List ℕ)
     (step : IsApplied (row_of kind 12 32 (LoongArch64 Shift5) mask range a bias
@@ -136,17 +150,18 @@ pub page_pairs : {target : Operands → ℕ} → IsSmall target
     → (at2 : ℕ) (before2 after2 : List ℕ)
     (step2 : IsApplied (row_of kind2 0 12 (LoongArch64 Shift10) mask2 range2 a2 bias2
     thunkable2 implicit2)
-    (operands o at2) before2 after2) → IsWithin (None) step2.value
+    (operands o at2) before2 after2)
+    → Holds premise (window_of (loongarch_form Shift10) before2) step2.value
     → IsAddress (pcalau12i o.place (window_of (loongarch_form Shift5) after)
     +ℤ signed 12 (field (window_of (loongarch_form Shift10) after2) 10 22)) (target o)
-page_pairs {target} to operands e e2 =
+page_pairs {target} to operands e e2 premise plain =
     λ o small at before after step within at2 before2 after2 step2 any2.
     let m = page_distance target o in
     let t = target o in
     let below = difference_below (page (sum_64 t 0x800)) (page o.place) in
     let h = high_reads _ _ _ _ _ _ _ o before after step within m below (e o small) in
     let l = low_field _ 0 _ _ _ _ _ _ _ before2 after2 step2 (sum_64 t 0) (sum_below t 0)
-    (omega arith) (e2 o small at2) in
+    (omega arith) (e2 o small at2) (plain _ _ any2) in
     ap (λ z. int_rem_euclid
     (z +ℤ signed 12 (field (window_of (loongarch_form Shift10) after2) 10 22)) (pos (2 ^ 64)))
     (page_and_distance o.place (field (window_of (loongarch_form Shift5) after) 5 25))
@@ -155,6 +170,60 @@ page_pairs {target} to operands e e2 =
     (signed 12 (field (window_of (loongarch_form Shift10) after2) 10 22)) (omega arith)
     (to o small) small.place refl h
     (rounded_low t (field (window_of (loongarch_form Shift10) after2) 10 22) l)
+
+-- with the low part of a `jirl`, which is a multiple of 4
+pub page_jumps : {target : Operands → ℕ} → IsSmall target
+    → (operands : Operands → ℕ → Operands)
+    → {kind : RelocationKind} {mask : Option PageMask} {range : AllowedRange} {a : ℕ}
+    {bias : Option ℕ} {thunkable implicit : Bool}
+    {kind2 : RelocationKind} {mask2 : Option PageMask} {range2 : AllowedRange} {a2 : ℕ}
+    {bias2 : Option ℕ} {thunkable2 implicit2 : Bool}
+    → ((o : Operands) → AreAddresses o
+    → value_of (row_of kind 12 32 (LoongArch64 Shift5) mask range a bias
+    thunkable implicit)
+    o ≡ Some (cast_signed w64 (page_distance target o)))
+    → ((o : Operands) → AreAddresses o → (at : ℕ)
+    → value_of (row_of kind2 0 12 (LoongArch64 Shift10) mask2 range2 a2 bias2
+    thunkable2 implicit2)
+    (operands o at) ≡ Some (cast_signed w64 (absolute target o)))
+    → AgreesInReach false (row_of kind2 0 12 (LoongArch64 Shift10) mask2 range2 a2 bias2
+    thunkable2 implicit2)
+    → ((x : ℕ) → is_jirl x ≡ true → is_low_jump (LoongArch64 Shift10) kind2 x ≡ true)
+    → (o : Operands) → AreAddresses o
+    → (at : ℕ) (before after : List ℕ)
+    (step : IsApplied (row_of kind 12 32 (LoongArch64 Shift5) mask range a bias
+    thunkable implicit)
+    o before after) → IsWithin (Some (bit_bounds 32 Signed)) step.value
+    → (at2 : ℕ) (before2 after2 : List ℕ)
+    (step2 : IsApplied (row_of kind2 0 12 (LoongArch64 Shift10) mask2 range2 a2 bias2
+    thunkable2 implicit2)
+    (operands o at2) before2 after2)
+    → Holds (of_words is_jirl) (window_of (loongarch_form Shift10) before2) step2.value
+    → IsAddress (pcalau12i o.place (window_of (loongarch_form Shift5) after)
+    +ℤ ((loongarch_form Shift10).machine (window_of (loongarch_form Shift10) after2) *ℤ pos 4))
+    (target o)
+page_jumps {target} to operands e e2 agrees jumps =
+    λ o small at before after step within at2 before2 after2 step2 jump.
+    let m = page_distance target o in
+    let t = target o in
+    let n = sum_64 t 0 in
+    let below = difference_below (page (sum_64 t 0x800)) (page o.place) in
+    let h = high_reads _ _ _ _ _ _ _ o before after step within m below (e o small) in
+    let is = value_is _ (operands o at2) before2 after2 step2 (cast_signed w64 n) (e2 o small at2) in
+    let l = (reads _ (operands o at2) before2 after2 step2 n (sum_below t 0) is false agrees).jump
+    (jumps (window_of (loongarch_form Shift10) before2) jump) in
+    let bits = taken_bits (record { start = 0; end = 12 }) n step2.value (sum_below t 0) is in
+    let low : (loongarch_form Shift10).machine (window_of (loongarch_form Shift10) after2) *ℤ pos 4
+    ≡ signed 12 (field n 0 12) = l ∙ ap (signed 12) bits in
+    ap (λ z. int_rem_euclid
+    (z +ℤ ((loongarch_form Shift10).machine (window_of (loongarch_form Shift10) after2) *ℤ pos 4))
+    (pos (2 ^ 64)))
+    (page_and_distance o.place (field (window_of (loongarch_form Shift5) after) 5 25))
+    ∙ page_halves_sum 0x800 o.place t m
+    (signed 20 (field (window_of (loongarch_form Shift5) after) 5 25))
+    ((loongarch_form Shift10).machine (window_of (loongarch_form Shift10) after2) *ℤ pos 4)
+    (omega arith) (to o small) small.place refl h
+    (ap (λ z. z +ℤ pos 0x800) low ∙ rounded_low t (field n 0 12) refl)
 
 regroup : (p : ℕ) (a b : ℤ) → pos p +ℤ (a +ℤ b) ≡ (pos p +ℤ a) +ℤ b
 regroup p a b = omega (arith, ints)
@@ -175,6 +244,7 @@ pub two_parts : {begin target number : Operands → ℕ} → IsNumber begin targ
     → value_of (row_of kind2 0 12 (LoongArch64 Shift10) mask2 range2 a2 bias2
     thunkable2 implicit2)
     (operands o at) ≡ Some (cast_signed w64 (number o)))
+    → IsPlainBy kind2 none
     → (o : Operands) → AreAddresses o
     → (at : ℕ) (before after : List ℕ)
     (step : IsApplied (row_of kind 12 32 (LoongArch64 Shift5) mask range a bias
@@ -186,7 +256,7 @@ pub two_parts : {begin target number : Operands → ℕ} → IsNumber begin targ
     (operands o at2) before2 after2) → IsWithin (None) step2.value
     → IsAddress (pos (begin o) +ℤ upper_and_or (window_of (loongarch_form Shift5) after)
     (window_of (loongarch_form Shift10) after2)) (target o)
-two_parts {begin} {target} {number} leads rounds operands e e2 =
+two_parts {begin} {target} {number} leads rounds operands e e2 plain =
     λ o small at before after step within at2 before2 after2 step2 any2.
     let n = number o in
     let numbers = leads o small in
@@ -194,7 +264,7 @@ two_parts {begin} {target} {number} leads rounds operands e e2 =
     let y = window_of (loongarch_form Shift10) after2 in
     let h = high_reads _ _ _ _ _ _ _ o before after step within n numbers.below (e o small) in
     let l = low_field _ 0 _ _ _ _ _ _ _ before2 after2 step2 n numbers.below (omega arith)
-    (e2 o small at2) in
+    (e2 o small at2) (plain _ step2.value tt) in
     let low : field y 10 22 ≡ n % 2 ^ 12 = l ∙ omega arith in
     ap (λ z. int_rem_euclid z (pos (2 ^ 64)))
     (regroup (begin o) (signed 20 (field x 5 25) *ℤ pos 4096) (pos (field y 10 22)))
@@ -225,6 +295,7 @@ pub rounded_parts : {begin target number rounded : Operands → ℕ} → IsNumbe
     → value_of (row_of kind2 0 12 (LoongArch64 Shift10) mask2 range2 a2 bias2
     thunkable2 implicit2)
     (operands o at) ≡ Some (cast_signed w64 (number o)))
+    → IsPlainBy kind2 none
     → (o : Operands) → AreAddresses o
     → (at : ℕ) (before after : List ℕ)
     (step : IsApplied (row_of kind 12 32 (LoongArch64 Shift5) mask range a bias
@@ -237,7 +308,7 @@ pub rounded_parts : {begin target number rounded : Operands → ℕ} → IsNumbe
     → IsAddress ((pos (begin o)
     +ℤ (signed 20 (field (window_of (loongarch_form Shift5) after) 5 25) *ℤ pos 4096))
     +ℤ signed 12 (field (window_of (loongarch_form Shift10) after2) 10 22)) (target o)
-rounded_parts {begin} {target} {number} {rounded} leads rounds operands e e2 =
+rounded_parts {begin} {target} {number} {rounded} leads rounds operands e e2 plain =
     λ o small at before after step within at2 before2 after2 step2 any2.
     let n = number o in
     let numbers = leads o small in
@@ -247,7 +318,7 @@ rounded_parts {begin} {target} {number} {rounded} leads rounds operands e e2 =
     let y = window_of (loongarch_form Shift10) after2 in
     let h = high_reads _ _ _ _ _ _ _ o before after step within (rounded o) below (e o small) in
     let l = low_field _ 0 _ _ _ _ _ _ _ before2 after2 step2 n numbers.below (omega arith)
-    (e2 o small at2) in
+    (e2 o small at2) (plain _ step2.value tt) in
     halves_sum 12 0x800 (begin o) (target o) n (rounded o) (signed 20 (field x 5 25))
     (signed 12 (field y 10 22))
     (omega arith) (omega arith) numbers.small numbers.below numbers.leads is h
@@ -337,6 +408,7 @@ pub four_parts : {begin target number : Operands → ℕ} → IsNumber begin tar
     → value_of (row_of kind4 52 64 (LoongArch64 Shift10) mask4 range4 a4 bias4
     thunkable4 implicit4)
     (operands4 o at) ≡ Some (cast_signed w64 (number o)))
+    → IsPlainBy kind2 none → IsPlainBy kind4 none
     → (o : Operands) → AreAddresses o
     → (at : ℕ) (before after : List ℕ)
     (step : IsApplied (row_of kind 12 32 (LoongArch64 Shift5) mask range a bias
@@ -357,7 +429,7 @@ pub four_parts : {begin target number : Operands → ℕ} → IsNumber begin tar
     → IsAddress (pos (begin o) +ℤ four (window_of (loongarch_form Shift5) after)
     (window_of (loongarch_form Shift10) after2) (window_of (loongarch_form Shift5) after3)
     (window_of (loongarch_form Shift10) after4)) (target o)
-four_parts {begin} {target} {number} leads operands2 operands3 operands4 e e2 e3 e4 =
+four_parts {begin} {target} {number} leads operands2 operands3 operands4 e e2 e3 e4 plain upper =
     λ o small at before after step any at2 before2 after2 step2 any2 at3 before3 after3 step3 any3
     at4 before4 after4 step4 any4.
     let n = number o in
@@ -366,11 +438,11 @@ four_parts {begin} {target} {number} leads operands2 operands3 operands4 e e2 e3
     let f = high_field _ 12 _ _ _ _ _ _ _ before after step n numbers.below (omega arith)
     (e o small) in
     let l = low_field _ 0 _ _ _ _ _ _ _ before2 after2 step2 n numbers.below (omega arith)
-    (e2 o small at2) in
+    (e2 o small at2) (plain _ step2.value tt) in
     let m = high_field _ 32 _ _ _ _ _ _ _ before3 after3 step3 n numbers.below (omega arith)
     (e3 o small at3) in
     let u = low_field _ 52 _ _ _ _ _ _ _ before4 after4 step4 n numbers.below (omega arith)
-    (e4 o small at4) in
+    (e4 o small at4) (upper _ step4.value tt) in
     ap (λ z. int_rem_euclid (pos (begin o) +ℤ z) (pos (2 ^ 64)))
     (four_of (field (window_of (loongarch_form Shift5) after) 5 25)
     (field (window_of (loongarch_form Shift10) after2) 10 22)
@@ -423,6 +495,7 @@ pub five_parts : {target : Operands → ℕ} → IsSmall target
     → value_of (row_of kind4 52 64 (LoongArch64 Shift10) mask4 range4 a4 bias4
     thunkable4 implicit4)
     (operands4 o at) ≡ Some (cast_signed w64 (fourth_distance target o)))
+    → (premise : Premise) → IsPlainBy kind2 premise → IsPlainBy kind4 none
     → (o : Operands) → AreAddresses o
     → (at : ℕ) (before after : List ℕ)
     (step : IsApplied (row_of kind 12 32 (LoongArch64 Shift5) mask range a bias
@@ -431,7 +504,8 @@ pub five_parts : {target : Operands → ℕ} → IsSmall target
     → (at2 : ℕ) (before2 after2 : List ℕ)
     (step2 : IsApplied (row_of kind2 0 12 (LoongArch64 Shift10) mask2 range2 a2 bias2
     thunkable2 implicit2)
-    (operands2 o at2) before2 after2) → IsWithin (None) step2.value
+    (operands2 o at2) before2 after2)
+    → Holds premise (window_of (loongarch_form Shift10) before2) step2.value
     → (at3 : ℕ) (before3 after3 : List ℕ)
     (step3 : IsApplied (row_of kind3 32 52 (LoongArch64 Shift5) mask3 range3 a3 bias3
     thunkable3 implicit3)
@@ -444,7 +518,7 @@ pub five_parts : {target : Operands → ℕ} → IsSmall target
     +ℤ upper_and_lower_value (window_of (loongarch_form Shift10) after2)
     (window_of (loongarch_form Shift5) after3)
     (window_of (loongarch_form Shift10) after4)) (target o)
-five_parts {target} to operands2 operands3 operands4 e e2 e3 e4 =
+five_parts {target} to operands2 operands3 operands4 e e2 e3 e4 premise plain upper =
     λ o small at before after step any at2 before2 after2 step2 any2 at3 before3 after3 step3 any3
     at4 before4 after4 step4 any4.
     let t = target o in
@@ -454,11 +528,12 @@ five_parts {target} to operands2 operands3 operands4 e e2 e3 e4 =
     let f = high_field _ 12 _ _ _ _ _ _ _ before after step (page_distance target o)
     (difference_below (page (sum_64 t 0x800)) (page o.place)) (omega arith) (e o small) in
     let l = low_field _ 0 _ _ _ _ _ _ _ before2 after2 step2 (sum_64 t 0) (sum_below t 0)
-    (omega arith) (e2 o small at2) in
+    (omega arith) (e2 o small at2) (plain _ _ any2) in
     let m = high_field _ 32 _ _ _ _ _ _ _ before3 after3 step3 h below (omega arith)
     (e3 o small at3) in
     let u = low_field _ 52 _ _ _ _ _ _ _ before4 after4 step4 h below (omega arith)
-    (e4 o small at4 ∙ ap (λ n. Some (cast_signed w64 n)) (fourth_is_far target o)) in
+    (e4 o small at4 ∙ ap (λ n. Some (cast_signed w64 n)) (fourth_is_far target o))
+    (upper _ step4.value tt) in
     let pc = o.place in
     five_from pc (field (window_of (loongarch_form Shift5) after) 5 25)
     (field (window_of (loongarch_form Shift10) after2) 10 22)

@@ -1,10 +1,11 @@
 -- AArch64: what relocated instructions compute (ELF for the Arm 64-bit Architecture, "Relocation";
 -- Arm Architecture Reference Manual for A-profile, DDI 0487, C6.2).
-use Rattle.std.specs.Prelude.{ℕ, [], ◌∷◌, ℤ, pos, ◌+◌, ◌+ℤ◌, ◌-ℤ◌, ◌*ℤ◌, ◌^◌, ◌==◌, ◌&&◌}
+use Rattle.std.specs.Prelude.{ℕ, [], ◌∷◌, ℤ, pos, ◌+◌, ◌+ℤ◌, ◌-ℤ◌, ◌*ℤ◌, ◌^◌, ◌==◌, ◌&&◌, not}
 use Rattle.std.specs.Int.{bit_at, int_rem_euclid}
 use Rattle.linker_elf.specs.AArch64.{aarch64_form, shift_of}
 use Rattle.linker_elf.specs.AArch64Relocations.{aarch64_row}
 use Rattle.linker_elf.specs.LoongArch.{page}
+use Rattle.linker_elf.specs.Relocate.{is_movk}
 use Rattle.linker_elf.specs.declared.aarch64.forms.AArch64Instruction.{AArch64Instruction}
 use Rattle.linker_elf.specs.declared.aarch64.forms.AArch64Instruction.TheVariants.{Adr, Ldr}
 use Rattle.linker_elf.specs.declared.aarch64.forms.AArch64Instruction.TheVariants.{LdrRegister}
@@ -180,9 +181,9 @@ movk shift v word =
     +ℤ ((aarch64_form Movkz).machine word *ℤ pos (2 ^ shift)))
     +ℤ int_rem_euclid v (pos (2 ^ shift))
 
--- The move is one of 64 bits, and its shift is that of the 16 bits.
+-- The move is one of 64 bits and no MOVK, and its shift is that of the 16 bits.
 abbrev pub has_shift : ℕ → Premise
-has_shift shift = of_words (λ x. shift_of x == shift && bit_at x 31 == 1)
+has_shift shift = of_words (λ x. (shift_of x == shift && bit_at x 31 == 1) && not (is_movk x))
 
 -- the moves of the 16 bits below those that the first one moves, of the same value
 abbrev pub Moves1 : Step → (Operands → ℕ) → (ℕ → ℤ) → (Operands → ℕ) → Type 0

@@ -1,10 +1,11 @@
 -- LoongArch: what relocated instructions compute (LoongArch ELF psABI, "Relocation Types";
 -- LoongArch Reference Manual, volume 1).
-use Rattle.std.specs.Prelude.{ℕ, [], ◌∷◌, ℤ, pos, ◌+◌, ◌*◌, ◌+ℤ◌, ◌*ℤ◌, ◌^◌}
+use Rattle.std.specs.Prelude.{ℕ, [], ◌∷◌, ℤ, pos, ◌+◌, ◌*◌, ◌+ℤ◌, ◌*ℤ◌, ◌^◌, not}
 use Rattle.std.specs.Int.{int_rem_euclid}
 use Rattle.linker_base.specs.Bits.{field, signed}
 use Rattle.linker_elf.specs.LoongArch.{pcalau12i, upper_and_lower_value, reach, loongarch_form}
 use Rattle.linker_elf.specs.LoongArchRelocations.{loongarch_row}
+use Rattle.linker_elf.specs.Relocate.{is_jirl}
 use Rattle.linker_elf.specs.declared.loongarch64.forms.LoongArch64Instruction.{LoongArch64Instruction}
 use Rattle.linker_elf.specs.declared.loongarch64.forms.LoongArch64Instruction.TheVariants.{Shift5}
 use Rattle.linker_elf.specs.declared.loongarch64.forms.LoongArch64Instruction.TheVariants.{Shift10}
@@ -16,7 +17,7 @@ use Rattle.linker_elf.specs.declared.loongarch64.relocations.LoongArch64Relocati
 use Rattle.linker_elf.specs.declared.loongarch64.relocations.LoongArch64Relocation.TheVariants as names
 use Rattle.relocation_laws.specs.Differences.{AddsDistance, AddsDistance6}
 use Rattle.relocation_laws.specs.Schemes.{HoldsDistance, without_low, Step, here, anywhere, next}
-use Rattle.relocation_laws.specs.Schemes.{of_bits, Law, Adds}
+use Rattle.relocation_laws.specs.Schemes.{of_bits, of_words, Law, Adds}
 use Rattle.relocation_laws.specs.Schemes.{symbol_address, plt_address, entry_and_addend, zero}
 use Rattle.relocation_laws.specs.Schemes.{place, tls_base}
 
@@ -33,18 +34,41 @@ abbrev pub page_and_low : Operands → ℕ → ℕ → ℤ
 page_and_low o x y = pcalau12i o.place x +ℤ signed 12 (field y 10 22)
 
 -- The first value, which nothing else checks, is a number of 32 bits.
-abbrev pub PageAndLow : LoongArch64Relocation → LoongArch64Relocation → (Operands → ℕ) → Type 0
-PageAndLow high low target =
-    Law (of_bits 32 Signed (row_here high) ∷ row_anywhere low ∷ []) page_and_low target
+abbrev pub PageAndLow : LoongArch64Relocation → Step → (Operands → ℕ) → Type 0
+PageAndLow high low target = Law (of_bits 32 Signed (row_here high) ∷ low ∷ []) page_and_low target
+
+-- the low part of an instruction that is no `jirl`
+abbrev pub no_jump : Step → Step
+no_jump step = record step { premise = of_words (λ x. not (is_jirl x)) }
 
 abbrev pub RelativeAddresses : Type 0
 RelativeAddresses =
-    PageAndLow names.R_LARCH_PCALA_HI20 names.R_LARCH_PCALA_LO12 symbol_address
-    × PageAndLow names.R_LARCH_GOT_PC_HI20 names.R_LARCH_GOT_PC_LO12 entry_and_addend
-    × PageAndLow names.R_LARCH_TLS_LD_PC_HI20 names.R_LARCH_GOT_PC_LO12 entry_and_addend
-    × PageAndLow names.R_LARCH_TLS_GD_PC_HI20 names.R_LARCH_GOT_PC_LO12 entry_and_addend
-    × PageAndLow names.R_LARCH_TLS_IE_PC_HI20 names.R_LARCH_TLS_IE_PC_LO12 entry_and_addend
-    × PageAndLow names.R_LARCH_TLS_DESC_PC_HI20 names.R_LARCH_TLS_DESC_PC_LO12 entry_and_addend
+    PageAndLow names.R_LARCH_PCALA_HI20 (no_jump (row_anywhere names.R_LARCH_PCALA_LO12))
+    symbol_address
+    × PageAndLow names.R_LARCH_GOT_PC_HI20 (row_anywhere names.R_LARCH_GOT_PC_LO12) entry_and_addend
+    × PageAndLow names.R_LARCH_TLS_LD_PC_HI20 (row_anywhere names.R_LARCH_GOT_PC_LO12)
+    entry_and_addend
+    × PageAndLow names.R_LARCH_TLS_GD_PC_HI20 (row_anywhere names.R_LARCH_GOT_PC_LO12)
+    entry_and_addend
+    × PageAndLow names.R_LARCH_TLS_IE_PC_HI20 (row_anywhere names.R_LARCH_TLS_IE_PC_LO12)
+    entry_and_addend
+    × PageAndLow names.R_LARCH_TLS_DESC_PC_HI20 (row_anywhere names.R_LARCH_TLS_DESC_PC_LO12)
+    entry_and_addend
+
+-- `pcalau12i`, and a `jirl` that jumps by its 16 bits in two's complement, in units of 4 bytes
+-- ("JIRL")
+abbrev pub page_and_jump : Operands → ℕ → ℕ → ℤ
+page_and_jump o x y =
+    pcalau12i o.place x +ℤ ((loongarch_form Shift10).machine y *ℤ pos 4)
+
+abbrev pub a_jump : Step → Step
+a_jump step = record step { premise = of_words is_jirl }
+
+abbrev pub PageJumps : Type 0
+PageJumps =
+    Law
+    (of_bits 32 Signed (row_here names.R_LARCH_PCALA_HI20)
+    ∷ a_jump (row_anywhere names.R_LARCH_PCALA_LO12) ∷ []) page_and_jump symbol_address
 
 -- ---- addresses in 64 bits ("LU32I.D", "LU52I.D"; psABI, "Extreme code model")
 
@@ -53,26 +77,30 @@ RelativeAddresses =
 abbrev pub five : Operands → ℕ → ℕ → ℕ → ℕ → ℤ
 five o x y z u = pcalau12i o.place x +ℤ upper_and_lower_value y z u
 
-abbrev pub Five : LoongArch64Relocation → LoongArch64Relocation → LoongArch64Relocation
-    → LoongArch64Relocation → (Operands → ℕ) → Type 0
+abbrev pub Five : LoongArch64Relocation → Step → LoongArch64Relocation → LoongArch64Relocation
+    → (Operands → ℕ) → Type 0
 Five hi20 lo12 lo20 hi12 target =
     Law
-    (row_here hi20 ∷ next 4 (loongarch_row lo12) ∷ next 8 (loongarch_row lo20)
+    (row_here hi20 ∷ lo12 ∷ next 8 (loongarch_row lo20)
     ∷ next 12 (loongarch_row hi12) ∷ []) five target
+
+-- the second of the instructions
+abbrev pub low_next : LoongArch64Relocation → Step
+low_next name = next 4 (loongarch_row name)
 
 abbrev pub FarAddresses : Type 0
 FarAddresses =
-    Five names.R_LARCH_PCALA_HI20 names.R_LARCH_PCALA_LO12 names.R_LARCH_PCALA64_LO20
-    names.R_LARCH_PCALA64_HI12 symbol_address
-    × Five names.R_LARCH_GOT_PC_HI20 names.R_LARCH_GOT_PC_LO12 names.R_LARCH_GOT64_PC_LO20
-    names.R_LARCH_GOT64_PC_HI12 entry_and_addend
-    × Five names.R_LARCH_TLS_LD_PC_HI20 names.R_LARCH_GOT_PC_LO12 names.R_LARCH_GOT64_PC_LO20
-    names.R_LARCH_GOT64_PC_HI12 entry_and_addend
-    × Five names.R_LARCH_TLS_GD_PC_HI20 names.R_LARCH_GOT_PC_LO12 names.R_LARCH_GOT64_PC_LO20
-    names.R_LARCH_GOT64_PC_HI12 entry_and_addend
-    × Five names.R_LARCH_TLS_IE_PC_HI20 names.R_LARCH_TLS_IE_PC_LO12
+    Five names.R_LARCH_PCALA_HI20 (no_jump (low_next names.R_LARCH_PCALA_LO12))
+    names.R_LARCH_PCALA64_LO20 names.R_LARCH_PCALA64_HI12 symbol_address
+    × Five names.R_LARCH_GOT_PC_HI20 (low_next names.R_LARCH_GOT_PC_LO12)
+    names.R_LARCH_GOT64_PC_LO20 names.R_LARCH_GOT64_PC_HI12 entry_and_addend
+    × Five names.R_LARCH_TLS_LD_PC_HI20 (low_next names.R_LARCH_GOT_PC_LO12)
+    names.R_LARCH_GOT64_PC_LO20 names.R_LARCH_GOT64_PC_HI12 entry_and_addend
+    × Five names.R_LARCH_TLS_GD_PC_HI20 (low_next names.R_LARCH_GOT_PC_LO12)
+    names.R_LARCH_GOT64_PC_LO20 names.R_LARCH_GOT64_PC_HI12 entry_and_addend
+    × Five names.R_LARCH_TLS_IE_PC_HI20 (low_next names.R_LARCH_TLS_IE_PC_LO12)
     names.R_LARCH_TLS_IE64_PC_LO20 names.R_LARCH_TLS_IE64_PC_HI12 entry_and_addend
-    × Five names.R_LARCH_TLS_DESC_PC_HI20 names.R_LARCH_TLS_DESC_PC_LO12
+    × Five names.R_LARCH_TLS_DESC_PC_HI20 (low_next names.R_LARCH_TLS_DESC_PC_LO12)
     names.R_LARCH_TLS_DESC64_PC_LO20 names.R_LARCH_TLS_DESC64_PC_HI12 entry_and_addend
 
 -- ---- numbers by parts ("LU12I.W", "ORI")

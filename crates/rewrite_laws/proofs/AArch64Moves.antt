@@ -1,14 +1,19 @@
 -- The moves of an offset from the thread pointer.
 use Rattle.std.proofs.Common.{◌≡◌, ◌≢◌, ℕ, ◌+◌, ◌-◌, ◌*◌, ◌%◌, ◌^◌, ◌<◌, refl, sym, ◌∙◌, ap, subst}
 use Rattle.std.proofs.Common.{arith, List, eqb, ℤ, pos, ◌+ℤ◌, ◌*ℤ◌, ◌-ℤ◌, Some, unsigned_abs}
-use Rattle.std.specs.Prelude.{◌&&◌}
+use Rattle.std.specs.Prelude.{◌&&◌, not, nat_lt, false}
+use Rattle.linker_base.specs.Bits.{field}
+use Rattle.linker_elf.specs.Relocate.{is_movk}
+use Rattle.linker_elf.specs.declared.elf.RelocationInstruction.TheVariants.{AArch64}
+use Rattle.linker_elf.specs.declared.elf.RelocationKind.TheVariants.{TpOff}
+use Rattle.linker_elf.proofs.Relocated.{plain_written}
 use Rattle.std.specs.Int.{bit_at, int_rem_euclid}
 use Rattle.std.proofs.lemmas.Bool.{eq-eqb, ne_eqb, cond-false}
 use Rattle.std.proofs.lemmas.Int.{ints, int_rem_euclid_is}
 use Rattle.linker_elf.specs.AArch64.{aarch64_form, shift_of}
 use Rattle.linker_aarch64.specs.AArch64Rewrites.{rd_of}
 use Rattle.linker_elf.specs.Value.{sum_64, difference_64}
-use Rattle.linker_elf.specs.declared.aarch64.forms.AArch64Instruction.TheVariants.{Movkz}
+use Rattle.linker_elf.specs.declared.aarch64.forms.AArch64Instruction.TheVariants.{Movkz, Movnz}
 use Rattle.linker_elf.specs.declared.aarch64.relocations.AArch64Relocation.TheVariants as names
 use Rattle.linker_elf.specs.declared.elf.value.Operands.{Operands}
 use Rattle.relocation_laws.specs.AArch64Laws.{movk, movn_or_movz}
@@ -84,18 +89,25 @@ pub record Moves (n x y value : ℕ) (s : State) : Type 0 where
       ≡ Some (set n (with_moved y (set n (moved x) s)) (set n (moved x) s))
   pub value_is : with_moved y (set n (moved x) s) ≡ value
 
+movz_is_no_movk : (word n : ℕ) → n < 32 → word ≡ 0xd2a00000 + n → is_movk word ≡ false
+movz_is_no_movk word n below is =
+    let opcode : field word 23 31 ≡ 0xa5 = omega arith in ap (λ o. eqb o 0xe5) opcode
+
 pub offset_moves : relocation_laws.ThreadMoves → (o : Operands) → AreAddresses o → (n : ℕ) → n < 32
     → n ≢ 31 → (movz movk movz1 movk1 : List ℕ) → word_of movz ≡ 0xd2a00000 + n
     → word_of movk ≡ 0xf2800000 + n
     → IsRelocated names.R_AARCH64_TLSLE_MOVW_TPREL_G1 o movz movz1
     → IsRelocated names.R_AARCH64_TLSLE_MOVW_TPREL_G0_NC (behind 4 o) movk movk1
     → (s : State) → Moves n (word_of movz1) (word_of movk1) (thread_offset o) s
-offset_moves laws o small n below named movz movk_bytes movz1 movk1 is_movz is_movk a b s =
+offset_moves laws o small n below named movz movk_bytes movz1 movk1 is_movz is_kept a b s =
     let x = word_of movz1 in
     let y = word_of movk1 in
     let shift : shift_of (word_of movz) ≡ 16 = omega arith in
     let wide : bit_at (word_of movz) 31 ≡ 1 = omega arith in
-    let first = movnz_after _ _ movz movz1 a.written wide in
+    let no_movk = movz_is_no_movk (word_of movz) n below is_movz in
+    let moved_in = plain_written (AArch64 Movnz) TpOff (record { start = 16; end = 32 }) a.value movz
+    movz1 (ap (λ b. b && nat_lt 16 17) no_movk) refl a.written in
+    let first = movnz_after _ _ movz movz1 moved_in wide in
     let second = movk_after _ _ movk_bytes movk1 b.written (omega arith) in
     let rd1 : rd_of x ≡ n = first.rd_is ∙ (let e : rd_of (word_of movz) ≡ n = omega arith in e) in
     let rd2 : rd_of y ≡ n =
@@ -106,7 +118,8 @@ offset_moves laws o small n below named movz movk_bytes movz1 movk1 is_movz is_m
     ∙ cond-false (eqb n 31) 0 (t.registers n) (ne_eqb n 31 named)
     ∙ read_back n (moved x) n s refl in
     let leads = laws.0.1 o small o.place movz movz1 a
-    (ap (λ k. eqb k 16 && eqb (bit_at (word_of movz) 31) 1) shift ∙ eq-eqb _ _ wide)
+    (ap (λ k. (eqb k 16 && eqb (bit_at (word_of movz) 31) 1) && not (is_movk (word_of movz))) shift
+    ∙ ap (λ b. b && not (is_movk (word_of movz))) (eq-eqb _ _ wide) ∙ ap not no_movk)
     (sum_64 o.place 4) movk_bytes movk1 b tt in
     record {
       first = step_move x n s first.decodes rd1 named;

@@ -1,5 +1,5 @@
 -- Pairs of LoongArch's instructions: the laws of their rewrites.
-use Rattle.std.proofs.Common.{◌≡◌, ◌≢◌, ℕ, ◌+◌, ◌/◌, ◌^◌, ◌<◌, refl, sym, ◌∙◌, ap, subst, arith, [], ◌∷◌, pos, ◌+ℤ◌, ◌*ℤ◌, Some, ◌≤ℤ◌, ◌<ℤ◌, inl, inr}
+use Rattle.std.proofs.Common.{◌≡◌, ◌≢◌, ℕ, ◌+◌, ◌/◌, ◌^◌, ◌<◌, refl, sym, ◌∙◌, ap, subst, arith, [], ◌∷◌, pos, ◌+ℤ◌, ◌*ℤ◌, Some, ◌≤ℤ◌, ◌<ℤ◌, inl, inr, ℤ, List, eqb, not, false}
 use Rattle.std.specs.Int.{w64, cast_signed}
 use Rattle.std.proofs.lemmas.Bool.{cases_lt}
 use Rattle.std.proofs.lemmas.Int.{ints, to_z_pos}
@@ -8,10 +8,14 @@ use Rattle.linker_elf.specs.Choices.{ValueIsWithin}
 use Rattle.linker_elf.specs.LoongArch.{pcalau12i, loongarch_form}
 use Rattle.linker_loongarch64.specs.LoongArchChoices.{signed_32}
 use Rattle.linker_loongarch64.specs.LoongArchRewrites.{rd_of, rj_of}
-use Rattle.linker_elf.specs.Relocate.{bits_taken}
+use Rattle.linker_elf.specs.Relocate.{bits_taken, is_jirl, IsWritten, InstructionWritten}
+use Rattle.linker_elf.specs.declared.elf.RelocationInstruction.TheVariants.{LoongArch64}
+use Rattle.linker_elf.specs.declared.elf.RelocationKind.TheVariants.{AbsoluteLowPart}
+use Rattle.linker_elf.specs.declared.elf.RelocationSize.TheVariants.{BitMasking}
+use Rattle.linker_elf.proofs.Relocated.{plain_written}
 use Rattle.linker_elf.specs.Value.{sum_64, difference_64}
 use Rattle.linker_elf.specs.declared.elf.value.Operands.{Operands}
-use Rattle.linker_elf.specs.declared.loongarch64.forms.LoongArch64Instruction.TheVariants.{Shift5}
+use Rattle.linker_elf.specs.declared.loongarch64.forms.LoongArch64Instruction.TheVariants.{Shift5, Shift10}
 use Rattle.linker_base.proofs.Bits.{cast_negative}
 use Rattle.relocation_laws.specs.LoongArchLaws as relocation_laws
 use Rattle.relocation_laws.specs.Schemes.{IsAddress, AreAddresses, symbol_address, entry_and_addend}
@@ -87,6 +91,17 @@ makes o small n x y s first second named leads =
           ∙ distance_is ((signed 20 (field x 5 25) *ℤ pos 4096) +ℤ pos (field y 10 22)) o.tls_base (symbol_address o) small.tls_base (sum_below o.symbol _) leads;
     }
 
+-- `addi.d` is no `jirl`, and gets the 12 bits
+no_jirl : (word : ℕ) → word / 2 ^ 22 ≡ 0x00b → is_jirl word ≡ false
+no_jirl word op = let opcode : field word 26 32 ≡ 0 = omega arith in ap (λ q. eqb q 19) opcode
+
+low_written : (v : ℤ) (before after : List ℕ) → word_of before / 2 ^ 22 ≡ 0x00b
+    → IsWritten (BitMasking (record { start = 0; end = 12 }) (LoongArch64 Shift10)) AbsoluteLowPart v before after
+    → InstructionWritten (LoongArch64 Shift10) (record { start = 0; end = 12 }) v before after
+low_written v before after op w =
+    plain_written (LoongArch64 Shift10) AbsoluteLowPart (record { start = 0; end = 12 }) v before after refl
+    (no_jirl (word_of before) op) w
+
 -- ---- the laws
 
 pub got_to_address : relocation_laws.RelativeAddresses → laws.GotToAddress
@@ -105,8 +120,8 @@ got_to_address relative o s pcala ld addi p holds made pcala1 ld1 pcala2 addi2 o
     (relative.1 o p.small o.place pcala pcala1 old.first (subst (ValueIsWithin signed_32) old.first.value_is old.fits) (sum_64 o.place 4) ld ld1 old.second tt) in
     let d = adds o n (word_of pcala2) (word_of addi2) (symbol_address o) s
     (high_after 12 0x0d n _ pcala pcala2 a2.written one.first one.register)
-    (low_after 0x00b n n _ addi addi2 d2.written op rd (rj ∙ same)) named p.at
-    (relative.0 o p.small o.place pcala pcala2 a2 (subst (ValueIsWithin signed_32) a2.value_is fits) (sum_64 o.place 4) addi addi2 d2 tt) in
+    (low_after 0x00b n n _ addi addi2 (low_written d2.value addi addi2 op d2.written) op rd (rj ∙ same)) named p.at
+    (relative.0 o p.small o.place pcala pcala2 a2 (subst (ValueIsWithin signed_32) a2.value_is fits) (sum_64 o.place 4) addi addi2 d2 (ap not (no_jirl (word_of addi) op))) in
     ends_so (pair pcala1 ld1) (pair pcala2 addi2) s s _ _ laws.AreAlike
     (run_pair (word_of pcala1) (word_of ld1) s _ _ l.first refl l.second)
     (run_pair (word_of pcala2) (word_of addi2) s _ _ d.first refl d.second)
@@ -215,8 +230,8 @@ address_to_pcaddi relative branches x y s t pcala addi pcaddi p small at alike m
     let rd : rd_of (word_of pcaddi) ≡ n = omega arith in
     let d = adds x n (word_of pcala1) (word_of addi1) (symbol_address x) s
     (high_after 12 0x0d n _ pcala pcala1 a1.written one.first refl)
-    (low_after 0x00b n n _ addi addi1 d1.written p.second_is back (one.into_own_source.same ∙ back)) named p.at
-    (relative.0 x p.small x.place pcala pcala1 a1 (subst (ValueIsWithin signed_32) a1.value_is fits) (sum_64 x.place 4) addi addi1 d1 tt) in
+    (low_after 0x00b n n _ addi addi1 (low_written d1.value addi addi1 p.second_is d1.written) p.second_is back (one.into_own_source.same ∙ back)) named p.at
+    (relative.0 x p.small x.place pcala pcala1 a1 (subst (ValueIsWithin signed_32) a1.value_is fits) (sum_64 x.place 4) addi addi1 d1 (ap not (no_jirl (word_of addi) p.second_is))) in
     let m = nears y n (word_of pcaddi2) t (high_after 2 0x0c n _ pcaddi pcaddi2 b2.written op rd) named at
     (branches.3 y small y.place pcaddi pcaddi2 b2 tt) in
     ends_so (pair pcala1 addi1) (word_of pcaddi2 ∷ []) s t _ _ (laws.HaveMade n (symbol_address x) (symbol_address y) (sum_64 x.place 8) (sum_64 y.place 4))

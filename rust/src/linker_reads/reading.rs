@@ -247,6 +247,32 @@ fn number_of_bytes(len: usize, bytes: &[u8]) -> u64 {
     u64::from_le_bytes(word)
 }
 
+/// What stands in a `jirl` at the low part of an address: bits 2 to 11 of the value, of which bits 0 and 1 are 0.
+fn jump_read(bytes: &[u8]) -> FieldValue {
+    let word = u32_from_slice(bytes) as u64;
+    FieldValue {
+        known: bits(0, 12),
+        bits: word.extract_bit_range(10..20) * 4,
+        rounding: 0,
+    }
+}
+
+/// What stands in an instruction of a form.
+fn instruction_read(
+    insn: RelocationInstruction,
+    range: BitRange,
+    reach: AllowedRange,
+    bytes: &[u8],
+) -> FieldValue {
+    let known = bits_held(insn, range, reach);
+    let number = number_held(insn, bytes);
+    FieldValue {
+        known,
+        bits: bits_of(number, known.start - range.start, known.end - range.start),
+        rounding: rounding_of(insn),
+    }
+}
+
 /// What stands in the field.
 fn field_read(row: &RelocationKindInfo, reach: AllowedRange, bytes: &[u8]) -> FieldValue {
     match row.size {
@@ -265,13 +291,10 @@ fn field_read(row: &RelocationKindInfo, reach: AllowedRange, bytes: &[u8]) -> Fi
             }
         }
         RelocationSize::BitMasking { range, insn } => {
-            let known = bits_held(insn, range, reach);
-            let number = number_held(insn, bytes);
-            FieldValue {
-                known,
-                bits: bits_of(number, known.start - range.start, known.end - range.start),
-                rounding: rounding_of(insn),
+            if insn.is_low_jump(row.kind, bytes) {
+                return jump_read(bytes);
             }
+            instruction_read(insn.written_at(range, bytes), range, reach, bytes)
         }
     }
 }

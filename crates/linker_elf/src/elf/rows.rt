@@ -1,17 +1,19 @@
 //! Rows of the relocation tables, and the macros that make them from each architecture's list.
 
-ghost use Rattle.std.specs.Prelude.{◌≡◌, ◌^◌, ◌<◌, ◌↔◌, IfErr, IfSome, IsTrue, OnOk};
+ghost use Rattle.std.specs.Prelude.{◌≡◌, ◌^◌, ◌<◌, ◌↔◌, IfErr, IfSome, IsTrue, OnOk, true};
 ghost use Rattle.linker_elf.specs.Agrees.{RowFits};
 ghost use Rattle.linker_elf.specs.Entries.{IsGotAnswer, IsPltAnswer};
 ghost use Rattle.linker_elf.specs.Relocate.{Reaches, IsInReach};
 ghost use Rattle.linker_elf.specs.Numbers.{numbers_of};
 ghost use Rattle.linker_elf.specs.Reach.{reach_of};
-ghost use Rattle.linker_elf.specs.Relocate.{WritesRow, RejectsValue, window_len};
+ghost use Rattle.linker_elf.specs.Relocate.{WritesRow, RejectsValue, window_len, is_supported};
+ghost use Rattle.linker_elf.specs.Relocate.{IsAligned};
+ghost use Rattle.linker_elf.specs.Elf.{IsWithin};
 ghost use Rattle.linker_elf.specs.Value.{value_of};
 ghost use Rattle.linker_elf.specs.Inner.RowTables.{info_in, info_of, raw_info_in, IsSound};
 ghost use Rattle.linker_elf.specs.Inner.RowTables.{tests_of};
 
-use crate::elf::relocate::{write_bits, write_bytes};
+use crate::elf::relocate::{is_encoded, write_bits, write_bytes};
 use crate::elf::{
     AllowedRange, Bias, Operands, PageMask, RelocateError, RelocationKind, RelocationKindInfo,
     RelocationNumbers, RelocationSize,
@@ -195,7 +197,8 @@ impl Row {
     }
 
     /// Whether the relocation has a value that can be written: one within `reach`, and a multiple
-    /// of the row's alignment.
+    /// of the row's alignment. Those that only the reserved immediate 0 of a `c.lui` would hold,
+    /// from -0x800 up, below 0x800, can't be.
     #[inline(always)]
     pub fn reaches(&self, operands: &Operands) -> bool
         ensures { IsTrue result ↔ Reaches self.now operands.now }
@@ -234,13 +237,24 @@ impl Row {
 }
 
 impl RelocationKindInfo {
-    /// Whether a value is within `reach`, and a multiple of the row's alignment.
+    /// Whether a value is between the ends of `reach`, and a multiple of the row's alignment.
+    #[inline(always)]
+    fn is_between(&self, tests: &WriteTests, value: i64) -> bool
+        requires { tests.now ≡ tests_of self.now }
+        ensures { IsTrue result ↔ ((is_supported self.now ≡ true)
+            × IsWithin (reach_of self.now) value × IsAligned self.now.alignment value) }
+    {
+        tests.is_supported && self.is_aligned(value) && tests.least <= value && value <= tests.last
+    }
+
+    /// Whether a value is within `reach`, an encoding holds it, and it is a multiple of the row's
+    /// alignment.
     #[inline(always)]
     fn is_in_reach(&self, tests: &WriteTests, value: i64) -> bool
         requires { tests.now ≡ tests_of self.now }
         ensures { IsTrue result ↔ IsInReach self.now value }
     {
-        tests.is_supported && self.is_aligned(value) && tests.least <= value && value <= tests.last
+        self.is_between(tests, value) && is_encoded(self.size, value)
     }
 
     /// `write`, of a row whose bits fit its instruction.
@@ -265,12 +279,14 @@ impl RelocationKindInfo {
         if !self.is_multiple(value, dest) {
             return Err(RelocateError::Misaligned);
         }
-        if value < tests.least || tests.last < value {
+        if value < tests.least || tests.last < value || !is_encoded(self.size, value) {
             return Err(RelocateError::OutOfReach);
         }
         match self.size {
             RelocationSize::ByteSize(len) => write_bytes(self.kind, len as usize, value, dest),
-            RelocationSize::BitMasking { range, insn } => write_bits(insn, range, value, dest),
+            RelocationSize::BitMasking { range, insn } => {
+                write_bits(self.kind, insn, range, value, dest)
+            }
         }
         Ok(())
     }

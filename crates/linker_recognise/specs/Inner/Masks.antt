@@ -3,7 +3,7 @@ use Rattle.std.specs.Prelude.{ℕ, ◌-◌, ◌*◌, ◌^◌, nat_lt, if◌then�
 use Rattle.linker_base.specs.Form.{window_of}
 use Rattle.linker_base.specs.declared.bit_misc.BitRange.{BitRange}
 use Rattle.linker_elf.specs.Elf.{relocation_form}
-use Rattle.linker_elf.specs.Relocate.{is_dq_form}
+use Rattle.linker_elf.specs.Relocate.{is_dq_form, insn_at, bits_at}
 use Rattle.linker_elf.specs.declared.aarch64.forms.AArch64Instruction.{AArch64Instruction}
 use Rattle.linker_elf.specs.declared.aarch64.forms.AArch64Instruction.TheVariants as aarch64
 use Rattle.linker_elf.specs.declared.elf.RelocationInstruction.{RelocationInstruction}
@@ -81,7 +81,9 @@ number_mask kind n = bytes_mask n
 abbrev pub size_mask : RelocationSize → RelocationKind → List ℕ → ℕ
 size_mask (ByteSize n) kind bytes = number_mask kind n
 size_mask (BitMasking bits insn) kind bytes =
-    instruction_mask insn bits (window_of (relocation_form insn) bytes)
+    let word = window_of (relocation_form insn) bytes in
+    instruction_mask (insn_at insn bits word) (bits_at insn kind bits word)
+    (window_of (relocation_form (insn_at insn bits word)) bytes)
 
 abbrev pub field_mask : RelocationKindInfo → List ℕ → ℕ
 field_mask row bytes = size_mask row.size row.kind bytes

@@ -4,7 +4,7 @@
 use crate::linker_elf::elf::engine::{self, Run, Window, run};
 use crate::linker_elf::elf::{
     AArch64Instruction, InstructionForm, LoongArch64Instruction, Ppc64Instruction,
-    RelocationInstruction, RelocationKind, RelocationKindInfo, RelocationSize,
+    RelocationInstruction, RelocationKind, RelocationKindInfo, RelocationSize, RiscVInstruction,
 };
 use crate::linker_base::bit_misc::{BitExtraction, BitRange};
 
@@ -22,10 +22,10 @@ pub enum RelocateError {
     TooShort,
     /// The value isn't a multiple of the row's alignment, or not one of 16 where a PowerPC64
     /// instruction of DQ-form (`lq`, `lxv`, `stxv`, `lxvp`, `stxvp`) is at a relocation of
-    /// DS-form.
+    /// DS-form, or not one of 4 where a `jirl` is at `R_LARCH_PCALA_LO12`.
     Misaligned,
-    /// The value is outside `reach`. Or the row is none that the library returns, and its bits
-    /// don't fit its instruction.
+    /// The value is outside `reach`, or its high part in a `c.lui` is 0. Or the row is none that
+    /// the library returns, and its bits don't fit its instruction.
     OutOfReach,
 }
 
@@ -127,9 +127,9 @@ fn clear_loongarch(insn: LoongArch64Instruction, bits: BitRange, dest: &mut [u8]
     }
 }
 
-/// Writes bits of a value into an instruction. By itself, so that `write` is small enough to be
-/// inlined, and its row is never in memory.
-pub(crate) fn write_bits(insn: RelocationInstruction, bits: BitRange, value: i64, dest: &mut [u8]) {
+/// Writes bits of a number into an instruction.
+#[inline(always)]
+fn write_field(insn: RelocationInstruction, bits: BitRange, value: i64, dest: &mut [u8]) {
     let number = taken_bits(bits, value);
     let negative = value < 0;
     match insn {
@@ -153,6 +153,107 @@ pub(crate) fn write_bits(insn: RelocationInstruction, bits: BitRange, value: i64
             clear_loongarch(insn, bits, dest);
             insn.write_to_value(number, negative, dest);
         }
+    }
+}
+
+/// Whether an instruction is a MOVK, where a row is for MOVN and MOVZ.
+#[inline(always)]
+fn stays_movk(insn: RelocationInstruction, bits: BitRange, dest: &[u8]) -> bool {
+    match insn {
+        RelocationInstruction::AArch64(AArch64Instruction::Movnz) => {
+            let opcode = (Window::Four.load(dest) >> 23) % 256;
+            opcode == 0xe5 && bits.end.saturating_sub(bits.start) < 17
+        }
+        _ => false,
+    }
+}
+
+impl RelocationInstruction {
+    /// The form in which a row's bits are written: that of MOVK where one stands and the row is for
+    /// MOVN and MOVZ, and else the row's.
+    ///
+    /// # Requires
+    ///
+    /// - `self.window() <= dest.len()`
+    #[doc(hidden)]
+    #[must_use]
+    #[cfg_attr(debug_assertions, track_caller)]
+    #[inline(always)]
+    pub fn written_at(self, bits: BitRange, dest: &[u8]) -> RelocationInstruction {
+        debug_assert!(self.window() <= dest.len());
+        if stays_movk(self, bits, dest) {
+            RelocationInstruction::AArch64(AArch64Instruction::Movkz)
+        } else {
+            self
+        }
+    }
+
+    /// Whether an instruction is a `jirl`, where a row is for the low 12 bits of an address.
+    ///
+    /// # Requires
+    ///
+    /// - `self.window() <= dest.len()`
+    #[doc(hidden)]
+    #[must_use]
+    #[cfg_attr(debug_assertions, track_caller)]
+    #[inline(always)]
+    pub fn is_low_jump(self, kind: RelocationKind, dest: &[u8]) -> bool {
+        debug_assert!(self.window() <= dest.len());
+        match self {
+            RelocationInstruction::LoongArch64(LoongArch64Instruction::Shift10) => {
+                kind == RelocationKind::AbsoluteLowPart && Window::Four.load(dest) >> 26 == 19
+            }
+            _ => false,
+        }
+    }
+}
+
+/// The low 12 bits of a value in two's complement.
+#[inline(always)]
+fn low_part(value: i64) -> i64 {
+    let low = taken_bits(BitRange { start: 0, end: 12 }, value);
+    engine::signed_number(low, 12).0.cast_signed()
+}
+
+/// Writes bits of a value into an instruction: a MOVK stays one, and a `jirl` gets the low part of
+/// an address. By itself, so that `write` is small enough to be inlined, and its row is never in
+/// memory.
+pub(crate) fn write_bits(
+    kind: RelocationKind,
+    insn: RelocationInstruction,
+    bits: BitRange,
+    value: i64,
+    dest: &mut [u8],
+) {
+    let form = insn.written_at(bits, dest);
+    let (taken, number) = if insn.is_low_jump(kind, dest) {
+        (BitRange { start: 2, end: 18 }, low_part(value))
+    } else {
+        (bits, value)
+    };
+    write_field(form, taken, number, dest);
+}
+
+/// Whether a value is a multiple of 4, where a `jirl` gets the low part of an address.
+#[inline(always)]
+fn is_in_words(size: RelocationSize, kind: RelocationKind, value: i64, dest: &[u8]) -> bool {
+    match size {
+        RelocationSize::ByteSize(_) => true,
+        RelocationSize::BitMasking { insn, .. } => {
+            !insn.is_low_jump(kind, dest) || value.rem_euclid(4) == 0
+        }
+    }
+}
+
+/// Whether an encoding that isn't reserved holds a value: `c.lui` has no immediate 0.
+#[inline(always)]
+pub(crate) fn is_encoded(size: RelocationSize, value: i64) -> bool {
+    match size {
+        RelocationSize::BitMasking {
+            insn: RelocationInstruction::RiscV(RiscVInstruction::CluiType),
+            ..
+        } => value < -0x800 || 0x800 <= value,
+        _ => true,
     }
 }
 
@@ -219,7 +320,9 @@ impl RelocationKindInfo {
     /// Whether a value is a multiple of the alignment of the row and of its instruction.
     #[inline(always)]
     pub(crate) fn is_multiple(&self, value: i64, dest: &[u8]) -> bool {
-        self.is_aligned(value) && is_in_units(self.size, value, dest)
+        self.is_aligned(value)
+            && is_in_units(self.size, value, dest)
+            && is_in_words(self.size, self.kind, value, dest)
     }
 
     /// Whether the row's instruction holds the bits of a value that it takes.
@@ -245,11 +348,14 @@ impl RelocationKindInfo {
     ///   takes, and the machine reads them from there; modulo their size if `reach` has no bounds.
     ///   The bits that the form only ORs need not be 0 before. All others are unchanged, except
     ///   for the opcode that `Movnz` sets by the value's sign; its shift has to be the first of the
-    ///   relocation's bits. MOVN and MOVZ of 32 bits (bit 31 is 0) keep their size.
+    ///   relocation's bits. MOVN and MOVZ of 32 bits (bit 31 is 0) keep their size. A MOVK stays
+    ///   one, and gets the bits as they are.
+    /// - A `jirl` at `R_LARCH_PCALA_LO12` gets bits 2 to 17 of the value's low 12 bits in two's
+    ///   complement, as a branch of 16 bits does.
     /// - A PowerPC64 instruction of DQ-form keeps its low 4 bits at a relocation of DS-form.
     /// - RISC-V's `UiType`, or a high half and a low half of one value, make the value itself, and
     ///   so does LoongArch's `Call36`. A `c.lui` is such a high half too. The ISA reserves its
-    ///   immediate 0: `riscv64::RelaxationKind::hi20_fits_clui` rejects the values that make it.
+    ///   immediate 0, so the values from -0x800 up, below 0x800, are `OutOfReach`.
     /// - PowerPC64's low half and the high half of the value plus 0x8000 make the value itself.
     /// - The bytes after `window` are unchanged. A relocation without a value writes nothing.
     ///
@@ -280,7 +386,7 @@ impl RelocationKindInfo {
         if !self.is_multiple(value, dest) {
             return Err(RelocateError::Misaligned);
         }
-        if !self.reach().contains(value) {
+        if !self.reach().contains(value) || !is_encoded(self.size, value) {
             return Err(RelocateError::OutOfReach);
         }
         if !self.holds_bits(value, dest) {
@@ -288,7 +394,9 @@ impl RelocationKindInfo {
         }
         match self.size {
             RelocationSize::ByteSize(len) => write_bytes(self.kind, len as usize, value, dest),
-            RelocationSize::BitMasking { range, insn } => write_bits(insn, range, value, dest),
+            RelocationSize::BitMasking { range, insn } => {
+                write_bits(self.kind, insn, range, value, dest)
+            }
         }
         Ok(())
     }

@@ -1,7 +1,7 @@
 // Made by tools/erase of crates/linker_elf/src/elf/rows.rt.
 //! Rows of the relocation tables, and the macros that make them from each architecture's list.
 
-use crate::linker_elf::elf::relocate::{write_bits, write_bytes};
+use crate::linker_elf::elf::relocate::{is_encoded, write_bits, write_bytes};
 use crate::linker_elf::elf::{
     AllowedRange, Bias, Operands, PageMask, RelocateError, RelocationKind, RelocationKindInfo,
     RelocationNumbers, RelocationSize,
@@ -153,7 +153,8 @@ impl Row {
     }
 
     /// Whether the relocation has a value that can be written: one within `reach`, and a multiple
-    /// of the row's alignment.
+    /// of the row's alignment. Those that only the reserved immediate 0 of a `c.lui` would hold,
+    /// from -0x800 up, below 0x800, can't be.
     #[must_use]
     #[inline(always)]
     pub fn reaches(&self, operands: &Operands) -> bool {
@@ -186,10 +187,17 @@ impl Row {
 }
 
 impl RelocationKindInfo {
-    /// Whether a value is within `reach`, and a multiple of the row's alignment.
+    /// Whether a value is between the ends of `reach`, and a multiple of the row's alignment.
+    #[inline(always)]
+    fn is_between(&self, tests: &WriteTests, value: i64) -> bool {
+        tests.is_supported && self.is_aligned(value) && tests.least <= value && value <= tests.last
+    }
+
+    /// Whether a value is within `reach`, an encoding holds it, and it is a multiple of the row's
+    /// alignment.
     #[inline(always)]
     fn is_in_reach(&self, tests: &WriteTests, value: i64) -> bool {
-        tests.is_supported && self.is_aligned(value) && tests.least <= value && value <= tests.last
+        self.is_between(tests, value) && is_encoded(self.size, value)
     }
 
     /// `write`, of a row whose bits fit its instruction.
@@ -209,12 +217,14 @@ impl RelocationKindInfo {
         if !self.is_multiple(value, dest) {
             return Err(RelocateError::Misaligned);
         }
-        if value < tests.least || tests.last < value {
+        if value < tests.least || tests.last < value || !is_encoded(self.size, value) {
             return Err(RelocateError::OutOfReach);
         }
         match self.size {
             RelocationSize::ByteSize(len) => write_bytes(self.kind, len as usize, value, dest),
-            RelocationSize::BitMasking { range, insn } => write_bits(insn, range, value, dest),
+            RelocationSize::BitMasking { range, insn } => {
+                write_bits(self.kind, insn, range, value, dest)
+            }
         }
         Ok(())
     }

@@ -19,6 +19,7 @@ pub enum LoongArch64Relocation {
     R_LARCH_64,
     R_LARCH_TLS_DTPREL32,
     R_LARCH_TLS_DTPREL64,
+    R_LARCH_MARK_LA,
     R_LARCH_ADD8,
     R_LARCH_ADD16,
     R_LARCH_ADD24,
@@ -62,9 +63,8 @@ pub enum LoongArch64Relocation {
     R_LARCH_TLS_GD_HI20,
     R_LARCH_32_PCREL,
     R_LARCH_RELAX,
-    /// Its row is `None` of 0 bytes, since it writes nothing. But a linker that deletes bytes has
-    /// to keep the alignment that the addend names, as for `R_RISCV_ALIGN`, whose row is
-    /// `Alignment`.
+    /// It writes nothing. But a linker that deletes bytes has to keep the alignment that the addend
+    /// names, as for `R_RISCV_ALIGN`.
     R_LARCH_ALIGN,
     R_LARCH_PCREL20_S2,
     R_LARCH_ADD6,
@@ -105,6 +105,7 @@ macro_rules! relocations {
                 2 R_LARCH_64 => Some(row!(Absolute, (8 bytes), any)),
                 8 R_LARCH_TLS_DTPREL32 => Some(row!(DtpOff, (4 bytes), any)),
                 9 R_LARCH_TLS_DTPREL64 => Some(row!(DtpOff, (8 bytes), any)),
+                20 R_LARCH_MARK_LA => Some(row!(None, (0 bytes), any, origin: own)),
                 47 R_LARCH_ADD8 => Some(row!(AbsoluteAddition, (1 bytes), any)),
                 48 R_LARCH_ADD16 => Some(row!(AbsoluteAddition, (2 bytes), any)),
                 49 R_LARCH_ADD24 => Some(row!(AbsoluteAddition, (3 bytes), any)),
@@ -173,7 +174,7 @@ macro_rules! relocations {
                 98 R_LARCH_TLS_GD_HI20 => Some(row!(TlsGdGot, (12..32 LoongArch64::Shift5), any)),
                 99 R_LARCH_32_PCREL => Some(row!(Relative, (4 bytes), signed 32)),
                 100 R_LARCH_RELAX => Some(row!(None, (0 bytes), any)),
-                102 R_LARCH_ALIGN => Some(row!(None, (0 bytes), any)),
+                102 R_LARCH_ALIGN => Some(row!(Alignment, (0 bytes), any)),
                 103 R_LARCH_PCREL20_S2 =>
                     Some(row!(Relative, (2..22 LoongArch64::Shift5), signed 22, alignment: 4)),
                 105 R_LARCH_ADD6 => Some(row!(AbsoluteAdditionWord6, (1 bytes), any)),
@@ -280,11 +281,22 @@ pub const fn row(name: LoongArch64Relocation) -> Option<Row> {
     row_in(&ROWS[index(name)])
 }
 
+/// The name whose row the crate `linker-utils` has for a name: there `R_LARCH_ALIGN` has no kind of
+/// its own.
+#[inline(always)]
+const fn raw_name(name: LoongArch64Relocation) -> LoongArch64Relocation {
+    match name {
+        LoongArch64Relocation::R_LARCH_ALIGN => LoongArch64Relocation::R_LARCH_RELAX,
+        _ => name,
+    }
+}
+
 /// What a relocation means, as `row` says, or `None` for those that the crate `linker-utils` has no
-/// row for: the GOT entries for TLS by `pcaddi`, `R_LARCH_TLS_LD_PCREL20_S2`,
-/// `R_LARCH_TLS_GD_PCREL20_S2` and `R_LARCH_TLS_DESC_PCREL20_S2`.
+/// row for: `R_LARCH_MARK_LA`, and the GOT entries for TLS by `pcaddi`,
+/// `R_LARCH_TLS_LD_PCREL20_S2`, `R_LARCH_TLS_GD_PCREL20_S2` and `R_LARCH_TLS_DESC_PCREL20_S2`. The
+/// kind of `R_LARCH_ALIGN` is `None` there, and here.
 #[must_use]
 #[inline(always)]
 pub const fn relocation_type_from_raw(name: LoongArch64Relocation) -> Option<RelocationKindInfo> {
-    raw_info_in(&ROWS[index(name)])
+    raw_info_in(&ROWS[index(raw_name(name))])
 }

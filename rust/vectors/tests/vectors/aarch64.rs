@@ -510,3 +510,23 @@ static TO_MOVES: [([u8; 8], u64, u64, [u8; 8]); 3] = [
         [0x60, 0x00, 0xa0, 0xd2, 0x00, 0x01, 0x80, 0xf2],
     ),
 ];
+
+/// MOVK at relocations for MOVN and MOVZ, as ld.lld 19.1.7 links it. GNU ld 2.40 writes the same
+/// where the value isn't negative; where it is, its word is no move.
+#[test]
+fn movk_stays_movk() {
+    for (name, value, before, after) in [
+        (AArch64Relocation::R_AARCH64_MOVW_PREL_G0, 0x1234, 0xf280_0000, 0xf282_4680),
+        (AArch64Relocation::R_AARCH64_MOVW_PREL_G0, 0x122c, 0x7280_0003, 0x7282_4583),
+        (AArch64Relocation::R_AARCH64_MOVW_PREL_G0, -0x1004, 0xf280_0000, 0xf29d_ff80),
+        (AArch64Relocation::R_AARCH64_MOVW_PREL_G1, -0x1010, 0xf2a2_4681, 0xf2bf_ffe1),
+        (AArch64Relocation::R_AARCH64_MOVW_PREL_G2, 0x1220, 0xf2c0_0002, 0xf2c0_0002),
+        (AArch64Relocation::R_AARCH64_MOVW_SABS_G0, -5, 0xf280_0004, 0xf29f_ff64),
+        (AArch64Relocation::R_AARCH64_MOVW_SABS_G1, 0x1234_5678, 0xf2a0_0005, 0xf2a2_4685),
+    ] {
+        let mut word = u32::to_le_bytes(before);
+        let row = linker_utils::aarch64::row(name).expect("a row");
+        assert_eq!(row.write(value, &mut word), Ok(()), "{name:?}");
+        assert_eq!(u32::from_le_bytes(word), after, "{name:?}, {value}");
+    }
+}

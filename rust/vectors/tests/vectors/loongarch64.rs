@@ -8,10 +8,12 @@ mod relaxed;
 use assembled::{BRANCH_21, BRANCH_26, SHIFT_5, SHIFT_10};
 use linked::{ABSOLUTE, CALL_36, FIVE, PAGE_PAIR};
 use linker_utils::bit_misc::BitExtraction;
-use linker_utils::elf::{InstructionForm, LoongArch64Instruction, RelocationSize};
+use linker_utils::elf::{
+    InstructionForm, LoongArch64Instruction, RelocateError, RelocationKind, RelocationSize,
+};
 use linker_utils::loongarch64::{
     LoongArch64Relocation, RelaxationKind, highest_relocation_with_bias, relocation_type_from_raw,
-    write_address_sequence,
+    row, write_address_sequence,
 };
 use linker_utils::utils::u32_from_slice;
 
@@ -223,4 +225,56 @@ fn nops_are_written_and_other_names_have_no_meaning() {
     assert_eq!((offset, addend), (1, 7));
     assert!(relocation_type_from_raw(LoongArch64Relocation::Other(7)).is_none());
     assert!(relocation_type_from_raw(LoongArch64Relocation::R_LARCH_TLS_LD_PCREL20_S2).is_none());
+}
+
+/// `jirl ra, t0, %pc_lo12(f)` and `jirl zero, t0, %pc_lo12(f)` as ld.lld 19.1.7 links them, with `f`
+/// at these addresses.
+#[test]
+fn jumps_take_the_low_part_in_words() {
+    let low = row(LoongArch64Relocation::R_LARCH_PCALA_LO12).expect("a row");
+    for (target, before, after) in [
+        (0x300134, 0x4c00_0181, 0x4c01_3581),
+        (0x300234, 0x4c00_0181, 0x4c02_3581),
+        (0x3007fc, 0x4c00_0181, 0x4c07_fd81),
+        (0x300800, 0x4c00_0180, 0x4ff8_0180),
+        (0x300ffc, 0x4c00_0180, 0x4fff_fd80),
+        // over another immediate
+        (0x300134, 0x4fff_fd81, 0x4c01_3581),
+    ] {
+        let mut word = u32::to_le_bytes(before);
+        assert_eq!(low.write(target, &mut word), Ok(()), "{target:x}");
+        assert_eq!(u32::from_le_bytes(word), after, "{target:x}");
+    }
+    // ld.lld rejects what isn't a multiple of 4
+    let mut word = 0x4c00_0181u32.to_le_bytes();
+    assert_eq!(low.write(0x300136, &mut word), Err(RelocateError::Misaligned));
+    assert_eq!(word, 0x4c00_0181u32.to_le_bytes());
+    // other instructions, and other relocations of 12 bits, take bits 0 to 11
+    let mut addi = 0x02c0_0084u32.to_le_bytes();
+    assert_eq!(low.write(0x300136, &mut addi), Ok(()));
+    assert_eq!(u32::from_le_bytes(addi), 0x02c4_d884);
+    let got = row(LoongArch64Relocation::R_LARCH_GOT_PC_LO12).expect("a row");
+    let mut jump = 0x4c00_0181u32.to_le_bytes();
+    assert_eq!(got.write(0x300134, &mut jump), Ok(()));
+    assert_eq!(u32::from_le_bytes(jump), 0x4c04_d181);
+}
+
+/// The psABI gives the code 20 to a mark, which has no field.
+#[test]
+fn marks_and_alignments_have_rows_without_bytes() {
+    for (name, code, kind, original) in [
+        (LoongArch64Relocation::R_LARCH_MARK_LA, 20, RelocationKind::None, None),
+        (
+            LoongArch64Relocation::R_LARCH_ALIGN,
+            102,
+            RelocationKind::Alignment,
+            Some(RelocationKind::None),
+        ),
+    ] {
+        assert_eq!((name.elf_code(), LoongArch64Relocation::from_elf(code)), (code, name));
+        let info = row(name).expect("a row").info();
+        assert_eq!((info.kind, info.size), (kind, RelocationSize::ByteSize(0)), "{name:?}");
+        let raw = relocation_type_from_raw(name);
+        assert_eq!(raw.map(|info| info.kind), original, "{name:?}");
+    }
 }

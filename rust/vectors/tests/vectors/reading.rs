@@ -62,3 +62,18 @@ fn two_halves_are_one_address() {
     assert!(whole.is_of(V));
     assert!(!whole.is_of(V + 1));
 }
+
+/// A `jirl` holds bits 2 to 11 of the low part, and a MOVK 16 bits without a sign.
+#[test]
+fn words_are_read_by_their_opcode() {
+    let low = loongarch64::row(LoongArch64Relocation::R_LARCH_PCALA_LO12).expect("a row");
+    for (word, number) in [(0x4c02_3581, 0x234), (0x4ff8_0180, 0x800), (0x02c4_d884, 0x136)] {
+        let value = read(&low, &u32::to_le_bytes(word)).expect("the field holds a value");
+        assert_eq!((value.known.start, value.known.end, value.bits), (0, 12, number), "{word:x}");
+    }
+    let g0 = aarch64::row(AArch64Relocation::R_AARCH64_MOVW_PREL_G0).expect("a row");
+    for (word, is_read) in [(0xf29d_ff80, [true, true]), (0x9282_0060, [true, false])] {
+        let value = read(&g0, &u32::to_le_bytes(word)).expect("the field holds a value");
+        assert_eq!([-0x1004, 0xeffc].map(|v: i64| value.is_of(v.cast_unsigned())), is_read);
+    }
+}

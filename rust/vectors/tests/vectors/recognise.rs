@@ -236,3 +236,34 @@ fn no_choice_is_returned_twice() {
     let found = riscv64::recognise(name, &auipc, 0, &[], &[]);
     assert_eq!(found, [Some(made), None, None, None, None, None]);
 }
+
+/// `jirl ra, t0, %pc_lo12(f)` and `movk x0, #:prel_g0:f` before and after ld.lld 19.1.7. What differs
+/// is in the field only, and stands there.
+#[test]
+fn jumps_and_kept_moves_are_recognised() {
+    let name = LoongArch64Relocation::R_LARCH_PCALA_LO12;
+    let before = 0x4c00_0180u32.to_le_bytes();
+    let found = loongarch64::recognise(name, &before, 0, &[], &0x4ff8_0180u32.to_le_bytes());
+    let choice = Choice { kind: LoongArchKind::NoOp, relocation: name };
+    let made = Made { choice, offset: 0, value: Some(low_bits(12, 0x800)) };
+    assert!(found.contains(&Some(made)), "{found:?}");
+    // an `addi.d` has no bits above its 12, and another register isn't in the field
+    let row = linker_utils::loongarch64::row(name).expect("a row");
+    for (word, other, is_same) in [
+        (0x4c00_0180u32, 0x4ff8_0180u32, true),
+        (0x02c0_0084, 0x02ff_fc84, true),
+        (0x02c0_0084, 0x0380_0084, false),
+        (0x4c00_0180, 0x4ff8_0181, false),
+    ] {
+        assert_eq!(same_but_for(&row, &word.to_le_bytes(), &other.to_le_bytes()), is_same);
+    }
+    let g0 = AArch64Relocation::R_AARCH64_MOVW_PREL_G0;
+    let row = linker_utils::aarch64::row(g0).expect("a row");
+    for (word, other, is_same) in [
+        (0xf280_0000u32, 0xf29d_ff80u32, true),
+        (0xf280_0000, 0xd29d_ff80, false),
+        (0xd280_0000, 0x9282_0060, true),
+    ] {
+        assert_eq!(same_but_for(&row, &word.to_le_bytes(), &other.to_le_bytes()), is_same);
+    }
+}

@@ -7,13 +7,13 @@ mod pairs;
 mod words;
 
 use linker_utils::elf::{
-    AllowedRange, Bias, InstructionForm, RelocationInstruction, RelocationSize, RiscVInstruction,
-    Sign,
+    AllowedRange, Bias, InstructionForm, Operands, RelocateError, RelocationInstruction,
+    RelocationSize, RiscVInstruction, Sign,
 };
 use linker_utils::relaxation::RelocationModifier;
 use linker_utils::riscv64::{
-    CallError, RelaxationKind, RiscVRelocation, distance_fits_jal, is_plain_call, jal_site,
-    relocation_type_from_raw,
+    CallError, RelaxationKind, RiscVRelocation, clui_row, distance_fits_jal, is_plain_call,
+    jal_site, relocation_type_from_raw,
 };
 use linker_utils::utils::u32_from_slice;
 
@@ -336,4 +336,31 @@ fn relocations_have_their_meaning() {
     for (value, want) in [(-65536, true), (65535, true), (65536, false), (-65537, false)] {
         assert_eq!(signed.contains(value), want, "{value:?}");
     }
+}
+
+/// LLVM's and GNU's assemblers reject `c.lui a0, 0`, and write these words for what it takes.
+#[test]
+fn c_lui_has_no_immediate_0() {
+    let row = clui_row();
+    for (value, after) in [
+        (0x800, Ok(0x6505)),
+        (-0x801, Ok(0x757d)),
+        (0x1f7ff, Ok(0x657d)),
+        (-0x20800, Ok(0x7501)),
+        (0x7ff, Err(RelocateError::OutOfReach)),
+        (0, Err(RelocateError::OutOfReach)),
+        (-0x800, Err(RelocateError::OutOfReach)),
+        (0x1f800, Err(RelocateError::OutOfReach)),
+        (-0x20801, Err(RelocateError::OutOfReach)),
+    ] {
+        let mut half = 0x6501u16.to_le_bytes();
+        let written = row.write(value, &mut half);
+        assert_eq!(written.map(|()| u16::from_le_bytes(half)), after, "{value}");
+        let mut other = 0x6501u16.to_le_bytes();
+        assert_eq!(row.info().write(value, &mut other), written, "{value}");
+        assert_eq!(other, half, "{value}");
+        let operands = Operands { symbol: value.cast_unsigned(), ..Operands::default() };
+        assert_eq!(row.reaches(&operands), after.is_ok(), "{value}");
+    }
+    assert_eq!(row.reach().bounds, Some((-0x20800, 0x1f800)));
 }

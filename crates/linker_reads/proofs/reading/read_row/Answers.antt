@@ -6,6 +6,16 @@ use Rattle.linker_reads.proofs.Proper.{proper_field, proper_in_reach, proper_ali
 use Rattle.linker_reads.proofs.Written.{field_written, some_alignment}
 use Rattle.linker_reads.proofs.reading.read_row.Goals as goal
 
+pub with_reach-requires : goal.with_reach-requires
+with_reach-requires c =
+    let row = c.args.row.now in
+    let reached = c.reach-reach.result.bounds in
+    let holds : holds_field row.kind row.size reached ≡ true =
+    sym c.holds_field.ensures ∙ c.if-not-holds_field.false in
+    let proper : IsProper c.field_read-field.result =
+    rw c.field_read-field.ensures (proper_field row.kind row.size reached c.args.bytes.now holds) in
+    proper.some
+
 pub with_alignment-requires : goal.with_alignment-requires
 with_alignment-requires c =
     let row = c.args.row.now in
@@ -41,7 +51,7 @@ returns-clause-written c = λ v before fits writes.
     let field : IsOfValue c.field_read-field.result v =
     rw c.field_read-field.ensures
     (field_written row.kind row.size reached v before c.args.bytes.now fits holds within
-    accepted.reached.1 accepted.aligned.1 writes.written writes.number) in
+    accepted.reached.1 accepted.aligned.1 accepted.aligned.2 writes.written writes.number) in
     let upper = c.with_reach.ensures.known v fits within field in
     c.with_alignment.ensures.known (some_alignment row accepted.supported) v fits
     accepted.aligned.0 upper

@@ -16,7 +16,7 @@ returns-in-BitMasking-clause-ok c =
       aligned = search rules;
       reached = reached_from row c.args.value c.args.dest.now c.ranges.value c.requires.fits
           (subst (λ t. t.least ≤ℤ c.args.value) c.requires.tests low)
-          (subst (λ t. c.args.value ≤ℤ t.last) c.requires.tests high);
+          (subst (λ t. c.args.value ≤ℤ t.last) c.requires.tests high) (search rules);
     } in
     writes_row row c.args.value c.args.dest.now c.write_bits.new.dest c.ranges.value accepted (rw c.in-BitMasking.is (search rules))
 
@@ -31,6 +31,6 @@ returns-in-ByteSize-clause-ok c =
       aligned = search rules;
       reached = reached_from row c.args.value c.args.dest.now c.ranges.value c.requires.fits
           (subst (λ t. t.least ≤ℤ c.args.value) c.requires.tests low)
-          (subst (λ t. c.args.value ≤ℤ t.last) c.requires.tests high);
+          (subst (λ t. c.args.value ≤ℤ t.last) c.requires.tests high) (search rules);
     } in
     writes_row row c.args.value c.args.dest.now c.write_bytes.new.dest c.ranges.value accepted (rw c.in-ByteSize.is (search rules))

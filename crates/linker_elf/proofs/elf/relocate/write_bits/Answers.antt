@@ -1,79 +1,67 @@
-use Rattle.std.proofs.Common.{refl, sym, ◌∙◌, ◌≡◌, arith}
+use Rattle.std.proofs.Common.{sym, ◌∙◌, ap, ◌≡◌, if◌then◌else◌, to_z, of_z, subst, FitsSigned}
 use Rattle.std.specs.Int.{w64}
 use Rattle.std.proofs.lemmas.Int.{to_z-of_z}
-use Rattle.linker_base.specs.Form.{window_of}
-use Rattle.linker_elf.specs.LoongArch.{loongarch_form}
-use Rattle.linker_elf.specs.Ppc64.{ppc64_form}
-use Rattle.linker_elf.specs.RiscV.{riscv_form}
-use Rattle.linker_elf.specs.Relocate.{is_32_bit_move, with_bit_31_if}
-use Rattle.linker_elf.specs.declared.elf.RelocationInstruction.TheVariants.{AArch64, RiscV, Ppc64, LoongArch64}
-use Rattle.linker_elf.proofs.AArch64Forms.{is_word}
-use Rattle.linker_elf.proofs.Clearing.{nothing_written}
-use Rattle.linker_elf.proofs.Placed.{bit_31_is_set, of_value}
-use Rattle.linker_elf.proofs.elf.relocate.write_bits.Goals.{then-is_32_bit_move, else-is_32_bit_move}
+use Rattle.linker_base.specs.Form.{window_of, Fits}
+use Rattle.std.specs.Int.{from_le_bytes}
+use Rattle.linker_elf.specs.Elf.{relocation_form}
+use Rattle.linker_elf.specs.Relocate.{insn_at, bits_at, value_at, bits_taken, low_part, InstructionWritten}
+use Rattle.linker_elf.proofs.Relocated.{fits_at, value_fits, window_at, low_fits}
+use Rattle.linker_elf.proofs.elf.relocate.write_bits.Goals.{then-is_low_jump, else-is_low_jump}
 use Rattle.linker_elf.proofs.elf.relocate.write_bits.Goals as goal
 
-pub overflow_sub-new : goal.overflow_sub-new
-overflow_sub-new c =
-    bit_31_is_set c.in-AArch64.insn _ _ c.load-old.result c.clear_immediate.result c.word_with-word.result
-    (sym c.is_32_bit_move.ensures ∙ c.if-is_32_bit_move.true) c.word_with-word.ensures.written
-
-pub returns-after-is_32_bit_move : goal.returns-after-is_32_bit_move
-returns-after-is_32_bit_move c =
-    let f = c.in-AArch64.insn in
-    let old = c.load-old.result in
-    let word = c.word_with-word.result in
-    let size : with_bit_31_if (is_32_bit_move (AArch64 f) old) c.if-is_32_bit_move.new ≡ word = elim c.if-is_32_bit_move.branch [
-      | then-is_32_bit_move w ↦
-          let set = bit_31_is_set f _ _ old c.clear_immediate.result word (sym c.is_32_bit_move.ensures ∙ w.if-is_32_bit_move.true)
-          c.word_with-word.ensures.written in
-          rw (sym c.is_32_bit_move.ensures, w.if-is_32_bit_move.true, w.new-is) (omega arith)
-      | else-is_32_bit_move w ↦ rw (sym c.is_32_bit_move.ensures, w.if-is_32_bit_move.false, w.new-is) refl
+pub write_field-requires-clause-fits : goal.write_field-requires-clause-fits
+write_field-requires-clause-fits c =
+    let insn = c.args.insn in
+    let kind = c.args.kind in
+    let bits = c.args.bits in
+    let v = c.args.value in
+    let x = window_of (relocation_form insn) c.args.dest.now in
+    let form : c.written_at-form.result ≡ insn_at insn bits x = c.written_at-form.ensures in
+    let number : c.if-is_low_jump.number ≡ (bits_at insn kind bits x, value_at insn kind v x) = elim c.if-is_low_jump.branch [
+      | then-is_low_jump w ↦
+          let low : w.low_part.result ≡ low_part v = w.low_part.ensures ∙ ap low_part (to_z-of_z w64 v c.ranges.value) in
+          w.number-is
+          ∙ ap (λ n. (record { start = 2; end = 18 }, n)) (to_z-of_z w64 w.low_part.result (subst (FitsSigned w64) (sym low) (low_fits v)) ∙ low)
+          ∙ sym (ap (λ t. (if t then record { start = 2; end = 18 } else bits, if t then low_part v else v)) (sym c.is_low_jump.ensures ∙ w.if-is_low_jump.true))
+      | else-is_low_jump w ↦ w.number-is ∙ ap (λ n. (bits, n)) (to_z-of_z w64 v c.ranges.value)
+          ∙ sym (ap (λ t. (if t then record { start = 2; end = 18 } else bits, if t then low_part v else v)) (sym c.is_low_jump.ensures ∙ w.if-is_low_jump.false))
     ] in
-    rw c.in-AArch64.is (record {
-      clear = c.clear_immediate.result;
-      clears = rw (is_word f, sym c.load-old.ensures.loaded) c.clear_immediate.ensures.clears;
-      written = rw (is_word f, sym c.load-old.ensures.loaded, c.store.ensures.stored, size)
-          (of_value (AArch64 f) c.args.bits c.args.value _ c.taken_bits-number.result old c.clear_immediate.result word
-          c.taken_bits-number.ensures (to_z-of_z w64 c.args.value c.ranges.value) c.word_with-word.ensures.written);
-      rest = rw (is_word f) c.store.ensures.rest;
-    })
+    let dest = c.args.dest.now in
+    let z = value_at insn kind v x in
+    let same : window_of (relocation_form (insn_at insn bits x)) dest ≡ x =
+    ap (λ w. from_le_bytes w dest) (window_at insn bits x) in
+    subst (λ n. Fits (relocation_form c.written_at-form.result) (bits_taken n.0 (to_z w64 (of_z w64 n.1)))
+    (window_of (relocation_form c.written_at-form.result) dest)) (sym number)
+    (subst (λ f. Fits (relocation_form f) (bits_taken (bits_at insn kind bits x) (to_z w64 (of_z w64 z)))
+    (window_of (relocation_form f) dest)) (sym form)
+    (subst (λ y. Fits (relocation_form (insn_at insn bits x)) (bits_taken (bits_at insn kind bits x) y)
+    (window_of (relocation_form (insn_at insn bits x)) dest))
+    (sym (to_z-of_z w64 z (value_fits insn kind v x c.ranges.value)))
+    (subst (λ y. Fits (relocation_form (insn_at insn bits x)) (bits_taken (bits_at insn kind bits x) z) y)
+    (sym same) (fits_at insn kind bits v x c.requires.fits))))
 
-pub returns-in-RiscV : goal.returns-in-RiscV
-returns-in-RiscV c =
-    let f = c.in-RiscV.insn in
-    let old = window_of (riscv_form f) c.args.dest.now in
-    rw c.in-RiscV.is (record {
-      clear = old;
-      clears = nothing_written 0 old;
-      written = of_value (RiscV f) c.args.bits c.args.value _ c.taken_bits-number.result old old (window_of (riscv_form f) c.write_to_value.new.dest)
-          c.taken_bits-number.ensures (to_z-of_z w64 c.args.value c.ranges.value) c.write_to_value.ensures.written;
-      rest = c.write_to_value.ensures.rest;
-    })
-
-pub returns-in-Ppc64 : goal.returns-in-Ppc64
-returns-in-Ppc64 c =
-    let f = c.in-Ppc64.insn in
-    let old = window_of (ppc64_form f) c.args.dest.now in
-    let new = window_of (ppc64_form f) c.write_to_value-in-Ppc64.new.dest in
-    rw c.in-Ppc64.is (record {
-      clear = old;
-      clears = nothing_written 0 old;
-      written = of_value (Ppc64 f) c.args.bits c.args.value _ c.taken_bits-number.result old old new
-          c.taken_bits-number.ensures (to_z-of_z w64 c.args.value c.ranges.value)
-          (rw (sym c.displacement-number.ensures) c.write_to_value-in-Ppc64.ensures.written);
-      rest = c.write_to_value-in-Ppc64.ensures.rest;
-    })
-
-pub returns-in-LoongArch64 : goal.returns-in-LoongArch64
-returns-in-LoongArch64 c =
-    let f = c.in-LoongArch64.insn in
-    let clear = window_of (loongarch_form f) c.clear_loongarch.new.dest in
-    rw c.in-LoongArch64.is (record {
-      clear = clear;
-      clears = c.clear_loongarch.ensures.clears;
-      written = of_value (LoongArch64 f) c.args.bits c.args.value _ c.taken_bits-number.result clear clear
-          (window_of (loongarch_form f) c.write_to_value-in-LoongArch64.new.dest)
-          c.taken_bits-number.ensures (to_z-of_z w64 c.args.value c.ranges.value) c.write_to_value-in-LoongArch64.ensures.written;
-      rest = c.write_to_value-in-LoongArch64.ensures.rest ∙ c.clear_loongarch.ensures.rest;
-    })
+pub returns : goal.returns
+returns c =
+    let insn = c.args.insn in
+    let kind = c.args.kind in
+    let bits = c.args.bits in
+    let v = c.args.value in
+    let x = window_of (relocation_form insn) c.args.dest.now in
+    let form : c.written_at-form.result ≡ insn_at insn bits x = c.written_at-form.ensures in
+    let number : c.if-is_low_jump.number ≡ (bits_at insn kind bits x, value_at insn kind v x) = elim c.if-is_low_jump.branch [
+      | then-is_low_jump w ↦
+          let low : w.low_part.result ≡ low_part v = w.low_part.ensures ∙ ap low_part (to_z-of_z w64 v c.ranges.value) in
+          w.number-is
+          ∙ ap (λ n. (record { start = 2; end = 18 }, n)) (to_z-of_z w64 w.low_part.result (subst (FitsSigned w64) (sym low) (low_fits v)) ∙ low)
+          ∙ sym (ap (λ t. (if t then record { start = 2; end = 18 } else bits, if t then low_part v else v)) (sym c.is_low_jump.ensures ∙ w.if-is_low_jump.true))
+      | else-is_low_jump w ↦ w.number-is ∙ ap (λ n. (bits, n)) (to_z-of_z w64 v c.ranges.value)
+          ∙ sym (ap (λ t. (if t then record { start = 2; end = 18 } else bits, if t then low_part v else v)) (sym c.is_low_jump.ensures ∙ w.if-is_low_jump.false))
+    ] in
+    let z = value_at insn kind v x in
+    let before = c.args.dest.now in
+    let after = c.write_field.new.dest in
+    subst (λ f. InstructionWritten f (bits_at insn kind bits x) z before after) form
+    (subst (λ y. InstructionWritten c.written_at-form.result (bits_at insn kind bits x) y before after)
+    (to_z-of_z w64 z (value_fits insn kind v x c.ranges.value))
+    (subst (λ n. InstructionWritten c.written_at-form.result n.0 (to_z w64 (of_z w64 n.1)) before after)
+    number c.write_field.ensures))

@@ -1,23 +1,50 @@
 use Rattle.std.proofs.Common.{◌∙◌, subst, sym, IfSome}
 use Rattle.linker_elf.specs.Agrees.{LoongArchRowAgrees}
 use Rattle.linker_elf.specs.Readings.{LoongArchRowReadsNoOther}
-use Rattle.linker_elf.specs.LoongArchRelocations.{is_own}
+use Rattle.linker_elf.specs.LoongArchRelocations.{loongarch_raw_row, raw_name}
+use Rattle.linker_elf.specs.declared.loongarch64.relocations.LoongArch64Relocation.{LoongArch64Relocation}
+use Rattle.linker_elf.specs.declared.loongarch64.relocations.LoongArch64Relocation.TheVariants as r
 use Rattle.linker_elf.proofs.Readings.{loongarch_reads_no_other}
 use Rattle.linker_elf.proofs.RowsAgree.{loongarch_rows as loongarch_agree}
-use Rattle.linker_elf.proofs.RowTables.{sound_from, unless, loongarch_rows, loongarch_raw_rows}
+use Rattle.linker_elf.proofs.RowTables.{sound_from, loongarch_rows, loongarch_raw_rows}
 use Rattle.linker_elf.proofs.RowsFit.{loongarch_fits}
 use Rattle.linker_elf.proofs.loongarch64.relocations.relocation_type_from_raw.Goals as goal
 
+agrees : (name : LoongArch64Relocation) → IfSome (loongarch_raw_row name) (LoongArchRowAgrees name)
+agrees r.R_LARCH_NONE = loongarch_agree r.R_LARCH_NONE
+agrees r.R_LARCH_ALIGN = (tt, tt)
+agrees r.R_LARCH_MARK_LA = tt
+agrees r.R_LARCH_TLS_LD_PCREL20_S2 = tt
+agrees r.R_LARCH_TLS_GD_PCREL20_S2 = tt
+agrees r.R_LARCH_TLS_DESC_PCREL20_S2 = tt
+agrees name = loongarch_agree name
+
+reads_no_other : (name : LoongArch64Relocation)
+    → IfSome (loongarch_raw_row name) (LoongArchRowReadsNoOther name)
+reads_no_other r.R_LARCH_NONE = loongarch_reads_no_other r.R_LARCH_NONE
+reads_no_other r.R_LARCH_ALIGN = tt
+reads_no_other r.R_LARCH_MARK_LA = tt
+reads_no_other r.R_LARCH_TLS_LD_PCREL20_S2 = tt
+reads_no_other r.R_LARCH_TLS_GD_PCREL20_S2 = tt
+reads_no_other r.R_LARCH_TLS_DESC_PCREL20_S2 = tt
+reads_no_other name = loongarch_reads_no_other name
+
 pub raw_info_in-requires : goal.raw_info_in-requires
-raw_info_in-requires c = rw c.index.ensures (sound_from _ _ (loongarch_rows c.args.name) (loongarch_fits c.args.name))
+raw_info_in-requires c =
+    rw (c.index.ensures, c.raw_name.ensures)
+    (sound_from _ _ (loongarch_rows (raw_name c.args.name)) (loongarch_fits (raw_name c.args.name)))
 
 pub returns-clause-row : goal.returns-clause-row
-returns-clause-row c = c.raw_info_in.ensures.row ∙ (rw c.index.ensures (loongarch_raw_rows c.args.name))
+returns-clause-row c =
+    c.raw_info_in.ensures.row
+    ∙ (rw (c.index.ensures, c.raw_name.ensures) (loongarch_raw_rows c.args.name))
 
 pub returns-clause-agrees : goal.returns-clause-agrees
-returns-clause-agrees c = subst (λ row. IfSome row (LoongArchRowAgrees c.args.name)) (sym (returns-clause-row c))
-    (unless (LoongArchRowAgrees c.args.name) (is_own c.args.name) _ (loongarch_agree c.args.name))
+returns-clause-agrees c =
+    subst (λ row. IfSome row (LoongArchRowAgrees c.args.name)) (sym (returns-clause-row c))
+    (agrees c.args.name)
 
 pub returns-clause-others : goal.returns-clause-others
-returns-clause-others c = subst (λ row. IfSome row (LoongArchRowReadsNoOther c.args.name)) (sym (returns-clause-row c))
-    (unless (LoongArchRowReadsNoOther c.args.name) (is_own c.args.name) _ (loongarch_reads_no_other c.args.name))
+returns-clause-others c =
+    subst (λ row. IfSome row (LoongArchRowReadsNoOther c.args.name)) (sym (returns-clause-row c))
+    (reads_no_other c.args.name)
