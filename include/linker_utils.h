@@ -642,6 +642,10 @@ struct linker_utils_link_facts {
     uint8_t is_marked; /* R_RISCV_RELAX or R_LARCH_RELAX is at the same offset. */
     /* RISC-V: the high part whose label an R_RISCV_PCREL_LO12_I names has R_RISCV_GOT_HI20. */
     uint8_t has_got_high_part;
+    /* RISC-V: the load from the GOT may be relaxed: R_RISCV_RELAX is at the offset of the
+     * R_RISCV_GOT_HI20 and at that of every R_RISCV_PCREL_LO12_I that names its label. Today's
+     * compilers (GNU as 2.40, LLVM 19) mark the low parts only: it is 0 for what they make. */
+    uint8_t is_label_marked;
     /* PowerPC64: the register through which the instruction gets the high part of its address, and
      * which an `addis` has set, is read only by instructions whose relocation is of the same symbol
      * and addend. Linkers assume so, as the ABI asks of compilers. */
@@ -679,7 +683,8 @@ struct linker_utils_choice {
  * are chosen alike where the facts and the symbol are the same. So they have to be chosen before one
  * of them is rewritten. On RISC-V the instructions of a descriptor, and the `auipc` and `ld` of a GOT
  * entry, may be apart: each is chosen by the facts of the high part that its label names, `is_marked`
- * of a descriptor's R_RISCV_TLSDESC_HI20 among them. After ADDI_TO_AUIPC the place of
+ * of a descriptor's R_RISCV_TLSDESC_HI20 among them; the `auipc` and `ld` by `is_label_marked`, and
+ * not by `is_marked` of either. After ADDI_TO_AUIPC the place of
  * R_RISCV_TLS_GOT_HI20, and of the R_RISCV_PCREL_LO12_I that CALL_TO_LD leaves, is that of the `addi`,
  * and S of the latter is the GOT entry. */
 static inline uint32_t linker_utils_choose(uint16_t machine, uint32_t r_type,

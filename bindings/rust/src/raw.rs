@@ -48,6 +48,7 @@ pub struct LinkFacts {
     pub may_compress: u8,
     pub is_marked: u8,
     pub has_got_high_part: u8,
+    pub is_label_marked: u8,
     pub has_private_base: u8,
     pub may_change_toc: u8,
     pub has_addresses: u8,

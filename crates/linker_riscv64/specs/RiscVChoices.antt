@@ -6,7 +6,7 @@ use Rattle.std.specs.Prelude.{ℕ, List, [], ◌∷◌, Option, pos, ◌⊎◌, 
 use Rattle.linker_elf.specs.Choices.{Condition, fixed_address, fixed_distance, compressible}
 use Rattle.linker_elf.specs.Choices.{marked, without_plt, low_12, in_reach, low_12_bounds}
 use Rattle.linker_elf.specs.Choices.{executable, bound, addend, within, in_reach_if_known}
-use Rattle.linker_elf.specs.Choices.{got_high_part}
+use Rattle.linker_elf.specs.Choices.{got_high_part, label_marked}
 use Rattle.linker_elf.specs.Choices.{Entry, entry, choice, AllHold, IsFirst}
 use Rattle.linker_elf.specs.Originals.{HasWord}
 use Rattle.linker_riscv64.specs.RiscVOriginals.{riscv_matches, IsLui, IsAuipc, IsLd, IsAddTp}
@@ -102,7 +102,7 @@ start_of_descriptor = left_out to_local_exec (left_out to_initial_exec [])
 -- the distance to the symbol in place of its GOT entry
 abbrev pub without_got : List (Condition RiscVRelocation)
 without_got =
-    marked ∷ fixed_distance ∷ without_entry (in_reach_if_known r.R_RISCV_PCREL_HI20 0 ∷ [])
+    label_marked ∷ fixed_distance ∷ without_entry (in_reach_if_known r.R_RISCV_PCREL_HI20 0 ∷ [])
 
 abbrev pub call_entries : List RiscVEntry
 call_entries = short_tail_call ∷ near_call kinds.TailToJal ∷ near_call kinds.CallToJal ∷ []

@@ -28,6 +28,7 @@ facts_of facts =
       may_compress = is_set facts.may_compress;
       is_marked = is_set facts.is_marked;
       has_got_high_part = is_set facts.has_got_high_part;
+      is_label_marked = is_set facts.is_label_marked;
       has_private_base = is_set facts.has_private_base;
       may_change_toc = is_set facts.may_change_toc;
       has_addresses = is_set facts.has_addresses;

@@ -141,7 +141,7 @@ fn is_for_initial_exec(facts: &LinkFacts) -> bool {
 #[inline]
 fn is_without_got(facts: &LinkFacts) -> bool {
     let high = row(RiscVRelocation::R_RISCV_PCREL_HI20);
-    facts.is_marked
+    facts.is_label_marked
         && facts.has_fixed_distance
         && is_without_entry(facts)
         && facts.is_in_reach_if_known(high, &facts.operands, 0)
@@ -348,8 +348,10 @@ fn of_entry_low(section: &[u8], offset: u64, facts: &LinkFacts) -> RiscVChoice {
 ///   0x7ff.
 /// - Initial-exec: `is_executable`, and the distance to `got_entry` is in reach of `auipc` and
 ///   `ld`. It has to be the address of the entry for initial-exec.
-/// - Without GOT: `is_marked`, `has_fixed_distance`, `is_local` and not `is_ifunc`, an addend of 0,
-///   and the distance to the symbol is in reach of `auipc` and `addi`.
+/// - Without GOT: `is_label_marked`, `has_fixed_distance`, `is_local` and not `is_ifunc`, an addend
+///   of 0, and the distance to the symbol is in reach of `auipc` and `addi`. Today's compilers mark
+///   only the low parts (GNU as 2.40 and LLVM 19), so that `is_label_marked` is false for what they
+///   make.
 /// - Where no address is known, a pair is taken to reach, and nothing else.
 ///
 /// All four relocations of a descriptor, and both of a load from the GOT, are chosen alike

@@ -181,7 +181,11 @@ fn choices_of_thread_local_storage_match_linkers() {
 #[test]
 fn a_load_from_the_got_becomes_the_address_of_a_linker() {
     let (symbol, place, load, address) = ADDRESS;
-    let facts = LinkFacts { has_got_high_part: true, ..facts_in(symbol, place, true, true) };
+    let facts = LinkFacts {
+        has_got_high_part: true,
+        is_label_marked: true,
+        ..facts_in(symbol, place, true, false)
+    };
     let (high, auipc) = left(RiscVRelocation::R_RISCV_GOT_HI20, load[0], &facts);
     let (low, addi) = left(RiscVRelocation::R_RISCV_PCREL_LO12_I, load[1], &facts);
     assert_eq!((high, low), (RelaxationKind::NoOp, RelaxationKind::LdToAddi), "{symbol:?}");
@@ -193,9 +197,14 @@ fn a_load_from_the_got_becomes_the_address_of_a_linker() {
         LinkFacts { is_local: false, ..facts },
         LinkFacts { is_ifunc: true, ..facts },
         LinkFacts { has_fixed_distance: false, ..facts },
-        LinkFacts { is_marked: false, ..facts },
+        LinkFacts { is_label_marked: false, ..facts },
+        // the mark of a low part, as compilers write it
+        LinkFacts { is_label_marked: false, is_marked: true, ..facts },
     ] {
         let (kind, _) = left(RiscVRelocation::R_RISCV_PCREL_LO12_I, load[1], &replaceable);
         assert_eq!(kind, RelaxationKind::NoOp, "{replaceable:?}");
+        let high = RiscVRelocation::R_RISCV_GOT_HI20;
+        let kept = choice(RelaxationKind::NoOp, high);
+        assert_eq!(choose(high, &both([load[0], 0]), 0, &replaceable), kept, "{replaceable:?}");
     }
 }
