@@ -256,7 +256,8 @@ enum linker_utils_aarch64_rewrite {
     LINKER_UTILS_AARCH64_REWRITE_ADD_TO_ADR = 9, /* the old immediate is unchanged */
     LINKER_UTILS_AARCH64_REWRITE_LDR_TO_ADR = 10, /* the old immediate is unchanged */
     LINKER_UTILS_AARCH64_REWRITE_LDR_TO_ADD = 11, /* from an ldr of 64 bits */
-    LINKER_UTILS_AARCH64_REWRITE_ADRP_ADD_TO_NOP_ADR = 12 /* the adrp 4 bytes before, and add */
+    /* the adrp 4 bytes before, whose relocation becomes R_AARCH64_NONE, and add */
+    LINKER_UTILS_AARCH64_REWRITE_ADRP_ADD_TO_NOP_ADR = 12
 };
 
 enum linker_utils_riscv_rewrite {
@@ -671,6 +672,13 @@ struct linker_utils_choice {
      * both 0 where none are. */
     uint32_t deleted_len;
     uint64_t deleted_start;
+    /* Where another relocation is, in bytes from the offset on, whose instruction the rewrite
+     * changes too, and the type that it has then. Whatever relocation is at that offset gets that
+     * type: so it makes no difference whether its value is written before the rewrite or after it.
+     * Both are 0 where there is none. */
+    int64_t other_offset;
+    uint32_t other_relocation;
+    uint8_t has_other; /* 1 where there is another; else 0. */
     uint8_t n; /* The rewrite's `n`. */
 };
 

@@ -50,8 +50,7 @@ static void rewrite_aarch64(struct output *o, struct relocation *page, struct re
     rewrite(page, bytes, len, &at, &page->addend, &page->type, &facts);
     facts.operands.place += 4;
     if (is_of_got) rewrite(low, bytes, len, &next, &low->addend, &low->type, &facts);
-    uint32_t last = rewrite(low, bytes, len, &next, &low->addend, &low->type, &facts);
-    if (last == LINKER_UTILS_AARCH64_REWRITE_ADRP_ADD_TO_NOP_ADR) page->type = R_AARCH64_NONE;
+    rewrite(low, bytes, len, &next, &low->addend, &low->type, &facts);
 }
 
 static int by_offset(const void *left, const void *right) {

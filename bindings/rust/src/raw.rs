@@ -64,6 +64,9 @@ pub struct Choice {
     pub modifier: u32,
     pub deleted_len: u32,
     pub deleted_start: u64,
+    pub other_offset: i64,
+    pub other_relocation: u32,
+    pub has_other: u8,
     pub n: u8,
 }
 

@@ -710,7 +710,8 @@ fn the_structs_are_those_of_the_library() {
             is_label_marked, has_private_base, may_change_toc, has_addresses, operands,
         }
         "linker_utils_choice": raw::Choice {
-            rewrite, relocation, modifier, deleted_len, deleted_start, n,
+            rewrite, relocation, modifier, deleted_len, deleted_start, other_offset,
+            other_relocation, has_other, n,
         }
         "linker_utils_relocation_reach": raw::Reach { min, max, has_range, }
         "linker_utils_relocation_entry": Relocation { offset, value, r_type, }

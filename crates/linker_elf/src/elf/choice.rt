@@ -64,6 +64,16 @@ pub struct Choice<K, R> {
     pub relocation: R,
 }
 
+/// The relocation of another instruction that a rewrite changes too. Whatever relocation is there
+/// becomes this one, whether its value was written before the rewrite or is written after it.
+#[derive(Debug, Clone, Copy, PartialEq, Eq)]
+pub struct OtherRelocation<R> {
+    /// Where it is, in bytes from the offset of the rewrite's own relocation.
+    pub offset: i64,
+    /// Its name after the rewrite.
+    pub relocation: R,
+}
+
 impl LinkFacts {
     /// Whether the symbol's definition in this output is what is used at run time.
     #[inline(always)]
