@@ -278,7 +278,8 @@ enum linker_utils_riscv_rewrite {
     LINKER_UTILS_RISCV_REWRITE_CALL_TO_ADDI = 13,
     LINKER_UTILS_RISCV_REWRITE_CALL_TO_ADDI_ZERO = 14, /* the addi of x0, without a lui */
     LINKER_UTILS_RISCV_REWRITE_CALL_TO_LD = 15,
-    LINKER_UTILS_RISCV_REWRITE_LD_TO_ADDI = 16 /* the address in place of its GOT entry */
+    LINKER_UTILS_RISCV_REWRITE_LD_TO_ADDI = 16, /* the address in place of its GOT entry */
+    LINKER_UTILS_RISCV_REWRITE_C_LUI_TO_C_LI = 17 /* c.li of 0, which c.lui can't have */
 };
 
 enum linker_utils_loongarch64_rewrite {

@@ -380,7 +380,7 @@ fn rejects_rewrites() {
     // past the last rewrite of each architecture, and a machine that is none
     let unknown = [
         (Architecture::AArch64.machine(), 13),
-        (Architecture::RiscV.machine(), 17),
+        (Architecture::RiscV.machine(), 18),
         (Architecture::LoongArch64.machine(), 12),
         (Architecture::Ppc64.machine(), 15),
         (Architecture::X86_64.machine(), 24),

@@ -45,8 +45,12 @@ abbrev pub near_call : RelaxationKind → RiscVEntry
 near_call kind = entry kind r.R_RISCV_JAL (by_jump r.R_RISCV_JAL)
 
 -- 12 signed bits hold the address
+abbrev pub with_low_part : List (Condition RiscVRelocation)
+with_low_part = fixed_address ∷ low_12 ∷ []
+
+-- and instructions may be deleted
 abbrev pub by_low_part : List (Condition RiscVRelocation)
-by_low_part = marked ∷ fixed_address ∷ low_12 ∷ []
+by_low_part = marked ∷ with_low_part
 
 -- a high part that is 0
 abbrev pub no_high_part : RiscVEntry
@@ -56,6 +60,10 @@ abbrev pub short_high_part : RiscVEntry
 short_high_part =
     entry kinds.Hi20ToCLui r.R_RISCV_RVC_LUI
     (marked ∷ compressible ∷ fixed_address ∷ in_reach r.R_RISCV_RVC_LUI 0 ∷ [])
+
+-- a high part that is 0, where the instruction has 2 bytes already
+abbrev pub zero_high_part : RiscVEntry
+zero_high_part = entry kinds.CLuiToCLi r.R_RISCV_NONE with_low_part
 
 -- a low part whose high part is 0
 abbrev pub low_part : RiscVRelocation → RiscVEntry
@@ -111,6 +119,7 @@ abbrev pub riscv_entries : RiscVRelocation → List RiscVEntry
 riscv_entries r.R_RISCV_CALL = call_entries
 riscv_entries r.R_RISCV_CALL_PLT = call_entries
 riscv_entries r.R_RISCV_HI20 = no_high_part ∷ short_high_part ∷ []
+riscv_entries r.R_RISCV_RVC_LUI = zero_high_part ∷ []
 riscv_entries r.R_RISCV_LO12_I = low_part r.R_RISCV_LO12_I ∷ []
 riscv_entries r.R_RISCV_LO12_S = low_part r.R_RISCV_LO12_S ∷ []
 riscv_entries r.R_RISCV_TPREL_HI20 = no_high_offset ∷ []
