@@ -93,7 +93,7 @@ fn choices_of_clui_match_linkers() {
             may_compress: false,
             ..facts_at(value.cast_unsigned(), 0x10000)
         };
-        let is_zero = -0x800 <= value && value < 0x800;
+        let is_zero = (-0x800..0x800).contains(&value);
         let mut section = both([before.into(), 0]);
         assert_eq!(choose(name, &section[..1], 0, &facts), as_it_is, "{value:?}");
         let chosen = choose(name, &section[..2], 0, &facts);
