@@ -265,7 +265,8 @@ enum linker_utils_aarch64_rewrite {
     LINKER_UTILS_AARCH64_REWRITE_ADD_TO_ADR = 9, /* the old immediate is unchanged */
     LINKER_UTILS_AARCH64_REWRITE_LDR_TO_ADR = 10, /* the old immediate is unchanged */
     LINKER_UTILS_AARCH64_REWRITE_LDR_TO_ADD = 11, /* from an ldr of 64 bits */
-    LINKER_UTILS_AARCH64_REWRITE_ADRP_ADD_TO_NOP_ADR = 12 /* the adrp 4 bytes before, and add */
+    /* the adrp 4 bytes before, whose relocation becomes R_AARCH64_NONE, and add */
+    LINKER_UTILS_AARCH64_REWRITE_ADRP_ADD_TO_NOP_ADR = 12
 };
 
 enum linker_utils_riscv_rewrite {
@@ -286,7 +287,8 @@ enum linker_utils_riscv_rewrite {
     LINKER_UTILS_RISCV_REWRITE_CALL_TO_ADDI = 13,
     LINKER_UTILS_RISCV_REWRITE_CALL_TO_ADDI_ZERO = 14, /* the addi of x0, without a lui */
     LINKER_UTILS_RISCV_REWRITE_CALL_TO_LD = 15,
-    LINKER_UTILS_RISCV_REWRITE_LD_TO_ADDI = 16 /* the address in place of its GOT entry */
+    LINKER_UTILS_RISCV_REWRITE_LD_TO_ADDI = 16, /* the address in place of its GOT entry */
+    LINKER_UTILS_RISCV_REWRITE_C_LUI_TO_C_LI = 17 /* c.li of 0, which c.lui can't have */
 };
 
 enum linker_utils_loongarch64_rewrite {
@@ -651,6 +653,10 @@ struct linker_utils_link_facts {
     uint8_t is_marked; /* R_RISCV_RELAX or R_LARCH_RELAX is at the same offset. */
     /* RISC-V: the high part whose label an R_RISCV_PCREL_LO12_I names has R_RISCV_GOT_HI20. */
     uint8_t has_got_high_part;
+    /* RISC-V: the load from the GOT may be relaxed: R_RISCV_RELAX is at the offset of the
+     * R_RISCV_GOT_HI20 and at that of every R_RISCV_PCREL_LO12_I that names its label. Today's
+     * compilers (GNU as 2.40, LLVM 19) mark the low parts only: it is 0 for what they make. */
+    uint8_t is_label_marked;
     /* PowerPC64: the register through which the instruction gets the high part of its address, and
      * which an `addis` has set, is read only by instructions whose relocation is of the same symbol
      * and addend. Linkers assume so, as the ABI asks of compilers. */
@@ -676,6 +682,13 @@ struct linker_utils_choice {
      * both 0 where none are. */
     uint32_t deleted_len;
     uint64_t deleted_start;
+    /* Where another relocation is, in bytes from the offset on, whose instruction the rewrite
+     * changes too, and the type that it has then. Whatever relocation is at that offset gets that
+     * type: so it makes no difference whether its value is written before the rewrite or after it.
+     * Both are 0 where there is none. */
+    int64_t other_offset;
+    uint32_t other_relocation;
+    uint8_t has_other; /* 1 where there is another; else 0. */
     uint8_t n; /* The rewrite's `n`. */
 };
 
@@ -688,7 +701,8 @@ struct linker_utils_choice {
  * are chosen alike where the facts and the symbol are the same. So they have to be chosen before one
  * of them is rewritten. On RISC-V the instructions of a descriptor, and the `auipc` and `ld` of a GOT
  * entry, may be apart: each is chosen by the facts of the high part that its label names, `is_marked`
- * of a descriptor's R_RISCV_TLSDESC_HI20 among them. After ADDI_TO_AUIPC the place of
+ * of a descriptor's R_RISCV_TLSDESC_HI20 among them; the `auipc` and `ld` by `is_label_marked`, and
+ * not by `is_marked` of either. After ADDI_TO_AUIPC the place of
  * R_RISCV_TLS_GOT_HI20, and of the R_RISCV_PCREL_LO12_I that CALL_TO_LD leaves, is that of the `addi`,
  * and S of the latter is the GOT entry. */
 static inline uint32_t linker_utils_choose(uint16_t machine, uint32_t r_type,

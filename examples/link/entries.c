@@ -79,14 +79,26 @@ static uint64_t add_code(struct output *o, const struct code *code, struct symbo
     return offset + code->entry;
 }
 
+/* A rewrite at a relocation may change the instruction of another one too, whose type it says. */
+static void change_other(const struct relocation *r, const struct linker_utils_choice *choice) {
+    if (!choice->has_other) return;
+    const struct output *o = r->section->output;
+    struct relocation *first = o->relocations, *end = first + o->relocations_len;
+    struct relocation *other = first + (r - first);
+    uint64_t at = r->offset + (uint64_t)choice->other_offset;
+    while (other > first && other->offset >= at) other--;
+    for (; other < end && other->offset <= at; other++)
+        if (other->offset == at) other->type = choice->other_relocation;
+}
+
 /* Rewrites the instruction at a relocation as the library chooses by these facts. */
-uint32_t rewrite(const struct relocation *r, uint8_t *bytes, uint64_t len, uint64_t *offset,
-                 int64_t *addend, uint32_t *type, const struct linker_utils_link_facts *facts) {
+void rewrite(const struct relocation *r, uint8_t *bytes, uint64_t len, uint64_t *offset,
+             int64_t *addend, uint32_t *type, const struct linker_utils_link_facts *facts) {
     struct linker_utils_choice choice;
     check(r, linker_utils_choose(machine, *type, bytes, len, *offset, facts, &choice));
     check(r, linker_utils_apply(machine, choice.rewrite, choice.n, bytes, len, offset, addend));
     *type = choice.relocation;
-    return choice.rewrite;
+    change_other(r, &choice);
 }
 
 static bool is_defined(const struct symbol *s) { return s->elf.st_shndx != SHN_UNDEF; }
@@ -205,6 +217,8 @@ void read_relocations(struct section *s) {
         check(r, linker_utils_choose(machine, r->type, bytes, size, elf[i].r_offset, &facts,
                                      &choices[i]));
     }
+    for (size_t i = 0; i < len; i++) first[i].type = choices[i].relocation;
+    for (size_t i = 0; i < len; i++) change_other(&first[i], &choices[i]);
     r = first;
     for (size_t i = 0; i < len; i++, r++) {
         uint64_t offset = r->offset - s->offset;
@@ -215,7 +229,6 @@ void read_relocations(struct section *s) {
             r->restores_toc = machine == EM_PPC64 && choices[i].rewrite ==
                               LINKER_UTILS_PPC64_REWRITE_NOP_TO_RESTORE_TOC;
         }
-        r->type = choices[i].relocation;
         const struct row *row = row_of(r);
         if (r->symbol != *o->symbols && row->info.kind && rank(r->symbol) == 1)
             fail("%s: undefined symbol '%s'", place_of(r), r->symbol->name);

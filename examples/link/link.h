@@ -183,8 +183,8 @@ void add_section(struct section *s), copy_section(struct section *s), sort_outpu
 void read_relocations(struct section *s), make_entries(void);
 struct section *toc_section(const struct relocation *r, uint64_t *offset);
 bool add_thunks(void);
-uint32_t rewrite(const struct relocation *r, uint8_t *bytes, uint64_t len, uint64_t *offset,
-                 int64_t *addend, uint32_t *type, const struct linker_utils_link_facts *facts);
+void rewrite(const struct relocation *r, uint8_t *bytes, uint64_t len, uint64_t *offset,
+             int64_t *addend, uint32_t *type, const struct linker_utils_link_facts *facts);
 bool is_marked(const struct output *o, const struct relocation *r);
 void relax(void), relocate(struct output *o);
 struct relocation *high_part(const struct output *o, const struct relocation *low);

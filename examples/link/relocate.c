@@ -50,8 +50,7 @@ static void rewrite_aarch64(struct output *o, struct relocation *page, struct re
     rewrite(page, bytes, len, &at, &page->addend, &page->type, &facts);
     facts.operands.place += 4;
     if (is_of_got) rewrite(low, bytes, len, &next, &low->addend, &low->type, &facts);
-    uint32_t last = rewrite(low, bytes, len, &next, &low->addend, &low->type, &facts);
-    if (last == LINKER_UTILS_AARCH64_REWRITE_ADRP_ADD_TO_NOP_ADR) page->type = R_AARCH64_NONE;
+    rewrite(low, bytes, len, &next, &low->addend, &low->type, &facts);
 }
 
 static bool is_undefined_weak(const struct symbol *s) {
@@ -131,32 +130,33 @@ static struct relocation *entry_part(const struct output *o, struct relocation *
     return high->type == R_RISCV_GOT_HI20 || high->type == RISCV_TLSDESC_HI20 ? high : NULL;
 }
 
-/* What is known of the symbol of a high part, for a rewrite at it or at one of its low parts. Loads
- * from the GOT have to be marked; a TLS descriptor has to be only where bytes are deleted. */
+/* What is known of the symbol of a high part, for a rewrite at it or at one of its low parts. */
 static struct linker_utils_link_facts facts_of(const struct output *o,
-                                               const struct relocation *high,
-                                               const struct relocation *r) {
+                                               const struct relocation *high) {
     const struct symbol *s = high->symbol;
     bool is_load = high->type == R_RISCV_GOT_HI20, is_nowhere = !is_load && is_undefined_weak(s);
     return (struct linker_utils_link_facts){
         .is_local = s->output != NULL || is_nowhere, .has_fixed_distance = 1, .is_executable = 1,
         .has_got_high_part = is_load, .has_addresses = 1,
-        .is_marked = is_load && is_marked(o, high) && is_marked(o, r),
+        .is_label_marked = is_load && !high->keeps_entry,
         .operands = {.symbol = is_nowhere ? tls.thread : address_of(s->output, s->offset),
                      .addend = high->addend, .place = address_of(o, high->offset),
                      .tls_base = tls.thread, .got_entry = NO_ENTRY}};
 }
 
 /* RISC-V: TLS descriptors become offsets from the thread pointer, and loads from the GOT sums, if
- * all of one high part can. The GOT stays, as ld.lld's. */
+ * all of one high part can, and of the GOT if all of it are marked. The GOT stays, as ld.lld's. */
 static void rewrite_riscv(struct output *o) {
     struct relocation *end = o->relocations + o->relocations_len, *high;
     struct linker_utils_link_facts facts;
+    for (struct relocation *r = o->relocations; r < end; r++)
+        if ((high = entry_part(o, r)) && high->type == R_RISCV_GOT_HI20 && !is_marked(o, r))
+            high->keeps_entry = true;
     for (struct relocation *r = o->relocations; r < end; r++) {
         if (!(high = entry_part(o, r))) continue;
         struct linker_utils_choice choice;
         uint64_t at = address_of(o, r->offset) - o->address;
-        facts = facts_of(o, high, r);
+        facts = facts_of(o, high);
         check(r, linker_utils_choose(machine, r->type, o->bytes, o->len, at, &facts, &choice));
         if (choice.rewrite != LINKER_UTILS_RISCV_REWRITE_NO_OP || choice.relocation != r->type)
             continue;
@@ -167,7 +167,7 @@ static void rewrite_riscv(struct output *o) {
         for (struct relocation *r = o->relocations; r < end; r++) {
             if (!(high = entry_part(o, r)) || high->keeps_entry || (high == r) != step) continue;
             uint64_t at = address_of(o, r->offset) - o->address;
-            facts = facts_of(o, high, r);
+            facts = facts_of(o, high);
             rewrite(r, o->bytes, o->len, &at, &r->addend, &r->type, &facts);
             if (high == r) r->entry = NULL;
             if (high->type != RISCV_TLSDESC_HI20) continue;

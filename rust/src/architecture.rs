@@ -7,8 +7,8 @@
 use crate::aarch64::{self, AArch64Relocation};
 use crate::elf::{
     AArch64Instruction, Architecture, Choice, InstructionRewrite, LinkFacts,
-    LoongArch64Instruction, Ppc64Instruction, RelocationInstruction, RiscVInstruction, Row,
-    Uleb128Role,
+    LoongArch64Instruction, OtherRelocation, Ppc64Instruction, RelocationInstruction,
+    RiscVInstruction, Row, Uleb128Role,
 };
 use crate::loongarch64::{self, LoongArch64Relocation};
 use crate::ppc64::{self, Ppc64Relocation};
@@ -68,6 +68,26 @@ impl Relaxation {
             Relaxation::RiscV(kind) => kind.deleted(),
             Relaxation::LoongArch64(kind) => kind.deleted(),
             _ => None,
+        }
+    }
+
+    /// The relocation of another instruction that the rewrite changes too, by its code, as
+    /// `other_relocation` of the `RelaxationKind` of `aarch64` says. Whatever relocation is there
+    /// becomes that one. `None` where the rewrite changes no other instruction that has one, and
+    /// for all other architectures: where their rewrites do, the next relocation is skipped
+    /// (`next_modifier`).
+    #[must_use]
+    #[inline]
+    pub fn other_relocation(self) -> Option<OtherRelocation<u32>> {
+        let Relaxation::AArch64(kind) = self else {
+            return None;
+        };
+        match kind.other_relocation() {
+            Some(other) => Some(OtherRelocation {
+                offset: other.offset,
+                relocation: other.relocation.elf_code(),
+            }),
+            None => None,
         }
     }
 }

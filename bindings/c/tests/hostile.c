@@ -555,6 +555,9 @@ static void call_choose(void) {
         expect(meant == LINKER_UTILS_OK, "a choice that doesn't match");
         expect(choice->modifier <= 1 && choice->deleted_start <= 4 && choice->deleted_len <= 6,
                "no choice's numbers");
+        expect(choice->has_other ? choice->has_other == 1 && choice->other_offset == -4
+                                 : !choice->other_offset && !choice->other_relocation,
+               "no other relocation");
     }
     finish_with(status, 0 OR(UNKNOWN_ARCHITECTURE));
 }

@@ -136,6 +136,7 @@ pub struct LinkFacts {
     pub may_compress: bool,
     pub is_marked: bool,
     pub has_got_high_part: bool,
+    pub is_label_marked: bool,
     pub has_private_base: bool,
     pub may_change_toc: bool,
     pub has_addresses: bool,
@@ -155,6 +156,7 @@ impl From<&LinkFacts> for raw::LinkFacts {
             may_compress: facts.may_compress.into(),
             is_marked: facts.is_marked.into(),
             has_got_high_part: facts.has_got_high_part.into(),
+            is_label_marked: facts.is_label_marked.into(),
             has_private_base: facts.has_private_base.into(),
             may_change_toc: facts.may_change_toc.into(),
             has_addresses: facts.has_addresses.into(),
@@ -174,6 +176,18 @@ pub struct Choice {
     /// The bytes that are to be deleted after the rewrite, counted from the offset; empty if none
     /// are.
     pub deleted: Range<u64>,
+    /// The relocation of another instruction that the rewrite changes too.
+    pub other: Option<OtherRelocation>,
+}
+
+/// A relocation whose instruction a rewrite of another one changes too. Whatever relocation is there
+/// gets the type that is named here.
+#[derive(Debug, Clone, Copy, PartialEq, Eq)]
+pub struct OtherRelocation {
+    /// Where it is, in bytes from the offset of the rewrite's own relocation.
+    pub offset: i64,
+    /// Its ELF type after the rewrite.
+    pub r_type: u32,
 }
 
 /// A relocation of a section: where it writes, its value and its ELF type.
@@ -509,6 +523,10 @@ fn choice_of(architecture: Architecture, choice: &raw::Choice) -> Choice {
         relocation: choice.relocation,
         modifier: Modifier::from_number(choice.modifier).expect("a modifier of the library's"),
         deleted: choice.deleted_start..choice.deleted_start + u64::from(choice.deleted_len),
+        other: (choice.has_other != 0).then_some(OtherRelocation {
+            offset: choice.other_offset,
+            r_type: choice.other_relocation,
+        }),
     }
 }
 

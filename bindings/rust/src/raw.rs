@@ -48,6 +48,7 @@ pub struct LinkFacts {
     pub may_compress: u8,
     pub is_marked: u8,
     pub has_got_high_part: u8,
+    pub is_label_marked: u8,
     pub has_private_base: u8,
     pub may_change_toc: u8,
     pub has_addresses: u8,
@@ -63,6 +64,9 @@ pub struct Choice {
     pub modifier: u32,
     pub deleted_len: u32,
     pub deleted_start: u64,
+    pub other_offset: i64,
+    pub other_relocation: u32,
+    pub has_other: u8,
     pub n: u8,
 }
 

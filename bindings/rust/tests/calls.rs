@@ -380,7 +380,7 @@ fn rejects_rewrites() {
     // past the last rewrite of each architecture, and a machine that is none
     let unknown = [
         (Architecture::AArch64.machine(), 13),
-        (Architecture::RiscV.machine(), 17),
+        (Architecture::RiscV.machine(), 18),
         (Architecture::LoongArch64.machine(), 12),
         (Architecture::Ppc64.machine(), 15),
         (Architecture::X86_64.machine(), 24),
@@ -452,6 +452,7 @@ fn choices_are_by_what_the_linker_knows() {
         relocation,
         modifier: Modifier::Normal,
         deleted: 0..0,
+        other: None,
     };
     let direct = unchanged(X86_64Rewrite::CallIndirectToRelative.into(), 2);
     let no_op = unchanged(X86_64Rewrite::NoOp.into(), 41);
@@ -486,11 +487,27 @@ fn choices_are_by_what_the_linker_knows() {
         relocation: 45,
         modifier: Modifier::SkipNextRelocation,
         deleted: 2..8,
+        other: None,
     };
     assert_eq!(choose(Architecture::RiscV, 19, &tail, 0, &facts), Ok(jump));
     facts.operands.place = 0x1000; // 2 bytes out of reach
     let jal = choose(Architecture::RiscV, 19, &tail, 0, &facts).map(|choice| choice.rewrite);
     assert_eq!(jal, Ok(RiscVRewrite::TailToJal.into()));
+
+    // `adrp x3` and `add x3, x3` become `nop` and `adr x3`, with R_AARCH64_ADR_PREL_LO21, and the
+    // relocation of the `adrp` becomes R_AARCH64_NONE
+    let pair = bytes_of(&[0x9000_0003, 0x9100_0063]);
+    let near = Choice {
+        other: Some(OtherRelocation {
+            offset: -4,
+            r_type: 0,
+        }),
+        ..unchanged(AArch64Rewrite::AdrpAddToNopAdr.into(), 274)
+    };
+    assert_eq!(
+        choose(Architecture::AArch64, 277, &pair, 4, &facts),
+        Ok(near)
+    );
 
     // a branch of LoongArch stays, and of PowerPC64 nothing is rewritten
     let same = unchanged(LoongArch64Rewrite::NoOp.into(), 66);

@@ -5079,4 +5079,207 @@ riscv_groups =
     (state ((16, 0x8a38ed09733da659) ∷ (24, 0x9000) ∷ [])
     0x70003a951ce8 0xf150a19bb4ee4218f4144ebf974bb7abbc2beb9b39fa92829b5743ae085b56a 0) ∷
     []) ∷
+    -- c.li
+    group 0x0 (
+    executed (0x81 ∷ 0x47 ∷ []) 0x60002934d01e
+    (state ((31, 0x74273d28a2d5b1e1) ∷ [])
+    0x7000112f12ee 0x4f2fbfadc40f82003482c62d1a1b2b92a739b56abded65d926dc6bc5f4eabe80 0)
+    (state ((31, 0x74273d28a2d5b1e1) ∷ [])
+    0x7000112f12f0 0x4f2fbfadc40f82003482c62d1a1b2b92a739b56abded65d926dc6bc5f4eabe80 0) ∷
+    executed (0x7d ∷ 0x52 ∷ []) 0x600023e202f3
+    (state ((18, 0x8000000000000000) ∷ [])
+    0x70007f66b500 0x89e1d9310b9776efcefa635fdd4c689bb124647fcb54a9f8fb7993772455ea12 0)
+    (state ((4, 0xffffffffffffffff) ∷ (18, 0x8000000000000000) ∷ [])
+    0x70007f66b502 0x89e1d9310b9776efcefa635fdd4c689bb124647fcb54a9f8fb7993772455ea12 0) ∷
+    executed (0x81 ∷ 0x55 ∷ []) 0x60001f832160
+    (state ((17, 0x7fffffff) ∷ (25, 0x30ed2071eff52539) ∷ [])
+    0x70002c79cabe 0xfa59e36c6b162496a66f861940c4367e55e4e36c2f98419157411b18c94f98b4 0)
+    (state ((11, 0xffffffffffffffe0) ∷ (17, 0x7fffffff) ∷ (25, 0x30ed2071eff52539) ∷ [])
+    0x70002c79cac0 0xfa59e36c6b162496a66f861940c4367e55e4e36c2f98419157411b18c94f98b4 0) ∷
+    executed (0xfd ∷ 0x43 ∷ []) 0x600025ba48be
+    (state ((30, 0xffffffff80000000) ∷ [])
+    0x700038377f26 0x48ccb94b7ae630550734891070387bd5e72254ca773186e1458e235a2b8d52bd 0)
+    (state ((7, 0x1f) ∷ (30, 0xffffffff80000000) ∷ [])
+    0x700038377f28 0x48ccb94b7ae630550734891070387bd5e72254ca773186e1458e235a2b8d52bd 0) ∷
+    executed (0x05 ∷ 0x4e ∷ []) 0x60001310dfc0
+    (state ((6, 0xffffffffffffffff) ∷ (26, 0x4f81276464b0f18) ∷ [])
+    0x700064fc4ca0 0xff6ded68d9fe13208933e6c3761836871b507963774d0e5c5b6e7cac6b1b6837 0)
+    (state ((6, 0xffffffffffffffff) ∷ (26, 0x4f81276464b0f18) ∷ (28, 0x1) ∷ [])
+    0x700064fc4ca2 0xff6ded68d9fe13208933e6c3761836871b507963774d0e5c5b6e7cac6b1b6837 0) ∷
+    executed (0xfd ∷ 0x54 ∷ []) 0x60003ae60a3e
+    (state ((9, 0x6cbbad35b54fdb6d) ∷ (13, 0x80000000) ∷ [])
+    0x7000023c870c 0xf8a41c6f592e94026db973235f821f5648a80ac95b7c09bdac178480f41514ae 0)
+    (state ((9, 0xffffffffffffffff) ∷ (13, 0x80000000) ∷ [])
+    0x7000023c870e 0xf8a41c6f592e94026db973235f821f5648a80ac95b7c09bdac178480f41514ae 0) ∷
+    executed (0x01 ∷ 0x52 ∷ []) 0x6000295cbf57
+    (state ((8, 0xffffffff7fffffff) ∷ (11, 0x10a7b2f741b5f1ea) ∷ [])
+    0x700015e242ca 0xc0562b3e0abc9b0fae0db0a53386061e63118711fe7779c8a4d73f621a1cf924 0)
+    (state ((4, 0xffffffffffffffe0) ∷ (8, 0xffffffff7fffffff) ∷ (11, 0x10a7b2f741b5f1ea) ∷ [])
+    0x700015e242cc 0xc0562b3e0abc9b0fae0db0a53386061e63118711fe7779c8a4d73f621a1cf924 0) ∷
+    executed (0x7d ∷ 0x4e ∷ []) 0x60003393b276
+    (state ((18, 0x8374c8530e63b414) ∷ (25, 0x1) ∷ [])
+    0x70007f1aa8ea 0xf7c2277d8b64db9482b736d2ddceb951fc0214997f28f2a409669bdf4af9d6a6 0)
+    (state ((18, 0x8374c8530e63b414) ∷ (25, 0x1) ∷ (28, 0x1f) ∷ [])
+    0x70007f1aa8ec 0xf7c2277d8b64db9482b736d2ddceb951fc0214997f28f2a409669bdf4af9d6a6 0) ∷
+    executed (0x85 ∷ 0x4a ∷ []) 0x6000177c9549
+    (state ((4, 0xd40b00e9ee9717e5) ∷ (6, 0x7fffffffffffffff) ∷ [])
+    0x700038c3b328 0xa945c4e23a4590d4098b2e107422d1551737cf1bd04d0470ad16248da5c9edd1 0)
+    (state ((4, 0xd40b00e9ee9717e5) ∷ (6, 0x7fffffffffffffff) ∷ (21, 0x1) ∷ [])
+    0x700038c3b32a 0xa945c4e23a4590d4098b2e107422d1551737cf1bd04d0470ad16248da5c9edd1 0) ∷
+    executed (0x81 ∷ 0x45 ∷ []) 0x60000d15d393
+    (state ((6, 0xffffffff) ∷ (20, 0x5bbbd854db596123) ∷ [])
+    0x700039b4ce3a 0xf794a356fa82d9fbb61706ffc7ed7cd27f0882c29984e0fc1b333f165b46a7f2 0)
+    (state ((6, 0xffffffff) ∷ (20, 0x5bbbd854db596123) ∷ [])
+    0x700039b4ce3c 0xf794a356fa82d9fbb61706ffc7ed7cd27f0882c29984e0fc1b333f165b46a7f2 0) ∷
+    executed (0x81 ∷ 0x56 ∷ []) 0x600022aa09ba
+    (state ((10, 0x1) ∷ (14, 0x804f131f9210fbcf) ∷ [])
+    0x70004f6171da 0x862ac93373eb1ec05df3ecd25b15f08f93dab7e2ee3bea983990c55689a386c4 0)
+    (state ((10, 0x1) ∷ (13, 0xffffffffffffffe0) ∷ (14, 0x804f131f9210fbcf) ∷ [])
+    0x70004f6171dc 0x862ac93373eb1ec05df3ecd25b15f08f93dab7e2ee3bea983990c55689a386c4 0) ∷
+    executed (0xfd ∷ 0x4d ∷ []) 0x60002ee7216f
+    (state ((10, 0x7fffffffffffffff) ∷ (22, 0xd0d57aa6d3dd6420) ∷ [])
+    0x700078121768 0xd284cf9864b4c3ef5da9af25368801940219c8be368f456075730b3bcc422d12 0)
+    (state ((10, 0x7fffffffffffffff) ∷ (22, 0xd0d57aa6d3dd6420) ∷ (27, 0x1f) ∷ [])
+    0x70007812176a 0xd284cf9864b4c3ef5da9af25368801940219c8be368f456075730b3bcc422d12 0) ∷
+    executed (0x85 ∷ 0x4e ∷ []) 0x60002a7b4342
+    (state ((5, 0x21ce85fb79925a03) ∷ (14, 0xffffffff) ∷ [])
+    0x70002a489aa0 0xea67ad6afb14f849b138ab8bd1061c1d823e52d2a6b6e2b4a5c4c20bc9cdfd6d 0)
+    (state ((5, 0x21ce85fb79925a03) ∷ (14, 0xffffffff) ∷ (29, 0x1) ∷ [])
+    0x70002a489aa2 0xea67ad6afb14f849b138ab8bd1061c1d823e52d2a6b6e2b4a5c4c20bc9cdfd6d 0) ∷
+    executed (0x81 ∷ 0x41 ∷ []) 0x60000588f12b
+    (state []
+    0x70006264c4b2 0x385dc3e918cb32ddb2ba4e06ccdb20085d812f4d84ba0132919d5a09e56faa6a 0)
+    (state []
+    0x70006264c4b4 0x385dc3e918cb32ddb2ba4e06ccdb20085d812f4d84ba0132919d5a09e56faa6a 0) ∷
+    executed (0x7d ∷ 0x53 ∷ []) 0x600005f6598a
+    (state ((28, 0x7189b9579e350a0c) ∷ (29, 0x8000000000000000) ∷ [])
+    0x700055b3c82e 0x88c62f8bf9a815dc7e7ba1d9aa488e63c080f4123de3aa55c2726c46b4afa2ca 0)
+    (state ((6, 0xffffffffffffffff) ∷ (28, 0x7189b9579e350a0c) ∷ (29, 0x8000000000000000) ∷ [])
+    0x700055b3c830 0x88c62f8bf9a815dc7e7ba1d9aa488e63c080f4123de3aa55c2726c46b4afa2ca 0) ∷
+    executed (0xfd ∷ 0x43 ∷ []) 0x600009db9876
+    (state ((10, 0x7fffffff) ∷ (24, 0xdf3e4fdd91be813d) ∷ [])
+    0x70003d88c470 0xc5133a9e480ae32b94e14ab391cab1b1b51fc2962a9a61caea40f15cda71eda1 0)
+    (state ((7, 0x1f) ∷ (10, 0x7fffffff) ∷ (24, 0xdf3e4fdd91be813d) ∷ [])
+    0x70003d88c472 0xc5133a9e480ae32b94e14ab391cab1b1b51fc2962a9a61caea40f15cda71eda1 0) ∷
+    executed (0x85 ∷ 0x4e ∷ []) 0x60001038139c
+    (state ((10, 0xffffffff80000000) ∷ (15, 0xd2366684ad6dac7b) ∷ [])
+    0x700069afac8c 0x7011177013024470223e47e6a831c5d4d983048b4290c71c60de33ecb8a1b053 0)
+    (state ((10, 0xffffffff80000000) ∷ (15, 0xd2366684ad6dac7b) ∷ (29, 0x1) ∷ [])
+    0x700069afac8e 0x7011177013024470223e47e6a831c5d4d983048b4290c71c60de33ecb8a1b053 0) ∷
+    executed (0x81 ∷ 0x43 ∷ []) 0x6000038c6b4c
+    (state ((24, 0xffffffffffffffff) ∷ [])
+    0x700030a9042c 0xafd054d37838efceae6c0c264a08283fb0cc21f27c48c81c065ff56ebf5b322a 0)
+    (state ((24, 0xffffffffffffffff) ∷ [])
+    0x700030a9042e 0xafd054d37838efceae6c0c264a08283fb0cc21f27c48c81c065ff56ebf5b322a 0) ∷
+    executed (0x7d ∷ 0x59 ∷ []) 0x60003b3e9774
+    (state ((15, 0x80000000) ∷ (24, 0x902e1bccc1d367ba) ∷ [])
+    0x7000757407d0 0x81634d1556f7dcc028993e3c17e32a4c8afe0dad9322ad81d172d7bbe6981e4a 0)
+    (state ((15, 0x80000000) ∷ (18, 0xffffffffffffffff) ∷ (24, 0x902e1bccc1d367ba) ∷ [])
+    0x7000757407d2 0x81634d1556f7dcc028993e3c17e32a4c8afe0dad9322ad81d172d7bbe6981e4a 0) ∷
+    executed (0x01 ∷ 0x59 ∷ []) 0x600016348954
+    (state ((9, 0x7056b91a30d7d184) ∷ (29, 0xffffffff7fffffff) ∷ [])
+    0x700027c9d784 0xdc889aa8f2a992eae8b09545807896bd715dfc1eb38f886d3e4b176f0370c1e7 0)
+    (state ((9, 0x7056b91a30d7d184) ∷ (18, 0xffffffffffffffe0) ∷ (29, 0xffffffff7fffffff) ∷ [])
+    0x700027c9d786 0xdc889aa8f2a992eae8b09545807896bd715dfc1eb38f886d3e4b176f0370c1e7 0) ∷
+    executed (0x65 ∷ 0x48 ∷ []) 0x600038476227
+    (state ((25, 0x6de56b23e59373e4) ∷ (29, 0x106002f3cf2e744c) ∷ [])
+    0x7000752c4e9c 0x94da2ff083baf8d779ab41761c48edaaad4bfabccc843d6f9dc2ebacbbc37be8 0)
+    (state ((16, 0x19) ∷ (25, 0x6de56b23e59373e4) ∷ (29, 0x106002f3cf2e744c) ∷ [])
+    0x7000752c4e9e 0x94da2ff083baf8d779ab41761c48edaaad4bfabccc843d6f9dc2ebacbbc37be8 0) ∷
+    executed (0x31 ∷ 0x54 ∷ []) 0x6000035a70ee
+    (state ((5, 0x72dcc120e27f2469) ∷ (11, 0x2280019e10313ddb) ∷ [])
+    0x70007eb3e27a 0x3bc577becaea79d632ce9b0ce17f6e590d96059ce6500c54621ec8696007934b 0)
+    (state ((5, 0x72dcc120e27f2469) ∷ (8, 0xffffffffffffffec) ∷ (11, 0x2280019e10313ddb) ∷ [])
+    0x70007eb3e27c 0x3bc577becaea79d632ce9b0ce17f6e590d96059ce6500c54621ec8696007934b 0) ∷
+    executed (0x31 ∷ 0x4b ∷ []) 0x600037a17e5d
+    (state ((5, 0x9ba7bccbece412c) ∷ (29, 0x763c58904d817fb6) ∷ [])
+    0x700007e9e840 0x7eee88f170c515a798b40d096f160c1731d692a301063308f14008bb60fa43fb 0)
+    (state ((5, 0x9ba7bccbece412c) ∷ (22, 0xc) ∷ (29, 0x763c58904d817fb6) ∷ [])
+    0x700007e9e842 0x7eee88f170c515a798b40d096f160c1731d692a301063308f14008bb60fa43fb 0) ∷
+    executed (0x8d ∷ 0x42 ∷ []) 0x60000b986b1d
+    (state ((5, 0xae7df7c9728a51b0) ∷ (19, 0x1e11a0ddb098974e) ∷ [])
+    0x700065f5c540 0xc0a658368203e98dba18cf4594d211c052f385f7212ba1978c5619157ed786ba 0)
+    (state ((5, 0x3) ∷ (19, 0x1e11a0ddb098974e) ∷ [])
+    0x700065f5c542 0xc0a658368203e98dba18cf4594d211c052f385f7212ba1978c5619157ed786ba 0) ∷
+    executed (0x59 ∷ 0x42 ∷ []) 0x6000146bfbca
+    (state ((14, 0x538b7e4b96fbea34) ∷ (21, 0x30a58f08f738aa6e) ∷ [])
+    0x70004e809b92 0x1bdc993a4901249f0842c545213427daea299374c62e48547405352a521a5ec9 0)
+    (state ((4, 0x16) ∷ (14, 0x538b7e4b96fbea34) ∷ (21, 0x30a58f08f738aa6e) ∷ [])
+    0x70004e809b94 0x1bdc993a4901249f0842c545213427daea299374c62e48547405352a521a5ec9 0) ∷
+    executed (0x0d ∷ 0x44 ∷ []) 0x60000e075ce8
+    (state ((4, 0x369020c90e9885c) ∷ [])
+    0x70007ad52a24 0x8d13745de9da88c247deff0a6676819a500154248e2e7d4c19ecb755f803a3e0 0)
+    (state ((4, 0x369020c90e9885c) ∷ (8, 0x3) ∷ [])
+    0x70007ad52a26 0x8d13745de9da88c247deff0a6676819a500154248e2e7d4c19ecb755f803a3e0 0) ∷
+    executed (0x15 ∷ 0x5f ∷ []) 0x60001aa672c6
+    (state ((15, 0x7c3c89cb1df6579b) ∷ [])
+    0x700015e7ee84 0x4b65d76f5d5e1681ccf6b4222f529ce64399e7f02836e90daad9eb041222917c 0)
+    (state ((15, 0x7c3c89cb1df6579b) ∷ (30, 0xffffffffffffffe5) ∷ [])
+    0x700015e7ee86 0x4b65d76f5d5e1681ccf6b4222f529ce64399e7f02836e90daad9eb041222917c 0) ∷
+    executed (0xc1 ∷ 0x4a ∷ []) 0x60000c7b6a6f
+    (state ((10, 0x76a1ff9e78ba8051) ∷ [])
+    0x7000761680fc 0xc4e0987b97813ff4440506f107c03ee8525b48a13100252cee9dd2afaa89bef5 0)
+    (state ((10, 0x76a1ff9e78ba8051) ∷ (21, 0x10) ∷ [])
+    0x7000761680fe 0xc4e0987b97813ff4440506f107c03ee8525b48a13100252cee9dd2afaa89bef5 0) ∷
+    executed (0xcd ∷ 0x47 ∷ []) 0x6000239de612
+    (state ((14, 0x8253ef32945c5e71) ∷ (20, 0x7277834a4513c467) ∷ [])
+    0x700048bf25b8 0xf9b47954b0a19b096837009711982b57ef78c5be4186f288ae324b7d94349e9f 0)
+    (state ((14, 0x8253ef32945c5e71) ∷ (15, 0x13) ∷ (20, 0x7277834a4513c467) ∷ [])
+    0x700048bf25ba 0xf9b47954b0a19b096837009711982b57ef78c5be4186f288ae324b7d94349e9f 0) ∷
+    executed (0x29 ∷ 0x56 ∷ []) 0x60002c18a81a
+    (state ((14, 0x7a4a8bb3ab00d4d0) ∷ (25, 0xaf3aee3ac53cb687) ∷ [])
+    0x70006202828c 0xd9d95867024d9c60338339f97dd4daf83b39e76c8ed0f829f2dd0d20df330599 0)
+    (state ((12, 0xffffffffffffffea) ∷ (14, 0x7a4a8bb3ab00d4d0) ∷ (25, 0xaf3aee3ac53cb687) ∷ [])
+    0x70006202828e 0xd9d95867024d9c60338339f97dd4daf83b39e76c8ed0f829f2dd0d20df330599 0) ∷
+    executed (0x69 ∷ 0x4f ∷ []) 0x60002afb00e0
+    (state ((8, 0x631a28dbdd3cd025) ∷ (25, 0xafecd4330b54033e) ∷ [])
+    0x7000324c88d8 0xd7177228f18915e4d791adbe87b9f1ff2b8372d5e666e8e3aada1a2ddd139410 0)
+    (state ((8, 0x631a28dbdd3cd025) ∷ (25, 0xafecd4330b54033e) ∷ (30, 0x1a) ∷ [])
+    0x7000324c88da 0xd7177228f18915e4d791adbe87b9f1ff2b8372d5e666e8e3aada1a2ddd139410 0) ∷
+    executed (0x8d ∷ 0x5d ∷ []) 0x60003f6af3ea
+    (state ((9, 0xcd7c892cda55e792) ∷ (18, 0xce84259715de7441) ∷ [])
+    0x70002809183c 0x9464fecb83e7046f874a694faef416a85bfcf1d886e9c46326d761451029ecf2 0)
+    (state ((9, 0xcd7c892cda55e792) ∷ (18, 0xce84259715de7441) ∷ (27, 0xffffffffffffffe3) ∷ [])
+    0x70002809183e 0x9464fecb83e7046f874a694faef416a85bfcf1d886e9c46326d761451029ecf2 0) ∷
+    executed (0x75 ∷ 0x4d ∷ []) 0x60003f47769b
+    (state ((9, 0x74d10962a7affb2d) ∷ (14, 0x63e0d5545e9d2ce8) ∷ [])
+    0x70005a2f50b2 0xfef89e200956b475c906ee6c2b3446b7afe589266531cefd8858abe068797bfb 0)
+    (state ((9, 0x74d10962a7affb2d) ∷ (14, 0x63e0d5545e9d2ce8) ∷ (26, 0x1d) ∷ [])
+    0x70005a2f50b4 0xfef89e200956b475c906ee6c2b3446b7afe589266531cefd8858abe068797bfb 0) ∷
+    executed (0x19 ∷ 0x41 ∷ []) 0x6000216dde3e
+    (state ((4, 0xdac3ceb9890297f0) ∷ (15, 0x905da386295af7dc) ∷ [])
+    0x70003796beac 0x97fd37d71250b31bcb7b30a9928662eec39b9f336581b8cc3f06b6eea6d06aa6 0)
+    (state ((2, 0x6) ∷ (4, 0xdac3ceb9890297f0) ∷ (15, 0x905da386295af7dc) ∷ [])
+    0x70003796beae 0x97fd37d71250b31bcb7b30a9928662eec39b9f336581b8cc3f06b6eea6d06aa6 0) ∷
+    executed (0x3d ∷ 0x5a ∷ []) 0x60001a682ad3
+    (state ((7, 0xbd62ac93e0e12e2b) ∷ (15, 0x3b5321ff335eee33) ∷ [])
+    0x70000aadaebc 0xe0516d11560fe08120343a69c61c554664eeb362d1bf7f5d9b0e381a7c4f1482 0)
+    (state ((7, 0xbd62ac93e0e12e2b) ∷ (15, 0x3b5321ff335eee33) ∷ (20, 0xffffffffffffffef) ∷ [])
+    0x70000aadaebe 0xe0516d11560fe08120343a69c61c554664eeb362d1bf7f5d9b0e381a7c4f1482 0) ∷
+    executed (0x35 ∷ 0x55 ∷ []) 0x6000120acfe4
+    (state ((1, 0x3661073f5b0ad82b) ∷ (10, 0x6541d87054a6319a) ∷ [])
+    0x70000fa70c90 0x35b9bc46f6ae427859f62f9a8635e9b2bdf6de35ece228969185f7a85bfaad89 0)
+    (state ((1, 0x3661073f5b0ad82b) ∷ (10, 0xffffffffffffffed) ∷ [])
+    0x70000fa70c92 0x35b9bc46f6ae427859f62f9a8635e9b2bdf6de35ece228969185f7a85bfaad89 0) ∷
+    executed (0x3d ∷ 0x44 ∷ []) 0x6000273b54c3
+    (state ((2, 0x856918d4586096a3) ∷ (20, 0xf2ec1f61611ae86e) ∷ [])
+    0x7000576c9afe 0x1593b3f0f4c55df2587d97208127b62e0546f59a7422a45a61476dbd72f13af0 0)
+    (state ((2, 0x856918d4586096a3) ∷ (8, 0xf) ∷ (20, 0xf2ec1f61611ae86e) ∷ [])
+    0x7000576c9b00 0x1593b3f0f4c55df2587d97208127b62e0546f59a7422a45a61476dbd72f13af0 0) ∷
+    executed (0x5d ∷ 0x46 ∷ []) 0x6000212570aa
+    (state ((19, 0x1d56c6e2cfca0105) ∷ (26, 0x8d97394632cb8e44) ∷ [])
+    0x70006edd47fa 0x7602af21a36e6a0a8e61694c103c8b1daa69c20157929cf1b1a71d240a9a7d90 0)
+    (state ((12, 0x17) ∷ (19, 0x1d56c6e2cfca0105) ∷ (26, 0x8d97394632cb8e44) ∷ [])
+    0x70006edd47fc 0x7602af21a36e6a0a8e61694c103c8b1daa69c20157929cf1b1a71d240a9a7d90 0) ∷
+    executed (0x6d ∷ 0x4d ∷ []) 0x60000e8215b8
+    (state ((22, 0x24577ab70104ea0c) ∷ (24, 0xe181dc985cee66d7) ∷ [])
+    0x70003cf852d0 0x52a177596f9a46040c45855b2366d2927211f6ba4944e78f39aa146a62f85384 0)
+    (state ((22, 0x24577ab70104ea0c) ∷ (24, 0xe181dc985cee66d7) ∷ (26, 0x1b) ∷ [])
+    0x70003cf852d2 0x52a177596f9a46040c45855b2366d2927211f6ba4944e78f39aa146a62f85384 0) ∷
+    executed (0x41 ∷ 0x4a ∷ []) 0x6000046c4d77
+    (state ((2, 0xb8592e9f2098c64c) ∷ (27, 0x74d6cd7da72c37b9) ∷ [])
+    0x700054062d60 0xba5fd8d3b6ab556fd655180c916f93c2145217ac041334c9193b7c67fe4a9307 0)
+    (state ((2, 0xb8592e9f2098c64c) ∷ (20, 0x10) ∷ (27, 0x74d6cd7da72c37b9) ∷ [])
+    0x700054062d62 0xba5fd8d3b6ab556fd655180c916f93c2145217ac041334c9193b7c67fe4a9307 0) ∷
+    []) ∷
     []

@@ -4,12 +4,15 @@ use Rattle.linker_elf.specs.AArch64.{opcode_of, shift_of, movz_opcode, movk_opco
 use Rattle.std.specs.Prelude.{◌∷◌, [], ℕ, ◌+◌, ◌-◌, ◌*◌, ◌/◌, ◌^◌, Bool, true}
 use Rattle.std.specs.Prelude.{◌&&◌}
 use Rattle.std.specs.Prelude.{◌==◌, if◌then◌else◌, List, ◌++◌, drop, Option, None, Some}
-use Rattle.std.specs.Prelude.{bit_and}
+use Rattle.std.specs.Prelude.{bit_and, ◌≡◌, negsuc, pos, neg_ℤ}
 use Rattle.std.specs.Int.{w32, w64, from_le_bytes, to_le_bytes}
 use Rattle.linker_base.specs.Bits.{field}
 use Rattle.linker_base.specs.Rewrite.{Rewrite, replaces}
 use Rattle.linker_base.specs.declared.relaxation.RelocationModifier.{RelocationModifier}
 use Rattle.linker_base.specs.declared.relaxation.RelocationModifier.TheVariants.{Normal}
+use Rattle.linker_elf.specs.declared.aarch64.relocations.AArch64Relocation.{AArch64Relocation}
+use Rattle.linker_elf.specs.declared.aarch64.relocations.AArch64Relocation.TheVariants as r
+use Rattle.linker_elf.specs.declared.elf.choice.OtherRelocation.{OtherRelocation}
 use Rattle.linker_aarch64.specs.declared.rewrites.RelaxationKind.{RelaxationKind}
 use Rattle.linker_aarch64.specs.declared.rewrites.RelaxationKind.TheVariants.{NoOp}
 use Rattle.linker_aarch64.specs.declared.rewrites.RelaxationKind.TheVariants.{ReplaceWithNop}
@@ -76,6 +79,20 @@ aarch64_rewrite AdrpAddToNopAdr = Some (replaces 4 8 nop_adr)
 
 abbrev pub aarch64_modifier : RelaxationKind → RelocationModifier
 aarch64_modifier kind = Normal
+
+-- the relocation of another instruction that a rewrite changes too: of the `adrp`, 4 bytes before,
+-- that becomes `nop`
+abbrev pub aarch64_other : RelaxationKind → Option (OtherRelocation AArch64Relocation)
+aarch64_other AdrpAddToNopAdr = Some record { offset = negsuc 3; relocation = r.R_AARCH64_NONE }
+aarch64_other kind = None
+
+-- A rewrite changes the instruction at its offset alone, or also the one before it, and then that
+-- one's relocation is the other.
+abbrev pub AreChanged : Option Rewrite → Option (OtherRelocation AArch64Relocation) → Type 0
+AreChanged None other = other ≡ None
+AreChanged (Some rewrite) None = (rewrite.back ≡ 0) × (rewrite.len ≡ 4)
+AreChanged (Some rewrite) (Some other) =
+    (rewrite.back ≡ 4) × (rewrite.len ≡ 8) × (other.offset ≡ neg_ℤ (pos rewrite.back))
 
 -- the rewrites by their numbers from 0 up
 abbrev pub aarch64_rewrites : List RelaxationKind

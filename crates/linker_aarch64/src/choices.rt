@@ -225,8 +225,8 @@ fn choice_if(applies: bool, chosen: AArch64Choice, otherwise: AArch64Choice) -> 
 ///   the facts are the same for all of them, except for `place`, which is that of each.
 /// - All of them are chosen before any is rewritten: what was rewritten isn't what the others are
 ///   chosen by.
-/// - `AdrpAddToNopAdr` erases the `adrp`, so that the relocation `ADR_PREL_PG_HI21` of the `adrp`
-///   isn't applied after it. It has to be of the same symbol and addend.
+/// - `AdrpAddToNopAdr` erases the `adrp`. Its relocation, `ADR_PREL_PG_HI21`, has to be of the same
+///   symbol and addend, and becomes `NONE`, as `RelaxationKind::other_relocation` says.
 /// - Nothing jumps between the instructions.
 ///
 /// ```

@@ -11,6 +11,7 @@ ghost use Rattle.linker_base.specs.Rewrite.{CanRewrite, rewritten, offset_after,
 ghost use Rattle.linker_elf.specs.Inner.FormLaws.{aarch64_keeps, aarch64_restored};
 ghost use Rattle.linker_elf.specs.AArch64.{aarch64_form};
 ghost use Rattle.linker_aarch64.specs.AArch64Rewrites.{aarch64_rewrite, aarch64_modifier};
+ghost use Rattle.linker_aarch64.specs.AArch64Rewrites.{aarch64_other, AreChanged};
 ghost use Rattle.linker_elf.specs.AArch64.{access_scale};
 ghost use Rattle.linker_aarch64.specs.AArch64Rewrites.{rd_of, rn_of, mov_word, mov_words, mov4};
 ghost use Rattle.linker_elf.specs.AArch64.{moved_bits, move_opcode};
@@ -24,7 +25,8 @@ use linker_base::bit_misc::BitExtraction;
 use linker_base::relaxation::RelocationModifier;
 use linker_base::rewrite::{has_window, overwrite};
 use linker_base::utils::u32_from_slice;
-use linker_elf::elf::InstructionRewrite;
+use linker_elf::aarch64::AArch64Relocation;
+use linker_elf::elf::{InstructionRewrite, OtherRelocation};
 
 /// A rewrite of one instruction, or of a pair (ELF for the Arm 64-bit Architecture, "Relocation
 /// optimization"). Except for `AdrpAddToNopAdr` the window is the instruction's 4 bytes, which
@@ -71,7 +73,8 @@ pub enum RelaxationKind {
     /// are unchanged. Requires such an instruction.
     LdrToAdd,
     /// Turns `adrp`, 4 bytes before the offset, and `add` into `nop` and `adr` of distance 0, with
-    /// the `adrp`'s destination register.
+    /// the `adrp`'s destination register. The relocation of the `adrp` is then `R_AARCH64_NONE`
+    /// (`other_relocation`).
     AdrpAddToNopAdr,
 }
 
@@ -324,6 +327,31 @@ impl RelaxationKind {
         ensures { result ≡ aarch64_modifier self.now }
     {
         RelocationModifier::Normal
+    }
+
+    /// The relocation of another instruction that the rewrite changes too. Whatever relocation is
+    /// there becomes the one that is named here, so that it makes no difference whether its value
+    /// is written before the rewrite or after it. `None` but for `AdrpAddToNopAdr`: the relocation
+    /// of the `adrp`, 4 bytes before the offset, becomes `R_AARCH64_NONE`, since it is a `nop`.
+    ///
+    /// ```
+    /// use linker_utils::aarch64::{AArch64Relocation, RelaxationKind};
+    ///
+    /// let other = RelaxationKind::AdrpAddToNopAdr.other_relocation().unwrap();
+    /// assert_eq!((other.offset, other.relocation), (-4, AArch64Relocation::R_AARCH64_NONE));
+    /// ```
+    #[inline]
+    pub fn other_relocation(self) -> Option<OtherRelocation<AArch64Relocation>>
+        ensures other { result ≡ aarch64_other self }
+        ensures changed { AreChanged (aarch64_rewrite self) result }
+    {
+        match self {
+            RelaxationKind::AdrpAddToNopAdr => Some(OtherRelocation {
+                offset: -4,
+                relocation: AArch64Relocation::R_AARCH64_NONE,
+            }),
+            _ => None,
+        }
     }
 }
 

@@ -25,6 +25,8 @@ pub data Condition (R : Type 0) : Type 0 where
   local_exec_base : Condition R
   compressible : Condition R
   marked : Condition R
+  -- the high part of a load from the GOT, and all low parts of its label, are marked
+  label_marked : Condition R
   -- the high part of a low part of RISC-V asks for a GOT entry
   got_high_part : Condition R
   -- what reads a register for the high part of an address is of the same symbol
@@ -123,6 +125,7 @@ Holds row after facts executable = facts.is_executable ≡ true
 Holds row after facts local_exec_base = facts.has_local_exec_base ≡ true
 Holds row after facts compressible = facts.may_compress ≡ true
 Holds row after facts marked = facts.is_marked ≡ true
+Holds row after facts label_marked = facts.is_label_marked ≡ true
 Holds row after facts got_high_part = facts.has_got_high_part ≡ true
 Holds row after facts private_base = facts.has_private_base ≡ true
 Holds row after facts changed_toc = facts.may_change_toc ≡ true

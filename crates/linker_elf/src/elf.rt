@@ -26,7 +26,7 @@ pub use crate::aarch64::AArch64Instruction;
 pub use crate::loongarch64::LoongArch64Instruction;
 pub use crate::ppc64::Ppc64Instruction;
 pub use crate::riscv64::RiscVInstruction;
-pub use choice::{Choice, LinkFacts};
+pub use choice::{Choice, LinkFacts, OtherRelocation};
 use linker_base::bit_misc::BitRange;
 use linker_base::relaxation::RelocationModifier;
 pub use numbers::RelocationNumbers;

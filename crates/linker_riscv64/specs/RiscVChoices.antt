@@ -6,7 +6,7 @@ use Rattle.std.specs.Prelude.{ℕ, List, [], ◌∷◌, Option, pos, ◌⊎◌, 
 use Rattle.linker_elf.specs.Choices.{Condition, fixed_address, fixed_distance, compressible}
 use Rattle.linker_elf.specs.Choices.{marked, without_plt, low_12, in_reach, low_12_bounds}
 use Rattle.linker_elf.specs.Choices.{executable, bound, addend, within, in_reach_if_known}
-use Rattle.linker_elf.specs.Choices.{got_high_part}
+use Rattle.linker_elf.specs.Choices.{got_high_part, label_marked}
 use Rattle.linker_elf.specs.Choices.{Entry, entry, choice, AllHold, IsFirst}
 use Rattle.linker_elf.specs.Originals.{HasWord}
 use Rattle.linker_riscv64.specs.RiscVOriginals.{riscv_matches, IsLui, IsAuipc, IsLd, IsAddTp}
@@ -45,8 +45,12 @@ abbrev pub near_call : RelaxationKind → RiscVEntry
 near_call kind = entry kind r.R_RISCV_JAL (by_jump r.R_RISCV_JAL)
 
 -- 12 signed bits hold the address
+abbrev pub with_low_part : List (Condition RiscVRelocation)
+with_low_part = fixed_address ∷ low_12 ∷ []
+
+-- and instructions may be deleted
 abbrev pub by_low_part : List (Condition RiscVRelocation)
-by_low_part = marked ∷ fixed_address ∷ low_12 ∷ []
+by_low_part = marked ∷ with_low_part
 
 -- a high part that is 0
 abbrev pub no_high_part : RiscVEntry
@@ -56,6 +60,10 @@ abbrev pub short_high_part : RiscVEntry
 short_high_part =
     entry kinds.Hi20ToCLui r.R_RISCV_RVC_LUI
     (marked ∷ compressible ∷ fixed_address ∷ in_reach r.R_RISCV_RVC_LUI 0 ∷ [])
+
+-- a high part that is 0, where the instruction has 2 bytes already
+abbrev pub zero_high_part : RiscVEntry
+zero_high_part = entry kinds.CLuiToCLi r.R_RISCV_NONE with_low_part
 
 -- a low part whose high part is 0
 abbrev pub low_part : RiscVRelocation → RiscVEntry
@@ -102,7 +110,7 @@ start_of_descriptor = left_out to_local_exec (left_out to_initial_exec [])
 -- the distance to the symbol in place of its GOT entry
 abbrev pub without_got : List (Condition RiscVRelocation)
 without_got =
-    marked ∷ fixed_distance ∷ without_entry (in_reach_if_known r.R_RISCV_PCREL_HI20 0 ∷ [])
+    label_marked ∷ fixed_distance ∷ without_entry (in_reach_if_known r.R_RISCV_PCREL_HI20 0 ∷ [])
 
 abbrev pub call_entries : List RiscVEntry
 call_entries = short_tail_call ∷ near_call kinds.TailToJal ∷ near_call kinds.CallToJal ∷ []
@@ -111,6 +119,7 @@ abbrev pub riscv_entries : RiscVRelocation → List RiscVEntry
 riscv_entries r.R_RISCV_CALL = call_entries
 riscv_entries r.R_RISCV_CALL_PLT = call_entries
 riscv_entries r.R_RISCV_HI20 = no_high_part ∷ short_high_part ∷ []
+riscv_entries r.R_RISCV_RVC_LUI = zero_high_part ∷ []
 riscv_entries r.R_RISCV_LO12_I = low_part r.R_RISCV_LO12_I ∷ []
 riscv_entries r.R_RISCV_LO12_S = low_part r.R_RISCV_LO12_S ∷ []
 riscv_entries r.R_RISCV_TPREL_HI20 = no_high_offset ∷ []

@@ -2,7 +2,8 @@
 -- Instruction Set Listings" and "Integer Constant-Generation Instructions"; RISC-V ELF psABI,
 -- "Linker Relaxation").
 use Rattle.std.specs.Prelude.{◌≡◌, ◌≢◌, ◌≤◌, ◌+◌, ℕ, List, length, Bool, ◌==◌, ◌&&◌, ◌||◌, nat_lt}
-use Rattle.std.specs.Prelude.{IsTrue, ⊤}
+use Rattle.std.specs.Prelude.{IsTrue, ⊤, drop}
+use Rattle.std.specs.Int.{w16, from_le_bytes}
 use Rattle.linker_base.specs.Bits.{field}
 use Rattle.linker_elf.specs.Originals.{HasWord}
 use Rattle.linker_riscv64.specs.RiscVCalls.{IsCallPair, IsPlainCall, word_at}
@@ -24,6 +25,7 @@ use Rattle.linker_riscv64.specs.declared.rewrites.RelaxationKind.TheVariants.{Ca
 use Rattle.linker_riscv64.specs.declared.rewrites.RelaxationKind.TheVariants.{CallToAddiZero}
 use Rattle.linker_riscv64.specs.declared.rewrites.RelaxationKind.TheVariants.{CallToLd}
 use Rattle.linker_riscv64.specs.declared.rewrites.RelaxationKind.TheVariants.{LdToAddi}
+use Rattle.linker_riscv64.specs.declared.rewrites.RelaxationKind.TheVariants.{CLuiToCLi}
 
 -- the opcode, bits 0 to 6
 abbrev pub opcode_of : ℕ → ℕ
@@ -72,6 +74,16 @@ abbrev pub IsCallOfDescriptor : ℕ → Type 0
 IsCallOfDescriptor word =
     (opcode_of word ≡ 0x67) × (funct3_of word ≡ 0) × (rd_of word ≡ 5) × (field word 20 32 ≡ 0)
 
+-- the instruction of 2 bytes at an offset
+abbrev pub half_at : List ℕ → ℕ → ℕ
+half_at section o = from_le_bytes w16 (drop o section)
+
+-- `c.lui rd`: bits 0 and 1 are 1 and 0, and the function, bits 13 to 15, is 3. With x2 it would be
+-- `c.addi16sp`, and with x0 a hint.
+abbrev pub IsClui : ℕ → Type 0
+IsClui half =
+    (field half 0 2 ≡ 1) × (field half 13 16 ≡ 3) × (rd_of half ≢ 0) × (rd_of half ≢ 2)
+
 -- At the offset there are `auipc` of a register other than x0, which is always 0, and a `jalr` from
 -- that register that links none.
 pub record IsTailCall (section : List ℕ) (o : ℕ) : Type 0 where
@@ -102,3 +114,4 @@ riscv_matches CallToAddi section o = HasWord section o IsCallOfDescriptor
 riscv_matches CallToAddiZero section o = HasWord section o IsCallOfDescriptor
 riscv_matches CallToLd section o = HasWord section o IsCallOfDescriptor
 riscv_matches LdToAddi section o = HasWord section o IsLd
+riscv_matches CLuiToCLi section o = (o + 2 ≤ length section) × IsClui (half_at section o)

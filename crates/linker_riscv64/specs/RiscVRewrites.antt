@@ -32,6 +32,7 @@ use Rattle.linker_riscv64.specs.declared.rewrites.RelaxationKind.TheVariants.{Ca
 use Rattle.linker_riscv64.specs.declared.rewrites.RelaxationKind.TheVariants.{CallToAddiZero}
 use Rattle.linker_riscv64.specs.declared.rewrites.RelaxationKind.TheVariants.{CallToLd}
 use Rattle.linker_riscv64.specs.declared.rewrites.RelaxationKind.TheVariants.{LdToAddi}
+use Rattle.linker_riscv64.specs.declared.rewrites.RelaxationKind.TheVariants.{CLuiToCLi}
 
 -- `jal` of distance 0, with the destination register of the word before: bits 7 to 11
 abbrev pub call_to_jal : List ℕ → List ℕ
@@ -52,6 +53,10 @@ two_nops window = 0x01 ∷ 0x00 ∷ 0x01 ∷ 0x00 ∷ []
 -- `c.lui` of immediate 0, with the destination register of the half before: bits 7 to 11
 abbrev pub hi20_to_clui : List ℕ → List ℕ
 hi20_to_clui window = to_le_bytes w16 (0x6001 + field (from_le_bytes w16 window) 7 12 * 128)
+
+-- `c.li` of 0, with the destination register of the half before: bits 7 to 11
+abbrev pub clui_to_cli : List ℕ → List ℕ
+clui_to_cli window = to_le_bytes w16 (0x4001 + field (from_le_bytes w16 window) 7 12 * 128)
 
 -- the word with bits 15 to 19 cleared
 abbrev pub rs1_to_zero : List ℕ → List ℕ
@@ -98,6 +103,7 @@ riscv_rewrite CallToAddi = Some (rewrites_word (λ _. 0x50513))
 riscv_rewrite CallToAddiZero = Some (rewrites_word (λ _. 0x513))
 riscv_rewrite CallToLd = Some (rewrites_word (λ _. 0x53503))
 riscv_rewrite LdToAddi = Some (rewrites_word load_to_addi)
+riscv_rewrite CLuiToCLi = Some (replaces 0 2 clui_to_cli)
 
 abbrev pub riscv_modifier : RelaxationKind → RelocationModifier
 riscv_modifier NoOp = Normal
@@ -134,7 +140,7 @@ riscv_rewrites =
     Hi20Delete ∷ Lo12Rs1ToZero ∷ TailToJal ∷
     TailToCJ ∷ Delete ∷ ReplaceWithLongNop ∷ BaseToTp ∷
     AddiToLui ∷ AddiToAuipc ∷ CallToAddi ∷ CallToAddiZero ∷
-    CallToLd ∷ LdToAddi ∷ []
+    CallToLd ∷ LdToAddi ∷ CLuiToCLi ∷ []
 
 -- bits 12 to 31 of the value plus 0x800
 abbrev pub hi20 : ℕ → ℕ

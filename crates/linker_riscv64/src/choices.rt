@@ -10,6 +10,7 @@ ghost use Rattle.linker_riscv64.specs.RiscVChoices.{riscv_row_of, by_jump, by_lo
 ghost use Rattle.linker_riscv64.specs.RiscVChoices.{AppliesToRiscV, IsRiscVChoice, short_tail_call};
 ghost use Rattle.linker_riscv64.specs.RiscVChoices.{near_call, no_high_part, short_high_part};
 ghost use Rattle.linker_riscv64.specs.RiscVChoices.{low_part, by_low_offset, low_offset};
+ghost use Rattle.linker_riscv64.specs.RiscVChoices.{with_low_part, zero_high_part};
 ghost use Rattle.linker_riscv64.specs.RiscVChoices.{without_entry, to_local_exec};
 ghost use Rattle.linker_riscv64.specs.RiscVChoices.{to_short_local_exec, to_initial_exec};
 ghost use Rattle.linker_riscv64.specs.RiscVChoices.{without_got};
@@ -90,19 +91,23 @@ fn reaches_by_jump(facts: &LinkFacts, jump: RiscVRelocation) -> bool
 
 /// Whether an instruction's signed 12 bits hold the symbol's address and addend.
 #[inline(always)]
-fn reaches_by_low_part(facts: &LinkFacts) -> bool
-    ensures { IsTrue result ↔ AllHold riscv_row_of facts.now.operands facts.now by_low_part }
+fn has_low_part_alone(facts: &LinkFacts) -> bool
+    ensures { IsTrue result ↔ AllHold riscv_row_of facts.now.operands facts.now with_low_part }
 {
     let operands = &facts.operands;
     let address = operands
         .symbol
         .wrapping_add(operands.addend.cast_unsigned())
         .cast_signed();
-    facts.is_marked
-        && facts.has_fixed_address
-        && facts.has_addresses
-        && -0x800 <= address
-        && address < 0x800
+    facts.has_fixed_address && facts.has_addresses && -0x800 <= address && address < 0x800
+}
+
+/// The same, and instructions may be deleted.
+#[inline(always)]
+fn reaches_by_low_part(facts: &LinkFacts) -> bool
+    ensures { IsTrue result ↔ AllHold riscv_row_of facts.now.operands facts.now by_low_part }
+{
+    facts.is_marked && has_low_part_alone(facts)
 }
 
 #[inline(always)]
@@ -140,6 +145,14 @@ fn has_short_high_part(section: &[u8], offset: u64, facts: &LinkFacts) -> bool
         && facts.has_fixed_address
         && facts.is_in_reach(row(RiscVRelocation::R_RISCV_RVC_LUI), &facts.operands, 0)
         && RelaxationKind::Hi20ToCLui.matches(section, offset)
+}
+
+#[inline(always)]
+fn has_zero_high_part(section: &[u8], offset: u64, facts: &LinkFacts) -> bool
+    ensures { IsTrue result ↔ AppliesToRiscV riscv_matches section.now offset facts.now
+        zero_high_part }
+{
+    has_low_part_alone(facts) && RelaxationKind::CLuiToCLi.matches(section, offset)
 }
 
 #[inline(always)]
@@ -203,7 +216,7 @@ fn is_without_got(facts: &LinkFacts) -> bool
     ensures { IsTrue result ↔ AllHold riscv_row_of facts.now.operands facts.now without_got }
 {
     let high = row(RiscVRelocation::R_RISCV_PCREL_HI20);
-    facts.is_marked
+    facts.is_label_marked
         && facts.has_fixed_distance
         && is_without_entry(facts)
         && facts.is_in_reach_if_known(high, &facts.operands, 0)
@@ -419,10 +432,11 @@ fn of_entry_low(section: &[u8], offset: u64, facts: &LinkFacts) -> RiscVChoice
 /// | | `TailToJal`, `CallToJal` | `R_RISCV_JAL` | a `jal` reaches |
 /// | `R_RISCV_HI20` | `Hi20Delete` | `R_RISCV_NONE` | S + A is from -0x800 to 0x7ff |
 /// | | `Hi20ToCLui` | `R_RISCV_RVC_LUI` | a `c.lui` reaches |
+/// | `R_RISCV_RVC_LUI` | `CLuiToCLi` | `R_RISCV_NONE` | S + A is from -0x800 to 0x7ff |
 /// | `R_RISCV_LO12_I`, `_S` | `Lo12Rs1ToZero` | the same | S + A is from -0x800 to 0x7ff |
 ///
-/// Each asks that the relocation is marked, that the addresses are known, and that `matches` of the
-/// rewrite holds; `c.j` and `c.lui` that the code may have them. Jumps ask that the symbol has no
+/// Each asks that the addresses are known, that `matches` of the rewrite holds, and but for
+/// `CLuiToCLi` that the relocation is marked; `c.j` and `Hi20ToCLui` that the code may have them. Jumps ask that the symbol has no
 /// PLT entry and that its distance is fixed, the others that its address is fixed. Where none
 /// applies, it is `NoOp` and the same relocation.
 ///
@@ -451,8 +465,10 @@ fn of_entry_low(section: &[u8], offset: u64, facts: &LinkFacts) -> RiscVChoice
 ///   0x7ff.
 /// - Initial-exec: `is_executable`, and the distance to `got_entry` is in reach of `auipc` and
 ///   `ld`. It has to be the address of the entry for initial-exec.
-/// - Without GOT: `is_marked`, `has_fixed_distance`, `is_local` and not `is_ifunc`, an addend of 0,
-///   and the distance to the symbol is in reach of `auipc` and `addi`.
+/// - Without GOT: `is_label_marked`, `has_fixed_distance`, `is_local` and not `is_ifunc`, an addend
+///   of 0, and the distance to the symbol is in reach of `auipc` and `addi`. Today's compilers mark
+///   only the low parts (GNU as 2.40 and LLVM 19), so that `is_label_marked` is false for what they
+///   make.
 /// - Where no address is known, a pair is taken to reach, and nothing else.
 ///
 /// All four relocations of a descriptor, and both of a load from the GOT, are chosen alike
@@ -536,6 +552,9 @@ pub fn choose(
             } else {
                 (RelaxationKind::NoOp, name)
             }
+        }
+        RiscVRelocation::R_RISCV_RVC_LUI if has_zero_high_part(section, offset, facts) => {
+            (RelaxationKind::CLuiToCLi, RiscVRelocation::R_RISCV_NONE)
         }
         RiscVRelocation::R_RISCV_LO12_I | RiscVRelocation::R_RISCV_LO12_S
             if is_low_part(name, section, offset, facts) => {

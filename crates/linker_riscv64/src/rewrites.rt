@@ -9,10 +9,11 @@ ghost use Rattle.linker_base.specs.Bits.{field, signed};
 ghost use Rattle.linker_riscv64.specs.RiscVRewrites.{riscv_rewrite, riscv_modifier, hi20, lo12};
 ghost use Rattle.linker_riscv64.specs.RiscVRewrites.{IsSigned32};
 ghost use Rattle.linker_riscv64.specs.RiscVRewrites.{FitsClui, HoldsHigh, riscv_deleted, with_rs1};
-ghost use Rattle.linker_riscv64.specs.RiscVRewrites.{tp};
+ghost use Rattle.linker_riscv64.specs.RiscVRewrites.{tp, clui_to_cli};
 ghost use Rattle.linker_riscv64.specs.RiscVOriginals.{opcode_of, funct3_of, adds_low12, IsTailCall};
 ghost use Rattle.linker_riscv64.specs.RiscVOriginals.{IsLui, IsAuipc, IsLd, IsAddTp, IsAddiToA0};
 ghost use Rattle.linker_riscv64.specs.RiscVOriginals.{IsCallOfDescriptor, riscv_matches};
+ghost use Rattle.linker_riscv64.specs.RiscVOriginals.{IsClui};
 ghost use Rattle.linker_elf.specs.Agrees.{RowFits};
 ghost use Rattle.linker_elf.specs.Readings.{RowReadsNoOther};
 ghost use Rattle.linker_elf.specs.RiscVRelocations.{clui_row};
@@ -72,6 +73,9 @@ pub enum RelaxationKind {
     CallToLd,
     /// Turns `ld` into `addi`, with both of its registers and its immediate.
     LdToAddi,
+    /// Turns `c.lui` into `c.li` of 0, with its destination register: the ISA reserves the immediate
+    /// 0 of `c.lui`, which a high part of 0 would need ("Integer Constant-Generation Instructions").
+    CLuiToCLi,
 }
 
 /// The instruction at an offset of the section.
@@ -90,6 +94,16 @@ fn window_at(section: &[u8], offset: u64) -> u32
     ensures { result ≡ from_le_bytes w32 (take 4 (drop offset section.now)) }
 {
     u32_from_slice(&section[offset as usize..])
+}
+
+/// The two bytes at an offset of the section.
+#[inline(always)]
+fn half_at(section: &[u8], offset: u64) -> u16
+    requires { offset + 2 ≤ length section.now }
+    ensures whole { result ≡ from_le_bytes w16 (drop offset section.now) }
+    ensures window { result ≡ from_le_bytes w16 (take 2 (drop offset section.now)) }
+{
+    u16_from_slice(&section[offset as usize..])
 }
 
 /// Writes an instruction at an offset of the section.
@@ -184,6 +198,15 @@ pub(super) fn is_call_of_descriptor(word: u32) -> bool
     opcode(word) == 0x67 && function(word) == 0 && destination(word) == 5 && upper_bits(word) == 0
 }
 
+/// `c.lui`.
+#[inline(always)]
+fn is_c_lui(half: u16) -> bool
+    ensures { IsTrue result ↔ IsClui half }
+{
+    let rd = u32::from(half) >> 7 & 0x1f;
+    half % 4 == 1 && half >> 13 == 3 && RelaxationKind::rd_valid_for_clui(rd)
+}
+
 /// The instruction with x4, the thread pointer, as its first source register.
 #[inline(always)]
 fn over_tp(word: u32) -> u32
@@ -246,6 +269,7 @@ impl RelaxationKind {
             14 => RelaxationKind::CallToAddiZero,
             15 => RelaxationKind::CallToLd,
             16 => RelaxationKind::LdToAddi,
+            17 => RelaxationKind::CLuiToCLi,
             _ => return None,
         };
         Some(kind)
@@ -311,6 +335,10 @@ impl RelaxationKind {
                 let rd = destination(ld);
                 put_word(section_bytes, offset, (ld >> 15 << 15) + (rd << 7) + 0x13);
             }
+            RelaxationKind::CLuiToCLi => {
+                let rd = half_at(section_bytes, offset) / 128 % 32;
+                put_half(section_bytes, offset, 0x4001 + rd * 128);
+            }
         }
     }
 
@@ -334,7 +362,7 @@ impl RelaxationKind {
             | RelaxationKind::CallToAddiZero
             | RelaxationKind::CallToLd
             | RelaxationKind::LdToAddi => has_window(section, offset, 0, 4),
-            RelaxationKind::Hi20ToCLui | RelaxationKind::TailToCJ => {
+            RelaxationKind::Hi20ToCLui | RelaxationKind::TailToCJ | RelaxationKind::CLuiToCLi => {
                 has_window(section, offset, 0, 2)
             }
         }
@@ -345,7 +373,7 @@ impl RelaxationKind {
     /// offset, and `ReplaceWithNop`, `ReplaceWithLongNop` and `Delete` for any four bytes of the
     /// section. `Lo12Rs1ToZero` and `BaseToTp` are meant for `addi`, `addiw`, `jalr`, loads and
     /// stores, which add the low part, and `LdToAddi` for `ld`. The instructions of a TLS
-    /// descriptor are `addi a0, rs1` and `jalr t0, 0(rs1)`.
+    /// descriptor are `addi a0, rs1` and `jalr t0, 0(rs1)`. `CLuiToCLi` needs only two bytes.
     #[inline]
     pub fn matches(self, section: &[u8], offset: u64) -> bool
         ensures exactly { IsTrue result ↔ riscv_matches self section.now offset }
@@ -354,12 +382,16 @@ impl RelaxationKind {
         if let RelaxationKind::NoOp = self {
             return true;
         }
+        if let RelaxationKind::CLuiToCLi = self {
+            return has_window(section, offset, 0, 2) && is_c_lui(half_at(section, offset));
+        }
         if !has_window(section, offset, 0, 4) {
             return false;
         }
         let word = word_at(section, offset);
         match self {
             RelaxationKind::NoOp
+            | RelaxationKind::CLuiToCLi
             | RelaxationKind::ReplaceWithNop
             | RelaxationKind::Delete
             | RelaxationKind::ReplaceWithLongNop => true,

@@ -2,7 +2,7 @@
 use Rattle.std.specs.Prelude.{◌≡◌, ℕ, List, slice_get, Option, Some, None}
 use Rattle.linker_base.specs.Rewrite.{Rewrite, CanRewrite}
 use Rattle.linker_base.specs.declared.relaxation.RelocationModifier.{RelocationModifier}
-use Rattle.linker_aarch64.specs.AArch64Rewrites.{aarch64_rewrite, aarch64_modifier}
+use Rattle.linker_aarch64.specs.AArch64Rewrites.{aarch64_rewrite, aarch64_modifier, aarch64_other}
 use Rattle.linker_elf.specs.AArch64.{aarch64_forms}
 use Rattle.linker_aarch64.specs.AArch64Rewrites.{aarch64_rewrites}
 use Rattle.linker_aarch64.specs.AArch64Choices.{IsAArch64Choice}
@@ -38,7 +38,9 @@ use Rattle.linker_utils.specs.declared.elf.Architecture.{Architecture}
 use Rattle.linker_utils.specs.declared.elf.Architecture.TheVariants.{AArch64, RiscV, LoongArch64}
 use Rattle.linker_utils.specs.declared.elf.Architecture.TheVariants.{Ppc64, X86_64}
 use Rattle.linker_elf.specs.declared.elf.choice.Choice.{Choice}
+use Rattle.linker_elf.specs.declared.aarch64.relocations.AArch64Relocation.{AArch64Relocation}
 use Rattle.linker_elf.specs.declared.elf.choice.LinkFacts.{LinkFacts}
+use Rattle.linker_elf.specs.declared.elf.choice.OtherRelocation.{OtherRelocation}
 use Rattle.linker_elf.specs.declared.elf.RelocationInstruction.{RelocationInstruction}
 use Rattle.linker_elf.specs.declared.elf.RelocationInstruction.TheVariants as insns
 use Rattle.linker_elf.specs.declared.elf.RelocationKindInfo.{RelocationKindInfo}
@@ -136,6 +138,16 @@ abbrev pub relaxation_deleted : Relaxation → Option DeletedBytes
 relaxation_deleted (relaxations.RiscV kind) = riscv_deleted kind
 relaxation_deleted (relaxations.LoongArch64 kind) = loongarch_deleted kind
 relaxation_deleted kind = None
+
+-- a relocation of AArch64 by its code
+abbrev pub by_code : OtherRelocation AArch64Relocation → OtherRelocation ℕ
+by_code other =
+    record { offset = other.offset; relocation = code_of (aarch64_name other.relocation) }
+
+-- the relocation of another instruction that it changes too
+abbrev pub relaxation_other : Relaxation → Option (OtherRelocation ℕ)
+relaxation_other (relaxations.AArch64 kind) = of_some by_code (aarch64_other kind)
+relaxation_other kind = None
 
 -- ---- choices
 

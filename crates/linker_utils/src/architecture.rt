@@ -7,6 +7,7 @@ ghost use Rattle.linker_utils.specs.Architectures.{IsRow, IsElfName, IsRole, for
 ghost use Rattle.linker_utils.specs.Architectures.{rewrite_of_number, relaxation_rewrite};
 ghost use Rattle.linker_utils.specs.Architectures.{relaxation_modifier, relaxation_matches};
 ghost use Rattle.linker_utils.specs.Architectures.{relaxation_architecture, relaxation_deleted};
+ghost use Rattle.linker_utils.specs.Architectures.{relaxation_other};
 ghost use Rattle.linker_utils.specs.Architectures.{IsArchitectureChoice};
 ghost use Rattle.linker_elf.specs.ElfNames.{named, unnamed};
 ghost use Rattle.linker_elf.specs.Entries.{IsAnswerOf, IsGotAnswer, IsPltAnswer};
@@ -15,8 +16,8 @@ ghost use Rattle.linker_elf.specs.declared.elf.RelocationKindInfo.{RelocationKin
 use crate::aarch64::{self, AArch64Relocation};
 use crate::elf::{
     AArch64Instruction, Architecture, Choice, InstructionRewrite, LinkFacts,
-    LoongArch64Instruction, Ppc64Instruction, RelocationInstruction, RiscVInstruction, Row,
-    Uleb128Role,
+    LoongArch64Instruction, OtherRelocation, Ppc64Instruction, RelocationInstruction,
+    RiscVInstruction, Row, Uleb128Role,
 };
 use crate::loongarch64::{self, LoongArch64Relocation};
 use crate::ppc64::{self, Ppc64Relocation};
@@ -81,6 +82,27 @@ impl Relaxation {
             Relaxation::RiscV(kind) => kind.deleted(),
             Relaxation::LoongArch64(kind) => kind.deleted(),
             _ => None,
+        }
+    }
+
+    /// The relocation of another instruction that the rewrite changes too, by its code, as
+    /// `other_relocation` of the `RelaxationKind` of `aarch64` says. Whatever relocation is there
+    /// becomes that one. `None` where the rewrite changes no other instruction that has one, and
+    /// for all other architectures: where their rewrites do, the next relocation is skipped
+    /// (`next_modifier`).
+    #[inline]
+    pub fn other_relocation(self) -> Option<OtherRelocation<u32>>
+        ensures { result ≡ relaxation_other self }
+    {
+        let Relaxation::AArch64(kind) = self else {
+            return None;
+        };
+        match kind.other_relocation() {
+            Some(other) => Some(OtherRelocation {
+                offset: other.offset,
+                relocation: other.relocation.elf_code(),
+            }),
+            None => None,
         }
     }
 }

@@ -1,11 +1,12 @@
 -- What a linker knows, and what it chooses, in the numbers that C sees.
-use Rattle.std.specs.Prelude.{◌≡◌, ℕ, ◌==◌, not, Option, None, Some, Bool}
+use Rattle.std.specs.Prelude.{◌≡◌, ℕ, ◌==◌, not, Option, None, Some, Bool, pos}
 use Rattle.linker_utils.specs.Architectures.{rewrite_of_number, relaxation_modifier}
-use Rattle.linker_utils.specs.Architectures.{relaxation_deleted}
+use Rattle.linker_utils.specs.Architectures.{relaxation_deleted, relaxation_other}
 use Rattle.linker_utils.specs.declared.architecture.Relaxation.{Relaxation}
 use Rattle.linker_utils.specs.declared.elf.Architecture.{Architecture}
 use Rattle.linker_elf.specs.declared.elf.choice.Choice.{Choice}
 use Rattle.linker_elf.specs.declared.elf.choice.LinkFacts.{LinkFacts}
+use Rattle.linker_elf.specs.declared.elf.choice.OtherRelocation.{OtherRelocation}
 use Rattle.linker_base.specs.declared.rewrite.DeletedBytes.{DeletedBytes}
 use Rattle.linker_utils_c.specs.declared.choices.ChoiceNumbers.{ChoiceNumbers}
 use Rattle.linker_utils_c.specs.declared.choices.LinkFactNumbers.{LinkFactNumbers}
@@ -28,6 +29,7 @@ facts_of facts =
       may_compress = is_set facts.may_compress;
       is_marked = is_set facts.is_marked;
       has_got_high_part = is_set facts.has_got_high_part;
+      is_label_marked = is_set facts.is_label_marked;
       has_private_base = is_set facts.has_private_base;
       may_change_toc = is_set facts.may_change_toc;
       has_addresses = is_set facts.has_addresses;
@@ -40,6 +42,14 @@ IsDeleted None numbers = (numbers.deleted_start ≡ 0) × (numbers.deleted_len �
 IsDeleted (Some bytes) numbers =
     (numbers.deleted_start ≡ bytes.start) × (numbers.deleted_len ≡ bytes.count)
 
+-- the other relocation, or none
+abbrev pub IsOther : Option (OtherRelocation ℕ) → ChoiceNumbers → Type 0
+IsOther None numbers =
+    (numbers.has_other ≡ 0) × (numbers.other_offset ≡ pos 0) × (numbers.other_relocation ≡ 0)
+IsOther (Some other) numbers =
+    (numbers.has_other ≡ 1) × (numbers.other_offset ≡ other.offset)
+    × (numbers.other_relocation ≡ other.relocation)
+
 -- a choice for an architecture, in numbers
 pub record IsChoiceInNumbers (architecture : Architecture) (chosen : Choice Relaxation ℕ)
     (numbers : ChoiceNumbers) : Type 0 where
@@ -47,3 +57,4 @@ pub record IsChoiceInNumbers (architecture : Architecture) (chosen : Choice Rela
   pub relocation : numbers.relocation ≡ chosen.relocation
   pub modifier : numbers.modifier ≡ modifier_number (relaxation_modifier chosen.kind)
   pub deleted : IsDeleted (relaxation_deleted chosen.kind) numbers
+  pub other : IsOther (relaxation_other chosen.kind) numbers

@@ -28,6 +28,7 @@ pub struct LinkFactNumbers {
     pub may_compress: u8,
     pub is_marked: u8,
     pub has_got_high_part: u8,
+    pub is_label_marked: u8,
     pub has_private_base: u8,
     pub may_change_toc: u8,
     pub has_addresses: u8,
@@ -48,6 +49,12 @@ pub struct ChoiceNumbers {
     pub deleted_len: u32,
     /// Where they begin, from the offset on.
     pub deleted_start: u64,
+    /// Where another relocation is, from the offset on, whose instruction the rewrite changes too.
+    pub other_offset: i64,
+    /// The code that it then has.
+    pub other_relocation: u32,
+    /// 1 if there is one; else 0, as are both numbers.
+    pub has_other: u8,
     /// The rewrite's count of bytes before the field; 0 if it has none.
     pub n: u8,
 }
@@ -68,6 +75,7 @@ impl LinkFactNumbers {
             may_compress: self.may_compress != 0,
             is_marked: self.is_marked != 0,
             has_got_high_part: self.has_got_high_part != 0,
+            is_label_marked: self.is_label_marked != 0,
             has_private_base: self.has_private_base != 0,
             may_change_toc: self.may_change_toc != 0,
             has_addresses: self.has_addresses != 0,
@@ -85,12 +93,19 @@ pub(crate) fn in_numbers(chosen: Choice<Relaxation, u32>) -> ChoiceNumbers
         Some(bytes) => (bytes.start, bytes.count),
         None => (0, 0),
     };
+    let (has_other, other_offset, other_relocation) = match chosen.kind.other_relocation() {
+        Some(other) => (1, other.offset, other.relocation),
+        None => (0, 0, 0),
+    };
     ChoiceNumbers {
         rewrite,
         relocation: chosen.relocation,
         modifier: number_of(chosen.kind.next_modifier()),
         deleted_len,
         deleted_start,
+        other_offset,
+        other_relocation,
+        has_other,
         n,
     }
 }

@@ -2,8 +2,8 @@
 use Rattle.std.proofs.Common.{◌≡◌, ◌≢◌, ℕ, zero, suc, ◌+◌, ◌-◌, ◌*◌, ◌/◌, ◌%◌, ◌^◌, ◌<◌, ◌≤◌, Bool}
 use Rattle.std.proofs.Common.{true, false, refl, sym, ◌∙◌, ap, subst, arith, List, length}
 use Rattle.std.proofs.Common.{ℤ, pos, negsuc, Some, None, inl, inr, ◌⊎◌}
-use Rattle.std.proofs.Common.{if◌then◌else◌, w64}
-use Rattle.std.specs.Prelude.{◌==◌, ◌&&◌, ◌||◌}
+use Rattle.std.proofs.Common.{if◌then◌else◌, w64, Option}
+use Rattle.std.specs.Prelude.{◌==◌, ◌&&◌, ◌||◌, not}
 use Rattle.std.specs.Int.{w16, w32, from_le_bytes, cast_signed}
 use Rattle.std.proofs.lemmas.Bool.{cases_lt}
 use Rattle.std.proofs.lemmas.Int.{ints, to_z_pos}
@@ -34,6 +34,7 @@ use Rattle.rewrite_laws.specs.Machine.{wrapped}
 use Rattle.rewrite_laws.specs.RiscVLaws.{IsLow12, thread_offset}
 use Rattle.rewrite_laws.specs.RiscVMachine.{Hart, register, with_integer, lui, sums, jal, executed}
 use Rattle.rewrite_laws.specs.RiscVMachine.{of_half, of_clui, Runs, Instruction, adds}
+use Rattle.rewrite_laws.specs.RiscVMachine.{cli_immediate}
 use Rattle.rewrite_laws.proofs.Words.{kept_field}
 use Rattle.rewrite_laws.proofs.RiscVMachine.{at_start, is_long, fetched_word, fetched_half, steps}
 use Rattle.rewrite_laws.proofs.RiscVMachine.{is_lui}
@@ -314,19 +315,22 @@ module _ (x : Operands) (before code : List ℕ)
   unfolding loads_short
   is_short_lui =
       let no_nop : (half == 1) ≡ false = grind (arith, function_kept) in
+      let otherwise : Option Instruction =
+      if field half 0 2 == 1 && (field half 13 16 == 2 && not (rd_of half == 0))
+      then Some (sums adds (rd_of half) 0 0 (cli_immediate half)) else None in
       ap (λ b. if b then Some (sums adds 0 0 0 (pos 0))
       else (if field half 0 2 == 1 && field half 13 16 == 5
       then Some (jal 0 ((riscv_form CjType).machine half))
       else (if field half 0 2 == 1 && field half 13 16 == 3
-      then of_clui (rd_of half) ((riscv_form CluiType).machine half) else None))) no_nop
+      then of_clui (rd_of half) ((riscv_form CluiType).machine half) else otherwise))) no_nop
       ∙ ap (λ n. if n == 1 && field half 13 16 == 5
       then Some (jal 0 ((riscv_form CjType).machine half))
       else (if n == 1 && field half 13 16 == 3
-      then of_clui (rd_of half) ((riscv_form CluiType).machine half) else None)) short_kept
+      then of_clui (rd_of half) ((riscv_form CluiType).machine half) else otherwise)) short_kept
       ∙ ap (λ n. if 1 == 1 && n == 5
       then Some (jal 0 ((riscv_form CjType).machine half))
       else (if 1 == 1 && n == 3
-      then of_clui (rd_of half) ((riscv_form CluiType).machine half) else None)) function_kept
+      then of_clui (rd_of half) ((riscv_form CluiType).machine half) else otherwise)) function_kept
       ∙ is_clui
 
   pub short_put : Hart → Hart
@@ -346,6 +350,46 @@ module _ (x : Operands) (before code : List ℕ)
       (signed 18 (place_sum (riscv_places CluiType) (from_le_bytes w16 code)))) k
   unfolding half loads_short short_put short_number
   short_is k = refl
+
+-- ---- `c.li` of 0
+
+module _ (half rd : ℕ) (is : half ≡ 0x4001 + rd * 128) (below : rd < 32) (some : rd ≢ 0) where
+  zero_register : rd_of half ≡ rd
+  zero_register = omega (arith, is)
+
+  zero_low : field half 0 2 ≡ 1
+  zero_low = omega (arith, is)
+
+  zero_function : field half 13 16 ≡ 2
+  zero_function = omega (arith, is)
+
+  zero_immediate : cli_immediate half ≡ pos 0
+  zero_immediate =
+      let e : field half 2 7 + field half 12 13 * 2 ^ 5 ≡ 0 = omega (arith, is) in
+      ap (signed 6) e
+
+  pub is_zero : of_half half ≡ Some (sums adds rd 0 0 (pos 0))
+  is_zero =
+      let no_nop : (half == 1) ≡ false = grind (arith, zero_function) in
+      let there : (rd_of half == 0) ≡ false = grind (arith, some, zero_register) in
+      let jumps : Option Instruction = Some (jal 0 ((riscv_form CjType).machine half)) in
+      let high : Option Instruction = of_clui (rd_of half) ((riscv_form CluiType).machine half) in
+      let zero : Option Instruction = Some (sums adds (rd_of half) 0 0 (cli_immediate half)) in
+      ap (λ b. if b then Some (sums adds 0 0 0 (pos 0))
+      else (if field half 0 2 == 1 && field half 13 16 == 5 then jumps
+      else (if field half 0 2 == 1 && field half 13 16 == 3 then high
+      else (if field half 0 2 == 1 && (field half 13 16 == 2 && not (rd_of half == 0))
+      then zero else None)))) no_nop
+      ∙ ap (λ n. if n == 1 && field half 13 16 == 5 then jumps
+      else (if n == 1 && field half 13 16 == 3 then high
+      else (if n == 1 && (field half 13 16 == 2 && not (rd_of half == 0))
+      then zero else None))) zero_low
+      ∙ ap (λ n. if 1 == 1 && n == 5 then jumps
+      else (if 1 == 1 && n == 3 then high
+      else (if 1 == 1 && (n == 2 && not (rd_of half == 0)) then zero else None))) zero_function
+      ∙ ap (λ b. if not b then zero else None) there
+      ∙ ap (λ r. Some (sums adds r 0 0 (cli_immediate half))) zero_register
+      ∙ ap (λ i. Some (sums adds rd 0 0 i)) zero_immediate
 
 -- the two put the same
 pub same_immediates : (n h l : ℕ) → n < 2 ^ 64 → (n < 0x1f800) ⊎ (2 ^ 64 - 0x20800 ≤ n)

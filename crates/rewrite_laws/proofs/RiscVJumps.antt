@@ -2,7 +2,7 @@
 use Rattle.std.proofs.Common.{◌≡◌, ◌≢◌, ℕ, ◌+◌, ◌-◌, ◌*◌, ◌%◌, ◌^◌, ◌<◌, ◌≤◌, true, false}
 use Rattle.std.proofs.Common.{refl, sym, ◌∙◌, ap, arith, List, length, drop, pos, negsuc}
 use Rattle.std.proofs.Common.{◌+ℤ◌, Option, Some, None, if◌then◌else◌}
-use Rattle.std.specs.Prelude.{◌==◌, ◌&&◌}
+use Rattle.std.specs.Prelude.{◌==◌, ◌&&◌, not}
 use Rattle.std.specs.Int.{w16, w32, w64, from_le_bytes}
 use Rattle.std.proofs.lemmas.Bool.{agree_below}
 use Rattle.std.proofs.lemmas.List.{length-drop}
@@ -25,6 +25,7 @@ use Rattle.relocation_laws.proofs.RiscV.{calls}
 use Rattle.rewrite_laws.specs.Machine.{AreBytes, moved}
 use Rattle.rewrite_laws.specs.RiscVMachine.{Hart, register, with_integer, auipc, jal, sums, jumps}
 use Rattle.rewrite_laws.specs.RiscVMachine.{rs1_of, of_half, of_clui, executed, Runs}
+use Rattle.rewrite_laws.specs.RiscVMachine.{cli_immediate}
 use Rattle.rewrite_laws.specs.RiscVMachine.{Instruction, adds as adding}
 use Rattle.rewrite_laws.proofs.Words.{two_words, word_below, kept_field}
 use Rattle.rewrite_laws.proofs.RiscVMachine.{moved_twice, cleared_sum, address_is, times_one}
@@ -272,7 +273,9 @@ module _ (y : Operands) (before code : List ℕ)
       let no_nop : (half == 1) ≡ false = grind (arith, function_kept) in
       let otherwise : Option Instruction =
       if field half 0 2 == 1 && field half 13 16 == 3
-      then of_clui (rd_of half) ((riscv_form CluiType).machine half) else None in
+      then of_clui (rd_of half) ((riscv_form CluiType).machine half)
+      else (if field half 0 2 == 1 && (field half 13 16 == 2 && not (rd_of half == 0))
+      then Some (sums adding (rd_of half) 0 0 (cli_immediate half)) else None) in
       ap (λ b. if b then Some (sums adding 0 0 0 (pos 0))
       else (if field half 0 2 == 1 && field half 13 16 == 5
       then Some (jal 0 ((riscv_form CjType).machine half)) else otherwise)) no_nop

@@ -1,14 +1,14 @@
 -- A `lui` computes the same as `c.lui`, and nothing where it is deleted.
 use Rattle.std.proofs.Common.{◌≡◌, ◌≢◌, ℕ, ◌+◌, ◌*◌, ◌≤◌, ◌<◌, ◌^◌, refl, sym}
 use Rattle.std.proofs.Common.{◌∙◌, ap, arith, List, length, take, drop}
-use Rattle.std.proofs.Common.{Some, w64, subst}
+use Rattle.std.proofs.Common.{Some, w64, subst, pos}
 use Rattle.std.specs.Int.{cast_signed, w16, w32, from_le_bytes}
 use Rattle.linker_base.specs.Bits.{field, signed}
 use Rattle.linker_base.specs.Form.{place_sum}
-use Rattle.linker_riscv64.specs.RiscVRewrites.{hi20_to_clui}
+use Rattle.linker_riscv64.specs.RiscVRewrites.{hi20_to_clui, clui_to_cli}
 use Rattle.linker_riscv64.specs.RiscVCalls.{word_at}
 use Rattle.linker_elf.specs.RiscV.{riscv_places}
-use Rattle.linker_riscv64.specs.RiscVOriginals.{rd_of, IsLui}
+use Rattle.linker_riscv64.specs.RiscVOriginals.{rd_of, IsLui, half_at}
 use Rattle.linker_elf.specs.declared.riscv64.forms.RiscVInstruction.TheVariants.{UType, CluiType}
 use Rattle.linker_riscv64.specs.declared.rewrites.RelaxationKind.TheVariants as kinds
 use Rattle.linker_riscv64.proofs.RiscVRewrites.{half_of_front}
@@ -20,7 +20,7 @@ use Rattle.linker_elf.specs.Elf.{IsWithin}
 use Rattle.rewrite_laws.proofs.RiscVHighParts.{high_20}
 use Rattle.rewrite_laws.specs.RiscVLaws.{IsLow12, after_rewrite, LuiBecomesClui, LuiIsDeleted}
 use Rattle.rewrite_laws.specs.RiscVLaws.{OffsetLuiIsDeleted, thread_offset, AreAlike, EndSo, HasZero}
-use Rattle.rewrite_laws.specs.RiscVLaws.{no_register}
+use Rattle.rewrite_laws.specs.RiscVLaws.{no_register, CluiBecomesCli}
 use Rattle.rewrite_laws.specs.Machine.{Relocated}
 use Rattle.rewrite_laws.proofs.RiscVHighParts.{IsOf, of_address, of_offset, absolute_is}
 use Rattle.linker_elf.specs.RiscVRelocations.{pair_row}
@@ -29,14 +29,16 @@ use Rattle.linker_elf.specs.declared.elf.RelocationKind.{RelocationKind}
 use Rattle.linker_elf.specs.declared.elf.RelocationKind.TheVariants.{Absolute, TpOff}
 use Rattle.linker_elf.specs.declared.elf.value.Operands.{Operands}
 use Rattle.linker_elf.specs.Originals.{HasWord}
-use Rattle.rewrite_laws.specs.RiscVMachine.{Hart, register, with_integer}
+use Rattle.rewrite_laws.specs.RiscVMachine.{Hart, register, with_integer, Instruction, sums, adds}
+use Rattle.rewrite_laws.specs.RiscVMachine.{executed}
 use Rattle.rewrite_laws.proofs.RiscVHighParts.{upper_put, upper_runs, upper_is, upper_register}
 use Rattle.rewrite_laws.proofs.RiscVHighParts.{upper_stands, no_high_part, low_12_number}
 use Rattle.rewrite_laws.proofs.RiscVHighParts.{zero_written, short_put, short_runs, short_is}
 use Rattle.rewrite_laws.proofs.RiscVHighParts.{short_register, short_stands, near}
-use Rattle.rewrite_laws.proofs.RiscVHighParts.{same_immediates}
-use Rattle.rewrite_laws.proofs.RiscVMachine.{other, same_written}
-use Rattle.rewrite_laws.proofs.Words.{rewritten_there, half_of_bytes}
+use Rattle.rewrite_laws.proofs.RiscVHighParts.{same_immediates, is_zero}
+use Rattle.rewrite_laws.proofs.RiscVMachine.{other, same_written, at_start, steps, fetched_half}
+use Rattle.rewrite_laws.proofs.Words.{rewritten_there, put_there, half_of_bytes}
+use Rattle.std.proofs.lemmas.List.{length-append}
 
 -- of a number of 12 bits
 lui_deleted : (kind : RelocationKind) (number : Operands → ℕ) → IsOf kind number
@@ -156,5 +158,66 @@ lui_becomes_clui section o m x y one high original new old_code new_code h k sma
         };
         next = ap (λ z. z.pc) is';
         new_next = ap (λ z. z.pc) is'';
+      };
+    }
+
+-- the `c.li` that a `c.lui` becomes
+cli_there : (section : List ℕ) (o : ℕ) → o + 2 ≤ length section
+    → from_le_bytes w16 (drop o (after_rewrite kinds.CLuiToCLi section o))
+    ≡ 0x4001 + rd_of (half_at section o) * 128
+cli_there section o inside =
+    let window = take 2 (drop o section) in
+    ap (from_le_bytes w16) (put_there section o 2 clui_to_cli (omega arith))
+    ∙ half_of_bytes (0x4001 + field (from_le_bytes w16 window) 7 12 * 128) (drop (o + 2) section)
+    (omega arith)
+    ∙ ap (λ w. 0x4001 + field w 7 12 * 128) (half_of_front (drop o section))
+
+pub clui_becomes_cli : CluiBecomesCli
+clui_becomes_cli section o m x low lui original is same code h k small small' alike =
+    let r = rd_of (half_at section o) in
+    let n = symbol_address x in
+    let a = code.applied in
+    let l = code.len in
+    let below : n < 2 ^ 64 = sum_below x.symbol _ in
+    let value = absolute_is UType x in
+    let new = drop o (after_rewrite kinds.CLuiToCLi section o) in
+    let put_bytes : List ℕ = clui_to_cli (take 2 (drop o section)) in
+    let long : 2 ≤ length new =
+    subst (λ xs. 2 ≤ length xs)
+    (sym (put_there section o 2 clui_to_cli (let inside = m.0 in omega (arith, inside))))
+    (omega (arith, length-append put_bytes (drop (o + 2) section))) in
+    let there = cli_there section o m.0 in
+    let zero : Instruction = sums adds r 0 0 (pos 0) in
+    let low_bits : field (from_le_bytes w16 new) 0 2 ≡ 1 = omega (arith, there) in
+    let none : wrapped (signed 32 (place_sum (riscv_places UType) (from_le_bytes w32 original))) ≡ 0
+    = ap (λ s. wrapped (signed 32 s)) (upper_stands Absolute x n lui original a below value l is
+    ∙ no_high_part n below (low_12_number n below low)) in
+    let register' : rd_of (from_le_bytes w32 original) ≡ r =
+    upper_register Absolute x n lui original a below value l is ∙ same in
+    let is' = upper_is Absolute x n lui original a below value l is h in
+    record {
+      end = upper_put Absolute x n lui original a below value l is h;
+      new_end = executed 2 zero k;
+      runs = upper_runs Absolute x n lui original a below value l is h small;
+      new_runs = (
+        executed 2 zero k,
+        steps new k.pc 0 2 zero k (at_start k.pc small')
+            (fetched_half new zero low_bits long
+            (is_zero (from_le_bytes w16 new) r there (omega arith) m.1.2)),
+        refl,
+      );
+      so = record {
+        alike = record {
+          integers = λ q e.
+              ap (λ z. register z q) is'
+              ∙ ap (λ s. register (with_integer s (wrapped (signed 32 (place_sum (riscv_places UType)
+              (from_le_bytes w32 original)))) h) q) register'
+              ∙ ap (λ v. register (with_integer r v h) q) none
+              ∙ same_written r 0 h k q (λ _. alike.integers q refl);
+          floats = λ q. ap (λ z. z.floats q) is' ∙ alike.floats q;
+          memory = λ q. ap (λ z. z.memory q) is' ∙ alike.memory q;
+        };
+        next = ap (λ z. z.pc) is';
+        new_next = refl;
       };
     }

@@ -42,6 +42,10 @@ Halves =
     × IsHalf (0x7d ∷ 0x75 ∷ []) (lui 10 (negsuc 4095))
     -- c.j -2
     × IsHalf (0xfd ∷ 0xbf ∷ []) (jal 0 (negsuc 1))
+    -- c.li a0, 0
+    × IsHalf (0x01 ∷ 0x45 ∷ []) (sums adds 10 0 0 (pos 0))
+    -- c.li t6, -32
+    × IsHalf (0x81 ∷ 0x5f ∷ []) (sums adds 31 0 0 (negsuc 31))
     -- `c.lui` with the immediate 0 is none
     × (fetched (0x01 ∷ 0x65 ∷ []) ≡ None)
 

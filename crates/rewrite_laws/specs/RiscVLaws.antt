@@ -15,7 +15,7 @@ use Rattle.linker_riscv64.specs.RiscVRewrites.{riscv_rewrite, tp, a0}
 use Rattle.linker_riscv64.specs.RiscVCalls.{word_at}
 use Rattle.linker_riscv64.specs.RiscVOriginals.{riscv_matches, opcode_of, funct3_of, rd_of, IsLui}
 use Rattle.linker_riscv64.specs.RiscVOriginals.{IsAddTp, IsAuipc, IsLd, IsAddiToA0}
-use Rattle.linker_riscv64.specs.RiscVOriginals.{IsCallOfDescriptor}
+use Rattle.linker_riscv64.specs.RiscVOriginals.{IsCallOfDescriptor, half_at}
 use Rattle.linker_elf.specs.RiscVRelocations.{riscv_row, clui_row, riscv_relocation}
 use Rattle.linker_elf.specs.Value.{sum_64, difference_64}
 use Rattle.linker_elf.specs.declared.elf.RelocationKindInfo.{RelocationKindInfo}
@@ -158,6 +158,18 @@ LuiIsDeleted =
     → (h k : Hart) → h.pc < 2 ^ 64 → k.pc < 2 ^ 64 → AreAlike no_register h k
     → EndSo 1 original h 0 new k
     (λ a b. HasZero (rd_of (word_at section o)) (sum_64 h.pc 4) a b × (b.pc ≡ k.pc))
+
+-- `c.li` puts what a `lui` of the same register and of the same S + A does, a high part of 0, for
+-- which there is no `c.lui`.
+abbrev pub CluiBecomesCli : Type 0
+CluiBecomesCli =
+    (section : List ℕ) (o : ℕ) → riscv_matches kinds.CLuiToCLi section o
+    → (x : Operands) → IsLow12 x → (lui original : List ℕ)
+    → IsLui (from_le_bytes w32 lui) → rd_of (from_le_bytes w32 lui) ≡ rd_of (half_at section o)
+    → Relocated (riscv_row names.R_RISCV_HI20) x lui original
+    → (h k : Hart) → h.pc < 2 ^ 64 → k.pc < 2 ^ 64 → AreAlike no_register h k
+    → EndSo 1 original h 1 (drop o (after_rewrite kinds.CLuiToCLi section o)) k
+    (HaveGoneOn (sum_64 h.pc 4) (sum_64 k.pc 2))
 
 -- ---- low parts (psABI, "Zero-page Relaxation")
 

@@ -3,9 +3,9 @@
 -- written, and code is apart from memory.
 use Rattle.std.specs.Prelude.{◌≡◌, ℕ, zero, suc, ◌+◌, ◌-◌, ◌*◌, ◌%◌, ◌^◌, ◌==◌, ◌&&◌, ◌||◌}
 use Rattle.std.specs.Prelude.{nat_lt, nat_le, if◌then◌else◌, List, length, drop, ℤ, pos}
-use Rattle.std.specs.Prelude.{Option, Some, None, IsSomeAnd, Bool}
+use Rattle.std.specs.Prelude.{Option, Some, None, IsSomeAnd, Bool, not}
 use Rattle.std.specs.Int.{w16, w32, from_le_bytes}
-use Rattle.linker_base.specs.Bits.{field}
+use Rattle.linker_base.specs.Bits.{field, signed}
 use Rattle.linker_elf.specs.RiscV.{riscv_form}
 use Rattle.linker_riscv64.specs.RiscVOriginals.{opcode_of, funct3_of, rd_of}
 use Rattle.linker_elf.specs.Value.{sum_64, difference_64}
@@ -122,9 +122,13 @@ of_clui rd (pos zero) = None
 of_clui rd immediate =
     if rd == 0 || rd == 2 then None else Some (lui rd immediate)
 
--- that of a half of 16 bits: `c.nop`, `c.j`, and `c.lui`, which has neither x0 nor x2 and an
--- immediate other than 0 ("C" extension, "NOP Instruction", "Control Transfer Instructions",
--- "Integer Constant-Generation Instructions")
+-- the immediate of `c.li`: bits 2 to 6, and bit 12 above them
+abbrev pub cli_immediate : ℕ → ℤ
+cli_immediate half = signed 6 (field half 2 7 + field half 12 13 * 2 ^ 5)
+
+-- that of a half of 16 bits: `c.nop`, `c.j`, `c.lui`, which has neither x0 nor x2 and an immediate
+-- other than 0, and `c.li`, which has not x0 ("C" extension, "NOP Instruction", "Control Transfer
+-- Instructions", "Integer Constant-Generation Instructions")
 abbrev pub of_half : ℕ → Option Instruction
 of_half half =
     if half == 1 then Some (sums adds 0 0 0 (pos 0))
@@ -132,7 +136,9 @@ of_half half =
     then Some (jal 0 ((riscv_form CjType).machine half))
     else (if field half 0 2 == 1 && field half 13 16 == 3
     then of_clui (rd_of half) ((riscv_form CluiType).machine half)
-    else None))
+    else (if field half 0 2 == 1 && (field half 13 16 == 2 && not (rd_of half == 0))
+    then Some (sums adds (rd_of half) 0 0 (cli_immediate half))
+    else None)))
 
 -- ---- execution
 

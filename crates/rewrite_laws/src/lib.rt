@@ -60,7 +60,8 @@ pub fn ppc64()
 
 /// RISC-V: a call that becomes `jal`, and a tail call that becomes `jal` or `c.j`, go to the target
 /// of their layout, and a call links the address behind it; `c.lui` puts in its register what `lui`
-/// does; a `lui` that is deleted would put 0 there, so that x0 can be the base of the instructions
+/// does; so does `c.li` of 0 where the high part is 0, in place of a `c.lui` that can't have that; a
+/// `lui` that is deleted would put 0 there, so that x0 can be the base of the instructions
 /// that add its low part. All else that a program sees is the same, but for the register of a tail
 /// call's `auipc` and that of a deleted `lui`. Where the offset of a variable has 12 bits, the
 /// thread pointer is the base in place of a register that would have its number, and the instruction
@@ -72,6 +73,7 @@ pub fn riscv64()
     ensures tail_calls { riscv_laws.TailCalls }
     ensures short_tail_calls { riscv_laws.ShortTailCalls }
     ensures short_high_parts { riscv_laws.LuiBecomesClui }
+    ensures short_zeros { riscv_laws.CluiBecomesCli }
     ensures no_high_parts { riscv_laws.LuiIsDeleted }
     ensures low_parts { riscv_laws.LowPartFromZero }
     ensures pairs { riscv_laws.PairFromZero }

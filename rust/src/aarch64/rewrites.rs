@@ -5,7 +5,8 @@ use crate::linker_base::bit_misc::BitExtraction;
 use crate::linker_base::relaxation::RelocationModifier;
 use crate::linker_base::rewrite::{has_window, overwrite};
 use crate::linker_base::utils::u32_from_slice;
-use crate::linker_elf::elf::InstructionRewrite;
+use crate::linker_elf::aarch64::AArch64Relocation;
+use crate::linker_elf::elf::{InstructionRewrite, OtherRelocation};
 
 /// A rewrite of one instruction, or of a pair (ELF for the Arm 64-bit Architecture, "Relocation
 /// optimization"). Except for `AdrpAddToNopAdr` the window is the instruction's 4 bytes, which
@@ -52,7 +53,8 @@ pub enum RelaxationKind {
     /// are unchanged. Requires such an instruction.
     LdrToAdd,
     /// Turns `adrp`, 4 bytes before the offset, and `add` into `nop` and `adr` of distance 0, with
-    /// the `adrp`'s destination register.
+    /// the `adrp`'s destination register. The relocation of the `adrp` is then `R_AARCH64_NONE`
+    /// (`other_relocation`).
     AdrpAddToNopAdr,
 }
 
@@ -276,6 +278,29 @@ impl RelaxationKind {
     #[inline]
     pub fn next_modifier(&self) -> RelocationModifier {
         RelocationModifier::Normal
+    }
+
+    /// The relocation of another instruction that the rewrite changes too. Whatever relocation is
+    /// there becomes the one that is named here, so that it makes no difference whether its value
+    /// is written before the rewrite or after it. `None` but for `AdrpAddToNopAdr`: the relocation
+    /// of the `adrp`, 4 bytes before the offset, becomes `R_AARCH64_NONE`, since it is a `nop`.
+    ///
+    /// ```
+    /// use linker_utils::aarch64::{AArch64Relocation, RelaxationKind};
+    ///
+    /// let other = RelaxationKind::AdrpAddToNopAdr.other_relocation().unwrap();
+    /// assert_eq!((other.offset, other.relocation), (-4, AArch64Relocation::R_AARCH64_NONE));
+    /// ```
+    #[must_use]
+    #[inline]
+    pub fn other_relocation(self) -> Option<OtherRelocation<AArch64Relocation>> {
+        match self {
+            RelaxationKind::AdrpAddToNopAdr => Some(OtherRelocation {
+                offset: -4,
+                relocation: AArch64Relocation::R_AARCH64_NONE,
+            }),
+            _ => None,
+        }
     }
 }
 

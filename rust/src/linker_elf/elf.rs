@@ -15,7 +15,7 @@ pub use crate::linker_elf::aarch64::AArch64Instruction;
 pub use crate::linker_elf::loongarch64::LoongArch64Instruction;
 pub use crate::linker_elf::ppc64::Ppc64Instruction;
 pub use crate::linker_elf::riscv64::RiscVInstruction;
-pub use choice::{Choice, LinkFacts};
+pub use choice::{Choice, LinkFacts, OtherRelocation};
 use crate::linker_base::bit_misc::BitRange;
 use crate::linker_base::relaxation::RelocationModifier;
 pub use numbers::RelocationNumbers;

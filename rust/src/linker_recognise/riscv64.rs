@@ -32,6 +32,10 @@ fn candidates(name: RiscVRelocation) -> [Option<RiscVChoice>; CANDIDATES] {
             choice(RelaxationKind::Hi20ToCLui, RiscVRelocation::R_RISCV_RVC_LUI),
             unchanged,
         ),
+        RiscVRelocation::R_RISCV_RVC_LUI => two(
+            choice(RelaxationKind::CLuiToCLi, RiscVRelocation::R_RISCV_NONE),
+            unchanged,
+        ),
         RiscVRelocation::R_RISCV_LO12_I => two(
             choice(RelaxationKind::Lo12Rs1ToZero, name),
             unchanged,

@@ -58,17 +58,19 @@ fn reaches_by_jump(facts: &LinkFacts, jump: RiscVRelocation) -> bool {
 
 /// Whether an instruction's signed 12 bits hold the symbol's address and addend.
 #[inline(always)]
-fn reaches_by_low_part(facts: &LinkFacts) -> bool {
+fn has_low_part_alone(facts: &LinkFacts) -> bool {
     let operands = &facts.operands;
     let address = operands
         .symbol
         .wrapping_add(operands.addend.cast_unsigned())
         .cast_signed();
-    facts.is_marked
-        && facts.has_fixed_address
-        && facts.has_addresses
-        && -0x800 <= address
-        && address < 0x800
+    facts.has_fixed_address && facts.has_addresses && -0x800 <= address && address < 0x800
+}
+
+/// The same, and instructions may be deleted.
+#[inline(always)]
+fn reaches_by_low_part(facts: &LinkFacts) -> bool {
+    facts.is_marked && has_low_part_alone(facts)
 }
 
 #[inline(always)]
@@ -95,6 +97,11 @@ fn has_short_high_part(section: &[u8], offset: u64, facts: &LinkFacts) -> bool {
         && facts.has_fixed_address
         && facts.is_in_reach(row(RiscVRelocation::R_RISCV_RVC_LUI), &facts.operands, 0)
         && RelaxationKind::Hi20ToCLui.matches(section, offset)
+}
+
+#[inline(always)]
+fn has_zero_high_part(section: &[u8], offset: u64, facts: &LinkFacts) -> bool {
+    has_low_part_alone(facts) && RelaxationKind::CLuiToCLi.matches(section, offset)
 }
 
 #[inline(always)]
@@ -141,7 +148,7 @@ fn is_for_initial_exec(facts: &LinkFacts) -> bool {
 #[inline]
 fn is_without_got(facts: &LinkFacts) -> bool {
     let high = row(RiscVRelocation::R_RISCV_PCREL_HI20);
-    facts.is_marked
+    facts.is_label_marked
         && facts.has_fixed_distance
         && is_without_entry(facts)
         && facts.is_in_reach_if_known(high, &facts.operands, 0)
@@ -316,10 +323,11 @@ fn of_entry_low(section: &[u8], offset: u64, facts: &LinkFacts) -> RiscVChoice {
 /// | | `TailToJal`, `CallToJal` | `R_RISCV_JAL` | a `jal` reaches |
 /// | `R_RISCV_HI20` | `Hi20Delete` | `R_RISCV_NONE` | S + A is from -0x800 to 0x7ff |
 /// | | `Hi20ToCLui` | `R_RISCV_RVC_LUI` | a `c.lui` reaches |
+/// | `R_RISCV_RVC_LUI` | `CLuiToCLi` | `R_RISCV_NONE` | S + A is from -0x800 to 0x7ff |
 /// | `R_RISCV_LO12_I`, `_S` | `Lo12Rs1ToZero` | the same | S + A is from -0x800 to 0x7ff |
 ///
-/// Each asks that the relocation is marked, that the addresses are known, and that `matches` of the
-/// rewrite holds; `c.j` and `c.lui` that the code may have them. Jumps ask that the symbol has no
+/// Each asks that the addresses are known, that `matches` of the rewrite holds, and but for
+/// `CLuiToCLi` that the relocation is marked; `c.j` and `Hi20ToCLui` that the code may have them. Jumps ask that the symbol has no
 /// PLT entry and that its distance is fixed, the others that its address is fixed. Where none
 /// applies, it is `NoOp` and the same relocation.
 ///
@@ -348,8 +356,10 @@ fn of_entry_low(section: &[u8], offset: u64, facts: &LinkFacts) -> RiscVChoice {
 ///   0x7ff.
 /// - Initial-exec: `is_executable`, and the distance to `got_entry` is in reach of `auipc` and
 ///   `ld`. It has to be the address of the entry for initial-exec.
-/// - Without GOT: `is_marked`, `has_fixed_distance`, `is_local` and not `is_ifunc`, an addend of 0,
-///   and the distance to the symbol is in reach of `auipc` and `addi`.
+/// - Without GOT: `is_label_marked`, `has_fixed_distance`, `is_local` and not `is_ifunc`, an addend
+///   of 0, and the distance to the symbol is in reach of `auipc` and `addi`. Today's compilers mark
+///   only the low parts (GNU as 2.40 and LLVM 19), so that `is_label_marked` is false for what they
+///   make.
 /// - Where no address is known, a pair is taken to reach, and nothing else.
 ///
 /// All four relocations of a descriptor, and both of a load from the GOT, are chosen alike
@@ -426,6 +436,9 @@ pub fn choose(
             } else {
                 (RelaxationKind::NoOp, name)
             }
+        }
+        RiscVRelocation::R_RISCV_RVC_LUI if has_zero_high_part(section, offset, facts) => {
+            (RelaxationKind::CLuiToCLi, RiscVRelocation::R_RISCV_NONE)
         }
         RiscVRelocation::R_RISCV_LO12_I | RiscVRelocation::R_RISCV_LO12_S
             if is_low_part(name, section, offset, facts) => {

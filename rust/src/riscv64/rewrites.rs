@@ -56,6 +56,9 @@ pub enum RelaxationKind {
     CallToLd,
     /// Turns `ld` into `addi`, with both of its registers and its immediate.
     LdToAddi,
+    /// Turns `c.lui` into `c.li` of 0, with its destination register: the ISA reserves the immediate
+    /// 0 of `c.lui`, which a high part of 0 would need ("Integer Constant-Generation Instructions").
+    CLuiToCLi,
 }
 
 /// The instruction at an offset of the section.
@@ -68,6 +71,12 @@ pub(super) fn word_at(section: &[u8], offset: u64) -> u32 {
 #[inline(always)]
 fn window_at(section: &[u8], offset: u64) -> u32 {
     u32_from_slice(&section[offset as usize..])
+}
+
+/// The two bytes at an offset of the section.
+#[inline(always)]
+fn half_at(section: &[u8], offset: u64) -> u16 {
+    u16_from_slice(&section[offset as usize..])
 }
 
 /// Writes an instruction at an offset of the section.
@@ -136,6 +145,13 @@ pub(super) fn is_call_of_descriptor(word: u32) -> bool {
     opcode(word) == 0x67 && function(word) == 0 && destination(word) == 5 && upper_bits(word) == 0
 }
 
+/// `c.lui`.
+#[inline(always)]
+fn is_c_lui(half: u16) -> bool {
+    let rd = u32::from(half) >> 7 & 0x1f;
+    half % 4 == 1 && half >> 13 == 3 && RelaxationKind::rd_valid_for_clui(rd)
+}
+
 /// The instruction with x4, the thread pointer, as its first source register.
 #[inline(always)]
 fn over_tp(word: u32) -> u32 {
@@ -191,6 +207,7 @@ impl RelaxationKind {
             14 => RelaxationKind::CallToAddiZero,
             15 => RelaxationKind::CallToLd,
             16 => RelaxationKind::LdToAddi,
+            17 => RelaxationKind::CLuiToCLi,
             _ => return None,
         };
         Some(kind)
@@ -254,6 +271,10 @@ impl RelaxationKind {
                 let rd = destination(ld);
                 put_word(section_bytes, offset, (ld >> 15 << 15) + (rd << 7) + 0x13);
             }
+            RelaxationKind::CLuiToCLi => {
+                let rd = half_at(section_bytes, offset) / 128 % 32;
+                put_half(section_bytes, offset, 0x4001 + rd * 128);
+            }
         }
     }
 
@@ -276,7 +297,7 @@ impl RelaxationKind {
             | RelaxationKind::CallToAddiZero
             | RelaxationKind::CallToLd
             | RelaxationKind::LdToAddi => has_window(section, offset, 0, 4),
-            RelaxationKind::Hi20ToCLui | RelaxationKind::TailToCJ => {
+            RelaxationKind::Hi20ToCLui | RelaxationKind::TailToCJ | RelaxationKind::CLuiToCLi => {
                 has_window(section, offset, 0, 2)
             }
         }
@@ -287,12 +308,15 @@ impl RelaxationKind {
     /// offset, and `ReplaceWithNop`, `ReplaceWithLongNop` and `Delete` for any four bytes of the
     /// section. `Lo12Rs1ToZero` and `BaseToTp` are meant for `addi`, `addiw`, `jalr`, loads and
     /// stores, which add the low part, and `LdToAddi` for `ld`. The instructions of a TLS
-    /// descriptor are `addi a0, rs1` and `jalr t0, 0(rs1)`.
+    /// descriptor are `addi a0, rs1` and `jalr t0, 0(rs1)`. `CLuiToCLi` needs only two bytes.
     #[must_use]
     #[inline]
     pub fn matches(self, section: &[u8], offset: u64) -> bool {
         if let RelaxationKind::NoOp = self {
             return true;
+        }
+        if let RelaxationKind::CLuiToCLi = self {
+            return has_window(section, offset, 0, 2) && is_c_lui(half_at(section, offset));
         }
         if !has_window(section, offset, 0, 4) {
             return false;
@@ -300,6 +324,7 @@ impl RelaxationKind {
         let word = word_at(section, offset);
         match self {
             RelaxationKind::NoOp
+            | RelaxationKind::CLuiToCLi
             | RelaxationKind::ReplaceWithNop
             | RelaxationKind::Delete
             | RelaxationKind::ReplaceWithLongNop => true,

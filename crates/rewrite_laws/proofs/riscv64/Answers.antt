@@ -6,6 +6,7 @@ use Rattle.rewrite_laws.specs.RiscVMachine.{auipc, jal, sums, adds, jumps, execu
 use Rattle.rewrite_laws.proofs.RiscVCalls.{call_becomes_jal, tail_becomes_jal, tail_becomes_cj}
 use Rattle.rewrite_laws.proofs.RiscVLowParts.{low_part_from_zero, low_part_from_tp}
 use Rattle.rewrite_laws.proofs.RiscVLuis.{lui_becomes_clui, lui_is_deleted, offset_lui_is_deleted}
+use Rattle.rewrite_laws.proofs.RiscVLuis.{clui_becomes_cli}
 use Rattle.rewrite_laws.proofs.RiscVSums.{sum_is_deleted}
 use Rattle.rewrite_laws.proofs.RiscVDescriptors.{to_local_exec, to_short_local_exec, to_initial_exec}
 use Rattle.rewrite_laws.proofs.RiscVDescriptors.{got_to_address, long_nop}
@@ -23,6 +24,9 @@ returns-clause-short_tail_calls c = (tail_becomes_cj, tail_becomes_cj)
 
 pub returns-clause-short_high_parts : goal.returns-clause-short_high_parts
 returns-clause-short_high_parts c = lui_becomes_clui
+
+pub returns-clause-short_zeros : goal.returns-clause-short_zeros
+returns-clause-short_zeros c = clui_becomes_cli
 
 pub returns-clause-no_high_parts : goal.returns-clause-no_high_parts
 returns-clause-no_high_parts c = lui_is_deleted
@@ -70,7 +74,7 @@ returns-clause-words c = (refl, refl, refl, refl, refl, refl, refl, refl)
 
 pub returns-clause-halves : goal.returns-clause-halves
 unfolding place_sum
-returns-clause-halves c = (refl, refl, refl, refl, refl)
+returns-clause-halves c = (refl, refl, refl, refl, refl, refl, refl)
 
 pub returns-clause-execution : goal.returns-clause-execution
 returns-clause-execution c =

@@ -31,6 +31,10 @@ pub struct LinkFacts {
     pub is_marked: bool,
     /// The high part whose label an `R_RISCV_PCREL_LO12_I` names has `R_RISCV_GOT_HI20`.
     pub has_got_high_part: bool,
+    /// The load from the GOT may be relaxed: `R_RISCV_RELAX` is at the offset of the
+    /// `R_RISCV_GOT_HI20` and at that of every `R_RISCV_PCREL_LO12_I` that names its label. Compilers
+    /// mark the low parts only, so that it doesn't hold in what they make.
+    pub is_label_marked: bool,
     /// The register through which an instruction of PowerPC64 gets the high part of its address,
     /// and which an `addis` has set, is read only by instructions whose relocation is of the same
     /// symbol and addend. Linkers assume so, as the ABI asks of compilers ("TOC Optimizations").
@@ -54,6 +58,16 @@ pub struct Choice<K, R> {
     /// The rewrite; `NoOp` where none is chosen, and where only the relocation changes.
     pub kind: K,
     /// The relocation's name after the rewrite.
+    pub relocation: R,
+}
+
+/// The relocation of another instruction that a rewrite changes too. Whatever relocation is there
+/// becomes this one, whether its value was written before the rewrite or is written after it.
+#[derive(Debug, Clone, Copy, PartialEq, Eq)]
+pub struct OtherRelocation<R> {
+    /// Where it is, in bytes from the offset of the rewrite's own relocation.
+    pub offset: i64,
+    /// Its name after the rewrite.
     pub relocation: R,
 }
 

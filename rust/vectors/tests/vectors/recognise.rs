@@ -134,6 +134,18 @@ fn what_linkers_deleted_on_riscv_is_not_compared() {
     assert_eq!(found, [None; 6]);
 }
 
+/// `c.lui a0, 1` became `c.li a0, 0` by both linkers. With another register it would be none.
+#[test]
+fn what_linkers_made_of_clui_is_recognised() {
+    let name = RiscVRelocation::R_RISCV_RVC_LUI;
+    let zeroed = Choice { kind: RiscVKind::CLuiToCLi, relocation: RiscVRelocation::R_RISCV_NONE };
+    let made = Made { choice: zeroed, offset: 0, value: None };
+    let found = riscv64::recognise(name, &[0x05, 0x65], 0, &[], &[0x01, 0x45]);
+    assert_eq!(found, [Some(made), None, None, None, None, None]);
+    let found = riscv64::recognise(name, &[0x05, 0x65], 0, &[], &[0x81, 0x45]);
+    assert_eq!(found, [None; 6]);
+}
+
 /// GNU ld made `pcaddi` of `pcalau12i a0` and deleted `ld.d a0, a0`. The instruction of the other
 /// relocation is named whole.
 #[test]

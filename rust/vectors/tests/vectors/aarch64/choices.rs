@@ -124,6 +124,66 @@ fn adr_is_chosen_as_by_linkers() {
     }
 }
 
+/// What a linker does with one of two relocations.
+#[derive(Debug, Clone, Copy)]
+enum Step {
+    Rewrite(usize),
+    Write(usize),
+}
+
+#[test]
+fn values_are_written_before_rewrites_or_after_them() {
+    use Step::{Rewrite, Write};
+    let pair = [
+        (0u64, AArch64Relocation::R_AARCH64_ADR_PREL_PG_HI21),
+        (4, AArch64Relocation::R_AARCH64_ADD_ABS_LO12_NC),
+    ];
+    let orders = [
+        [Rewrite(0), Rewrite(1), Write(0), Write(1)],
+        [Rewrite(1), Rewrite(0), Write(1), Write(0)],
+        [Rewrite(0), Write(0), Rewrite(1), Write(1)],
+        [Rewrite(1), Write(1), Rewrite(0), Write(0)],
+    ];
+    for &(before, value, after) in &NOP_ADR {
+        let place = 0x4000_0000u64;
+        let distance = (value ^ 0x10_0000).wrapping_sub(0x10_0000);
+        let symbol = (place + 4).wrapping_add(distance);
+        let facts = own(Operands { symbol, place, ..Operands::default() });
+        let chosen = pair.map(|(at, name)| choose(name, &before, at, &next(&facts, at)));
+        let mut names = chosen.map(|choice| choice.relocation);
+        for ((at, _), choice) in pair.iter().zip(chosen) {
+            let Some(other) = choice.kind.other_relocation() else {
+                continue;
+            };
+            for (name, (there, _)) in names.iter_mut().zip(pair) {
+                if there == at.wrapping_add_signed(other.offset) {
+                    *name = other.relocation;
+                }
+            }
+        }
+        for order in orders {
+            let mut section = before;
+            for step in order {
+                match step {
+                    Rewrite(index) => {
+                        let (mut offset, mut addend) = (pair[index].0, 0);
+                        chosen[index].kind.apply(&mut section, &mut offset, &mut addend);
+                    }
+                    Write(index) => {
+                        let at = pair[index].0;
+                        let row = row(names[index]).expect("a row");
+                        if let Some(value) = row.value(&next(&facts, at).operands) {
+                            let written = row.write(value, &mut section[at as usize..]);
+                            assert!(written.is_ok(), "{order:?}");
+                        }
+                    }
+                }
+            }
+            assert_eq!(section, after, "{value:?}, {order:?}");
+        }
+    }
+}
+
 #[test]
 fn entry_loads_become_addresses_as_by_linkers() {
     let page_name = AArch64Relocation::R_AARCH64_ADR_GOT_PAGE;

@@ -82,6 +82,39 @@ fn choices_of_deleted_lui_match_gnu_ld() {
     }
 }
 
+#[test]
+fn choices_of_clui_match_linkers() {
+    let name = RiscVRelocation::R_RISCV_RVC_LUI;
+    let zeroed = choice(RelaxationKind::CLuiToCLi, RiscVRelocation::R_RISCV_NONE);
+    let as_it_is = choice(RelaxationKind::NoOp, name);
+    for (before, value, after) in pairs::CLUI {
+        let facts = LinkFacts {
+            is_marked: false,
+            may_compress: false,
+            ..facts_at(value.cast_unsigned(), 0x10000)
+        };
+        let is_zero = (-0x800..0x800).contains(&value);
+        let mut section = both([before.into(), 0]);
+        assert_eq!(choose(name, &section[..1], 0, &facts), as_it_is, "{value:?}");
+        let chosen = choose(name, &section[..2], 0, &facts);
+        assert_eq!(chosen, if is_zero { zeroed } else { as_it_is }, "{value:?}");
+        assert_eq!(link(name, &mut section, 0, &facts), chosen, "{value:?}");
+        assert_eq!(section, both([after.into(), 0]), "{value:?}");
+        for unknown in [
+            LinkFacts { has_fixed_address: false, ..facts },
+            LinkFacts { has_addresses: false, ..facts },
+        ] {
+            let half = before.to_le_bytes();
+            assert_eq!(choose(name, &half, 0, &unknown), as_it_is, "{value:?}");
+        }
+    }
+    // `c.addi16sp sp, 16`, the hint `c.lui x0, 1`, `c.li a0, 1` and a word
+    for half in [0x6141u16, 0x6005, 0x4505, 0x6507] {
+        let chosen = choose(name, &half.to_le_bytes(), 0, &facts_at(0, 0x10000));
+        assert_eq!(chosen, as_it_is, "{half:x}");
+    }
+}
+
 const CALL: [u32; 2] = [0x0000_0097, 0x0000_80e7];
 
 const TAIL: [u32; 2] = [0x0000_0317, 0x0003_0067];
@@ -181,7 +214,11 @@ fn choices_of_thread_local_storage_match_linkers() {
 #[test]
 fn a_load_from_the_got_becomes_the_address_of_a_linker() {
     let (symbol, place, load, address) = ADDRESS;
-    let facts = LinkFacts { has_got_high_part: true, ..facts_in(symbol, place, true, true) };
+    let facts = LinkFacts {
+        has_got_high_part: true,
+        is_label_marked: true,
+        ..facts_in(symbol, place, true, false)
+    };
     let (high, auipc) = left(RiscVRelocation::R_RISCV_GOT_HI20, load[0], &facts);
     let (low, addi) = left(RiscVRelocation::R_RISCV_PCREL_LO12_I, load[1], &facts);
     assert_eq!((high, low), (RelaxationKind::NoOp, RelaxationKind::LdToAddi), "{symbol:?}");
@@ -193,9 +230,14 @@ fn a_load_from_the_got_becomes_the_address_of_a_linker() {
         LinkFacts { is_local: false, ..facts },
         LinkFacts { is_ifunc: true, ..facts },
         LinkFacts { has_fixed_distance: false, ..facts },
-        LinkFacts { is_marked: false, ..facts },
+        LinkFacts { is_label_marked: false, ..facts },
+        // the mark of a low part, as compilers write it
+        LinkFacts { is_label_marked: false, is_marked: true, ..facts },
     ] {
         let (kind, _) = left(RiscVRelocation::R_RISCV_PCREL_LO12_I, load[1], &replaceable);
         assert_eq!(kind, RelaxationKind::NoOp, "{replaceable:?}");
+        let high = RiscVRelocation::R_RISCV_GOT_HI20;
+        let kept = choice(RelaxationKind::NoOp, high);
+        assert_eq!(choose(high, &both([load[0], 0]), 0, &replaceable), kept, "{replaceable:?}");
     }
 }
