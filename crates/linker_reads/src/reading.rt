@@ -480,7 +480,8 @@ fn with_alignment(alignment: u64, field: FieldValue) -> FieldValue
 ///   halves, so that all bits are known.
 /// - PowerPC64's and LoongArch's adjusted high halves need no rounding: the row's bias is part of
 ///   the value, and `solve` takes it off.
-/// - MOVN and MOVZ have 16 bits and the sign, whatever their shift is.
+/// - MOVN and MOVZ have 16 bits and the sign, whatever their shift is; a MOVK has 16 bits.
+/// - A `jirl` at `R_LARCH_PCALA_LO12` has bits 2 to 11, and bits 0 and 1 are 0.
 /// - Whole bytes have the low bits of the value, as a little-endian number; `R_RISCV_SET6` has 6.
 ///
 /// `None` if there are fewer bytes than the window. Also `None` of rows whose field isn't the
