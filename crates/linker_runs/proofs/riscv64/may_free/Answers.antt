@@ -56,6 +56,7 @@ returns-in-Some c =
   where
     divided : IsTrue (nat_eq (c.args.freed % c.enough_at.result) 0) → c.args.freed % c.enough_at.result ≡ 0
     divided test = search rules
+
     divides : c.args.freed % c.enough_at.result ≡ 0 → IsTrue (nat_eq (c.args.freed % c.enough_at.result) 0)
     divides none = search rules
 
@@ -63,6 +64,6 @@ pub returns-in-None : goal.returns-in-None
 returns-in-None c =
     let relocations = c.args.relocations.now in (
       λ _ j nops w other within has least.
-      absurd (c.in-None.ensures.none nops (sym (ap (λ n. (relocation_at relocations n).addend) (same_next relocations c.args.index j c.args.next other c.requires)) ∙ has)),
+          absurd (c.in-None.ensures.none nops (sym (ap (λ n. (relocation_at relocations n).addend) (same_next relocations c.args.index j c.args.next other c.requires)) ∙ has)),
       λ _. search rules,
     )
