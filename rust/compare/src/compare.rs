@@ -1,14 +1,19 @@
 //! Each export with random arguments: the static library's and the one of ordinary Rust return the
 //! same and leave the same behind.
 
-use crate::*;
+use exports::*;
 use linker_utils::elf::{Operands, RelocationNumbers};
 use linker_utils::recognise::FieldBits;
 use linker_utils::relaxation::{BlockHead, Call, RelaxDelta};
 use linker_utils::runs::relaxation::{Shape, Shapes};
 use linker_utils::runs::shapes::{fixed, loongarch64, riscv64};
-// It links the static library.
-use sathunne as _;
+
+/// Else both sides are of ordinary Rust.
+#[test]
+fn the_static_library_is_proved() {
+    let folder = "LINKER_UTILS_FOLDER names its folder, which bindings/archive prints";
+    assert!(sathunne::is_proved(), "{folder}");
+}
 
 /// How often each export is called.
 const CALLS: usize = 100_000;
