@@ -684,8 +684,8 @@ struct linker_utils_choice {
     uint64_t deleted_start;
     /* Where another relocation is, in bytes from the offset on, whose instruction the rewrite
      * changes too, and the type that it has then. Whatever relocation is at that offset gets that
-     * type: so it makes no difference whether its value is written before the rewrite or after it.
-     * Both are 0 where there is none. */
+     * type, and not the one that its own choice names: so it makes no difference whether its value
+     * is written before the rewrite or after it. Both are 0 where there is none. */
     int64_t other_offset;
     uint32_t other_relocation;
     uint8_t has_other; /* 1 where there is another; else 0. */
