@@ -1,9 +1,9 @@
-//! Which bytes linkers deleted of a section, by what is left. On RISC-V and LoongArch they
-//! delete more than the library's rewrites do, and symbols tell only how much was deleted between two.
+//! Which bytes linkers deleted of a section, by what is left. On RISC-V and LoongArch they delete
+//! more than the library's rewrites do, and two symbols tell only how much was deleted between them.
 //!
-//! Each relocation that may be relaxed is tried with all numbers of deleted bytes. The deletions
-//! count that leave most of the bytes that no relocation changes, and most instructions as they were
-//! or as a known rewrite makes them.
+//! Each relocation that may be relaxed is tried with all numbers of deleted bytes. Those deletions
+//! are taken that leave most of the bytes that no relocation changes, and most instructions as they
+//! were or as a known rewrite makes them.
 
 use crate::elf::{Linked, Relocation, Section};
 use crate::made;

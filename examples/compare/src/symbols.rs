@@ -66,8 +66,8 @@ impl<'a> Definers<'a> {
         all.map(|one| one.name.as_str()).collect()
     }
 
-    /// Where a global symbol is, if the object is the one that defines it. Linkers make hidden symbols
-    /// local ones, if these aren't other objects'.
+    /// Where a global symbol is, if the object is the one that defines it. It may have become a
+    /// local one, as hidden symbols do, if that isn't another object's.
     pub fn address(&self, linked: &Linked, object: &Object, symbol: &Symbol) -> Option<u64> {
         let Home::Section(section) = symbol.home else { return None };
         if let Some(global) = linked.globals.get(&symbol.name) {
@@ -165,8 +165,8 @@ impl LocalSymbols {
         is_all
     }
 
-    /// Those symbols of a name whose bytes are at one address rather than at any other, and that are
-    /// there rather than any other symbol.
+    /// Those symbols of a name whose bytes are at one address rather than at any other, and that
+    /// are there rather than any other symbol.
     fn add_likeliest(
         &mut self,
         symbols: &[(usize, usize)],
