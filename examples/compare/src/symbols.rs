@@ -2,7 +2,6 @@
 
 use crate::align;
 use crate::elf::{Home, Linked, Object, Reason, Symbol, is_label};
-use linker_utils::elf::Architecture;
 use object::elf::{STT_FILE, STT_GNU_IFUNC, STT_SECTION, STT_TLS};
 use std::collections::{HashMap, HashSet};
 
@@ -85,11 +84,6 @@ impl<'a> Definers<'a> {
 pub fn is_named(symbol: &Symbol) -> bool {
     let is_other = matches!(symbol.kind, STT_SECTION | STT_FILE | STT_TLS | STT_GNU_IFUNC);
     !symbol.name.is_empty() && !is_other
-}
-
-/// Whether linkers delete bytes of code.
-fn may_delete(architecture: Architecture) -> bool {
-    matches!(architecture, Architecture::RiscV | Architecture::LoongArch64)
 }
 
 /// Where the objects' local symbols are.
@@ -204,7 +198,7 @@ pub fn check_distances(
     for pair in symbols.windows(2) {
         let [(offset, address, first), (next, at, second)] = [pair[0], pair[1]];
         let (distance, now) = (next - offset, at.wrapping_sub(address));
-        if now > distance || (now < distance && !may_delete(object.architecture)) {
+        if now > distance || (now < distance && !align::may_delete(object.architecture)) {
             let path = &object.path;
             return Err(format!("{first} and {second} overlap, or aren't those of {path}"));
         }
