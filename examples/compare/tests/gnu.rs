@@ -135,9 +135,12 @@ fn a_member_that_isnt_linked_isnt_another_objects_local_symbol() {
     }
 }
 
+/// The first word of the pair in the GOT is the module's number.
+const MODULE: &str = "PcalaToPcaddi (through the GOT) to the GOT entry of 0x1";
+
 /// What is said of a relocation, by its name and the instruction that `tests/gnu/instructions.py`
 /// found at its place. `deleted` is none.
-const SAID: [(&str, &str, &str); 121] = [
+const SAID: [(&str, &str, &str); 123] = [
     ("R_AARCH64_ADR_GOT_PAGE", "adrp x0, N", "as it was (through the GOT)"),
     ("R_AARCH64_ADR_GOT_PAGE", "nop", "part of another's rewrite"),
     ("R_AARCH64_CALL26", "bl N", "as it was (direct)"),
@@ -158,11 +161,13 @@ const SAID: [(&str, &str, &str); 121] = [
     ("R_LARCH_TLS_DESC_LD", "deleted", "Delete"),
     ("R_LARCH_TLS_DESC_PC_HI20", "deleted", "Delete"),
     ("R_LARCH_TLS_DESC_PC_LO12", "ori $a0, $zero, N", "LowToOriZero (direct)"),
+    ("R_LARCH_TLS_GD_PC_HI20", "pcaddi $a0, N", MODULE),
     ("R_LARCH_TLS_IE_PC_HI20", "deleted", "Delete"),
     ("R_LARCH_TLS_IE_PC_HI20", "lu12i.w $t0, N", "PcalaToLu12i (direct)"),
     ("R_LARCH_TLS_IE_PC_LO12", "ori $a2, $zero, N", "LowToOriZero (direct)"),
     ("R_LARCH_TLS_IE_PC_LO12", "ori $a4, $zero, N", "LowToOriZero (direct)"),
     ("R_LARCH_TLS_IE_PC_LO12", "ori $t1, $t0, N", "LowToOri (direct)"),
+    ("R_LARCH_TLS_LD_PC_HI20", "pcaddi $a0, N", MODULE),
     ("R_LARCH_TLS_LE_HI20", "deleted", "Delete"),
     ("R_LARCH_TLS_LE_LO12", "ori $a5, $zero, N", "BaseToZero (direct)"),
     ("R_PPC64_GOT_TLSGD16_HA", "nop", "AddisToNop"),

@@ -29,6 +29,8 @@ _start:
 	.reloc .-4, R_LARCH_RELAX
 	ld.d $t1, $t0, %ie_pc_lo12(z)
 	.reloc .-4, R_LARCH_RELAX
+	la.tls.gd $a0, y
+	la.tls.ld $a0, y
 	bl undefined
 	bl indirect
 	bl error
