@@ -1,5 +1,5 @@
 //! Which bytes linkers deleted of a section, by what is left. On RISC-V and LoongArch they delete
-//! more than the library's rewrites do, and two symbols tell only how much was deleted between them.
+//! more than the library's rewrites do, and two symbols tell only how much is deleted between them.
 //!
 //! Each relocation that may be relaxed is tried with all numbers of deleted bytes. Those deletions
 //! are taken that leave most of the bytes that no relocation changes, and most instructions as they
