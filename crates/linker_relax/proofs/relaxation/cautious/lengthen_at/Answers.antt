@@ -28,7 +28,7 @@ returns-clause-forced c =
       | else-place-index w ↦ (let above = c.requires.freed.above place (omega (arith, w.if-place-index.false)) (omega arith) in let e = w.there-is in omega arith)
     ] in
     let out : is_in_reach_cautiously items choice i ≡ false =
-        ap (λ x. item_reaches (item_at items i) (choice i) x (cautious_before items choice target)) (sym here)
-        ∙ ap (λ x. item_reaches (item_at items i) (choice i) (get_or freed i 0) x) (sym there)
-        ∙ sym c.reaches.ensures.reached ∙ c.if-reaches.false in
+    ap (λ x. item_reaches (item_at items i) (choice i) x (cautious_before items choice target)) (sym here)
+    ∙ ap (λ x. item_reaches (item_at items i) (choice i) (get_or freed i 0) x) (sym there)
+    ∙ sym c.reaches.ensures.reached ∙ c.if-reaches.false in
     next_forced c.args.start items c.args.shapes.now _ i c.requires.items c.requires.within c.requires.shapes refl out
