@@ -696,8 +696,8 @@ struct linker_utils_choice {
     uint64_t deleted_start;
     /* Where another relocation is, in bytes from the offset on, whose instruction the rewrite
      * changes too, and the type that it has then. Whatever relocation is at that offset gets that
-     * type: so it makes no difference whether its value is written before the rewrite or after it.
-     * Both are 0 where there is none. */
+     * type, and not the one that its own choice names: so it makes no difference whether its value
+     * is written before the rewrite or after it. Both are 0 where there is none. */
     int64_t other_offset;
     uint32_t other_relocation;
     uint8_t has_other; /* 1 where there is another; else 0. */
@@ -1222,7 +1222,8 @@ static inline uint32_t linker_utils_items_relaxable(
 
 /* Chooses a shape for each site, and says what stays of each item. Each site has its shortest shape
  * at first. Then the run is laid out, where an alignment keeps exactly the bytes that it then needs,
- * and each site that is out of reach by that layout has its next shape; again, until none is. No
+ * and each site that is out of reach by that layout has its next shape; again, until none is. Where
+ * one still is after 64 such rounds, the choice is the greatest where every alignment keeps all. No
  * site has a longer shape than it would need if every alignment kept all of its nops. Without
  * alignments the choice is the greatest.
  *
@@ -1233,8 +1234,9 @@ static inline uint32_t linker_utils_items_relaxable(
  *
  * LINKER_UTILS_DIFFERENT_LENGTHS where `shapes_len`, `kept_len` or `places_len` isn't `items_len`, or
  * `freed_len` isn't one more. Then the statuses of `linker_utils_items_relaxable`. A round takes
- * O(n) for n items, what comes before them O(n log n). There are usually fewer than ten rounds, and
- * at most 2 n + 1. */
+ * O(n) for n items, what comes before them O(n log n). There are usually fewer than ten rounds. After
+ * 64 come sweeps of O(n), of which one in each direction finds all sites that become long one because of
+ * another in one direction. */
 static inline uint32_t linker_utils_relax(
     const struct linker_utils_item *items, size_t items_len, uint64_t start, uint8_t *shapes,
     size_t shapes_len, uint64_t *kept, size_t kept_len, size_t *places, size_t places_len,

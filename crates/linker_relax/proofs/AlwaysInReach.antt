@@ -1,20 +1,19 @@
 -- A site that its shortest shape reaches while nothing is freed is in reach whatever is freed.
-use Rattle.std.proofs.Common.{◌≡◌, ℕ, zero, suc, ◌+◌, ◌-◌, ◌*◌, ◌%◌, ◌<◌, ◌≤◌, ◌∙◌, true, List, length, refl, ap, sym, ⊎_elim, arith, cond}
+use Rattle.std.proofs.Common.{◌≡◌, ℕ, zero, suc, ◌-◌, ◌*◌, ◌%◌, ◌<◌, ◌≤◌, ◌∙◌, true, List, length, refl, ap, sym, ⊎_elim, arith, cond}
 use Rattle.std.proofs.Math.Nat.{mul_assoc}
 use Rattle.std.proofs.lemmas.Bool.{cases_lt}
 use Rattle.linker_relax.specs.declared.relaxation.Shapes.{Shapes}
 use Rattle.linker_relax.specs.declared.relaxation.Item.{Item}
 use Rattle.linker_relax.specs.declared.relaxation.Item.TheVariants.{Site, Aligned}
-use Rattle.linker_relax.specs.Relaxing.{offset_of, end_of, len_of, target_of, item_at, is_reached, short_shape, freed_before, place_of, item_reaches, shape_reaches, IsSound}
-use Rattle.linker_relax.specs.Choosing.{least_len, run_unit, AreItems, AreNested, IsFormed}
+use Rattle.linker_relax.specs.Relaxing.{len_of, target_of, item_at, is_reached, short_shape, freed_before, place_of, item_reaches, shape_reaches, IsSound}
+use Rattle.linker_relax.specs.Choosing.{least_len, run_unit, AreItems, AreNested, IsFormed, cautious_before}
 use Rattle.linker_relax.specs.Inner.Relaxing.{IsAlwaysInReach}
-use Rattle.linker_relax.proofs.Bounds.{item_nearer, len_fits, is_short, is_past}
-use Rattle.linker_relax.proofs.Choices.{place_is}
+use Rattle.linker_relax.proofs.Bounds.{all_nearer, len_fits, is_short, is_past}
+use Rattle.linker_relax.proofs.Choices.{place_is, cautious_frees}
 use Rattle.linker_relax.proofs.Frees.{exact_frees}
-use Rattle.linker_relax.proofs.Layouts.{freed_next}
 use Rattle.linker_relax.proofs.Multiples.{multiple_of, no_rest}
-use Rattle.linker_relax.proofs.Nearer.{Frees, FreesLess, shape_nearer, above_is, is_above, below_is, is_below}
-use Rattle.linker_relax.proofs.Units.{item_suits, power_divides}
+use Rattle.linker_relax.proofs.Nearer.{Frees, FreesLess, above_is, is_above, below_is, is_below}
+use Rattle.linker_relax.proofs.Units.{power_divides}
 
 -- a multiple of a number is one of what divides that
 multiple_of_divisor : (less more d : ℕ) → more % less ≡ 0 → d % more ≡ 0 → d % less ≡ 0
@@ -65,20 +64,17 @@ least_fits (Site site) sound = len_fits site.shapes site.len 0 sound.1 sound.2
 least_fits (Aligned alignment) sound = omega arith
 
 pub always_in_reach : (start : ℕ) (items : List Item) → AreItems start items → (i : ℕ) → i < length items → item_reaches (item_at items i) 0 0 0 ≡ true → IsAlwaysInReach start items i
-always_in_reach start items are i within reached choice =
-    let item = item_at items i in
-    let t = target_of item in
-    let p = place_of items t in
-    let place = place_is start items are.in_order t in
-    let nothing : Frees (run_unit items) items (λ n. 0) = record {
-      none = refl;
-      step = λ j there. (0, omega arith, (let h = least_fits (item_at items j) (are.in_order.sound j there) in omega arith));
-    } in
-    let no_more : FreesLess items (λ n. 0) (freed_before start items choice) = λ j there. (let h = freed_next start items choice j in omega arith) in
-    let clear : p < length items → t ≤ offset_of (item_at items p) + least_len (item_at items p) = λ below.
-    ⊎_elim (λ (h : t ≤ offset_of (item_at items p) + least_len (item_at items p)). h)
-    (λ (h : end_of (item_at items p) ≤ t). let o = place.others p (omega arith) below in absurd (omega arith))
-    (are.clear i p within below) in
-    item_nearer (run_unit items) start item (item_suits start items are i within) (choice i) 0 0 (freed_before start items choice i) (freed_before start items choice p)
-    (λ shape some d. shape_nearer start (run_unit items) items (λ n. 0) (freed_before start items choice) are.in_order nothing (exact_frees start items choice are) no_more shape some d i t p within place clear)
-    (longer_reaches item (are.in_order.sound i within) (are.formed i within) reached (choice i))
+always_in_reach start items are i within reached = record {
+  exactly = λ choice. nearer (freed_before start items choice) (choice i) (exact_frees start items choice are);
+  cautiously = λ choice. nearer (cautious_before items choice) (choice i) (cautious_frees start items choice are);
+}
+  where
+    nearer : (more : ℕ → ℕ) (k : ℕ) → Frees (run_unit items) items more → item_reaches (item_at items i) k (more i) (more (place_of items (target_of (item_at items i)))) ≡ true
+    nearer more k frees =
+        let nothing : Frees (run_unit items) items (λ n. 0) = record {
+          none = refl;
+          step = λ j there. (0, omega arith, (let h = least_fits (item_at items j) (are.in_order.sound j there) in omega arith));
+        } in
+        let no_more : FreesLess items (λ n. 0) more = λ j there. (let m = (frees.step j there).1 in omega arith) in
+        all_nearer start items (λ n. 0) more k are nothing frees no_more (place_is start items are.in_order) i within
+        (longer_reaches (item_at items i) (are.in_order.sound i within) (are.formed i within) reached k)

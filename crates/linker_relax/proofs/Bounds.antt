@@ -59,6 +59,24 @@ item_nearer u start (Site site) fit k less_here less_there here there nearer rea
         ap (λ b. cond b (is_reached (short_shape site.shapes k) (site.offset - here) (target - there)) true) (is_past k site.shapes.count past))
         (cases_lt k site.shapes.count)
 
+-- what is in reach where less is freed is in reach where more is
+pub all_nearer : (start : ℕ) (items : List Item) (less more : ℕ → ℕ) (k : ℕ) → AreItems start items → Frees (run_unit items) items less → Frees (run_unit items) items more → FreesLess items less more
+    → ((t : ℕ) → IsPlace items t (place_of items t)) → (i : ℕ) → i < length items
+    → item_reaches (item_at items i) k (less i) (less (place_of items (target_of (item_at items i)))) ≡ true
+    → item_reaches (item_at items i) k (more i) (more (place_of items (target_of (item_at items i)))) ≡ true
+all_nearer start items less more k are g f no_more places i within reached =
+    let item = item_at items i in
+    let t = target_of item in
+    let p = place_of items t in
+    let place = places t in
+    let clear : p < length items → t ≤ offset_of (item_at items p) + least_len (item_at items p) = λ below.
+    ⊎_elim (λ (h : t ≤ offset_of (item_at items p) + least_len (item_at items p)). h)
+    (λ (h : end_of (item_at items p) ≤ t). let o = place.others p (omega arith) below in absurd (omega arith))
+    (are.clear i p within below) in
+    item_nearer (run_unit items) start item (item_suits start items are i within) k (less i) (less p) (more i) (more p)
+    (λ shape some d. shape_nearer start (run_unit items) items less more are.in_order g f no_more shape some d i t p within place clear)
+    reached
+
 -- While a choice is no longer than another, which is in reach where less is freed, so is the next.
 -- The place of each target is given.
 pub bound_next : (start : ℕ) (items : List Item) (choice other : ℕ → ℕ) (less : ℕ → ℕ) → AreItems start items
@@ -73,17 +91,8 @@ bound_next start items choice other less are g f no_more places bound reached i 
     let out = lengthened_out start items choice i in
     ⊎_elim
     (λ (same : choice i ≡ other i).
-    let item = item_at items i in
-    let t = target_of item in
-    let p = place_of items t in
-    let place = places t in
-    let clear : p < length items → t ≤ offset_of (item_at items p) + least_len (item_at items p) = λ below.
-    ⊎_elim (λ (h : t ≤ offset_of (item_at items p) + least_len (item_at items p)). h)
-    (λ (h : end_of (item_at items p) ≤ t). let o = place.others p (omega arith) below in absurd (omega arith))
-    (are.clear i p within below) in
-    let there = item_nearer (run_unit items) start item (item_suits start items are i within) (choice i) (less i) (less p) (freed_before start items choice i) (freed_before start items choice p)
-    (λ shape some d. shape_nearer start (run_unit items) items less (freed_before start items choice) are.in_order g f no_more shape some d i t p within place clear)
-    (ap (λ k. item_reaches item k (less i) (less p)) same ∙ reached i within) in
+    let there = all_nearer start items less (freed_before start items choice) (choice i) are g f no_more places i within
+    (ap (λ k. item_reaches (item_at items i) k (less i) (less (place_of items (target_of (item_at items i))))) same ∙ reached i within) in
     let e = in_reach there in
     omega arith)
     (λ (other_case : (choice i < other i) ⊎ (other i < choice i)).

@@ -9,6 +9,7 @@ pub mod Multiples
 pub mod Nearer
 pub mod Powers
 pub mod Rounds
+pub mod Sweeps
 pub mod Units
 pub mod Validity
 pub mod Deletions

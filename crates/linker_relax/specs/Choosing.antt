@@ -12,7 +12,8 @@ use Rattle.linker_relax.specs.declared.relaxation.Item.TheVariants.{Site, Aligne
 use Rattle.linker_relax.specs.Relaxing.{offset_of, end_of, target_of, item_at, place_of, shape_len}
 use Rattle.linker_relax.specs.Relaxing.{short_shape, needed, freed_before, item_reaches}
 use Rattle.linker_relax.specs.Relaxing.{is_in_reach}
-use Rattle.linker_relax.specs.Relaxing.{choice_of, AreInOrder, AreRelaxed}
+use Rattle.linker_relax.specs.Relaxing.{choice_of, after_rounds, most_rounds, AreInOrder}
+use Rattle.linker_relax.specs.Relaxing.{AreRelaxed}
 use Rattle.linker_relax.specs.Relaxing.{AreKeptBytes, AreFreed}
 
 -- the greatest unit of short shapes, of an item and of a run
@@ -175,10 +176,29 @@ IsSite (Aligned alignment) = ⊥
 abbrev pub HaveNoAlignment : List Item → Type 0
 HaveNoAlignment items = (i : ℕ) → i < length items → IsSite (item_at items i)
 
+-- The shapes are in reach where each alignment keeps all, and no longer than in any other choice that
+-- is.
+pub record IsGreatestCautious (items : List Item) (shapes : List ℕ) : Type 0 where
+  pub reached : IsInReachCautiously items (choice_of shapes)
+  pub greatest : (other : ℕ → ℕ) → IsInReachCautiously items other
+      → AreNotLonger items shapes other
+
+-- after none of the rounds is every site in reach
+abbrev pub AreTooFewRounds : ℕ → List Item → Type 0
+AreTooFewRounds start items = (r : ℕ) → r ≤ most_rounds
+    → ¬ IsInReachExactly start items (after_rounds start items r)
+
+-- The shapes are those of the first round after which every site is in reach, or, where there are too
+-- few rounds, those of the greatest choice where each alignment keeps all.
+abbrev pub AreChosen : ℕ → List Item → List ℕ → Type 0
+AreChosen start items shapes = AreRelaxed start items shapes
+    ⊎ (AreTooFewRounds start items × IsGreatestCautious items shapes)
+
 -- What a run becomes: the shape of each site, the bytes of each item that stay, and those that the
 -- items before each free.
 pub record IsRelaxation (start : ℕ) (items : List Item) (shapes kept freed : List ℕ) : Type 0 where
-  pub relaxed : AreRelaxed start items shapes
+  pub chosen : AreChosen start items shapes
+  pub reached : IsInReachExactly start items (choice_of shapes)
   pub kept_bytes : AreKeptBytes start items shapes kept
   pub freed_bytes : AreFreed start items shapes freed
   pub aligned : AreAligned start items shapes kept

@@ -130,9 +130,14 @@ after_rounds start items (suc r) i = lengthened start items (after_rounds start 
 abbrev pub choice_of : List ℕ → ℕ → ℕ
 choice_of shapes i = slice_index_or shapes i 0
 
+-- how many rounds there are at most
+abbrev pub most_rounds : ℕ
+most_rounds = 64
+
 -- The shapes are those of the first round after which every site is in reach.
 pub record AreRelaxed (start : ℕ) (items : List Item) (shapes : List ℕ) : Type 0 where
   pub rounds : ℕ
+  pub few : rounds ≤ most_rounds
   pub same : (i : ℕ) → choice_of shapes i ≡ after_rounds start items rounds i
   pub reached : (i : ℕ) → i < length items
       → is_in_reach start items (choice_of shapes) i ≡ true

@@ -139,7 +139,7 @@ into_greatest start deletions calls items place shapes kept freed chosen are rel
     } in
     let reach : AreInReach deletions calls own = λ k call below in_own.
     let zero_at = agree.from k below in_own in
-    let h = (reach_same start deletions calls items place choice kept own are rel relaxed.kept_bytes.each agree k below zero_at).0 (relaxed.relaxed.reached (place k) (rel.calls_in k below).0) in
+    let h = (reach_same start deletions calls items place choice kept own are rel relaxed.kept_bytes.each agree k below zero_at).0 (relaxed.reached (place k) (rel.calls_in k below).0) in
     subst (IsInReach (with_chosen deletions calls own)) (get_or_default calls k (0, 0) call below) h in
     greatest.has_others own table.1 reach i (agree.into i within short)
   where

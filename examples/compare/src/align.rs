@@ -1,9 +1,9 @@
-//! Which bytes linkers deleted of a section, by what is left. On RISC-V and LoongArch they
-//! delete more than the library's rewrites do, and symbols tell only how much was deleted between two.
+//! Which bytes linkers deleted of a section, by what is left. On RISC-V and LoongArch they delete
+//! more than the library's rewrites do, and two symbols tell only how much is deleted between them.
 //!
-//! Each relocation that may be relaxed is tried with all numbers of deleted bytes. The deletions
-//! count that leave most of the bytes that no relocation changes, and most instructions as they were
-//! or as a known rewrite makes them.
+//! Each relocation that may be relaxed is tried with all numbers of deleted bytes. Those deletions
+//! are taken that leave most of the bytes that no relocation changes, and most instructions as they
+//! were or as a known rewrite makes them.
 
 use crate::elf::{Linked, Relocation, Section};
 use crate::made;
@@ -17,11 +17,17 @@ const BEFORE: u64 = 256;
 const BEHIND: u64 = 1024;
 
 /// Whether the bytes of a section at an address are those around an offset, as far as no
-/// relocation changes them: up to those before and behind that may delete some, and but for one in
-/// four. If so, returned is how many are.
+/// relocation changes them, and but for one in four. If so, returned is how many are.
 pub fn fits(linked: &Linked, it: &Section, offset: u64, address: u64) -> Option<usize> {
+    let (others, all) = unlike(linked, it, offset, address);
+    (4 * others <= all).then_some(all - others)
+}
+
+/// How many bytes of a section around an offset are others at an address, and of how many: of those
+/// that no relocation changes, up to relocations before and behind that may delete some.
+fn unlike(linked: &Linked, it: &Section, offset: u64, address: u64) -> (usize, usize) {
     if it.bytes.is_empty() {
-        return Some(0);
+        return (0, 0);
     }
     let architecture = linked.architecture;
     let may_delete = |one: &&Relocation| {
@@ -51,18 +57,27 @@ pub fn fits(linked: &Linked, it: &Section, offset: u64, address: u64) -> Option<
         at = at.max(past(one));
     }
     compare(at, end);
-    (4 * others <= all).then_some(all - others)
+    (others, all)
 }
 
 /// How much is different of a section's next bytes from an offset on, if that is at an address, and
 /// how many bytes they are.
 pub fn differences(linked: &Linked, it: &Section, offset: u64, address: u64) -> (u32, u64) {
+    if !may_delete(linked.architecture) {
+        let (others, all) = unlike(linked, it, offset, address);
+        return (others as u32, all as u64);
+    }
     let end = (it.bytes.len() as u64).min(offset.saturating_add(BEHIND)).max(offset);
     let sites = sites(linked.architecture, it, between(it, offset, end));
     let delta = address.wrapping_sub(offset);
     let mut walk = Walk { linked, it, deletions: Vec::new() };
     let cost = walk.part(&mut Anchors::new(), &sites, (offset, end), delta, None);
     (cost, end - offset)
+}
+
+/// Whether linkers delete bytes of code.
+pub fn may_delete(architecture: Architecture) -> bool {
+    matches!(architecture, Architecture::RiscV | Architecture::LoongArch64)
 }
 
 /// The indices of the relocations from an offset on and up to another one.

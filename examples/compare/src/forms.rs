@@ -3,7 +3,7 @@
 use linker_utils::elf::Architecture;
 use object::elf::{
     R_LARCH_TLS_LE_LO12, R_PPC64_ADDR16_HA, R_PPC64_ADDR16_LO, R_PPC64_TPREL16_LO,
-    R_PPC64_TPREL16_LO_DS, R_RISCV_HI20, R_RISCV_LO12_I, R_RISCV_LO12_S, R_X86_64_TPOFF32,
+    R_PPC64_TPREL16_LO_DS, R_RISCV_LO12_I, R_RISCV_LO12_S, R_X86_64_TPOFF32,
 };
 
 /// What a field counts from.
@@ -67,8 +67,13 @@ pub fn form(
         Architecture::RiscV => riscv(name, original, offset, linked, deleted),
         Architecture::LoongArch64 if deleted == 4 => loongarch_deletion(name),
         _ if deleted > 0 => None,
-        Architecture::LoongArch64 => loongarch(name, word(original, offset)?, word(linked, offset)?),
-        Architecture::Ppc64 => ppc64(name, code, word(original, offset)?, word(linked, offset)?),
+        Architecture::LoongArch64 | Architecture::Ppc64 => {
+            let (before, after) = (word(original, offset)?, word(linked, offset)?);
+            match architecture {
+                Architecture::Ppc64 => ppc64(name, code, before, after),
+                _ => loongarch(name, before, after),
+            }
+        }
         Architecture::X86_64 => {
             let start = offset.checked_sub(3)?;
             let (before, after) = (original.get(start..offset)?, linked.get(start..offset)?);
@@ -88,7 +93,6 @@ fn riscv(
     deleted: usize,
 ) -> Option<(Form, u32)> {
     let before = word(original, offset)?;
-    let rd = before & 0xf80;
     let after = || word(linked, offset);
     match (name, deleted) {
         ("R_RISCV_PCREL_HI20", 4) => {
@@ -105,15 +109,6 @@ fn riscv(
             let jalr = word(original, offset + 4)? & 0xf80 | 0x67;
             let is_zero = word(linked, offset + 4)? == jalr && after()? == before;
             is_zero.then_some((plain("BaseToZero"), NOTHING))
-        }
-        ("R_RISCV_HI20", 2) => {
-            let after = u16::from_le_bytes(*linked.get(offset..)?.first_chunk()?);
-            // c.li rd, 0
-            (u32::from(after) == 0x4001 | rd).then_some((deletes("Hi20ToCLi", 2, 2), NOTHING))
-        }
-        // of an undefined weak symbol
-        ("R_RISCV_PCREL_HI20" | "R_RISCV_GOT_HI20", 0) => {
-            (after()? & 0xfff == rd | 0x37).then_some((plain("AuipcToLui"), R_RISCV_HI20))
         }
         ("R_RISCV_PCREL_LO12_I" | "R_RISCV_LO12_I", 0) => {
             riscv_base(before, after()?, 0xfff0_0000, R_RISCV_LO12_I)
@@ -154,7 +149,6 @@ fn loongarch_deletion(name: &str) -> Option<(Form, u32)> {
 // types that `object` doesn't name
 const R_LARCH_TLS_LD_PCREL20_S2: u32 = 124;
 const R_LARCH_TLS_GD_PCREL20_S2: u32 = 125;
-const R_LARCH_TLS_DESC_PCREL20_S2: u32 = 126;
 
 fn loongarch(name: &str, before: u32, after: u32) -> Option<(Form, u32)> {
     let (rd, rj) = (31, 31 << 5);
@@ -182,11 +176,11 @@ fn loongarch(name: &str, before: u32, after: u32) -> Option<(Form, u32)> {
             let is_call = before >> 26 == 0x15; // or else a jump
             (after == 0x4c00_0000 | u32::from(is_call)).then_some((plain("CallToJirl"), NOTHING))
         }
-        "R_LARCH_TLS_LD_PC_HI20" | "R_LARCH_TLS_GD_PC_HI20" | "R_LARCH_TLS_DESC_PC_HI20" => {
+        // its low half is deleted
+        "R_LARCH_TLS_LD_PC_HI20" | "R_LARCH_TLS_GD_PC_HI20" => {
             let to = match name {
                 "R_LARCH_TLS_LD_PC_HI20" => R_LARCH_TLS_LD_PCREL20_S2,
-                "R_LARCH_TLS_GD_PC_HI20" => R_LARCH_TLS_GD_PCREL20_S2,
-                _ => R_LARCH_TLS_DESC_PCREL20_S2,
+                _ => R_LARCH_TLS_GD_PCREL20_S2,
             };
             let is_pcaddi = after >> 25 == 0x0c && (before ^ after) & rd == 0;
             is_pcaddi.then_some((plain("PcalaToPcaddi"), to))
@@ -244,8 +238,8 @@ fn ppc64(name: &str, code: u32, before: u32, after: u32) -> Option<(Form, u32)> 
     }
 }
 
-/// The instruction with an offset, without registers, that does what one with an index does, and the
-/// bits of its offset.
+/// The instruction with an offset, without registers, that does what one with an index does, and
+/// the bits of its offset.
 fn of_indexed(word: u32) -> Option<(u32, u32)> {
     if word >> 26 != 31 {
         return None;

@@ -158,7 +158,8 @@ impl Before {
         (start, end): (u64, u64),
     ) -> Before {
         let bytes = it.bytes[start as usize..end as usize].to_vec();
-        Before { architecture, code: one.code, bytes, offset: one.offset - start, addend: one.addend }
+        let (code, offset, addend) = (one.code, one.offset - start, one.addend);
+        Before { architecture, code, bytes, offset, addend }
     }
 
     /// The library's choices after which the linked bytes are as they are.

@@ -27,10 +27,11 @@ A choice is the name of a rewrite, or `as RELOCATION` where only the relocation 
 was`. `(through the GOT)` says that the field has the address of a GOT entry. `to SYMBOL` follows where
 the field doesn't lead to the relocation's symbol and addend. Symbols are compared by their names, so
 that files with different layouts can be the same. Sums of relocations (ADD, SUB, ULEB128) are not
-read, nor what relocations that only mark or pad stand for.
+read, nor what relocations that only mark or pad stand for. Control characters in names are written
+as escapes.
 
   --all       all relocations, not only those that differ
-  --json      an object a line for each, and a last one with the counts
+  --json      an object a line for each, with its addresses in A and B, and a last one with the counts
   -h, --help  this text
 
 Exit status: 0 the files are the same, 1 they differ, 2 an error.

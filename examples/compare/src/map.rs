@@ -25,7 +25,7 @@ pub struct Window {
     pub address: u64,
 }
 
-/// The bytes between two offsets of a section, for a relocation that is of those between two others.
+/// The bytes between two offsets of a section, for a relocation that is of those of `own`.
 pub fn window(
     linked: &Linked,
     it: &Section,

@@ -111,7 +111,8 @@ pub fn line_as_json(line: &Line) -> Value {
     json!({
         "object": line.object, "place": line.place, "symbol": line.symbol,
         "relocation": name(line.architecture, line.relocation), "same": line.is_same(),
-        "addresses": line.addresses, "a": as_json(line, &line.made[0]), "b": as_json(line, &line.made[1]),
+        "addresses": line.addresses,
+        "a": as_json(line, &line.made[0]), "b": as_json(line, &line.made[1]),
     })
 }
 

@@ -17,8 +17,8 @@ pub struct Stubs {
 }
 
 impl Stubs {
-    /// Finds the stubs in code, which is given with its address; `resolvers` are the functions by the
-    /// words' addresses, and `toc` is PowerPC64's TOC pointer.
+    /// Finds the stubs in code, which is given with its address; `resolvers` are the functions by
+    /// the words' addresses, and `toc` is PowerPC64's TOC pointer.
     pub fn new(
         architecture: Architecture,
         code: &[(u64, &[u8])],
@@ -37,8 +37,8 @@ impl Stubs {
         for (start, bytes) in code {
             for offset in (0..bytes.len()).step_by(step) {
                 let place = start.wrapping_add(offset as u64);
-                let Some(word) = word_of(architecture, &bytes[offset..], place, toc) else { continue };
-                let Some(resolver) = resolvers.get(&word) else { continue };
+                let word = word_of(architecture, &bytes[offset..], place, toc);
+                let Some(resolver) = word.and_then(|word| resolvers.get(&word)) else { continue };
                 let before = marks_before(architecture, &bytes[..offset]);
                 let stubs = by_resolver.entry(*resolver).or_insert_with(|| vec![*resolver]);
                 stubs.push(place.wrapping_sub(before));
@@ -83,9 +83,14 @@ pub fn is_indirect(architecture: Architecture, code: u32) -> bool {
 /// keeps the TOC pointer.
 fn marks_before(architecture: Architecture, before: &[u8]) -> u64 {
     let marks: &[&[u8]] = match architecture {
-        Architecture::X86_64 => &[&[0xf3, 0x0f, 0x1e, 0xfa, 0xf2], &[0xf3, 0x0f, 0x1e, 0xfa]], // endbr64, bnd
-        Architecture::AArch64 => &[&[0x5f, 0x24, 0x03, 0xd5]],                   // bti c
-        Architecture::Ppc64 => &[&[0x18, 0x00, 0x41, 0xf8]],                     // std 2,24(1)
+        // endbr64, and the prefix bnd of the jump
+        Architecture::X86_64 => {
+            &[&[0xf3, 0x0f, 0x1e, 0xfa, 0xf2], &[0xf3, 0x0f, 0x1e, 0xfa]]
+        }
+        // bti c
+        Architecture::AArch64 => &[&[0x5f, 0x24, 0x03, 0xd5]],
+        // std 2,24(1)
+        Architecture::Ppc64 => &[&[0x18, 0x00, 0x41, 0xf8]],
         _ => &[],
     };
     marks.iter().find(|mark| before.ends_with(mark)).map_or(0, |mark| mark.len() as u64)

@@ -2,7 +2,6 @@
 
 use crate::align;
 use crate::elf::{Home, Linked, Object, Reason, Symbol, is_label};
-use linker_utils::elf::Architecture;
 use object::elf::{STT_FILE, STT_GNU_IFUNC, STT_SECTION, STT_TLS};
 use std::collections::{HashMap, HashSet};
 
@@ -66,8 +65,8 @@ impl<'a> Definers<'a> {
         all.map(|one| one.name.as_str()).collect()
     }
 
-    /// Where a global symbol is, if the object is the one that defines it. Linkers make hidden symbols
-    /// local ones, if these aren't other objects'.
+    /// Where a global symbol is, if the object is the one that defines it. It may have become a
+    /// local one, as hidden symbols do, if that isn't another object's.
     pub fn address(&self, linked: &Linked, object: &Object, symbol: &Symbol) -> Option<u64> {
         let Home::Section(section) = symbol.home else { return None };
         if let Some(global) = linked.globals.get(&symbol.name) {
@@ -85,11 +84,6 @@ impl<'a> Definers<'a> {
 pub fn is_named(symbol: &Symbol) -> bool {
     let is_other = matches!(symbol.kind, STT_SECTION | STT_FILE | STT_TLS | STT_GNU_IFUNC);
     !symbol.name.is_empty() && !is_other
-}
-
-/// Whether linkers delete bytes of code.
-fn may_delete(architecture: Architecture) -> bool {
-    matches!(architecture, Architecture::RiscV | Architecture::LoongArch64)
 }
 
 /// Where the objects' local symbols are.
@@ -165,8 +159,8 @@ impl LocalSymbols {
         is_all
     }
 
-    /// Those symbols of a name whose bytes are at one address rather than at any other, and that are
-    /// there rather than any other symbol.
+    /// Those symbols of a name whose bytes are at one address rather than at any other, and that
+    /// are there rather than any other symbol.
     fn add_likeliest(
         &mut self,
         symbols: &[(usize, usize)],
@@ -204,7 +198,7 @@ pub fn check_distances(
     for pair in symbols.windows(2) {
         let [(offset, address, first), (next, at, second)] = [pair[0], pair[1]];
         let (distance, now) = (next - offset, at.wrapping_sub(address));
-        if now > distance || (now < distance && !may_delete(object.architecture)) {
+        if now > distance || (now < distance && !align::may_delete(object.architecture)) {
             let path = &object.path;
             return Err(format!("{first} and {second} overlap, or aren't those of {path}"));
         }

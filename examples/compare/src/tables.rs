@@ -1,6 +1,6 @@
 //! Sections that symbols and fields seldom lead to, by what they lead to themselves: the unwind
-//! information of functions, of which linkers leave records out, and arrays of functions, which they
-//! sort.
+//! information of functions, of which linkers leave records out, and arrays of functions, which
+//! they sort.
 
 use crate::elf::{Entry, Home, Linked, Relocation, Section};
 use crate::map::{self, Anchors};
@@ -83,8 +83,8 @@ impl Frames {
         let mut found = HashMap::new();
         for (address, bytes) in linked.tables(".eh_frame") {
             for frame in frames(bytes) {
-                let Some(cie) = frame.cie.and_then(|cie| bytes.get(cie as usize..)) else { continue };
-                let Some(encoding) = encoding(cie) else { continue };
+                let cie = frame.cie.and_then(|cie| bytes.get(cie as usize..));
+                let Some(encoding) = cie.and_then(encoding) else { continue };
                 let at = frame.start + 8;
                 let place = address.wrapping_add(at);
                 let number = match encoding & 0x0f {
@@ -113,9 +113,9 @@ impl Frames {
             let found = of_function.and_then(&function).and_then(|address| self.0.get(&address));
             let (record, common) = found.copied().unwrap_or((map::NOWHERE, map::NOWHERE));
             anchors.insert(frame.start, record);
-            if found.is_some() || !anchors.contains_key(&cie) {
-                anchors.entry(cie).and_modify(|place| *place = (*place).min(common)).or_insert(common);
-            }
+            // one that is there rather than none
+            let of_cie = anchors.entry(cie).or_insert(common);
+            *of_cie = common.min(*of_cie);
         }
         let mut anchors: Anchors = anchors.into_iter().collect();
         anchors.sort_unstable();
@@ -125,8 +125,10 @@ impl Frames {
 
 /// Whether a section is of an array of functions, and of which one.
 fn array(name: &str) -> Option<&'static str> {
-    let is = |base: &&&str| name.strip_prefix(**base).is_some_and(|end| end.is_empty() || end.starts_with('.'));
-    [".init_array", ".fini_array", ".preinit_array"].iter().find(is).copied()
+    let is = |base: &&str| {
+        name.strip_prefix(base).is_some_and(|end| end.is_empty() || end.starts_with('.'))
+    };
+    [".init_array", ".fini_array", ".preinit_array"].into_iter().find(is)
 }
 
 impl Side<'_> {
@@ -163,8 +165,8 @@ impl Side<'_> {
         is_any
     }
 
-    /// The words of an array that lead to the functions that they should, in their order, and that no
-    /// other section has.
+    /// The words of an array that lead to the functions that they should, in their order, and that
+    /// no other section has.
     fn array_anchors(
         &self,
         object: usize,
@@ -181,7 +183,8 @@ impl Side<'_> {
         for (address, bytes) in self.linked.tables(name) {
             for start in (0..bytes.len() as u64).step_by(8).map(|at| address.wrapping_add(at)) {
                 let is_there = |(offset, function): &(u64, u64)| {
-                    self.linked.word_at(start.wrapping_add(*offset)) == Some(Entry::Address(*function))
+                    let word = self.linked.word_at(start.wrapping_add(*offset));
+                    word == Some(Entry::Address(*function))
                 };
                 if wanted.iter().all(is_there) && taken.insert(start) {
                     return vec![(0, start)];

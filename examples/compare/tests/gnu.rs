@@ -135,9 +135,12 @@ fn a_member_that_isnt_linked_isnt_another_objects_local_symbol() {
     }
 }
 
+/// The first word of the pair in the GOT is the module's number.
+const MODULE: &str = "PcalaToPcaddi (through the GOT) to the GOT entry of 0x1";
+
 /// What is said of a relocation, by its name and the instruction that `tests/gnu/instructions.py`
 /// found at its place. `deleted` is none.
-const SAID: [(&str, &str, &str); 112] = [
+const SAID: [(&str, &str, &str); 123] = [
     ("R_AARCH64_ADR_GOT_PAGE", "adrp x0, N", "as it was (through the GOT)"),
     ("R_AARCH64_ADR_GOT_PAGE", "nop", "part of another's rewrite"),
     ("R_AARCH64_CALL26", "bl N", "as it was (direct)"),
@@ -158,9 +161,13 @@ const SAID: [(&str, &str, &str); 112] = [
     ("R_LARCH_TLS_DESC_LD", "deleted", "Delete"),
     ("R_LARCH_TLS_DESC_PC_HI20", "deleted", "Delete"),
     ("R_LARCH_TLS_DESC_PC_LO12", "ori $a0, $zero, N", "LowToOriZero (direct)"),
+    ("R_LARCH_TLS_GD_PC_HI20", "pcaddi $a0, N", MODULE),
     ("R_LARCH_TLS_IE_PC_HI20", "deleted", "Delete"),
+    ("R_LARCH_TLS_IE_PC_HI20", "lu12i.w $t0, N", "PcalaToLu12i (direct)"),
     ("R_LARCH_TLS_IE_PC_LO12", "ori $a2, $zero, N", "LowToOriZero (direct)"),
     ("R_LARCH_TLS_IE_PC_LO12", "ori $a4, $zero, N", "LowToOriZero (direct)"),
+    ("R_LARCH_TLS_IE_PC_LO12", "ori $t1, $t0, N", "LowToOri (direct)"),
+    ("R_LARCH_TLS_LD_PC_HI20", "pcaddi $a0, N", MODULE),
     ("R_LARCH_TLS_LE_HI20", "deleted", "Delete"),
     ("R_LARCH_TLS_LE_LO12", "ori $a5, $zero, N", "BaseToZero (direct)"),
     ("R_PPC64_GOT_TLSGD16_HA", "nop", "AddisToNop"),
@@ -204,10 +211,11 @@ const SAID: [(&str, &str, &str); 112] = [
     ("R_RISCV_BRANCH", "beqz a0, N", "as it was (direct)"),
     ("R_RISCV_BRANCH", "bnez a1, N", "as it was (direct)"),
     ("R_RISCV_CALL_PLT", "auipc ra, N", "BaseToZero"),
+    ("R_RISCV_CALL_PLT", "auipc ra, N", "as it was (direct) to 0 bytes from its place"),
     ("R_RISCV_CALL_PLT", "auipc ra, N", "as it was (direct)"),
     ("R_RISCV_CALL_PLT", "j N", "TailToJal (direct)"),
-    ("R_RISCV_CALL_PLT", "jal N", "CallToJal (direct) to 0 bytes from its place"),
     ("R_RISCV_CALL_PLT", "jal N", "CallToJal (direct)"),
+    ("R_RISCV_CALL_PLT", "jalr N(zero)", "CallToJalr (direct)"),
     ("R_RISCV_HI20", "deleted", "Hi20Delete"),
     ("R_RISCV_HI20", "lui a3, N", "as it was (direct)"),
     ("R_RISCV_HI20", "lui a4, N", "as it was (direct)"),
@@ -220,11 +228,17 @@ const SAID: [(&str, &str, &str); 112] = [
     ("R_RISCV_PCREL_HI20", "auipc a1, N", "as it was (direct)"),
     ("R_RISCV_PCREL_HI20", "auipc a2, N", "as it was (direct)"),
     ("R_RISCV_PCREL_HI20", "auipc gp, N", "as it was (direct)"),
+    ("R_RISCV_PCREL_HI20", "auipc t0, N", "as it was (direct)"),
+    ("R_RISCV_PCREL_HI20", "auipc t1, N", "as it was (direct)"),
     ("R_RISCV_PCREL_HI20", "deleted", "Delete"),
     ("R_RISCV_PCREL_LO12_I", "addi a0, a0, N", "as it was (direct)"),
     ("R_RISCV_PCREL_LO12_I", "addi a0, gp, N", "BaseToGp (direct)"),
     ("R_RISCV_PCREL_LO12_I", "addi gp, gp, N", "as it was (direct)"),
+    ("R_RISCV_PCREL_LO12_I", "addi t0, t0, N", "as it was (direct)"),
     ("R_RISCV_PCREL_LO12_I", "ld a6, N(a6)", "as it was (direct)"),
+    ("R_RISCV_PCREL_LO12_I", "ld t1, N(t1)", "as it was (direct)"),
+    ("R_RISCV_PCREL_LO12_I", "ld t1, N(zero)", "BaseToZero (direct)"),
+    ("R_RISCV_PCREL_LO12_I", "li t0, N", "BaseToZero (direct)"),
     ("R_RISCV_PCREL_LO12_I", "lw a1, N(a1)", "as it was (direct)"),
     ("R_RISCV_PCREL_LO12_I", "lw a1, N(gp)", "BaseToGp (direct)"),
     ("R_RISCV_PCREL_LO12_S", "sd a1, N(a2)", "as it was (direct)"),
@@ -255,11 +269,12 @@ const SAID: [(&str, &str, &str); 112] = [
 #[test]
 fn instructions_are_named() {
     let mut missing = String::new();
+    let mut unused = SAID.to_vec();
     for (folder, names, _) in PROGRAMS {
         let (rows, _) = rows_of(folder, names);
         let counted = fs::read_to_string(path(folder, "instructions")).unwrap();
-        let code: Vec<&Line> =
-            rows.iter().filter(|row| !row.place.starts_with('.') && !row.place.starts_with("datum")).collect();
+        let is_code = |row: &&Line| !row.place.starts_with(['.', 'd']); // not `datum`
+        let code: Vec<&Line> = rows.iter().filter(is_code).collect();
         assert_eq!(code.len(), counted.lines().count(), "{folder}");
         for (row, line) in code.iter().zip(counted.lines()) {
             let (head, instructions) = line.split_at(report::head(row).len());
@@ -270,13 +285,14 @@ fn instructions_are_named() {
                 let said = report::words(row, made);
                 let said = said.split(": bits").next().unwrap();
                 let is_listed = SAID.contains(&(name, instruction, said));
+                unused.retain(|one| *one != (name, instruction, said));
                 if instruction != "-" && !is_listed {
                     missing += &format!("    (\"{name}\", \"{instruction}\", \"{said}\"),\n");
                 }
             }
         }
     }
-    assert_eq!(missing, "");
+    assert_eq!((missing, unused), (String::new(), Vec::new()));
 }
 
 fn address(bytes: &[u8], name: &str) -> u64 {
@@ -354,7 +370,9 @@ fn mutated_files_are_read_without_a_panic() {
             let tables = u64::from_le_bytes(bytes[40..48].try_into().unwrap()) as usize;
             let len = bytes.len();
             match random.below(4) {
-                0 if tables < len => bytes[tables + random.below(len - tables)] ^= 1 << random.below(8),
+                0 if tables < len => {
+                    bytes[tables + random.below(len - tables)] ^= 1 << random.below(8);
+                }
                 1 => {
                     let at = random.below(len - 8);
                     bytes[at..at + 8].fill([0, 0xff, 0x7f][random.below(3)]);

@@ -6,12 +6,14 @@ use alloc::vec::Vec;
 use crate::support::*;
 use crate::linker_base::relaxation::{OutOfMemory, SectionRelaxDeltas};
 
+mod cautious;
 mod faults;
 mod passes;
 mod validity;
 
+use cautious::choose_cautiously;
 pub use faults::{Fault, ItemFault, are_items, first_faulty};
-use passes::{find_places, keep, lay_out, lengthen, shorten};
+use passes::{find_places, keep, lay_out, settle};
 
 /// One form of the instructions of a site, as C has it.
 #[repr(C)]
@@ -194,16 +196,18 @@ impl Shapes {
 /// Chooses a shape for each site, and says what stays of each item.
 ///
 /// Each site has its shortest shape at first. Then the run is laid out, and each site that is out
-/// of reach by that layout has its next shape; again, until none is.
+/// of reach by that layout has its next shape; again, until none is. Where one still is after 64
+/// such rounds, each site has the shortest shapes that are in reach where each alignment keeps all of
+/// its nops.
 ///
 /// `shapes` and `kept` have an element for each item: the index of the shape that a site has, and
 /// how many of the item's bytes stay. `places` and `freed` are room for the work: `places` has an
 /// element for each item too, and `freed` one more. Then `freed` has for each item how many bytes
 /// those before it free, and at the end how many all do. What the arrays had before means nothing.
 ///
-/// It doesn't allocate. A round is two passes over the items and takes O(n) for n items; the places
-/// of targets take O(n log n) once. Each round but the last gives at least one site its next shape,
-/// so that there are at most 2 n + 1 rounds.
+/// It doesn't allocate. A round is two passes over the items and takes O(n) for n items, and so does
+/// a sweep, of which there are only after 64 rounds: one in each direction finds all sites that
+/// become long one because of another in one direction. The places of targets take O(n log n) once.
 ///
 /// # Requires
 ///
@@ -227,9 +231,8 @@ pub fn relax_into(
     debug_assert!(places.len() == items.len());
     debug_assert!((freed.len() as u128) == (items.len() as u128) + 1);
     find_places(items, start, places);
-    shorten(shapes);
-    lay_out(items, start, shapes, freed);
-    while lengthen(items, start, places, freed, shapes) {
+    if !settle(items, start, places, freed, shapes) {
+        choose_cautiously(items, start, places, freed, shapes);
         lay_out(items, start, shapes, freed);
     }
     keep(items, start, shapes, freed, kept);

@@ -5,9 +5,9 @@ ghost use Rattle.std.specs.Prelude.{List, slice_index_or};
 ghost use Rattle.linker_relax.specs.Relaxing.{place_of, item_at, choice_of, lengthened};
 ghost use Rattle.linker_relax.specs.Relaxing.{is_in_reach};
 ghost use Rattle.linker_relax.specs.Relaxing.{AreInOrder, AreFreed, AreKeptBytes, kept_by};
-ghost use Rattle.linker_relax.specs.Relaxing.{freed_before};
-ghost use Rattle.linker_relax.specs.Choosing.{AreItems};
-ghost use Rattle.linker_relax.specs.Inner.Relaxing.{ArePlaces};
+ghost use Rattle.linker_relax.specs.Relaxing.{freed_before, AreRelaxed};
+ghost use Rattle.linker_relax.specs.Choosing.{AreItems, IsInReachExactly, AreTooFewRounds};
+ghost use Rattle.linker_relax.specs.Inner.Relaxing.{ArePlaces, AreForced};
 
 use super::Item;
 
@@ -123,6 +123,8 @@ pub(super) fn lengthen(
     ensures reached { result ≡ false → (i : ℕ) → i < length items.now
         → is_in_reach start items.now (choice_of shapes.old) i ≡ true }
     ensures longer { result ≡ true → sum shapes.old < sum shapes.new }
+    ensures out { result ≡ true
+        → ¬ IsInReachExactly start items.now (choice_of shapes.old) }
 {
     let mut longer = false;
     for index in 0..items.len() {
@@ -133,4 +135,38 @@ pub(super) fn lengthen(
         }
     }
     longer
+}
+
+/// How many rounds there are at most. Code has a few; calls of which each is out of reach only once
+/// the next one is long take as many rounds as there are.
+const MOST_ROUNDS: u32 = 64;
+
+/// Rounds until no site is out of reach. Whether there are few enough.
+pub(super) fn settle(
+    items: &[Item],
+    start: u64,
+    places: &[usize],
+    freed: &mut [u64],
+    shapes: &mut [u8],
+) -> bool
+    requires items { AreItems start items.now }
+    requires shapes { length shapes.old ≡ length items.now }
+    requires places { length places.now ≡ length items.now }
+    requires placed { ArePlaces start items.now places.now }
+    requires one_more { length freed.old ≡ length items.now + 1 }
+    ensures relaxed { result ≡ true → AreRelaxed start items.now shapes.new
+        × AreFreed start items.now shapes.new freed.new }
+    ensures too_few { result ≡ false → AreTooFewRounds start items.now }
+    ensures forced { AreForced items.now shapes.new }
+    ensures short { (i : ℕ) → choice_of shapes.new i ≤ 2 }
+{
+    shorten(shapes);
+    lay_out(items, start, shapes, freed);
+    for _round in 0..MOST_ROUNDS + 1 {
+        if !lengthen(items, start, places, freed, shapes) {
+            return true;
+        }
+        lay_out(items, start, shapes, freed);
+    }
+    false
 }

@@ -1,10 +1,9 @@
 #!/usr/bin/env python3
-"""What stands at each relocation of a program's code in two linked files, without what `compare` has
-of it: llvm-objdump-19 says which instruction is at a place. Where nothing is deleted
-places are as far from `_start` as in the object. On RISC-V and LoongArch the linkers wrote where they
-have the relocations, in the object's order. What is deleted has the type NONE or the place of what is
-behind it there. But what ld.lld wrote for LoongArch isn't so, and is left out. Numbers are written as
-N.
+"""What stands at each relocation of a program's code in two linked files, without what `compare`
+has of it: llvm-objdump-19 says which instruction is at a place. Where nothing is deleted places are
+as far from `_start` as in the object. On RISC-V and LoongArch the linkers wrote where they have the
+relocations, in the object's order. What is deleted has the type NONE or the place of what is behind
+it there. But what ld.lld wrote for LoongArch isn't so, and is left out. Numbers are written as N.
 
 usage: instructions.py ARCHITECTURE FOLDER A B"""
 import re

@@ -78,3 +78,26 @@ pub(super) fn lengthen(
     }
     longer
 }
+
+/// How many rounds there are at most. Code has a few; calls of which each is out of reach only once
+/// the next one is long take as many rounds as there are.
+const MOST_ROUNDS: u32 = 64;
+
+/// Rounds until no site is out of reach. Whether there are few enough.
+pub(super) fn settle(
+    items: &[Item],
+    start: u64,
+    places: &[usize],
+    freed: &mut [u64],
+    shapes: &mut [u8],
+) -> bool {
+    shorten(shapes);
+    lay_out(items, start, shapes, freed);
+    for _round in 0..MOST_ROUNDS + 1 {
+        if !lengthen(items, start, places, freed, shapes) {
+            return true;
+        }
+        lay_out(items, start, shapes, freed);
+    }
+    false
+}

@@ -1,5 +1,5 @@
-# What is in the program of each architecture: a local function, an indirect one, constructors, which
-# linkers sort, and thread-local variables.
+# What is in the program of each architecture: a local function, an indirect one, constructors,
+# which linkers sort, and thread-local variables.
 	.text
 	.type error, %function
 error:

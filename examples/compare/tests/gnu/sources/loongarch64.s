@@ -25,8 +25,18 @@ _start:
 	.reloc .-4, R_LARCH_RELAX
 	la.tls.le $a5, y
 	la.tls.desc $a0, x
+	pcalau12i $t0, %ie_pc_hi20(z)
+	.reloc .-4, R_LARCH_RELAX
+	ld.d $t1, $t0, %ie_pc_lo12(z)
+	.reloc .-4, R_LARCH_RELAX
+	la.tls.gd $a0, y
+	la.tls.ld $a0, y
 	bl undefined
 	bl indirect
 	bl error
 	b 1b
 	.cfi_endproc
+	.section .tbss, "awT", %nobits
+	.skip 0x2000
+	.globl z
+z:	.skip 8

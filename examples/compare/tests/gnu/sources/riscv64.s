@@ -30,6 +30,9 @@ _start:
 	lui a4, %hi(datum)
 	ld a4, %lo(datum)(a4)
 	call undefined
+	call small
+	lla t0, undefined
+	ld t1, undefined
 	call indirect
 	lui a5, %tprel_hi(x)
 	add a5, a5, tp, %tprel_add(x)

@@ -170,3 +170,92 @@ fn alignments_below_the_unit_keep_their_nops() {
         assert_eq!(first(&items, 0), Some((1, Fault::PowerBelowUnit)), "{offset} {nops} {power}");
     }
 }
+
+/// Sites 20 bytes apart that reach 101 bytes ahead or 102 back, and go to 109 of them: each is in reach
+/// only with another short one in between.
+fn cascade(count: u64, ahead: bool, between: impl Fn(u64) -> Option<Item>) -> Vec<Item> {
+    let shapes =
+        Shapes { short: [reaching(4, 102, 102, 1), riscv64::CALL.short[0]], count: 1, longest: 8 };
+    let call = |index| {
+        let offset = 1000 + 20 * index;
+        site(offset, if ahead { offset + 109 } else { offset - 107 }, shapes)
+    };
+    (0..count).flat_map(|index| [Some(call(index)), between(1008 + 20 * index)]).flatten().collect()
+}
+
+/// The last site isn't in reach, hence not the one before it, and so on, in both directions. A round
+/// each would take hours for so many.
+#[test]
+fn each_site_is_long_because_of_the_next_one() {
+    for ahead in [true, false] {
+        for count in [60, 70, 300_000] {
+            let items = cascade(count, ahead, |_| None);
+            let plan = relax(&items, 0).unwrap();
+            assert!(plan.shapes.iter().all(|&shape| shape == 1), "{count} {ahead}");
+            assert_eq!(plan.freed.last(), Some(&0));
+        }
+    }
+}
+
+/// The greatest choice that is in reach where each alignment keeps all its nops, by testing each site
+/// until none is out of reach.
+fn cautious(items: &[Item]) -> Vec<u8> {
+    let mut shapes = vec![0; items.len()];
+    loop {
+        let mut freed = vec![0];
+        for (item, &shape) in items.iter().zip(&shapes) {
+            let gone = match item {
+                Item::Site(site) if shape == 0 => 8 - u64::from(site.shapes.short[0].kept),
+                _ => 0,
+            };
+            freed.push(freed[freed.len() - 1] + gone);
+        }
+        let output =
+            |offset| offset - freed[items.partition_point(|it| it.offset() + it.len() <= offset)];
+        let out_of_reach = |index: &usize| match items[*index] {
+            Item::Site(site) => {
+                let (from, to) = (site.offset - freed[*index], output(site.target));
+                shapes[*index] == 0 && (to > from + 101 || from > to + 102)
+            }
+            Item::Aligned(_) => false,
+        };
+        let longer: Vec<usize> = (0..items.len()).filter(out_of_reach).collect();
+        if longer.is_empty() {
+            return shapes;
+        }
+        longer.into_iter().for_each(|index| shapes[index] = 1);
+    }
+}
+
+/// Where 64 rounds are too few, alignments hold and each site is in reach, too.
+#[test]
+fn long_cascades_between_alignments_are_cautious() {
+    for (ahead, every) in [(true, 100), (false, 100), (true, 7), (false, 3)] {
+        let nops = |offset: u64| {
+            let index = (offset - 1008) / 20;
+            (index % every == every * 9 / 10).then(|| aligned(offset + 6, 3, 4, None))
+        };
+        let items = cascade(570, ahead, nops);
+        assert_eq!(first(&items, 0), None);
+        let plan = relax(&items, 0).unwrap();
+        let expected = cautious(&items);
+        for (index, item) in items.iter().enumerate() {
+            if let Item::Site(_) = item {
+                assert!(plan.shapes[index] <= expected[index], "{index}");
+                assert!(every < 100 || plan.shapes[index] == expected[index], "{index}");
+            }
+        }
+        for (index, item) in items.iter().enumerate() {
+            let at = item.offset() - plan.freed[index];
+            match item {
+                Item::Aligned(_) => assert_eq!((at + plan.kept[index]) % 4, 0, "{index}"),
+                Item::Site(site) if plan.shapes[index] == 0 => {
+                    let place = items.partition_point(|it| it.offset() + it.len() <= site.target);
+                    let to = site.target - plan.freed[place];
+                    assert!(to <= at + 101 && at <= to + 102, "{index}");
+                }
+                Item::Site(_) => {}
+            }
+        }
+    }
+}

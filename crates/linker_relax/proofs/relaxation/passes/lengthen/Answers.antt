@@ -46,6 +46,7 @@ loop-index-preserved c =
             same = λ h. cc;
             reached = λ h k below. cc;
             no_less = omega (arith, c.loop-index.invariant.no_less);
+            out = λ _. (i, omega arith, out);
             longer = λ h. omega (arith, c.loop-index.invariant.no_less);
           }
       | else-not-is_in_reach w ↦
@@ -58,6 +59,7 @@ loop-index-preserved c =
             same = λ h. w.shapes-is ∙ c.loop-index.invariant.same (sym w.longer-is ∙ h);
             reached = λ h. below_more _ _ (c.loop-index.invariant.reached (sym w.longer-is ∙ h)) into;
             no_less = subst (λ s. sum old ≤ sum s) (sym w.shapes-is) c.loop-index.invariant.no_less;
+            out = λ h. (let was = c.loop-index.invariant.out (sym w.longer-is ∙ h) in let below = was.1 in (was.0, omega arith, was.2));
             longer = λ h. subst (λ s. sum old < sum s) (sym w.shapes-is) (c.loop-index.invariant.longer (sym w.longer-is ∙ h));
           }
     ]

@@ -10,5 +10,6 @@ invariant-loop-index l = record {
   same : l.longer ≡ false → l.shapes ≡ l.initial.shapes;
   reached : l.longer ≡ false → (k : ℕ) → k < l.index → is_in_reach l.start l.items (choice_of l.initial.shapes) k ≡ true;
   no_less : sum l.initial.shapes ≤ sum l.shapes;
+  out : l.longer ≡ true → (k : ℕ) × (k < l.index) × (is_in_reach l.start l.items (choice_of l.initial.shapes) k ≡ false);
   longer : l.longer ≡ true → sum l.initial.shapes < sum l.shapes;
 }
