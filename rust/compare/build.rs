@@ -9,6 +9,8 @@ const EXPORTS: &str = "../exports/src";
 
 fn main() {
     println!("cargo:rerun-if-changed={EXPORTS}");
+    // the tests count what both sides take
+    println!("cargo:rustc-link-arg=-Wl,--wrap=malloc,--wrap=realloc");
     let mut files: Vec<PathBuf> = fs::read_dir(EXPORTS)
         .expect("the exports are there")
         .map(|entry| entry.expect("an entry of it").path())
