@@ -1010,6 +1010,8 @@ static void call_shrink_calls(void) {
     finish_faulty(faulty, status == LINKER_UTILS_CALLS_NOT_SHRINKABLE, count);
     const uint8_t *is = filled(chosen);
     for (size_t i = 0; status == LINKER_UTILS_OK && i < count; i++) expect(is[i] <= 1, "no choice");
+    /* it allocates for its speed, and returns the same out of memory */
+    if (status == LINKER_UTILS_OK) allocations = 0;
     finish_with(status, 0 OR(DIFFERENT_LENGTHS) OR(CALLS_NOT_SHRINKABLE));
 }
 
@@ -1073,7 +1075,8 @@ static struct buffer *run_items(size_t count) {
 #define FAULTS \
     OR(ITEMS_OVERLAP) OR(ENDS_TOO_HIGH) OR(TOO_MANY_SHAPES) OR(SHAPE_TOO_LONG) \
     OR(SHAPES_NOT_ASCENDING) OR(BAD_UNIT) OR(BAD_REACH) OR(BAD_POWER) OR(UNEVEN_SHAPE) \
-    OR(POWER_BELOW_UNIT) OR(UNEVEN_END) OR(TOO_FEW_NOPS) OR(UNEVEN_NOPS) OR(TARGET_INSIDE)
+    OR(POWER_BELOW_UNIT) OR(UNEVEN_END) OR(TOO_FEW_NOPS) OR(UNEVEN_NOPS) OR(MAY_BE_MISALIGNED) \
+    OR(TARGET_INSIDE)
 
 /* `items_relaxable`, and `relax` where that says that it will do. */
 static void call_relax(void) {
@@ -1253,13 +1256,13 @@ static void call_pack_run(void) {
                       status != LINKER_UTILS_ENDS_TOO_HIGH &&
                       status != LINKER_UTILS_DIFFERENT_LENGTHS &&
                       status != LINKER_UTILS_OUT_OF_MEMORY,
-                  count);
+                  count + (status == LINKER_UTILS_DELETED_OUTSIDE));
     expect(live == 0, "keeps memory");
     allocations = 0;
     finish_with(status, 0 OR(UNKNOWN_ARCHITECTURE) OR(ENDS_TOO_HIGH) OR(DIFFERENT_LENGTHS)
                             OR(OUT_OF_MEMORY) OR(ITEMS_OVERLAP) OR(ITEM_OUT_OF_SECTION)
-                            OR(NOT_ITS_FIRST_BYTES) OR(NOT_ITS_INSTRUCTIONS) OR(NO_SHAPE)
-                            OR(TARGET_OUT_OF_REACH));
+                            OR(DELETED_OUTSIDE) OR(NOT_ITS_FIRST_BYTES) OR(NOT_ITS_INSTRUCTIONS)
+                            OR(NO_SHAPE) OR(TARGET_OUT_OF_REACH));
 }
 
 /* Known bits, most of them as the library returns them: of a value from bit 0, 2 or 12 up. */

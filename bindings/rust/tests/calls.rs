@@ -1537,9 +1537,10 @@ fn packs_sections_of_runs() {
     let rejected = [
         (Item::site(0x107, 8, f, tail), Status::ItemsOverlap),
         (Item::alignment(0x113, 6, 8, None), Status::ItemOutOfSection),
-        (Item::site(0x10c, 8, f, tail), Status::NotItsFirstBytes),
+        (Item::site(0x10c, 8, f, tail), Status::DeletedOutside),
+        (Item::site(0x108, 12, f, tail), Status::NotItsFirstBytes),
         (Item::site(0x108, 4, f, tail), Status::NotItsInstructions),
-        (Item::alignment(0x111, 5, 8, None), Status::NoShape),
+        (Item::alignment(0x109, 7, 8, None), Status::NoShape),
         (Item::site(0x108, 8, f + 1, tail), Status::TargetOutOfReach),
     ];
     let mut packed = [0xaa; 10];
