@@ -1,20 +1,24 @@
-/* The verified core of a linker, for programs in C11 and C++17, or later.
+/* The verified core of a linker, for programs in C99 and C++11, or later.
  *
  * Build with `cc x.c $(pkg-config --cflags --libs linker_utils)`; `bindings/c` has a program for
  * each group of calls.
  *
- * - The archive `liblinker_utils.a` has ELF objects for x86-64-v2 processors (SSE4.2, 2009 and
- *   later), with the System V calling convention. Of the C library it needs only `malloc`,
- *   `realloc`, `free`, `memcpy`, `memmove` and `memset`.
- * - `bindings/install` builds it, which takes minutes the first time, for the proof. The kit builds
- *   no archive without the proof.
+ * - `bindings/install` builds the library in seconds with rustc: `liblinker_utils.a`, and
+ *   `liblinker_utils.so`, which has the inline functions as symbols too. Its source is the proved
+ *   one without contracts. Where a test that rustc adds failed, as of an index, it would call
+ *   `abort`.
+ * - `bindings/install --proved` installs the archive that the prover's kit builds, which takes
+ *   minutes, for the proof. It is for x86-64-v2 processors (SSE4.2, 2009 and later).
+ * - Both have the same calls, which do the same. Of the C library they need `malloc`, `realloc`,
+ *   `free`, `memcpy`, `memmove` and `memset`, and the one of rustc `abort` and `memcmp` or `bcmp`.
+ *   Only the names of the calls are global in an archive.
  * - The functions that are `static inline` are in linker_utils_inline.h: each calls the archive
  *   and allows null for empty slices. There is no other inline code.
  * - There is no global state. Any calls may run in several threads at once.
  *
  * What holds for every call:
  * - A slice is a pointer and then a count of elements. Its pointer may be null where the count is
- *   0. A null pointer with a count above 0 is undefined.
+ *   0. A null pointer with a count above 0 is undefined. It is aligned for its elements.
  * - A pointer to one value is aligned and not null; where it may be null, the call says so. A value
  *   that the call only writes need not be initialised, and neither need the elements of an array
  *   that it only writes. Everything else that is passed is initialised.
@@ -30,8 +34,9 @@
  *   returned. A call that returns anything else can't fail.
  * - `faulty` may be null. If the status is about one entry of an array, the index of that entry is
  *   written there; with any other status nothing is.
- * - Only a call that may return `LINKER_UTILS_OUT_OF_MEMORY` allocates. It is not for a signal
- *   handler, nor for the forked child of a process with threads.
+ * - Only a call that may return `LINKER_UTILS_OUT_OF_MEMORY` allocates, and
+ *   `linker_utils_shrink_calls`. Such a call is not for a signal handler, nor for the forked child
+ *   of a process with threads.
  *
  * A machine is ELF's `e_machine`, and a relocation type the low 32 bits of ELF's `r_info`, as
  * <elf.h> names them (`EM_X86_64`, `R_X86_64_PC32`). Bits are numbered from the least
@@ -158,6 +163,13 @@ enum linker_utils_status {
 
 /* A constant sentence in English for each status, and another for all other numbers. */
 static inline const char *linker_utils_status_text(uint32_t status);
+
+/* The version of the library that the program runs with, as LINKER_UTILS_VERSION. */
+const char *linker_utils_version(void);
+
+/* Whether that is the archive that the prover's kit built, of code that is proved to meet its
+ * contracts, and not the library that rustc built of the same source without contracts. */
+bool linker_utils_is_proved(void);
 
 /* The architectures, by `e_machine` in the ELF header of their files. */
 enum linker_utils_architecture {

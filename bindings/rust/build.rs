@@ -1,7 +1,7 @@
-//! Links the static library: `liblinker_utils.a` in the folder that `LINKER_UTILS_FOLDER` names, or
-//! else in the one that `../archive` prints, which makes it where it is stale. Writes the header's
-//! constants for `src/names.rs`: those of the installed header beside that folder, or else of the
-//! repository's.
+//! Links the static library: `liblinker_utils.a` in the folder that `LINKER_UTILS_FOLDER` names, as
+//! `../archive` prints that of the proved one, or else in the one that `../library` prints, which
+//! makes it where it is stale. Writes the header's constants for `src/names.rs`: those of the
+//! installed header beside that folder, or else of the repository's.
 
 use std::path::Path;
 use std::process::Command;
@@ -9,36 +9,19 @@ use std::{env, fs};
 
 fn main() {
     println!("cargo:rerun-if-env-changed=LINKER_UTILS_FOLDER");
-    println!("cargo:rerun-if-changed=../archive");
-    println!("cargo:rerun-if-changed=../out/liblinker_utils.a");
-    for library in [
-        "linker_base",
-        "linker_elf",
-        "linker_aarch64",
-        "linker_riscv64",
-        "linker_loongarch64",
-        "linker_ppc64",
-        "linker_x86_64",
-        "linker_relax",
-        "linker_utils",
-        "linker_runs",
-        "linker_pack",
-        "relocation_laws",
-        "linker_reads",
-        "linker_recognise",
-        "linker_utils_c",
-    ] {
-        println!("cargo:rerun-if-changed=../../crates/{library}/src");
-        println!("cargo:rerun-if-changed=../../crates/{library}/specs");
-        println!("cargo:rerun-if-changed=../../crates/{library}/proofs");
-    }
     let folder = env::var("LINKER_UTILS_FOLDER").unwrap_or_else(|_| {
-        let output = Command::new("../archive").output();
-        let output = output.expect("`../archive` runs");
-        assert!(output.status.success(), "`../archive` makes the library");
+        for source in ["../library", "../version.c", "../../rust/src", "../../rust/exports/src"] {
+            println!("cargo:rerun-if-changed={source}");
+        }
+        let target = env::var("TARGET").expect("cargo names it");
+        let output = Command::new("../library").arg(target).output();
+        let output = output.expect("`../library` runs");
+        let said = String::from_utf8_lossy(&output.stderr);
+        assert!(output.status.success(), "`../library` makes the library: {said}");
         String::from_utf8(output.stdout).expect("the folder's name is UTF-8")
     });
     let folder = folder.trim_end();
+    println!("cargo:rerun-if-changed={folder}/liblinker_utils.a");
     println!("cargo:rustc-env=LINKER_UTILS_FOLDER={folder}");
     println!("cargo:rustc-link-search=native={folder}");
     println!("cargo:rustc-link-lib=static=linker_utils");

@@ -1,28 +1,26 @@
-//! Writes a test of each export, from the heads of the functions that `tools/erase` put in `src`.
+//! Writes a test of each export, from the heads of the functions that `tools/erase` put in
+//! `../exports/src`.
 
 use std::fmt::Write;
 use std::path::PathBuf;
 use std::{env, fs};
 
+const EXPORTS: &str = "../exports/src";
+
 fn main() {
-    println!("cargo:rerun-if-changed=src");
-    println!("cargo:rerun-if-env-changed=LINKER_UTILS_FOLDER");
-    if env::var_os("LINKER_UTILS_FOLDER").is_none() {
-        println!(
-            "cargo:warning=it links the static library, which `bindings/archive` makes where it is \
-             stale: the proof takes minutes. LINKER_UTILS_FOLDER names a folder that has one."
-        );
-    }
-    let mut files: Vec<PathBuf> = fs::read_dir("src")
-        .expect("`src` is there")
-        .map(|entry| entry.expect("an entry of `src`").path())
-        .filter(|path| !path.ends_with("lib.rs") && !path.ends_with("compare.rs"))
+    println!("cargo:rerun-if-changed={EXPORTS}");
+    // the tests count what both sides take
+    println!("cargo:rustc-link-arg=-Wl,--wrap=malloc,--wrap=realloc");
+    let mut files: Vec<PathBuf> = fs::read_dir(EXPORTS)
+        .expect("the exports are there")
+        .map(|entry| entry.expect("an entry of it").path())
+        .filter(|path| path.is_file())
         .collect();
     files.sort();
     let mut tests = String::new();
     for file in files {
         let module = file.file_stem().expect("a name").to_string_lossy();
-        let text = fs::read_to_string(&file).expect("a file of `src`");
+        let text = fs::read_to_string(&file).expect("a file of exports");
         for head in text.split("\npub fn linker_utils_").skip(1) {
             tests += &test_of(&module, &head[..head.find(" {\n").expect("a body")]);
         }

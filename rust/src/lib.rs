@@ -28,6 +28,7 @@ mod linker_recognise;
 mod linker_relax;
 mod linker_runs;
 pub mod names;
+pub mod readers;
 #[allow(dead_code, reason = "the laws do nothing here")]
 mod relocation_laws;
 mod traits;

@@ -1,11 +1,12 @@
 //! What errors print, and their causes.
 
 use linker_utils::elf::RelocateError;
+use linker_utils::readers::{self, ReadError};
 use linker_utils::relaxation::{OutOfMemory, PackError, RejectedCall, SectionRelaxDeltas};
 use linker_utils::riscv64::{CallError, JumpError};
 use linker_utils::runs::items::ItemsError;
 use linker_utils::runs::relaxation::{Fault, ItemFault};
-use linker_utils::utils::Uleb128Error;
+use linker_utils::utils::{self, Uleb128Error};
 use std::error::Error;
 
 /// What an error prints, and each error that caused it.
@@ -127,4 +128,47 @@ fn errors_of_runs_are_printed() {
     let high = "the address behind the item is above 2^64 - 1";
     assert_eq!(texts(Fault::TooHigh), [high]);
     assert_eq!(high.replace("item", "item, or behind the section,"), status("ENDS_TOO_HIGH"));
+}
+
+/// What a reader returns, with the text of its error, and how many bytes it leaves.
+fn read<T, E: ToString>(
+    bytes: &[u8],
+    reader: fn(&mut &[u8]) -> Result<T, E>,
+) -> (Result<T, String>, usize) {
+    let mut content = bytes;
+    let result = reader(&mut content);
+    (result.map_err(|error| error.to_string()), content.len())
+}
+
+#[test]
+fn readers_with_a_typed_error_read_the_same() {
+    let (mut state, mut errors) = (0x9e37_79b9_7f4a_7c15_u64, [0; 3]);
+    for _ in 0..100_000 {
+        let mut bytes = [0; 12];
+        for byte in &mut bytes {
+            state = state.wrapping_mul(6_364_136_223_846_793_005).wrapping_add(1);
+            // mostly a byte that another follows, and mostly 0 or 1 as the tenth
+            *byte = match state >> 60 {
+                0 => (state >> 57) as u8 & 3,
+                _ => 0x80 | (state >> 40) as u8,
+            };
+        }
+        let bytes = &bytes[..(state >> 32) as usize % 13];
+        assert_eq!(read(bytes, readers::read_u32), read(bytes, utils::read_u32));
+        let number = read(bytes, readers::read_uleb128);
+        assert_eq!(number, read(bytes, utils::read_uleb128));
+        errors[number.0.map_or_else(|text| 1 + usize::from(text.ends_with("ended")), |_| 0)] += 1;
+    }
+    assert!(errors.iter().all(|&count| count > 1_000), "{errors:?}");
+}
+
+#[test]
+fn errors_of_readers_are_boxed() {
+    let number = |mut bytes: &[u8]| -> Result<u64, Box<dyn Error>> {
+        Ok(u64::from(readers::read_u32(&mut bytes)?) + readers::read_uleb128(&mut bytes)?)
+    };
+    assert_eq!(number(&[1, 0, 0, 0, 5]).ok(), Some(6));
+    let ended = number(&[1, 0, 0, 0, 0x85]).unwrap_err();
+    assert_eq!(ended.downcast_ref(), Some(&ReadError::Ended));
+    assert_eq!(number(&[1]).unwrap_err().downcast_ref(), Some(&ReadError::TooShort));
 }

@@ -456,6 +456,13 @@ static void call_status_text(void) {
     finish(true);
 }
 
+static void call_version(void) {
+    const char *version = CALL(version, );
+    expect(strcmp(version, LINKER_UTILS_VERSION) == 0, "another version than the header");
+    (void)CALL(is_proved, );
+    finish(true);
+}
+
 static void call_window(void) {
     uint16_t machine = any_machine();
     uint32_t form = any_of_enum();
@@ -1422,7 +1429,7 @@ static void call_recognise_chosen(void) {
 }
 
 static void (*const all[])(void) = {
-    call_status_text, call_window, call_write, call_read, call_apply, call_matches,
+    call_status_text, call_version, call_window, call_write, call_read, call_apply, call_matches,
     call_choose,
     call_next_modifier, call_relocation, call_relocation_name, call_value, call_reach, call_relocate,
     call_relocate_all,

@@ -21,6 +21,7 @@ pub mod raw;
 
 pub use names::*;
 use std::error::Error;
+use std::ffi::CStr;
 use std::fmt;
 use std::ops::Range;
 
@@ -407,6 +408,20 @@ fn result_over(call: impl FnOnce(&mut usize) -> u32) -> Result<(), ArrayError> {
 
 // SAFETY of each call below: a slice's pointer and length are its own, a reference is of one value, and
 // the declarations in `raw` fit the library. It requires no more.
+
+/// The version of the static library.
+pub fn version() -> &'static str {
+    // SAFETY: it takes no arguments, and returns a constant string.
+    let text = unsafe { CStr::from_ptr(raw::linker_utils_version()) };
+    text.to_str().expect("a version is of ASCII letters")
+}
+
+/// Whether the static library is the one that the prover's kit built, and not the one that rustc
+/// built of the same source without contracts.
+pub fn is_proved() -> bool {
+    // SAFETY: it takes no arguments.
+    unsafe { raw::linker_utils_is_proved() }
+}
 
 /// The length in bytes of the window that a form reads and writes.
 pub fn window(form: impl Into<Form>) -> Result<usize, Status> {

@@ -3,6 +3,7 @@
 
 pub use crate::{BlockHead, Call, Deletion, Delta, FieldBits, FieldValue, Item, Operands};
 pub use crate::{Relocation, SectionRelocation, Shape, Shapes};
+use std::ffi::c_char;
 
 /// `struct linker_utils_relocation_info`.
 #[repr(C)]
@@ -80,6 +81,8 @@ pub struct Recognised {
 }
 
 extern "C" {
+    pub fn linker_utils_version() -> *const c_char;
+    pub fn linker_utils_is_proved() -> bool;
     pub fn linker_utils_fits_nonnull(
         machine: u16,
         form: u32,

@@ -1,6 +1,7 @@
-//! The headers, this crate's declarations, the archive and the proved library's sources say the same:
-//! each function, each struct's size and offsets, each status's sentence, and the version. The enums,
-//! which `build.rs` makes from the header, have the library's names and numbers.
+//! The headers, this crate's declarations, the heads of the archive of ordinary Rust, the archive
+//! and the proved library's sources say the same: each function, each struct's size and offsets,
+//! each status's sentence, and the version. The enums, which `build.rs` makes from the header, have
+//! the library's names and numbers.
 
 use sathunne::*;
 use std::collections::{BTreeMap, BTreeSet};
@@ -28,6 +29,9 @@ struct Function {
 }
 
 type Functions = BTreeMap<String, Function>;
+
+/// The calls that say which archive it is. Each archive gets them of `bindings/version.c`.
+const OF_ARCHIVE: [&str; 2] = ["linker_utils_is_proved", "linker_utils_version"];
 
 /// The text between an opening bracket, at the beginning, and the one that closes it, and the rest.
 fn bracketed(text: &str) -> (&str, &str) {
@@ -151,7 +155,7 @@ fn functions_of_c() -> FunctionsOfC {
         }
         let (parameters, rest) = bracketed(rest);
         let inline = result.strip_prefix("static inline ");
-        if inline == Some("const char *") {
+        if inline == Some("const char *") || OF_ARCHIVE.contains(&name) {
             continue;
         }
         let function = Function {
@@ -251,6 +255,18 @@ fn exporting_sources() -> String {
     texts.map(|text| text.expect("a text")).collect()
 }
 
+/// A head with this crate's names of types.
+fn in_names_of_crate(head: Function) -> Function {
+    let name = |(name, kind): (String, String)| match kind.split_once(' ') {
+        Some((pointer, pointed)) => (name, format!("{pointer} {}", element(pointed))),
+        None => (name, kind),
+    };
+    Function {
+        parameters: head.parameters.into_iter().map(name).collect(),
+        result: head.result,
+    }
+}
+
 fn assert_same(declared: &Functions, exports: &Functions, by: &str) {
     for (name, function) in exports {
         assert_eq!(
@@ -269,7 +285,10 @@ fn the_functions_are_those_of_the_library() {
     assert!(exports.len() > 30, "the sources are read");
     let of_header = functions_of_c();
     assert_same(&of_header.exports, &exports, "the header");
-    let of_crate = functions_of_rust(&repository("bindings/rust/src/raw.rs"), "pub fn ");
+    let mut of_crate = functions_of_rust(&repository("bindings/rust/src/raw.rs"), "pub fn ");
+    for name in OF_ARCHIVE {
+        of_crate.remove(name).expect("it is declared");
+    }
     assert_same(&of_crate, &exports, "this crate");
 
     let archive = format!("{}/liblinker_utils.a", env!("LINKER_UTILS_FOLDER"));
@@ -286,10 +305,15 @@ fn the_functions_are_those_of_the_library() {
     let symbols: BTreeSet<&str> = listed
         .lines()
         .filter_map(|line| line.split_whitespace().next())
-        .filter(|name| name.starts_with("linker_utils_"))
         .filter(|name| !name.ends_with(".o]:"))
         .collect();
-    assert_eq!(symbols, exports.keys().map(String::as_str).collect());
+    let called = exports.keys().map(String::as_str).chain(OF_ARCHIVE);
+    assert_eq!(symbols, called.collect());
+    // the heads of the archive of ordinary Rust
+    let heads = repository("rust/exports/src/exported.rs");
+    let heads = functions_of_rust(&heads, "extern \"C\" fn ");
+    let heads = heads.into_iter().map(|(name, head)| (name, in_names_of_crate(head)));
+    assert_same(&heads.collect(), &exports, "tools/erase");
 
     // users read each wrapper, and each has the parameters of what it calls, and passes them in order
     let wrappers = of_header.wrappers;
@@ -603,6 +627,7 @@ fn the_numbers_are_those_of_the_library() {
 
 #[test]
 fn the_version_is_the_same() {
+    assert_eq!(version(), env!("CARGO_PKG_VERSION"));
     let version = format!("\"{}\"", env!("CARGO_PKG_VERSION"));
     assert!(repository("rust/Cargo.toml").contains(&format!("\nversion = {version}\n")));
     assert!(headers().contains(&format!("\n#define LINKER_UTILS_VERSION {version}\n")));

@@ -1,17 +1,59 @@
 //! Each export with random arguments: the static library's and the one of ordinary Rust return the
-//! same and leave the same behind.
+//! same, leave the same behind and allocate as often.
 
-use crate::*;
+use exports::*;
 use linker_utils::elf::{Operands, RelocationNumbers};
 use linker_utils::recognise::FieldBits;
 use linker_utils::relaxation::{BlockHead, Call, RelaxDelta};
 use linker_utils::runs::relaxation::{Shape, Shapes};
 use linker_utils::runs::shapes::{fixed, loongarch64, riscv64};
-// It links the static library.
-use sathunne as _;
+use std::cell::Cell;
+use std::ffi::c_void;
+
+/// Else both sides are of ordinary Rust.
+#[test]
+fn the_static_library_is_proved() {
+    let folder = "LINKER_UTILS_FOLDER names its folder, which bindings/archive prints";
+    assert!(sathunne::is_proved(), "{folder}");
+}
+
+#[test]
+fn allocations_are_counted() {
+    assert_eq!(counted(|| Vec::<u64>::with_capacity(8)).1, 1);
+}
 
 /// How often each export is called.
 const CALLS: usize = 100_000;
+
+thread_local! {
+    /// How many calls of `malloc` and `realloc` this thread has made.
+    static TAKEN: Cell<u64> = const { Cell::new(0) };
+}
+
+unsafe extern "C" {
+    fn __real_malloc(size: usize) -> *mut c_void;
+    fn __real_realloc(block: *mut c_void, size: usize) -> *mut c_void;
+}
+
+// SAFETY: they are the C library's, and count.
+#[unsafe(no_mangle)]
+unsafe extern "C" fn __wrap_malloc(size: usize) -> *mut c_void {
+    TAKEN.set(TAKEN.get() + 1);
+    unsafe { __real_malloc(size) }
+}
+
+#[unsafe(no_mangle)]
+unsafe extern "C" fn __wrap_realloc(block: *mut c_void, size: usize) -> *mut c_void {
+    TAKEN.set(TAKEN.get() + 1);
+    unsafe { __real_realloc(block, size) }
+}
+
+/// What a call returns, and how often it takes memory.
+fn counted<T>(call: impl FnOnce() -> T) -> (T, u64) {
+    let before = TAKEN.get();
+    let returned = call();
+    (returned, TAKEN.get() - before)
+}
 
 /// An argument for each side.
 struct Pair<T> {
@@ -323,12 +365,13 @@ macro_rules! compare {
             for _ in 0..CALLS {
                 $($made)*
                 #[allow(clippy::unit_arg)]
-                let ours: $result = $module::$name($($ours)*);
+                let (ours, taken): ($result, u64) = counted(|| $module::$name($($ours)*));
                 // SAFETY: a slice's pointer and length are its own, a reference is of one value, and
                 // the declaration is made of the export's own head.
-                let theirs = unsafe { $name($($theirs)*) };
+                let (theirs, taken_by_theirs) = counted(|| unsafe { $name($($theirs)*) });
                 let after: &[(String, String)] = &[$($after)*];
                 assert_eq!(ours, theirs, "{after:?}");
+                assert_eq!(taken, taken_by_theirs, "allocations: {after:?}");
                 for (ours, theirs) in after {
                     assert_eq!(ours, theirs, "{after:?}");
                 }

@@ -1,6 +1,7 @@
 // Made by tools/erase of crates/linker_utils_c/src/merges.rt.
 //! Deletions that are merged into deltas.
 
+use alloc::vec::Vec;
 use crate::support::*;
 use crate::deltas::Deletion;
 use crate::status::Status;

@@ -1,6 +1,7 @@
 // Made by tools/erase of crates/linker_utils_c/src/section_items.rt.
 //! The items that a section's relocations make, in arrays of the caller's.
 
+use alloc::vec::Vec;
 use crate::support::*;
 use crate::relaxing::ItemNumbers;
 use crate::status::Status;

@@ -1,6 +1,7 @@
 // Made by tools/erase of crates/linker_utils_c/src/relaxing.rt.
 //! A run of items that is relaxed, in arrays of the caller's.
 
+use alloc::vec::Vec;
 use crate::support::*;
 use crate::status::Status;
 use linker_utils::runs::relaxation::{Alignment, Fault, Item, Shapes, Site, first_faulty, relax_into};

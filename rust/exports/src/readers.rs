@@ -30,7 +30,7 @@ pub fn linker_utils_read_u32_nonnull(
     consumed: &mut usize,
 ) -> u32 {
     let mut content: &[u8] = bytes;
-    match utils::read_u32(&mut content) {
+    match linker_utils::readers::read_u32(&mut content) {
         Ok(number) => {
             *value = number;
             *consumed = bytes.len() - content.len();
@@ -48,7 +48,7 @@ pub fn linker_utils_read_uleb128_nonnull(
     consumed: &mut usize,
 ) -> u32 {
     let mut content: &[u8] = bytes;
-    match utils::read_uleb128(&mut content) {
+    match linker_utils::readers::read_uleb128(&mut content) {
         Ok(number) => {
             *value = number;
             *consumed = bytes.len() - content.len();

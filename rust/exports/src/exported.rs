@@ -1,0 +1,1254 @@
+// Made by tools/erase of the heads of the exports in crates/linker_utils_c/src.
+//! The exports as C calls them: a slice is a pointer and a length, a reference a pointer.
+#![allow(unsafe_code, reason = "the pointers are the caller's")]
+
+use crate::choices::ChoiceNumbers;
+use crate::choices::LinkFactNumbers;
+use crate::deltas::Deletion;
+use crate::reading::FieldValueNumbers;
+use crate::recognising::RecognisedNumbers;
+use crate::relaxing::ItemNumbers;
+use crate::relocate::Reach;
+use crate::relocate::Relocation;
+use crate::section_items::SectionRelocation;
+use linker_utils::elf::Operands;
+use linker_utils::elf::RelocationNumbers;
+use linker_utils::recognise::FieldBits;
+use linker_utils::relaxation::BlockHead;
+use linker_utils::relaxation::RelaxDelta;
+use linker_utils::riscv64::Call;
+use linker_utils::runs::relaxation::Shapes;
+use core::slice::{from_raw_parts, from_raw_parts_mut};
+
+#[unsafe(no_mangle)]
+unsafe extern "C" fn linker_utils_jal_site_nonnull(
+    section: *mut u8,
+    section_len: usize,
+    site: u64,
+    distance: i64,
+) -> u32 {
+    // SAFETY: the arguments are as the head of the header says.
+    unsafe {
+        crate::calls::linker_utils_jal_site_nonnull(
+            from_raw_parts_mut(section, section_len),
+            site,
+            distance,
+        )
+    }
+}
+
+#[unsafe(no_mangle)]
+unsafe extern "C" fn linker_utils_jal_site_with_nonnull(
+    section: *mut u8,
+    section_len: usize,
+    site: u64,
+    distance: i64,
+    link: u32,
+) -> u32 {
+    // SAFETY: the arguments are as the head of the header says.
+    unsafe {
+        crate::calls::linker_utils_jal_site_with_nonnull(
+            from_raw_parts_mut(section, section_len),
+            site,
+            distance,
+            link,
+        )
+    }
+}
+
+#[unsafe(no_mangle)]
+unsafe extern "C" fn linker_utils_relax_call_nonnull(
+    section: *mut u8,
+    section_len: usize,
+    deltas: *const RelaxDelta,
+    deltas_len: usize,
+    site: u64,
+    target: u64,
+) -> u32 {
+    // SAFETY: the arguments are as the head of the header says.
+    unsafe {
+        crate::calls::linker_utils_relax_call_nonnull(
+            from_raw_parts_mut(section, section_len),
+            from_raw_parts(deltas, deltas_len),
+            site,
+            target,
+        )
+    }
+}
+
+#[unsafe(no_mangle)]
+unsafe extern "C" fn linker_utils_is_plain_call_nonnull(
+    section: *const u8,
+    section_len: usize,
+    site: u64,
+) -> bool {
+    // SAFETY: the arguments are as the head of the header says.
+    unsafe {
+        crate::calls::linker_utils_is_plain_call_nonnull(
+            from_raw_parts(section, section_len),
+            site,
+        )
+    }
+}
+
+#[unsafe(no_mangle)]
+extern "C" fn linker_utils_distance_fits_jal(
+    distance: i64,
+) -> bool {
+    crate::calls::linker_utils_distance_fits_jal(
+        distance,
+    )
+}
+
+#[unsafe(no_mangle)]
+extern "C" fn linker_utils_hi20_is_zero(
+    value: u64,
+) -> bool {
+    crate::calls::linker_utils_hi20_is_zero(
+        value,
+    )
+}
+
+#[unsafe(no_mangle)]
+extern "C" fn linker_utils_hi20_fits_clui(
+    value: u64,
+) -> bool {
+    crate::calls::linker_utils_hi20_fits_clui(
+        value,
+    )
+}
+
+#[unsafe(no_mangle)]
+extern "C" fn linker_utils_rd_valid_for_clui(
+    rd: u32,
+) -> bool {
+    crate::calls::linker_utils_rd_valid_for_clui(
+        rd,
+    )
+}
+
+#[unsafe(no_mangle)]
+unsafe extern "C" fn linker_utils_choose_nonnull(
+    machine: u16,
+    r_type: u32,
+    section: *const u8,
+    section_len: usize,
+    offset: u64,
+    facts: *const LinkFactNumbers,
+    choice: *mut ChoiceNumbers,
+) -> u32 {
+    // SAFETY: the arguments are as the head of the header says.
+    unsafe {
+        crate::choices::linker_utils_choose_nonnull(
+            machine,
+            r_type,
+            from_raw_parts(section, section_len),
+            offset,
+            &*facts,
+            &mut *choice,
+        )
+    }
+}
+
+#[unsafe(no_mangle)]
+unsafe extern "C" fn linker_utils_deltas_is_valid_nonnull(
+    deletions: *const Deletion,
+    deletions_len: usize,
+    faulty: *mut usize,
+) -> u32 {
+    // SAFETY: the arguments are as the head of the header says.
+    unsafe {
+        crate::deltas::linker_utils_deltas_is_valid_nonnull(
+            from_raw_parts(deletions, deletions_len),
+            &mut *faulty,
+        )
+    }
+}
+
+#[unsafe(no_mangle)]
+unsafe extern "C" fn linker_utils_deltas_create_nonnull(
+    deletions: *const Deletion,
+    deletions_len: usize,
+    deltas: *mut RelaxDelta,
+    deltas_len: usize,
+    faulty: *mut usize,
+) -> u32 {
+    // SAFETY: the arguments are as the head of the header says.
+    unsafe {
+        crate::deltas::linker_utils_deltas_create_nonnull(
+            from_raw_parts(deletions, deletions_len),
+            from_raw_parts_mut(deltas, deltas_len),
+            &mut *faulty,
+        )
+    }
+}
+
+#[unsafe(no_mangle)]
+unsafe extern "C" fn linker_utils_deltas_create_in_one_pass_nonnull(
+    deletions: *const Deletion,
+    deletions_len: usize,
+    deltas: *mut RelaxDelta,
+    deltas_len: usize,
+    faulty: *mut usize,
+) -> u32 {
+    // SAFETY: the arguments are as the head of the header says.
+    unsafe {
+        crate::deltas::linker_utils_deltas_create_in_one_pass_nonnull(
+            from_raw_parts(deletions, deletions_len),
+            from_raw_parts_mut(deltas, deltas_len),
+            &mut *faulty,
+        )
+    }
+}
+
+#[unsafe(no_mangle)]
+unsafe extern "C" fn linker_utils_deltas_input_to_output_nonnull(
+    deltas: *const RelaxDelta,
+    deltas_len: usize,
+    input_offset: u64,
+) -> u64 {
+    // SAFETY: the arguments are as the head of the header says.
+    unsafe {
+        crate::deltas::linker_utils_deltas_input_to_output_nonnull(
+            from_raw_parts(deltas, deltas_len),
+            input_offset,
+        )
+    }
+}
+
+#[unsafe(no_mangle)]
+unsafe extern "C" fn linker_utils_deltas_output_to_input_nonnull(
+    deltas: *const RelaxDelta,
+    deltas_len: usize,
+    output_offset: u64,
+    input_offset: *mut u64,
+) -> u32 {
+    // SAFETY: the arguments are as the head of the header says.
+    unsafe {
+        crate::deltas::linker_utils_deltas_output_to_input_nonnull(
+            from_raw_parts(deltas, deltas_len),
+            output_offset,
+            &mut *input_offset,
+        )
+    }
+}
+
+#[unsafe(no_mangle)]
+unsafe extern "C" fn linker_utils_has_valid_deltas_nonnull(
+    deltas: *const RelaxDelta,
+    deltas_len: usize,
+) -> bool {
+    // SAFETY: the arguments are as the head of the header says.
+    unsafe {
+        crate::deltas::linker_utils_has_valid_deltas_nonnull(
+            from_raw_parts(deltas, deltas_len),
+        )
+    }
+}
+
+#[unsafe(no_mangle)]
+unsafe extern "C" fn linker_utils_deltas_total_deleted_nonnull(
+    deltas: *const RelaxDelta,
+    deltas_len: usize,
+) -> u64 {
+    // SAFETY: the arguments are as the head of the header says.
+    unsafe {
+        crate::deltas::linker_utils_deltas_total_deleted_nonnull(
+            from_raw_parts(deltas, deltas_len),
+        )
+    }
+}
+
+#[unsafe(no_mangle)]
+unsafe extern "C" fn linker_utils_deltas_translate_all_nonnull(
+    deltas: *const RelaxDelta,
+    deltas_len: usize,
+    queries: *const u64,
+    queries_len: usize,
+    outputs: *mut u64,
+    outputs_len: usize,
+    faulty: *mut usize,
+) -> u32 {
+    // SAFETY: the arguments are as the head of the header says.
+    unsafe {
+        crate::deltas::linker_utils_deltas_translate_all_nonnull(
+            from_raw_parts(deltas, deltas_len),
+            from_raw_parts(queries, queries_len),
+            from_raw_parts_mut(outputs, outputs_len),
+            &mut *faulty,
+        )
+    }
+}
+
+#[unsafe(no_mangle)]
+unsafe extern "C" fn linker_utils_window(
+    machine: u16,
+    form: u32,
+    window: *mut usize,
+) -> u32 {
+    // SAFETY: the arguments are as the head of the header says.
+    unsafe {
+        crate::forms::linker_utils_window(
+            machine,
+            form,
+            &mut *window,
+        )
+    }
+}
+
+#[unsafe(no_mangle)]
+unsafe extern "C" fn linker_utils_fits_nonnull(
+    machine: u16,
+    form: u32,
+    value: u64,
+    bytes: *const u8,
+    bytes_len: usize,
+) -> u32 {
+    // SAFETY: the arguments are as the head of the header says.
+    unsafe {
+        crate::forms::linker_utils_fits_nonnull(
+            machine,
+            form,
+            value,
+            from_raw_parts(bytes, bytes_len),
+        )
+    }
+}
+
+#[unsafe(no_mangle)]
+unsafe extern "C" fn linker_utils_write_nonnull(
+    machine: u16,
+    form: u32,
+    value: u64,
+    negative: bool,
+    dest: *mut u8,
+    dest_len: usize,
+) -> u32 {
+    // SAFETY: the arguments are as the head of the header says.
+    unsafe {
+        crate::forms::linker_utils_write_nonnull(
+            machine,
+            form,
+            value,
+            negative,
+            from_raw_parts_mut(dest, dest_len),
+        )
+    }
+}
+
+#[unsafe(no_mangle)]
+unsafe extern "C" fn linker_utils_read_nonnull(
+    machine: u16,
+    form: u32,
+    bytes: *const u8,
+    bytes_len: usize,
+    value: *mut u64,
+    negative: *mut u8,
+) -> u32 {
+    // SAFETY: the arguments are as the head of the header says.
+    unsafe {
+        crate::forms::linker_utils_read_nonnull(
+            machine,
+            form,
+            from_raw_parts(bytes, bytes_len),
+            &mut *value,
+            &mut *negative,
+        )
+    }
+}
+
+#[unsafe(no_mangle)]
+unsafe extern "C" fn linker_utils_deltas_block_count_nonnull(
+    deltas: *const RelaxDelta,
+    deltas_len: usize,
+) -> usize {
+    // SAFETY: the arguments are as the head of the header says.
+    unsafe {
+        crate::heads::linker_utils_deltas_block_count_nonnull(
+            from_raw_parts(deltas, deltas_len),
+        )
+    }
+}
+
+#[unsafe(no_mangle)]
+unsafe extern "C" fn linker_utils_deltas_heads_nonnull(
+    deltas: *const RelaxDelta,
+    deltas_len: usize,
+    heads: *mut BlockHead,
+    heads_len: usize,
+) -> u32 {
+    // SAFETY: the arguments are as the head of the header says.
+    unsafe {
+        crate::heads::linker_utils_deltas_heads_nonnull(
+            from_raw_parts(deltas, deltas_len),
+            from_raw_parts_mut(heads, heads_len),
+        )
+    }
+}
+
+#[unsafe(no_mangle)]
+unsafe extern "C" fn linker_utils_deltas_input_to_output_by_heads_nonnull(
+    deltas: *const RelaxDelta,
+    deltas_len: usize,
+    heads: *const BlockHead,
+    heads_len: usize,
+    input_offset: u64,
+) -> u64 {
+    // SAFETY: the arguments are as the head of the header says.
+    unsafe {
+        crate::heads::linker_utils_deltas_input_to_output_by_heads_nonnull(
+            from_raw_parts(deltas, deltas_len),
+            from_raw_parts(heads, heads_len),
+            input_offset,
+        )
+    }
+}
+
+#[unsafe(no_mangle)]
+unsafe extern "C" fn linker_utils_deltas_output_to_input_by_heads_nonnull(
+    deltas: *const RelaxDelta,
+    deltas_len: usize,
+    heads: *const BlockHead,
+    heads_len: usize,
+    output_offset: u64,
+    input_offset: *mut u64,
+) -> u32 {
+    // SAFETY: the arguments are as the head of the header says.
+    unsafe {
+        crate::heads::linker_utils_deltas_output_to_input_by_heads_nonnull(
+            from_raw_parts(deltas, deltas_len),
+            from_raw_parts(heads, heads_len),
+            output_offset,
+            &mut *input_offset,
+        )
+    }
+}
+
+#[unsafe(no_mangle)]
+unsafe extern "C" fn linker_utils_deltas_is_mergeable_nonnull(
+    deltas: *const RelaxDelta,
+    deltas_len: usize,
+    additional: *const Deletion,
+    additional_len: usize,
+) -> u32 {
+    // SAFETY: the arguments are as the head of the header says.
+    unsafe {
+        crate::merges::linker_utils_deltas_is_mergeable_nonnull(
+            from_raw_parts(deltas, deltas_len),
+            from_raw_parts(additional, additional_len),
+        )
+    }
+}
+
+#[unsafe(no_mangle)]
+unsafe extern "C" fn linker_utils_deltas_merge_nonnull(
+    deltas: *const RelaxDelta,
+    deltas_len: usize,
+    additional: *const Deletion,
+    additional_len: usize,
+    merged: *mut RelaxDelta,
+    merged_len: usize,
+    faulty: *mut usize,
+) -> u32 {
+    // SAFETY: the arguments are as the head of the header says.
+    unsafe {
+        crate::merges::linker_utils_deltas_merge_nonnull(
+            from_raw_parts(deltas, deltas_len),
+            from_raw_parts(additional, additional_len),
+            from_raw_parts_mut(merged, merged_len),
+            &mut *faulty,
+        )
+    }
+}
+
+#[unsafe(no_mangle)]
+unsafe extern "C" fn linker_utils_packed_run_len_nonnull(
+    base: u64,
+    section_len: usize,
+    deltas: *const RelaxDelta,
+    deltas_len: usize,
+) -> usize {
+    // SAFETY: the arguments are as the head of the header says.
+    unsafe {
+        crate::pack_runs::linker_utils_packed_run_len_nonnull(
+            base,
+            section_len,
+            from_raw_parts(deltas, deltas_len),
+        )
+    }
+}
+
+#[unsafe(no_mangle)]
+unsafe extern "C" fn linker_utils_pack_run_nonnull(
+    machine: u16,
+    section: *const u8,
+    section_len: usize,
+    base: u64,
+    items: *const ItemNumbers,
+    items_len: usize,
+    deltas: *const RelaxDelta,
+    deltas_len: usize,
+    start: u64,
+    packed: *mut u8,
+    packed_len: usize,
+    faulty: *mut usize,
+) -> u32 {
+    // SAFETY: the arguments are as the head of the header says.
+    unsafe {
+        crate::pack_runs::linker_utils_pack_run_nonnull(
+            machine,
+            from_raw_parts(section, section_len),
+            base,
+            from_raw_parts(items, items_len),
+            from_raw_parts(deltas, deltas_len),
+            start,
+            from_raw_parts_mut(packed, packed_len),
+            &mut *faulty,
+        )
+    }
+}
+
+#[unsafe(no_mangle)]
+unsafe extern "C" fn linker_utils_packed_len_nonnull(
+    section: *const u8,
+    section_len: usize,
+    deltas: *const RelaxDelta,
+    deltas_len: usize,
+) -> usize {
+    // SAFETY: the arguments are as the head of the header says.
+    unsafe {
+        crate::packing::linker_utils_packed_len_nonnull(
+            from_raw_parts(section, section_len),
+            from_raw_parts(deltas, deltas_len),
+        )
+    }
+}
+
+#[unsafe(no_mangle)]
+unsafe extern "C" fn linker_utils_pack_nonnull(
+    section: *const u8,
+    section_len: usize,
+    deltas: *const RelaxDelta,
+    deltas_len: usize,
+    calls: *const Call,
+    calls_len: usize,
+    link: u32,
+    packed: *mut u8,
+    packed_len: usize,
+    faulty: *mut usize,
+) -> u32 {
+    // SAFETY: the arguments are as the head of the header says.
+    unsafe {
+        crate::packing::linker_utils_pack_nonnull(
+            from_raw_parts(section, section_len),
+            from_raw_parts(deltas, deltas_len),
+            from_raw_parts(calls, calls_len),
+            link,
+            from_raw_parts_mut(packed, packed_len),
+            &mut *faulty,
+        )
+    }
+}
+
+#[unsafe(no_mangle)]
+unsafe extern "C" fn linker_utils_u32_from_slice_nonnull(
+    bytes: *const u8,
+    bytes_len: usize,
+    value: *mut u32,
+) -> u32 {
+    // SAFETY: the arguments are as the head of the header says.
+    unsafe {
+        crate::readers::linker_utils_u32_from_slice_nonnull(
+            from_raw_parts(bytes, bytes_len),
+            &mut *value,
+        )
+    }
+}
+
+#[unsafe(no_mangle)]
+unsafe extern "C" fn linker_utils_u64_from_slice_nonnull(
+    bytes: *const u8,
+    bytes_len: usize,
+    value: *mut u64,
+) -> u32 {
+    // SAFETY: the arguments are as the head of the header says.
+    unsafe {
+        crate::readers::linker_utils_u64_from_slice_nonnull(
+            from_raw_parts(bytes, bytes_len),
+            &mut *value,
+        )
+    }
+}
+
+#[unsafe(no_mangle)]
+unsafe extern "C" fn linker_utils_read_u32_nonnull(
+    bytes: *const u8,
+    bytes_len: usize,
+    value: *mut u32,
+    consumed: *mut usize,
+) -> u32 {
+    // SAFETY: the arguments are as the head of the header says.
+    unsafe {
+        crate::readers::linker_utils_read_u32_nonnull(
+            from_raw_parts(bytes, bytes_len),
+            &mut *value,
+            &mut *consumed,
+        )
+    }
+}
+
+#[unsafe(no_mangle)]
+unsafe extern "C" fn linker_utils_read_uleb128_nonnull(
+    bytes: *const u8,
+    bytes_len: usize,
+    value: *mut u64,
+    consumed: *mut usize,
+) -> u32 {
+    // SAFETY: the arguments are as the head of the header says.
+    unsafe {
+        crate::readers::linker_utils_read_uleb128_nonnull(
+            from_raw_parts(bytes, bytes_len),
+            &mut *value,
+            &mut *consumed,
+        )
+    }
+}
+
+#[unsafe(no_mangle)]
+unsafe extern "C" fn linker_utils_read_value_nonnull(
+    machine: u16,
+    r_type: u32,
+    bytes: *const u8,
+    bytes_len: usize,
+    value: *mut FieldValueNumbers,
+) -> u32 {
+    // SAFETY: the arguments are as the head of the header says.
+    unsafe {
+        crate::reading::linker_utils_read_value_nonnull(
+            machine,
+            r_type,
+            from_raw_parts(bytes, bytes_len),
+            &mut *value,
+        )
+    }
+}
+
+#[unsafe(no_mangle)]
+unsafe extern "C" fn linker_utils_solve(
+    machine: u16,
+    r_type: u32,
+    value: *const FieldValueNumbers,
+    operands: *const Operands,
+    reference: *mut u32,
+    address: *mut FieldValueNumbers,
+) -> u32 {
+    // SAFETY: the arguments are as the head of the header says.
+    unsafe {
+        crate::reading::linker_utils_solve(
+            machine,
+            r_type,
+            &*value,
+            &*operands,
+            &mut *reference,
+            &mut *address,
+        )
+    }
+}
+
+#[unsafe(no_mangle)]
+unsafe extern "C" fn linker_utils_join(
+    high: *const FieldValueNumbers,
+    low: *const FieldValueNumbers,
+    whole: *mut FieldValueNumbers,
+) -> u32 {
+    // SAFETY: the arguments are as the head of the header says.
+    unsafe {
+        crate::reading::linker_utils_join(
+            &*high,
+            &*low,
+            &mut *whole,
+        )
+    }
+}
+
+#[unsafe(no_mangle)]
+unsafe extern "C" fn linker_utils_field_bits_nonnull(
+    machine: u16,
+    r_type: u32,
+    bytes: *const u8,
+    bytes_len: usize,
+    bits: *mut u64,
+) -> u32 {
+    // SAFETY: the arguments are as the head of the header says.
+    unsafe {
+        crate::recognising::linker_utils_field_bits_nonnull(
+            machine,
+            r_type,
+            from_raw_parts(bytes, bytes_len),
+            &mut *bits,
+        )
+    }
+}
+
+#[unsafe(no_mangle)]
+unsafe extern "C" fn linker_utils_same_but_for_nonnull(
+    machine: u16,
+    r_type: u32,
+    a: *const u8,
+    a_len: usize,
+    b: *const u8,
+    b_len: usize,
+) -> bool {
+    // SAFETY: the arguments are as the head of the header says.
+    unsafe {
+        crate::recognising::linker_utils_same_but_for_nonnull(
+            machine,
+            r_type,
+            from_raw_parts(a, a_len),
+            from_raw_parts(b, b_len),
+        )
+    }
+}
+
+#[unsafe(no_mangle)]
+unsafe extern "C" fn linker_utils_recognise_nonnull(
+    machine: u16,
+    r_type: u32,
+    original: *const u8,
+    original_len: usize,
+    offset: u64,
+    others: *const FieldBits,
+    others_len: usize,
+    linked: *const u8,
+    linked_len: usize,
+    found: *mut RecognisedNumbers,
+    found_len: usize,
+    count: *mut usize,
+) -> u32 {
+    // SAFETY: the arguments are as the head of the header says.
+    unsafe {
+        crate::recognising::linker_utils_recognise_nonnull(
+            machine,
+            r_type,
+            from_raw_parts(original, original_len),
+            offset,
+            from_raw_parts(others, others_len),
+            from_raw_parts(linked, linked_len),
+            from_raw_parts_mut(found, found_len),
+            &mut *count,
+        )
+    }
+}
+
+#[unsafe(no_mangle)]
+unsafe extern "C" fn linker_utils_recognise_chosen_nonnull(
+    machine: u16,
+    r_type: u32,
+    original: *const u8,
+    original_len: usize,
+    offset: u64,
+    others: *const FieldBits,
+    others_len: usize,
+    linked: *const u8,
+    linked_len: usize,
+    facts: *const LinkFactNumbers,
+    found: *mut RecognisedNumbers,
+) -> u32 {
+    // SAFETY: the arguments are as the head of the header says.
+    unsafe {
+        crate::recognising::linker_utils_recognise_chosen_nonnull(
+            machine,
+            r_type,
+            from_raw_parts(original, original_len),
+            offset,
+            from_raw_parts(others, others_len),
+            from_raw_parts(linked, linked_len),
+            &*facts,
+            &mut *found,
+        )
+    }
+}
+
+#[unsafe(no_mangle)]
+unsafe extern "C" fn linker_utils_named_shapes(
+    number: u32,
+    shapes: *mut Shapes,
+) -> u32 {
+    // SAFETY: the arguments are as the head of the header says.
+    unsafe {
+        crate::relaxing::linker_utils_named_shapes(
+            number,
+            &mut *shapes,
+        )
+    }
+}
+
+#[unsafe(no_mangle)]
+unsafe extern "C" fn linker_utils_items_relaxable_nonnull(
+    items: *const ItemNumbers,
+    items_len: usize,
+    start: u64,
+    faulty: *mut usize,
+) -> u32 {
+    // SAFETY: the arguments are as the head of the header says.
+    unsafe {
+        crate::relaxing::linker_utils_items_relaxable_nonnull(
+            from_raw_parts(items, items_len),
+            start,
+            &mut *faulty,
+        )
+    }
+}
+
+#[unsafe(no_mangle)]
+unsafe extern "C" fn linker_utils_relax_nonnull(
+    items: *const ItemNumbers,
+    items_len: usize,
+    start: u64,
+    shapes: *mut u8,
+    shapes_len: usize,
+    kept: *mut u64,
+    kept_len: usize,
+    places: *mut usize,
+    places_len: usize,
+    freed: *mut u64,
+    freed_len: usize,
+    faulty: *mut usize,
+) -> u32 {
+    // SAFETY: the arguments are as the head of the header says.
+    unsafe {
+        crate::relaxing::linker_utils_relax_nonnull(
+            from_raw_parts(items, items_len),
+            start,
+            from_raw_parts_mut(shapes, shapes_len),
+            from_raw_parts_mut(kept, kept_len),
+            from_raw_parts_mut(places, places_len),
+            from_raw_parts_mut(freed, freed_len),
+            &mut *faulty,
+        )
+    }
+}
+
+#[unsafe(no_mangle)]
+unsafe extern "C" fn linker_utils_run_deltas_nonnull(
+    items: *const ItemNumbers,
+    items_len: usize,
+    kept: *const u64,
+    kept_len: usize,
+    deltas: *mut RelaxDelta,
+    deltas_len: usize,
+    len: *mut usize,
+) -> u32 {
+    // SAFETY: the arguments are as the head of the header says.
+    unsafe {
+        crate::relaxing::linker_utils_run_deltas_nonnull(
+            from_raw_parts(items, items_len),
+            from_raw_parts(kept, kept_len),
+            from_raw_parts_mut(deltas, deltas_len),
+            &mut *len,
+        )
+    }
+}
+
+#[unsafe(no_mangle)]
+unsafe extern "C" fn linker_utils_value(
+    machine: u16,
+    r_type: u32,
+    operands: *const Operands,
+    value: *mut i64,
+) -> u32 {
+    // SAFETY: the arguments are as the head of the header says.
+    unsafe {
+        crate::relocate::linker_utils_value(
+            machine,
+            r_type,
+            &*operands,
+            &mut *value,
+        )
+    }
+}
+
+#[unsafe(no_mangle)]
+unsafe extern "C" fn linker_utils_reach(
+    machine: u16,
+    r_type: u32,
+    reach: *mut Reach,
+) -> u32 {
+    // SAFETY: the arguments are as the head of the header says.
+    unsafe {
+        crate::relocate::linker_utils_reach(
+            machine,
+            r_type,
+            &mut *reach,
+        )
+    }
+}
+
+#[unsafe(no_mangle)]
+unsafe extern "C" fn linker_utils_relocate_nonnull(
+    machine: u16,
+    r_type: u32,
+    value: i64,
+    dest: *mut u8,
+    dest_len: usize,
+) -> u32 {
+    // SAFETY: the arguments are as the head of the header says.
+    unsafe {
+        crate::relocate::linker_utils_relocate_nonnull(
+            machine,
+            r_type,
+            value,
+            from_raw_parts_mut(dest, dest_len),
+        )
+    }
+}
+
+#[unsafe(no_mangle)]
+unsafe extern "C" fn linker_utils_relocate_all_nonnull(
+    machine: u16,
+    section: *mut u8,
+    section_len: usize,
+    relocations: *const Relocation,
+    relocations_len: usize,
+    faulty: *mut usize,
+) -> u32 {
+    // SAFETY: the arguments are as the head of the header says.
+    unsafe {
+        crate::relocate::linker_utils_relocate_all_nonnull(
+            machine,
+            from_raw_parts_mut(section, section_len),
+            from_raw_parts(relocations, relocations_len),
+            &mut *faulty,
+        )
+    }
+}
+
+#[unsafe(no_mangle)]
+extern "C" fn linker_utils_uleb128_role(
+    machine: u16,
+    r_type: u32,
+) -> u32 {
+    crate::relocate::linker_utils_uleb128_role(
+        machine,
+        r_type,
+    )
+}
+
+#[unsafe(no_mangle)]
+unsafe extern "C" fn linker_utils_write_uleb128_nonnull(
+    dest: *mut u8,
+    dest_len: usize,
+    value: u64,
+) -> u32 {
+    // SAFETY: the arguments are as the head of the header says.
+    unsafe {
+        crate::relocate::linker_utils_write_uleb128_nonnull(
+            from_raw_parts_mut(dest, dest_len),
+            value,
+        )
+    }
+}
+
+#[unsafe(no_mangle)]
+unsafe extern "C" fn linker_utils_relocation(
+    machine: u16,
+    r_type: u32,
+    info: *mut RelocationNumbers,
+) -> u32 {
+    // SAFETY: the arguments are as the head of the header says.
+    unsafe {
+        crate::relocations::linker_utils_relocation(
+            machine,
+            r_type,
+            &mut *info,
+        )
+    }
+}
+
+#[unsafe(no_mangle)]
+unsafe extern "C" fn linker_utils_clui_rel_info(
+    info: *mut RelocationNumbers,
+) {
+    // SAFETY: the arguments are as the head of the header says.
+    unsafe {
+        crate::relocations::linker_utils_clui_rel_info(
+            &mut *info,
+        )
+    }
+}
+
+#[unsafe(no_mangle)]
+extern "C" fn linker_utils_asks_for_got(
+    machine: u16,
+    r_type: u32,
+) -> bool {
+    crate::relocations::linker_utils_asks_for_got(
+        machine,
+        r_type,
+    )
+}
+
+#[unsafe(no_mangle)]
+extern "C" fn linker_utils_may_use_plt(
+    machine: u16,
+    r_type: u32,
+) -> bool {
+    crate::relocations::linker_utils_may_use_plt(
+        machine,
+        r_type,
+    )
+}
+
+#[unsafe(no_mangle)]
+unsafe extern "C" fn linker_utils_relocation_name_nonnull(
+    machine: u16,
+    r_type: u32,
+    name: *mut u8,
+    name_len: usize,
+    name_used: *mut usize,
+) -> u32 {
+    // SAFETY: the arguments are as the head of the header says.
+    unsafe {
+        crate::relocations::linker_utils_relocation_name_nonnull(
+            machine,
+            r_type,
+            from_raw_parts_mut(name, name_len),
+            &mut *name_used,
+        )
+    }
+}
+
+#[unsafe(no_mangle)]
+unsafe extern "C" fn linker_utils_can_apply_nonnull(
+    machine: u16,
+    rewrite: u32,
+    n: u8,
+    section: *const u8,
+    section_len: usize,
+    offset: u64,
+) -> u32 {
+    // SAFETY: the arguments are as the head of the header says.
+    unsafe {
+        crate::rewrites::linker_utils_can_apply_nonnull(
+            machine,
+            rewrite,
+            n,
+            from_raw_parts(section, section_len),
+            offset,
+        )
+    }
+}
+
+#[unsafe(no_mangle)]
+unsafe extern "C" fn linker_utils_matches_nonnull(
+    machine: u16,
+    rewrite: u32,
+    n: u8,
+    section: *const u8,
+    section_len: usize,
+    offset: u64,
+) -> u32 {
+    // SAFETY: the arguments are as the head of the header says.
+    unsafe {
+        crate::rewrites::linker_utils_matches_nonnull(
+            machine,
+            rewrite,
+            n,
+            from_raw_parts(section, section_len),
+            offset,
+        )
+    }
+}
+
+#[unsafe(no_mangle)]
+unsafe extern "C" fn linker_utils_apply_nonnull(
+    machine: u16,
+    rewrite: u32,
+    n: u8,
+    section: *mut u8,
+    section_len: usize,
+    offset: *mut u64,
+    addend: *mut i64,
+) -> u32 {
+    // SAFETY: the arguments are as the head of the header says.
+    unsafe {
+        crate::rewrites::linker_utils_apply_nonnull(
+            machine,
+            rewrite,
+            n,
+            from_raw_parts_mut(section, section_len),
+            &mut *offset,
+            &mut *addend,
+        )
+    }
+}
+
+#[unsafe(no_mangle)]
+unsafe extern "C" fn linker_utils_next_modifier(
+    machine: u16,
+    rewrite: u32,
+    n: u8,
+    modifier: *mut u32,
+) -> u32 {
+    // SAFETY: the arguments are as the head of the header says.
+    unsafe {
+        crate::rewrites::linker_utils_next_modifier(
+            machine,
+            rewrite,
+            n,
+            &mut *modifier,
+        )
+    }
+}
+
+#[unsafe(no_mangle)]
+unsafe extern "C" fn linker_utils_riscv_items_nonnull(
+    section: *const u8,
+    section_len: usize,
+    base: u64,
+    relocations: *const SectionRelocation,
+    relocations_len: usize,
+    items: *mut ItemNumbers,
+    items_len: usize,
+    len: *mut usize,
+    faulty: *mut usize,
+) -> u32 {
+    // SAFETY: the arguments are as the head of the header says.
+    unsafe {
+        crate::section_items::linker_utils_riscv_items_nonnull(
+            from_raw_parts(section, section_len),
+            base,
+            from_raw_parts(relocations, relocations_len),
+            from_raw_parts_mut(items, items_len),
+            &mut *len,
+            &mut *faulty,
+        )
+    }
+}
+
+#[unsafe(no_mangle)]
+unsafe extern "C" fn linker_utils_loongarch_items_nonnull(
+    section: *const u8,
+    section_len: usize,
+    base: u64,
+    relocations: *const SectionRelocation,
+    relocations_len: usize,
+    items: *mut ItemNumbers,
+    items_len: usize,
+    len: *mut usize,
+    faulty: *mut usize,
+) -> u32 {
+    // SAFETY: the arguments are as the head of the header says.
+    unsafe {
+        crate::section_items::linker_utils_loongarch_items_nonnull(
+            from_raw_parts(section, section_len),
+            base,
+            from_raw_parts(relocations, relocations_len),
+            from_raw_parts_mut(items, items_len),
+            &mut *len,
+            &mut *faulty,
+        )
+    }
+}
+
+#[unsafe(no_mangle)]
+unsafe extern "C" fn linker_utils_write_mov_sequence_nonnull(
+    dest: *mut u8,
+    dest_len: usize,
+    rd: u32,
+    value: u64,
+) -> u32 {
+    // SAFETY: the arguments are as the head of the header says.
+    unsafe {
+        crate::sequences::linker_utils_write_mov_sequence_nonnull(
+            from_raw_parts_mut(dest, dest_len),
+            rd,
+            value,
+        )
+    }
+}
+
+#[unsafe(no_mangle)]
+unsafe extern "C" fn linker_utils_write_address_sequence_nonnull(
+    dest: *mut u8,
+    dest_len: usize,
+    pc: u64,
+    target: u64,
+) -> u32 {
+    // SAFETY: the arguments are as the head of the header says.
+    unsafe {
+        crate::sequences::linker_utils_write_address_sequence_nonnull(
+            from_raw_parts_mut(dest, dest_len),
+            pc,
+            target,
+        )
+    }
+}
+
+#[unsafe(no_mangle)]
+extern "C" fn linker_utils_highest_relocation_with_bias(
+    s: u64,
+    pc: u64,
+) -> u64 {
+    crate::sequences::linker_utils_highest_relocation_with_bias(
+        s,
+        pc,
+    )
+}
+
+#[unsafe(no_mangle)]
+unsafe extern "C" fn linker_utils_write_ha_lo_nonnull(
+    ha: *mut u8,
+    ha_len: usize,
+    lo: *mut u8,
+    lo_len: usize,
+    value: u64,
+) -> u32 {
+    // SAFETY: the arguments are as the head of the header says.
+    unsafe {
+        crate::sequences::linker_utils_write_ha_lo_nonnull(
+            from_raw_parts_mut(ha, ha_len),
+            from_raw_parts_mut(lo, lo_len),
+            value,
+        )
+    }
+}
+
+#[unsafe(no_mangle)]
+unsafe extern "C" fn linker_utils_calls_shrinkable_nonnull(
+    deltas: *const RelaxDelta,
+    deltas_len: usize,
+    calls: *const Call,
+    calls_len: usize,
+    faulty: *mut usize,
+) -> u32 {
+    // SAFETY: the arguments are as the head of the header says.
+    unsafe {
+        crate::shrinking::linker_utils_calls_shrinkable_nonnull(
+            from_raw_parts(deltas, deltas_len),
+            from_raw_parts(calls, calls_len),
+            &mut *faulty,
+        )
+    }
+}
+
+#[unsafe(no_mangle)]
+unsafe extern "C" fn linker_utils_shrink_calls_nonnull(
+    deltas: *const RelaxDelta,
+    deltas_len: usize,
+    calls: *const Call,
+    calls_len: usize,
+    chosen: *mut u8,
+    chosen_len: usize,
+    faulty: *mut usize,
+) -> u32 {
+    // SAFETY: the arguments are as the head of the header says.
+    unsafe {
+        crate::shrinking::linker_utils_shrink_calls_nonnull(
+            from_raw_parts(deltas, deltas_len),
+            from_raw_parts(calls, calls_len),
+            from_raw_parts_mut(chosen, chosen_len),
+            &mut *faulty,
+        )
+    }
+}

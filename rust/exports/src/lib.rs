@@ -1,0 +1,40 @@
+// Made by tools/erase of crates/linker_utils_c/src/lib.rt.
+//! The core of a linker for programs in C and C++: numbers and slices of bytes in, a status out.
+
+#![no_std]
+#![deny(unsafe_code)]
+#![allow(dead_code, reason = "each export is a function of its module")]
+#![allow(unused_imports, reason = "some are there for contracts alone")]
+#![allow(clippy::complexity, clippy::style, reason = "the text is that of the proved source")]
+#![allow(clippy::suspicious, reason = "the text is that of the proved source")]
+
+extern crate alloc;
+
+#[macro_use]
+#[path = "../../src/support.rs"]
+mod support;
+
+#[cfg(feature = "archive")]
+mod exported;
+#[cfg(feature = "archive")]
+mod runtime;
+
+pub mod calls;
+pub mod choices;
+pub mod deltas;
+pub mod forms;
+pub mod heads;
+pub mod merges;
+pub mod pack_runs;
+pub mod packing;
+pub mod readers;
+pub mod reading;
+pub mod recognising;
+pub mod relaxing;
+pub mod relocate;
+pub mod relocations;
+pub mod rewrites;
+pub mod section_items;
+pub mod sequences;
+pub mod shrinking;
+pub mod status;
