@@ -1030,9 +1030,11 @@ static void call_named_shapes(void) {
 }
 
 /* Shapes of an architecture, some changed, or one that keeps so many bytes. */
-static struct linker_utils_shapes any_shapes(void) {
+static struct linker_utils_shapes any_shapes(bool is_riscv) {
     struct linker_utils_shapes shapes = {.longest = (uint32_t)below(9)};
-    if (!once_in(8)) linker_utils_named_shapes((uint32_t)below(3), &shapes);
+    uint32_t name = (uint32_t)(is_riscv ? LINKER_UTILS_SHAPES_RISCV_CALL + below(3)
+                                        : LINKER_UTILS_SHAPES_LOONGARCH_CALL36 + below(2));
+    if (!once_in(8)) linker_utils_named_shapes(name, &shapes);
     struct linker_utils_shape *shape = &shapes.shorter[below(2)];
     if (once_in(64)) shapes.count = (uint8_t)(once_in(2) ? below(4) : any());
     if (once_in(64)) shape->kept = (uint32_t)(once_in(2) ? below(10) : any_number());
@@ -1046,7 +1048,7 @@ static struct linker_utils_shapes any_shapes(void) {
 static struct buffer *run_items(size_t count) {
     struct buffer *buffer = place(READ, count, sizeof(struct linker_utils_item));
     struct linker_utils_item *at = filled(buffer);
-    bool is_wild = once_in(16);
+    bool is_wild = once_in(16), is_riscv = !once_in(3);
     uint64_t offset = once_in(16) ? any_number() : 4 * below(4);
     for (size_t i = 0; i < count; i++) {
         struct linker_utils_item item = {.offset = offset,
@@ -1055,9 +1057,10 @@ static struct buffer *run_items(size_t count) {
                                          .most = 2 * below(16),
                                          .len = 8,
                                          .kind = LINKER_UTILS_ITEM_SITE,
-                                         .shapes = any_shapes()};
+                                         .shapes = any_shapes(is_riscv)};
         if (once_in(3)) {
-            item.len = (uint32_t)item.power - (once_in(4) ? 4 : 2);
+            item.len = item.power > 2 ? (uint32_t)item.power - (once_in(4) ? 4 : 2)
+                                      : 2 * (uint32_t)below(2);
             item.kind = once_in(4) ? (uint32_t)any() : (uint32_t)below(3);
         }
         if (is_wild || once_in(64)) {
@@ -1073,7 +1076,7 @@ static struct buffer *run_items(size_t count) {
             }
         }
         at[i] = item;
-        offset += item.len + 4 * below(3);
+        offset += item.len + (once_in(16) ? 2 : 4) * below(3);
     }
     return buffer;
 }
@@ -1212,6 +1215,7 @@ static void call_pack_run(void) {
     struct linker_utils_item *item = filled(items);
     struct linker_utils_delta lost[4];
     uint64_t base = once_in(8) ? any_number() : 4 * below(4), offset = base, sum = 0;
+    bool is_riscv = !once_in(3);
     for (size_t i = 0; i < count; i++) {
         bool is_call = !once_in(3);
         uint32_t len = is_call || once_in(2) ? 8 : 2 * (uint32_t)below(8);
@@ -1224,7 +1228,7 @@ static void call_pack_run(void) {
             .power = 8,
             .len = once_in(32) ? (uint32_t)any_number() : len,
             .kind = is_call ? LINKER_UTILS_ITEM_SITE : 1 + (uint32_t)below(2),
-            .shapes = any_shapes(),
+            .shapes = any_shapes(is_riscv),
         };
         if (kept < len) {
             sum += len - kept;
@@ -1247,9 +1251,9 @@ static void call_pack_run(void) {
     size_t len = wanted > BUFFER_LEN || once_in(8) ? any_len(40) : wanted;
     struct buffer *packed = bytes(WRITTEN, len);
     size_t *faulty = any_faulty();
-    uint16_t machine = once_in(4)   ? any_machine()
-                       : once_in(3) ? LINKER_UTILS_LOONGARCH64
-                                    : LINKER_UTILS_RISCV;
+    uint16_t machine = once_in(4) ? any_machine()
+                       : is_riscv ? LINKER_UTILS_RISCV
+                                  : LINKER_UTILS_LOONGARCH64;
     bool is_packed = machine == LINKER_UTILS_RISCV || machine == LINKER_UTILS_LOONGARCH64;
     uint32_t status = CALL(pack_run, machine, section->given, section_len, base, ITEMS(items),
                            DELTAS(listed), any_number(), packed->given, len, faulty);
