@@ -1189,7 +1189,7 @@ static inline uint32_t linker_utils_riscv_items(
  * a symbol its addend is how many bytes of nops there are, and they align to the next power of two
  * above it. With a symbol the lowest 8 bits of the addend are the exponent of two of what they align
  * to, 4 bytes more than the nops, and the others its limit: how many bytes of nops may stay. Without
- * a symbol, and where these are 0 or as many as the nops, the alignment has no limit.
+ * a symbol, and where these are 0 or no fewer than the nops, the alignment has no limit.
  *
  * The statuses are the same. Malformed is an R_LARCH_CALL36 with less than eight bytes there, and an
  * R_LARCH_ALIGN whose addend is below 0, whose exponent is below 2 or above 32, or whose nops aren't

@@ -33,7 +33,7 @@ AreStated true addend nops power = (power ≡ 2 ^ field addend 0 8) × (nops + 4
 AreStated false addend nops power = (nops ≡ addend) × IsNextPowerOfTwo (nops + 1) power
 
 -- How many bytes may be skipped at most: with a symbol the addend's other bits, if they aren't 0. As
--- many as all nops are no limit, since all instructions have four bytes.
+-- many as all nops, or more, are no limit, since all instructions have four bytes.
 abbrev pub stated_limit : Bool → ℕ → ℕ → Option ℕ
 stated_limit has_symbol addend nops =
     if has_symbol && nat_lt 0 (addend / 2 ^ 8) && nat_lt (addend / 2 ^ 8) nops

@@ -1,8 +1,11 @@
 //! The objects of `examples/objects`, as ld.lld 19 linked them (`tests/make`).
 
+mod random;
+
 use compare::{Counts, Line, compare, elf, report};
 use linker_utils::elf::Operands;
 use object::{Object, ObjectSection, ObjectSymbol};
+use random::Random;
 use std::collections::HashMap;
 use std::fs;
 use std::path::{Path, PathBuf};
@@ -292,17 +295,6 @@ main.o: main+{low:#x}  R_AARCH64_LD64_GOT_LO12_NC swaps
 "
     );
     assert_eq!(said, wanted);
-}
-
-struct Random(u64);
-
-impl Random {
-    fn below(&mut self, bound: usize) -> usize {
-        self.0 ^= self.0 << 13;
-        self.0 ^= self.0 >> 7;
-        self.0 ^= self.0 << 17;
-        (self.0 % bound as u64) as usize
-    }
 }
 
 #[test]

@@ -1,8 +1,11 @@
 //! The programs of `tests/gnu`, as GNU ld and ld.lld 19 linked them (`tests/gnu/make`).
 
+mod random;
+
 use compare::{Counts, Line, compare, elf, report};
 use object::read::elf::ElfFile64;
 use object::{LittleEndian, Object, ObjectSection, ObjectSymbol};
+use random::Random;
 use std::fs;
 use std::path::{Path, PathBuf};
 
@@ -344,17 +347,6 @@ fn control_characters_are_written_as_escapes() {
     // `b 1b` and `beqz $a0, 2f`, whose labels as calls .L1^B1 and .L2^B1
     assert!(said.contains("R_LARCH_B26 .L1\\u{2}1\n"));
     assert!(said.contains("R_LARCH_B21 .L2\\u{2}1\n"));
-}
-
-struct Random(u64);
-
-impl Random {
-    fn below(&mut self, bound: usize) -> usize {
-        self.0 ^= self.0 << 13;
-        self.0 ^= self.0 >> 7;
-        self.0 ^= self.0 << 17;
-        (self.0 % bound as u64) as usize
-    }
 }
 
 #[test]

@@ -194,14 +194,14 @@ fn item_at(
 /// `R_LARCH_ALIGN` makes an alignment, if there are nops. Without a symbol its addend is how many
 /// bytes the nops have, and what they align to is the next power of two above it. With a symbol the
 /// addend's lowest 8 bits are the exponent of two of what they align to, whose nops are 4 bytes
-/// fewer. The other bits are the most bytes that may stay: its limit, if they are neither 0 nor as
-/// many as the nops (LoongArch ELF psABI, "Relocations").
+/// fewer. The other bits are its limit, the most bytes that may stay, if they are above 0 and below
+/// the nops (LoongArch ELF psABI, "Relocations").
 ///
 /// `Malformed` names the first relocation that lies behind the section's end, that is an
 /// `R_LARCH_CALL36` and less than eight bytes are there, or that is an `R_LARCH_ALIGN` whose addend
 /// is below 0, whose exponent is below 2 or above 32, or whose nops aren't a multiple of 4, reach
-/// past the section's end or have 2^32 bytes or more. The vector grows as items are added. `are_items` tells whether the run
-/// can be relaxed.
+/// past the section's end or have 2^32 bytes or more. The vector grows as items are added.
+/// `are_items` tells whether the run can be relaxed.
 ///
 /// # Requires
 ///
