@@ -1,5 +1,6 @@
-//! Measures the static library and the crate in `rust/`, and compares each with the original crate
-//! where it is built in. Before a line is timed all sides do the same, and have to give the same.
+//! Measures the exports of a library and the crate in `rust/`, and compares each with the original
+//! crate where it is built in. Before a line is timed all sides do the same, and have to give the
+//! same.
 
 #[cfg(feature = "upstream")]
 mod behind;
@@ -17,23 +18,19 @@ mod threads;
 
 use inputs::{Random, deletions, is_inside};
 use library::*;
-use measure::{Beside, Report, Side, Sides};
-use sathunne::{Architecture, Ppc64Form, RelocationSize};
+use measure::{Beside, OURS, Report, Side, Sides};
+use sathunne::{Architecture, LoongArch64Form, Ppc64Form, RelocationSize};
 use std::process::Command;
 use table::*;
 
 /// Calls of a round.
 const CALLS: usize = 2048;
 
-/// So many processes time each side, as stack and heap lie elsewhere in each.
+/// So many processes time each of `OURS`, as stack and heap lie elsewhere in each. The options
+/// `--exports-by=`, `--proved-by=` and `--erased-by=` name the program of each process.
 const PROCESSES: usize = 4;
-/// The option, once for each process, of a program that times the exports and the original crate
-/// behind functions.
-const EXPORTS_BY: &str = "--exports-by=";
-/// As above, of one that times the erased crate and the original one, both called directly.
-const CRATES_BY: &str = "--crates-by=";
-/// The option of those programs for which sides they time. They print their rounds.
-const SIDES: &str = "--sides=";
+/// The option of those programs for which of `OURS` they time. They print their rounds.
+const ROUNDS_OF: &str = "--rounds-of=";
 
 /// The four sides, of which the original crate's may be missing.
 const LIBRARIES: [Option<&'static dyn Library>; 4] = [
@@ -80,7 +77,9 @@ fn main() {
         ("threads", threads::threads),
     ];
     let given = |option: &str| args.iter().find_map(|arg| arg.strip_prefix(option));
-    let with_value = ["--picture=", EXPORTS_BY, CRATES_BY, SIDES];
+    let programs_of = OURS.map(|ours| format!("--{}-by=", ours.short));
+    let mut with_value = vec!["--picture=", ROUNDS_OF];
+    with_value.extend(programs_of.iter().map(String::as_str));
     let is_known = |arg: &String| {
         ["--quick", "--check"].contains(&arg.as_str())
             || with_value.iter().any(|option| arg.starts_with(option))
@@ -97,17 +96,19 @@ fn main() {
     } else {
         Report::new(0.1 / PROCESSES as f64, 31usize.div_ceil(PROCESSES))
     };
-    if let Some(sides) = given(SIDES) {
-        report.print_rounds(if sides == EXPORTS_BY { [0, 1] } else { [2, 3] });
+    if let Some(short) = given(ROUNDS_OF) {
+        let which = OURS.iter().position(|ours| ours.short == short);
+        report.print_rounds(which.expect("one of them"));
     }
-    for option in [EXPORTS_BY, CRATES_BY] {
-        let programs = args.iter().filter_map(|arg| arg.strip_prefix(option));
+    for (which, option) in programs_of.iter().enumerate() {
+        let programs = args.iter().filter_map(|arg| arg.strip_prefix(&**option));
         let count = programs.clone().count();
         assert!(count == 0 || count == PROCESSES, "so many processes");
         for path in programs {
             let mut program = Command::new(path);
             program.args(args.iter().filter(|arg| !arg.starts_with("--")));
-            report.add_program(program.arg(format!("{SIDES}{option}")));
+            let short = OURS[which].short;
+            report.add_program(which, program.arg(format!("{ROUNDS_OF}{short}")));
         }
     }
     for (name, part) in parts {
@@ -435,10 +436,17 @@ fn clear_field(machine: u16, fixup: &Fixup, section: &mut [u8]) {
         for (byte, bits) in section[fixup.offset..].iter_mut().zip(ones) {
             *byte &= !bits;
         }
-        // `ld`: other words may be of DQ-form, which takes multiples of 16
-        if form == sathunne::Form::Ppc64(Ppc64Form::Ds) {
-            section[fixup.offset] = 0;
-            section[fixup.offset + 3] = 58 << 2;
+        match form {
+            // `ld`: other words may be of DQ-form, which takes multiples of 16
+            sathunne::Form::Ppc64(Ppc64Form::Ds) => {
+                section[fixup.offset] = 0;
+                section[fixup.offset + 3] = 58 << 2;
+            }
+            // a load: a `jirl` takes multiples of 4
+            sathunne::Form::LoongArch64(LoongArch64Form::Shift10) => {
+                section[fixup.offset + 3] = 0x28;
+            }
+            _ => (),
         }
     }
 }

@@ -5,8 +5,42 @@ use std::hint::black_box;
 use std::process::{Command, Stdio};
 use std::time::{Duration, Instant};
 
-/// What is compared, in the order of the table: the exports and the original crate behind functions
-/// of the same arguments, then the erased crate and the original one, both called directly.
+/// What is measured, each beside the original crate or another way: the tables have a group of
+/// columns for each.
+pub struct Ours {
+    /// What tables and options call it.
+    pub short: &'static str,
+    /// What sentences and the picture call it.
+    name: &'static str,
+    /// For light and dark pages.
+    colour: &'static str,
+}
+
+pub const OURS: [Ours; 3] = [
+    Ours {
+        short: "exports",
+        name: "exports of the library",
+        colour: "#3b82c4",
+    },
+    Ours {
+        short: "proved",
+        name: "exports of the proved archive",
+        colour: "#2a8f6e",
+    },
+    Ours {
+        short: "erased",
+        name: "direct calls of the Rust crate",
+        colour: "#c9822b",
+    },
+];
+
+/// Which of `OURS` this program has: the exports that are linked into it, and the crate.
+fn own() -> [usize; 2] {
+    [usize::from(sathunne::is_proved()), 2]
+}
+
+/// What a program compares: its exports and the original crate behind functions of the same
+/// arguments, then the erased crate and the original one, both called directly.
 pub type Sides<'a> = [Option<Side<'a>>; 4];
 
 /// One of those: a round, which says what it took in seconds, and what it gave where that is asked.
@@ -75,11 +109,11 @@ impl Beside {
     }
 }
 
-/// The ratios of the lines of one table: of the exports, and of the erased crate.
+/// The ratios of the lines of one table, for each of `OURS`.
 struct Group {
     title: String,
     beside: Beside,
-    lines: [Vec<Line>; 2],
+    lines: [Vec<Line>; OURS.len()],
 }
 
 struct Line {
@@ -103,7 +137,8 @@ pub fn quantile(numbers: &mut [f64], tenths: usize) -> f64 {
     numbers[numbers.len() * tenths / 10]
 }
 
-/// The times of the rounds of a process, for each side.
+/// The times of the rounds of a process for one of `OURS`: of its side and of the one beside it, or
+/// with each number of threads.
 pub type Rounds = Vec<Vec<f64>>;
 
 /// The mean of the processes' medians of a side, where it was timed.
@@ -125,8 +160,8 @@ pub fn ratios(processes: &[Rounds], side: usize, other: usize) -> Vec<f64> {
 /// Whether the rounds of a process tell which side takes more time: by thrice the standard error of a
 /// median, which is half of what lies between the 10th and the 90th percentile by the root of how
 /// many rounds there are.
-fn tells(rounds: &Rounds, side: usize, other: usize) -> bool {
-    let mut ratios = ratios(std::slice::from_ref(rounds), side, other);
+fn tells(rounds: &Rounds) -> bool {
+    let mut ratios = ratios(std::slice::from_ref(rounds), 0, 1);
     if ratios.is_empty() {
         return true;
     }
@@ -147,10 +182,11 @@ pub struct Report {
     rounds: usize,
     groups: Vec<Group>,
     begin: Instant,
-    /// Which sides are timed, where the rounds are printed.
-    timed: Option<[usize; 2]>,
-    /// For each other program the rounds of the lines that are still to be measured.
-    others: Vec<std::vec::IntoIter<String>>,
+    /// Which of `OURS` is timed, where the rounds are printed.
+    printed: Option<usize>,
+    /// For each other program which of `OURS` it times, and the rounds of the lines that are still
+    /// to be measured.
+    others: Vec<(usize, std::vec::IntoIter<String>)>,
 }
 
 impl Report {
@@ -161,19 +197,21 @@ impl Report {
             rounds,
             groups: Vec::new(),
             begin: Instant::now(),
-            timed: None,
+            printed: None,
             others: Vec::new(),
         }
     }
 
-    /// Times these sides only, and prints the rounds of each line, for a program that adds them.
-    pub fn print_rounds(&mut self, sides: [usize; 2]) {
-        self.timed = Some(sides);
+    /// Times one of `OURS` and what is beside it only, and prints the rounds of each line, for a
+    /// program that adds them.
+    pub fn print_rounds(&mut self, which: usize) {
+        assert!(own().contains(&which), "it has no {}", OURS[which].name);
+        self.printed = Some(which);
     }
 
-    /// Runs a program that measures the same lines and prints its rounds. This one then times none,
-    /// but adds theirs.
-    pub fn add_program(&mut self, program: &mut Command) {
+    /// Runs a program that measures the same lines and prints its rounds of one of `OURS`. This one
+    /// then times none, but adds theirs.
+    pub fn add_program(&mut self, which: usize, program: &mut Command) {
         let path = program.get_program().to_string_lossy().into_owned();
         self.progress(&path);
         let output = program
@@ -184,40 +222,40 @@ impl Report {
         let printed = String::from_utf8(output.stdout).expect("a text");
         let lines = printed.lines().filter_map(|line| line.strip_prefix(ROUNDS));
         let lines: Vec<String> = lines.map(str::to_string).collect();
-        self.others.push(lines.into_iter());
+        self.others.push((which, lines.into_iter()));
     }
 
     /// Whether this program times a side itself.
     pub fn times(&self, side: usize) -> bool {
-        self.others.is_empty() && self.timed.is_none_or(|sides| sides.contains(&side))
+        self.others.is_empty() && self.printed.is_none_or(|which| which == own()[side / 2])
     }
 
-    /// The rounds of the sides of a line, of each process that timed some. Prints those of this one
-    /// where that is asked for.
-    pub fn share(&mut self, name: &str, sides: Rounds) -> Vec<Rounds> {
-        if self.timed.is_some() {
-            let times = |side: &Vec<f64>| -> String {
-                let times: Vec<String> = side.iter().map(f64::to_string).collect();
-                times.join(" ")
-            };
-            let sides: Vec<String> = sides.iter().map(times).collect();
-            println!("{ROUNDS}{name}\t{}", sides.join("\t"));
+    /// The rounds of a line: for each of `OURS` those of each process. Those of this one are given,
+    /// of its exports and of its crate, and printed where that is asked for.
+    pub fn share(&mut self, name: &str, given: [Rounds; 2]) -> [Vec<Rounds>; OURS.len()] {
+        let mut shared: [Vec<Rounds>; OURS.len()] = Default::default();
+        for (which, rounds) in own().into_iter().zip(given) {
+            if self.printed == Some(which) {
+                let times = |side: &Vec<f64>| -> String {
+                    let times: Vec<String> = side.iter().map(f64::to_string).collect();
+                    times.join(" ")
+                };
+                let sides: Vec<String> = rounds.iter().map(times).collect();
+                println!("{ROUNDS}{name}\t{}", sides.join("\t"));
+            }
+            shared[which].push(rounds);
         }
-        let of_others = self.others.iter_mut().map(|other| {
-            let line = other.next().expect("the same lines");
+        for (which, lines) in &mut self.others {
+            let line = lines.next().expect("the same lines");
             let mut fields = line.split('\t');
             assert_eq!(fields.next(), Some(name), "the same lines");
             let times = |side: &str| {
                 let times = side.split_whitespace();
                 times.map(|time| time.parse().expect("a time")).collect()
             };
-            fields.map(times).collect()
-        });
-        let mut processes: Vec<Rounds> = of_others.collect();
-        if sides.iter().any(|side| !side.is_empty()) {
-            processes.push(sides);
+            shared[*which].push(fields.map(times).collect());
         }
-        processes
+        shared
     }
 
     /// How many rounds a line has at least.
@@ -230,18 +268,22 @@ impl Report {
         eprintln!("{:>4} s: {next}", self.begin.elapsed().as_secs());
     }
 
+    /// Prints a title and a table's head: the first columns, and those for each of `OURS`.
+    pub fn head(&self, title: &str, first: &str, columns: impl Fn(&str) -> String) {
+        self.progress(title);
+        let columns: String = OURS.iter().map(|ours| columns(ours.short)).collect();
+        let head = format!("{first}{columns}");
+        let numbers = "--:|".repeat(head.matches('|').count() - 2);
+        println!("\n### {title}\n\n{head}\n|---|{numbers}");
+    }
+
     /// Begins a table.
     pub fn heading(&mut self, title: &str, beside: Beside) {
-        self.progress(title);
-        println!("\n### {title}\n");
-        if beside == Beside::Nothing {
-            println!("| | exports, ns | erased, ns |\n|---|--:|--:|");
-        } else {
-            let other = beside.name().trim_start_matches("the ");
-            let columns = |ours: &str| format!("{ours}, ns | {other}, ns | ratio | spread |");
-            println!("| | {} {}", columns("exports"), columns("erased"));
-            println!("|---|--:|--:|--:|--:|--:|--:|--:|--:|");
-        }
+        let other = beside.name().trim_start_matches("the ");
+        self.head(title, "| |", |ours| match beside {
+            Beside::Nothing => format!(" {ours}, ns |"),
+            _ => format!(" {ours}, ns | {other}, ns | ratio | spread |"),
+        });
         self.groups.push(Group {
             title: title.to_string(),
             beside,
@@ -252,7 +294,7 @@ impl Report {
     /// Measures rounds of so many calls. Sides have to give the same, unless they differ on
     /// purpose.
     pub fn line(&mut self, name: &str, calls: usize, is_same: bool, mut sides: Sides) {
-        let mut rounds = vec![Vec::new(); 4];
+        let mut rounds = [vec![Vec::new(); 2], vec![Vec::new(); 2]];
         let gave: Vec<u64> = sides
             .iter_mut()
             .flatten()
@@ -275,7 +317,7 @@ impl Report {
             if round >= self.rounds && begin.elapsed() > limit {
                 let now = begin.elapsed();
                 let most = *most.get_or_insert(now * MOST);
-                if !can_fail || now > most || (tells(&rounds, 0, 1) && tells(&rounds, 2, 3)) {
+                if !can_fail || now > most || rounds.iter().all(tells) {
                     break;
                 }
                 limit = now * 2;
@@ -284,33 +326,32 @@ impl Report {
             for k in 0..timed.len() {
                 let at = timed[(k + round) % timed.len()];
                 let time = sides[at].as_mut().map(|side| (side.0)(false).0);
-                rounds[at].extend(time.map(|time| time * 1e9 / calls as f64));
+                rounds[at / 2][at % 2].extend(time.map(|time| time * 1e9 / calls as f64));
             }
         }
-        let processes = self.share(name, rounds);
+        let shared = self.share(name, rounds);
         let group = self.groups.last_mut().expect("a heading");
         let digits = |time: f64| if time < 1e4 { 2 } else { 0 };
         let number = |time: f64| format!(" {time:.*}", digits(time));
         let text = |time: Option<f64>| time.map_or(String::new(), number);
         print!("| {name} |");
-        for which in 0..2 {
-            let (ours, theirs) = (2 * which, 2 * which + 1);
-            let mut ratios = ratios(&processes, ours, theirs);
-            let medians = [ours, theirs].map(|side| mean_of_medians(&processes, side));
+        for (processes, lines) in shared.iter().zip(&mut group.lines) {
+            let medians = [0, 1].map(|side| mean_of_medians(processes, side));
             print!("{} |", text(medians[0]));
             if group.beside == Beside::Nothing {
                 continue;
             }
-            let (Some(ours), Some(theirs)) = (medians[0], medians[1]) else {
+            let [Some(ours), Some(theirs)] = medians else {
                 print!("{} | | |", text(medians[1]));
                 continue;
             };
             let ratio = ours / theirs;
+            let mut ratios = ratios(processes, 0, 1);
             let spread = (quantile(&mut ratios, 1), quantile(&mut ratios, 9));
             let (low, high) = spread;
             print!("{} | {ratio:.2} | {low:.2} to {high:.2} |", number(theirs));
             let name = name.to_string();
-            group.lines[which].push(Line {
+            lines.push(Line {
                 name,
                 ratio,
                 spread,
@@ -328,7 +369,7 @@ impl Report {
         ways.dedup();
         let mut failures = 0;
         for beside in ways {
-            for (which, of) in ["exports", "the erased crate"].iter().enumerate() {
+            for (which, ours) in OURS.iter().enumerate() {
                 let groups = self.groups.iter().filter(|group| group.beside == beside);
                 let mut lines: Vec<(&str, &Line)> = groups
                     .flat_map(|group| group.lines[which].iter().map(|it| (&*group.title, it)))
@@ -342,9 +383,10 @@ impl Report {
                 let fails = |line: &Line| beside == Beside::Original && line.fails();
                 let failing = lines.iter().filter(|it| fails(it.1)).count();
                 println!(
-                    "\nOf {} lines of {of} beside {}, by the ratio of the means of the medians: {one} above \
-                     1.00, {some} above 1.05, {much} above 1.25.{}\n",
+                    "\nOf {} lines of {} beside {}, by the ratio of the means of the medians: \
+                     {one} above 1.00, {some} above 1.05, {much} above 1.25.{}\n",
                     lines.len(),
+                    ours.name,
                     beside.name(),
                     match beside {
                         Beside::Original => format!(" {failing} fail."),
@@ -365,49 +407,47 @@ impl Report {
 
     /// A picture of the tables of two ways to the same result, by the ratios of the medians: their
     /// mean as a bar to the left or right of 1.00, and a line from the least to the greatest, on a
-    /// logarithmic scale. Its colours are for light and dark pages.
+    /// logarithmic scale.
     pub fn picture(&self) -> String {
-        const COLOURS: [&str; 2] = ["#3b82c4", "#c9822b"];
+        const TOP: usize = 66;
+        const BAR: usize = 15;
+        const HEIGHT: usize = BAR * OURS.len() + 10;
         let is_drawn = |group: &&Group| {
             group.beside.is_same_task() && group.lines.iter().any(|lines| !lines.is_empty())
         };
         let groups: Vec<&Group> = self.groups.iter().filter(is_drawn).collect();
         let place = |ratio: f64| 640.0 + 100.0 * ratio.clamp(0.125, 8.0).log2();
-        let bottom = 44 + 40 * groups.len();
+        let bottom = TOP + HEIGHT * groups.len();
         let mut svg = format!(
             r##"<svg xmlns="http://www.w3.org/2000/svg" viewBox="0 0 990 {}"
   font-family="sans-serif" font-size="13" fill="#768390">
 <text x="4" y="20">time / time of the original, means and extremes</text>
-<text x="430" y="20" fill="{}">&#9632; exports of the static library</text>
-<text x="690" y="20" fill="{}">&#9632; the Rust crate, called directly</text>
 "##,
             bottom + 30,
-            COLOURS[0],
-            COLOURS[1]
         );
+        for (ours, x) in OURS.iter().zip((4..).step_by(330)) {
+            let Ours { name, colour, .. } = ours;
+            svg += &format!("<text x=\"{x}\" y=\"42\" fill=\"{colour}\">&#9632; {name}</text>\n");
+        }
         for tick in [0.125, 0.25, 0.5, 1.0, 2.0, 4.0, 8.0] {
-            let (x, y, width) = (
-                place(tick),
-                bottom + 18,
-                if tick == 1.0 { 2.0 } else { 0.5 },
-            );
-            svg += &format!(r##"<path d="M{x} 34V{bottom}" stroke="#768390" "##);
+            let (x, from, y) = (place(tick), TOP - 10, bottom + 18);
+            let width = if tick == 1.0 { 2.0 } else { 0.5 };
+            svg += &format!(r##"<path d="M{x} {from}V{bottom}" stroke="#768390" "##);
             svg += &format!("stroke-width=\"{width}\"/>\n");
             svg += &format!("<text x=\"{x}\" y=\"{y}\" text-anchor=\"middle\">{tick}</text>\n");
         }
-        for (group, top) in groups.into_iter().zip((44..).step_by(40)) {
+        for (group, top) in groups.into_iter().zip((TOP..).step_by(HEIGHT)) {
             let beside = match group.beside {
                 Beside::Original => String::new(),
                 other => format!(", compared with {}", other.name()),
             };
             svg += &format!(
                 "<text x=\"4\" y=\"{}\">{}{beside}</text>\n",
-                top + 18,
+                top + HEIGHT / 2 - 1,
                 group.title
             );
-            for (which, y) in [top, top + 15].into_iter().enumerate() {
-                let lines = group.lines[which].iter();
-                let mut ratios: Vec<f64> = lines.map(|line| line.ratio).collect();
+            for ((ours, lines), y) in OURS.iter().zip(&group.lines).zip((top..).step_by(BAR)) {
+                let mut ratios: Vec<f64> = lines.iter().map(|line| line.ratio).collect();
                 ratios.sort_by(f64::total_cmp);
                 let (Some(least), Some(most)) = (ratios.first(), ratios.last()) else {
                     continue;
@@ -418,7 +458,7 @@ impl Report {
                 let (least, most, middle, base) = (place(*least), place(*most), y + 6, y + 10);
                 let (width, end) = ((to - from).max(1.0), to.max(most) + 4.0);
                 svg += &format!(r#"<rect x="{from:.1}" y="{y}" width="{width:.1}" height="12" "#);
-                svg += &format!("fill=\"{}\"/>\n", COLOURS[which]);
+                svg += &format!("fill=\"{}\"/>\n", ours.colour);
                 svg += &format!(r##"<path d="M{least:.1} {middle}H{most:.1}" stroke="#768390"/>"##);
                 svg += &format!("\n<text x=\"{end:.1}\" y=\"{base}\" font-size=\"11\">");
                 svg += &format!("{mean:.2}</text>\n");

@@ -4,7 +4,7 @@
 
 use crate::inputs::{Random, deletions};
 use crate::library::RelocateAll;
-use crate::measure::{Report, mean_of_medians, quantile, ratios};
+use crate::measure::{Report, Rounds, mean_of_medians, quantile, ratios};
 use crate::table::{AARCH64, MIXES};
 use crate::{LIBRARIES, stream};
 use std::time::Instant;
@@ -15,13 +15,9 @@ const THREADS: [usize; 3] = [1, 2, 4];
 const STEPS: usize = 1 << 23;
 
 pub fn threads(report: &mut Report) {
-    let title = "Threads";
-    report.progress(title);
-    println!("\n### {title}\n");
-    println!(
-        "| | threads | exports, ns | times as fast | spread | erased, ns | times as fast | spread |"
-    );
-    println!("|---|--:|--:|--:|--:|--:|--:|--:|");
+    report.head("Threads", "| | threads |", |ours| {
+        format!(" {ours}, ns | times as fast | spread |")
+    });
     let random = &mut Random::new(21);
     let (relocations, section, _) = stream(random, MIXES[0]);
     let (list, len) = deletions(random, 1 << 16);
@@ -96,8 +92,8 @@ fn compute(steps: usize) -> u64 {
 }
 
 /// The nanoseconds for each of so many calls in each round, with each number of threads in turn.
-fn rounds(count: usize, calls: usize, mut round: impl FnMut(usize)) -> [Vec<f64>; 3] {
-    let mut times = [const { Vec::new() }; 3];
+fn rounds(count: usize, calls: usize, mut round: impl FnMut(usize)) -> Rounds {
+    let mut times = vec![Vec::new(); THREADS.len()];
     for _ in 0..count {
         for (threads, times) in THREADS.into_iter().zip(&mut times) {
             let begin = Instant::now();
@@ -110,22 +106,19 @@ fn rounds(count: usize, calls: usize, mut round: impl FnMut(usize)) -> [Vec<f64>
 
 /// A line for each number of threads: the means of the processes' medians, how much faster than one
 /// thread that is, and the 10th and the 90th percentile of the same of the rounds.
-fn print(report: &mut Report, name: &str, sides: [[Vec<f64>; 3]; 2]) {
-    let processes = report.share(name, sides.into_iter().flatten().collect());
+fn print(report: &mut Report, name: &str, given: [Rounds; 2]) {
+    let shared = report.share(name, given);
     for (which, threads) in THREADS.into_iter().enumerate() {
         print!("| {name} | {threads} |");
-        for alone in [0, THREADS.len()] {
-            let medians = [alone, alone + which].map(|side| mean_of_medians(&processes, side));
-            let [Some(time_alone), Some(time)] = medians else {
+        for processes in &shared {
+            let medians = [0, which].map(|side| mean_of_medians(processes, side));
+            let [Some(alone), Some(time)] = medians else {
                 print!(" | | |");
                 continue;
             };
-            let mut faster = ratios(&processes, alone, alone + which);
+            let mut faster = ratios(processes, 0, which);
             let [low, high] = [1, 9].map(|tenths| quantile(&mut faster, tenths));
-            print!(
-                " {time:.2} | {:.2} | {low:.2} to {high:.2} |",
-                time_alone / time
-            );
+            print!(" {time:.2} | {:.2} | {low:.2} to {high:.2} |", alone / time);
         }
         println!();
     }
