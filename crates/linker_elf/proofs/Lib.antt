@@ -1,6 +1,7 @@
 pub mod AArch64Forms
 pub mod Agreement
 pub mod Bounds
+pub mod ChoiceTables
 pub mod Choices
 pub mod Clearing
 pub mod Entries

@@ -1,3 +1,4 @@
+pub mod ChoiceTables
 pub mod Entries
 pub mod FormLaws
 pub mod Immediates

@@ -1,8 +1,9 @@
 //! What a linker knows of a symbol and of its output, and the rewrite that it chooses by that.
 
-ghost use Rattle.std.specs.Prelude.{◌↔◌, IsTrue};
+ghost use Rattle.std.specs.Prelude.{◌↔◌, IsTrue, Some};
 ghost use Rattle.linker_elf.specs.Choices.{IsBound, HasAddresses, RowReaches, operands_before};
-ghost use Rattle.linker_elf.specs.Choices.{RowIsWithin};
+ghost use Rattle.linker_elf.specs.Choices.{RowIsWithin, low_12_bounds, symbol_and_addend};
+ghost use Rattle.linker_elf.specs.Elf.{IsWithin};
 
 use crate::elf::{Operands, Row};
 
@@ -105,20 +106,43 @@ impl LinkFacts {
     /// Whether the value of a relocation of a row, `back` bytes before the place, is known and is
     /// from the first bound up and below the second.
     #[inline(always)]
-    pub fn is_within(&self, row: Option<Row>, bounds: (i64, i64), back: u64) -> bool
+    pub fn is_within(
+        &self,
+        row: Option<Row>,
+        after: &Operands,
+        bounds: (i64, i64),
+        back: u64,
+    ) -> bool
         ensures { IsTrue result ↔ (HasAddresses self.now
-            × RowIsWithin row bounds (operands_before back self.now.operands)) }
+            × RowIsWithin row bounds (operands_before back after.now)) }
     {
-        self.has_addresses && value_is_within(row, bounds, &self.operands, back)
+        self.has_addresses && value_is_within(row, bounds, after, back)
     }
 
     /// The same, or that no address is known.
     #[inline(always)]
-    pub fn is_within_if_known(&self, row: Option<Row>, bounds: (i64, i64), back: u64) -> bool
+    pub fn is_within_if_known(
+        &self,
+        row: Option<Row>,
+        after: &Operands,
+        bounds: (i64, i64),
+        back: u64,
+    ) -> bool
         ensures { IsTrue result ↔ (HasAddresses self.now
-            → RowIsWithin row bounds (operands_before back self.now.operands)) }
+            → RowIsWithin row bounds (operands_before back after.now)) }
     {
-        !self.has_addresses || value_is_within(row, bounds, &self.operands, back)
+        !self.has_addresses || value_is_within(row, bounds, after, back)
+    }
+
+    /// Whether S + A is known, and is a number of 12 bits in two's complement.
+    #[inline(always)]
+    pub fn is_low_12(&self) -> bool
+        ensures { IsTrue result ↔ (HasAddresses self.now
+            × IsWithin (Some low_12_bounds) (symbol_and_addend self.now.operands)) }
+    {
+        let addend = self.operands.addend.cast_unsigned();
+        let address = self.operands.symbol.wrapping_add(addend).cast_signed();
+        self.has_addresses && -0x800 <= address && address < 0x800
     }
 }
 
