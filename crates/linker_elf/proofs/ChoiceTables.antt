@@ -4,8 +4,8 @@ use Rattle.std.proofs.lemmas.List.{drop_more, drop_all}
 use Rattle.std.proofs.lemmas.Bool.{eqb-true, eqb-false, eq-eqb}
 use Rattle.std.proofs.Common.{◌≡◌, ◌↔◌, ◌+◌, ◌*◌, ◌<◌, ◌≤◌, ◌/◌, ◌%◌, ◌++◌, ℕ, ℤ, List, [], ◌∷◌, Option, Some, None, Bool, true, false, if◌then◌else◌, not, ◌&&◌, ◌==◌, IsTrue, refl, sym, ap, ◌∙◌, subst, arith, inl, inr, bit_and, length, drop, get_or, min, IfSome, true≢false}
 use Rattle.std.specs.Bool.{⊤}
-use Rattle.linker_elf.specs.Choices.{Condition, Holds, AllHold, choice}
-use Rattle.linker_elf.specs.Inner.ChoiceTables.{conditions_in, known_facts, missing_mask, missing_facts, fact_conditions, value_condition, value_conditions, ValuesHold, addend_condition, conditions_of, IsFirstOf}
+use Rattle.linker_elf.specs.Choices.{Condition, Entry, Holds, AllHold, choice, Applies, IsFirst}
+use Rattle.linker_elf.specs.Inner.ChoiceTables.{conditions_in, known_facts, missing_mask, missing_facts, fact_conditions, value_condition, value_conditions, ValuesHold, addend_condition, conditions_of, EntryApplies, IsFirstOf, IsTableOf}
 use Rattle.linker_elf.specs.declared.elf.RelocationKindInfo.{RelocationKindInfo}
 use Rattle.linker_elf.specs.declared.elf.choice.Choice.{Choice}
 use Rattle.linker_elf.specs.declared.elf.choice.LinkFacts.{LinkFacts}
@@ -113,30 +113,30 @@ abbrev AreHeld : {O K R : Type 0} → (R → Option RelocationKindInfo) → Oper
 AreHeld row after facts e = AllHold row after facts (conditions_of e)
 
 parts : {O K R : Type 0} → (row : R → Option RelocationKindInfo) (after : Operands) (facts : LinkFacts) (e : ChoiceEntry O K R)
-    → ((bit_and e.facts (missing_facts facts) ≡ 0)
-    × (IfSome e.addend (λ x. facts.operands.addend ≡ x) × ValuesHold row after facts e.values.now))
+    → ((bit_and e.conditions.facts (missing_facts facts) ≡ 0)
+    × (IfSome e.conditions.addend (λ x. facts.operands.addend ≡ x) × ValuesHold row after facts e.conditions.values.now))
     ↔ AreHeld row after facts e
 parts row after facts e =
-    let f = facts_hold row after facts e.facts in
-    let a = addend_holds row after facts e.addend in
-    let second = all_hold_both row after facts (addend_condition e.addend) (value_conditions e.values.now) in
-    let first = all_hold_both row after facts (conditions_in e.facts fact_conditions) (addend_condition e.addend ++ value_conditions e.values.now) in
+    let f = facts_hold row after facts e.conditions.facts in
+    let a = addend_holds row after facts e.conditions.addend in
+    let second = all_hold_both row after facts (addend_condition e.conditions.addend) (value_conditions e.conditions.values.now) in
+    let first = all_hold_both row after facts (conditions_in e.conditions.facts fact_conditions) (addend_condition e.conditions.addend ++ value_conditions e.conditions.values.now) in
     (λ h. first.1 (f.0 h.0, second.1 (a.0 h.1.0, h.1.1)),
       λ h. (f.1 (first.0 h).0, (a.1 (second.0 (first.0 h).1).0, (second.0 (first.0 h).1).1)))
 
 pub without_fact : {O K R : Type 0} → (row : R → Option RelocationKindInfo) (after : Operands) (facts : LinkFacts) (e : ChoiceEntry O K R)
-    → (bit_and e.facts (missing_facts facts) ≡ 0 → ⊥) → IsTrue false ↔ AllHold row after facts (conditions_of e)
+    → (bit_and e.conditions.facts (missing_facts facts) ≡ 0 → ⊥) → IsTrue false ↔ AllHold row after facts (conditions_of e)
 without_fact row after facts e n =
     (λ h. absurd (true≢false (sym h)), λ h. absurd (n ((parts row after facts e).1 h).0))
 
 pub without_addend : {O K R : Type 0} → (row : R → Option RelocationKindInfo) (after : Operands) (facts : LinkFacts) (e : ChoiceEntry O K R)
-    → (IfSome e.addend (λ x. facts.operands.addend ≡ x) → ⊥) → IsTrue false ↔ AllHold row after facts (conditions_of e)
+    → (IfSome e.conditions.addend (λ x. facts.operands.addend ≡ x) → ⊥) → IsTrue false ↔ AllHold row after facts (conditions_of e)
 without_addend row after facts e n =
     (λ h. absurd (true≢false (sym h)), λ h. absurd (n ((parts row after facts e).1 h).1.0))
 
 pub by_values : {O K R : Type 0} → (row : R → Option RelocationKindInfo) (after : Operands) (facts : LinkFacts) (e : ChoiceEntry O K R)
-    → (r : Bool) → bit_and e.facts (missing_facts facts) ≡ 0 → IfSome e.addend (λ x. facts.operands.addend ≡ x)
-    → (IsTrue r ↔ ValuesHold row after facts e.values.now) → IsTrue r ↔ AllHold row after facts (conditions_of e)
+    → (r : Bool) → bit_and e.conditions.facts (missing_facts facts) ≡ 0 → IfSome e.conditions.addend (λ x. facts.operands.addend ≡ x)
+    → (IsTrue r ↔ ValuesHold row after facts e.conditions.values.now) → IsTrue r ↔ AllHold row after facts (conditions_of e)
 by_values row after facts e r f a v =
     (λ h. (parts row after facts e).0 (f, (a, v.0 h)), λ h. v.1 ((parts row after facts e).1 h).1.1)
 
@@ -181,3 +181,31 @@ pub first_none : {O K R : Type 0} → (A : ChoiceEntry O K R → Type 0) (es : L
     → (i : ℕ) → length es ≤ i → EndsAlike A es otherwise (drop i es) → IsFirstOf A es otherwise otherwise
 first_none A es otherwise i end left =
     left otherwise (subst (λ l. IsFirstOf A l otherwise otherwise) (sym (drop_all i es end)) refl)
+
+-- ---- tables
+
+-- where the code's entries are the definition's, the first one of both is the same
+pub first_of_table : {O K R : Type 0} → (are_at : O → K → List ℕ → ℕ → Type 0) (Asked : K → List ℕ → ℕ → Type 0)
+    → (row : R → Option RelocationKindInfo) (after : K → ℕ → Operands → Operands) (section : List ℕ) (o : ℕ) (facts : LinkFacts)
+    → (es : List (ChoiceEntry O K R)) (ds : List (Entry K R)) (otherwise chosen : Choice K R) → IsTableOf are_at Asked es ds
+    → IsFirstOf (EntryApplies are_at row after section o facts) es otherwise chosen
+    → IsFirst (Applies Asked row after section o facts) ds otherwise chosen
+first_of_table are_at Asked row after section o facts [] [] otherwise chosen table first = first
+first_of_table are_at Asked row after section o facts (e ∷ es) [] otherwise chosen table first = absurd table
+first_of_table are_at Asked row after section o facts [] (d ∷ ds) otherwise chosen table first = absurd table
+first_of_table {O} {K} {R} are_at Asked row after section o facts (e ∷ es) (d ∷ ds) otherwise chosen table (inl h) =
+    subst (λ x. IsFirst (Applies Asked row after section o facts) (x ∷ ds) otherwise chosen) table.0
+    (inl (((table.1.0 section o).0 h.0.0, h.0.1), h.1))
+first_of_table {O} {K} {R} are_at Asked row after section o facts (e ∷ es) (d ∷ ds) otherwise chosen table (inr h) =
+    subst (λ x. IsFirst (Applies Asked row after section o facts) (x ∷ ds) otherwise chosen) table.0
+    (inr (λ a. h.0 ((table.1.0 section o).1 a.0, a.1),
+      first_of_table are_at Asked row after section o facts es ds otherwise chosen table.1.1 h.1))
+
+-- what holds of the choice of each entry that applies, and of the other choice, holds of what is chosen
+pub holds_of_first : {K R : Type 0} → (A : Entry K R → Type 0) (P : Choice K R → Type 0) (es : List (Entry K R))
+    → (otherwise chosen : Choice K R) → ((e : Entry K R) → A e → P (choice e.kind e.relocation)) → P otherwise
+    → IsFirst A es otherwise chosen → P chosen
+holds_of_first A P [] otherwise chosen each last first = subst P (sym first) last
+holds_of_first A P (e ∷ es) otherwise chosen each last (inl h) = subst P (sym h.1) (each e h.0)
+holds_of_first A P (e ∷ es) otherwise chosen each last (inr h) =
+    holds_of_first A P es otherwise chosen each last h.1

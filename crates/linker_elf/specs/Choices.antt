@@ -147,6 +147,13 @@ abbrev pub AllHold : {R : Type 0} → (R → Option RelocationKindInfo) → Oper
 AllHold row after facts [] = ⊤
 AllHold row after facts (c ∷ cs) = Holds row after facts c × AllHold row after facts cs
 
+-- An entry applies: what is asked for with its rewrite is at an offset of the section, and its
+-- conditions hold, where `after` gives the operands after a rewrite at an offset.
+abbrev pub Applies : {K R : Type 0} → (K → List ℕ → ℕ → Type 0) → (R → Option RelocationKindInfo)
+    → (K → ℕ → Operands → Operands) → List ℕ → ℕ → LinkFacts → Entry K R → Type 0
+Applies Asked row after section o facts e =
+    Asked e.kind section o × AllHold row (after e.kind o facts.operands) facts e.conditions
+
 -- The choice is that of the first entry that applies, and else the last one.
 abbrev pub IsFirst : {K R : Type 0} → (Entry K R → Type 0) → List (Entry K R) → Choice K R
     → Choice K R → Type 0

@@ -10,7 +10,7 @@ abbrev Ppc64Entry : Type 0
 Ppc64Entry = Entry RelaxationKind Ppc64Relocation
 
 abbrev applies : List ℕ → ℕ → LinkFacts → Ppc64Entry → Type 0
-applies section o facts e = Ppc64Applies section o facts e.kind e.conditions
+applies = Ppc64Applies
 
 abbrev two : Ppc64Choice → Ppc64Choice → Ppc64Choice × Ppc64Choice
 two a b = (a, b)
@@ -38,37 +38,37 @@ pub toc_pairs : TocPairsAreChosenAlike
 toc_pairs = (
   λ section o p place facts a b meant f g.
       one_alike (applies section o facts) (applies section p (facts_at place facts)) _ _ _ _ a b
-      (λ h. record { matches = meant.1; all_hold = h.all_hold }, λ h. record { matches = meant.0; all_hold = h.all_hold })
+      (λ h. (meant.1, h.1), λ h. (meant.0, h.1))
       f g,
   λ section o p place facts a b meant f g.
       one_alike (applies section o facts) (applies section p (facts_at place facts)) _ _ _ _ a b
-      (λ h. record { matches = meant.1; all_hold = h.all_hold }, λ h. record { matches = meant.0; all_hold = h.all_hold })
+      (λ h. (meant.1, h.1), λ h. (meant.0, h.1))
       f g,
 )
 
 pub got_pair : GotPairIsChosenAlike
 got_pair = λ section o p place facts a b meant f g.
     one_alike (applies section o facts) (applies section p (facts_at place facts)) _ _ _ _ a b
-    (λ h. record { matches = meant.1; all_hold = h.all_hold }, λ h. record { matches = meant.0; all_hold = h.all_hold })
+    (λ h. (meant.1, h.1), λ h. (meant.0, h.1))
     f g
 
 pub initial_exec_pair : InitialExecPairIsChosenAlike
 initial_exec_pair = λ section o p place facts a b meant f g.
     one_alike (applies section o facts) (applies section p (facts_at place facts)) _ _ _ _ a b
-    (λ h. record { matches = meant.1; all_hold = h.all_hold }, λ h. record { matches = meant.0; all_hold = h.all_hold })
+    (λ h. (meant.1, h.1), λ h. (meant.0, h.1))
     f g
 
 pub general_dynamic : GeneralDynamicIsChosenAlike
 general_dynamic = (
   λ section o p place facts a b meant f g.
       two_alike (applies section o facts) (applies section p (facts_at place facts)) _ _ _ _ _ _ a b
-      (λ h. record { matches = meant.1; all_hold = h.all_hold }, λ h. record { matches = meant.0; all_hold = h.all_hold })
-      (λ h. record { matches = meant.2.1; all_hold = h.all_hold }, λ h. record { matches = meant.2.0; all_hold = h.all_hold })
+      (λ h. (meant.1, h.1), λ h. (meant.0, h.1))
+      (λ h. (meant.2.1, h.1), λ h. (meant.2.0, h.1))
       f g,
   λ section o p place facts a b meant f g.
       two_alike (applies section o facts) (applies section p (facts_at place facts)) _ _ _ _ _ _ a b
-      (λ h. record { matches = meant.1; all_hold = h.all_hold }, λ h. record { matches = meant.0; all_hold = h.all_hold })
-      (λ h. record { matches = meant.2.1; all_hold = h.all_hold }, λ h. record { matches = meant.2.0; all_hold = h.all_hold })
+      (λ h. (meant.1, h.1), λ h. (meant.0, h.1))
+      (λ h. (meant.2.1, h.1), λ h. (meant.2.0, h.1))
       f g,
 )
 
@@ -76,10 +76,10 @@ pub local_dynamic : LocalDynamicIsChosenAlike
 local_dynamic = (
   λ section o p place facts a b meant f g.
       one_alike (applies section o facts) (applies section p (facts_at place facts)) _ _ _ _ a b
-      (λ h. record { matches = meant.1; all_hold = h.all_hold }, λ h. record { matches = meant.0; all_hold = h.all_hold })
+      (λ h. (meant.1, h.1), λ h. (meant.0, h.1))
       f g,
   λ section o p place facts a b meant f g.
       one_alike (applies section o facts) (applies section p (facts_at place facts)) _ _ _ _ a b
-      (λ h. record { matches = meant.1; all_hold = h.all_hold }, λ h. record { matches = meant.0; all_hold = h.all_hold })
+      (λ h. (meant.1, h.1), λ h. (meant.0, h.1))
       f g,
 )

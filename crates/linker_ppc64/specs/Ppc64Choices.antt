@@ -4,7 +4,7 @@
 use Rattle.std.specs.Prelude.{◌≡◌, ◌⊎◌, ◌++◌, ℕ, List, [], ◌∷◌, ⊤}
 use Rattle.linker_elf.specs.Choices.{Condition, bound, fixed_distance, executable, private_base}
 use Rattle.linker_elf.specs.Choices.{changed_toc, in_reach, in_reach_if_known}
-use Rattle.linker_elf.specs.Choices.{Entry, entry, choice, AllHold, IsFirst}
+use Rattle.linker_elf.specs.Choices.{Entry, entry, choice, Applies, IsFirst}
 use Rattle.linker_ppc64.specs.Ppc64Originals.{ppc64_matches}
 use Rattle.linker_elf.specs.Ppc64Relocations.{ppc64_row}
 use Rattle.linker_elf.specs.declared.elf.choice.Choice.{Choice}
@@ -33,11 +33,13 @@ to_distance = bound ∷ fixed_distance ∷ in_reach_if_known r.R_PPC64_PCREL34 0
 
 -- the offset from the thread pointer in the instructions
 abbrev pub to_local_exec : Conditions
-to_local_exec = executable ∷ bound ∷ in_reach_if_known r.R_PPC64_TPREL16_HA 0 ∷ []
+to_local_exec = bound ∷ executable ∷ in_reach_if_known r.R_PPC64_TPREL16_HA 0 ∷ []
 
 -- the same of an access of whole words
 abbrev pub to_local_exec_words : Conditions
-to_local_exec_words = in_reach_if_known r.R_PPC64_TPREL16_LO_DS 0 ∷ to_local_exec
+to_local_exec_words =
+    bound ∷ executable ∷ in_reach_if_known r.R_PPC64_TPREL16_HA 0
+    ∷ in_reach_if_known r.R_PPC64_TPREL16_LO_DS 0 ∷ []
 
 -- the offset from the thread pointer in the GOT
 abbrev pub to_initial_exec : Conditions
@@ -83,18 +85,15 @@ ppc64_entries name = []
 
 -- ---- which entry is chosen
 
--- what a rewrite is meant for is at the offset, and the conditions hold
-pub record Ppc64Applies (section : List ℕ) (o : ℕ) (facts : LinkFacts) (kind : RelaxationKind)
-    (conditions : Conditions) : Type 0 where
-  pub matches : ppc64_matches kind section o
-  pub all_hold : AllHold ppc64_row facts.operands facts conditions
+-- what the rewrite is meant for is at the offset, and the conditions hold
+abbrev pub Ppc64Applies : List ℕ → ℕ → LinkFacts → Entry RelaxationKind Ppc64Relocation → Type 0
+Ppc64Applies = Applies ppc64_matches ppc64_row (λ kind o operands. operands)
 
 -- `NoOp` and the same relocation where no entry applies
 abbrev pub IsPpc64Choice : Ppc64Relocation → List ℕ → ℕ → LinkFacts
     → Choice RelaxationKind Ppc64Relocation → Type 0
 IsPpc64Choice name section o facts chosen =
-    IsFirst (λ e. Ppc64Applies section o facts e.kind e.conditions) (ppc64_entries name)
-    (choice kinds.NoOp name) chosen
+    IsFirst (Ppc64Applies section o facts) (ppc64_entries name) (choice kinds.NoOp name) chosen
 
 -- ---- all relocations of a sequence
 

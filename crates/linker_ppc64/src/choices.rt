@@ -1,115 +1,100 @@
 //! PowerPC64: which rewrite a linker chooses for a relocation.
 
-ghost use Rattle.std.specs.Prelude.{◌≡◌, ◌↔◌, ◌∷◌, [], IsTrue};
+ghost use Rattle.std.specs.Prelude.{ℕ};
 ghost use Rattle.linker_base.specs.Rewrite.{CanRewrite};
-ghost use Rattle.linker_elf.specs.Choices.{AllHold, executable, changed_toc};
+ghost use Rattle.linker_elf.specs.Inner.ChoiceTables.{IsTableOf};
 ghost use Rattle.linker_ppc64.specs.Ppc64Choices.{TocPairsAreChosenAlike, GotPairIsChosenAlike};
 ghost use Rattle.linker_ppc64.specs.Ppc64Choices.{InitialExecPairIsChosenAlike};
 ghost use Rattle.linker_ppc64.specs.Ppc64Choices.{GeneralDynamicIsChosenAlike};
 ghost use Rattle.linker_ppc64.specs.Ppc64Choices.{LocalDynamicIsChosenAlike};
-ghost use Rattle.linker_ppc64.specs.Ppc64Choices.{without_high_part, to_toc_distance, to_distance};
-ghost use Rattle.linker_ppc64.specs.Ppc64Choices.{to_local_exec, to_local_exec_words};
-ghost use Rattle.linker_ppc64.specs.Ppc64Choices.{to_initial_exec, Ppc64Applies, IsPpc64Choice};
+ghost use Rattle.linker_ppc64.specs.Ppc64Choices.{IsPpc64Choice, ppc64_entries};
 ghost use Rattle.linker_ppc64.specs.Ppc64Originals.{ppc64_matches};
-ghost use Rattle.linker_elf.specs.Ppc64Relocations.{ppc64_row};
 ghost use Rattle.linker_ppc64.specs.Ppc64Rewrites.{ppc64_rewrite};
+ghost use Rattle.linker_elf.specs.declared.elf.value.Operands.{Operands};
 
 use super::rewrites::RelaxationKind;
-use linker_elf::elf::{Choice, LinkFacts};
-use linker_elf::ppc64::{Ppc64Relocation, row};
+use linker_elf::elf::choice_table::{
+    BOUND, CHANGED_TOC, ChoiceEntry, ChosenKind, Conditions, EXECUTABLE, FIXED_DISTANCE, Originals,
+    PRIVATE_BASE, ValueCondition, first_entry,
+};
+use linker_elf::elf::{Choice, LinkFacts, Operands};
+use linker_elf::ppc64::Ppc64Relocation;
 
-/// Whether the high part of the distance from the TOC pointer is 0 and may go.
-#[inline]
-fn is_without_high_part(
-    kind: RelaxationKind,
-    section: &[u8],
-    offset: u64,
-    facts: &LinkFacts,
-) -> bool
-    ensures { IsTrue result
-        ↔ Ppc64Applies section.now offset facts.now kind without_high_part }
-{
-    facts.has_private_base
-        && kind.matches(section, offset)
-        && facts.is_in_reach(row(Ppc64Relocation::R_PPC64_TOC16), &facts.operands, 0)
+/// The instructions that an entry's rewrite is meant for.
+pub struct OfRewrite;
+
+impl Originals<RelaxationKind> for OfRewrite {
+    ghost are_at = { λ originals. ppc64_matches };
+
+    #[inline(always)]
+    fn stand_at(&self, kind: RelaxationKind, section: &[u8], offset: u64) -> bool {
+        kind.matches(section, offset)
+    }
 }
 
-/// Whether the address may be computed from the TOC pointer instead of loaded.
-#[inline]
-fn is_for_toc_distance(kind: RelaxationKind, section: &[u8], offset: u64, facts: &LinkFacts) -> bool
-    ensures { IsTrue result
-        ↔ Ppc64Applies section.now offset facts.now kind to_toc_distance }
-{
-    let high = row(Ppc64Relocation::R_PPC64_TOC16_HA);
-    facts.is_bound()
-        && facts.has_fixed_distance
-        && kind.matches(section, offset)
-        && facts.is_in_reach_if_known(high, &facts.operands, 0)
+impl ChosenKind for RelaxationKind {
+    // no condition is on what counts from a place that a rewrite moves
+    ghost after = { λ (kind : RelaxationKind) (o : ℕ) (operands : Operands). operands };
+
+    #[inline(always)]
+    fn operands_after(self, _offset: u64, operands: &Operands) -> Operands {
+        *operands
+    }
 }
 
-/// Whether the address may be computed from that of the instruction instead of loaded.
-#[inline]
-fn is_for_distance(section: &[u8], offset: u64, facts: &LinkFacts) -> bool
-    ensures { IsTrue result ↔ Ppc64Applies section.now offset facts.now
-        RelaxationKind.PldToPaddi to_distance }
-{
-    let distance = row(Ppc64Relocation::R_PPC64_PCREL34);
-    facts.is_bound()
-        && facts.has_fixed_distance
-        && RelaxationKind::PldToPaddi.matches(section, offset)
-        && facts.is_in_reach_if_known(distance, &facts.operands, 0)
+/// An entry: a rewrite, the relocation after it and the conditions.
+macro_rules! entry {
+    ($kind:ident => $relocation:ident, $conditions:expr) => {
+        ChoiceEntry {
+            originals: OfRewrite,
+            kind: RelaxationKind::$kind,
+            relocation: Ppc64Relocation::$relocation,
+            conditions: $conditions,
+        }
+    };
 }
 
-/// Whether the offset from the thread pointer may be in the instructions.
-#[inline]
-fn is_for_local_exec(kind: RelaxationKind, section: &[u8], offset: u64, facts: &LinkFacts) -> bool
-    ensures { IsTrue result ↔ Ppc64Applies section.now offset facts.now kind to_local_exec }
-{
-    let high = row(Ppc64Relocation::R_PPC64_TPREL16_HA);
-    facts.is_executable
-        && facts.is_bound()
-        && kind.matches(section, offset)
-        && facts.is_in_reach_if_known(high, &facts.operands, 0)
+/// Conditions: facts, and the values in reach.
+macro_rules! conditions {
+    ($facts:expr $(, $value:ident $relocation:ident)*) => {
+        Conditions {
+            facts: $facts,
+            addend: None,
+            values: &[$(ValueCondition::$value(Ppc64Relocation::$relocation, 0),)*],
+        }
+    };
 }
 
-/// The same of an access of whole words.
-#[inline]
-fn is_for_local_exec_words(section: &[u8], offset: u64, facts: &LinkFacts) -> bool
-    ensures { IsTrue result ↔ Ppc64Applies section.now offset facts.now
-        RelaxationKind.IndexedToDs to_local_exec_words }
-{
-    let low = row(Ppc64Relocation::R_PPC64_TPREL16_LO_DS);
-    is_for_local_exec(RelaxationKind::IndexedToDs, section, offset, facts)
-        && facts.is_in_reach_if_known(low, &facts.operands, 0)
-}
+/// The high part of the distance from the TOC pointer is 0.
+const WITHOUT_HIGH_PART: Conditions<Ppc64Relocation> =
+    conditions!(PRIVATE_BASE, InReach R_PPC64_TOC16);
 
-/// Whether the offset from the thread pointer may be in the GOT.
-#[inline]
-fn is_for_initial_exec(kind: RelaxationKind, section: &[u8], offset: u64, facts: &LinkFacts) -> bool
-    ensures { IsTrue result ↔ Ppc64Applies section.now offset facts.now kind to_initial_exec }
-{
-    let high = row(Ppc64Relocation::R_PPC64_GOT_TPREL16_HA);
-    facts.is_executable
-        && kind.matches(section, offset)
-        && facts.is_in_reach_if_known(high, &facts.operands, 0)
-}
+/// The address by its distance from the TOC pointer.
+const TO_TOC_DISTANCE: Conditions<Ppc64Relocation> =
+    conditions!(BOUND + FIXED_DISTANCE, InReachIfKnown R_PPC64_TOC16_HA);
 
-/// Whether the module's block may be found from the thread pointer.
-#[inline]
-fn is_for_module(kind: RelaxationKind, section: &[u8], offset: u64, facts: &LinkFacts) -> bool
-    ensures { IsTrue result
-        ↔ Ppc64Applies section.now offset facts.now kind (executable ∷ []) }
-{
-    facts.is_executable && kind.matches(section, offset)
-}
+/// The address by its distance from the instruction.
+const TO_DISTANCE: Conditions<Ppc64Relocation> =
+    conditions!(BOUND + FIXED_DISTANCE, InReachIfKnown R_PPC64_PCREL34);
 
-/// Whether the TOC pointer has to be restored after a call.
-#[inline]
-fn is_for_other_toc(section: &[u8], offset: u64, facts: &LinkFacts) -> bool
-    ensures { IsTrue result ↔ Ppc64Applies section.now offset facts.now
-        RelaxationKind.NopToRestoreToc (changed_toc ∷ []) }
+/// The offset from the thread pointer in the instructions.
+const TO_LOCAL_EXEC: Conditions<Ppc64Relocation> =
+    conditions!(BOUND + EXECUTABLE, InReachIfKnown R_PPC64_TPREL16_HA);
+
+static TOC16_HA: &[ChoiceEntry<OfRewrite, RelaxationKind, Ppc64Relocation>] = &[entry!(AddisToNop => R_PPC64_NONE, WITHOUT_HIGH_PART)];
+
+static NONE: &[ChoiceEntry<OfRewrite, RelaxationKind, Ppc64Relocation>] = &[];
+
+/// The entries of a relocation.
+#[inline(always)]
+fn entries(name: Ppc64Relocation) -> &'static [ChoiceEntry<OfRewrite, RelaxationKind, Ppc64Relocation>]
+    ensures { IsTableOf (λ (originals : OfRewrite). ppc64_matches) ppc64_matches result.now
+        (ppc64_entries name) }
 {
-    facts.may_change_toc && RelaxationKind::NopToRestoreToc.matches(section, offset)
+    match name {
+        Ppc64Relocation::R_PPC64_TOC16_HA => TOC16_HA,
+        _ => NONE,
+    }
 }
 
 /// Which rewrite a linker may make of the instruction at a relocation's offset, and the relocation
@@ -193,162 +178,11 @@ pub fn choose(
     ensures matches { ppc64_matches result.kind section.now offset }
     ensures rewritable { CanRewrite (ppc64_rewrite result.kind) section.now offset }
 {
-    let (kind, relocation) = match name {
-        Ppc64Relocation::R_PPC64_TOC16_HA => {
-            if is_without_high_part(RelaxationKind::AddisToNop, section, offset, facts) {
-                (RelaxationKind::AddisToNop, Ppc64Relocation::R_PPC64_NONE)
-            } else {
-                (RelaxationKind::NoOp, name)
-            }
-        }
-        Ppc64Relocation::R_PPC64_TOC16_LO => {
-            if is_without_high_part(RelaxationKind::BaseToToc, section, offset, facts) {
-                (RelaxationKind::BaseToToc, Ppc64Relocation::R_PPC64_TOC16)
-            } else {
-                (RelaxationKind::NoOp, name)
-            }
-        }
-        Ppc64Relocation::R_PPC64_TOC16_LO_DS => {
-            if is_without_high_part(RelaxationKind::BaseToToc, section, offset, facts) {
-                (RelaxationKind::BaseToToc, Ppc64Relocation::R_PPC64_TOC16_DS)
-            } else {
-                (RelaxationKind::NoOp, name)
-            }
-        }
-        Ppc64Relocation::R_PPC64_GOT16_HA => {
-            if is_for_toc_distance(RelaxationKind::NoOp, section, offset, facts) {
-                (RelaxationKind::NoOp, Ppc64Relocation::R_PPC64_TOC16_HA)
-            } else {
-                (RelaxationKind::NoOp, name)
-            }
-        }
-        Ppc64Relocation::R_PPC64_GOT16_LO_DS => {
-            if is_for_toc_distance(RelaxationKind::LdToAddi, section, offset, facts) {
-                (RelaxationKind::LdToAddi, Ppc64Relocation::R_PPC64_TOC16_LO)
-            } else {
-                (RelaxationKind::NoOp, name)
-            }
-        }
-        Ppc64Relocation::R_PPC64_GOT_PCREL34 => {
-            if is_for_distance(section, offset, facts) {
-                (RelaxationKind::PldToPaddi, Ppc64Relocation::R_PPC64_PCREL34)
-            } else {
-                (RelaxationKind::NoOp, name)
-            }
-        }
-        Ppc64Relocation::R_PPC64_GOT_TPREL16_HA => {
-            if is_for_local_exec(RelaxationKind::AddisToNop, section, offset, facts) {
-                (RelaxationKind::AddisToNop, Ppc64Relocation::R_PPC64_NONE)
-            } else {
-                (RelaxationKind::NoOp, name)
-            }
-        }
-        Ppc64Relocation::R_PPC64_GOT_TPREL16_LO_DS => {
-            if is_for_local_exec(RelaxationKind::LdToAddisThread, section, offset, facts) {
-                (
-                    RelaxationKind::LdToAddisThread,
-                    Ppc64Relocation::R_PPC64_TPREL16_HA,
-                )
-            } else {
-                (RelaxationKind::NoOp, name)
-            }
-        }
-        Ppc64Relocation::R_PPC64_TLS => {
-            if is_for_local_exec(RelaxationKind::AddToAddi, section, offset, facts) {
-                (
-                    RelaxationKind::AddToAddi,
-                    Ppc64Relocation::R_PPC64_TPREL16_LO,
-                )
-            } else if is_for_local_exec(RelaxationKind::IndexedToD, section, offset, facts) {
-                (
-                    RelaxationKind::IndexedToD,
-                    Ppc64Relocation::R_PPC64_TPREL16_LO,
-                )
-            } else if is_for_local_exec_words(section, offset, facts) {
-                (
-                    RelaxationKind::IndexedToDs,
-                    Ppc64Relocation::R_PPC64_TPREL16_LO_DS,
-                )
-            } else {
-                (RelaxationKind::NoOp, name)
-            }
-        }
-        Ppc64Relocation::R_PPC64_GOT_TLSGD16_HA => {
-            if is_for_local_exec(RelaxationKind::AddisToNop, section, offset, facts) {
-                (RelaxationKind::AddisToNop, Ppc64Relocation::R_PPC64_NONE)
-            } else if is_for_initial_exec(RelaxationKind::NoOp, section, offset, facts) {
-                (
-                    RelaxationKind::NoOp,
-                    Ppc64Relocation::R_PPC64_GOT_TPREL16_HA,
-                )
-            } else {
-                (RelaxationKind::NoOp, name)
-            }
-        }
-        Ppc64Relocation::R_PPC64_GOT_TLSGD16_LO => {
-            if is_for_local_exec(RelaxationKind::AddiToAddisThread, section, offset, facts) {
-                (
-                    RelaxationKind::AddiToAddisThread,
-                    Ppc64Relocation::R_PPC64_TPREL16_HA,
-                )
-            } else if is_for_initial_exec(RelaxationKind::AddiToLd, section, offset, facts) {
-                (
-                    RelaxationKind::AddiToLd,
-                    Ppc64Relocation::R_PPC64_GOT_TPREL16_LO_DS,
-                )
-            } else {
-                (RelaxationKind::NoOp, name)
-            }
-        }
-        Ppc64Relocation::R_PPC64_TLSGD => {
-            if is_for_local_exec(RelaxationKind::CallToAddi, section, offset, facts) {
-                (
-                    RelaxationKind::CallToAddi,
-                    Ppc64Relocation::R_PPC64_TPREL16_LO,
-                )
-            } else if is_for_initial_exec(RelaxationKind::CallToAdd, section, offset, facts) {
-                (RelaxationKind::CallToAdd, Ppc64Relocation::R_PPC64_NONE)
-            } else {
-                (RelaxationKind::NoOp, name)
-            }
-        }
-        Ppc64Relocation::R_PPC64_GOT_TLSLD16_HA => {
-            if is_for_module(RelaxationKind::AddisToNop, section, offset, facts) {
-                (RelaxationKind::AddisToNop, Ppc64Relocation::R_PPC64_NONE)
-            } else {
-                (RelaxationKind::NoOp, name)
-            }
-        }
-        Ppc64Relocation::R_PPC64_GOT_TLSLD16_LO => {
-            if is_for_module(RelaxationKind::AddiToAddisThread, section, offset, facts) {
-                (
-                    RelaxationKind::AddiToAddisThread,
-                    Ppc64Relocation::R_PPC64_NONE,
-                )
-            } else {
-                (RelaxationKind::NoOp, name)
-            }
-        }
-        Ppc64Relocation::R_PPC64_TLSLD => {
-            if is_for_module(RelaxationKind::CallToAddi4096, section, offset, facts) {
-                (
-                    RelaxationKind::CallToAddi4096,
-                    Ppc64Relocation::R_PPC64_NONE,
-                )
-            } else {
-                (RelaxationKind::NoOp, name)
-            }
-        }
-        Ppc64Relocation::R_PPC64_REL24 => {
-            if is_for_other_toc(section, offset, facts) {
-                (RelaxationKind::NopToRestoreToc, name)
-            } else {
-                (RelaxationKind::NoOp, name)
-            }
-        }
-        _ => (RelaxationKind::NoOp, name),
+    let unchanged = Choice {
+        kind: RelaxationKind::NoOp,
+        relocation: name,
     };
-    Choice { kind, relocation }
+    first_entry(entries(name), section, offset, facts, unchanged)
 }
 
 /// With the same facts, except that each has its own place, and each at an instruction that its

@@ -1,7 +1,7 @@
 -- Entries of the tables of choices, as the code has them.
-use Rattle.std.specs.Prelude.{◌≡◌, ◌==◌, ◌%◌, ◌/◌, ◌+◌, ◌*◌, ◌++◌, ◌⊎◌, ℕ, ℤ, ⊤, Bool, not, ◌&&◌}
+use Rattle.std.specs.Prelude.{◌≡◌, ◌==◌, ◌%◌, ◌/◌, ◌+◌, ◌*◌, ◌++◌, ◌⊎◌, ◌↔◌, ℕ, ℤ, ⊤, Bool, not, ◌&&◌}
 use Rattle.std.specs.Prelude.{if◌then◌else◌, List, [], ◌∷◌, Option, None, Some, map}
-use Rattle.linker_elf.specs.Choices.{Condition, Entry, entry, choice, Holds, AllHold}
+use Rattle.linker_elf.specs.Choices.{Condition, Entry, entry, choice, Applies, Holds, AllHold}
 use Rattle.linker_elf.specs.Choices.{bound, weak_zero, fixed_address, fixed_distance, executable}
 use Rattle.linker_elf.specs.Choices.{local_exec_base, compressible, marked, label_marked}
 use Rattle.linker_elf.specs.Choices.{got_high_part, private_base, changed_toc, without_plt}
@@ -71,7 +71,8 @@ addend_condition (Some a) = addend a ∷ []
 -- the conditions of an entry: facts, then the addend, then values
 abbrev pub conditions_of : {O K R : Type 0} → ChoiceEntry O K R → List (Condition R)
 conditions_of e =
-    conditions_in e.facts fact_conditions ++ (addend_condition e.addend ++ value_conditions e.values.now)
+    conditions_in e.conditions.facts fact_conditions
+    ++ (addend_condition e.conditions.addend ++ value_conditions e.conditions.values.now)
 
 abbrev pub entry_of : {O K R : Type 0} → ChoiceEntry O K R → Entry K R
 entry_of e = entry e.kind e.relocation (conditions_of e)
@@ -83,8 +84,7 @@ abbrev pub EntryApplies : {O K R : Type 0} → (O → K → List ℕ → ℕ →
     → (R → Option RelocationKindInfo) → (K → ℕ → Operands → Operands) → List ℕ → ℕ → LinkFacts
     → ChoiceEntry O K R → Type 0
 EntryApplies are_at row after section o facts e =
-    are_at e.originals e.kind section o
-    × AllHold row (after e.kind o facts.operands) facts (conditions_of e)
+    Applies (are_at e.originals) row after section o facts (entry_of e)
 
 -- the choice is that of the first entry that applies, and else the last one
 abbrev pub IsFirstOf : {O K R : Type 0} → (ChoiceEntry O K R → Type 0) → List (ChoiceEntry O K R)
@@ -93,3 +93,19 @@ IsFirstOf Applies [] otherwise chosen = chosen ≡ otherwise
 IsFirstOf Applies (e ∷ es) otherwise chosen =
     (Applies e × (chosen ≡ choice e.kind e.relocation))
     ⊎ (¬ Applies e × IsFirstOf Applies es otherwise chosen)
+
+-- ---- tables
+
+-- the instructions that an entry of the code is for are those that the definition asks for
+abbrev pub AreAsked : {O K : Type 0} → (O → K → List ℕ → ℕ → Type 0) → (K → List ℕ → ℕ → Type 0)
+    → O → K → Type 0
+AreAsked are_at Asked originals kind =
+    (section : List ℕ) (o : ℕ) → are_at originals kind section o ↔ Asked kind section o
+
+-- The entries of the code are those of the definition, for the instructions that it asks for.
+abbrev pub IsTableOf : {O K R : Type 0} → (O → K → List ℕ → ℕ → Type 0)
+    → (K → List ℕ → ℕ → Type 0) → List (ChoiceEntry O K R) → List (Entry K R) → Type 0
+IsTableOf are_at Asked [] [] = ⊤
+IsTableOf are_at Asked (e ∷ es) (d ∷ ds) =
+    (entry_of e ≡ d) × (AreAsked are_at Asked e.originals e.kind × IsTableOf are_at Asked es ds)
+IsTableOf are_at Asked es ds = ⊥

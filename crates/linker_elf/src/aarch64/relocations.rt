@@ -9,6 +9,7 @@ ghost use Rattle.linker_elf.specs.AArch64Relocations.{aarch64_relocation, aarch6
 ghost use Rattle.linker_elf.specs.AArch64Relocations.{aarch64_row};
 ghost use Rattle.linker_elf.specs.contracts.aarch64.relocations.AArch64Relocation as names;
 
+use crate::elf::choice_table::RelocationName;
 use crate::elf::rows::{
     TableRow, code_of_name, index_of_name, info_in, name_of_code, row, row_in, table, text_of_name,
 };
@@ -423,6 +424,15 @@ pub fn row(name: AArch64Relocation) -> Option<Row>
     ensures others { IfSome result RowReadsNoOther }
 {
     row_in(&ROWS[index(name)])
+}
+
+impl RelocationName for AArch64Relocation {
+    ghost row_of = { aarch64_row };
+
+    #[inline(always)]
+    fn find_row(self) -> Option<Row> {
+        row(self)
+    }
 }
 
 /// What a relocation means, as `row` says.

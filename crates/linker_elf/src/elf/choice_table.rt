@@ -39,19 +39,26 @@ pub enum ValueCondition<R> {
     WithinIfKnown(R, (i64, i64), u64),
 }
 
-/// An entry of a table of choices: a rewrite, the relocation after it, and when it is chosen.
-pub struct ChoiceEntry<O, K, R: 'static> {
-    /// The instructions that it is for.
-    pub originals: O,
-    pub kind: K,
-    /// The relocation after the rewrite.
-    pub relocation: R,
+/// What an entry asks of what the linker knows.
+pub struct Conditions<R: 'static> {
     /// The facts that have to hold.
     pub facts: u32,
     /// The addend that the relocation has to have, if any.
     pub addend: Option<i64>,
     /// What has to hold of values.
     pub values: &'static [ValueCondition<R>],
+}
+
+/// An entry of a table of choices: a rewrite, the relocation after it, and when it is chosen.
+pub struct ChoiceEntry<O, K, R: 'static> {
+    /// The instructions that it is for.
+    pub originals: O,
+    /// The rewrite.
+    pub kind: K,
+    /// The relocation after the rewrite.
+    pub relocation: R,
+    /// What has to hold.
+    pub conditions: Conditions<R>,
 }
 
 /// A relocation's name, which has a row.
@@ -173,14 +180,15 @@ impl<O: Originals<K>, K: ChosenKind, R: RelocationName> ChoiceEntry<O, K, R> {
         ensures { IsTrue result ↔ AllHold R.row_of
             (K.after self.now.kind offset facts.now.operands) facts.now (conditions_of self.now) }
     {
-        if self.facts & missing != 0 {
+        let conditions = &self.conditions;
+        if conditions.facts & missing != 0 {
             return false;
         }
-        if !has_addend(self.addend, facts) {
+        if !has_addend(conditions.addend, facts) {
             return false;
         }
         let after = self.kind.operands_after(offset, &facts.operands);
-        all_hold(self.values, facts, &after)
+        all_hold(conditions.values, facts, &after)
     }
 
     /// Whether its instructions are at an offset of a section, and its conditions hold.

@@ -10,6 +10,7 @@ ghost use Rattle.linker_elf.specs.LoongArchRelocations.{loongarch_row, loongarch
 ghost use Rattle.linker_elf.specs.LoongArchRelocations.{loongarch_raw_row, raw_name};
 ghost use Rattle.linker_elf.specs.contracts.loongarch64.relocations.LoongArch64Relocation as names;
 
+use crate::elf::choice_table::RelocationName;
 use crate::elf::rows::{
     TableRow, code_of_name, index_of_name, name_of_code, raw_info_in, row, row_in, table,
     text_of_name,
@@ -297,6 +298,15 @@ pub fn row(name: LoongArch64Relocation) -> Option<Row>
     ensures others { IfSome result (LoongArchRowReadsNoOther name) }
 {
     row_in(&ROWS[index(name)])
+}
+
+impl RelocationName for LoongArch64Relocation {
+    ghost row_of = { loongarch_row };
+
+    #[inline(always)]
+    fn find_row(self) -> Option<Row> {
+        row(self)
+    }
 }
 
 /// The name whose row the crate `linker-utils` has for a name: there `R_LARCH_ALIGN` has no kind of

@@ -9,6 +9,7 @@ ghost use Rattle.linker_elf.specs.Ppc64Relocations.{ppc64_relocation, ppc64_name
 ghost use Rattle.linker_elf.specs.Ppc64Relocations.{ppc64_raw_row};
 ghost use Rattle.linker_elf.specs.contracts.ppc64.relocations.Ppc64Relocation as names;
 
+use crate::elf::choice_table::RelocationName;
 use crate::elf::rows::{
     TableRow, code_of_name, index_of_name, name_of_code, raw_info_in, row, row_in, table,
     text_of_name,
@@ -295,6 +296,15 @@ pub fn row(name: Ppc64Relocation) -> Option<Row>
     ensures others { IfSome result RowReadsNoOther }
 {
     row_in(&ROWS[index(name)])
+}
+
+impl RelocationName for Ppc64Relocation {
+    ghost row_of = { ppc64_row };
+
+    #[inline(always)]
+    fn find_row(self) -> Option<Row> {
+        row(self)
+    }
 }
 
 /// What a relocation means, as `row` says, or `None` for those that PowerPC64 compilers write and

@@ -10,6 +10,7 @@ ghost use Rattle.linker_elf.specs.RiscVRelocations.{riscv_name, riscv_row, riscv
 ghost use Rattle.linker_elf.specs.RiscVRelocations.{clui_row};
 ghost use Rattle.linker_elf.specs.contracts.riscv64.relocations.RiscVRelocation as names;
 
+use crate::elf::choice_table::RelocationName;
 use crate::elf::rows::{
     TableRow, code_of_name, index_of_name, name_of_code, raw_info_in, row, row_in, table,
     text_of_name,
@@ -239,6 +240,15 @@ pub fn row(name: RiscVRelocation) -> Option<Row>
     ensures others { IfSome result RowReadsNoOther }
 {
     row_in(&ROWS[index(name)])
+}
+
+impl RelocationName for RiscVRelocation {
+    ghost row_of = { λ name. (riscv_relocation name).row };
+
+    #[inline(always)]
+    fn find_row(self) -> Option<Row> {
+        row(self)
+    }
 }
 
 /// What `R_RISCV_HI20` means once its `lui` has become a `c.lui`: the row of `R_RISCV_RVC_LUI`.

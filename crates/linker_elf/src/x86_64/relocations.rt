@@ -6,6 +6,7 @@ ghost use Rattle.linker_elf.specs.ElfNames.{IsNameOf, code_of, text_of};
 ghost use Rattle.linker_elf.specs.X86Relocations.{x86_64_relocation, x86_64_name, x86_64_row};
 ghost use Rattle.linker_elf.specs.contracts.x86_64.relocations.X86_64Relocation as names;
 
+use crate::elf::choice_table::RelocationName;
 use crate::elf::rows::{
     TableRow, code_of_name, index_of_name, info_in, name_of_code, row, row_in, table, text_of_name,
 };
@@ -168,6 +169,15 @@ pub fn row(name: X86_64Relocation) -> Option<Row>
     ensures { result ≡ x86_64_row name }
 {
     row_in(&ROWS[index(name)])
+}
+
+impl RelocationName for X86_64Relocation {
+    ghost row_of = { x86_64_row };
+
+    #[inline(always)]
+    fn find_row(self) -> Option<Row> {
+        row(self)
+    }
 }
 
 /// What a relocation means, as `row` says.
