@@ -1,2 +1,3 @@
 pub mod Ppc64Alike
+pub mod Ppc64Choices
 pub mod Ppc64Rewrites

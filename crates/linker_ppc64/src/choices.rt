@@ -1,6 +1,5 @@
 //! PowerPC64: which rewrite a linker chooses for a relocation.
 
-ghost use Rattle.std.specs.Prelude.{ℕ};
 ghost use Rattle.linker_base.specs.Rewrite.{CanRewrite};
 ghost use Rattle.linker_elf.specs.Inner.ChoiceTables.{IsTableOf};
 ghost use Rattle.linker_ppc64.specs.Ppc64Choices.{TocPairsAreChosenAlike, GotPairIsChosenAlike};
@@ -10,7 +9,6 @@ ghost use Rattle.linker_ppc64.specs.Ppc64Choices.{LocalDynamicIsChosenAlike};
 ghost use Rattle.linker_ppc64.specs.Ppc64Choices.{IsPpc64Choice, ppc64_entries};
 ghost use Rattle.linker_ppc64.specs.Ppc64Originals.{ppc64_matches};
 ghost use Rattle.linker_ppc64.specs.Ppc64Rewrites.{ppc64_rewrite};
-ghost use Rattle.linker_elf.specs.declared.elf.value.Operands.{Operands};
 
 use super::rewrites::RelaxationKind;
 use linker_elf::elf::choice_table::{
@@ -34,7 +32,7 @@ impl Originals<RelaxationKind> for OfRewrite {
 
 impl ChosenKind for RelaxationKind {
     // no condition is on what counts from a place that a rewrite moves
-    ghost after = { λ (kind : RelaxationKind) (o : ℕ) (operands : Operands). operands };
+    ghost after = { λ kind o operands. operands };
 
     #[inline(always)]
     fn operands_after(self, _offset: u64, operands: &Operands) -> Operands {
@@ -81,19 +79,97 @@ const TO_DISTANCE: Conditions<Ppc64Relocation> =
 const TO_LOCAL_EXEC: Conditions<Ppc64Relocation> =
     conditions!(BOUND + EXECUTABLE, InReachIfKnown R_PPC64_TPREL16_HA);
 
-static TOC16_HA: &[ChoiceEntry<OfRewrite, RelaxationKind, Ppc64Relocation>] = &[entry!(AddisToNop => R_PPC64_NONE, WITHOUT_HIGH_PART)];
+/// The same of an access of whole words.
+const TO_LOCAL_EXEC_WORDS: Conditions<Ppc64Relocation> = conditions!(
+    BOUND + EXECUTABLE,
+    InReachIfKnown R_PPC64_TPREL16_HA,
+    InReachIfKnown R_PPC64_TPREL16_LO_DS
+);
 
-static NONE: &[ChoiceEntry<OfRewrite, RelaxationKind, Ppc64Relocation>] = &[];
+/// The offset from the thread pointer in the GOT.
+const TO_INITIAL_EXEC: Conditions<Ppc64Relocation> =
+    conditions!(EXECUTABLE, InReachIfKnown R_PPC64_GOT_TPREL16_HA);
+
+/// The module's block from the thread pointer.
+const TO_MODULE: Conditions<Ppc64Relocation> = conditions!(EXECUTABLE);
+
+/// A call may change the TOC pointer.
+const AFTER_CALL: Conditions<Ppc64Relocation> = conditions!(CHANGED_TOC);
+
+type Ppc64Entry = ChoiceEntry<OfRewrite, RelaxationKind, Ppc64Relocation>;
+
+static TOC16_HA: &[Ppc64Entry] = &[entry!(AddisToNop => R_PPC64_NONE, WITHOUT_HIGH_PART)];
+
+static TOC16_LO: &[Ppc64Entry] = &[entry!(BaseToToc => R_PPC64_TOC16, WITHOUT_HIGH_PART)];
+
+static TOC16_LO_DS: &[Ppc64Entry] = &[entry!(BaseToToc => R_PPC64_TOC16_DS, WITHOUT_HIGH_PART)];
+
+static GOT16_HA: &[Ppc64Entry] = &[entry!(NoOp => R_PPC64_TOC16_HA, TO_TOC_DISTANCE)];
+
+static GOT16_LO_DS: &[Ppc64Entry] = &[entry!(LdToAddi => R_PPC64_TOC16_LO, TO_TOC_DISTANCE)];
+
+static GOT_PCREL34: &[Ppc64Entry] = &[entry!(PldToPaddi => R_PPC64_PCREL34, TO_DISTANCE)];
+
+static GOT_TPREL16_HA: &[Ppc64Entry] = &[entry!(AddisToNop => R_PPC64_NONE, TO_LOCAL_EXEC)];
+
+static GOT_TPREL16_LO_DS: &[Ppc64Entry] =
+    &[entry!(LdToAddisThread => R_PPC64_TPREL16_HA, TO_LOCAL_EXEC)];
+
+static TLS: &[Ppc64Entry] = &[
+    entry!(AddToAddi => R_PPC64_TPREL16_LO, TO_LOCAL_EXEC),
+    entry!(IndexedToD => R_PPC64_TPREL16_LO, TO_LOCAL_EXEC),
+    entry!(IndexedToDs => R_PPC64_TPREL16_LO_DS, TO_LOCAL_EXEC_WORDS),
+];
+
+static GOT_TLSGD16_HA: &[Ppc64Entry] = &[
+    entry!(AddisToNop => R_PPC64_NONE, TO_LOCAL_EXEC),
+    entry!(NoOp => R_PPC64_GOT_TPREL16_HA, TO_INITIAL_EXEC),
+];
+
+static GOT_TLSGD16_LO: &[Ppc64Entry] = &[
+    entry!(AddiToAddisThread => R_PPC64_TPREL16_HA, TO_LOCAL_EXEC),
+    entry!(AddiToLd => R_PPC64_GOT_TPREL16_LO_DS, TO_INITIAL_EXEC),
+];
+
+static TLSGD: &[Ppc64Entry] = &[
+    entry!(CallToAddi => R_PPC64_TPREL16_LO, TO_LOCAL_EXEC),
+    entry!(CallToAdd => R_PPC64_NONE, TO_INITIAL_EXEC),
+];
+
+static GOT_TLSLD16_HA: &[Ppc64Entry] = &[entry!(AddisToNop => R_PPC64_NONE, TO_MODULE)];
+
+static GOT_TLSLD16_LO: &[Ppc64Entry] = &[entry!(AddiToAddisThread => R_PPC64_NONE, TO_MODULE)];
+
+static TLSLD: &[Ppc64Entry] = &[entry!(CallToAddi4096 => R_PPC64_NONE, TO_MODULE)];
+
+static REL24: &[Ppc64Entry] = &[entry!(NopToRestoreToc => R_PPC64_REL24, AFTER_CALL)];
+
+static OTHERS: &[Ppc64Entry] = &[];
 
 /// The entries of a relocation.
 #[inline(always)]
-fn entries(name: Ppc64Relocation) -> &'static [ChoiceEntry<OfRewrite, RelaxationKind, Ppc64Relocation>]
+fn entries(name: Ppc64Relocation) -> &'static [Ppc64Entry]
     ensures { IsTableOf (λ (originals : OfRewrite). ppc64_matches) ppc64_matches result.now
         (ppc64_entries name) }
 {
     match name {
         Ppc64Relocation::R_PPC64_TOC16_HA => TOC16_HA,
-        _ => NONE,
+        Ppc64Relocation::R_PPC64_TOC16_LO => TOC16_LO,
+        Ppc64Relocation::R_PPC64_TOC16_LO_DS => TOC16_LO_DS,
+        Ppc64Relocation::R_PPC64_GOT16_HA => GOT16_HA,
+        Ppc64Relocation::R_PPC64_GOT16_LO_DS => GOT16_LO_DS,
+        Ppc64Relocation::R_PPC64_GOT_PCREL34 => GOT_PCREL34,
+        Ppc64Relocation::R_PPC64_GOT_TPREL16_HA => GOT_TPREL16_HA,
+        Ppc64Relocation::R_PPC64_GOT_TPREL16_LO_DS => GOT_TPREL16_LO_DS,
+        Ppc64Relocation::R_PPC64_TLS => TLS,
+        Ppc64Relocation::R_PPC64_GOT_TLSGD16_HA => GOT_TLSGD16_HA,
+        Ppc64Relocation::R_PPC64_GOT_TLSGD16_LO => GOT_TLSGD16_LO,
+        Ppc64Relocation::R_PPC64_TLSGD => TLSGD,
+        Ppc64Relocation::R_PPC64_GOT_TLSLD16_HA => GOT_TLSLD16_HA,
+        Ppc64Relocation::R_PPC64_GOT_TLSLD16_LO => GOT_TLSLD16_LO,
+        Ppc64Relocation::R_PPC64_TLSLD => TLSLD,
+        Ppc64Relocation::R_PPC64_REL24 => REL24,
+        _ => OTHERS,
     }
 }
 

@@ -1,0 +1,42 @@
+-- What is chosen on PowerPC64 matches, and can be rewritten.
+use Rattle.std.proofs.Common.{ℕ, List, ◌≡◌, ◌↔◌, rules}
+use Rattle.linker_base.specs.Rewrite.{CanRewrite}
+use Rattle.linker_elf.specs.Choices.{Entry, choice}
+use Rattle.linker_elf.specs.Inner.ChoiceTables.{IsTableOf, IsFirstOf, EntryApplies}
+use Rattle.linker_elf.proofs.ChoiceTables.{first_of_table, holds_of_first}
+use Rattle.linker_elf.specs.Ppc64Relocations.{ppc64_row}
+use Rattle.linker_elf.specs.declared.elf.choice.Choice.{Choice}
+use Rattle.linker_elf.specs.declared.elf.choice.LinkFacts.{LinkFacts}
+use Rattle.linker_elf.specs.declared.elf.choice_table.ChoiceEntry.{ChoiceEntry}
+use Rattle.linker_elf.specs.declared.elf.value.Operands.{Operands}
+use Rattle.linker_elf.specs.declared.ppc64.relocations.Ppc64Relocation.{Ppc64Relocation}
+use Rattle.linker_ppc64.specs.Ppc64Choices.{ppc64_entries, Ppc64Applies, IsPpc64Choice}
+use Rattle.linker_ppc64.specs.Ppc64Originals.{ppc64_matches}
+use Rattle.linker_ppc64.specs.Ppc64Rewrites.{ppc64_rewrite}
+use Rattle.linker_ppc64.specs.declared.choices.OfRewrite.{OfRewrite}
+use Rattle.linker_ppc64.specs.declared.rewrites.RelaxationKind.{RelaxationKind}
+use Rattle.linker_ppc64.specs.declared.rewrites.RelaxationKind.TheVariants as kinds
+
+can_rewrite : (kind : RelaxationKind) (section : List ℕ) (o : ℕ) → ppc64_matches kind section o
+    → CanRewrite (ppc64_rewrite kind) section o
+can_rewrite kinds.NoOp section o matches = tt
+can_rewrite kind section o matches = search rules
+
+pub chosen : (name : Ppc64Relocation) (section : List ℕ) (o : ℕ) (facts : LinkFacts)
+    → (es : List (ChoiceEntry OfRewrite RelaxationKind Ppc64Relocation)) (c : Choice RelaxationKind Ppc64Relocation)
+    → IsTableOf (λ (originals : OfRewrite). ppc64_matches) ppc64_matches es (ppc64_entries name)
+    → IsFirstOf (EntryApplies (λ (originals : OfRewrite). ppc64_matches) ppc64_row (λ (kind : RelaxationKind) (o : ℕ) (operands : Operands). operands) section o facts) es (choice kinds.NoOp name) c
+    → IsPpc64Choice name section o facts c
+chosen name section o facts es c =
+    first_of_table (λ (originals : OfRewrite). ppc64_matches) ppc64_matches ppc64_row
+    (λ (kind : RelaxationKind) (o : ℕ) (operands : Operands). operands) section o facts es (ppc64_entries name) (choice kinds.NoOp name) c
+
+pub chosen_matches : (name : Ppc64Relocation) (section : List ℕ) (o : ℕ) (facts : LinkFacts) (c : Choice RelaxationKind Ppc64Relocation)
+    → IsPpc64Choice name section o facts c → ppc64_matches c.kind section o
+chosen_matches name section o facts c =
+    holds_of_first (Ppc64Applies section o facts) (λ x. ppc64_matches x.kind section o) (ppc64_entries name) (choice kinds.NoOp name) c
+    (λ e a. a.0) tt
+
+pub chosen_rewritable : (name : Ppc64Relocation) (section : List ℕ) (o : ℕ) (facts : LinkFacts) (c : Choice RelaxationKind Ppc64Relocation)
+    → IsPpc64Choice name section o facts c → CanRewrite (ppc64_rewrite c.kind) section o
+chosen_rewritable name section o facts c is = can_rewrite c.kind section o (chosen_matches name section o facts c is)
