@@ -1,5 +1,6 @@
 //! PowerPC64: which rewrite a linker chooses for a relocation.
 
+ghost use Rattle.std.specs.Prelude.{◌≤◌, length};
 ghost use Rattle.linker_base.specs.Rewrite.{CanRewrite};
 ghost use Rattle.linker_elf.specs.Inner.ChoiceTables.{IsTableOf};
 ghost use Rattle.linker_ppc64.specs.Ppc64Choices.{TocPairsAreChosenAlike, GotPairIsChosenAlike};
@@ -96,7 +97,8 @@ const TO_MODULE: Conditions<Ppc64Relocation> = conditions!(EXECUTABLE);
 /// A call may change the TOC pointer.
 const AFTER_CALL: Conditions<Ppc64Relocation> = conditions!(CHANGED_TOC);
 
-type Ppc64Entry = ChoiceEntry<OfRewrite, RelaxationKind, Ppc64Relocation>;
+/// An entry of the table.
+pub type Ppc64Entry = ChoiceEntry<OfRewrite, RelaxationKind, Ppc64Relocation>;
 
 static TOC16_HA: &[Ppc64Entry] = &[entry!(AddisToNop => R_PPC64_NONE, WITHOUT_HIGH_PART)];
 
@@ -148,9 +150,10 @@ static OTHERS: &[Ppc64Entry] = &[];
 
 /// The entries of a relocation.
 #[inline(always)]
-fn entries(name: Ppc64Relocation) -> &'static [Ppc64Entry]
-    ensures { IsTableOf (λ (originals : OfRewrite). ppc64_matches) ppc64_matches result.now
+pub fn entries(name: Ppc64Relocation) -> &'static [Ppc64Entry]
+    ensures table { IsTableOf (λ (originals : OfRewrite). ppc64_matches) ppc64_matches result.now
         (ppc64_entries name) }
+    ensures few { length result.now ≤ 5 }
 {
     match name {
         Ppc64Relocation::R_PPC64_TOC16_HA => TOC16_HA,

@@ -4,7 +4,7 @@ use Rattle.linker_ppc64.proofs.choices.choose.Goals as goal
 pub returns-clause-chosen : goal.returns-clause-chosen
 returns-clause-chosen c =
     chosen c.args.name c.args.section.now c.args.offset c.args.facts.now c.entries.result.now c.first_entry.result
-    c.entries.ensures c.first_entry.ensures
+    c.entries.ensures.table c.first_entry.ensures
 
 pub returns-clause-matches : goal.returns-clause-matches
 returns-clause-matches c =
