@@ -5,7 +5,8 @@ use Rattle.std.specs.Prelude.{⊤}
 use Rattle.std.specs.Int.{w32, from_le_bytes}
 use Rattle.linker_base.specs.Rewrite.{CanRewrite, offset_after, addend_after}
 use Rattle.linker_aarch64.specs.AArch64Rewrites.{aarch64_rewrite, rd_of, rn_of}
-use Rattle.linker_aarch64.specs.AArch64Choices.{AreOfDescriptor, AreAt, IsOfDescriptor, IsEntryLoad, IsAskedFor, AArch64Applies, AArch64Choice, IsAArch64Choice, aarch64_entries}
+use Rattle.linker_aarch64.specs.AArch64Choices.{AreOfDescriptor, IsOfDescriptor, IsEntryLoad, IsAskedFor, AArch64Applies, AArch64Choice, IsAArch64Choice, aarch64_entries}
+use Rattle.linker_aarch64.specs.Inner.Choices.{IsThere}
 use Rattle.linker_aarch64.specs.AArch64Originals.{IsAdrp, IsLdr64, aarch64_matches}
 use Rattle.linker_elf.specs.AArch64Relocations.{aarch64_row}
 use Rattle.linker_elf.specs.Choices.{choice, operands_after}
@@ -17,7 +18,7 @@ use Rattle.linker_elf.specs.declared.aarch64.relocations.AArch64Relocation.{AArc
 use Rattle.linker_elf.specs.declared.elf.choice.LinkFacts.{LinkFacts}
 use Rattle.linker_elf.specs.declared.elf.choice_table.ChoiceEntry.{ChoiceEntry}
 use Rattle.linker_elf.specs.declared.elf.value.Operands.{Operands}
-use Rattle.linker_aarch64.specs.declared.choices.Instructions.{Instructions}
+use Rattle.linker_aarch64.specs.declared.choices.Original.{Original}
 use Rattle.linker_aarch64.specs.declared.rewrites.RelaxationKind.{RelaxationKind}
 use Rattle.linker_aarch64.specs.declared.rewrites.RelaxationKind.TheVariants.{NoOp, ReplaceWithNop, MovzX0Lsl16, MovkX0, MovzXnLsl16, MovkXn, AdrpToAdr, AdrpX0, LdrX0, AddToAdr, LdrToAdr, LdrToAdd, AdrpAddToNopAdr}
 
@@ -123,12 +124,12 @@ nop_matches back s o small h =
 -- ---- what is chosen
 
 pub chosen : (name : AArch64Relocation) (section : List ℕ) (o : ℕ) (facts : LinkFacts)
-    → (es : List (ChoiceEntry Instructions RelaxationKind AArch64Relocation)) (c : AArch64Choice)
-    → IsTableOf AreAt (λ kind section o. aarch64_matches kind section o × IsAskedFor name section o) es (aarch64_entries name)
-    → IsFirstOf (EntryApplies AreAt aarch64_row (λ (kind : RelaxationKind) (o : ℕ) (operands : Operands). operands) section o facts) es (choice NoOp name) c
+    → (es : List (ChoiceEntry Original RelaxationKind AArch64Relocation)) (c : AArch64Choice)
+    → IsTableOf IsThere (λ kind section o. aarch64_matches kind section o × IsAskedFor name section o) es (aarch64_entries name)
+    → IsFirstOf (EntryApplies IsThere aarch64_row (λ (kind : RelaxationKind) (o : ℕ) (operands : Operands). operands) section o facts) es (choice NoOp name) c
     → IsAArch64Choice name section o facts c
 chosen name section o facts es c =
-    first_of_table AreAt (λ kind section o. aarch64_matches kind section o × IsAskedFor name section o) aarch64_row
+    first_of_table IsThere (λ kind section o. aarch64_matches kind section o × IsAskedFor name section o) aarch64_row
     (λ (kind : RelaxationKind) (o : ℕ) (operands : Operands). operands) section o facts es (aarch64_entries name) (choice NoOp name) c
 
 pub chosen_matches : (name : AArch64Relocation) (section : List ℕ) (o : ℕ) (facts : LinkFacts) (c : AArch64Choice)

@@ -1,6 +1,7 @@
 -- AArch64: the rewrite that a linker chooses for a relocation (ELF for the Arm 64-bit Architecture,
 -- "Relocation optimization" and the sequences of thread-local storage; a branch to an undefined
--- weak symbol goes on behind itself). No rewrite moves the place or changes the addend.
+-- weak symbol goes on behind itself). No rewrite moves the place or changes the addend: the contract
+-- of `operands_after` in `choices` says so.
 use Rattle.std.specs.Prelude.{◌≡◌, ◌≢◌, ◌≤◌, ◌+◌, ◌-◌, ◌*◌, ◌/◌, ◌^◌, ℕ, List, [], ◌∷◌, ⊤}
 use Rattle.std.specs.Prelude.{length, drop, ◌⊎◌}
 use Rattle.std.specs.Int.{w32, from_le_bytes}
@@ -14,8 +15,6 @@ use Rattle.linker_elf.specs.Choices.{Applies, IsFirst, facts_on}
 use Rattle.linker_elf.specs.Originals.{HasWord}
 use Rattle.linker_elf.specs.declared.aarch64.relocations.AArch64Relocation.{AArch64Relocation}
 use Rattle.linker_elf.specs.declared.aarch64.relocations.AArch64Relocation.TheVariants as r
-use Rattle.linker_aarch64.specs.declared.choices.Instructions.{Instructions}
-use Rattle.linker_aarch64.specs.declared.choices.Instructions.TheVariants as instructions
 use Rattle.linker_aarch64.specs.declared.rewrites.RelaxationKind.{RelaxationKind}
 use Rattle.linker_aarch64.specs.declared.rewrites.RelaxationKind.TheVariants as kinds
 use Rattle.linker_elf.specs.declared.elf.choice.Choice.{Choice}
@@ -74,15 +73,6 @@ IsAskedFor r.R_AARCH64_TLSDESC_CALL section o = IsOfDescriptor 12 section o
 IsAskedFor r.R_AARCH64_CALL26 section o = HasWord section o IsCall
 IsAskedFor r.R_AARCH64_JUMP26 section o = HasWord section o IsBranch
 IsAskedFor name section o = ⊤
-
--- the instructions that an entry of the code is for
-abbrev pub AreAt : Instructions → RelaxationKind → List ℕ → ℕ → Type 0
-AreAt instructions.OfRewrite kind section o = aarch64_matches kind section o
-AreAt instructions.AdrpOfPair kind section o = IsEntryLoad section (o + 4)
-AreAt instructions.LdrOfPair kind section o = IsEntryLoad section o
-AreAt (instructions.OfDescriptor back) kind section o = IsOfDescriptor back section o
-AreAt instructions.Bl kind section o = HasWord section o IsCall
-AreAt instructions.B kind section o = HasWord section o IsBranch
 
 -- ---- the table
 

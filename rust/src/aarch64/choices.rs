@@ -56,9 +56,9 @@ pub fn is_tls_descriptor_sequence(section: &[u8], offset: u64) -> bool {
         )
 }
 
-/// The instructions that an entry is for.
-pub enum Instructions {
-    /// Those that the rewrite is meant for.
+/// The instructions that an entry is for: what its rewrite is meant for, or others.
+pub enum Original {
+    /// What the rewrite is meant for.
     OfRewrite,
     /// The `adrp` of a pair `adrp xN`, `ldr xN, [xN, #imm]`.
     AdrpOfPair,
@@ -72,22 +72,19 @@ pub enum Instructions {
     B,
 }
 
-impl Originals<RelaxationKind> for Instructions {
+impl Originals<RelaxationKind> for Original {
     #[inline(always)]
     fn stand_at(&self, kind: RelaxationKind, section: &[u8], offset: u64) -> bool {
         match *self {
-            Instructions::OfRewrite => kind.matches(section, offset),
-            Instructions::AdrpOfPair => is_entry_load(section, offset),
-            Instructions::LdrOfPair => 4 <= offset && is_entry_load(section, offset - 4),
-            Instructions::OfDescriptor(back) => {
+            Original::OfRewrite => kind.matches(section, offset),
+            Original::AdrpOfPair => is_entry_load(section, offset),
+            Original::LdrOfPair => 4 <= offset && is_entry_load(section, offset - 4),
+            Original::OfDescriptor(back) => {
                 back <= offset && is_tls_descriptor_sequence(section, offset - back)
             }
-            Instructions::Bl => {
-                has_window(section, offset, 0, 4) && word_at(section, offset) >> 26 == 0x25
-            }
-            Instructions::B => {
-                has_window(section, offset, 0, 4) && word_at(section, offset) >> 26 == 0x05
-            }
+            _ if !has_window(section, offset, 0, 4) => false,
+            Original::Bl => word_at(section, offset) >> 26 == 0x25,
+            Original::B => word_at(section, offset) >> 26 == 0x05,
         }
     }
 }
@@ -102,9 +99,9 @@ impl ChosenKind for RelaxationKind {
 
 /// An entry: the instructions, the rewrite, the relocation after it and the conditions.
 macro_rules! entry {
-    ($which:ident $(($back:expr))?, $kind:ident => $relocation:ident, $conditions:expr) => {
+    ($original:ident $(($back:expr))?: $kind:ident => $relocation:ident, $conditions:expr) => {
         ChoiceEntry {
-            originals: Instructions::$which $(($back))?,
+            originals: Original::$original $(($back))?,
             kind: RelaxationKind::$kind,
             relocation: AArch64Relocation::$relocation,
             conditions: $conditions,
@@ -148,46 +145,51 @@ const TO_LOCAL_EXEC: Conditions<AArch64Relocation> =
 /// The address of the symbol is 0.
 const TO_NEXT: Conditions<AArch64Relocation> = conditions!(WEAK_ZERO);
 
-type AArch64Entry = ChoiceEntry<Instructions, RelaxationKind, AArch64Relocation>;
+type AArch64Entry = ChoiceEntry<Original, RelaxationKind, AArch64Relocation>;
 
-static ADR_GOT_PAGE: &[AArch64Entry] =
-    &[entry!(AdrpOfPair, NoOp => R_AARCH64_ADR_PREL_PG_HI21, to_address!(0))];
+static ADR_GOT_PAGE: &[AArch64Entry] = &[
+    entry!(AdrpOfPair: NoOp => R_AARCH64_ADR_PREL_PG_HI21, to_address!(0)),
+];
 
-static LD64_GOT_LO12_NC: &[AArch64Entry] =
-    &[entry!(LdrOfPair, LdrToAdd => R_AARCH64_ADD_ABS_LO12_NC, to_address!(4))];
+static LD64_GOT_LO12_NC: &[AArch64Entry] = &[
+    entry!(LdrOfPair: LdrToAdd => R_AARCH64_ADD_ABS_LO12_NC, to_address!(4)),
+];
 
-static ADD_ABS_LO12_NC: &[AArch64Entry] =
-    &[entry!(OfRewrite, AdrpAddToNopAdr => R_AARCH64_ADR_PREL_LO21, TO_ADR)];
+static ADD_ABS_LO12_NC: &[AArch64Entry] = &[
+    entry!(OfRewrite: AdrpAddToNopAdr => R_AARCH64_ADR_PREL_LO21, TO_ADR),
+];
 
-static TLSIE_ADR_GOTTPREL_PAGE21: &[AArch64Entry] =
-    &[entry!(AdrpOfPair, MovzXnLsl16 => R_AARCH64_TLSLE_MOVW_TPREL_G1, TO_LOCAL_EXEC)];
+static TLSIE_ADR_GOTTPREL_PAGE21: &[AArch64Entry] = &[
+    entry!(AdrpOfPair: MovzXnLsl16 => R_AARCH64_TLSLE_MOVW_TPREL_G1, TO_LOCAL_EXEC),
+];
 
-static TLSIE_LD64_GOTTPREL_LO12_NC: &[AArch64Entry] =
-    &[entry!(LdrOfPair, MovkXn => R_AARCH64_TLSLE_MOVW_TPREL_G0_NC, TO_LOCAL_EXEC)];
+static TLSIE_LD64_GOTTPREL_LO12_NC: &[AArch64Entry] = &[
+    entry!(LdrOfPair: MovkXn => R_AARCH64_TLSLE_MOVW_TPREL_G0_NC, TO_LOCAL_EXEC),
+];
 
 static TLSDESC_ADR_PAGE21: &[AArch64Entry] = &[
-    entry!(OfDescriptor(0), MovzX0Lsl16 => R_AARCH64_TLSLE_MOVW_TPREL_G1, TO_LOCAL_EXEC),
-    entry!(OfDescriptor(0), AdrpX0 => R_AARCH64_TLSIE_ADR_GOTTPREL_PAGE21, to_initial_exec!(0)),
+    entry!(OfDescriptor(0): MovzX0Lsl16 => R_AARCH64_TLSLE_MOVW_TPREL_G1, TO_LOCAL_EXEC),
+    entry!(OfDescriptor(0): AdrpX0 => R_AARCH64_TLSIE_ADR_GOTTPREL_PAGE21, to_initial_exec!(0)),
 ];
 
 static TLSDESC_LD64_LO12: &[AArch64Entry] = &[
-    entry!(OfDescriptor(4), MovkX0 => R_AARCH64_TLSLE_MOVW_TPREL_G0_NC, TO_LOCAL_EXEC),
-    entry!(OfDescriptor(4), LdrX0 => R_AARCH64_TLSIE_LD64_GOTTPREL_LO12_NC, to_initial_exec!(4)),
+    entry!(OfDescriptor(4): MovkX0 => R_AARCH64_TLSLE_MOVW_TPREL_G0_NC, TO_LOCAL_EXEC),
+    entry!(OfDescriptor(4): LdrX0 => R_AARCH64_TLSIE_LD64_GOTTPREL_LO12_NC, to_initial_exec!(4)),
 ];
 
 static TLSDESC_ADD_LO12: &[AArch64Entry] = &[
-    entry!(OfDescriptor(8), ReplaceWithNop => R_AARCH64_NONE, TO_LOCAL_EXEC),
-    entry!(OfDescriptor(8), ReplaceWithNop => R_AARCH64_NONE, to_initial_exec!(8)),
+    entry!(OfDescriptor(8): ReplaceWithNop => R_AARCH64_NONE, TO_LOCAL_EXEC),
+    entry!(OfDescriptor(8): ReplaceWithNop => R_AARCH64_NONE, to_initial_exec!(8)),
 ];
 
 static TLSDESC_CALL: &[AArch64Entry] = &[
-    entry!(OfDescriptor(12), ReplaceWithNop => R_AARCH64_NONE, TO_LOCAL_EXEC),
-    entry!(OfDescriptor(12), ReplaceWithNop => R_AARCH64_NONE, to_initial_exec!(12)),
+    entry!(OfDescriptor(12): ReplaceWithNop => R_AARCH64_NONE, TO_LOCAL_EXEC),
+    entry!(OfDescriptor(12): ReplaceWithNop => R_AARCH64_NONE, to_initial_exec!(12)),
 ];
 
-static CALL26: &[AArch64Entry] = &[entry!(Bl, ReplaceWithNop => R_AARCH64_NONE, TO_NEXT)];
+static CALL26: &[AArch64Entry] = &[entry!(Bl: ReplaceWithNop => R_AARCH64_NONE, TO_NEXT)];
 
-static JUMP26: &[AArch64Entry] = &[entry!(B, ReplaceWithNop => R_AARCH64_NONE, TO_NEXT)];
+static JUMP26: &[AArch64Entry] = &[entry!(B: ReplaceWithNop => R_AARCH64_NONE, TO_NEXT)];
 
 static OTHERS: &[AArch64Entry] = &[];
 
