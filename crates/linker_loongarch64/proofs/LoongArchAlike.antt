@@ -2,12 +2,11 @@
 -- of the first.
 use Rattle.std.proofs.Common.{◌≡◌, ◌↔◌, ◌≤◌, inl, inr, ℕ, ◌+◌, ◌-◌, List, [], ◌∷◌, ap, ◌∙◌, sym, subst, arith}
 use Rattle.linker_elf.specs.Choices.{facts_on}
-use Rattle.linker_elf.specs.Choices.{AllHold, IsFirst, entry, choice, RowReaches, RowIsWithin, Condition}
+use Rattle.linker_elf.specs.Choices.{AllHold, IsFirst, entry, choice, RowReaches, RowIsWithin}
 use Rattle.linker_loongarch64.specs.LoongArchChoices.{LoongArchEntry, LoongArchChoice, LoongArchApplies, IsBehind, IsAmong, IsDescriptorSequence, by_pcaddi, bound_by_pcaddi, bound_by_pages, to_initial_exec, to_local_exec, to_short_local_exec, signed_32, GotPairIsChosenAlike, AddressPairIsChosenAlike, InitialExecPairIsChosenAlike, DescriptorIsChosenAlike, erased}
 use Rattle.linker_loongarch64.specs.LoongArchOriginals.{IsPair, IsAddi, IsLd}
 use Rattle.linker_elf.specs.LoongArchRelocations.{loongarch_row}
 use Rattle.linker_elf.specs.declared.elf.choice.LinkFacts.{LinkFacts}
-use Rattle.linker_elf.specs.declared.loongarch64.relocations.LoongArch64Relocation.{LoongArch64Relocation}
 use Rattle.linker_elf.specs.declared.loongarch64.relocations.LoongArch64Relocation.TheVariants as r
 use Rattle.linker_loongarch64.specs.declared.rewrites.RelaxationKind.TheVariants as kinds
 use Rattle.linker_elf.proofs.Choices.{same_reach}

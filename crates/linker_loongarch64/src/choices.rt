@@ -143,9 +143,9 @@ impl ChosenKind for RelaxationKind {
 
 /// An entry: a rewrite, the relocation after it, what it asks for and the conditions.
 macro_rules! entry {
-    ($kind:ident => $relocation:ident, $asked:expr, $conditions:expr) => {
+    ($kind:ident => $relocation:ident, $asked:ident$(($back:expr))?, $conditions:expr) => {
         ChoiceEntry {
-            originals: $asked,
+            originals: AskedFor::$asked$(($back))?,
             kind: RelaxationKind::$kind,
             relocation: LoongArch64Relocation::$relocation,
             conditions: $conditions,
@@ -225,68 +225,62 @@ const BY_LOW_PART: Conditions<LoongArch64Relocation> =
 type LoongArchEntry = ChoiceEntry<AskedFor, RelaxationKind, LoongArch64Relocation>;
 
 static GOT_PC_HI20: &[LoongArchEntry] = &[
-    entry!(PcalaToPcaddi => R_LARCH_PCREL20_S2, AskedFor::Load(0), bound_by_pcaddi!(0)),
-    entry!(NoOp => R_LARCH_PCALA_HI20, AskedFor::Load(0), bound_by_pages!(0)),
+    entry!(PcalaToPcaddi => R_LARCH_PCREL20_S2, Load(0), bound_by_pcaddi!(0)),
+    entry!(NoOp => R_LARCH_PCALA_HI20, Load(0), bound_by_pages!(0)),
 ];
 
 static GOT_PC_LO12: &[LoongArchEntry] = &[
-    entry!(Delete => R_LARCH_NONE, AskedFor::Load(4), bound_by_pcaddi!(4)),
-    entry!(LdToAddi => R_LARCH_PCALA_LO12, AskedFor::Load(4), bound_by_pages!(4)),
+    entry!(Delete => R_LARCH_NONE, Load(4), bound_by_pcaddi!(4)),
+    entry!(LdToAddi => R_LARCH_PCALA_LO12, Load(4), bound_by_pages!(4)),
 ];
 
 static PCALA_HI20: &[LoongArchEntry] = &[
-    entry!(PcalaToPcaddi => R_LARCH_PCREL20_S2, AskedFor::Sum(0), by_pcaddi!(0)),
+    entry!(PcalaToPcaddi => R_LARCH_PCREL20_S2, Sum(0), by_pcaddi!(0)),
 ];
 
-static PCALA_LO12: &[LoongArchEntry] = &[
-    entry!(Delete => R_LARCH_NONE, AskedFor::Sum(4), by_pcaddi!(4)),
-];
+static PCALA_LO12: &[LoongArchEntry] = &[entry!(Delete => R_LARCH_NONE, Sum(4), by_pcaddi!(4))];
 
 static CALL36: &[LoongArchEntry] = &[
-    entry!(CallToB => R_LARCH_B26, AskedFor::OfRewrite, BY_BRANCH),
-    entry!(CallToBl => R_LARCH_B26, AskedFor::OfRewrite, BY_BRANCH),
+    entry!(CallToB => R_LARCH_B26, OfRewrite, BY_BRANCH),
+    entry!(CallToBl => R_LARCH_B26, OfRewrite, BY_BRANCH),
 ];
 
 static TLS_IE_PC_HI20: &[LoongArchEntry] = &[
-    entry!(ReplaceWithNop => R_LARCH_NONE, AskedFor::Load(0), TO_SHORT_LOCAL_EXEC),
-    entry!(PcalaToLu12i => R_LARCH_TLS_LE_HI20, AskedFor::Load(0), TO_LOCAL_EXEC),
+    entry!(ReplaceWithNop => R_LARCH_NONE, Load(0), TO_SHORT_LOCAL_EXEC),
+    entry!(PcalaToLu12i => R_LARCH_TLS_LE_HI20, Load(0), TO_LOCAL_EXEC),
 ];
 
 static TLS_IE_PC_LO12: &[LoongArchEntry] = &[
-    entry!(LowToOriZero => R_LARCH_TLS_LE_LO12, AskedFor::Load(4), TO_SHORT_LOCAL_EXEC),
-    entry!(LowToOri => R_LARCH_TLS_LE_LO12, AskedFor::Load(4), TO_LOCAL_EXEC),
+    entry!(LowToOriZero => R_LARCH_TLS_LE_LO12, Load(4), TO_SHORT_LOCAL_EXEC),
+    entry!(LowToOri => R_LARCH_TLS_LE_LO12, Load(4), TO_LOCAL_EXEC),
 ];
 
 static TLS_DESC_PC_HI20: &[LoongArchEntry] = &[
-    entry!(PcalaToLu12i => R_LARCH_TLS_LE_HI20, AskedFor::Descriptor(0), TO_LOCAL_EXEC),
-    entry!(NoOp => R_LARCH_TLS_IE_PC_HI20, AskedFor::Descriptor(0), to_initial_exec!(0)),
+    entry!(PcalaToLu12i => R_LARCH_TLS_LE_HI20, Descriptor(0), TO_LOCAL_EXEC),
+    entry!(NoOp => R_LARCH_TLS_IE_PC_HI20, Descriptor(0), to_initial_exec!(0)),
 ];
 
 static TLS_DESC_PC_LO12: &[LoongArchEntry] = &[
-    entry!(LowToOri => R_LARCH_TLS_LE_LO12, AskedFor::Descriptor(4), TO_LOCAL_EXEC),
-    entry!(AddiToLd => R_LARCH_TLS_IE_PC_LO12, AskedFor::Descriptor(4), to_initial_exec!(4)),
+    entry!(LowToOri => R_LARCH_TLS_LE_LO12, Descriptor(4), TO_LOCAL_EXEC),
+    entry!(AddiToLd => R_LARCH_TLS_IE_PC_LO12, Descriptor(4), to_initial_exec!(4)),
 ];
 
 static TLS_DESC_LD: &[LoongArchEntry] = &[
-    entry!(ReplaceWithNop => R_LARCH_NONE, AskedFor::Descriptor(8), TO_LOCAL_EXEC),
-    entry!(ReplaceWithNop => R_LARCH_NONE, AskedFor::Descriptor(8), to_initial_exec!(8)),
+    entry!(ReplaceWithNop => R_LARCH_NONE, Descriptor(8), TO_LOCAL_EXEC),
+    entry!(ReplaceWithNop => R_LARCH_NONE, Descriptor(8), to_initial_exec!(8)),
 ];
 
 static TLS_DESC_CALL: &[LoongArchEntry] = &[
-    entry!(ReplaceWithNop => R_LARCH_NONE, AskedFor::Descriptor(12), TO_LOCAL_EXEC),
-    entry!(ReplaceWithNop => R_LARCH_NONE, AskedFor::Descriptor(12), to_initial_exec!(12)),
+    entry!(ReplaceWithNop => R_LARCH_NONE, Descriptor(12), TO_LOCAL_EXEC),
+    entry!(ReplaceWithNop => R_LARCH_NONE, Descriptor(12), to_initial_exec!(12)),
 ];
 
-static TLS_LE_HI20_R: &[LoongArchEntry] = &[
-    entry!(Delete => R_LARCH_NONE, AskedFor::Lu12i, BY_LOW_PART),
-];
+static TLS_LE_HI20_R: &[LoongArchEntry] = &[entry!(Delete => R_LARCH_NONE, Lu12i, BY_LOW_PART)];
 
-static TLS_LE_ADD_R: &[LoongArchEntry] = &[
-    entry!(Delete => R_LARCH_NONE, AskedFor::AddTp, BY_LOW_PART),
-];
+static TLS_LE_ADD_R: &[LoongArchEntry] = &[entry!(Delete => R_LARCH_NONE, AddTp, BY_LOW_PART)];
 
 static TLS_LE_LO12_R: &[LoongArchEntry] = &[
-    entry!(BaseToTp => R_LARCH_TLS_LE_LO12_R, AskedFor::OfRewrite, BY_LOW_PART),
+    entry!(BaseToTp => R_LARCH_TLS_LE_LO12_R, OfRewrite, BY_LOW_PART),
 ];
 
 static OTHERS: &[LoongArchEntry] = &[];
