@@ -1,6 +1,6 @@
 //! LoongArch: which rewrite a linker chooses for a relocation.
 
-ghost use Rattle.std.specs.Prelude.{◌↔◌, IsTrue};
+ghost use Rattle.std.specs.Prelude.{◌↔◌, ◌≤◌, IsTrue, length};
 ghost use Rattle.linker_base.specs.Rewrite.{CanRewrite};
 ghost use Rattle.linker_elf.specs.Inner.ChoiceTables.{IsTableOf};
 ghost use Rattle.linker_elf.specs.Originals.{HasWord};
@@ -222,7 +222,8 @@ const TO_SHORT_LOCAL_EXEC: Conditions<LoongArch64Relocation> =
 const BY_LOW_PART: Conditions<LoongArch64Relocation> =
     conditions!(MARKED, None, Within R_LARCH_TLS_LE_LO12_R SIGNED_12, 0);
 
-type LoongArchEntry = ChoiceEntry<AskedFor, RelaxationKind, LoongArch64Relocation>;
+/// An entry of the table.
+pub type LoongArchEntry = ChoiceEntry<AskedFor, RelaxationKind, LoongArch64Relocation>;
 
 static GOT_PC_HI20: &[LoongArchEntry] = &[
     entry!(PcalaToPcaddi => R_LARCH_PCREL20_S2, Load(0), bound_by_pcaddi!(0)),
@@ -287,8 +288,9 @@ static OTHERS: &[LoongArchEntry] = &[];
 
 /// The entries of a relocation.
 #[inline(always)]
-fn entries(name: LoongArch64Relocation) -> &'static [LoongArchEntry]
-    ensures { IsTableOf is_asked_by (IsAskedFor name) result.now (loongarch_entries name) }
+pub fn entries(name: LoongArch64Relocation) -> &'static [LoongArchEntry]
+    ensures table { IsTableOf is_asked_by (IsAskedFor name) result.now (loongarch_entries name) }
+    ensures few { length result.now ≤ 5 }
 {
     match name {
         LoongArch64Relocation::R_LARCH_GOT_PC_HI20 => GOT_PC_HI20,
@@ -307,6 +309,40 @@ fn entries(name: LoongArch64Relocation) -> &'static [LoongArchEntry]
         LoongArch64Relocation::R_LARCH_TLS_LE_LO12_R => TLS_LE_LO12_R,
         _ => OTHERS,
     }
+}
+
+/// The choice of the first entry that applies.
+#[inline(always)]
+fn first(
+    name: LoongArch64Relocation,
+    section: &[u8],
+    offset: u64,
+    facts: &LinkFacts,
+) -> Choice<RelaxationKind, LoongArch64Relocation>
+    ensures chosen { IsLoongArchChoice name section.now offset facts.now result }
+    ensures matches { loongarch_matches result.kind section.now offset }
+    ensures rewritable { CanRewrite (loongarch_rewrite result.kind) section.now offset }
+{
+    let unchanged = Choice {
+        kind: RelaxationKind::NoOp,
+        relocation: name,
+    };
+    first_entry(entries(name), section, offset, facts, unchanged)
+}
+
+/// The same, by each name alone: so the compiler knows its entries.
+macro_rules! first_of {
+    ($name:expr, $section:expr, $offset:expr, $facts:expr; $($known:ident)+) => {
+        match $name {
+            $(LoongArch64Relocation::$known => {
+                first(LoongArch64Relocation::$known, $section, $offset, $facts)
+            })+
+            _ => Choice {
+                kind: RelaxationKind::NoOp,
+                relocation: $name,
+            },
+        }
+    };
 }
 
 /// Which rewrite a linker may make of the instruction or the pair at a relocation's offset, and the
@@ -396,11 +432,13 @@ pub fn choose(
     ensures matches { loongarch_matches result.kind section.now offset }
     ensures rewritable { CanRewrite (loongarch_rewrite result.kind) section.now offset }
 {
-    let unchanged = Choice {
-        kind: RelaxationKind::NoOp,
-        relocation: name,
-    };
-    first_entry(entries(name), section, offset, facts, unchanged)
+    first_of!(
+        name, section, offset, facts;
+        R_LARCH_GOT_PC_HI20 R_LARCH_GOT_PC_LO12 R_LARCH_PCALA_HI20 R_LARCH_PCALA_LO12 R_LARCH_CALL36
+        R_LARCH_TLS_IE_PC_HI20 R_LARCH_TLS_IE_PC_LO12 R_LARCH_TLS_DESC_PC_HI20
+        R_LARCH_TLS_DESC_PC_LO12 R_LARCH_TLS_DESC_LD R_LARCH_TLS_DESC_CALL R_LARCH_TLS_LE_HI20_R
+        R_LARCH_TLS_LE_ADD_R R_LARCH_TLS_LE_LO12_R
+    )
 }
 
 /// With the same facts, except that each has its own place, both relocations of a pair are

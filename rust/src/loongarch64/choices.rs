@@ -191,7 +191,8 @@ const TO_SHORT_LOCAL_EXEC: Conditions<LoongArch64Relocation> =
 const BY_LOW_PART: Conditions<LoongArch64Relocation> =
     conditions!(MARKED, None, Within R_LARCH_TLS_LE_LO12_R SIGNED_12, 0);
 
-type LoongArchEntry = ChoiceEntry<AskedFor, RelaxationKind, LoongArch64Relocation>;
+/// An entry of the table.
+pub type LoongArchEntry = ChoiceEntry<AskedFor, RelaxationKind, LoongArch64Relocation>;
 
 static GOT_PC_HI20: &[LoongArchEntry] = &[
     entry!(PcalaToPcaddi => R_LARCH_PCREL20_S2, Load(0), bound_by_pcaddi!(0)),
@@ -255,8 +256,9 @@ static TLS_LE_LO12_R: &[LoongArchEntry] = &[
 static OTHERS: &[LoongArchEntry] = &[];
 
 /// The entries of a relocation.
+#[must_use]
 #[inline(always)]
-fn entries(name: LoongArch64Relocation) -> &'static [LoongArchEntry] {
+pub fn entries(name: LoongArch64Relocation) -> &'static [LoongArchEntry] {
     match name {
         LoongArch64Relocation::R_LARCH_GOT_PC_HI20 => GOT_PC_HI20,
         LoongArch64Relocation::R_LARCH_GOT_PC_LO12 => GOT_PC_LO12,
@@ -274,6 +276,36 @@ fn entries(name: LoongArch64Relocation) -> &'static [LoongArchEntry] {
         LoongArch64Relocation::R_LARCH_TLS_LE_LO12_R => TLS_LE_LO12_R,
         _ => OTHERS,
     }
+}
+
+/// The choice of the first entry that applies.
+#[inline(always)]
+fn first(
+    name: LoongArch64Relocation,
+    section: &[u8],
+    offset: u64,
+    facts: &LinkFacts,
+) -> Choice<RelaxationKind, LoongArch64Relocation> {
+    let unchanged = Choice {
+        kind: RelaxationKind::NoOp,
+        relocation: name,
+    };
+    first_entry(entries(name), section, offset, facts, unchanged)
+}
+
+/// The same, by each name alone: so the compiler knows its entries.
+macro_rules! first_of {
+    ($name:expr, $section:expr, $offset:expr, $facts:expr; $($known:ident)+) => {
+        match $name {
+            $(LoongArch64Relocation::$known => {
+                first(LoongArch64Relocation::$known, $section, $offset, $facts)
+            })+
+            _ => Choice {
+                kind: RelaxationKind::NoOp,
+                relocation: $name,
+            },
+        }
+    };
 }
 
 /// Which rewrite a linker may make of the instruction or the pair at a relocation's offset, and the
@@ -360,11 +392,13 @@ pub fn choose(
     offset: u64,
     facts: &LinkFacts,
 ) -> Choice<RelaxationKind, LoongArch64Relocation> {
-    let unchanged = Choice {
-        kind: RelaxationKind::NoOp,
-        relocation: name,
-    };
-    first_entry(entries(name), section, offset, facts, unchanged)
+    first_of!(
+        name, section, offset, facts;
+        R_LARCH_GOT_PC_HI20 R_LARCH_GOT_PC_LO12 R_LARCH_PCALA_HI20 R_LARCH_PCALA_LO12 R_LARCH_CALL36
+        R_LARCH_TLS_IE_PC_HI20 R_LARCH_TLS_IE_PC_LO12 R_LARCH_TLS_DESC_PC_HI20
+        R_LARCH_TLS_DESC_PC_LO12 R_LARCH_TLS_DESC_LD R_LARCH_TLS_DESC_CALL R_LARCH_TLS_LE_HI20_R
+        R_LARCH_TLS_LE_ADD_R R_LARCH_TLS_LE_LO12_R
+    )
 }
 
 /// With the same facts, except that each has its own place, both relocations of a pair are
