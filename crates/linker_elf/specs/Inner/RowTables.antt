@@ -5,6 +5,9 @@ use Rattle.linker_elf.specs.Bounds.{least_within, last_within}
 use Rattle.linker_elf.specs.Numbers.{numbers_of}
 use Rattle.linker_elf.specs.Reach.{reach_of}
 use Rattle.linker_elf.specs.Relocate.{is_supported, window_len}
+use Rattle.linker_elf.specs.declared.elf.RelocationKind.{RelocationKind}
+use Rattle.linker_elf.specs.declared.elf.RelocationKind.TheVariants.{Alignment}
+use Rattle.linker_elf.specs.declared.elf.RelocationKind.TheVariants.{None as NoValue}
 use Rattle.linker_elf.specs.declared.elf.RelocationKindInfo.{RelocationKindInfo}
 use Rattle.linker_elf.specs.declared.elf.rows.TableRow.{TableRow}
 use Rattle.linker_elf.specs.declared.elf.rows.WriteTests.{WriteTests}
@@ -61,6 +64,15 @@ info_in (Some entry) = Some (info_of entry)
 abbrev pub raw_info_in : Option TableRow → Option RelocationKindInfo
 raw_info_in None = None
 raw_info_in (Some entry) = if entry.is_own then None else Some (info_of entry)
+
+-- the kind that the crate `linker-utils` has in LoongArch's rows: it has none for alignments
+abbrev pub raw_kind : RelocationKind → RelocationKind
+raw_kind Alignment = NoValue
+raw_kind kind = kind
+
+abbrev pub with_raw_kind : Option RelocationKindInfo → Option RelocationKindInfo
+with_raw_kind None = None
+with_raw_kind (Some row) = Some (record row { kind = raw_kind row.kind })
 
 abbrev pub is_own_in : Option TableRow → Bool
 is_own_in None = false
