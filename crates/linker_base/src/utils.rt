@@ -21,7 +21,10 @@ pub fn u32_from_slice(bytes: &[u8]) -> u32
     requires { 4 ≤ length bytes.now }
     ensures { result ≡ from_le_bytes w32 bytes.now }
 {
-    u32::from_le_bytes([bytes[0], bytes[1], bytes[2], bytes[3]])
+    // a copy of a known length is one load
+    let mut word = [0u8; 4];
+    word.copy_from_slice(&bytes[..4]);
+    u32::from_le_bytes(word)
 }
 
 /// The first eight bytes as a little-endian number.
@@ -30,9 +33,9 @@ pub fn u64_from_slice(bytes: &[u8]) -> u64
     requires { 8 ≤ length bytes.now }
     ensures { result ≡ from_le_bytes w64 bytes.now }
 {
-    u64::from_le_bytes([
-        bytes[0], bytes[1], bytes[2], bytes[3], bytes[4], bytes[5], bytes[6], bytes[7],
-    ])
+    let mut word = [0u8; 8];
+    word.copy_from_slice(&bytes[..8]);
+    u64::from_le_bytes(word)
 }
 
 /// ORs the mask into the first bytes of `dest`. The following bytes are unchanged.

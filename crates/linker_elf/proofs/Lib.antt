@@ -12,6 +12,7 @@ pub mod LoongArchNumbers
 pub mod LoongArchSequences
 pub mod MovedBits
 pub mod Placed
+pub mod PlainRows
 pub mod Ppc64Forms
 pub mod Ppc64Pairs
 pub mod Reached

@@ -3,7 +3,7 @@
 use Rattle.std.proofs.Common.{◌≡◌, refl, subst, sym, slice_index_or, ap, Option, Some, None, IfSome, Bool, true, false, if◌then◌else◌}
 use denote.Enum.Declared.{tag_of}
 use Rattle.linker_elf.specs.Agrees.{RowFits}
-use Rattle.linker_elf.specs.Inner.RowTables.{raw_info_in, IsEntryOf, IsSound}
+use Rattle.linker_elf.specs.Inner.RowTables.{raw_info_in, with_raw_kind, IsEntryOf, IsSound}
 use Rattle.linker_elf.specs.declared.elf.RelocationKindInfo.{RelocationKindInfo}
 use Rattle.linker_elf.specs.declared.elf.rows.TableRow.{TableRow}
 use Rattle.linker_elf.specs.AArch64Relocations.{aarch64_row}
@@ -16,7 +16,7 @@ use Rattle.linker_elf.specs.contracts.riscv64.relocations.RiscVRelocation as ris
 use Rattle.linker_elf.specs.declared.riscv64.relocations.TheConstants as riscv64_table
 use Rattle.linker_elf.specs.declared.riscv64.relocations.RiscVRelocation.{RiscVRelocation}
 use Rattle.linker_elf.specs.declared.riscv64.relocations.RiscVRelocation.TheVariants.{R_RISCV_NONE}
-use Rattle.linker_elf.specs.LoongArchRelocations.{loongarch_row, loongarch_raw_row, raw_name}
+use Rattle.linker_elf.specs.LoongArchRelocations.{loongarch_row, loongarch_raw_row}
 use Rattle.linker_elf.specs.contracts.loongarch64.relocations.LoongArch64Relocation as loongarch64
 use Rattle.linker_elf.specs.declared.loongarch64.relocations.TheConstants as loongarch64_table
 use Rattle.linker_elf.specs.declared.loongarch64.relocations.LoongArch64Relocation.{LoongArch64Relocation}
@@ -53,7 +53,7 @@ loongarch_rows R_LARCH_NONE = record { row_is = refl; entry_is = refl }
 loongarch_rows name = record { row_is = refl; entry_is = refl }
 
 pub loongarch_raw_rows : (name : LoongArch64Relocation)
-    → raw_info_in (slice_index_or loongarch64_table.ROWS.now (tag_of loongarch64.the_type (raw_name name)) None)
+    → with_raw_kind (raw_info_in (slice_index_or loongarch64_table.ROWS.now (tag_of loongarch64.the_type name) None))
     ≡ loongarch_raw_row name
 loongarch_raw_rows R_LARCH_NONE = refl
 loongarch_raw_rows name = refl
@@ -93,3 +93,8 @@ pub unless : (P : RelocationKindInfo → Type 0) (is : Bool) (row : Option Reloc
     → IfSome row P → IfSome (if is then None else row) P
 unless P true row holds = tt
 unless P false row holds = holds
+
+-- another kind changes no bits
+pub raw_kind_fits : (row : Option RelocationKindInfo) → IfSome row RowFits → IfSome (with_raw_kind row) RowFits
+raw_kind_fits None fits = tt
+raw_kind_fits (Some row) fits = fits

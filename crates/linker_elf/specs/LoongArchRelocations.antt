@@ -215,12 +215,7 @@ is_own r.R_LARCH_TLS_GD_PCREL20_S2 = true
 is_own r.R_LARCH_TLS_DESC_PCREL20_S2 = true
 is_own name = false
 
--- the name whose row it has for a name: its `R_LARCH_ALIGN` has no kind of its own
-abbrev pub raw_name : LoongArch64Relocation → LoongArch64Relocation
-raw_name r.R_LARCH_ALIGN = r.R_LARCH_RELAX
-raw_name name = name
-
--- the rows without those, and with that of no kind
+-- the rows without those; its `R_LARCH_ALIGN` has no kind of its own
 abbrev pub loongarch_raw_row : LoongArch64Relocation → Option RelocationKindInfo
 loongarch_raw_row r.R_LARCH_ALIGN = Some (bytes_row NoValue 0)
 loongarch_raw_row name = if is_own name then None else loongarch_row name

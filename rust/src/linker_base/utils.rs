@@ -20,7 +20,10 @@ use bstr::ByteSlice;
 #[inline]
 pub fn u32_from_slice(bytes: &[u8]) -> u32 {
     debug_assert!(4 <= bytes.len());
-    u32::from_le_bytes([bytes[0], bytes[1], bytes[2], bytes[3]])
+    // a copy of a known length is one load
+    let mut word = [0u8; 4];
+    word.copy_from_slice(&bytes[..4]);
+    u32::from_le_bytes(word)
 }
 
 /// The first eight bytes as a little-endian number.
@@ -33,9 +36,9 @@ pub fn u32_from_slice(bytes: &[u8]) -> u32 {
 #[inline]
 pub fn u64_from_slice(bytes: &[u8]) -> u64 {
     debug_assert!(8 <= bytes.len());
-    u64::from_le_bytes([
-        bytes[0], bytes[1], bytes[2], bytes[3], bytes[4], bytes[5], bytes[6], bytes[7],
-    ])
+    let mut word = [0u8; 8];
+    word.copy_from_slice(&bytes[..8]);
+    u64::from_le_bytes(word)
 }
 
 /// ORs the mask into the first bytes of `dest`. The following bytes are unchanged.

@@ -5,6 +5,7 @@ ghost use Rattle.std.specs.Prelude.{true, false, length, take, drop, replicate, 
 ghost use Rattle.std.specs.Int.{byte_len, from_le_bytes, w32};
 ghost use Rattle.linker_base.specs.Bits.{field};
 ghost use Rattle.linker_base.specs.Form.{window_of, BitsWritten, Fits};
+ghost use Rattle.linker_elf.specs.AArch64.{aarch64_form};
 ghost use Rattle.linker_elf.specs.Agrees.{AgreesBy, AgreesInReach};
 ghost use Rattle.linker_elf.specs.Elf.{relocation_form};
 ghost use Rattle.linker_elf.specs.LoongArch.{loongarch_form};
@@ -20,6 +21,7 @@ ghost use Rattle.linker_elf.specs.Relocate.{size_len};
 ghost use Rattle.linker_elf.specs.Relocate.{is_dq_form, number_placed, is_32_bit_move, is_call30};
 ghost use Rattle.linker_elf.specs.Relocate.{stays_movk, insn_at, is_low_jump, low_part};
 ghost use Rattle.linker_elf.specs.Relocate.{IsInWords, IsEncoded};
+ghost use Rattle.linker_elf.specs.Inner.RowTables.{is_over};
 
 use crate::elf::engine::{self, Run, Window, run};
 use crate::elf::{
@@ -102,9 +104,40 @@ fn number_over(kind: RelocationKind, len: usize, value: i64, dest: &[u8]) -> u64
     }
 }
 
-/// Writes whole bytes.
+/// Whether a relocation of whole bytes changes the existing number, rather than replacing it.
+#[inline(always)]
+fn is_over(kind: RelocationKind) -> bool
+    ensures { result ≡ is_over kind }
+{
+    matches!(
+        kind,
+        RelocationKind::AbsoluteAddition
+            | RelocationKind::AbsoluteSubtraction
+            | RelocationKind::AbsoluteSetWord6
+            | RelocationKind::AbsoluteAdditionWord6
+            | RelocationKind::AbsoluteSubtractionWord6
+    )
+}
+
+/// Writes whole bytes. Only 4 and 8 bytes of a value are written here, so that a caller saves no
+/// registers for the others.
 #[inline(always)]
 pub(crate) fn write_bytes(kind: RelocationKind, len: usize, value: i64, dest: &mut [u8])
+    requires short { len ≤ 8 }
+    requires room { len ≤ length dest.old }
+    ensures { dest.new ≡ low_bytes len (number_written kind value (number_of_bytes len dest.old)) ++
+        drop len dest.old }
+{
+    match len {
+        8 if !is_over(kind) => store(8, value.cast_unsigned(), dest),
+        4 if !is_over(kind) => store(4, value.cast_unsigned(), dest),
+        _ => write_number(kind, len, value, dest),
+    }
+}
+
+/// Writes whole bytes, whatever their number and the relocation's kind.
+#[inline(never)]
+pub(crate) fn write_number(kind: RelocationKind, len: usize, value: i64, dest: &mut [u8])
     requires short { len ≤ 8 }
     requires room { len ≤ length dest.old }
     ensures { dest.new ≡ low_bytes len (number_written kind value (number_of_bytes len dest.old)) ++
@@ -189,7 +222,7 @@ fn clear_loongarch(insn: LoongArch64Instruction, bits: BitRange, dest: &mut [u8]
 
 /// Writes bits of a number into an instruction.
 #[inline(always)]
-fn write_field(insn: RelocationInstruction, bits: BitRange, value: i64, dest: &mut [u8])
+pub(crate) fn write_field(insn: RelocationInstruction, bits: BitRange, value: i64, dest: &mut [u8])
     requires room { byte_len (relocation_form insn).window ≤ length dest.old }
     requires some { bits.start < bits.end }
     requires inside { bits.end ≤ 64 }
@@ -221,6 +254,20 @@ fn write_field(insn: RelocationInstruction, bits: BitRange, value: i64, dest: &m
             insn.write_to_value(number, negative, dest);
         }
     }
+}
+
+/// Writes bits of a number into an instruction of AArch64. By itself: with it LLVM compiles the
+/// match of the architectures in `rows::write_plain` to a jump.
+#[inline(never)]
+pub(crate) fn write_aarch64(insn: AArch64Instruction, bits: BitRange, value: i64, dest: &mut [u8])
+    requires room { byte_len (aarch64_form insn).window ≤ length dest.old }
+    requires some { bits.start < bits.end }
+    requires inside { bits.end ≤ 64 }
+    requires fits { Fits (aarch64_form insn) (bits_taken bits value)
+        (window_of (aarch64_form insn) dest.old) }
+    ensures { InstructionWritten (RelocationInstruction.AArch64 insn) bits value dest.old dest.new }
+{
+    write_field(RelocationInstruction::AArch64(insn), bits, value, dest);
 }
 
 /// Whether an instruction is a MOVK, where a row is for MOVN and MOVZ.

@@ -7,7 +7,8 @@ ghost use Rattle.linker_elf.specs.ElfNames.{IsNameOf, code_of, text_of};
 ghost use Rattle.linker_elf.specs.Readings.{LoongArchRowReadsNoOther};
 ghost use Rattle.linker_elf.specs.LoongArchRelocations.{loongarch_relocation, loongarch_name};
 ghost use Rattle.linker_elf.specs.LoongArchRelocations.{loongarch_row, loongarch_uleb128_role};
-ghost use Rattle.linker_elf.specs.LoongArchRelocations.{loongarch_raw_row, raw_name};
+ghost use Rattle.linker_elf.specs.LoongArchRelocations.{loongarch_raw_row};
+ghost use Rattle.linker_elf.specs.Inner.RowTables.{raw_kind, with_raw_kind};
 ghost use Rattle.linker_elf.specs.contracts.loongarch64.relocations.LoongArch64Relocation as names;
 
 use crate::elf::choice_table::RelocationName;
@@ -15,7 +16,7 @@ use crate::elf::rows::{
     TableRow, code_of_name, index_of_name, name_of_code, raw_info_in, row, row_in, table,
     text_of_name,
 };
-use crate::elf::{RelocationKindInfo, Row, SIZE_2KB, Uleb128Role};
+use crate::elf::{RelocationKind, RelocationKindInfo, Row, SIZE_2KB, Uleb128Role};
 use std::fmt;
 
 /// The relocations of LoongArch, by their names in the LoongArch ELF psABI, "Relocation Types".
@@ -309,15 +310,29 @@ impl RelocationName for LoongArch64Relocation {
     }
 }
 
-/// The name whose row the crate `linker-utils` has for a name: there `R_LARCH_ALIGN` has no kind of
-/// its own.
+/// The kind that the crate `linker-utils` has for a row's kind: there `R_LARCH_ALIGN` has no kind
+/// of its own.
 #[inline(always)]
-fn raw_name(name: LoongArch64Relocation) -> LoongArch64Relocation
-    ensures { result ≡ raw_name name }
+fn raw_kind(kind: RelocationKind) -> RelocationKind
+    ensures { result ≡ raw_kind kind }
 {
-    match name {
-        LoongArch64Relocation::R_LARCH_ALIGN => LoongArch64Relocation::R_LARCH_RELAX,
-        _ => name,
+    match kind {
+        RelocationKind::Alignment => RelocationKind::None,
+        _ => kind,
+    }
+}
+
+/// The row with that kind. Not by the name: LLVM compiles a match of it to a jump by the code.
+#[inline(always)]
+fn with_raw_kind(row: Option<RelocationKindInfo>) -> Option<RelocationKindInfo>
+    ensures { result ≡ with_raw_kind row }
+{
+    match row {
+        Some(row) => Some(RelocationKindInfo {
+            kind: raw_kind(row.kind),
+            ..row
+        }),
+        None => None,
     }
 }
 
@@ -333,5 +348,5 @@ pub fn relocation_type_from_raw(name: LoongArch64Relocation) -> Option<Relocatio
     ensures others { IfSome result (LoongArchRowReadsNoOther name) }
     ensures fits { IfSome result RowFits }
 {
-    raw_info_in(&ROWS[index(raw_name(name))])
+    with_raw_kind(raw_info_in(&ROWS[index(name)]))
 }

@@ -71,9 +71,33 @@ fn number_over(kind: RelocationKind, len: usize, value: i64, dest: &[u8]) -> u64
     }
 }
 
-/// Writes whole bytes.
+/// Whether a relocation of whole bytes changes the existing number, rather than replacing it.
+#[inline(always)]
+fn is_over(kind: RelocationKind) -> bool {
+    matches!(
+        kind,
+        RelocationKind::AbsoluteAddition
+            | RelocationKind::AbsoluteSubtraction
+            | RelocationKind::AbsoluteSetWord6
+            | RelocationKind::AbsoluteAdditionWord6
+            | RelocationKind::AbsoluteSubtractionWord6
+    )
+}
+
+/// Writes whole bytes. Only 4 and 8 bytes of a value are written here, so that a caller saves no
+/// registers for the others.
 #[inline(always)]
 pub(crate) fn write_bytes(kind: RelocationKind, len: usize, value: i64, dest: &mut [u8]) {
+    match len {
+        8 if !is_over(kind) => store(8, value.cast_unsigned(), dest),
+        4 if !is_over(kind) => store(4, value.cast_unsigned(), dest),
+        _ => write_number(kind, len, value, dest),
+    }
+}
+
+/// Writes whole bytes, whatever their number and the relocation's kind.
+#[inline(never)]
+pub(crate) fn write_number(kind: RelocationKind, len: usize, value: i64, dest: &mut [u8]) {
     let number = number_over(kind, len, value, dest);
     store(len, number, dest);
 }
@@ -129,7 +153,7 @@ fn clear_loongarch(insn: LoongArch64Instruction, bits: BitRange, dest: &mut [u8]
 
 /// Writes bits of a number into an instruction.
 #[inline(always)]
-fn write_field(insn: RelocationInstruction, bits: BitRange, value: i64, dest: &mut [u8]) {
+pub(crate) fn write_field(insn: RelocationInstruction, bits: BitRange, value: i64, dest: &mut [u8]) {
     let number = taken_bits(bits, value);
     let negative = value < 0;
     match insn {
@@ -154,6 +178,13 @@ fn write_field(insn: RelocationInstruction, bits: BitRange, value: i64, dest: &m
             insn.write_to_value(number, negative, dest);
         }
     }
+}
+
+/// Writes bits of a number into an instruction of AArch64. By itself: with it LLVM compiles the
+/// match of the architectures in `rows::write_plain` to a jump.
+#[inline(never)]
+pub(crate) fn write_aarch64(insn: AArch64Instruction, bits: BitRange, value: i64, dest: &mut [u8]) {
+    write_field(RelocationInstruction::AArch64(insn), bits, value, dest);
 }
 
 /// Whether an instruction is a MOVK, where a row is for MOVN and MOVZ.

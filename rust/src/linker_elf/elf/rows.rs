@@ -1,10 +1,12 @@
 // Made by tools/erase of crates/linker_elf/src/elf/rows.rt.
 //! Rows of the relocation tables, and the macros that make them from each architecture's list.
 
-use crate::linker_elf::elf::relocate::{is_encoded, write_bits, write_bytes};
+use crate::linker_elf::elf::relocate::{
+    is_encoded, write_aarch64, write_bits, write_bytes, write_field, write_number,
+};
 use crate::linker_elf::elf::{
-    AllowedRange, Bias, Operands, PageMask, RelocateError, RelocationKind, RelocationKindInfo,
-    RelocationNumbers, RelocationSize,
+    AllowedRange, Bias, Operands, PageMask, RelocateError, RelocationInstruction, RelocationKind,
+    RelocationKindInfo, RelocationNumbers, RelocationSize,
 };
 
 /// An entry of a table: a row, the row in numbers, and what a write of it tests. Its range,
@@ -25,6 +27,12 @@ pub(crate) struct TableRow {
 pub(crate) struct WriteTests {
     /// Whether the row can be written.
     pub(crate) is_supported: bool,
+    /// Whether a write takes every value within the row's reach that is a multiple of its
+    /// alignment, and writes it in the row's form, whatever instruction there is. The alignment is
+    /// a power of two up to 16.
+    pub(crate) takes_all: bool,
+    /// The alignment less 1: the bits that are 0 in its multiples, if it is a power of two.
+    pub(crate) low_bits: u8,
     /// How many bytes a write writes.
     pub(crate) window: usize,
     /// The least value within the row's reach; `i64::MAX` if there is none.
@@ -182,7 +190,59 @@ impl Row {
     /// Writes a value, as `RelocationKindInfo::write` says, with its errors.
     #[inline(always)]
     pub fn write(&self, value: i64, dest: &mut [u8]) -> Result<(), RelocateError> {
-        self.info().write_tested(&self.entry.tests, value, dest)
+        write_row(self.entry, value, dest)
+    }
+}
+
+/// Whether a value is a multiple of an alignment, which is `low_bits` plus 1. Only the contract
+/// uses `_alignment`.
+#[inline(always)]
+fn has_no_bits(low_bits: u8, value: i64, _alignment: u64) -> bool {
+    value.cast_unsigned() & low_bits as u64 == 0
+}
+
+/// `Row::write`, of the row of an entry. Only rows that don't take all values look at the
+/// instruction.
+#[inline(always)]
+fn write_row(entry: &'static TableRow, value: i64, dest: &mut [u8]) -> Result<(), RelocateError> {
+    let tests = &entry.tests;
+    if !tests.takes_all {
+        return write_looking(entry, value, dest);
+    }
+    if dest.len() < tests.window {
+        return Err(RelocateError::TooShort);
+    }
+    if !has_no_bits(tests.low_bits, value, entry.numbers.alignment) {
+        return Err(RelocateError::Misaligned);
+    }
+    if value < tests.least || tests.last < value {
+        return Err(RelocateError::OutOfReach);
+    }
+    match entry.size {
+        RelocationSize::ByteSize(len) => write_bytes(entry.kind, len as usize, value, dest),
+        RelocationSize::BitMasking { .. } => write_plain(entry, value, dest),
+    }
+    Ok(())
+}
+
+/// The same of any row. By itself, so that `write_row` is small.
+#[inline(never)]
+fn write_looking(entry: &'static TableRow, value: i64, dest: &mut [u8]) -> Result<(), RelocateError> {
+    Row::of(entry)
+        .info()
+        .write_tested(&entry.tests, value, dest)
+}
+
+/// Writes a value of a row that takes all. By itself and with few arguments, so that a caller saves
+/// no registers, and none is passed on the stack.
+#[inline(never)]
+fn write_plain(entry: &'static TableRow, value: i64, dest: &mut [u8]) {
+    match entry.size {
+        RelocationSize::ByteSize(len) => write_number(entry.kind, len as usize, value, dest),
+        RelocationSize::BitMasking { range, insn } => match insn {
+            RelocationInstruction::AArch64(insn) => write_aarch64(insn, range, value, dest),
+            _ => write_field(insn, range, value, dest),
+        },
     }
 }
 
@@ -442,6 +502,16 @@ macro_rules! is_supported {
     ($kind:ident, $size:tt) => { true };
 }
 
+/// Whether rows of a kind and a size take all values, whatever instruction there is: not those at
+/// which a word of DQ-form, a `jirl` or a MOVK may stand, nor those of `c.lui`.
+macro_rules! takes_all {
+    ($kind:ident, ($start:literal .. $end:literal Ppc64 :: Ds)) => { false };
+    (AbsoluteLowPart, ($start:literal .. $end:literal LoongArch64 :: Shift10)) => { false };
+    ($kind:ident, ($start:literal .. $end:literal AArch64 :: Movnz)) => { false };
+    ($kind:ident, ($start:literal .. $end:literal RiscV :: CluiType)) => { false };
+    ($kind:ident, $size:tt) => { $crate::linker_elf::elf::rows::is_supported!($kind, $size) };
+}
+
 /// How many bytes a row writes.
 macro_rules! window {
     (($bytes:literal bytes)) => { $bytes };
@@ -555,6 +625,8 @@ macro_rules! row {
             },
             tests: $crate::linker_elf::elf::rows::WriteTests {
                 is_supported: $crate::linker_elf::elf::rows::is_supported!($kind, $size),
+                takes_all: $crate::linker_elf::elf::rows::takes_all!($kind, $size),
+                low_bits: $crate::linker_elf::elf::rows::number!(alignment $($alignment)?) - 1,
                 window: $crate::linker_elf::elf::rows::window!($size),
                 least: $least,
                 last: $last,
@@ -575,5 +647,6 @@ pub(crate) use number;
 pub(crate) use row;
 pub(crate) use size;
 pub(crate) use table;
+pub(crate) use takes_all;
 pub(crate) use text_of_name;
 pub(crate) use window;

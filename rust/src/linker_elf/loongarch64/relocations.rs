@@ -6,7 +6,7 @@ use crate::linker_elf::elf::rows::{
     TableRow, code_of_name, index_of_name, name_of_code, raw_info_in, row, row_in, table,
     text_of_name,
 };
-use crate::linker_elf::elf::{RelocationKindInfo, Row, SIZE_2KB, Uleb128Role};
+use crate::linker_elf::elf::{RelocationKind, RelocationKindInfo, Row, SIZE_2KB, Uleb128Role};
 use core::fmt;
 
 /// The relocations of LoongArch, by their names in the LoongArch ELF psABI, "Relocation Types".
@@ -289,13 +289,25 @@ impl RelocationName for LoongArch64Relocation {
     }
 }
 
-/// The name whose row the crate `linker-utils` has for a name: there `R_LARCH_ALIGN` has no kind of
-/// its own.
+/// The kind that the crate `linker-utils` has for a row's kind: there `R_LARCH_ALIGN` has no kind
+/// of its own.
 #[inline(always)]
-const fn raw_name(name: LoongArch64Relocation) -> LoongArch64Relocation {
-    match name {
-        LoongArch64Relocation::R_LARCH_ALIGN => LoongArch64Relocation::R_LARCH_RELAX,
-        _ => name,
+const fn raw_kind(kind: RelocationKind) -> RelocationKind {
+    match kind {
+        RelocationKind::Alignment => RelocationKind::None,
+        _ => kind,
+    }
+}
+
+/// The row with that kind. Not by the name: LLVM compiles a match of it to a jump by the code.
+#[inline(always)]
+const fn with_raw_kind(row: Option<RelocationKindInfo>) -> Option<RelocationKindInfo> {
+    match row {
+        Some(row) => Some(RelocationKindInfo {
+            kind: raw_kind(row.kind),
+            ..row
+        }),
+        None => None,
     }
 }
 
@@ -306,5 +318,5 @@ const fn raw_name(name: LoongArch64Relocation) -> LoongArch64Relocation {
 #[must_use]
 #[inline(always)]
 pub const fn relocation_type_from_raw(name: LoongArch64Relocation) -> Option<RelocationKindInfo> {
-    raw_info_in(&ROWS[index(raw_name(name))])
+    with_raw_kind(raw_info_in(&ROWS[index(name)]))
 }

@@ -1,12 +1,13 @@
-use Rattle.std.proofs.Common.{◌∙◌, subst, sym, IfSome}
-use Rattle.linker_elf.specs.Agrees.{LoongArchRowAgrees}
+use Rattle.std.proofs.Common.{◌∙◌, ap, subst, sym, IfSome}
+use Rattle.linker_elf.specs.Agrees.{LoongArchRowAgrees, RowFits}
 use Rattle.linker_elf.specs.Readings.{LoongArchRowReadsNoOther}
-use Rattle.linker_elf.specs.LoongArchRelocations.{loongarch_raw_row, raw_name}
+use Rattle.linker_elf.specs.LoongArchRelocations.{loongarch_raw_row}
+use Rattle.linker_elf.specs.Inner.RowTables.{with_raw_kind}
 use Rattle.linker_elf.specs.declared.loongarch64.relocations.LoongArch64Relocation.{LoongArch64Relocation}
 use Rattle.linker_elf.specs.declared.loongarch64.relocations.LoongArch64Relocation.TheVariants as r
 use Rattle.linker_elf.proofs.Readings.{loongarch_reads_no_other}
 use Rattle.linker_elf.proofs.RowsAgree.{loongarch_rows as loongarch_agree}
-use Rattle.linker_elf.proofs.RowTables.{sound_from, loongarch_rows, loongarch_raw_rows}
+use Rattle.linker_elf.proofs.RowTables.{sound_from, loongarch_rows, loongarch_raw_rows, raw_kind_fits}
 use Rattle.linker_elf.proofs.RowsFit.{loongarch_fits}
 use Rattle.linker_elf.proofs.loongarch64.relocations.relocation_type_from_raw.Goals as goal
 
@@ -31,13 +32,12 @@ reads_no_other name = loongarch_reads_no_other name
 
 pub raw_info_in-requires : goal.raw_info_in-requires
 raw_info_in-requires c =
-    rw (c.index.ensures, c.raw_name.ensures)
-    (sound_from _ _ (loongarch_rows (raw_name c.args.name)) (loongarch_fits (raw_name c.args.name)))
+    rw c.index.ensures (sound_from _ _ (loongarch_rows c.args.name) (loongarch_fits c.args.name))
 
 pub returns-clause-row : goal.returns-clause-row
 returns-clause-row c =
-    c.raw_info_in.ensures.row
-    ∙ (rw (c.index.ensures, c.raw_name.ensures) (loongarch_raw_rows c.args.name))
+    c.with_raw_kind.ensures ∙ ap with_raw_kind c.raw_info_in.ensures.row
+    ∙ (rw c.index.ensures (loongarch_raw_rows c.args.name))
 
 pub returns-clause-agrees : goal.returns-clause-agrees
 returns-clause-agrees c =
@@ -48,3 +48,8 @@ pub returns-clause-others : goal.returns-clause-others
 returns-clause-others c =
     subst (λ row. IfSome row (LoongArchRowReadsNoOther c.args.name)) (sym (returns-clause-row c))
     (reads_no_other c.args.name)
+
+pub returns-clause-fits : goal.returns-clause-fits
+returns-clause-fits c =
+    subst (λ row. IfSome row RowFits) (sym c.with_raw_kind.ensures)
+    (raw_kind_fits c.raw_info_in.result c.raw_info_in.ensures.fits)

@@ -1,0 +1,167 @@
+-- Rows that take each multiple of their alignment within reach, whatever instruction there is.
+use Rattle.std.proofs.Common.{◌≡◌, ℕ, ◌-◌, ◌*◌, ◌%◌, ◌^◌, ◌<◌, ◌≤◌, arith, true, List, ℤ, ◌≤ℤ◌, FitsSigned, length, nat_eq, bit_and, IsTrue, ◌&&◌, ◌||◌, subst, sym, ap, ◌∙◌, inl, inr}
+use Rattle.std.specs.Int.{w64, cast_unsigned}
+use Rattle.std.proofs.lemmas.Bool.{and_parts, eqb-true, or_cases}
+use Rattle.linker_base.specs.declared.bit_misc.BitRange.{BitRange}
+use Rattle.linker_elf.specs.Agrees.{RowFits}
+use Rattle.linker_elf.specs.Bounds.{least_within, last_within}
+use Rattle.linker_elf.specs.Reach.{reach_of}
+use Rattle.linker_elf.specs.Relocate.{InstructionWritten, IsWritten, IsAccepted, IsAligned, IsInUnits, IsInWords, IsMultiple, IsReached, IsEncoded, is_supported, window_len}
+use Rattle.linker_elf.specs.Inner.RowTables.{info_of, is_plain, is_unit, takes_all, tests_of, IsSound}
+use Rattle.linker_elf.specs.declared.aarch64.forms.AArch64Instruction.TheVariants.{Movnz}
+use Rattle.linker_elf.specs.declared.loongarch64.forms.LoongArch64Instruction.TheVariants.{Shift10}
+use Rattle.linker_elf.specs.declared.ppc64.forms.Ppc64Instruction.TheVariants.{Ds}
+use Rattle.linker_elf.specs.declared.riscv64.forms.RiscVInstruction.TheVariants.{CluiType}
+use Rattle.linker_elf.specs.declared.elf.RelocationInstruction.{RelocationInstruction}
+use Rattle.linker_elf.specs.declared.elf.RelocationInstruction.TheVariants.{RiscV, Ppc64, LoongArch64, AArch64}
+use Rattle.linker_elf.specs.declared.elf.RelocationKind.{RelocationKind}
+use Rattle.linker_elf.specs.declared.elf.RelocationKind.TheVariants.{AbsoluteLowPart}
+use Rattle.linker_elf.specs.declared.elf.RelocationKindInfo.{RelocationKindInfo}
+use Rattle.linker_elf.specs.declared.elf.RelocationSize.{RelocationSize}
+use Rattle.linker_elf.specs.declared.elf.RelocationSize.TheVariants.{ByteSize, BitMasking}
+use Rattle.linker_elf.specs.declared.elf.rows.TableRow.{TableRow}
+use Rattle.linker_elf.proofs.Reached.{from_least, reached_from, to_last}
+use Rattle.linker_elf.proofs.Taken.{is_multiple}
+
+-- ---- the alignment
+
+-- a number without the bits below a is a multiple of a
+abbrev pub Tells : ℤ → ℕ → ℕ → Type 0
+Tells v n a =
+    (IsTrue (nat_eq (bit_and n (a - 1)) 0) → IsAligned a v)
+    × (IsAligned a v → IsTrue (nat_eq (bit_and n (a - 1)) 0))
+
+by_shift : (v : ℤ) (n k a : ℕ) → FitsSigned w64 v → n ≡ cast_unsigned w64 v → k < 64
+    → a ≡ 1 * 2 ^ k % 18446744073709551616 → Tells v n a
+by_shift v n k a small is most unit =
+    subst (λ x. (IsTrue (nat_eq (bit_and n (x - 1)) 0) → IsAligned a v)
+    × (IsAligned a v → IsTrue (nat_eq (bit_and n (x - 1)) 0))) (sym unit)
+    (is_multiple v n a k small is most unit)
+
+pub unit_tells : (v : ℤ) (n a : ℕ) → FitsSigned w64 v → n ≡ cast_unsigned w64 v → is_unit a ≡ true
+    → Tells v n a
+unit_tells v n a small is unit =
+    elim (or_cases (nat_eq a 1) (nat_eq a 2 || (nat_eq a 4 || (nat_eq a 8 || nat_eq a 16))) unit) [
+      | inl e ↦ by_shift v n 0 a small is (omega arith) (eqb-true a 1 e)
+      | inr r ↦ elim (or_cases (nat_eq a 2) (nat_eq a 4 || (nat_eq a 8 || nat_eq a 16)) r) [
+        | inl e ↦ by_shift v n 1 a small is (omega arith) (eqb-true a 2 e)
+        | inr r ↦ elim (or_cases (nat_eq a 4) (nat_eq a 8 || nat_eq a 16) r) [
+          | inl e ↦ by_shift v n 2 a small is (omega arith) (eqb-true a 4 e)
+          | inr r ↦ elim (or_cases (nat_eq a 8) (nat_eq a 16) r) [
+            | inl e ↦ by_shift v n 3 a small is (omega arith) (eqb-true a 8 e)
+            | inr e ↦ by_shift v n 4 a small is (omega arith) (eqb-true a 16 e)
+          ]
+        ]
+      ]
+    ]
+
+-- ---- the instruction
+
+-- it tests nothing of the value
+pub in_units : (size : RelocationSize) (kind : RelocationKind) (v : ℤ) (bytes : List ℕ)
+    → is_plain size kind ≡ true → IsInUnits size v bytes
+in_units (ByteSize n) kind v bytes plain = tt
+in_units (BitMasking bits (Ppc64 Ds)) kind v bytes plain = cc
+in_units (BitMasking bits (Ppc64 f)) kind v bytes plain = tt
+in_units (BitMasking bits (AArch64 f)) kind v bytes plain = tt
+in_units (BitMasking bits (RiscV f)) kind v bytes plain = tt
+in_units (BitMasking bits (LoongArch64 f)) kind v bytes plain = tt
+
+pub in_words : (size : RelocationSize) (kind : RelocationKind) (v : ℤ) (bytes : List ℕ)
+    → is_plain size kind ≡ true → IsInWords size kind v bytes
+in_words (ByteSize n) kind v bytes plain = tt
+in_words (BitMasking bits (LoongArch64 Shift10)) AbsoluteLowPart v bytes plain = cc
+in_words (BitMasking bits (LoongArch64 Shift10)) kind v bytes plain = λ jump. cc
+in_words (BitMasking bits (LoongArch64 f)) kind v bytes plain = λ jump. cc
+in_words (BitMasking bits (AArch64 f)) kind v bytes plain = λ jump. cc
+in_words (BitMasking bits (RiscV f)) kind v bytes plain = λ jump. cc
+in_words (BitMasking bits (Ppc64 f)) kind v bytes plain = λ jump. cc
+
+pub encoded : (size : RelocationSize) (kind : RelocationKind) (v : ℤ) → is_plain size kind ≡ true
+    → IsEncoded size v
+encoded (ByteSize n) kind v plain = tt
+encoded (BitMasking bits (RiscV CluiType)) kind v plain = cc
+encoded (BitMasking bits (RiscV f)) kind v plain = tt
+encoded (BitMasking bits (AArch64 f)) kind v plain = tt
+encoded (BitMasking bits (Ppc64 f)) kind v plain = tt
+encoded (BitMasking bits (LoongArch64 f)) kind v plain = tt
+
+-- and the bits are written in the row's form
+pub written : (bits : BitRange) (insn : RelocationInstruction) (kind : RelocationKind) (v : ℤ)
+    (before after : List ℕ) → is_plain (BitMasking bits insn) kind ≡ true
+    → InstructionWritten insn bits v before after → IsWritten (BitMasking bits insn) kind v before after
+written bits (AArch64 Movnz) kind v before after plain w = cc
+written bits (AArch64 f) kind v before after plain w = w
+written bits (LoongArch64 Shift10) AbsoluteLowPart v before after plain w = cc
+written bits (LoongArch64 Shift10) kind v before after plain w = w
+written bits (LoongArch64 f) kind v before after plain w = w
+written bits (RiscV f) kind v before after plain w = w
+written bits (Ppc64 f) kind v before after plain w = w
+
+-- ---- the row
+
+-- what such a row is
+pub record Takes (row : RelocationKindInfo) : Type 0 where
+  pub supported : is_supported row ≡ true
+  pub plain : is_plain row.size row.kind ≡ true
+  pub unit : is_unit row.alignment ≡ true
+
+pub takes : (row : RelocationKindInfo) → takes_all row ≡ true → Takes row
+takes row h =
+    let a = and_parts (is_supported row) (is_plain row.size row.kind && is_unit row.alignment) h in
+    let b = and_parts (is_plain row.size row.kind) (is_unit row.alignment) a.1 in
+    record { supported = a.0; plain = b.0; unit = b.1 }
+
+pub multiple : (row : RelocationKindInfo) (v : ℤ) (bytes : List ℕ) → takes_all row ≡ true
+    → IsAligned row.alignment v → IsMultiple row v bytes
+multiple row v bytes all aligned =
+    let t = takes row all in
+    (aligned, in_units row.size row.kind v bytes t.plain, in_words row.size row.kind v bytes t.plain)
+
+pub accepted : (row : RelocationKindInfo) (v : ℤ) (bytes : List ℕ) → FitsSigned w64 v → RowFits row
+    → takes_all row ≡ true → window_len row ≤ length bytes → IsAligned row.alignment v
+    → least_within (reach_of row) ≤ℤ v → v ≤ℤ last_within (reach_of row) → IsAccepted row v bytes
+accepted row v bytes small fits all long aligned low high =
+    let t = takes row all in
+    record {
+      supported = t.supported;
+      long = long;
+      aligned = multiple row v bytes all aligned;
+      reached = reached_from row v bytes small fits low high (encoded row.size row.kind v t.plain);
+    }
+
+-- ---- the entry of a table
+
+tests_are : (entry : TableRow) → IsSound entry → entry.tests ≡ tests_of (info_of entry)
+tests_are entry sound = ap (λ e. e.tests) sound.is
+
+pub all_by : (entry : TableRow) → IsSound entry → entry.tests.takes_all ≡ true
+    → takes_all (info_of entry) ≡ true
+all_by entry sound all = sym (ap (λ t. t.takes_all) (tests_are entry sound)) ∙ all
+
+pub long_by : (entry : TableRow) (bytes : List ℕ) → IsSound entry
+    → entry.tests.window ≤ length bytes → window_len (info_of entry) ≤ length bytes
+long_by entry bytes sound long =
+    subst (λ t. t.window ≤ length bytes) (tests_are entry sound) long
+
+pub accepted_by : (entry : TableRow) (v : ℤ) (bytes : List ℕ) → FitsSigned w64 v → IsSound entry
+    → entry.tests.takes_all ≡ true → entry.tests.window ≤ length bytes
+    → IsAligned entry.numbers.alignment v → entry.tests.least ≤ℤ v → v ≤ℤ entry.tests.last
+    → IsAccepted (info_of entry) v bytes
+accepted_by entry v bytes small sound all long aligned low high =
+    let is = tests_are entry sound in
+    accepted (info_of entry) v bytes small sound.fits (all_by entry sound all)
+    (long_by entry bytes sound long) aligned (subst (λ t. t.least ≤ℤ v) is low)
+    (subst (λ t. v ≤ℤ t.last) is high)
+
+pub least_by : (entry : TableRow) (v : ℤ) (bytes : List ℕ) → FitsSigned w64 v → IsSound entry
+    → IsReached (info_of entry) v bytes → entry.tests.least ≤ℤ v
+least_by entry v bytes small sound reached =
+    subst (λ t. t.least ≤ℤ v) (sym (tests_are entry sound))
+    (from_least (reach_of (info_of entry)) v small reached.0)
+
+pub last_by : (entry : TableRow) (v : ℤ) (bytes : List ℕ) → FitsSigned w64 v → IsSound entry
+    → IsReached (info_of entry) v bytes → v ≤ℤ entry.tests.last
+last_by entry v bytes small sound reached =
+    subst (λ t. v ≤ℤ t.last) (sym (tests_are entry sound))
+    (to_last (reach_of (info_of entry)) v small reached.0)

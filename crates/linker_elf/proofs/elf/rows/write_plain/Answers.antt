@@ -1,0 +1,38 @@
+use Rattle.std.proofs.Common.{◌≡◌, ap, ◌∙◌, subst, sym, true}
+use Rattle.std.specs.Int.{w64}
+use Rattle.std.proofs.lemmas.Int.{to_z-of_z}
+use Rattle.linker_elf.specs.Relocate.{InstructionWritten, IsWritten}
+use Rattle.linker_elf.specs.Inner.RowTables.{info_of, is_plain}
+use Rattle.linker_elf.specs.declared.elf.RelocationInstruction.TheVariants.{AArch64}
+use Rattle.linker_elf.specs.declared.elf.RelocationSize.TheVariants.{BitMasking}
+use Rattle.linker_elf.proofs.PlainRows.{takes, written}
+use Rattle.linker_elf.proofs.elf.rows.write_plain.Goals as goal
+
+pub returns-in-AArch64 : goal.returns-in-AArch64
+returns-in-AArch64 c =
+    let entry = c.args.entry.now in
+    let before = c.args.dest.now in
+    let after = c.write_aarch64.new.dest in
+    let bits = c.in-BitMasking.range in
+    let insn = AArch64 c.in-AArch64.insn in
+    let is : entry.size ≡ BitMasking bits insn = c.in-BitMasking.is ∙ ap (BitMasking bits) c.in-AArch64.is in
+    let plain = (takes (info_of entry) c.requires.takes).plain in
+    subst (λ s. IsWritten s entry.kind c.args.value before after) (sym is)
+    (written bits insn entry.kind c.args.value before after
+    (subst (λ s. is_plain s entry.kind ≡ true) is plain)
+    (subst (λ v. InstructionWritten insn bits v before after) (to_z-of_z w64 c.args.value c.ranges.value)
+    c.write_aarch64.ensures))
+
+pub returns-in_default : goal.returns-in_default
+returns-in_default c =
+    let entry = c.args.entry.now in
+    let before = c.args.dest.now in
+    let after = c.write_field.new.dest in
+    let bits = c.in-BitMasking.range in
+    let insn = c.in-BitMasking.insn in
+    let plain = (takes (info_of entry) c.requires.takes).plain in
+    subst (λ s. IsWritten s entry.kind c.args.value before after) (sym c.in-BitMasking.is)
+    (written bits insn entry.kind c.args.value before after
+    (subst (λ s. is_plain s entry.kind ≡ true) c.in-BitMasking.is plain)
+    (subst (λ v. InstructionWritten insn bits v before after) (to_z-of_z w64 c.args.value c.ranges.value)
+    c.write_field.ensures))
