@@ -10,6 +10,26 @@ pub struct DeletedBytes {
     pub count: u32,
 }
 
+/// The window of a rewrite: the bytes that it writes at an offset of a section. It writes none where
+/// `len` is 0. All bytes outside the window stay as they are.
+///
+/// ```
+/// use linker_utils::elf::RewriteWindow;
+/// use linker_utils::x86_64::RelaxationKind;
+///
+/// // jmp *x@GOTPCREL(%rip), with its field at offset 2, becomes jmp x; nop
+/// let window = RelaxationKind::JmpIndirectToRelative.window();
+/// assert_eq!(window, RewriteWindow { back: 2, len: 6 });
+/// ```
+#[repr(C)]
+#[derive(Debug, Default, Clone, Copy, PartialEq, Eq, Hash)]
+pub struct RewriteWindow {
+    /// How many bytes before the rewrite's offset the window begins.
+    pub back: u64,
+    /// How many bytes it has.
+    pub len: u64,
+}
+
 /// Whether the `len` bytes that begin `back` bytes below `offset` lie in the section.
 #[must_use]
 #[inline(always)]

@@ -2,7 +2,7 @@
 //! Relaxation rewrites of PowerPC64.
 
 use crate::linker_base::relaxation::RelocationModifier;
-use crate::linker_base::rewrite::{has_window, overwrite};
+use crate::linker_base::rewrite::{RewriteWindow, has_window, overwrite};
 use crate::linker_base::utils::u32_from_slice;
 use crate::linker_elf::elf::InstructionRewrite;
 
@@ -383,6 +383,23 @@ impl RelaxationKind {
         }
     }
 
+    /// The bytes that `apply` writes, which begin at the offset: the instruction's 4, for a prefixed
+    /// instruction or a call and its `nop` 8, and for `NoOp` none.
+    #[must_use]
+    #[inline]
+    pub fn window(self) -> RewriteWindow {
+        let len = match self {
+            RelaxationKind::NoOp => 0,
+            RelaxationKind::PldToPaddi
+            | RelaxationKind::CallToAddi
+            | RelaxationKind::CallToAdd
+            | RelaxationKind::CallToAddi4096
+            | RelaxationKind::NopToRestoreToc => 8,
+            _ => 4,
+        };
+        RewriteWindow { back: 0, len }
+    }
+
     /// Whether the instruction at an offset of a section is one that the rewrite is meant for:
     /// `can_apply`, and the opcodes and registers. `NoOp` is meant for any offset. No instruction
     /// is meant whose base is register 0, which stands for the number 0, nor an access with update,
@@ -446,7 +463,17 @@ impl InstructionRewrite for RelaxationKind {
     }
 
     #[inline(always)]
+    fn window(self) -> RewriteWindow {
+        RelaxationKind::window(self)
+    }
+
+    #[inline(always)]
     fn next_modifier(&self) -> RelocationModifier {
         RelaxationKind::next_modifier(self)
+    }
+
+    #[inline(always)]
+    fn is_no_op(self) -> bool {
+        matches!(self, RelaxationKind::NoOp)
     }
 }
