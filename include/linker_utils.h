@@ -414,9 +414,9 @@ struct linker_utils_window_bounds {
 };
 
 /* The bytes that `linker_utils_apply` writes at an offset, into `window`: all others stay. Two
- * rewrites whose windows have a byte in common can't both be made. On x86-64 the field of the
- * relocation after a rewrite may lie behind the window: a general-dynamic TLS sequence has 16 bytes,
- * which are the window's 12 and the field's 4. */
+ * rewrites whose windows have a byte in common write over each other. On x86-64 the field of the
+ * relocation after a rewrite may lie behind the window: a general-dynamic TLS sequence has 16
+ * bytes, which are the window's 12 and the field's 4. */
 uint32_t linker_utils_rewrite_window(uint16_t machine, uint32_t rewrite, uint8_t n,
                                      struct linker_utils_window_bounds *window);
 
@@ -736,9 +736,10 @@ static inline uint32_t linker_utils_choose(uint16_t machine, uint32_t r_type,
                                            const struct linker_utils_link_facts *facts,
                                            struct linker_utils_choice *choice);
 
-/* Whether a choice at the relocation of type `r_type` leaves both as they are: the rewrite is NO_OP,
- * and the relocation after it has the same type. The choice of another instruction may still change
- * this relocation, as `has_other` there says. False where the rewrite is none of the machine's. */
+/* Whether a choice at the relocation of type `r_type` leaves both as they are: the rewrite is
+ * NO_OP, and the relocation after it has the same type. The choice of another instruction may still
+ * change this relocation, as `has_other` there says. False where the rewrite is none of the
+ * machine's. */
 bool linker_utils_is_unchanged(uint16_t machine, uint32_t r_type,
                                const struct linker_utils_choice *choice);
 

@@ -500,8 +500,8 @@ static void call_read(void) {
     finish_with(status, 0 NO_FORM OR(TOO_SHORT));
 }
 
-/* `can_apply`, and `apply` where that says that it will do, as where `matches` returns OK. It writes the
- * rewrite's window. */
+/* `can_apply`, and `apply` where that says that it will do, as where `matches` returns OK. It writes
+ * the rewrite's window. */
 static void call_apply(void) {
     uint16_t machine = any_machine();
     uint32_t rewrite = any_of_enum();
@@ -588,7 +588,8 @@ static void call_is_unchanged(void) {
     uint32_t type = any_relocation_type(), rewrite = any_of_enum(), modifier;
     struct buffer *given = place(READ, 1, sizeof(struct linker_utils_choice));
     struct linker_utils_choice *choice = filled(given);
-    *choice = (struct linker_utils_choice){.rewrite = rewrite, .relocation = type, .n = (uint8_t)any()};
+    *choice = (struct linker_utils_choice){
+        .rewrite = rewrite, .relocation = type, .n = (uint8_t)any()};
     uint32_t r_type = once_in(2) ? type : any_relocation_type();
     bool is = CALL(is_unchanged, machine, r_type, given->given);
     uint32_t no_op = machine == LINKER_UTILS_X86_64 ? LINKER_UTILS_X86_64_REWRITE_NO_OP : 0;

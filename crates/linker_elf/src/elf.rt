@@ -479,8 +479,8 @@ pub trait InstructionRewrite: Copy {
     fn next_modifier(&self) -> RelocationModifier
         ensures { result ≡ modifier self.now };
 
-    /// Whether it is `NoOp`, which leaves the instruction as it is. A rewrite of no bytes after
-    /// which bytes are deleted is another.
+    /// Whether it is `NoOp`, which leaves the instruction and all other relocations as they are.
+    /// `Delete`, which writes no bytes either, isn't.
     fn is_no_op(self) -> bool
         ensures { IsTrue result ↔ no_op self };
 }

@@ -19,7 +19,7 @@ ghost use Rattle.linker_loongarch64.specs.LoongArchOriginals.{IsCall};
 ghost use Rattle.linker_loongarch64.specs.declared.rewrites.RelaxationKind.TheVariants.{NoOp};
 
 use linker_base::relaxation::RelocationModifier;
-use linker_base::rewrite::{DeletedBytes, RewriteWindow, has_window, overwrite};
+use linker_base::rewrite::{DeletedBytes, RewriteWindow, has_window, overwrite, window_is_in};
 use linker_base::utils::u32_from_slice;
 use linker_elf::elf::InstructionRewrite;
 
@@ -269,23 +269,11 @@ impl RelaxationKind {
     pub fn can_apply(self, section: &[u8], offset: u64) -> bool
         ensures { IsTrue result ↔ CanRewrite (loongarch_rewrite self) section.now offset }
     {
-        match self {
-            RelaxationKind::NoOp | RelaxationKind::Delete => true,
-            RelaxationKind::ReplaceWithNop
-            | RelaxationKind::LdToAddi
-            | RelaxationKind::AddiToLd
-            | RelaxationKind::PcalaToPcaddi
-            | RelaxationKind::CallToBl
-            | RelaxationKind::CallToB
-            | RelaxationKind::PcalaToLu12i
-            | RelaxationKind::LowToOri
-            | RelaxationKind::LowToOriZero
-            | RelaxationKind::BaseToTp => has_window(section, offset, 0, 4),
-        }
+        window_is_in(section, offset, self.window())
     }
 
-    /// The bytes that `apply` writes: the 4 from the offset, and none for `NoOp` and `Delete`. Those
-    /// that are then deleted (`deleted`) may lie behind them.
+    /// The bytes that `apply` writes: the 4 from the offset, and none for `NoOp` and `Delete`.
+    /// Those that are then deleted (`deleted`) may lie behind them.
     #[inline]
     pub fn window(self) -> RewriteWindow
         ensures { result ≡ window_of_rewrite (loongarch_rewrite self) }

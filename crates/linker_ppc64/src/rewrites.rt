@@ -22,7 +22,7 @@ ghost use Rattle.linker_ppc64.specs.Ppc64Rewrites.{ppc64_rewrites, ppc64_modifie
 ghost use Rattle.linker_ppc64.specs.declared.rewrites.RelaxationKind.TheVariants.{NoOp};
 
 use linker_base::relaxation::RelocationModifier;
-use linker_base::rewrite::{RewriteWindow, has_window, overwrite};
+use linker_base::rewrite::{RewriteWindow, has_window, overwrite, window_is_in};
 use linker_base::utils::u32_from_slice;
 use linker_elf::elf::InstructionRewrite;
 
@@ -457,27 +457,11 @@ impl RelaxationKind {
     pub fn can_apply(self, section: &[u8], offset: u64) -> bool
         ensures { IsTrue result ↔ CanRewrite (ppc64_rewrite self) section.now offset }
     {
-        match self {
-            RelaxationKind::NoOp => true,
-            RelaxationKind::AddisToNop
-            | RelaxationKind::BaseToToc
-            | RelaxationKind::LdToAddi
-            | RelaxationKind::LdToAddisThread
-            | RelaxationKind::AddToAddi
-            | RelaxationKind::IndexedToD
-            | RelaxationKind::IndexedToDs
-            | RelaxationKind::AddiToAddisThread
-            | RelaxationKind::AddiToLd => has_window(section, offset, 0, 4),
-            RelaxationKind::PldToPaddi
-            | RelaxationKind::CallToAddi
-            | RelaxationKind::CallToAdd
-            | RelaxationKind::CallToAddi4096
-            | RelaxationKind::NopToRestoreToc => has_window(section, offset, 0, 8),
-        }
+        window_is_in(section, offset, self.window())
     }
 
-    /// The bytes that `apply` writes, which begin at the offset: the instruction's 4, for a prefixed
-    /// instruction or a call and its `nop` 8, and for `NoOp` none.
+    /// The bytes that `apply` writes, which begin at the offset: the instruction's 4. For a prefixed
+    /// instruction or a call and its `nop` they are 8, and for `NoOp` none.
     #[inline]
     pub fn window(self) -> RewriteWindow
         ensures { result ≡ window_of_rewrite (ppc64_rewrite self) }

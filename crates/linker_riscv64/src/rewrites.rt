@@ -24,7 +24,7 @@ ghost use Rattle.linker_riscv64.specs.declared.rewrites.RelaxationKind.TheVarian
 use super::calls::{destination, is_call_pair, is_plain_call};
 use linker_base::bit_misc::BitExtraction;
 use linker_base::relaxation::RelocationModifier;
-use linker_base::rewrite::{DeletedBytes, RewriteWindow, has_window, overwrite};
+use linker_base::rewrite::{DeletedBytes, RewriteWindow, has_window, overwrite, window_is_in};
 use linker_base::utils::u32_from_slice;
 use linker_elf::elf::{InstructionRewrite, RelocationKindInfo, RiscVInstruction};
 use linker_elf::riscv64 as relocations;
@@ -351,29 +351,12 @@ impl RelaxationKind {
     pub fn can_apply(self, section: &[u8], offset: u64) -> bool
         ensures { IsTrue result ↔ CanRewrite (riscv_rewrite self) section.now offset }
     {
-        match self {
-            RelaxationKind::NoOp | RelaxationKind::Hi20Delete | RelaxationKind::Delete => true,
-            RelaxationKind::ReplaceWithNop
-            | RelaxationKind::CallToJal
-            | RelaxationKind::Lo12Rs1ToZero
-            | RelaxationKind::TailToJal
-            | RelaxationKind::ReplaceWithLongNop
-            | RelaxationKind::BaseToTp
-            | RelaxationKind::AddiToLui
-            | RelaxationKind::AddiToAuipc
-            | RelaxationKind::CallToAddi
-            | RelaxationKind::CallToAddiZero
-            | RelaxationKind::CallToLd
-            | RelaxationKind::LdToAddi => has_window(section, offset, 0, 4),
-            RelaxationKind::Hi20ToCLui | RelaxationKind::TailToCJ | RelaxationKind::CLuiToCLi => {
-                has_window(section, offset, 0, 2)
-            }
-        }
+        window_is_in(section, offset, self.window())
     }
 
     /// The bytes that `apply` writes, which begin at the offset: none for `NoOp`, `Hi20Delete` and
-    /// `Delete`, 2 for `Hi20ToCLui`, `TailToCJ` and `CLuiToCLi`, and 4 for the others. Those that are
-    /// then deleted (`deleted`) may lie behind them.
+    /// `Delete`, 2 for `Hi20ToCLui`, `TailToCJ` and `CLuiToCLi`, and 4 for the others. Those that
+    /// are then deleted (`deleted`) may lie behind them.
     #[inline]
     pub fn window(self) -> RewriteWindow
         ensures { result ≡ window_of_rewrite (riscv_rewrite self) }

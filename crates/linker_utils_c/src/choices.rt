@@ -136,8 +136,8 @@ pub extern "C" fn linker_utils_choose_nonnull(
     Status::Success.number()
 }
 
-/// Whether a choice at the relocation with `r_type` leaves it and its instruction as they are. False
-/// of a choice whose rewrite is none of the machine's.
+/// Whether a choice at the relocation with `r_type` leaves it and its instruction as they are.
+/// False of a choice whose rewrite is none of the machine's.
 #[unsafe(no_mangle)]
 pub extern "C" fn linker_utils_is_unchanged(
     machine: u16,

@@ -117,8 +117,8 @@ pub fn linker_utils_choose_nonnull(
     Status::Success.number()
 }
 
-/// Whether a choice at the relocation with `r_type` leaves it and its instruction as they are. False
-/// of a choice whose rewrite is none of the machine's.
+/// Whether a choice at the relocation with `r_type` leaves it and its instruction as they are.
+/// False of a choice whose rewrite is none of the machine's.
 pub fn linker_utils_is_unchanged(
     machine: u16,
     r_type: u32,

@@ -10,8 +10,8 @@ pub struct DeletedBytes {
     pub count: u32,
 }
 
-/// The window of a rewrite: the bytes that it writes at an offset of a section. It writes none where
-/// `len` is 0. All bytes outside the window stay as they are.
+/// The window of a rewrite: the bytes that it writes at an offset of a section. It writes none
+/// where `len` is 0. All bytes outside the window stay as they are.
 ///
 /// ```
 /// use linker_utils::elf::RewriteWindow;
@@ -36,6 +36,13 @@ pub struct RewriteWindow {
 pub fn has_window(section: &[u8], offset: u64, back: u64, len: u64) -> bool {
     let section_len = section.len() as u64;
     back <= offset && len <= section_len && offset - back <= section_len - len
+}
+
+/// Whether the window of a rewrite at an offset lies in the section. One of 0 bytes does anywhere.
+#[must_use]
+#[inline(always)]
+pub fn window_is_in(section: &[u8], offset: u64, window: RewriteWindow) -> bool {
+    window.len == 0 || has_window(section, offset, window.back, window.len)
 }
 
 /// Overwrites bytes at an offset of the section.

@@ -428,8 +428,8 @@ pub trait InstructionRewrite: Copy {
     #[must_use]
     fn next_modifier(&self) -> RelocationModifier;
 
-    /// Whether it is `NoOp`, which leaves the instruction as it is. A rewrite of no bytes after
-    /// which bytes are deleted is another.
+    /// Whether it is `NoOp`, which leaves the instruction and all other relocations as they are.
+    /// `Delete`, which writes no bytes either, isn't.
     #[must_use]
     fn is_no_op(self) -> bool;
 }

@@ -2,7 +2,7 @@
 //! Relaxation rewrites of PowerPC64.
 
 use crate::linker_base::relaxation::RelocationModifier;
-use crate::linker_base::rewrite::{RewriteWindow, has_window, overwrite};
+use crate::linker_base::rewrite::{RewriteWindow, has_window, overwrite, window_is_in};
 use crate::linker_base::utils::u32_from_slice;
 use crate::linker_elf::elf::InstructionRewrite;
 
@@ -364,27 +364,11 @@ impl RelaxationKind {
     #[must_use]
     #[inline]
     pub fn can_apply(self, section: &[u8], offset: u64) -> bool {
-        match self {
-            RelaxationKind::NoOp => true,
-            RelaxationKind::AddisToNop
-            | RelaxationKind::BaseToToc
-            | RelaxationKind::LdToAddi
-            | RelaxationKind::LdToAddisThread
-            | RelaxationKind::AddToAddi
-            | RelaxationKind::IndexedToD
-            | RelaxationKind::IndexedToDs
-            | RelaxationKind::AddiToAddisThread
-            | RelaxationKind::AddiToLd => has_window(section, offset, 0, 4),
-            RelaxationKind::PldToPaddi
-            | RelaxationKind::CallToAddi
-            | RelaxationKind::CallToAdd
-            | RelaxationKind::CallToAddi4096
-            | RelaxationKind::NopToRestoreToc => has_window(section, offset, 0, 8),
-        }
+        window_is_in(section, offset, self.window())
     }
 
-    /// The bytes that `apply` writes, which begin at the offset: the instruction's 4, for a prefixed
-    /// instruction or a call and its `nop` 8, and for `NoOp` none.
+    /// The bytes that `apply` writes, which begin at the offset: the instruction's 4. For a prefixed
+    /// instruction or a call and its `nop` they are 8, and for `NoOp` none.
     #[must_use]
     #[inline]
     pub fn window(self) -> RewriteWindow {

@@ -647,10 +647,9 @@ impl RelaxationKind {
         }
     }
 
-    /// The bytes that `apply` writes; none for `NoOp`. The relocated field isn't among them, except
-    /// for `JmpIndirectToRelative` and the TLS sequences: those that end with a field, as
-    /// `TlsGdToLocalExec`, have their window up to there, so that the 16 bytes of such a sequence are
-    /// the window's 12 and the field's 4 behind it.
+    /// The bytes that `apply` writes; none for `NoOp`. The field whose value is written afterwards
+    /// lies behind them, as the last 4 of the 16 bytes of a general-dynamic sequence; but
+    /// `JmpIndirectToRelative` and `TlsGdToLocalExecLarge` write 0 to their field.
     #[must_use]
     #[inline]
     pub fn window(self) -> RewriteWindow {

@@ -9,7 +9,7 @@ use linker_utils::{aarch64, loongarch64, riscv64};
 use std::fmt::Debug;
 
 /// Requires that a rewrite's window is a whole section, of which the bytes from `back` on are the
-/// instruction at the offset, and that it may be applied there, and to none where a byte is missing.
+/// instruction at the offset, and that it may be applied there, and nowhere where a byte is missing.
 pub(crate) fn requires_window<R: InstructionRewrite + Copy + Debug>(
     kind: R,
     section: &[u8],
