@@ -407,6 +407,19 @@ static inline uint32_t linker_utils_apply(uint16_t machine, uint32_t rewrite, ui
                                           uint8_t *section, size_t section_len, uint64_t *offset,
                                           int64_t *addend);
 
+/* The window of a rewrite: the bytes of a section that it writes at an offset. */
+struct linker_utils_window_bounds {
+    uint64_t back; /* How many bytes before the offset it begins. */
+    uint64_t len; /* How many bytes it has; 0 where the rewrite writes none, as NO_OP. */
+};
+
+/* The bytes that `linker_utils_apply` writes at an offset, into `window`: all others stay. Two
+ * rewrites whose windows have a byte in common write over each other. On x86-64 the field of the
+ * relocation after a rewrite may lie behind the window: a general-dynamic TLS sequence has 16
+ * bytes, which are the window's 12 and the field's 4. */
+uint32_t linker_utils_rewrite_window(uint16_t machine, uint32_t rewrite, uint8_t n,
+                                     struct linker_utils_window_bounds *window);
+
 /* What happens to the next relocation, into `modifier`, by `enum linker_utils_modifier`. */
 uint32_t linker_utils_next_modifier(uint16_t machine, uint32_t rewrite, uint8_t n,
                                     uint32_t *modifier);
@@ -722,6 +735,13 @@ static inline uint32_t linker_utils_choose(uint16_t machine, uint32_t r_type,
                                            uint64_t offset,
                                            const struct linker_utils_link_facts *facts,
                                            struct linker_utils_choice *choice);
+
+/* Whether a choice at the relocation of type `r_type` leaves both as they are: the rewrite is
+ * NO_OP, and the relocation after it has the same type. The choice of another instruction may still
+ * change this relocation, as `has_other` there says. False where the rewrite is none of the
+ * machine's. */
+bool linker_utils_is_unchanged(uint16_t machine, uint32_t r_type,
+                               const struct linker_utils_choice *choice);
 
 /* The values of a relocation that can be written. */
 struct linker_utils_relocation_reach {

@@ -156,7 +156,10 @@ class Contracts:
         else:
             is_own = (function.owner, teller.trait) in self.members if function.owner else (
                 function.trait == teller.trait)
-        traits = {it.trait for it in self.functions if it.name == teller.name} - {""}
+        # an implementation for all types of a bound is one for the caller's too
+        traits = {it.trait for it in self.functions if it.trait and it.name == teller.name and (
+            it.owner and not self.defined[it.owner] or it.owner == function.owner and (
+                it.owner or it.trait == function.trait))}
         if is_own and teller.trait and len(traits) > 1:
             borrow = "&" if teller.parameters["self"][0] == "&" and kinds[0] == "self" else ""
             return f"{teller.trait}::{teller.name}({borrow}{listed})"

@@ -90,6 +90,33 @@ fn words(report: &mut Report, random: &mut Random) {
             unsafe { linker_utils_can_apply_nonnull(machine, number, n, bytes, len, SITE) }
         },
     );
+    let choices: Vec<_> = inputs
+        .iter()
+        .map(|(rewrite, _)| Choice {
+            rewrite: rewrite.number,
+            n: rewrite.n,
+            ..Choice::default()
+        })
+        .collect();
+    let unchanged: Vec<_> = inputs.iter().zip(&choices).collect();
+    numbers(
+        report,
+        "`linker_utils_is_unchanged`, rewrites at random",
+        &unchanged,
+        |((rewrite, _), choice)| unsafe {
+            linker_utils_is_unchanged(rewrite.machine, 0, *choice).into()
+        },
+    );
+    let mut bounds = RewriteWindow::default();
+    line(
+        report,
+        "`linker_utils_rewrite_window`, rewrites at random",
+        &inputs,
+        |(rewrite, _)| {
+            let (machine, number, n) = (rewrite.machine, rewrite.number, rewrite.n);
+            unsafe { linker_utils_rewrite_window(machine, number, n, &mut bounds) }
+        },
+    );
     numbers(
         report,
         "`linker_utils_matches`, rewrites at random",

@@ -158,8 +158,7 @@ static void rewrite_riscv(struct output *o) {
         uint64_t at = address_of(o, r->offset) - o->address;
         facts = facts_of(o, high);
         check(r, linker_utils_choose(machine, r->type, o->bytes, o->len, at, &facts, &choice));
-        if (choice.rewrite != LINKER_UTILS_RISCV_REWRITE_NO_OP || choice.relocation != r->type)
-            continue;
+        if (!linker_utils_is_unchanged(machine, r->type, &choice)) continue;
         if (high->type == RISCV_TLSDESC_HI20) fail("%s is not supported", place_of(r));
         high->keeps_entry = true;
     }

@@ -8,7 +8,7 @@ use crate::aarch64::{self, AArch64Relocation};
 use crate::elf::{
     AArch64Instruction, Architecture, Choice, InstructionRewrite, LinkFacts,
     LoongArch64Instruction, OtherRelocation, Ppc64Instruction, RelocationInstruction,
-    RiscVInstruction, Row, Uleb128Role,
+    RewriteWindow, RiscVInstruction, Row, Uleb128Role,
 };
 use crate::loongarch64::{self, LoongArch64Relocation};
 use crate::ppc64::{self, Ppc64Relocation};
@@ -118,6 +118,17 @@ impl InstructionRewrite for Relaxation {
     }
 
     #[inline(always)]
+    fn window(self) -> RewriteWindow {
+        match self {
+            Relaxation::AArch64(kind) => kind.window(),
+            Relaxation::RiscV(kind) => kind.window(),
+            Relaxation::LoongArch64(kind) => kind.window(),
+            Relaxation::Ppc64(kind) => kind.window(),
+            Relaxation::X86_64(kind) => kind.window(),
+        }
+    }
+
+    #[inline(always)]
     fn next_modifier(&self) -> RelocationModifier {
         match self {
             Relaxation::AArch64(kind) => kind.next_modifier(),
@@ -125,6 +136,17 @@ impl InstructionRewrite for Relaxation {
             Relaxation::LoongArch64(kind) => kind.next_modifier(),
             Relaxation::Ppc64(kind) => kind.next_modifier(),
             Relaxation::X86_64(kind) => kind.next_modifier(),
+        }
+    }
+
+    #[inline(always)]
+    fn is_no_op(self) -> bool {
+        match self {
+            Relaxation::AArch64(kind) => kind.is_no_op(),
+            Relaxation::RiscV(kind) => kind.is_no_op(),
+            Relaxation::LoongArch64(kind) => kind.is_no_op(),
+            Relaxation::Ppc64(kind) => kind.is_no_op(),
+            Relaxation::X86_64(kind) => kind.is_no_op(),
         }
     }
 }

@@ -9,7 +9,8 @@ pub use crate::linker_elf::elf::{
     EM_X86_64, InstructionForm, InstructionRewrite, LinkFacts, LoongArch64Instruction, Operands,
     OtherRelocation, PAGE_MASK_4KB, PageMask, PageMaskPattern, Ppc64Instruction, RelocateError,
     RelocationInstruction, RelocationKind, RelocationKindInfo, RelocationNumbers, RelocationSize,
-    RiscVInstruction, Row, SIZE_2GB, SIZE_2KB, SIZE_4GB, SIZE_4KB, Sign, Uleb128Role,
+    RewriteWindow, RiscVInstruction, Row, SIZE_2GB, SIZE_2KB, SIZE_4GB, SIZE_4KB, Sign,
+    Uleb128Role,
 };
 
 /// The architectures whose relocations and instructions the library knows. A variant's number is

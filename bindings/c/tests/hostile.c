@@ -500,8 +500,8 @@ static void call_read(void) {
     finish_with(status, 0 NO_FORM OR(TOO_SHORT));
 }
 
-/* `can_apply`, and `apply` where that says that it will do, as where `matches` returns OK. No rewrite
- * writes more than 5 bytes before the offset, nor 19 from it on. */
+/* `can_apply`, and `apply` where that says that it will do, as where `matches` returns OK. It writes
+ * the rewrite's window. */
 static void call_apply(void) {
     uint16_t machine = any_machine();
     uint32_t rewrite = any_of_enum();
@@ -511,7 +511,10 @@ static void call_apply(void) {
     uint64_t *given_offset = output(sizeof(uint64_t));
     int64_t *addend = output(sizeof(int64_t));
     *given_offset = offset;
-    changes(section, offset < 5 ? 0 : offset - 5, offset > 1000 ? 0 : offset + 19);
+    struct linker_utils_window_bounds window = {0, 0};
+    (void)linker_utils_rewrite_window(machine, rewrite, n, &window);
+    uint64_t start = offset < window.back ? 0 : offset - window.back;
+    changes(section, start, start + window.len);
     const void *read = section->given ? section->read_only + section->at : NULL;
     uint32_t can = CALL(can_apply, machine, rewrite, n, read, section->len, offset);
     uint32_t meant = CALL(matches, machine, rewrite, n, read, section->len, offset);
@@ -567,6 +570,32 @@ static void call_choose(void) {
                "no other relocation");
     }
     finish_with(status, 0 OR(UNKNOWN_ARCHITECTURE));
+}
+
+/* No rewrite writes more than 5 bytes before the offset, nor 19 from it on. */
+static void call_rewrite_window(void) {
+    uint16_t machine = any_machine();
+    uint8_t n = (uint8_t)(once_in(8) ? any_number() : below(8));
+    struct linker_utils_window_bounds *window = output(sizeof *window);
+    uint32_t status = CALL(rewrite_window, machine, any_of_enum(), n, window);
+    expect(status != LINKER_UTILS_OK || (window->back <= 5 && window->len <= window->back + 19),
+           "no window");
+    finish_with(status, 0 NO_REWRITE);
+}
+
+static void call_is_unchanged(void) {
+    uint16_t machine = any_machine();
+    uint32_t type = any_relocation_type(), rewrite = any_of_enum(), modifier;
+    struct buffer *given = place(READ, 1, sizeof(struct linker_utils_choice));
+    struct linker_utils_choice *choice = filled(given);
+    *choice = (struct linker_utils_choice){
+        .rewrite = rewrite, .relocation = type, .n = (uint8_t)any()};
+    uint32_t r_type = once_in(2) ? type : any_relocation_type();
+    bool is = CALL(is_unchanged, machine, r_type, given->given);
+    uint32_t no_op = machine == LINKER_UTILS_X86_64 ? LINKER_UTILS_X86_64_REWRITE_NO_OP : 0;
+    bool is_known = linker_utils_next_modifier(machine, rewrite, 0, &modifier) == LINKER_UTILS_OK;
+    expect(is == (is_known && rewrite == no_op && type == r_type), "not what is unchanged");
+    finish(true);
 }
 
 static void call_next_modifier(void) {
@@ -1430,7 +1459,7 @@ static void call_recognise_chosen(void) {
 
 static void (*const all[])(void) = {
     call_status_text, call_version, call_window, call_write, call_read, call_apply, call_matches,
-    call_choose,
+    call_choose, call_is_unchanged, call_rewrite_window,
     call_next_modifier, call_relocation, call_relocation_name, call_value, call_reach, call_relocate,
     call_relocate_all,
     call_clui_rel_info, call_jal_site, call_jal_site_with, call_relax_call,

@@ -181,6 +181,21 @@ pub struct Choice {
     pub other: Option<OtherRelocation>,
 }
 
+impl Choice {
+    /// Whether the choice at the relocation of an ELF type leaves it and its instruction as they
+    /// are: the rewrite is `NoOp`, and the relocation after it has the same type.
+    pub fn is_unchanged(&self, r_type: u32) -> bool {
+        let (machine, rewrite, n) = self.rewrite.numbers();
+        let choice = raw::Choice {
+            rewrite,
+            relocation: self.relocation,
+            n,
+            ..raw::Choice::default()
+        };
+        unsafe { raw::linker_utils_is_unchanged(machine, r_type, &choice) }
+    }
+}
+
 /// A relocation whose instruction a rewrite of another one changes too. Whatever relocation is there
 /// gets the type that is named here.
 #[derive(Debug, Clone, Copy, PartialEq, Eq)]
@@ -189,6 +204,16 @@ pub struct OtherRelocation {
     pub offset: i64,
     /// Its ELF type after the rewrite.
     pub r_type: u32,
+}
+
+/// The bytes that a rewrite writes at an offset of a section; none where `len` is 0.
+#[repr(C)]
+#[derive(Debug, Clone, Copy, Default, PartialEq, Eq)]
+pub struct RewriteWindow {
+    /// How many bytes before the offset they begin.
+    pub back: u64,
+    /// How many they are.
+    pub len: u64,
 }
 
 /// A relocation of a section: where it writes, its value and its ELF type.
@@ -500,6 +525,14 @@ pub fn apply(
     let status =
         unsafe { raw::linker_utils_apply_nonnull(machine, rewrite, n, at, len, offset, addend) };
     result_of(status, ())
+}
+
+/// The window of a rewrite: the bytes that `apply` writes at an offset of a section.
+pub fn rewrite_window(rewrite: impl Into<Rewrite>) -> Result<RewriteWindow, Status> {
+    let (machine, rewrite, n) = rewrite.into().numbers();
+    let mut window = RewriteWindow::default();
+    let status = unsafe { raw::linker_utils_rewrite_window(machine, rewrite, n, &mut window) };
+    result_of(status, window)
 }
 
 /// What becomes of the relocation after that of the rewritten instruction.

@@ -2,7 +2,7 @@
 //! requires of pointers and counts, and does, is said there. No pointer to a slice may be null.
 
 pub use crate::{BlockHead, Call, Deletion, Delta, FieldBits, FieldValue, Item, Operands};
-pub use crate::{Relocation, SectionRelocation, Shape, Shapes};
+pub use crate::{Relocation, RewriteWindow, SectionRelocation, Shape, Shapes};
 use std::ffi::c_char;
 
 /// `struct linker_utils_relocation_info`.
@@ -132,6 +132,12 @@ extern "C" {
         offset: *mut u64,
         addend: *mut i64,
     ) -> u32;
+    pub fn linker_utils_rewrite_window(
+        machine: u16,
+        rewrite: u32,
+        n: u8,
+        window: *mut RewriteWindow,
+    ) -> u32;
     pub fn linker_utils_next_modifier(machine: u16, rewrite: u32, n: u8, modifier: *mut u32)
         -> u32;
     pub fn linker_utils_relocation_name_nonnull(
@@ -158,6 +164,7 @@ extern "C" {
         facts: *const LinkFacts,
         choice: *mut Choice,
     ) -> u32;
+    pub fn linker_utils_is_unchanged(machine: u16, r_type: u32, choice: *const Choice) -> bool;
     pub fn linker_utils_reach(machine: u16, r_type: u32, reach: *mut Reach) -> u32;
     pub fn linker_utils_relocate_nonnull(
         machine: u16,

@@ -405,10 +405,18 @@ fn rejects_rewrites() {
             );
             let meant = raw::linker_utils_matches_nonnull(machine, rewrite, 0, at, 4, 0);
             let next = raw::linker_utils_next_modifier(machine, rewrite, 0, &mut modifier);
+            let mut window = RewriteWindow { back: 5, len: 6 };
+            let bounds = raw::linker_utils_rewrite_window(machine, rewrite, 0, &mut window);
             assert_eq!(
-                [can, done, meant, next, modifier],
-                [status, status, status, status, 9]
+                [can, done, meant, next, modifier, bounds],
+                [status, status, status, status, 9, status]
             );
+            assert_eq!(window, RewriteWindow { back: 5, len: 6 });
+            let choice = raw::Choice {
+                rewrite,
+                ..raw::Choice::default()
+            };
+            assert!(!raw::linker_utils_is_unchanged(machine, 0, &choice));
         }
     }
     assert_eq!((section, offset, addend), ([0x41, 0, 0x40, 0xf9], 0, 7));
@@ -456,6 +464,7 @@ fn choices_are_by_what_the_linker_knows() {
     };
     let direct = unchanged(X86_64Rewrite::CallIndirectToRelative.into(), 2);
     let no_op = unchanged(X86_64Rewrite::NoOp.into(), 41);
+    assert!(no_op.is_unchanged(41) && !no_op.is_unchanged(2) && !direct.is_unchanged(2));
     assert_eq!(
         choose(Architecture::X86_64, 41, &call, 2, &facts),
         Ok(direct)
@@ -516,10 +525,51 @@ fn choices_are_by_what_the_linker_knows() {
         Ok(same)
     );
     let same = unchanged(Ppc64Rewrite::NoOp.into(), 10);
+    assert!(same.is_unchanged(10) && !same.is_unchanged(11));
     assert_eq!(
         choose(Architecture::Ppc64, 10, &[0; 8], 0, &facts),
         Ok(same)
     );
+}
+
+#[test]
+fn tells_the_bytes_that_a_rewrite_writes() {
+    let lens: [(Rewrite, u64, u64); 20] = [
+        // `data16 lea x@tlsgd(%rip), %rdi; data16 data16 rex.W call __tls_get_addr`: the field is 4
+        // bytes from the beginning, and the 16 bytes end with that of the `lea` that is written
+        (X86_64Rewrite::TlsGdToLocalExec.into(), 4, 16 - 4),
+        (X86_64Rewrite::TlsGdToInitialExec.into(), 4, 16 - 4),
+        // `lea x@tlsld(%rip), %rdi` of 7 bytes, and a call of 5, or 6 through the GOT
+        (X86_64Rewrite::TlsLdToLocalExec.into(), 3, 7 + 5),
+        (X86_64Rewrite::TlsLdToLocalExecNoPlt.into(), 3, 7 + 6),
+        // the same `lea`, `movabs` of 10, `add` of 3 and `call` of 2
+        (X86_64Rewrite::TlsLdToLocalExec64.into(), 3, 7 + 10 + 3 + 2),
+        // `call *(%rax)`
+        (X86_64Rewrite::SkipTlsDescCall.into(), 0, 2),
+        // `jmp *x@GOTPCREL(%rip)`: opcode, ModRM byte and the field; of the `call` the first two
+        (X86_64Rewrite::JmpIndirectToRelative.into(), 2, 6),
+        (X86_64Rewrite::CallIndirectToRelative.into(), 2, 2),
+        // an opcode, a REX byte and what follows it, and what follows the first byte of EVEX
+        (X86_64Rewrite::MovIndirectToLea.into(), 2, 1),
+        (X86_64Rewrite::RexAddIndirectToAbsolute(3).into(), 3, 3),
+        (X86_64Rewrite::RexAddIndirectToAbsolute(6).into(), 5, 5),
+        (X86_64Rewrite::NoOp.into(), 0, 0),
+        // an instruction, and a pair whose second one is at the offset
+        (AArch64Rewrite::LdrToAdd.into(), 0, 4),
+        (AArch64Rewrite::AdrpAddToNopAdr.into(), 4, 8),
+        // `jal`, `c.j`, and an instruction that is deleted as it is
+        (RiscVRewrite::CallToJal.into(), 0, 4),
+        (RiscVRewrite::TailToCJ.into(), 0, 2),
+        (RiscVRewrite::Delete.into(), 0, 0),
+        (LoongArch64Rewrite::CallToBl.into(), 0, 4),
+        // `addis`, and a prefixed instruction
+        (Ppc64Rewrite::AddisToNop.into(), 0, 4),
+        (Ppc64Rewrite::PldToPaddi.into(), 0, 8),
+    ];
+    for (rewrite, back, len) in lens {
+        let window = rewrite_window(rewrite);
+        assert_eq!(window, Ok(RewriteWindow { back, len }), "{rewrite:?}");
+    }
 }
 
 #[test]

@@ -103,6 +103,7 @@ fn type_of_c(text: &str) -> String {
         "struct linker_utils_operands" => "Operands",
         "struct linker_utils_link_facts" => "LinkFacts",
         "struct linker_utils_choice" => "Choice",
+        "struct linker_utils_window_bounds" => "RewriteWindow",
         "struct linker_utils_relocation_reach" => "Reach",
         "struct linker_utils_relocation_entry" => "Relocation",
         "struct linker_utils_shape" => "Shape",
@@ -738,6 +739,7 @@ fn the_structs_are_those_of_the_library() {
             rewrite, relocation, modifier, deleted_len, deleted_start, other_offset,
             other_relocation, has_other, n,
         }
+        "linker_utils_window_bounds": RewriteWindow { back, len, }
         "linker_utils_relocation_reach": raw::Reach { min, max, has_range, }
         "linker_utils_relocation_entry": Relocation { offset, value, r_type, }
         "linker_utils_shape": Shape { behind, ahead, kept, unit, }
@@ -756,6 +758,7 @@ fn the_structs_are_those_of_the_library() {
     let library = exporting_sources()
         + &repository("crates/linker_base/src/relaxation.rt")
         + &repository("crates/linker_base/src/relaxation/blocks.rt")
+        + &repository("crates/linker_base/src/rewrite.rt")
         + &repository("crates/linker_riscv64/src/calls.rt")
         + &repository("crates/linker_elf/src/elf/value.rt")
         + &repository("crates/linker_elf/src/elf/numbers.rt")
@@ -770,6 +773,7 @@ fn the_structs_are_those_of_the_library() {
         ("linker_utils_operands", "Operands"),
         ("linker_utils_link_facts", "LinkFactNumbers"),
         ("linker_utils_choice", "ChoiceNumbers"),
+        ("linker_utils_window_bounds", "RewriteWindow"),
         ("linker_utils_relocation_reach", "Reach"),
         ("linker_utils_relocation_entry", "Relocation"),
         ("linker_utils_shape", "Shape"),

@@ -1,6 +1,7 @@
 //! Relaxation rewrites of AArch64.
 
 ghost use Rattle.linker_aarch64.specs.AArch64Rewrites.{aarch64_rewrites};
+ghost use Rattle.std.proofs.Common.{ap};
 ghost use Rattle.std.specs.Prelude.{slice_get, ◌++◌, Some, take, ◌≡◌, ◌≤◌, ◌<◌, ◌+◌, ◌↔◌, ◌∷◌, []};
 ghost use Rattle.std.specs.Prelude.{IsTrue};
 ghost use Rattle.std.specs.Prelude.{length, drop, true, ◌*◌, ◌^◌};
@@ -8,6 +9,7 @@ ghost use Rattle.std.specs.Int.{byte_len, cast_unsigned, w32, w64, from_le_bytes
 ghost use Rattle.linker_base.specs.Form.{window_of, place_sum, BitsWritten, Fits, Written};
 ghost use Rattle.linker_base.specs.Form.{MachineReads, IsReadBack};
 ghost use Rattle.linker_base.specs.Rewrite.{CanRewrite, rewritten, offset_after, addend_after};
+ghost use Rattle.linker_base.specs.RewriteWindow.{window_of_rewrite};
 ghost use Rattle.linker_elf.specs.Inner.FormLaws.{aarch64_keeps, aarch64_restored};
 ghost use Rattle.linker_elf.specs.AArch64.{aarch64_form};
 ghost use Rattle.linker_aarch64.specs.AArch64Rewrites.{aarch64_rewrite, aarch64_modifier};
@@ -20,10 +22,11 @@ ghost use Rattle.linker_aarch64.specs.AArch64Originals.{AreOfOneRegister, IsAdrp
 ghost use Rattle.linker_aarch64.specs.AArch64Originals.{aarch64_matches};
 ghost use Rattle.linker_elf.specs.Relocate.{ored_cleared};
 ghost use Rattle.linker_elf.specs.Inner.Immediates.{is_ored_alone, aarch64_immediate};
+ghost use Rattle.linker_aarch64.specs.declared.rewrites.RelaxationKind.TheVariants.{NoOp};
 
 use linker_base::bit_misc::BitExtraction;
 use linker_base::relaxation::RelocationModifier;
-use linker_base::rewrite::{has_window, overwrite};
+use linker_base::rewrite::{RewriteWindow, has_window, overwrite};
 use linker_base::utils::u32_from_slice;
 use linker_elf::aarch64::AArch64Relocation;
 use linker_elf::elf::{InstructionRewrite, OtherRelocation};
@@ -287,6 +290,20 @@ impl RelaxationKind {
         }
     }
 
+    /// The bytes that `apply` writes: the instruction's 4. For `AdrpAddToNopAdr` they are the pair's
+    /// 8, which begin 4 bytes before the offset, and for `NoOp` none.
+    #[inline]
+    pub fn window(self) -> RewriteWindow
+        ensures { result ≡ window_of_rewrite (aarch64_rewrite self) }
+    {
+        let (back, len) = match self {
+            RelaxationKind::NoOp => (0, 0),
+            RelaxationKind::AdrpAddToNopAdr => (4, 8),
+            _ => (0, 4),
+        };
+        RewriteWindow { back, len }
+    }
+
     /// Whether the instruction at an offset of a section, or the pair that ends there, is one that
     /// the rewrite is meant for: `can_apply`, and the opcodes and registers. `NoOp` is meant for
     /// any offset and `ReplaceWithNop` for any instruction in the section.
@@ -360,6 +377,10 @@ impl InstructionRewrite for RelaxationKind {
 
     ghost modifier = { aarch64_modifier };
 
+    ghost no_op = { λ kind. kind ≡ NoOp };
+
+    ghost stays = { λ kind is. (ap aarch64_rewrite is, ap aarch64_modifier is) };
+
     #[inline(always)]
     fn apply(self, section: &mut [u8], offset: &mut u64, addend: &mut i64) {
         RelaxationKind::apply(self, section, offset, addend);
@@ -371,7 +392,17 @@ impl InstructionRewrite for RelaxationKind {
     }
 
     #[inline(always)]
+    fn window(self) -> RewriteWindow {
+        RelaxationKind::window(self)
+    }
+
+    #[inline(always)]
     fn next_modifier(&self) -> RelocationModifier {
         RelaxationKind::next_modifier(self)
+    }
+
+    #[inline(always)]
+    fn is_no_op(self) -> bool {
+        matches!(self, RelaxationKind::NoOp)
     }
 }

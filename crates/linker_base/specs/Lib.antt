@@ -8,6 +8,7 @@ pub mod Inner
 pub mod Laws
 pub mod Listed
 pub mod Rewrite
+pub mod RewriteWindow
 pub mod Rounded
 pub mod Sections
 pub mod Text

@@ -18,6 +18,7 @@ ghost use Rattle.linker_base.specs.Form.{Form, window_of, Fits, Written, Machine
 ghost use Rattle.linker_base.specs.Form.{WriteKeepsOtherBits, WriteBackChangesNothing};
 ghost use Rattle.linker_base.specs.Rewrite.{Rewrite, CanRewrite, rewritten, offset_after};
 ghost use Rattle.linker_base.specs.Rewrite.{addend_after};
+ghost use Rattle.linker_base.specs.RewriteWindow.{window_of_rewrite};
 ghost use Rattle.linker_base.specs.declared.relaxation.RelocationModifier.{RelocationModifier};
 ghost use Rattle.linker_elf.specs.Elf.{relocation_form, bit_bounds};
 ghost use Rattle.linker_elf.specs.Elf.{IsAllowed};
@@ -30,6 +31,7 @@ pub use crate::riscv64::RiscVInstruction;
 pub use choice::{Choice, LinkFacts, OtherRelocation};
 use linker_base::bit_misc::BitRange;
 use linker_base::relaxation::RelocationModifier;
+pub use linker_base::rewrite::RewriteWindow;
 pub use numbers::RelocationNumbers;
 pub use relocate::RelocateError;
 pub use rows::Row;
@@ -451,6 +453,13 @@ pub trait InstructionRewrite: Copy {
     // what becomes of the next relocation
     ghost modifier: { Self → RelocationModifier };
 
+    // it leaves the instruction as it is
+    ghost no_op: { Self → Type 0 };
+
+    // what leaves the instruction changes no byte and no other relocation
+    ghost stays: { (k : Self) → no_op k
+        → (rewrite k ≡ None) × (modifier k ≡ RelocationModifier.Normal) };
+
     /// Rewrites the instruction at an offset of a section. The offset and the addend become those
     /// of the relocation after it; all other bytes are unchanged.
     fn apply(self, section: &mut [u8], offset: &mut u64, addend: &mut i64)
@@ -463,9 +472,18 @@ pub trait InstructionRewrite: Copy {
     fn can_apply(self, section: &[u8], offset: u64) -> bool
         ensures { IsTrue result ↔ CanRewrite (rewrite self) section.now offset };
 
+    /// The bytes that `apply` writes at an offset.
+    fn window(self) -> RewriteWindow
+        ensures { result ≡ window_of_rewrite (rewrite self) };
+
     /// What becomes of the relocation after the rewritten one.
     fn next_modifier(&self) -> RelocationModifier
         ensures { result ≡ modifier self.now };
+
+    /// Whether it is `NoOp`, which leaves the instruction and all other relocations as they are.
+    /// `Delete`, which writes no bytes either, isn't.
+    fn is_no_op(self) -> bool
+        ensures { IsTrue result ↔ no_op self };
 }
 
 impl InstructionForm for RelocationInstruction {

@@ -1,10 +1,12 @@
 //! LoongArch: relaxation rewrites.
 
+ghost use Rattle.std.proofs.Common.{ap};
 ghost use Rattle.std.specs.Prelude.{slice_get, take, drop, length, ◌≡◌, ◌≤◌, ◌/◌, ◌+◌, ◌^◌, ◌↔◌};
 ghost use Rattle.std.specs.Prelude.{◌++◌};
 ghost use Rattle.std.specs.Prelude.{◌⊎◌, IsTrue, Some};
 ghost use Rattle.std.specs.Int.{w32, from_le_bytes, to_le_bytes};
 ghost use Rattle.linker_base.specs.Rewrite.{CanRewrite, rewritten, offset_after, addend_after};
+ghost use Rattle.linker_base.specs.RewriteWindow.{window_of_rewrite};
 ghost use Rattle.linker_loongarch64.specs.LoongArchRewrites.{loongarch64_rewrites};
 ghost use Rattle.linker_loongarch64.specs.LoongArchRewrites.{loongarch_rewrite};
 ghost use Rattle.linker_loongarch64.specs.LoongArchRewrites.{loongarch_modifier, loongarch_deleted};
@@ -14,9 +16,10 @@ ghost use Rattle.linker_loongarch64.specs.LoongArchOriginals.{IsAddi};
 ghost use Rattle.linker_loongarch64.specs.LoongArchOriginals.{IsLd};
 ghost use Rattle.linker_loongarch64.specs.LoongArchOriginals.{IsIntoOwnSource, AreOfOneRegister};
 ghost use Rattle.linker_loongarch64.specs.LoongArchOriginals.{IsCall};
+ghost use Rattle.linker_loongarch64.specs.declared.rewrites.RelaxationKind.TheVariants.{NoOp};
 
 use linker_base::relaxation::RelocationModifier;
-use linker_base::rewrite::{DeletedBytes, has_window, overwrite};
+use linker_base::rewrite::{DeletedBytes, RewriteWindow, has_window, overwrite, window_is_in};
 use linker_base::utils::u32_from_slice;
 use linker_elf::elf::InstructionRewrite;
 
@@ -266,19 +269,20 @@ impl RelaxationKind {
     pub fn can_apply(self, section: &[u8], offset: u64) -> bool
         ensures { IsTrue result ↔ CanRewrite (loongarch_rewrite self) section.now offset }
     {
-        match self {
-            RelaxationKind::NoOp | RelaxationKind::Delete => true,
-            RelaxationKind::ReplaceWithNop
-            | RelaxationKind::LdToAddi
-            | RelaxationKind::AddiToLd
-            | RelaxationKind::PcalaToPcaddi
-            | RelaxationKind::CallToBl
-            | RelaxationKind::CallToB
-            | RelaxationKind::PcalaToLu12i
-            | RelaxationKind::LowToOri
-            | RelaxationKind::LowToOriZero
-            | RelaxationKind::BaseToTp => has_window(section, offset, 0, 4),
-        }
+        window_is_in(section, offset, self.window())
+    }
+
+    /// The bytes that `apply` writes: the 4 from the offset, and none for `NoOp` and `Delete`.
+    /// Those that are then deleted (`deleted`) may lie behind them.
+    #[inline]
+    pub fn window(self) -> RewriteWindow
+        ensures { result ≡ window_of_rewrite (loongarch_rewrite self) }
+    {
+        let len = match self {
+            RelaxationKind::NoOp | RelaxationKind::Delete => 0,
+            _ => 4,
+        };
+        RewriteWindow { back: 0, len }
     }
 
     /// Whether the instruction that begins at an offset of a section, or the pair, is one that the
@@ -350,6 +354,10 @@ impl InstructionRewrite for RelaxationKind {
 
     ghost modifier = { loongarch_modifier };
 
+    ghost no_op = { λ kind. kind ≡ NoOp };
+
+    ghost stays = { λ kind is. (ap loongarch_rewrite is, ap loongarch_modifier is) };
+
     #[inline(always)]
     fn apply(self, section: &mut [u8], offset: &mut u64, addend: &mut i64) {
         RelaxationKind::apply(self, section, offset, addend);
@@ -361,7 +369,17 @@ impl InstructionRewrite for RelaxationKind {
     }
 
     #[inline(always)]
+    fn window(self) -> RewriteWindow {
+        RelaxationKind::window(self)
+    }
+
+    #[inline(always)]
     fn next_modifier(&self) -> RelocationModifier {
         RelaxationKind::next_modifier(self)
+    }
+
+    #[inline(always)]
+    fn is_no_op(self) -> bool {
+        matches!(self, RelaxationKind::NoOp)
     }
 }

@@ -1,10 +1,12 @@
 //! Relaxation rewrites of PowerPC64.
 
+ghost use Rattle.std.proofs.Common.{ap};
 ghost use Rattle.std.specs.Prelude.{slice_get, ◌≡◌, ◌≤◌, ◌↔◌, ◌+◌, ◌*◌, ◌^◌, ◌++◌, IsTrue, Some};
 ghost use Rattle.std.specs.Prelude.{length, take, drop};
 ghost use Rattle.std.specs.Int.{from_le_bytes, to_le_bytes, w32};
 ghost use Rattle.linker_base.specs.Bits.{field};
 ghost use Rattle.linker_base.specs.Rewrite.{CanRewrite, rewritten, offset_after, addend_after};
+ghost use Rattle.linker_base.specs.RewriteWindow.{window_of_rewrite};
 ghost use Rattle.linker_ppc64.specs.Ppc64Originals.{is_addis_of_toc, is_addi, is_ld, is_access};
 ghost use Rattle.linker_ppc64.specs.Ppc64Originals.{is_store, is_word_access, keeps_base};
 ghost use Rattle.linker_ppc64.specs.Ppc64Originals.{is_d_access, is_ds_access, is_over_base};
@@ -17,9 +19,10 @@ ghost use Rattle.linker_ppc64.specs.Ppc64Rewrites.{addis_of_thread, li_of, over_
 ghost use Rattle.linker_ppc64.specs.Ppc64Rewrites.{by_displacement};
 ghost use Rattle.linker_ppc64.specs.Ppc64Rewrites.{by_word_displacement, ppc64_rewrite};
 ghost use Rattle.linker_ppc64.specs.Ppc64Rewrites.{ppc64_rewrites, ppc64_modifier, two_words};
+ghost use Rattle.linker_ppc64.specs.declared.rewrites.RelaxationKind.TheVariants.{NoOp};
 
 use linker_base::relaxation::RelocationModifier;
-use linker_base::rewrite::{has_window, overwrite};
+use linker_base::rewrite::{RewriteWindow, has_window, overwrite, window_is_in};
 use linker_base::utils::u32_from_slice;
 use linker_elf::elf::InstructionRewrite;
 
@@ -454,23 +457,25 @@ impl RelaxationKind {
     pub fn can_apply(self, section: &[u8], offset: u64) -> bool
         ensures { IsTrue result ↔ CanRewrite (ppc64_rewrite self) section.now offset }
     {
-        match self {
-            RelaxationKind::NoOp => true,
-            RelaxationKind::AddisToNop
-            | RelaxationKind::BaseToToc
-            | RelaxationKind::LdToAddi
-            | RelaxationKind::LdToAddisThread
-            | RelaxationKind::AddToAddi
-            | RelaxationKind::IndexedToD
-            | RelaxationKind::IndexedToDs
-            | RelaxationKind::AddiToAddisThread
-            | RelaxationKind::AddiToLd => has_window(section, offset, 0, 4),
+        window_is_in(section, offset, self.window())
+    }
+
+    /// The bytes that `apply` writes, which begin at the offset: the instruction's 4. For a prefixed
+    /// instruction or a call and its `nop` they are 8, and for `NoOp` none.
+    #[inline]
+    pub fn window(self) -> RewriteWindow
+        ensures { result ≡ window_of_rewrite (ppc64_rewrite self) }
+    {
+        let len = match self {
+            RelaxationKind::NoOp => 0,
             RelaxationKind::PldToPaddi
             | RelaxationKind::CallToAddi
             | RelaxationKind::CallToAdd
             | RelaxationKind::CallToAddi4096
-            | RelaxationKind::NopToRestoreToc => has_window(section, offset, 0, 8),
-        }
+            | RelaxationKind::NopToRestoreToc => 8,
+            _ => 4,
+        };
+        RewriteWindow { back: 0, len }
     }
 
     /// Whether the instruction at an offset of a section is one that the rewrite is meant for:
@@ -530,6 +535,10 @@ impl InstructionRewrite for RelaxationKind {
 
     ghost modifier = { ppc64_modifier };
 
+    ghost no_op = { λ kind. kind ≡ NoOp };
+
+    ghost stays = { λ kind is. (ap ppc64_rewrite is, ap ppc64_modifier is) };
+
     #[inline(always)]
     fn apply(self, section: &mut [u8], offset: &mut u64, addend: &mut i64) {
         RelaxationKind::apply(self, section, offset, addend);
@@ -541,7 +550,17 @@ impl InstructionRewrite for RelaxationKind {
     }
 
     #[inline(always)]
+    fn window(self) -> RewriteWindow {
+        RelaxationKind::window(self)
+    }
+
+    #[inline(always)]
     fn next_modifier(&self) -> RelocationModifier {
         RelaxationKind::next_modifier(self)
+    }
+
+    #[inline(always)]
+    fn is_no_op(self) -> bool {
+        matches!(self, RelaxationKind::NoOp)
     }
 }

@@ -1,10 +1,12 @@
 //! RISC-V: relaxation rewrites.
 
 ghost use Rattle.linker_riscv64.specs.RiscVRewrites.{riscv_rewrites};
+ghost use Rattle.std.proofs.Common.{ap};
 ghost use Rattle.std.specs.Prelude.{slice_get, ◌≡◌, ◌≤◌, ◌↔◌, IsTrue, Some, length, ◌≢◌, ◌+◌, ◌++◌};
 ghost use Rattle.std.specs.Prelude.{take, drop};
 ghost use Rattle.std.specs.Int.{from_le_bytes, to_le_bytes, w16, w32};
 ghost use Rattle.linker_base.specs.Rewrite.{CanRewrite, rewritten, offset_after, addend_after};
+ghost use Rattle.linker_base.specs.RewriteWindow.{window_of_rewrite};
 ghost use Rattle.linker_base.specs.Bits.{field, signed};
 ghost use Rattle.linker_riscv64.specs.RiscVRewrites.{riscv_rewrite, riscv_modifier, hi20, lo12};
 ghost use Rattle.linker_riscv64.specs.RiscVRewrites.{IsSigned32};
@@ -17,11 +19,12 @@ ghost use Rattle.linker_riscv64.specs.RiscVOriginals.{IsClui};
 ghost use Rattle.linker_elf.specs.Agrees.{RowFits};
 ghost use Rattle.linker_elf.specs.Readings.{RowReadsNoOther};
 ghost use Rattle.linker_elf.specs.RiscVRelocations.{clui_row};
+ghost use Rattle.linker_riscv64.specs.declared.rewrites.RelaxationKind.TheVariants.{NoOp};
 
 use super::calls::{destination, is_call_pair, is_plain_call};
 use linker_base::bit_misc::BitExtraction;
 use linker_base::relaxation::RelocationModifier;
-use linker_base::rewrite::{DeletedBytes, has_window, overwrite};
+use linker_base::rewrite::{DeletedBytes, RewriteWindow, has_window, overwrite, window_is_in};
 use linker_base::utils::u32_from_slice;
 use linker_elf::elf::{InstructionRewrite, RelocationKindInfo, RiscVInstruction};
 use linker_elf::riscv64 as relocations;
@@ -348,24 +351,22 @@ impl RelaxationKind {
     pub fn can_apply(self, section: &[u8], offset: u64) -> bool
         ensures { IsTrue result ↔ CanRewrite (riscv_rewrite self) section.now offset }
     {
-        match self {
-            RelaxationKind::NoOp | RelaxationKind::Hi20Delete | RelaxationKind::Delete => true,
-            RelaxationKind::ReplaceWithNop
-            | RelaxationKind::CallToJal
-            | RelaxationKind::Lo12Rs1ToZero
-            | RelaxationKind::TailToJal
-            | RelaxationKind::ReplaceWithLongNop
-            | RelaxationKind::BaseToTp
-            | RelaxationKind::AddiToLui
-            | RelaxationKind::AddiToAuipc
-            | RelaxationKind::CallToAddi
-            | RelaxationKind::CallToAddiZero
-            | RelaxationKind::CallToLd
-            | RelaxationKind::LdToAddi => has_window(section, offset, 0, 4),
-            RelaxationKind::Hi20ToCLui | RelaxationKind::TailToCJ | RelaxationKind::CLuiToCLi => {
-                has_window(section, offset, 0, 2)
-            }
-        }
+        window_is_in(section, offset, self.window())
+    }
+
+    /// The bytes that `apply` writes, which begin at the offset: none for `NoOp`, `Hi20Delete` and
+    /// `Delete`, 2 for `Hi20ToCLui`, `TailToCJ` and `CLuiToCLi`, and 4 for the others. Those that
+    /// are then deleted (`deleted`) may lie behind them.
+    #[inline]
+    pub fn window(self) -> RewriteWindow
+        ensures { result ≡ window_of_rewrite (riscv_rewrite self) }
+    {
+        let len = match self {
+            RelaxationKind::NoOp | RelaxationKind::Hi20Delete | RelaxationKind::Delete => 0,
+            RelaxationKind::Hi20ToCLui | RelaxationKind::TailToCJ | RelaxationKind::CLuiToCLi => 2,
+            _ => 4,
+        };
+        RewriteWindow { back: 0, len }
     }
 
     /// Whether the instruction that begins at an offset of a section, or the pair, is one that the
@@ -498,6 +499,10 @@ impl InstructionRewrite for RelaxationKind {
 
     ghost modifier = { riscv_modifier };
 
+    ghost no_op = { λ kind. kind ≡ NoOp };
+
+    ghost stays = { λ kind is. (ap riscv_rewrite is, ap riscv_modifier is) };
+
     #[inline(always)]
     fn apply(self, section: &mut [u8], offset: &mut u64, addend: &mut i64) {
         RelaxationKind::apply(self, section, offset, addend);
@@ -509,8 +514,18 @@ impl InstructionRewrite for RelaxationKind {
     }
 
     #[inline(always)]
+    fn window(self) -> RewriteWindow {
+        RelaxationKind::window(self)
+    }
+
+    #[inline(always)]
     fn next_modifier(&self) -> RelocationModifier {
         RelaxationKind::next_modifier(self)
+    }
+
+    #[inline(always)]
+    fn is_no_op(self) -> bool {
+        matches!(self, RelaxationKind::NoOp)
     }
 }
 

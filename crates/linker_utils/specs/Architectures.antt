@@ -32,6 +32,11 @@ use Rattle.linker_x86_64.specs.X86.{x86_64_rewrites, x86_64_rewrite, x86_64_modi
 use Rattle.linker_x86_64.specs.X86Choices.{IsX86Choice}
 use Rattle.linker_x86_64.specs.X86Originals.{x86_64_matches}
 use Rattle.linker_elf.specs.X86Relocations.{x86_64_name, x86_64_row}
+use Rattle.linker_aarch64.specs.declared.rewrites.RelaxationKind.TheVariants as aarch64
+use Rattle.linker_loongarch64.specs.declared.rewrites.RelaxationKind.TheVariants as loongarch64
+use Rattle.linker_ppc64.specs.declared.rewrites.RelaxationKind.TheVariants as ppc64
+use Rattle.linker_riscv64.specs.declared.rewrites.RelaxationKind.TheVariants as riscv64
+use Rattle.linker_x86_64.specs.declared.rewrites.RelaxationKind.TheVariants as x86_64
 use Rattle.linker_utils.specs.declared.architecture.Relaxation.{Relaxation}
 use Rattle.linker_utils.specs.declared.architecture.Relaxation.TheVariants as relaxations
 use Rattle.linker_utils.specs.declared.elf.Architecture.{Architecture}
@@ -124,6 +129,14 @@ relaxation_modifier (relaxations.RiscV kind) = riscv_modifier kind
 relaxation_modifier (relaxations.LoongArch64 kind) = loongarch_modifier kind
 relaxation_modifier (relaxations.Ppc64 kind) = ppc64_modifier kind
 relaxation_modifier (relaxations.X86_64 kind) = x86_64_modifier kind
+
+-- it leaves the instruction as it is
+abbrev pub relaxation_no_op : Relaxation → Type 0
+relaxation_no_op (relaxations.AArch64 kind) = kind ≡ aarch64.NoOp
+relaxation_no_op (relaxations.RiscV kind) = kind ≡ riscv64.NoOp
+relaxation_no_op (relaxations.LoongArch64 kind) = kind ≡ loongarch64.NoOp
+relaxation_no_op (relaxations.Ppc64 kind) = kind ≡ ppc64.NoOp
+relaxation_no_op (relaxations.X86_64 kind) = kind ≡ x86_64.NoOp
 
 -- whether what is at an offset of a section is something that it is meant for
 abbrev pub relaxation_matches : Relaxation → List ℕ → ℕ → Type 0

@@ -1,2 +1,3 @@
 pub mod Architectures
+pub mod Inner
 pub mod Machines

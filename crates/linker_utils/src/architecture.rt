@@ -7,7 +7,8 @@ ghost use Rattle.linker_utils.specs.Architectures.{IsRow, IsElfName, IsRole, for
 ghost use Rattle.linker_utils.specs.Architectures.{rewrite_of_number, relaxation_rewrite};
 ghost use Rattle.linker_utils.specs.Architectures.{relaxation_modifier, relaxation_matches};
 ghost use Rattle.linker_utils.specs.Architectures.{relaxation_architecture, relaxation_deleted};
-ghost use Rattle.linker_utils.specs.Architectures.{relaxation_other};
+ghost use Rattle.linker_utils.specs.Architectures.{relaxation_other, relaxation_no_op};
+ghost use Rattle.linker_utils.specs.Inner.NoOps.{relaxation_stays};
 ghost use Rattle.linker_utils.specs.Architectures.{IsArchitectureChoice};
 ghost use Rattle.linker_elf.specs.ElfNames.{named, unnamed};
 ghost use Rattle.linker_elf.specs.Entries.{IsAnswerOf, IsGotAnswer, IsPltAnswer};
@@ -17,7 +18,7 @@ use crate::aarch64::{self, AArch64Relocation};
 use crate::elf::{
     AArch64Instruction, Architecture, Choice, InstructionRewrite, LinkFacts,
     LoongArch64Instruction, OtherRelocation, Ppc64Instruction, RelocationInstruction,
-    RiscVInstruction, Row, Uleb128Role,
+    RewriteWindow, RiscVInstruction, Row, Uleb128Role,
 };
 use crate::loongarch64::{self, LoongArch64Relocation};
 use crate::ppc64::{self, Ppc64Relocation};
@@ -112,6 +113,10 @@ impl InstructionRewrite for Relaxation {
 
     ghost modifier = { relaxation_modifier };
 
+    ghost no_op = { relaxation_no_op };
+
+    ghost stays = { relaxation_stays };
+
     #[inline(always)]
     fn apply(self, section: &mut [u8], offset: &mut u64, addend: &mut i64) {
         match self {
@@ -135,6 +140,17 @@ impl InstructionRewrite for Relaxation {
     }
 
     #[inline(always)]
+    fn window(self) -> RewriteWindow {
+        match self {
+            Relaxation::AArch64(kind) => kind.window(),
+            Relaxation::RiscV(kind) => kind.window(),
+            Relaxation::LoongArch64(kind) => kind.window(),
+            Relaxation::Ppc64(kind) => kind.window(),
+            Relaxation::X86_64(kind) => kind.window(),
+        }
+    }
+
+    #[inline(always)]
     fn next_modifier(&self) -> RelocationModifier {
         match self {
             Relaxation::AArch64(kind) => kind.next_modifier(),
@@ -142,6 +158,17 @@ impl InstructionRewrite for Relaxation {
             Relaxation::LoongArch64(kind) => kind.next_modifier(),
             Relaxation::Ppc64(kind) => kind.next_modifier(),
             Relaxation::X86_64(kind) => kind.next_modifier(),
+        }
+    }
+
+    #[inline(always)]
+    fn is_no_op(self) -> bool {
+        match self {
+            Relaxation::AArch64(kind) => kind.is_no_op(),
+            Relaxation::RiscV(kind) => kind.is_no_op(),
+            Relaxation::LoongArch64(kind) => kind.is_no_op(),
+            Relaxation::Ppc64(kind) => kind.is_no_op(),
+            Relaxation::X86_64(kind) => kind.is_no_op(),
         }
     }
 }

@@ -1,6 +1,7 @@
 -- What a linker knows, and what it chooses, in the numbers that C sees.
-use Rattle.std.specs.Prelude.{◌≡◌, ℕ, ◌==◌, not, Option, None, Some, Bool, pos}
+use Rattle.std.specs.Prelude.{◌≡◌, ℕ, ◌==◌, not, Option, None, Some, Bool, pos, Result, Ok, Err}
 use Rattle.linker_utils.specs.Architectures.{rewrite_of_number, relaxation_modifier}
+use Rattle.linker_utils.specs.Architectures.{relaxation_no_op}
 use Rattle.linker_utils.specs.Architectures.{relaxation_deleted, relaxation_other}
 use Rattle.linker_utils.specs.declared.architecture.Relaxation.{Relaxation}
 use Rattle.linker_utils.specs.declared.elf.Architecture.{Architecture}
@@ -10,7 +11,8 @@ use Rattle.linker_elf.specs.declared.elf.choice.OtherRelocation.{OtherRelocation
 use Rattle.linker_base.specs.declared.rewrite.DeletedBytes.{DeletedBytes}
 use Rattle.linker_utils_c.specs.declared.choices.ChoiceNumbers.{ChoiceNumbers}
 use Rattle.linker_utils_c.specs.declared.choices.LinkFactNumbers.{LinkFactNumbers}
-use Rattle.linker_utils_c.specs.Rewrites.{modifier_number}
+use Rattle.linker_utils_c.specs.declared.status.Status.{Status}
+use Rattle.linker_utils_c.specs.Rewrites.{modifier_number, named_rewrite}
 
 -- a number that isn't 0 is true
 abbrev pub is_set : ℕ → Bool
@@ -58,3 +60,13 @@ pub record IsChoiceInNumbers (architecture : Architecture) (chosen : Choice Rela
   pub modifier : numbers.modifier ≡ modifier_number (relaxation_modifier chosen.kind)
   pub deleted : IsDeleted (relaxation_deleted chosen.kind) numbers
   pub other : IsOther (relaxation_other chosen.kind) numbers
+
+-- there is a rewrite, and it leaves the instruction as it is
+abbrev pub IsNoOp : Result Relaxation Status → Type 0
+IsNoOp (Ok rewrite) = relaxation_no_op rewrite
+IsNoOp (Err status) = ⊥
+
+-- a choice at a relocation, in numbers, leaves it and its instruction as they are
+abbrev pub IsUnchanged : ℕ → ℕ → ChoiceNumbers → Type 0
+IsUnchanged machine r_type choice =
+    IsNoOp (named_rewrite machine choice.rewrite choice.n) × (choice.relocation ≡ r_type)

@@ -1,11 +1,11 @@
 //! Which rewrite a linker chooses, by `e_machine` and `r_type` of ELF files.
 
-ghost use Rattle.std.specs.Prelude.{◌≡◌, ℕ, IfSome, IfNone, Some};
+ghost use Rattle.std.specs.Prelude.{◌≡◌, ℕ, ◌↔◌, IfSome, IfNone, IsTrue, Some};
 ghost use Rattle.linker_utils.specs.Architectures.{IsArchitectureChoice, relaxation_architecture};
 ghost use Rattle.linker_utils.specs.Machines.{architecture_of};
 ghost use Rattle.linker_utils.specs.declared.architecture.Relaxation.{Relaxation};
 ghost use Rattle.linker_elf.specs.declared.elf.choice.Choice.{Choice};
-ghost use Rattle.linker_utils_c.specs.Choices.{is_set, facts_of, IsChoiceInNumbers};
+ghost use Rattle.linker_utils_c.specs.Choices.{is_set, facts_of, IsChoiceInNumbers, IsUnchanged};
 ghost use Rattle.linker_utils_c.specs.Status.{code};
 
 use crate::rewrites::number_of;
@@ -134,4 +134,24 @@ pub extern "C" fn linker_utils_choose_nonnull(
     let chosen = architecture.choose(r_type, section, offset, &facts.facts());
     *choice = in_numbers(chosen);
     Status::Success.number()
+}
+
+/// Whether a choice at the relocation with `r_type` leaves it and its instruction as they are.
+/// False of a choice whose rewrite is none of the machine's.
+#[unsafe(no_mangle)]
+pub extern "C" fn linker_utils_is_unchanged(
+    machine: u16,
+    r_type: u32,
+    choice: &ChoiceNumbers,
+) -> bool
+    ensures { IsTrue result ↔ IsUnchanged machine r_type choice.now }
+{
+    let Some(architecture) = Architecture::from_machine(machine) else {
+        return false;
+    };
+    let Some(kind) = architecture.rewrite(choice.rewrite, choice.n) else {
+        return false;
+    };
+    let relocation = choice.relocation;
+    Choice { kind, relocation }.is_unchanged(r_type)
 }

@@ -6,10 +6,11 @@ ghost use Rattle.linker_riscv64.specs.RiscVRewrites.{riscv_rewrite, riscv_rewrit
 ghost use Rattle.linker_utils.specs.Architectures.{relaxation_rewrite, relaxation_modifier};
 ghost use Rattle.linker_utils_c.specs.Rewrites.{named_rewrite, modifier_number, TakesRewrite};
 ghost use Rattle.linker_utils_c.specs.Rewrites.{IsRewritten, MatchesRewrite};
+ghost use Rattle.linker_base.specs.RewriteWindow.{window_of_rewrite};
 ghost use Rattle.linker_utils_c.specs.Status.{code};
 
 use crate::status::Status;
-use linker_utils::elf::{Architecture, EM_X86_64, InstructionRewrite};
+use linker_utils::elf::{Architecture, EM_X86_64, InstructionRewrite, RewriteWindow};
 use linker_utils::relaxation::RelocationModifier;
 use linker_utils::{aarch64, loongarch64, ppc64, riscv64, x86_64};
 
@@ -315,6 +316,30 @@ pub extern "C" fn linker_utils_apply_nonnull(
         return apply_of(machine, 0, n, section, offset, addend);
     }
     apply_of(machine, rewrite, n, section, offset, addend)
+}
+
+/// The window of a rewrite: the bytes that `linker_utils_apply` writes at an offset. It has 0 bytes
+/// where the rewrite writes none. The errors are `UnknownArchitecture` and `UnknownRewrite`.
+#[unsafe(no_mangle)]
+pub extern "C" fn linker_utils_rewrite_window(
+    machine: u16,
+    rewrite: u32,
+    n: u8,
+    window: &mut RewriteWindow,
+) -> u32
+    ensures found { IfOk (named_rewrite machine rewrite n) (λ named. (result ≡ code Status.Success)
+        × (window.new ≡ window_of_rewrite (relaxation_rewrite named))) }
+    ensures unknown { IfErr (named_rewrite machine rewrite n)
+        (λ status. (result ≡ code status) × (window.new ≡ window.old)) }
+{
+    let Some(architecture) = Architecture::from_machine(machine) else {
+        return Status::UnknownArchitecture.number();
+    };
+    let Some(named) = architecture.rewrite(rewrite, n) else {
+        return Status::UnknownRewrite.number();
+    };
+    *window = named.window();
+    Status::Success.number()
 }
 
 /// What becomes of the relocation after that of the rewritten instruction, into `modifier`: 0 where

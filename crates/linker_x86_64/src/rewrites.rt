@@ -1,10 +1,12 @@
 //! Relaxation rewrites of x86-64.
 
 ghost use Rattle.linker_x86_64.specs.X86.{x86_64_rewrites};
+ghost use Rattle.std.proofs.Common.{ap};
 ghost use Rattle.std.specs.Prelude.{slice_get, ◌≡◌, ◌≤◌, ◌↔◌, ◌∷◌, [], IsTrue, Some};
 ghost use Rattle.std.specs.Prelude.{◌<◌, length};
 ghost use Rattle.linker_base.specs.Rewrite.{IsRewritable, CanRewrite, rewritten, offset_after};
 ghost use Rattle.linker_base.specs.Rewrite.{addend_after};
+ghost use Rattle.linker_base.specs.RewriteWindow.{window_of_rewrite};
 ghost use Rattle.linker_x86_64.specs.X86.{rex_reg_to_rm, evex_reg_to_rm, modrm_reg_to_rm, operand};
 ghost use Rattle.linker_x86_64.specs.X86.{prefixed_operand, evex_operand, absolute, by_immediate};
 ghost use Rattle.linker_x86_64.specs.X86.{x86_64_rewrite, x86_64_modifier, KeepsRegister};
@@ -12,10 +14,11 @@ ghost use Rattle.linker_x86_64.specs.X86Originals.{original, is_at, is_one_at, l
 ghost use Rattle.linker_x86_64.specs.X86Originals.{legacy_or_evex, lea_of_descriptor};
 ghost use Rattle.linker_x86_64.specs.X86Originals.{x86_64_originals, x86_64_matches};
 ghost use Rattle.linker_x86_64.specs.X86RelocationsAfter as replaced;
+ghost use Rattle.linker_x86_64.specs.declared.rewrites.RelaxationKind.TheVariants.{NoOp};
 
 use super::X86_64Relocation;
 use linker_base::relaxation::RelocationModifier;
-use linker_base::rewrite::{has_window, overwrite};
+use linker_base::rewrite::{RewriteWindow, has_window, overwrite};
 use linker_elf::elf::InstructionRewrite;
 
 /// A rewrite of the instructions around a relocated field of 4 or 8 bytes, whose offset is the
@@ -731,6 +734,44 @@ impl RelaxationKind {
         }
     }
 
+    /// The bytes that `apply` writes; none for `NoOp`. The field whose value is written afterwards
+    /// lies behind them, as the last 4 of the 16 bytes of a general-dynamic sequence; but
+    /// `JmpIndirectToRelative` and `TlsGdToLocalExecLarge` write 0 to their field.
+    #[inline]
+    pub fn window(self) -> RewriteWindow
+        ensures { result ≡ window_of_rewrite (x86_64_rewrite self) }
+    {
+        let (back, len) = match self {
+            RelaxationKind::NoOp => (0, 0),
+            RelaxationKind::MovIndirectToLea | RelaxationKind::TlsDescToInitialExec => (2, 1),
+            RelaxationKind::MovIndirectToAbsolute | RelaxationKind::CallIndirectToRelative => {
+                (2, 2)
+            }
+            RelaxationKind::RexMovIndirectToAbsolute(_)
+            | RelaxationKind::RexSubIndirectToAbsolute(_)
+            | RelaxationKind::RexCmpIndirectToAbsolute(_)
+            | RelaxationKind::TlsDescToLocalExec(_) => (3, 3),
+            RelaxationKind::JmpIndirectToRelative => (2, 6),
+            RelaxationKind::TlsGdToLocalExec | RelaxationKind::TlsGdToInitialExec => (4, 12),
+            RelaxationKind::TlsGdToLocalExecLarge | RelaxationKind::TlsLdToLocalExec64 => (3, 22),
+            RelaxationKind::TlsLdToLocalExec => (3, 12),
+            RelaxationKind::TlsLdToLocalExecNoPlt => (3, 13),
+            RelaxationKind::SkipTlsDescCall => (0, 2),
+            RelaxationKind::RexAddIndirectToAbsolute(n)
+            | RelaxationKind::RexAdcIndirectToAbsolute(n)
+            | RelaxationKind::RexAndIndirectToAbsolute(n)
+            | RelaxationKind::RexOrIndirectToAbsolute(n)
+            | RelaxationKind::RexSbbIndirectToAbsolute(n)
+            | RelaxationKind::RexXorIndirectToAbsolute(n)
+            | RelaxationKind::RexTestIndirectToAbsolute(n) => match n {
+                3 | 4 => (3, 3),
+                6 => (5, 5),
+                _ => (2, 2),
+            },
+        };
+        RewriteWindow { back, len }
+    }
+
     /// Whether the instruction or the sequence at an offset is one that the rewrite is for.
     #[inline(always)]
     fn is_for(self, section: &[u8], offset: u64) -> bool
@@ -899,6 +940,10 @@ impl InstructionRewrite for RelaxationKind {
 
     ghost modifier = { x86_64_modifier };
 
+    ghost no_op = { λ kind. kind ≡ NoOp };
+
+    ghost stays = { λ kind is. (ap x86_64_rewrite is, ap x86_64_modifier is) };
+
     #[inline(always)]
     fn apply(self, section: &mut [u8], offset: &mut u64, addend: &mut i64) {
         RelaxationKind::apply(self, section, offset, addend);
@@ -910,7 +955,17 @@ impl InstructionRewrite for RelaxationKind {
     }
 
     #[inline(always)]
+    fn window(self) -> RewriteWindow {
+        RelaxationKind::window(self)
+    }
+
+    #[inline(always)]
     fn next_modifier(&self) -> RelocationModifier {
         RelaxationKind::next_modifier(self)
+    }
+
+    #[inline(always)]
+    fn is_no_op(self) -> bool {
+        matches!(self, RelaxationKind::NoOp)
     }
 }

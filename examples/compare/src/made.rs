@@ -8,7 +8,6 @@ use linker_utils::elf::{Architecture, InstructionRewrite, Operands, Row};
 use linker_utils::reading::{FieldValue, read, solve};
 use linker_utils::recognise::{self, FieldBits};
 use linker_utils::relaxation::RelocationModifier;
-use linker_utils::{aarch64, loongarch64, ppc64, riscv64, x86_64};
 
 /// A rewrite.
 #[derive(Clone, Copy)]
@@ -28,19 +27,10 @@ pub struct Chosen {
 impl Chosen {
     /// Whether it changes instructions.
     pub fn is_rewrite(&self) -> bool {
-        if let Kind::Own(form) = self.kind {
-            return !form.name.is_empty();
+        match self.kind {
+            Kind::Library(kind) => !kind.is_no_op(),
+            Kind::Own(form) => !form.name.is_empty(),
         }
-        !matches!(
-            self.kind,
-            Kind::Library(
-                Relaxation::AArch64(aarch64::RelaxationKind::NoOp)
-                    | Relaxation::RiscV(riscv64::RelaxationKind::NoOp)
-                    | Relaxation::LoongArch64(loongarch64::RelaxationKind::NoOp)
-                    | Relaxation::Ppc64(ppc64::RelaxationKind::NoOp)
-                    | Relaxation::X86_64(x86_64::RelaxationKind::NoOp)
-            )
-        )
     }
 
     /// The rewrite's name, and nothing for `NoOp`.

@@ -116,3 +116,20 @@ pub fn linker_utils_choose_nonnull(
     *choice = in_numbers(chosen);
     Status::Success.number()
 }
+
+/// Whether a choice at the relocation with `r_type` leaves it and its instruction as they are.
+/// False of a choice whose rewrite is none of the machine's.
+pub fn linker_utils_is_unchanged(
+    machine: u16,
+    r_type: u32,
+    choice: &ChoiceNumbers,
+) -> bool {
+    let Some(architecture) = Architecture::from_machine(machine) else {
+        return false;
+    };
+    let Some(kind) = architecture.rewrite(choice.rewrite, choice.n) else {
+        return false;
+    };
+    let relocation = choice.relocation;
+    Choice { kind, relocation }.is_unchanged(r_type)
+}

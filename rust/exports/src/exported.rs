@@ -13,6 +13,7 @@ use crate::relocate::Relocation;
 use crate::section_items::SectionRelocation;
 use linker_utils::elf::Operands;
 use linker_utils::elf::RelocationNumbers;
+use linker_utils::elf::RewriteWindow;
 use linker_utils::recognise::FieldBits;
 use linker_utils::relaxation::BlockHead;
 use linker_utils::relaxation::RelaxDelta;
@@ -146,6 +147,22 @@ unsafe extern "C" fn linker_utils_choose_nonnull(
             offset,
             &*facts,
             &mut *choice,
+        )
+    }
+}
+
+#[unsafe(no_mangle)]
+unsafe extern "C" fn linker_utils_is_unchanged(
+    machine: u16,
+    r_type: u32,
+    choice: *const ChoiceNumbers,
+) -> bool {
+    // SAFETY: the arguments are as the head of the header says.
+    unsafe {
+        crate::choices::linker_utils_is_unchanged(
+            machine,
+            r_type,
+            &*choice,
         )
     }
 }
@@ -1079,6 +1096,24 @@ unsafe extern "C" fn linker_utils_apply_nonnull(
             from_raw_parts_mut(section, section_len),
             &mut *offset,
             &mut *addend,
+        )
+    }
+}
+
+#[unsafe(no_mangle)]
+unsafe extern "C" fn linker_utils_rewrite_window(
+    machine: u16,
+    rewrite: u32,
+    n: u8,
+    window: *mut RewriteWindow,
+) -> u32 {
+    // SAFETY: the arguments are as the head of the header says.
+    unsafe {
+        crate::rewrites::linker_utils_rewrite_window(
+            machine,
+            rewrite,
+            n,
+            &mut *window,
         )
     }
 }

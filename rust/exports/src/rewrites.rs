@@ -2,7 +2,7 @@
 //! Rewrites of instructions, by `e_machine` and a rewrite's number.
 
 use crate::status::Status;
-use linker_utils::elf::{Architecture, EM_X86_64, InstructionRewrite};
+use linker_utils::elf::{Architecture, EM_X86_64, InstructionRewrite, RewriteWindow};
 use linker_utils::relaxation::RelocationModifier;
 use linker_utils::{aarch64, loongarch64, ppc64, riscv64, x86_64};
 
@@ -216,6 +216,24 @@ pub fn linker_utils_apply_nonnull(
         return apply_of(machine, 0, n, section, offset, addend);
     }
     apply_of(machine, rewrite, n, section, offset, addend)
+}
+
+/// The window of a rewrite: the bytes that `linker_utils_apply` writes at an offset. It has 0 bytes
+/// where the rewrite writes none. The errors are `UnknownArchitecture` and `UnknownRewrite`.
+pub fn linker_utils_rewrite_window(
+    machine: u16,
+    rewrite: u32,
+    n: u8,
+    window: &mut RewriteWindow,
+) -> u32 {
+    let Some(architecture) = Architecture::from_machine(machine) else {
+        return Status::UnknownArchitecture.number();
+    };
+    let Some(named) = architecture.rewrite(rewrite, n) else {
+        return Status::UnknownRewrite.number();
+    };
+    *window = named.window();
+    Status::Success.number()
 }
 
 /// What becomes of the relocation after that of the rewritten instruction, into `modifier`: 0 where

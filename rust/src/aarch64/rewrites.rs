@@ -3,7 +3,7 @@
 
 use crate::linker_base::bit_misc::BitExtraction;
 use crate::linker_base::relaxation::RelocationModifier;
-use crate::linker_base::rewrite::{has_window, overwrite};
+use crate::linker_base::rewrite::{RewriteWindow, has_window, overwrite};
 use crate::linker_base::utils::u32_from_slice;
 use crate::linker_elf::aarch64::AArch64Relocation;
 use crate::linker_elf::elf::{InstructionRewrite, OtherRelocation};
@@ -241,6 +241,19 @@ impl RelaxationKind {
         }
     }
 
+    /// The bytes that `apply` writes: the instruction's 4. For `AdrpAddToNopAdr` they are the pair's
+    /// 8, which begin 4 bytes before the offset, and for `NoOp` none.
+    #[must_use]
+    #[inline]
+    pub fn window(self) -> RewriteWindow {
+        let (back, len) = match self {
+            RelaxationKind::NoOp => (0, 0),
+            RelaxationKind::AdrpAddToNopAdr => (4, 8),
+            _ => (0, 4),
+        };
+        RewriteWindow { back, len }
+    }
+
     /// Whether the instruction at an offset of a section, or the pair that ends there, is one that
     /// the rewrite is meant for: `can_apply`, and the opcodes and registers. `NoOp` is meant for
     /// any offset and `ReplaceWithNop` for any instruction in the section.
@@ -318,7 +331,17 @@ impl InstructionRewrite for RelaxationKind {
     }
 
     #[inline(always)]
+    fn window(self) -> RewriteWindow {
+        RelaxationKind::window(self)
+    }
+
+    #[inline(always)]
     fn next_modifier(&self) -> RelocationModifier {
         RelaxationKind::next_modifier(self)
+    }
+
+    #[inline(always)]
+    fn is_no_op(self) -> bool {
+        matches!(self, RelaxationKind::NoOp)
     }
 }

@@ -19,6 +19,7 @@ pub use crate::linker_elf::riscv64::RiscVInstruction;
 pub use choice::{Choice, LinkFacts, OtherRelocation};
 use crate::linker_base::bit_misc::BitRange;
 use crate::linker_base::relaxation::RelocationModifier;
+pub use crate::linker_base::rewrite::RewriteWindow;
 pub use numbers::RelocationNumbers;
 pub use relocate::RelocateError;
 pub use rows::Row;
@@ -420,9 +421,18 @@ pub trait InstructionRewrite: Copy {
     #[must_use]
     fn can_apply(self, section: &[u8], offset: u64) -> bool;
 
+    /// The bytes that `apply` writes at an offset.
+    #[must_use]
+    fn window(self) -> RewriteWindow;
+
     /// What becomes of the relocation after the rewritten one.
     #[must_use]
     fn next_modifier(&self) -> RelocationModifier;
+
+    /// Whether it is `NoOp`, which leaves the instruction and all other relocations as they are.
+    /// `Delete`, which writes no bytes either, isn't.
+    #[must_use]
+    fn is_no_op(self) -> bool;
 }
 
 impl InstructionForm for RelocationInstruction {

@@ -2,7 +2,7 @@
 //! LoongArch: relaxation rewrites.
 
 use crate::linker_base::relaxation::RelocationModifier;
-use crate::linker_base::rewrite::{DeletedBytes, has_window, overwrite};
+use crate::linker_base::rewrite::{DeletedBytes, RewriteWindow, has_window, overwrite, window_is_in};
 use crate::linker_base::utils::u32_from_slice;
 use crate::linker_elf::elf::InstructionRewrite;
 
@@ -220,19 +220,19 @@ impl RelaxationKind {
     #[must_use]
     #[inline]
     pub fn can_apply(self, section: &[u8], offset: u64) -> bool {
-        match self {
-            RelaxationKind::NoOp | RelaxationKind::Delete => true,
-            RelaxationKind::ReplaceWithNop
-            | RelaxationKind::LdToAddi
-            | RelaxationKind::AddiToLd
-            | RelaxationKind::PcalaToPcaddi
-            | RelaxationKind::CallToBl
-            | RelaxationKind::CallToB
-            | RelaxationKind::PcalaToLu12i
-            | RelaxationKind::LowToOri
-            | RelaxationKind::LowToOriZero
-            | RelaxationKind::BaseToTp => has_window(section, offset, 0, 4),
-        }
+        window_is_in(section, offset, self.window())
+    }
+
+    /// The bytes that `apply` writes: the 4 from the offset, and none for `NoOp` and `Delete`.
+    /// Those that are then deleted (`deleted`) may lie behind them.
+    #[must_use]
+    #[inline]
+    pub fn window(self) -> RewriteWindow {
+        let len = match self {
+            RelaxationKind::NoOp | RelaxationKind::Delete => 0,
+            _ => 4,
+        };
+        RewriteWindow { back: 0, len }
     }
 
     /// Whether the instruction that begins at an offset of a section, or the pair, is one that the
@@ -309,7 +309,17 @@ impl InstructionRewrite for RelaxationKind {
     }
 
     #[inline(always)]
+    fn window(self) -> RewriteWindow {
+        RelaxationKind::window(self)
+    }
+
+    #[inline(always)]
     fn next_modifier(&self) -> RelocationModifier {
         RelaxationKind::next_modifier(self)
+    }
+
+    #[inline(always)]
+    fn is_no_op(self) -> bool {
+        matches!(self, RelaxationKind::NoOp)
     }
 }

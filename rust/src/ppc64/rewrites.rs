@@ -2,7 +2,7 @@
 //! Relaxation rewrites of PowerPC64.
 
 use crate::linker_base::relaxation::RelocationModifier;
-use crate::linker_base::rewrite::{has_window, overwrite};
+use crate::linker_base::rewrite::{RewriteWindow, has_window, overwrite, window_is_in};
 use crate::linker_base::utils::u32_from_slice;
 use crate::linker_elf::elf::InstructionRewrite;
 
@@ -364,23 +364,24 @@ impl RelaxationKind {
     #[must_use]
     #[inline]
     pub fn can_apply(self, section: &[u8], offset: u64) -> bool {
-        match self {
-            RelaxationKind::NoOp => true,
-            RelaxationKind::AddisToNop
-            | RelaxationKind::BaseToToc
-            | RelaxationKind::LdToAddi
-            | RelaxationKind::LdToAddisThread
-            | RelaxationKind::AddToAddi
-            | RelaxationKind::IndexedToD
-            | RelaxationKind::IndexedToDs
-            | RelaxationKind::AddiToAddisThread
-            | RelaxationKind::AddiToLd => has_window(section, offset, 0, 4),
+        window_is_in(section, offset, self.window())
+    }
+
+    /// The bytes that `apply` writes, which begin at the offset: the instruction's 4. For a prefixed
+    /// instruction or a call and its `nop` they are 8, and for `NoOp` none.
+    #[must_use]
+    #[inline]
+    pub fn window(self) -> RewriteWindow {
+        let len = match self {
+            RelaxationKind::NoOp => 0,
             RelaxationKind::PldToPaddi
             | RelaxationKind::CallToAddi
             | RelaxationKind::CallToAdd
             | RelaxationKind::CallToAddi4096
-            | RelaxationKind::NopToRestoreToc => has_window(section, offset, 0, 8),
-        }
+            | RelaxationKind::NopToRestoreToc => 8,
+            _ => 4,
+        };
+        RewriteWindow { back: 0, len }
     }
 
     /// Whether the instruction at an offset of a section is one that the rewrite is meant for:
@@ -446,7 +447,17 @@ impl InstructionRewrite for RelaxationKind {
     }
 
     #[inline(always)]
+    fn window(self) -> RewriteWindow {
+        RelaxationKind::window(self)
+    }
+
+    #[inline(always)]
     fn next_modifier(&self) -> RelocationModifier {
         RelaxationKind::next_modifier(self)
+    }
+
+    #[inline(always)]
+    fn is_no_op(self) -> bool {
+        matches!(self, RelaxationKind::NoOp)
     }
 }

@@ -4,7 +4,7 @@
 use super::calls::{destination, is_call_pair, is_plain_call};
 use crate::linker_base::bit_misc::BitExtraction;
 use crate::linker_base::relaxation::RelocationModifier;
-use crate::linker_base::rewrite::{DeletedBytes, has_window, overwrite};
+use crate::linker_base::rewrite::{DeletedBytes, RewriteWindow, has_window, overwrite, window_is_in};
 use crate::linker_base::utils::u32_from_slice;
 use crate::linker_elf::elf::{InstructionRewrite, RelocationKindInfo, RiscVInstruction};
 use crate::linker_elf::riscv64 as relocations;
@@ -283,24 +283,21 @@ impl RelaxationKind {
     #[must_use]
     #[inline(always)]
     pub fn can_apply(self, section: &[u8], offset: u64) -> bool {
-        match self {
-            RelaxationKind::NoOp | RelaxationKind::Hi20Delete | RelaxationKind::Delete => true,
-            RelaxationKind::ReplaceWithNop
-            | RelaxationKind::CallToJal
-            | RelaxationKind::Lo12Rs1ToZero
-            | RelaxationKind::TailToJal
-            | RelaxationKind::ReplaceWithLongNop
-            | RelaxationKind::BaseToTp
-            | RelaxationKind::AddiToLui
-            | RelaxationKind::AddiToAuipc
-            | RelaxationKind::CallToAddi
-            | RelaxationKind::CallToAddiZero
-            | RelaxationKind::CallToLd
-            | RelaxationKind::LdToAddi => has_window(section, offset, 0, 4),
-            RelaxationKind::Hi20ToCLui | RelaxationKind::TailToCJ | RelaxationKind::CLuiToCLi => {
-                has_window(section, offset, 0, 2)
-            }
-        }
+        window_is_in(section, offset, self.window())
+    }
+
+    /// The bytes that `apply` writes, which begin at the offset: none for `NoOp`, `Hi20Delete` and
+    /// `Delete`, 2 for `Hi20ToCLui`, `TailToCJ` and `CLuiToCLi`, and 4 for the others. Those that
+    /// are then deleted (`deleted`) may lie behind them.
+    #[must_use]
+    #[inline]
+    pub fn window(self) -> RewriteWindow {
+        let len = match self {
+            RelaxationKind::NoOp | RelaxationKind::Hi20Delete | RelaxationKind::Delete => 0,
+            RelaxationKind::Hi20ToCLui | RelaxationKind::TailToCJ | RelaxationKind::CLuiToCLi => 2,
+            _ => 4,
+        };
+        RewriteWindow { back: 0, len }
     }
 
     /// Whether the instruction that begins at an offset of a section, or the pair, is one that the
@@ -429,8 +426,18 @@ impl InstructionRewrite for RelaxationKind {
     }
 
     #[inline(always)]
+    fn window(self) -> RewriteWindow {
+        RelaxationKind::window(self)
+    }
+
+    #[inline(always)]
     fn next_modifier(&self) -> RelocationModifier {
         RelaxationKind::next_modifier(self)
+    }
+
+    #[inline(always)]
+    fn is_no_op(self) -> bool {
+        matches!(self, RelaxationKind::NoOp)
     }
 }
 

@@ -3,7 +3,7 @@
 
 use super::X86_64Relocation;
 use crate::linker_base::relaxation::RelocationModifier;
-use crate::linker_base::rewrite::{has_window, overwrite};
+use crate::linker_base::rewrite::{RewriteWindow, has_window, overwrite};
 use crate::linker_elf::elf::InstructionRewrite;
 
 /// A rewrite of the instructions around a relocated field of 4 or 8 bytes, whose offset is the
@@ -647,6 +647,43 @@ impl RelaxationKind {
         }
     }
 
+    /// The bytes that `apply` writes; none for `NoOp`. The field whose value is written afterwards
+    /// lies behind them, as the last 4 of the 16 bytes of a general-dynamic sequence; but
+    /// `JmpIndirectToRelative` and `TlsGdToLocalExecLarge` write 0 to their field.
+    #[must_use]
+    #[inline]
+    pub fn window(self) -> RewriteWindow {
+        let (back, len) = match self {
+            RelaxationKind::NoOp => (0, 0),
+            RelaxationKind::MovIndirectToLea | RelaxationKind::TlsDescToInitialExec => (2, 1),
+            RelaxationKind::MovIndirectToAbsolute | RelaxationKind::CallIndirectToRelative => {
+                (2, 2)
+            }
+            RelaxationKind::RexMovIndirectToAbsolute(_)
+            | RelaxationKind::RexSubIndirectToAbsolute(_)
+            | RelaxationKind::RexCmpIndirectToAbsolute(_)
+            | RelaxationKind::TlsDescToLocalExec(_) => (3, 3),
+            RelaxationKind::JmpIndirectToRelative => (2, 6),
+            RelaxationKind::TlsGdToLocalExec | RelaxationKind::TlsGdToInitialExec => (4, 12),
+            RelaxationKind::TlsGdToLocalExecLarge | RelaxationKind::TlsLdToLocalExec64 => (3, 22),
+            RelaxationKind::TlsLdToLocalExec => (3, 12),
+            RelaxationKind::TlsLdToLocalExecNoPlt => (3, 13),
+            RelaxationKind::SkipTlsDescCall => (0, 2),
+            RelaxationKind::RexAddIndirectToAbsolute(n)
+            | RelaxationKind::RexAdcIndirectToAbsolute(n)
+            | RelaxationKind::RexAndIndirectToAbsolute(n)
+            | RelaxationKind::RexOrIndirectToAbsolute(n)
+            | RelaxationKind::RexSbbIndirectToAbsolute(n)
+            | RelaxationKind::RexXorIndirectToAbsolute(n)
+            | RelaxationKind::RexTestIndirectToAbsolute(n) => match n {
+                3 | 4 => (3, 3),
+                6 => (5, 5),
+                _ => (2, 2),
+            },
+        };
+        RewriteWindow { back, len }
+    }
+
     /// Whether the instruction or the sequence at an offset is one that the rewrite is for.
     #[inline(always)]
     fn is_for(self, section: &[u8], offset: u64) -> bool {
@@ -819,7 +856,17 @@ impl InstructionRewrite for RelaxationKind {
     }
 
     #[inline(always)]
+    fn window(self) -> RewriteWindow {
+        RelaxationKind::window(self)
+    }
+
+    #[inline(always)]
     fn next_modifier(&self) -> RelocationModifier {
         RelaxationKind::next_modifier(self)
+    }
+
+    #[inline(always)]
+    fn is_no_op(self) -> bool {
+        matches!(self, RelaxationKind::NoOp)
     }
 }

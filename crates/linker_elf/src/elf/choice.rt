@@ -5,7 +5,7 @@ ghost use Rattle.linker_elf.specs.Choices.{IsBound, HasAddresses, RowReaches, op
 ghost use Rattle.linker_elf.specs.Choices.{RowIsWithin, low_12_bounds, symbol_and_addend};
 ghost use Rattle.linker_elf.specs.Elf.{IsWithin};
 
-use crate::elf::{Operands, Row};
+use crate::elf::{InstructionRewrite, Operands, Row};
 
 /// What a linker knows of a relocation's symbol and of its output when it chooses a rewrite. By
 /// default no fact holds, and nothing is rewritten.
@@ -63,6 +63,33 @@ pub struct Choice<K, R> {
     pub kind: K,
     /// The relocation's name after the rewrite.
     pub relocation: R,
+}
+
+impl<K: InstructionRewrite, R: Copy + PartialEq> Choice<K, R> {
+    /// Whether the choice at a relocation with a name leaves both as they are: the rewrite is
+    /// `NoOp`, and the relocation after it has the same name. The rewrite of another instruction
+    /// may still change the relocation (`OtherRelocation`).
+    ///
+    /// ```
+    /// use linker_utils::elf::{LinkFacts, Operands};
+    /// use linker_utils::x86_64::{X86_64Relocation, choose};
+    ///
+    /// // call *x@GOTPCREL(%rip), where x may be of another file, and where it isn't
+    /// let (call, name) = ([0xff, 0x15, 0, 0, 0, 0], X86_64Relocation::R_X86_64_GOTPCRELX);
+    /// let operands = Operands { addend: -4, ..Operands::default() };
+    /// let mut facts = LinkFacts { operands, ..LinkFacts::default() };
+    /// assert!(choose(name, &call, 2, &facts).is_unchanged(name));
+    /// facts.is_local = true;
+    /// facts.has_fixed_distance = true;
+    /// assert!(!choose(name, &call, 2, &facts).is_unchanged(name));
+    /// ```
+    #[inline]
+    pub fn is_unchanged(&self, name: R) -> bool
+        ensures { IsTrue result
+            ↔ (K.no_op self.now.kind × IsTrue (R.eq self.now.relocation name)) }
+    {
+        self.kind.is_no_op() && self.relocation == name
+    }
 }
 
 /// The relocation of another instruction that a rewrite changes too. Whatever relocation is there

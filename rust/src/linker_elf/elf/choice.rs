@@ -1,7 +1,7 @@
 // Made by tools/erase of crates/linker_elf/src/elf/choice.rt.
 //! What a linker knows of a symbol and of its output, and the rewrite that it chooses by that.
 
-use crate::linker_elf::elf::{Operands, Row};
+use crate::linker_elf::elf::{InstructionRewrite, Operands, Row};
 
 /// What a linker knows of a relocation's symbol and of its output when it chooses a rewrite. By
 /// default no fact holds, and nothing is rewritten.
@@ -59,6 +59,31 @@ pub struct Choice<K, R> {
     pub kind: K,
     /// The relocation's name after the rewrite.
     pub relocation: R,
+}
+
+impl<K: InstructionRewrite, R: Copy + PartialEq> Choice<K, R> {
+    /// Whether the choice at a relocation with a name leaves both as they are: the rewrite is
+    /// `NoOp`, and the relocation after it has the same name. The rewrite of another instruction
+    /// may still change the relocation (`OtherRelocation`).
+    ///
+    /// ```
+    /// use linker_utils::elf::{LinkFacts, Operands};
+    /// use linker_utils::x86_64::{X86_64Relocation, choose};
+    ///
+    /// // call *x@GOTPCREL(%rip), where x may be of another file, and where it isn't
+    /// let (call, name) = ([0xff, 0x15, 0, 0, 0, 0], X86_64Relocation::R_X86_64_GOTPCRELX);
+    /// let operands = Operands { addend: -4, ..Operands::default() };
+    /// let mut facts = LinkFacts { operands, ..LinkFacts::default() };
+    /// assert!(choose(name, &call, 2, &facts).is_unchanged(name));
+    /// facts.is_local = true;
+    /// facts.has_fixed_distance = true;
+    /// assert!(!choose(name, &call, 2, &facts).is_unchanged(name));
+    /// ```
+    #[must_use]
+    #[inline]
+    pub fn is_unchanged(&self, name: R) -> bool {
+        self.kind.is_no_op() && self.relocation == name
+    }
 }
 
 /// The relocation of another instruction that a rewrite changes too. Whatever relocation is there

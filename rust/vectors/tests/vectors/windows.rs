@@ -3,18 +3,19 @@
 
 use linker_utils::elf::{
     Architecture, InstructionRewrite, LoongArch64Instruction, RelocateError, RelocationInstruction,
-    RelocationKind, RelocationKindInfo, RelocationSize, RiscVInstruction, Row,
+    RelocationKind, RelocationKindInfo, RelocationSize, RewriteWindow, RiscVInstruction, Row,
 };
 use linker_utils::{aarch64, loongarch64, riscv64};
 use std::fmt::Debug;
 
-/// Requires that a rewrite may be applied to a section that is its window alone, of which the bytes
-/// from `back` on are the instruction at the offset, and to none where a byte of it is missing.
+/// Requires that a rewrite's window is a whole section, of which the bytes from `back` on are the
+/// instruction at the offset, and that it may be applied there, and nowhere where a byte is missing.
 pub(crate) fn requires_window<R: InstructionRewrite + Copy + Debug>(
     kind: R,
     section: &[u8],
     back: u64,
 ) {
+    assert_eq!(kind.window(), RewriteWindow { back, len: section.len() as u64 }, "{kind:?}");
     assert!(kind.can_apply(section, back), "{kind:?}");
     for len in 0..section.len() {
         assert!(!kind.can_apply(&section[..len], back), "{kind:?}, {len:?}");
@@ -31,6 +32,7 @@ pub(crate) fn requires_window<R: InstructionRewrite + Copy + Debug>(
 
 /// Requires that a rewrite of no bytes may be applied anywhere.
 fn requires_nothing<R: InstructionRewrite + Copy + Debug>(kind: R) {
+    assert_eq!(kind.window(), RewriteWindow::default(), "{kind:?}");
     for offset in [0, 5, u64::MAX] {
         assert!(kind.can_apply(&[], offset), "{kind:?}, {offset:?}");
     }
