@@ -2,120 +2,26 @@
 
 ghost use Rattle.std.specs.Prelude.{◌≡◌, ◌≤◌, ◌↔◌, Some, None, length};
 ghost use Rattle.linker_elf.specs.AArch64Relocations.{aarch64_name, aarch64_row};
-ghost use Rattle.linker_recognise.specs.AArch64Recognised.{AArch64Choice, AArch64Leaves};
-ghost use Rattle.linker_recognise.specs.AArch64Recognised.{aarch64_choices, AArch64Made};
+ghost use Rattle.linker_recognise.specs.AArch64Recognised.{AArch64Leaves};
+ghost use Rattle.linker_recognise.specs.AArch64Recognised.{AArch64Made};
 ghost use Rattle.linker_recognise.specs.AArch64Recognised.{AArch64Reads, IsAArch64Found};
-ghost use Rattle.linker_recognise.specs.Inner.Candidates.{padded};
 ghost use Rattle.linker_recognise.specs.Recognised.{IsOneOf, AreThose};
 ghost use Rattle.linker_recognise.specs.WrittenRows.{WrittenIsLeft};
-ghost use Rattle.linker_elf.specs.Choices as choices;
 ghost use Rattle.linker_aarch64.specs.AArch64Choices.{IsAArch64Choice};
 ghost use Rattle.linker_aarch64.specs.AArch64Originals.{aarch64_matches};
 ghost use Rattle.linker_aarch64.specs.AArch64Rewrites.{aarch64_rewrite};
 ghost use Rattle.linker_utils.specs.declared.architecture.Relaxation.TheVariants as relaxations;
 ghost use Rattle.linker_elf.specs.declared.elf.choice.LinkFacts.{LinkFacts};
 
-use crate::candidates::{CANDIDATES, one, three, two};
+use crate::candidates::{CANDIDATES, candidates};
 use crate::engine::{Kind, Made, Name, recognise_among, recognise_one};
 use crate::fields::FieldBits;
-use linker_utils::aarch64::{AArch64Relocation, RelaxationKind, choose, row};
+use linker_utils::aarch64::{AArch64Relocation, RelaxationKind, choose, entries, row};
 use linker_utils::architecture::Relaxation;
 use linker_utils::elf::{Choice, LinkFacts, Row};
 use linker_utils::riscv64::DeletedBytes;
 
-type AArch64Choice = Choice<RelaxationKind, AArch64Relocation>;
-
 type AArch64Made = Made<RelaxationKind, AArch64Relocation>;
-
-#[inline(always)]
-fn choice(kind: RelaxationKind, relocation: AArch64Relocation) -> AArch64Choice
-    ensures { result ≡ choices.choice kind relocation }
-{
-    Choice { kind, relocation }
-}
-
-/// The choices of a relocation.
-fn candidates(name: AArch64Relocation) -> [Option<AArch64Choice>; CANDIDATES]
-    ensures { result ≡ padded (aarch64_choices name) }
-{
-    let unchanged = choice(RelaxationKind::NoOp, name);
-    match name {
-        AArch64Relocation::R_AARCH64_ADR_GOT_PAGE => two(
-            choice(
-                RelaxationKind::NoOp,
-                AArch64Relocation::R_AARCH64_ADR_PREL_PG_HI21,
-            ),
-            unchanged,
-        ),
-        AArch64Relocation::R_AARCH64_LD64_GOT_LO12_NC => two(
-            choice(
-                RelaxationKind::LdrToAdd,
-                AArch64Relocation::R_AARCH64_ADD_ABS_LO12_NC,
-            ),
-            unchanged,
-        ),
-        AArch64Relocation::R_AARCH64_ADD_ABS_LO12_NC => two(
-            choice(
-                RelaxationKind::AdrpAddToNopAdr,
-                AArch64Relocation::R_AARCH64_ADR_PREL_LO21,
-            ),
-            unchanged,
-        ),
-        AArch64Relocation::R_AARCH64_TLSIE_ADR_GOTTPREL_PAGE21 => two(
-            choice(
-                RelaxationKind::MovzXnLsl16,
-                AArch64Relocation::R_AARCH64_TLSLE_MOVW_TPREL_G1,
-            ),
-            unchanged,
-        ),
-        AArch64Relocation::R_AARCH64_TLSIE_LD64_GOTTPREL_LO12_NC => two(
-            choice(
-                RelaxationKind::MovkXn,
-                AArch64Relocation::R_AARCH64_TLSLE_MOVW_TPREL_G0_NC,
-            ),
-            unchanged,
-        ),
-        AArch64Relocation::R_AARCH64_TLSDESC_ADR_PAGE21 => three(
-            choice(
-                RelaxationKind::MovzX0Lsl16,
-                AArch64Relocation::R_AARCH64_TLSLE_MOVW_TPREL_G1,
-            ),
-            choice(
-                RelaxationKind::AdrpX0,
-                AArch64Relocation::R_AARCH64_TLSIE_ADR_GOTTPREL_PAGE21,
-            ),
-            unchanged,
-        ),
-        AArch64Relocation::R_AARCH64_TLSDESC_LD64_LO12 => three(
-            choice(
-                RelaxationKind::MovkX0,
-                AArch64Relocation::R_AARCH64_TLSLE_MOVW_TPREL_G0_NC,
-            ),
-            choice(
-                RelaxationKind::LdrX0,
-                AArch64Relocation::R_AARCH64_TLSIE_LD64_GOTTPREL_LO12_NC,
-            ),
-            unchanged,
-        ),
-        AArch64Relocation::R_AARCH64_TLSDESC_ADD_LO12 | AArch64Relocation::R_AARCH64_TLSDESC_CALL =>
-            {
-                // for local-exec and for initial-exec
-                let erased = choice(
-                    RelaxationKind::ReplaceWithNop,
-                    AArch64Relocation::R_AARCH64_NONE,
-                );
-                three(erased, erased, unchanged)
-            }
-        AArch64Relocation::R_AARCH64_CALL26 | AArch64Relocation::R_AARCH64_JUMP26 => two(
-            choice(
-                RelaxationKind::ReplaceWithNop,
-                AArch64Relocation::R_AARCH64_NONE,
-            ),
-            unchanged,
-        ),
-        _ => one(unchanged),
-    }
-}
 
 impl Kind for RelaxationKind {
     ghost matches = { aarch64_matches };
@@ -195,7 +101,12 @@ pub fn recognise(
         → AArch64Leaves m.choice original.now offset others.now linked.now
         → AArch64Reads m.choice offset linked.now m.offset m.value → IsOneOf (Some m) result }
 {
-    recognise_among(candidates(name), original, offset, others, linked)
+    let unchanged = Choice {
+        kind: RelaxationKind::NoOp,
+        relocation: name,
+    };
+    let choices = candidates(entries(name), unchanged);
+    recognise_among(choices, original, offset, others, linked)
 }
 
 /// The choice that `choose` makes by what the linker knows, if it leaves the linked bytes, as

@@ -2,141 +2,26 @@
 
 ghost use Rattle.std.specs.Prelude.{◌≡◌, ◌≤◌, ◌↔◌, Some, length};
 ghost use Rattle.linker_elf.specs.LoongArchRelocations.{loongarch_name, loongarch_row};
-ghost use Rattle.linker_recognise.specs.LoongArchRecognised.{LoongArchChoice, LoongArchLeaves};
-ghost use Rattle.linker_recognise.specs.LoongArchRecognised.{loongarch_choices, LoongArchMade};
+ghost use Rattle.linker_recognise.specs.LoongArchRecognised.{LoongArchLeaves};
+ghost use Rattle.linker_recognise.specs.LoongArchRecognised.{LoongArchMade};
 ghost use Rattle.linker_recognise.specs.LoongArchRecognised.{LoongArchReads, IsLoongArchFound};
-ghost use Rattle.linker_recognise.specs.Inner.Candidates.{padded};
 ghost use Rattle.linker_recognise.specs.Recognised.{IsOneOf, AreThose};
 ghost use Rattle.linker_recognise.specs.WrittenRows.{WrittenIsLeft};
-ghost use Rattle.linker_elf.specs.Choices as choices;
 ghost use Rattle.linker_loongarch64.specs.LoongArchChoices.{IsLoongArchChoice};
 ghost use Rattle.linker_loongarch64.specs.LoongArchOriginals.{loongarch_matches};
 ghost use Rattle.linker_loongarch64.specs.LoongArchRewrites.{loongarch_rewrite, loongarch_deleted};
 ghost use Rattle.linker_utils.specs.declared.architecture.Relaxation.TheVariants as relaxations;
 ghost use Rattle.linker_elf.specs.declared.elf.choice.LinkFacts.{LinkFacts};
 
-use crate::candidates::{CANDIDATES, one, three, two};
+use crate::candidates::{CANDIDATES, candidates};
 use crate::engine::{Kind, Made, Name, recognise_among, recognise_one};
 use crate::fields::FieldBits;
 use linker_utils::architecture::Relaxation;
 use linker_utils::elf::{Choice, LinkFacts, Row};
-use linker_utils::loongarch64::{LoongArch64Relocation, RelaxationKind, choose, row};
+use linker_utils::loongarch64::{LoongArch64Relocation, RelaxationKind, choose, entries, row};
 use linker_utils::riscv64::DeletedBytes;
 
-type LoongArchChoice = Choice<RelaxationKind, LoongArch64Relocation>;
-
 type LoongArchMade = Made<RelaxationKind, LoongArch64Relocation>;
-
-#[inline(always)]
-fn choice(kind: RelaxationKind, relocation: LoongArch64Relocation) -> LoongArchChoice
-    ensures { result ≡ choices.choice kind relocation }
-{
-    Choice { kind, relocation }
-}
-
-/// The choices of a relocation.
-fn candidates(name: LoongArch64Relocation) -> [Option<LoongArchChoice>; CANDIDATES]
-    ensures { result ≡ padded (loongarch_choices name) }
-{
-    let unchanged = choice(RelaxationKind::NoOp, name);
-    match name {
-        LoongArch64Relocation::R_LARCH_GOT_PC_HI20 => three(
-            choice(
-                RelaxationKind::PcalaToPcaddi,
-                LoongArch64Relocation::R_LARCH_PCREL20_S2,
-            ),
-            choice(
-                RelaxationKind::NoOp,
-                LoongArch64Relocation::R_LARCH_PCALA_HI20,
-            ),
-            unchanged,
-        ),
-        LoongArch64Relocation::R_LARCH_GOT_PC_LO12 => three(
-            choice(RelaxationKind::Delete, LoongArch64Relocation::R_LARCH_NONE),
-            choice(
-                RelaxationKind::LdToAddi,
-                LoongArch64Relocation::R_LARCH_PCALA_LO12,
-            ),
-            unchanged,
-        ),
-        LoongArch64Relocation::R_LARCH_PCALA_HI20 => two(
-            choice(
-                RelaxationKind::PcalaToPcaddi,
-                LoongArch64Relocation::R_LARCH_PCREL20_S2,
-            ),
-            unchanged,
-        ),
-        LoongArch64Relocation::R_LARCH_PCALA_LO12
-        | LoongArch64Relocation::R_LARCH_TLS_LE_HI20_R
-        | LoongArch64Relocation::R_LARCH_TLS_LE_ADD_R => two(
-            choice(RelaxationKind::Delete, LoongArch64Relocation::R_LARCH_NONE),
-            unchanged,
-        ),
-        LoongArch64Relocation::R_LARCH_CALL36 => three(
-            choice(RelaxationKind::CallToB, LoongArch64Relocation::R_LARCH_B26),
-            choice(RelaxationKind::CallToBl, LoongArch64Relocation::R_LARCH_B26),
-            unchanged,
-        ),
-        LoongArch64Relocation::R_LARCH_TLS_IE_PC_HI20 => three(
-            choice(
-                RelaxationKind::ReplaceWithNop,
-                LoongArch64Relocation::R_LARCH_NONE,
-            ),
-            choice(
-                RelaxationKind::PcalaToLu12i,
-                LoongArch64Relocation::R_LARCH_TLS_LE_HI20,
-            ),
-            unchanged,
-        ),
-        LoongArch64Relocation::R_LARCH_TLS_IE_PC_LO12 => three(
-            choice(
-                RelaxationKind::LowToOriZero,
-                LoongArch64Relocation::R_LARCH_TLS_LE_LO12,
-            ),
-            choice(
-                RelaxationKind::LowToOri,
-                LoongArch64Relocation::R_LARCH_TLS_LE_LO12,
-            ),
-            unchanged,
-        ),
-        LoongArch64Relocation::R_LARCH_TLS_DESC_PC_HI20 => three(
-            choice(
-                RelaxationKind::PcalaToLu12i,
-                LoongArch64Relocation::R_LARCH_TLS_LE_HI20,
-            ),
-            choice(
-                RelaxationKind::NoOp,
-                LoongArch64Relocation::R_LARCH_TLS_IE_PC_HI20,
-            ),
-            unchanged,
-        ),
-        LoongArch64Relocation::R_LARCH_TLS_DESC_PC_LO12 => three(
-            choice(
-                RelaxationKind::LowToOri,
-                LoongArch64Relocation::R_LARCH_TLS_LE_LO12,
-            ),
-            choice(
-                RelaxationKind::AddiToLd,
-                LoongArch64Relocation::R_LARCH_TLS_IE_PC_LO12,
-            ),
-            unchanged,
-        ),
-        LoongArch64Relocation::R_LARCH_TLS_DESC_LD | LoongArch64Relocation::R_LARCH_TLS_DESC_CALL =>
-            {
-                // for local-exec and for initial-exec
-                let erased = choice(
-                    RelaxationKind::ReplaceWithNop,
-                    LoongArch64Relocation::R_LARCH_NONE,
-                );
-                three(erased, erased, unchanged)
-            }
-        LoongArch64Relocation::R_LARCH_TLS_LE_LO12_R => two(
-            choice(RelaxationKind::BaseToTp, name),
-            unchanged,
-        ),
-        _ => one(unchanged),
-    }
-}
 
 impl Kind for RelaxationKind {
     ghost matches = { loongarch_matches };
@@ -219,7 +104,12 @@ pub fn recognise(
         → LoongArchLeaves m.choice original.now offset others.now linked.now
         → LoongArchReads m.choice offset linked.now m.offset m.value → IsOneOf (Some m) result }
 {
-    recognise_among(candidates(name), original, offset, others, linked)
+    let unchanged = Choice {
+        kind: RelaxationKind::NoOp,
+        relocation: name,
+    };
+    let choices = candidates(entries(name), unchanged);
+    recognise_among(choices, original, offset, others, linked)
 }
 
 /// The choice that `choose` makes by what the linker knows, if it leaves the linked bytes, as

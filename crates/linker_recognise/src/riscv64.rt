@@ -2,132 +2,24 @@
 
 ghost use Rattle.std.specs.Prelude.{◌≡◌, ◌≤◌, ◌↔◌, Some, length};
 ghost use Rattle.linker_elf.specs.RiscVRelocations.{riscv_name};
-ghost use Rattle.linker_recognise.specs.RiscVRecognised.{RiscVChoice, RiscVLeaves, riscv_choices};
+ghost use Rattle.linker_recognise.specs.RiscVRecognised.{RiscVLeaves};
 ghost use Rattle.linker_recognise.specs.RiscVRecognised.{RiscVMade, RiscVReads, IsRiscVFound};
-ghost use Rattle.linker_recognise.specs.Inner.Candidates.{padded};
 ghost use Rattle.linker_recognise.specs.Recognised.{IsOneOf, AreThose};
 ghost use Rattle.linker_recognise.specs.WrittenRows.{WrittenIsLeft};
-ghost use Rattle.linker_elf.specs.Choices as choices;
 ghost use Rattle.linker_riscv64.specs.RiscVChoices.{riscv_row_of, IsRiscVChoice};
 ghost use Rattle.linker_riscv64.specs.RiscVOriginals.{riscv_matches};
 ghost use Rattle.linker_riscv64.specs.RiscVRewrites.{riscv_rewrite, riscv_deleted};
 ghost use Rattle.linker_utils.specs.declared.architecture.Relaxation.TheVariants as relaxations;
 ghost use Rattle.linker_elf.specs.declared.elf.choice.LinkFacts.{LinkFacts};
 
-use crate::candidates::{CANDIDATES, five, four, one, three, two};
+use crate::candidates::{CANDIDATES, candidates};
 use crate::engine::{Kind, Made, Name, recognise_among, recognise_one};
 use crate::fields::FieldBits;
 use linker_utils::architecture::Relaxation;
 use linker_utils::elf::{Choice, LinkFacts, Row};
-use linker_utils::riscv64::{DeletedBytes, RelaxationKind, RiscVRelocation, choose, row};
-
-type RiscVChoice = Choice<RelaxationKind, RiscVRelocation>;
+use linker_utils::riscv64::{DeletedBytes, RelaxationKind, RiscVRelocation, choose, entries, row};
 
 type RiscVMade = Made<RelaxationKind, RiscVRelocation>;
-
-#[inline(always)]
-fn choice(kind: RelaxationKind, relocation: RiscVRelocation) -> RiscVChoice
-    ensures { result ≡ choices.choice kind relocation }
-{
-    Choice { kind, relocation }
-}
-
-/// The choices of a relocation.
-fn candidates(name: RiscVRelocation) -> [Option<RiscVChoice>; CANDIDATES]
-    ensures { result ≡ padded (riscv_choices name) }
-{
-    let unchanged = choice(RelaxationKind::NoOp, name);
-    match name {
-        RiscVRelocation::R_RISCV_CALL | RiscVRelocation::R_RISCV_CALL_PLT => four(
-            choice(RelaxationKind::TailToCJ, RiscVRelocation::R_RISCV_RVC_JUMP),
-            choice(RelaxationKind::TailToJal, RiscVRelocation::R_RISCV_JAL),
-            choice(RelaxationKind::CallToJal, RiscVRelocation::R_RISCV_JAL),
-            unchanged,
-        ),
-        RiscVRelocation::R_RISCV_HI20 => three(
-            choice(RelaxationKind::Hi20Delete, RiscVRelocation::R_RISCV_NONE),
-            choice(RelaxationKind::Hi20ToCLui, RiscVRelocation::R_RISCV_RVC_LUI),
-            unchanged,
-        ),
-        RiscVRelocation::R_RISCV_RVC_LUI => two(
-            choice(RelaxationKind::CLuiToCLi, RiscVRelocation::R_RISCV_NONE),
-            unchanged,
-        ),
-        RiscVRelocation::R_RISCV_LO12_I => two(
-            choice(RelaxationKind::Lo12Rs1ToZero, name),
-            unchanged,
-        ),
-        RiscVRelocation::R_RISCV_LO12_S => two(
-            choice(RelaxationKind::Lo12Rs1ToZero, name),
-            unchanged,
-        ),
-        RiscVRelocation::R_RISCV_TPREL_HI20 | RiscVRelocation::R_RISCV_TPREL_ADD => two(
-            choice(RelaxationKind::Delete, RiscVRelocation::R_RISCV_NONE),
-            unchanged,
-        ),
-        RiscVRelocation::R_RISCV_TPREL_LO12_I => two(
-            choice(RelaxationKind::BaseToTp, name),
-            unchanged,
-        ),
-        RiscVRelocation::R_RISCV_TPREL_LO12_S => two(
-            choice(RelaxationKind::BaseToTp, name),
-            unchanged,
-        ),
-        RiscVRelocation::R_RISCV_TLSDESC_HI20 | RiscVRelocation::R_RISCV_TLSDESC_LOAD_LO12 => five(
-            choice(RelaxationKind::Delete, RiscVRelocation::R_RISCV_NONE),
-            choice(
-                RelaxationKind::ReplaceWithLongNop,
-                RiscVRelocation::R_RISCV_NONE,
-            ),
-            choice(RelaxationKind::Delete, RiscVRelocation::R_RISCV_NONE),
-            choice(
-                RelaxationKind::ReplaceWithLongNop,
-                RiscVRelocation::R_RISCV_NONE,
-            ),
-            unchanged,
-        ),
-        RiscVRelocation::R_RISCV_TLSDESC_ADD_LO12 => five(
-            choice(RelaxationKind::Delete, RiscVRelocation::R_RISCV_NONE),
-            choice(
-                RelaxationKind::ReplaceWithLongNop,
-                RiscVRelocation::R_RISCV_NONE,
-            ),
-            choice(
-                RelaxationKind::AddiToLui,
-                RiscVRelocation::R_RISCV_TPREL_HI20,
-            ),
-            choice(
-                RelaxationKind::AddiToAuipc,
-                RiscVRelocation::R_RISCV_TLS_GOT_HI20,
-            ),
-            unchanged,
-        ),
-        RiscVRelocation::R_RISCV_TLSDESC_CALL => four(
-            choice(
-                RelaxationKind::CallToAddiZero,
-                RiscVRelocation::R_RISCV_TPREL_LO12_I,
-            ),
-            choice(
-                RelaxationKind::CallToAddi,
-                RiscVRelocation::R_RISCV_TPREL_LO12_I,
-            ),
-            choice(
-                RelaxationKind::CallToLd,
-                RiscVRelocation::R_RISCV_PCREL_LO12_I,
-            ),
-            unchanged,
-        ),
-        RiscVRelocation::R_RISCV_GOT_HI20 => two(
-            choice(RelaxationKind::NoOp, RiscVRelocation::R_RISCV_PCREL_HI20),
-            unchanged,
-        ),
-        RiscVRelocation::R_RISCV_PCREL_LO12_I => two(
-            choice(RelaxationKind::LdToAddi, name),
-            unchanged,
-        ),
-        _ => one(unchanged),
-    }
-}
 
 impl Kind for RelaxationKind {
     ghost matches = { riscv_matches };
@@ -207,7 +99,12 @@ pub fn recognise(
         → RiscVLeaves m.choice original.now offset others.now linked.now
         → RiscVReads m.choice offset linked.now m.offset m.value → IsOneOf (Some m) result }
 {
-    recognise_among(candidates(name), original, offset, others, linked)
+    let unchanged = Choice {
+        kind: RelaxationKind::NoOp,
+        relocation: name,
+    };
+    let choices = candidates(entries(name), unchanged);
+    recognise_among(choices, original, offset, others, linked)
 }
 
 /// The choice that `choose` makes by what the linker knows, if it leaves the linked bytes, as
