@@ -1,4 +1,8 @@
-use Rattle.std.proofs.Common.{ℕ, subst}
+use Rattle.std.proofs.Common.{ℕ, subst, ap, ◌∙◌}
+use Rattle.linker_elf.specs.Choices.{choice}
+use Rattle.linker_x86_64.specs.declared.rewrites.RelaxationKind.TheVariants as kinds
+use Rattle.linker_recognise.specs.Inner.Candidates.{padded}
+use Rattle.linker_recognise.proofs.Tables.{same_choices}
 use Rattle.linker_recognise.specs.Recognised.{AreThose, IsMade, IsFound}
 use Rattle.linker_recognise.specs.X86Recognised.{X86Choice, X86Leaves, X86Reads, x86_64_choices}
 use Rattle.linker_recognise.proofs.X86Made.{x86_chosen_is_one}
@@ -10,7 +14,8 @@ pub returns-clause-found : goal.returns-clause-found
 returns-clause-found c =
     subst (λ (opcode : ℕ). AreThose (IsFound (IsMade (x86_64_choices (x86_64_table c.args.name opcode) c.args.name) x86_64_matches X86Leaves c.args.original.now c.args.offset c.args.others.now c.args.linked.now)
     (λ (d : X86Choice). X86Reads d c.args.offset c.args.linked.now)) c.recognise_among.result)
-    c.opcode_before.ensures (c.recognise_among.ensures _ c.candidates-choices.ensures)
+    c.opcode_before.ensures (c.recognise_among.ensures (x86_64_choices (x86_64_table c.args.name c.opcode_before.result) c.args.name)
+    (c.candidates-choices.ensures ∙ ap padded (same_choices _ _ _ (x86_64_table c.args.name c.opcode_before.result).entries (choice kinds.NoOp c.args.name) c.entries.ensures.table)))
 
 pub returns-clause-any : goal.returns-clause-any
 returns-clause-any c = λ facts m is leaves reads.
