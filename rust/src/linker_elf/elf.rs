@@ -3,6 +3,7 @@
 //! forms and of rewrites, and what a linker knows when it chooses a rewrite.
 
 mod choice;
+pub mod choice_table;
 pub(crate) mod engine;
 mod entries;
 mod numbers;

@@ -1,6 +1,7 @@
 // Made by tools/erase of crates/linker_elf/src/aarch64/relocations.rt.
 //! What the relocations of AArch64 mean.
 
+use crate::linker_elf::elf::choice_table::RelocationName;
 use crate::linker_elf::elf::rows::{
     TableRow, code_of_name, index_of_name, info_in, name_of_code, row, row_in, table, text_of_name,
 };
@@ -408,6 +409,13 @@ const fn index(name: AArch64Relocation) -> usize {
 #[inline(always)]
 pub const fn row(name: AArch64Relocation) -> Option<Row> {
     row_in(&ROWS[index(name)])
+}
+
+impl RelocationName for AArch64Relocation {
+    #[inline(always)]
+    fn find_row(self) -> Option<Row> {
+        row(self)
+    }
 }
 
 /// What a relocation means, as `row` says.

@@ -102,16 +102,37 @@ impl LinkFacts {
     #[doc(hidden)]
     #[must_use]
     #[inline(always)]
-    pub fn is_within(&self, row: Option<Row>, bounds: (i64, i64), back: u64) -> bool {
-        self.has_addresses && value_is_within(row, bounds, &self.operands, back)
+    pub fn is_within(
+        &self,
+        row: Option<Row>,
+        after: &Operands,
+        bounds: (i64, i64),
+        back: u64,
+    ) -> bool {
+        self.has_addresses && value_is_within(row, bounds, after, back)
     }
 
     /// The same, or that no address is known.
     #[doc(hidden)]
     #[must_use]
     #[inline(always)]
-    pub fn is_within_if_known(&self, row: Option<Row>, bounds: (i64, i64), back: u64) -> bool {
-        !self.has_addresses || value_is_within(row, bounds, &self.operands, back)
+    pub fn is_within_if_known(
+        &self,
+        row: Option<Row>,
+        after: &Operands,
+        bounds: (i64, i64),
+        back: u64,
+    ) -> bool {
+        !self.has_addresses || value_is_within(row, bounds, after, back)
+    }
+
+    /// Whether S + A is known, and is a number of 12 bits in two's complement.
+    #[must_use]
+    #[inline(always)]
+    pub fn is_low_12(&self) -> bool {
+        let addend = self.operands.addend.cast_unsigned();
+        let address = self.operands.symbol.wrapping_add(addend).cast_signed();
+        self.has_addresses && -0x800 <= address && address < 0x800
     }
 }
 

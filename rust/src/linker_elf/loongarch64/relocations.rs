@@ -1,6 +1,7 @@
 // Made by tools/erase of crates/linker_elf/src/loongarch64/relocations.rt.
 //! What the relocations of LoongArch mean.
 
+use crate::linker_elf::elf::choice_table::RelocationName;
 use crate::linker_elf::elf::rows::{
     TableRow, code_of_name, index_of_name, name_of_code, raw_info_in, row, row_in, table,
     text_of_name,
@@ -279,6 +280,13 @@ const fn index(name: LoongArch64Relocation) -> usize {
 #[inline(always)]
 pub const fn row(name: LoongArch64Relocation) -> Option<Row> {
     row_in(&ROWS[index(name)])
+}
+
+impl RelocationName for LoongArch64Relocation {
+    #[inline(always)]
+    fn find_row(self) -> Option<Row> {
+        row(self)
+    }
 }
 
 /// The name whose row the crate `linker-utils` has for a name: there `R_LARCH_ALIGN` has no kind of

@@ -1,6 +1,7 @@
 // Made by tools/erase of crates/linker_elf/src/ppc64/relocations.rt.
 //! What the relocations of PowerPC64 mean.
 
+use crate::linker_elf::elf::choice_table::RelocationName;
 use crate::linker_elf::elf::rows::{
     TableRow, code_of_name, index_of_name, name_of_code, raw_info_in, row, row_in, table,
     text_of_name,
@@ -280,6 +281,13 @@ const fn index(name: Ppc64Relocation) -> usize {
 #[inline(always)]
 pub const fn row(name: Ppc64Relocation) -> Option<Row> {
     row_in(&ROWS[index(name)])
+}
+
+impl RelocationName for Ppc64Relocation {
+    #[inline(always)]
+    fn find_row(self) -> Option<Row> {
+        row(self)
+    }
 }
 
 /// What a relocation means, as `row` says, or `None` for those that PowerPC64 compilers write and

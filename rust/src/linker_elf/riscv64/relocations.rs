@@ -1,6 +1,7 @@
 // Made by tools/erase of crates/linker_elf/src/riscv64/relocations.rt.
 //! What the relocations of RISC-V mean.
 
+use crate::linker_elf::elf::choice_table::RelocationName;
 use crate::linker_elf::elf::rows::{
     TableRow, code_of_name, index_of_name, name_of_code, raw_info_in, row, row_in, table,
     text_of_name,
@@ -221,6 +222,13 @@ const fn index(name: RiscVRelocation) -> usize {
 #[inline(always)]
 pub const fn row(name: RiscVRelocation) -> Option<Row> {
     row_in(&ROWS[index(name)])
+}
+
+impl RelocationName for RiscVRelocation {
+    #[inline(always)]
+    fn find_row(self) -> Option<Row> {
+        row(self)
+    }
 }
 
 /// What `R_RISCV_HI20` means once its `lui` has become a `c.lui`: the row of `R_RISCV_RVC_LUI`.

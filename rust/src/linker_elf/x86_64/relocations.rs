@@ -1,6 +1,7 @@
 // Made by tools/erase of crates/linker_elf/src/x86_64/relocations.rt.
 //! What the relocations of x86-64 mean.
 
+use crate::linker_elf::elf::choice_table::RelocationName;
 use crate::linker_elf::elf::rows::{
     TableRow, code_of_name, index_of_name, info_in, name_of_code, row, row_in, table, text_of_name,
 };
@@ -158,6 +159,13 @@ const fn index(name: X86_64Relocation) -> usize {
 #[inline(always)]
 pub const fn row(name: X86_64Relocation) -> Option<Row> {
     row_in(&ROWS[index(name)])
+}
+
+impl RelocationName for X86_64Relocation {
+    #[inline(always)]
+    fn find_row(self) -> Option<Row> {
+        row(self)
+    }
 }
 
 /// What a relocation means, as `row` says.
