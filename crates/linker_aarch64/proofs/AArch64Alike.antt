@@ -1,6 +1,6 @@
 -- The relocations of a pair or of a sequence are chosen alike: each by one condition, and by another
 -- one if that doesn't hold, of the place of the first.
-use Rattle.std.proofs.Common.{◌≡◌, ◌↔◌, ◌<◌, ◌≤◌, inl, inr, ℕ, ◌+◌, ◌-◌, ◌^◌, List, [], ◌∷◌, sym, subst, arith}
+use Rattle.std.proofs.Common.{◌≡◌, ◌↔◌, ◌≤◌, inl, inr, ℕ, ◌+◌, ◌-◌, List, [], ◌∷◌, sym, subst, arith}
 use Rattle.std.specs.Prelude.{◌⊎◌}
 use Rattle.linker_aarch64.specs.AArch64Choices.{IsDescriptorSequence, IsOfDescriptor, to_address, to_local_exec, to_initial_exec, IsEntryLoad, AArch64Applies, AArch64Choice, AArch64Entry, IsAskedFor, erased, descriptor_entries, GotPairIsChosenAlike, InitialExecPairIsChosenAlike, DescriptorIsChosenAlike}
 use Rattle.linker_aarch64.specs.AArch64Originals.{aarch64_matches}
@@ -10,7 +10,7 @@ use Rattle.linker_elf.specs.declared.aarch64.relocations.AArch64Relocation.{AArc
 use Rattle.linker_elf.specs.declared.aarch64.relocations.AArch64Relocation.TheVariants as r
 use Rattle.linker_aarch64.specs.declared.rewrites.RelaxationKind.TheVariants.{NoOp, MovzX0Lsl16, MovkX0, MovzXnLsl16, MovkXn, AdrpX0, LdrX0, LdrToAdd}
 use Rattle.linker_elf.specs.declared.elf.choice.LinkFacts.{LinkFacts}
-use Rattle.linker_aarch64.proofs.AArch64Choices.{AppliesAt, applies_of, of_applies, load_matches_add, load_matches_movk, load_matches_movz, adrp_matches, ldr_matches, nop_matches}
+use Rattle.linker_aarch64.proofs.AArch64Choices.{load_matches_add, load_matches_movk, load_matches_movz, adrp_matches, ldr_matches, nop_matches}
 use Rattle.linker_elf.proofs.Choices.{same_reach}
 
 -- a choice by a condition
@@ -104,50 +104,35 @@ sequence_on n s o =
 
 -- ---- pairs
 
-applies_as : (name : AArch64Relocation) (s : List ℕ) (o : ℕ) (facts : LinkFacts) (e : AArch64Entry) (P : Type 0)
-    → o < 2 ^ 64 → (AppliesAt name s o facts e → P) → (P → AppliesAt name s o facts e)
-    → AArch64Applies name s o facts e ↔ P
-applies_as name s o facts e P small f g =
-    (λ h. f (of_applies name s o facts e small h), λ p. applies_of name s o facts e small (g p))
-
 pub got_pair : GotPairIsChosenAlike
-got_pair s o facts a b small h k =
+got_pair s o facts a b h k =
     let P : Type 0 = IsEntryLoad s (o + 4) × AllHold aarch64_row facts.operands facts (to_address 0) in
     let on = address_on 4 facts (omega arith) in
-    let d = entry NoOp r.R_AARCH64_ADR_PREL_PG_HI21 (to_address 0) in
-    let e = entry LdrToAdd r.R_AARCH64_ADD_ABS_LO12_NC (to_address 4) in
     two_alike
-    (two_of_first (AArch64Applies r.R_AARCH64_ADR_GOT_PAGE s o facts) d P _ a
-    (applies_as r.R_AARCH64_ADR_GOT_PAGE s o facts d P (omega arith)
-    (λ x. (x.asked_for, x.conditions))
-    (λ p. record { matches = tt; asked_for = p.0; conditions = p.1 })) h)
-    (two_of_first (AArch64Applies r.R_AARCH64_LD64_GOT_LO12_NC s (o + 4) (facts_on 4 facts)) e P _ b
-    (applies_as r.R_AARCH64_LD64_GOT_LO12_NC s (o + 4) (facts_on 4 facts) e P small
-    (λ x. (x.asked_for, on.0 x.conditions))
-    (λ p. record { matches = load_matches_add s (o + 4) p.0; asked_for = p.0; conditions = on.1 p.1 })) k)
+    (two_of_first (AArch64Applies r.R_AARCH64_ADR_GOT_PAGE s o facts)
+    (entry NoOp r.R_AARCH64_ADR_PREL_PG_HI21 (to_address 0)) P _ a
+    (λ x. (x.0.1, x.1), λ p. ((tt, p.0), p.1)) h)
+    (two_of_first (AArch64Applies r.R_AARCH64_LD64_GOT_LO12_NC s (o + 4) (facts_on 4 facts))
+    (entry LdrToAdd r.R_AARCH64_ADD_ABS_LO12_NC (to_address 4)) P _ b
+    (λ x. (x.0.1, on.0 x.1), λ p. ((load_matches_add s (o + 4) p.0, p.0), on.1 p.1)) k)
 
 pub initial_exec_pair : InitialExecPairIsChosenAlike
-initial_exec_pair s o facts a b small h k =
+initial_exec_pair s o facts a b h k =
     let P : Type 0 = IsEntryLoad s (o + 4) × AllHold aarch64_row facts.operands facts to_local_exec in
     let on = local_exec_on 4 facts in
-    let d = entry MovzXnLsl16 r.R_AARCH64_TLSLE_MOVW_TPREL_G1 to_local_exec in
-    let e = entry MovkXn r.R_AARCH64_TLSLE_MOVW_TPREL_G0_NC to_local_exec in
     two_alike
-    (two_of_first (AArch64Applies r.R_AARCH64_TLSIE_ADR_GOTTPREL_PAGE21 s o facts) d P _ a
-    (applies_as r.R_AARCH64_TLSIE_ADR_GOTTPREL_PAGE21 s o facts d P (omega arith)
-    (λ x. (x.asked_for, x.conditions))
-    (λ p. record { matches = load_matches_movz s o p.0; asked_for = p.0; conditions = p.1 })) h)
-    (two_of_first (AArch64Applies r.R_AARCH64_TLSIE_LD64_GOTTPREL_LO12_NC s (o + 4) (facts_on 4 facts)) e P _ b
-    (applies_as r.R_AARCH64_TLSIE_LD64_GOTTPREL_LO12_NC s (o + 4) (facts_on 4 facts) e P small
-    (λ x. (x.asked_for, on.0 x.conditions))
-    (λ p. record { matches = load_matches_movk s (o + 4) p.0; asked_for = p.0; conditions = on.1 p.1 })) k)
+    (two_of_first (AArch64Applies r.R_AARCH64_TLSIE_ADR_GOTTPREL_PAGE21 s o facts)
+    (entry MovzXnLsl16 r.R_AARCH64_TLSLE_MOVW_TPREL_G1 to_local_exec) P _ a
+    (λ x. (x.0.1, x.1), λ p. ((load_matches_movz s o p.0, p.0), p.1)) h)
+    (two_of_first (AArch64Applies r.R_AARCH64_TLSIE_LD64_GOTTPREL_LO12_NC s (o + 4) (facts_on 4 facts))
+    (entry MovkXn r.R_AARCH64_TLSLE_MOVW_TPREL_G0_NC to_local_exec) P _ b
+    (λ x. (x.0.1, on.0 x.1), λ p. ((load_matches_movk s (o + 4) p.0, p.0), on.1 p.1)) k)
 
 -- ---- the four of a descriptor
 
 -- one of them, n bytes after the first, at an offset and with facts that are those n bytes on
 one_of_four : (name : AArch64Relocation) (n : ℕ) (s : List ℕ) (o at : ℕ) (facts here : LinkFacts)
     (local initial chosen : AArch64Choice)
-    → at < 2 ^ 64
     → (IsAskedFor name s at ↔ IsDescriptorSequence s o)
     → (IsDescriptorSequence s o → aarch64_matches local.kind s at)
     → (IsDescriptorSequence s o → aarch64_matches initial.kind s at)
@@ -157,20 +142,18 @@ one_of_four : (name : AArch64Relocation) (n : ℕ) (s : List ℕ) (o at : ℕ) (
     → Three (IsDescriptorSequence s o × AllHold aarch64_row facts.operands facts to_local_exec)
     (IsDescriptorSequence s o × AllHold aarch64_row facts.operands facts (to_initial_exec 0))
     local initial (choice NoOp name) chosen
-one_of_four name n s o at facts here local initial chosen small asked m m' le ie h =
+one_of_four name n s o at facts here local initial chosen asked m m' le ie h =
     let P : Type 0 = IsDescriptorSequence s o × AllHold aarch64_row facts.operands facts to_local_exec in
     let Q : Type 0 = IsDescriptorSequence s o × AllHold aarch64_row facts.operands facts (to_initial_exec 0) in
     let d = entry local.kind local.relocation to_local_exec in
     let e = entry initial.kind initial.relocation (to_initial_exec n) in
     three_of_first (AArch64Applies name s at here) d e P Q (choice NoOp name) chosen
-    (applies_as name s at here d P small (λ x. (asked.0 x.asked_for, le.0 x.conditions))
-    (λ p. record { matches = m p.0; asked_for = asked.1 p.0; conditions = le.1 p.1 }))
-    (applies_as name s at here e Q small (λ x. (asked.0 x.asked_for, ie.0 x.conditions))
-    (λ p. record { matches = m' p.0; asked_for = asked.1 p.0; conditions = ie.1 p.1 }))
+    (λ x. (asked.0 x.0.1, le.0 x.1), λ p. ((m p.0, asked.1 p.0), le.1 p.1))
+    (λ x. (asked.0 x.0.1, ie.0 x.1), λ p. ((m' p.0, asked.1 p.0), ie.1 p.1))
     h
 
 pub descriptor : DescriptorIsChosenAlike
-descriptor s o facts a b c d small h i j k =
+descriptor s o facts a b c d h i j k =
     let e : o - 0 ≡ o = omega arith in
     let first : IsOfDescriptor 0 s o ↔ IsDescriptorSequence s o =
     (λ x. subst (IsDescriptorSequence s) e x.1, λ x. (omega arith, subst (IsDescriptorSequence s) (sym e) x)) in
@@ -179,15 +162,15 @@ descriptor s o facts a b c d small h i j k =
     let fourth = sequence_on 12 s o in
     three_alike
     (one_of_four r.R_AARCH64_TLSDESC_ADR_PAGE21 0 s o o facts facts
-    (choice MovzX0Lsl16 r.R_AARCH64_TLSLE_MOVW_TPREL_G1) (choice AdrpX0 r.R_AARCH64_TLSIE_ADR_GOTTPREL_PAGE21) a (omega arith)
+    (choice MovzX0Lsl16 r.R_AARCH64_TLSLE_MOVW_TPREL_G1) (choice AdrpX0 r.R_AARCH64_TLSIE_ADR_GOTTPREL_PAGE21) a
     first (λ x. adrp_matches s o (first.1 x)) (λ x. adrp_matches s o (first.1 x)) (λ x. x, λ x. x) (λ x. x, λ x. x) h)
     (one_of_four r.R_AARCH64_TLSDESC_LD64_LO12 4 s o (o + 4) facts (facts_on 4 facts)
-    (choice MovkX0 r.R_AARCH64_TLSLE_MOVW_TPREL_G0_NC) (choice LdrX0 r.R_AARCH64_TLSIE_LD64_GOTTPREL_LO12_NC) b (omega arith)
+    (choice MovkX0 r.R_AARCH64_TLSLE_MOVW_TPREL_G0_NC) (choice LdrX0 r.R_AARCH64_TLSIE_LD64_GOTTPREL_LO12_NC) b
     second (λ x. ldr_matches s (o + 4) (second.1 x)) (λ x. ldr_matches s (o + 4) (second.1 x))
     (local_exec_on 4 facts) (initial_exec_on 4 facts (omega arith)) i)
-    (one_of_four r.R_AARCH64_TLSDESC_ADD_LO12 8 s o (o + 8) facts (facts_on 8 facts) erased erased c (omega arith)
+    (one_of_four r.R_AARCH64_TLSDESC_ADD_LO12 8 s o (o + 8) facts (facts_on 8 facts) erased erased c
     third (λ x. nop_matches 8 s (o + 8) (omega arith) (third.1 x)) (λ x. nop_matches 8 s (o + 8) (omega arith) (third.1 x))
     (local_exec_on 8 facts) (initial_exec_on 8 facts (omega arith)) j)
-    (one_of_four r.R_AARCH64_TLSDESC_CALL 12 s o (o + 12) facts (facts_on 12 facts) erased erased d small
+    (one_of_four r.R_AARCH64_TLSDESC_CALL 12 s o (o + 12) facts (facts_on 12 facts) erased erased d
     fourth (λ x. nop_matches 12 s (o + 12) (omega arith) (fourth.1 x)) (λ x. nop_matches 12 s (o + 12) (omega arith) (fourth.1 x))
     (local_exec_on 12 facts) (initial_exec_on 12 facts (omega arith)) k)

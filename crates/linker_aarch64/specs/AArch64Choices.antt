@@ -1,16 +1,17 @@
 -- AArch64: the rewrite that a linker chooses for a relocation (ELF for the Arm 64-bit Architecture,
 -- "Relocation optimization" and the sequences of thread-local storage; a branch to an undefined
--- weak symbol goes on behind itself).
+-- weak symbol goes on behind itself). No rewrite moves the place or changes the addend: the contract
+-- of `operands_after` in `choices` says so.
 use Rattle.std.specs.Prelude.{◌≡◌, ◌≢◌, ◌≤◌, ◌+◌, ◌-◌, ◌*◌, ◌/◌, ◌^◌, ℕ, List, [], ◌∷◌, ⊤}
-use Rattle.std.specs.Prelude.{length, drop, ◌<◌, ◌⊎◌}
+use Rattle.std.specs.Prelude.{length, drop, ◌⊎◌}
 use Rattle.std.specs.Int.{w32, from_le_bytes}
-use Rattle.linker_aarch64.specs.AArch64Rewrites.{rd_of, rn_of, aarch64_rewrite}
+use Rattle.linker_aarch64.specs.AArch64Rewrites.{rd_of, rn_of}
 use Rattle.linker_aarch64.specs.AArch64Originals.{IsAdrp, IsAdd64, IsLdr64, FollowsAdrp}
 use Rattle.linker_aarch64.specs.AArch64Originals.{aarch64_matches}
 use Rattle.linker_elf.specs.AArch64Relocations.{aarch64_row}
 use Rattle.linker_elf.specs.Choices.{Condition, bound, weak_zero, fixed_distance, executable}
 use Rattle.linker_elf.specs.Choices.{in_reach, in_reach_if_known, Entry, entry, choice}
-use Rattle.linker_elf.specs.Choices.{operands_after, AllHold, IsFirst, facts_on}
+use Rattle.linker_elf.specs.Choices.{Applies, IsFirst, facts_on}
 use Rattle.linker_elf.specs.Originals.{HasWord}
 use Rattle.linker_elf.specs.declared.aarch64.relocations.AArch64Relocation.{AArch64Relocation}
 use Rattle.linker_elf.specs.declared.aarch64.relocations.AArch64Relocation.TheVariants as r
@@ -86,7 +87,7 @@ to_adr = fixed_distance ∷ in_reach r.R_AARCH64_ADR_PREL_LO21 0 ∷ []
 
 -- the offset from the thread pointer in the instructions
 abbrev pub to_local_exec : List (Condition AArch64Relocation)
-to_local_exec = executable ∷ bound ∷ in_reach_if_known r.R_AARCH64_TLSLE_MOVW_TPREL_G1 0 ∷ []
+to_local_exec = bound ∷ executable ∷ in_reach_if_known r.R_AARCH64_TLSLE_MOVW_TPREL_G1 0 ∷ []
 
 -- the offset from the thread pointer in the GOT: `adrp` is so many bytes before
 abbrev pub to_initial_exec : ℕ → List (Condition AArch64Relocation)
@@ -135,14 +136,12 @@ aarch64_entries name = []
 
 -- ---- the choice
 
-pub record AArch64Applies (name : AArch64Relocation) (section : List ℕ) (o : ℕ) (facts : LinkFacts)
-    (e : AArch64Entry) : Type 0 where
-  -- what the rewrite is meant for, and what the relocation asks for
-  pub matches : aarch64_matches e.kind section o
-  pub asked_for : IsAskedFor name section o
-  pub conditions :
-      AllHold aarch64_row (operands_after (aarch64_rewrite e.kind) o facts.operands) facts
-      e.conditions
+-- what the rewrite is meant for and what the relocation asks for is at the offset, and the
+-- conditions hold
+abbrev pub AArch64Applies : AArch64Relocation → List ℕ → ℕ → LinkFacts → AArch64Entry → Type 0
+AArch64Applies name =
+    Applies (λ kind section o. aarch64_matches kind section o × IsAskedFor name section o)
+    aarch64_row (λ kind o operands. operands)
 
 -- that of the first entry that applies, and else to leave the instruction and the relocation
 abbrev pub IsAArch64Choice : AArch64Relocation → List ℕ → ℕ → LinkFacts → AArch64Choice → Type 0
@@ -156,7 +155,7 @@ IsAArch64Choice name section o facts chosen =
 abbrev pub PairIsChosenAlike : AArch64Relocation → AArch64Relocation → AArch64Choice
     → AArch64Choice → Type 0
 PairIsChosenAlike first second to_first to_second =
-    (section : List ℕ) (o : ℕ) (facts : LinkFacts) (a b : AArch64Choice) → o + 4 < 2 ^ 64
+    (section : List ℕ) (o : ℕ) (facts : LinkFacts) (a b : AArch64Choice)
     → IsAArch64Choice first section o facts a
     → IsAArch64Choice second section (o + 4) (facts_on 4 facts) b
     → ((a ≡ to_first) × (b ≡ to_second))
@@ -179,7 +178,7 @@ InitialExecPairIsChosenAlike =
 -- initial-exec, or none is.
 abbrev pub DescriptorIsChosenAlike : Type 0
 DescriptorIsChosenAlike =
-    (section : List ℕ) (o : ℕ) (facts : LinkFacts) (a b c d : AArch64Choice) → o + 12 < 2 ^ 64
+    (section : List ℕ) (o : ℕ) (facts : LinkFacts) (a b c d : AArch64Choice)
     → IsAArch64Choice r.R_AARCH64_TLSDESC_ADR_PAGE21 section o facts a
     → IsAArch64Choice r.R_AARCH64_TLSDESC_LD64_LO12 section (o + 4) (facts_on 4 facts) b
     → IsAArch64Choice r.R_AARCH64_TLSDESC_ADD_LO12 section (o + 8) (facts_on 8 facts) c

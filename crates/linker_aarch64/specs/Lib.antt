@@ -1,3 +1,4 @@
 pub mod AArch64Choices
 pub mod AArch64Originals
 pub mod AArch64Rewrites
+pub mod Inner

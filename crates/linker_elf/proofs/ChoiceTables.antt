@@ -1,11 +1,11 @@
 -- Masks of facts, and the first entry of a table.
-use Rattle.std.specs.Int.Bits.{and_step, and_zero_r}
 use Rattle.std.proofs.lemmas.List.{drop_more, drop_all}
-use Rattle.std.proofs.lemmas.Bool.{eqb-true, eqb-false, eq-eqb}
-use Rattle.std.proofs.Common.{◌≡◌, ◌↔◌, ◌+◌, ◌*◌, ◌<◌, ◌≤◌, ◌/◌, ◌%◌, ◌++◌, ℕ, ℤ, List, [], ◌∷◌, Option, Some, None, Bool, true, false, if◌then◌else◌, not, ◌&&◌, ◌==◌, IsTrue, refl, sym, ap, ◌∙◌, subst, arith, inl, inr, bit_and, length, drop, get_or, min, IfSome, true≢false}
+use Rattle.std.proofs.lemmas.Option.{none-some}
+use Rattle.std.proofs.lemmas.Bool.{eqb-true, eq-eqb}
+use Rattle.std.proofs.Common.{◌≡◌, ◌↔◌, ◌+◌, ◌*◌, ◌<◌, ◌≤◌, ◌/◌, ◌%◌, ◌++◌, ℕ, ℤ, List, [], ◌∷◌, Option, Some, None, Bool, true, false, if◌then◌else◌, not, ◌&&◌, ◌||◌, ◌==◌, slice_get, zero, suc, IsTrue, refl, sym, ap, ◌∙◌, subst, arith, inl, inr, bit_and, length, drop, get_or, min, IfSome, true≢false}
 use Rattle.std.specs.Bool.{⊤}
-use Rattle.linker_elf.specs.Choices.{Condition, Entry, Holds, AllHold, choice, Applies, IsFirst}
-use Rattle.linker_elf.specs.Inner.ChoiceTables.{conditions_in, known_facts, missing_mask, missing_facts, fact_conditions, value_condition, value_conditions, ValuesHold, addend_condition, conditions_of, EntryApplies, IsFirstOf, IsTableOf}
+use Rattle.linker_elf.specs.Choices.{Condition, Entry, Holds, AllHold, choice, Applies, IsFirst, bound, weak_zero, fixed_address, fixed_distance, executable, local_exec_base, compressible, marked, label_marked, got_high_part, private_base, changed_toc, without_plt}
+use Rattle.linker_elf.specs.Inner.ChoiceTables.{with_fact, fact_conditions, is_held, facts_hold, value_condition, value_conditions, ValuesHold, addend_condition, conditions_of, EntryApplies, IsFirstOf, IsChoiceAt, IsTableOf}
 use Rattle.linker_elf.specs.declared.elf.RelocationKindInfo.{RelocationKindInfo}
 use Rattle.linker_elf.specs.declared.elf.choice.Choice.{Choice}
 use Rattle.linker_elf.specs.declared.elf.choice.LinkFacts.{LinkFacts}
@@ -25,63 +25,6 @@ all_hold_both row after facts (c ∷ cs) ds =
 
 -- ---- masks
 
--- a mask and twice another one, with a lowest bit
-step : (e m b : ℕ) → b ≤ 1 → bit_and e (b + 2 * m) ≡ bit_and (e / 2) m * 2 + min (e % 2) b
-step e m b small =
-    let h : (b + 2 * m) / 2 ≡ m = omega arith in
-    let l : (b + 2 * m) % 2 ≡ b = omega arith in
-    and_step e (b + 2 * m) ∙ ap (λ x. bit_and (e / 2) x * 2 + min (e % 2) ((b + 2 * m) % 2)) h ∙ ap (λ x. bit_and (e / 2) m * 2 + min (e % 2) x) l
-
-holds_step : (e m : ℕ) → (bit_and e (0 + 2 * m) ≡ 0) ↔ (bit_and (e / 2) m ≡ 0)
-holds_step e m =
-    let s = step e m 0 (omega arith) in
-    let n : min (e % 2) 0 ≡ 0 = omega arith in
-    (λ h. omega arith, λ h. omega arith)
-
-even_step : (e m : ℕ) → e % 2 ≡ 0 → (bit_and e (1 + 2 * m) ≡ 0) ↔ (bit_and (e / 2) m ≡ 0)
-even_step e m even =
-    let s = step e m 1 (omega arith) in
-    let n : min (e % 2) 1 ≡ 0 = ap (λ x. min x 1) even in
-    (λ h. omega arith, λ h. omega arith)
-
-odd_step : (e m : ℕ) → e % 2 ≡ 1 → bit_and e (1 + 2 * m) ≡ 0 → ⊥
-odd_step e m odd h =
-    let s = step e m 1 (omega arith) in
-    let n : min (e % 2) 1 ≡ 1 = ap (λ x. min x 1) odd in
-    omega arith
-
-abbrev AreKnown : {R : Type 0} → (R → Option RelocationKindInfo) → Operands → LinkFacts
-    → List (Condition R) → List Bool → Type 0
-AreKnown row after facts [] [] = ⊤
-AreKnown row after facts (c ∷ cs) (b ∷ bs) = (IsTrue b ↔ Holds row after facts c) × AreKnown row after facts cs bs
-AreKnown row after facts cs bs = ⊥
-
--- by the lowest bit of the mask, and whether the condition holds
-one_more : {R : Type 0} → (row : R → Option RelocationKindInfo) (after : Operands) (facts : LinkFacts)
-    → (c : Condition R) (l : List (Condition R)) (e m : ℕ) (odd b : Bool) → (e % 2 == 1) ≡ odd
-    → (IsTrue b ↔ Holds row after facts c) → ((bit_and (e / 2) m ≡ 0) ↔ AllHold row after facts l)
-    → (bit_and e ((if b then 0 else 1) + 2 * m) ≡ 0) ↔ AllHold row after facts (if odd then c ∷ l else l)
-one_more row after facts c l e m true true at known rest =
-    (λ h. (known.0 refl, rest.0 ((holds_step e m).0 h)), λ h. (holds_step e m).1 (rest.1 h.1))
-one_more row after facts c l e m true false at known rest =
-    (λ h. absurd (odd_step e m (eqb-true (e % 2) 1 at) h), λ h. absurd (true≢false (sym (known.1 h.0))))
-one_more row after facts c l e m false true at known rest =
-    (λ h. rest.0 ((holds_step e m).0 h), λ h. (holds_step e m).1 (rest.1 h))
-one_more row after facts c l e m false false at known rest =
-    let odd = eqb-false (e % 2) 1 at in
-    let even : e % 2 ≡ 0 = omega arith in
-    (λ h. rest.0 ((even_step e m even).0 h), λ h. (even_step e m even).1 (rest.1 h))
-
-masks : {R : Type 0} → (row : R → Option RelocationKindInfo) (after : Operands) (facts : LinkFacts)
-    → (e : ℕ) (cs : List (Condition R)) (bs : List Bool) → AreKnown row after facts cs bs
-    → (bit_and e (missing_mask bs) ≡ 0) ↔ AllHold row after facts (conditions_in e cs)
-masks row after facts e [] [] k = (λ h. tt, λ h. and_zero_r e)
-masks row after facts e [] (b ∷ bs) k = absurd k
-masks row after facts e (c ∷ cs) [] k = absurd k
-masks row after facts e (c ∷ cs) (b ∷ bs) k =
-    one_more row after facts c (conditions_in (e / 2) cs) e (missing_mask bs) (e % 2 == 1) b refl k.0
-    (masks row after facts (e / 2) cs bs k.1)
-
 same : (P : Type 0) → P ↔ P
 same P = (λ h. h, λ h. h)
 
@@ -93,16 +36,72 @@ is_bound false i = (λ h. absurd (true≢false (sym h)), λ h. absurd (true≢fa
 is_same : (p s : ℕ) → IsTrue (p == s) ↔ (p ≡ s)
 is_same p s = (λ h. eqb-true p s h, λ h. eq-eqb p s h)
 
-known : {R : Type 0} → (row : R → Option RelocationKindInfo) (after : Operands) (facts : LinkFacts)
-    → AreKnown row after facts fact_conditions (known_facts facts)
-known row after facts =
-    (is_bound facts.is_local facts.is_ifunc, (same (facts.is_undefined_weak ≡ true), (same (facts.has_fixed_address ≡ true), (same (facts.has_fixed_distance ≡ true), (same (facts.is_executable ≡ true), (same (facts.has_local_exec_base ≡ true), (same (facts.may_compress ≡ true), (same (facts.is_marked ≡ true), (same (facts.is_label_marked ≡ true), (same (facts.has_got_high_part ≡ true), (same (facts.has_private_base ≡ true), (same (facts.may_change_toc ≡ true), (is_same facts.operands.plt_entry facts.operands.symbol, tt)))))))))))))
+both : (a b : Bool) → IsTrue (a && b) ↔ (IsTrue a × IsTrue b)
+both true b = (λ h. (refl, h), λ h. h.1)
+both false b = (λ h. absurd (true≢false (sym h)), λ h. absurd (true≢false (sym h.0)))
 
--- the facts that an entry asks for hold where the mask of the missing ones has none of its bits
-pub facts_hold : {R : Type 0} → (row : R → Option RelocationKindInfo) (after : Operands) (facts : LinkFacts) (e : ℕ)
-    → (bit_and e (missing_facts facts) ≡ 0) ↔ AllHold row after facts (conditions_in e fact_conditions)
-facts_hold row after facts e =
-    masks row after facts e fact_conditions (known_facts facts) (known row after facts)
+-- by whether a mask lacks the bit, and whether the condition holds
+by_bit : {R : Type 0} → (row : R → Option RelocationKindInfo) (after : Operands) (facts : LinkFacts)
+    → (c : Condition R) (cs : List (Condition R)) (lacks b : Bool) → (IsTrue b ↔ Holds row after facts c)
+    → AllHold row after facts (if lacks then cs else c ∷ cs) ↔ (IsTrue (lacks || b) × AllHold row after facts cs)
+by_bit row after facts c cs true b known = (λ h. (refl, h), λ h. h.1)
+by_bit row after facts c cs false b known = (λ h. (known.1 h.0, h.1), λ h. (known.0 h.0, h.1))
+
+first : {R : Type 0} → (row : R → Option RelocationKindInfo) (after : Operands) (facts : LinkFacts) (mask bit : ℕ)
+    → (c : Condition R) (cs : List (Condition R)) (b : Bool) → (IsTrue b ↔ Holds row after facts c)
+    → AllHold row after facts (with_fact mask bit c cs) ↔ (IsTrue (is_held mask bit b) × AllHold row after facts cs)
+first row after facts mask bit c cs b known = by_bit row after facts c cs (bit_and mask bit == 0) b known
+
+next : {R A : Type 0} → (row : R → Option RelocationKindInfo) (after : Operands) (facts : LinkFacts) (mask bit : ℕ)
+    → (c : Condition R) (cs : List (Condition R)) (p b : Bool)
+    → (A ↔ (IsTrue p × AllHold row after facts (with_fact mask bit c cs))) → (IsTrue b ↔ Holds row after facts c)
+    → A ↔ (IsTrue (p && is_held mask bit b) × AllHold row after facts cs)
+next row after facts mask bit c cs p b so_far known =
+    let one = first row after facts mask bit c cs b known in
+    let two = both p (is_held mask bit b) in
+    (λ h. (two.1 ((so_far.0 h).0, (one.0 (so_far.0 h).1).0), (one.0 (so_far.0 h).1).1),
+      λ h. so_far.1 ((two.0 h.0).0, one.1 ((two.0 h.0).1, h.1)))
+
+all_facts : {R : Type 0} → (row : R → Option RelocationKindInfo) (after : Operands) (facts : LinkFacts) (mask : ℕ)
+    → AllHold row after facts (fact_conditions mask) ↔ (IsTrue (facts_hold mask facts) × ⊤)
+all_facts {R} row after facts mask =
+    let f12 : List (Condition R) = with_fact mask 4096 without_plt [] in
+    let f11 : List (Condition R) = with_fact mask 2048 changed_toc f12 in
+    let f10 : List (Condition R) = with_fact mask 1024 private_base f11 in
+    let f9 : List (Condition R) = with_fact mask 512 got_high_part f10 in
+    let f8 : List (Condition R) = with_fact mask 256 label_marked f9 in
+    let f7 : List (Condition R) = with_fact mask 128 marked f8 in
+    let f6 : List (Condition R) = with_fact mask 64 compressible f7 in
+    let f5 : List (Condition R) = with_fact mask 32 local_exec_base f6 in
+    let f4 : List (Condition R) = with_fact mask 16 executable f5 in
+    let f3 : List (Condition R) = with_fact mask 8 fixed_distance f4 in
+    let f2 : List (Condition R) = with_fact mask 4 fixed_address f3 in
+    let f1 : List (Condition R) = with_fact mask 2 weak_zero f2 in
+    next row after facts mask 4096 without_plt [] _ _
+    (next row after facts mask 2048 changed_toc f12 _ _
+    (next row after facts mask 1024 private_base f11 _ _
+    (next row after facts mask 512 got_high_part f10 _ _
+    (next row after facts mask 256 label_marked f9 _ _
+    (next row after facts mask 128 marked f8 _ _
+    (next row after facts mask 64 compressible f7 _ _
+    (next row after facts mask 32 local_exec_base f6 _ _
+    (next row after facts mask 16 executable f5 _ _
+    (next row after facts mask 8 fixed_distance f4 _ _
+    (next row after facts mask 4 fixed_address f3 _ _
+    (next row after facts mask 2 weak_zero f2 _ _
+    (first row after facts mask 1 bound f1 _ (is_bound facts.is_local facts.is_ifunc))
+    (same (facts.is_undefined_weak ≡ true)))
+    (same (facts.has_fixed_address ≡ true)))
+    (same (facts.has_fixed_distance ≡ true)))
+    (same (facts.is_executable ≡ true)))
+    (same (facts.has_local_exec_base ≡ true)))
+    (same (facts.may_compress ≡ true)))
+    (same (facts.is_marked ≡ true)))
+    (same (facts.is_label_marked ≡ true)))
+    (same (facts.has_got_high_part ≡ true)))
+    (same (facts.has_private_base ≡ true)))
+    (same (facts.may_change_toc ≡ true)))
+    (is_same facts.operands.plt_entry facts.operands.symbol)
 
 addend_holds : {R : Type 0} → (row : R → Option RelocationKindInfo) (after : Operands) (facts : LinkFacts) (a : Option ℤ)
     → IfSome a (λ x. facts.operands.addend ≡ x) ↔ AllHold row after facts (addend_condition a)
@@ -113,32 +112,33 @@ abbrev AreHeld : {O K R : Type 0} → (R → Option RelocationKindInfo) → Oper
 AreHeld row after facts e = AllHold row after facts (conditions_of e)
 
 parts : {O K R : Type 0} → (row : R → Option RelocationKindInfo) (after : Operands) (facts : LinkFacts) (e : ChoiceEntry O K R)
-    → ((bit_and e.conditions.facts (missing_facts facts) ≡ 0)
+    → (IsTrue (facts_hold e.conditions.facts facts)
     × (IfSome e.conditions.addend (λ x. facts.operands.addend ≡ x) × ValuesHold row after facts e.conditions.values.now))
     ↔ AreHeld row after facts e
 parts row after facts e =
-    let f = facts_hold row after facts e.conditions.facts in
+    let f = all_facts row after facts e.conditions.facts in
     let a = addend_holds row after facts e.conditions.addend in
     let second = all_hold_both row after facts (addend_condition e.conditions.addend) (value_conditions e.conditions.values.now) in
-    let first = all_hold_both row after facts (conditions_in e.conditions.facts fact_conditions) (addend_condition e.conditions.addend ++ value_conditions e.conditions.values.now) in
-    (λ h. first.1 (f.0 h.0, second.1 (a.0 h.1.0, h.1.1)),
-      λ h. (f.1 (first.0 h).0, (a.1 (second.0 (first.0 h).1).0, (second.0 (first.0 h).1).1)))
+    let first = all_hold_both row after facts (fact_conditions e.conditions.facts) (addend_condition e.conditions.addend ++ value_conditions e.conditions.values.now) in
+    (λ h. first.1 (f.1 (h.0, tt), second.1 (a.0 h.1.0, h.1.1)),
+      λ h. ((f.0 (first.0 h).0).0, (a.1 (second.0 (first.0 h).1).0, (second.0 (first.0 h).1).1)))
 
+-- whether an entry applies, where a test fails, and where only those of values are left
 pub without_fact : {O K R : Type 0} → (row : R → Option RelocationKindInfo) (after : Operands) (facts : LinkFacts) (e : ChoiceEntry O K R)
-    → (bit_and e.conditions.facts (missing_facts facts) ≡ 0 → ⊥) → IsTrue false ↔ AllHold row after facts (conditions_of e)
-without_fact row after facts e n =
-    (λ h. absurd (true≢false (sym h)), λ h. absurd (n ((parts row after facts e).1 h).0))
+    → (M : Type 0) → facts_hold e.conditions.facts facts ≡ false → IsTrue false ↔ (M × AllHold row after facts (conditions_of e))
+without_fact row after facts e M n =
+    (λ h. absurd (true≢false (sym h)), λ h. absurd (true≢false (sym ((parts row after facts e).1 h.1).0 ∙ n)))
 
 pub without_addend : {O K R : Type 0} → (row : R → Option RelocationKindInfo) (after : Operands) (facts : LinkFacts) (e : ChoiceEntry O K R)
-    → (IfSome e.conditions.addend (λ x. facts.operands.addend ≡ x) → ⊥) → IsTrue false ↔ AllHold row after facts (conditions_of e)
-without_addend row after facts e n =
-    (λ h. absurd (true≢false (sym h)), λ h. absurd (n ((parts row after facts e).1 h).1.0))
+    → (M : Type 0) → (IfSome e.conditions.addend (λ x. facts.operands.addend ≡ x) → ⊥) → IsTrue false ↔ (M × AllHold row after facts (conditions_of e))
+without_addend row after facts e M n =
+    (λ h. absurd (true≢false (sym h)), λ h. absurd (n ((parts row after facts e).1 h.1).1.0))
 
 pub by_values : {O K R : Type 0} → (row : R → Option RelocationKindInfo) (after : Operands) (facts : LinkFacts) (e : ChoiceEntry O K R)
-    → (r : Bool) → bit_and e.conditions.facts (missing_facts facts) ≡ 0 → IfSome e.conditions.addend (λ x. facts.operands.addend ≡ x)
-    → (IsTrue r ↔ ValuesHold row after facts e.conditions.values.now) → IsTrue r ↔ AllHold row after facts (conditions_of e)
-by_values row after facts e r f a v =
-    (λ h. (parts row after facts e).0 (f, (a, v.0 h)), λ h. v.1 ((parts row after facts e).1 h).1.1)
+    → (M : Type 0) (r : Bool) → facts_hold e.conditions.facts facts ≡ true → IfSome e.conditions.addend (λ x. facts.operands.addend ≡ x) → M
+    → (IsTrue r ↔ ValuesHold row after facts e.conditions.values.now) → IsTrue r ↔ (M × AllHold row after facts (conditions_of e))
+by_values row after facts e M r f a m v =
+    (λ h. (m, (parts row after facts e).0 (f, (a, v.0 h))), λ h. v.1 ((parts row after facts e).1 h.1).1.1)
 
 -- ---- walks through lists
 
@@ -154,33 +154,64 @@ pub values_end : {R : Type 0} → (row : R → Option RelocationKindInfo) (after
     → (vs : List (ValueCondition R)) (i : ℕ) → length vs ≤ i → ValuesHold row after facts (drop i vs)
 values_end row after facts vs i end = subst (ValuesHold row after facts) (sym (drop_all i vs end)) tt
 
--- what is said of the entries that are left holds of all
-abbrev pub EndsAlike : {O K R : Type 0} → (ChoiceEntry O K R → Type 0) → List (ChoiceEntry O K R) → Choice K R
-    → List (ChoiceEntry O K R) → Type 0
-EndsAlike Applies es otherwise left =
-    (c : Choice _ _) → IsFirstOf Applies left otherwise c → IsFirstOf Applies es otherwise c
+-- ---- the choice of an index
 
--- the entries that are left, from the one at an index on
-left_from : {O K R : Type 0} → (es : List (ChoiceEntry O K R)) (i : ℕ) (e : ChoiceEntry O K R) → i < length es
-    → e ≡ get_or es i e → drop i es ≡ e ∷ drop (i + 1) es
-left_from es i e within is = drop_more es i e within ∙ ap (λ x. x ∷ drop (i + 1) es) (sym is)
+some_or : {A : Type 0} → A → Option A → A
+some_or a None = a
+some_or a (Some b) = b
 
-pub first_chosen : {O K R : Type 0} → (A : ChoiceEntry O K R → Type 0) (es : List (ChoiceEntry O K R)) (otherwise : Choice K R)
-    → (i : ℕ) (e : ChoiceEntry O K R) → i < length es → e ≡ get_or es i e → EndsAlike A es otherwise (drop i es) → A e
-    → IsFirstOf A es otherwise (choice e.kind e.relocation)
-first_chosen A es otherwise i e within is left applies =
-    left _ (subst (λ l. IsFirstOf A l otherwise (choice e.kind e.relocation)) (sym (left_from es i e within is)) (inl (applies, refl)))
+some_same : {A : Type 0} → (a b : A) → Some a ≡ Some b → a ≡ b
+unfolding some_or
+some_same a b e = ap (some_or a) e
 
-pub first_later : {O K R : Type 0} → (A : ChoiceEntry O K R → Type 0) (es : List (ChoiceEntry O K R)) (otherwise : Choice K R)
-    → (i : ℕ) (e : ChoiceEntry O K R) → i < length es → e ≡ get_or es i e → EndsAlike A es otherwise (drop i es) → (A e → ⊥)
-    → EndsAlike A es otherwise (drop (i + 1) es)
-first_later A es otherwise i e within is left fails = λ c later.
-    left c (subst (λ l. IsFirstOf A l otherwise c) (sym (left_from es i e within is)) (inr (fails, later)))
+chosen_at : {O K R : Type 0} → (A : ChoiceEntry O K R → Type 0) (es : List (ChoiceEntry O K R)) (i : ℕ) (d : ChoiceEntry O K R)
+    → i < length es → A (get_or es i d) → IsChoiceAt A es i (Some (choice (get_or es i d).kind (get_or es i d).relocation))
+chosen_at A [] i d within applies = absurd (omega (arith, within))
+chosen_at A (e ∷ es) zero d within applies = inl (applies, refl)
+chosen_at A (e ∷ es) (suc i) d within applies = chosen_at A es i d (omega (arith, within)) applies
 
-pub first_none : {O K R : Type 0} → (A : ChoiceEntry O K R → Type 0) (es : List (ChoiceEntry O K R)) (otherwise : Choice K R)
-    → (i : ℕ) → length es ≤ i → EndsAlike A es otherwise (drop i es) → IsFirstOf A es otherwise otherwise
-first_none A es otherwise i end left =
-    left otherwise (subst (λ l. IsFirstOf A l otherwise otherwise) (sym (drop_all i es end)) refl)
+not_chosen_at : {O K R : Type 0} → (A : ChoiceEntry O K R → Type 0) (es : List (ChoiceEntry O K R)) (i : ℕ) (d : ChoiceEntry O K R)
+    → i < length es → (A (get_or es i d) → ⊥) → IsChoiceAt A es i None
+not_chosen_at A [] i d within fails = refl
+not_chosen_at A (e ∷ es) zero d within fails = inr (fails, refl)
+not_chosen_at A (e ∷ es) (suc i) d within fails = not_chosen_at A es i d (omega (arith, within)) fails
+
+pub item_chosen : {O K R : Type 0} → (A : ChoiceEntry O K R → Type 0) (es : List (ChoiceEntry O K R)) (i : ℕ) (e : ChoiceEntry O K R)
+    → i < length es → e ≡ get_or es i e → A e → IsChoiceAt A es i (Some (choice e.kind e.relocation))
+item_chosen A es i e within is applies =
+    subst (λ x. IsChoiceAt A es i (Some (choice x.kind x.relocation))) (sym is) (chosen_at A es i e within (subst A is applies))
+
+pub item_not_chosen : {O K R : Type 0} → (A : ChoiceEntry O K R → Type 0) (es : List (ChoiceEntry O K R)) (i : ℕ) (e : ChoiceEntry O K R)
+    → i < length es → e ≡ get_or es i e → (A e → ⊥) → IsChoiceAt A es i None
+item_not_chosen A es i e within is fails = not_chosen_at A es i e within (λ a. fails (subst A (sym is) a))
+
+pub none_at : {O K R : Type 0} → (A : ChoiceEntry O K R → Type 0) (es : List (ChoiceEntry O K R)) (i : ℕ)
+    → length es ≤ i → IsChoiceAt A es i None
+none_at A [] i is = refl
+none_at A (e ∷ es) zero is = absurd (omega (arith, is))
+none_at A (e ∷ es) (suc i) is = none_at A es i (omega (arith, is))
+
+-- ---- the first entry
+
+-- from the entry of an index on it is the one behind, or the choice of the index
+pub behind : {O K R : Type 0} → (A : ChoiceEntry O K R → Type 0) (es : List (ChoiceEntry O K R)) (otherwise c : Choice K R) (i : ℕ)
+    → IsChoiceAt A es i None → IsFirstOf A (drop (suc i) es) otherwise c → IsFirstOf A (drop i es) otherwise c
+behind A [] otherwise c zero none later = later
+behind A [] otherwise c (suc i) none later = later
+behind A (e ∷ es) otherwise c zero (inl h) later = absurd (none-some _ h.1)
+behind A (e ∷ es) otherwise c zero (inr h) later = inr (h.0, later)
+behind A (e ∷ es) otherwise c (suc i) none later = behind A es otherwise c i none later
+
+pub here : {O K R : Type 0} → (A : ChoiceEntry O K R → Type 0) (es : List (ChoiceEntry O K R)) (otherwise c : Choice K R) (i : ℕ)
+    → IsChoiceAt A es i (Some c) → IsFirstOf A (drop i es) otherwise c
+here A [] otherwise c i found = absurd (none-some c (sym found))
+here A (e ∷ es) otherwise c zero (inl h) = inl (h.0, some_same c _ h.1)
+here A (e ∷ es) otherwise c zero (inr h) = absurd (none-some c (sym h.1))
+here A (e ∷ es) otherwise c (suc i) found = here A es otherwise c i found
+
+pub nowhere : {O K R : Type 0} → (A : ChoiceEntry O K R → Type 0) (es : List (ChoiceEntry O K R)) (otherwise : Choice K R)
+    → length es ≤ 5 → IsFirstOf A (drop 5 es) otherwise otherwise
+nowhere A es otherwise few = subst (λ l. IsFirstOf A l otherwise otherwise) (sym (drop_all 5 es few)) refl
 
 -- ---- tables
 

@@ -1,1 +1,2 @@
 pub mod LoongArchAlike
+pub mod LoongArchChoices

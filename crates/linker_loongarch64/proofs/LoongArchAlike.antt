@@ -2,15 +2,15 @@
 -- of the first.
 use Rattle.std.proofs.Common.{◌≡◌, ◌↔◌, ◌≤◌, inl, inr, ℕ, ◌+◌, ◌-◌, List, [], ◌∷◌, ap, ◌∙◌, sym, subst, arith}
 use Rattle.linker_elf.specs.Choices.{facts_on}
-use Rattle.linker_elf.specs.Choices.{AllHold, IsFirst, entry, choice, RowReaches, RowIsWithin, Condition}
-use Rattle.linker_loongarch64.specs.LoongArchChoices.{LoongArchEntry, LoongArchChoice, LoongArchApplies, IsBehind, IsAmong, IsDescriptorSequence, by_pcaddi, by_pages, without_entry, to_initial_exec, to_local_exec, to_short_local_exec, signed_32, GotPairIsChosenAlike, AddressPairIsChosenAlike, InitialExecPairIsChosenAlike, DescriptorIsChosenAlike, erased}
+use Rattle.linker_elf.specs.Choices.{AllHold, IsFirst, entry, choice, RowReaches, RowIsWithin}
+use Rattle.linker_loongarch64.specs.LoongArchChoices.{LoongArchEntry, LoongArchChoice, LoongArchApplies, IsBehind, IsAmong, IsDescriptorSequence, by_pcaddi, bound_by_pcaddi, bound_by_pages, to_initial_exec, to_local_exec, to_short_local_exec, signed_32, GotPairIsChosenAlike, AddressPairIsChosenAlike, InitialExecPairIsChosenAlike, DescriptorIsChosenAlike, erased}
 use Rattle.linker_loongarch64.specs.LoongArchOriginals.{IsPair, IsAddi, IsLd}
 use Rattle.linker_elf.specs.LoongArchRelocations.{loongarch_row}
 use Rattle.linker_elf.specs.declared.elf.choice.LinkFacts.{LinkFacts}
-use Rattle.linker_elf.specs.declared.loongarch64.relocations.LoongArch64Relocation.{LoongArch64Relocation}
 use Rattle.linker_elf.specs.declared.loongarch64.relocations.LoongArch64Relocation.TheVariants as r
 use Rattle.linker_loongarch64.specs.declared.rewrites.RelaxationKind.TheVariants as kinds
 use Rattle.linker_elf.proofs.Choices.{same_reach}
+use Rattle.linker_loongarch64.proofs.LoongArchChoices.{first_behind}
 
 -- ---- of the same conditions
 
@@ -47,11 +47,6 @@ behind n P s o =
 product : {P Q R S : Type 0} → (P ↔ Q) → (R ↔ S) → (P × R) ↔ (Q × S)
 product f g = (λ h. (f.0 h.0, g.0 h.1), λ h. (f.1 h.0, g.1 h.1))
 
-first_behind : (P : List ℕ → ℕ → Type 0) (s : List ℕ) (o : ℕ) → IsBehind 0 P s o ↔ P s o
-first_behind P s o =
-    let e : o - 0 ≡ o = omega arith in
-    (λ h. subst (P s) e h.1, λ h. (omega arith, subst (P s) (sym e) h))
-
 joined : {P Q R : Type 0} → (P ↔ Q) → (Q ↔ R) → P ↔ R
 joined f g = (λ h. g.0 (f.0 h), λ h. f.1 (g.1 h))
 
@@ -68,14 +63,23 @@ near n facts small =
       λ h. (h.0, (h.1.0, ((h.1.1.0.0, subst reaches e h.1.1.0.1), h.1.1.1))),
     )
 
-paged : (n : ℕ) (facts : LinkFacts) → n ≤ 12
-    → AllHold loongarch_row facts.operands facts (by_pages 0)
-    ↔ AllHold loongarch_row (facts_on n facts).operands (facts_on n facts) (by_pages n)
-paged n facts small =
+bound_near : (n : ℕ) (facts : LinkFacts) → n ≤ 12
+    → AllHold loongarch_row facts.operands facts (bound_by_pcaddi 0)
+    ↔ AllHold loongarch_row (facts_on n facts).operands (facts_on n facts) (bound_by_pcaddi n)
+bound_near n facts small =
+    let reaches = near n facts small in (
+      λ h. let there = reaches.0 (h.1.0, (h.1.1.0, h.1.1.1.1)) in (h.0, (there.0, (there.1.0, (h.1.1.1.0, there.1.1)))),
+      λ h. let there = reaches.1 (h.1.0, (h.1.1.0, h.1.1.1.1)) in (h.0, (there.0, (there.1.0, (h.1.1.1.0, there.1.1)))),
+    )
+
+bound_paged : (n : ℕ) (facts : LinkFacts) → n ≤ 12
+    → AllHold loongarch_row facts.operands facts (bound_by_pages 0)
+    ↔ AllHold loongarch_row (facts_on n facts).operands (facts_on n facts) (bound_by_pages n)
+bound_paged n facts small =
     let fits = RowIsWithin (loongarch_row r.R_LARCH_PCALA_HI20) signed_32 in
     let e = same_reach n facts small in (
-      λ h. (h.0, (λ known. subst fits (sym e) (h.1.0 known), h.1.1)),
-      λ h. (h.0, (λ known. subst fits e (h.1.0 known), h.1.1)),
+      λ h. (h.0, (h.1.0, (h.1.1.0, (λ known. subst fits (sym e) (h.1.1.1.0 known), h.1.1.1.1)))),
+      λ h. (h.0, (h.1.0, (h.1.1.0, (λ known. subst fits e (h.1.1.1.0 known), h.1.1.1.1)))),
     )
 
 initial_exec : (n : ℕ) (facts : LinkFacts) → n ≤ 12
@@ -99,25 +103,16 @@ short_local_exec : (n : ℕ) (facts : LinkFacts)
     ↔ AllHold loongarch_row (facts_on n facts).operands (facts_on n facts) to_short_local_exec
 short_local_exec n facts = (λ h. h, λ h. h)
 
-without : (n : ℕ) (facts : LinkFacts) (xs ys : List (Condition LoongArch64Relocation))
-    → (AllHold loongarch_row facts.operands facts xs
-    ↔ AllHold loongarch_row (facts_on n facts).operands (facts_on n facts) ys)
-    → AllHold loongarch_row facts.operands facts (without_entry xs)
-    ↔ AllHold loongarch_row (facts_on n facts).operands (facts_on n facts) (without_entry ys)
-without n facts xs ys f =
-    (λ h. (h.0, (h.1.0, f.0 h.1.1)), λ h. (h.0, (h.1.0, f.1 h.1.1)))
-
 -- ---- pairs
 
 pub got_pair : GotPairIsChosenAlike
 got_pair s o facts a b small h k =
     let there = behind 4 (IsPair IsLd) s o in
     two_alike (LoongArchApplies r.R_LARCH_GOT_PC_HI20 s o facts) (LoongArchApplies r.R_LARCH_GOT_PC_LO12 s (o + 4) (facts_on 4 facts))
-    (entry kinds.PcalaToPcaddi r.R_LARCH_PCREL20_S2 (without_entry (by_pcaddi 0))) (entry kinds.NoOp r.R_LARCH_PCALA_HI20 (without_entry (by_pages 0)))
-    (entry kinds.Delete r.R_LARCH_NONE (without_entry (by_pcaddi 4))) (entry kinds.LdToAddi r.R_LARCH_PCALA_LO12 (without_entry (by_pages 4)))
+    (entry kinds.PcalaToPcaddi r.R_LARCH_PCREL20_S2 (bound_by_pcaddi 0)) (entry kinds.NoOp r.R_LARCH_PCALA_HI20 (bound_by_pages 0))
+    (entry kinds.Delete r.R_LARCH_NONE (bound_by_pcaddi 4)) (entry kinds.LdToAddi r.R_LARCH_PCALA_LO12 (bound_by_pages 4))
     _ _ a b
-    (product there (without 4 facts (by_pcaddi 0) (by_pcaddi 4) (near 4 facts (omega arith))))
-    (product there (without 4 facts (by_pages 0) (by_pages 4) (paged 4 facts (omega arith)))) h k
+    (product there (bound_near 4 facts (omega arith))) (product there (bound_paged 4 facts (omega arith))) h k
 
 pub address_pair : AddressPairIsChosenAlike
 address_pair s o facts a b small h k =

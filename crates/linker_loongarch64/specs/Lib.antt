@@ -1,3 +1,4 @@
 pub mod LoongArchChoices
 pub mod LoongArchOriginals
 pub mod LoongArchRewrites
+pub mod Inner

@@ -5,8 +5,7 @@ use Rattle.std.specs.Prelude.{pos, neg_ℤ}
 use Rattle.linker_elf.specs.Choices.{facts_on}
 use Rattle.linker_elf.specs.Choices.{Condition, bound, fixed_distance, executable, marked}
 use Rattle.linker_elf.specs.Choices.{addend, in_reach, within, within_if_known, Entry, entry}
-use Rattle.linker_elf.specs.Choices.{choice}
-use Rattle.linker_elf.specs.Choices.{AllHold, IsFirst}
+use Rattle.linker_elf.specs.Choices.{choice, Applies, IsFirst}
 use Rattle.linker_loongarch64.specs.LoongArchOriginals.{IsAddi, IsLd, IsLu12i, IsAddTp, IsPair}
 use Rattle.linker_loongarch64.specs.LoongArchOriginals.{word_at, AreOfOneRegister}
 use Rattle.linker_loongarch64.specs.LoongArchOriginals.{loongarch_matches}
@@ -71,39 +70,44 @@ unsigned_12 = (pos 0, pos (2 ^ 12))
 abbrev pub signed_12 : ℤ × ℤ
 signed_12 = (neg_ℤ (pos (2 ^ 11)), pos (2 ^ 11))
 
+abbrev pub Conditions : Type 0
+Conditions = List (Condition LoongArch64Relocation)
+
 -- by `pcaddi` alone, which is so many bytes before
-abbrev pub by_pcaddi : ℕ → List (Condition LoongArch64Relocation)
-by_pcaddi back = marked ∷ fixed_distance ∷ in_reach r.R_LARCH_PCREL20_S2 back ∷ []
+abbrev pub by_pcaddi : ℕ → Conditions
+by_pcaddi back = fixed_distance ∷ marked ∷ in_reach r.R_LARCH_PCREL20_S2 back ∷ []
 
--- the symbol's definition in this output, in place of its GOT entry
-abbrev pub without_entry : List (Condition LoongArch64Relocation)
-    → List (Condition LoongArch64Relocation)
-without_entry conditions = bound ∷ addend (pos 0) ∷ conditions
+-- the same of the symbol's definition in this output, in place of its GOT entry
+abbrev pub bound_by_pcaddi : ℕ → Conditions
+bound_by_pcaddi back =
+    bound ∷ fixed_distance ∷ marked ∷ addend (pos 0) ∷ in_reach r.R_LARCH_PCREL20_S2 back ∷ []
 
--- by the distance in pages from `pcalau12i`, which is so many bytes before
-abbrev pub by_pages : ℕ → List (Condition LoongArch64Relocation)
-by_pages back = fixed_distance ∷ within_if_known r.R_LARCH_PCALA_HI20 signed_32 back ∷ []
+-- the definition by the distance in pages from `pcalau12i`, which is so many bytes before
+abbrev pub bound_by_pages : ℕ → Conditions
+bound_by_pages back =
+    bound ∷ fixed_distance ∷ addend (pos 0)
+    ∷ within_if_known r.R_LARCH_PCALA_HI20 signed_32 back ∷ []
 
 -- by `b` or `bl`
-abbrev pub by_branch : List (Condition LoongArch64Relocation)
-by_branch = marked ∷ fixed_distance ∷ in_reach r.R_LARCH_B26 0 ∷ []
+abbrev pub by_branch : Conditions
+by_branch = fixed_distance ∷ marked ∷ in_reach r.R_LARCH_B26 0 ∷ []
 
 -- the offset from the thread pointer in the instructions, and by `ori` alone
-abbrev pub to_local_exec : List (Condition LoongArch64Relocation)
+abbrev pub to_local_exec : Conditions
 to_local_exec =
-    executable ∷ without_entry (within_if_known r.R_LARCH_TLS_LE_HI20 signed_32 0 ∷ [])
+    bound ∷ executable ∷ addend (pos 0) ∷ within_if_known r.R_LARCH_TLS_LE_HI20 signed_32 0 ∷ []
 
-abbrev pub to_short_local_exec : List (Condition LoongArch64Relocation)
+abbrev pub to_short_local_exec : Conditions
 to_short_local_exec =
-    executable ∷ without_entry (within r.R_LARCH_TLS_LE_LO12 unsigned_12 0 ∷ [])
+    bound ∷ executable ∷ addend (pos 0) ∷ within r.R_LARCH_TLS_LE_LO12 unsigned_12 0 ∷ []
 
 -- the offset from the thread pointer in the GOT: `pcalau12i` is so many bytes before
-abbrev pub to_initial_exec : ℕ → List (Condition LoongArch64Relocation)
+abbrev pub to_initial_exec : ℕ → Conditions
 to_initial_exec back =
     executable ∷ within_if_known r.R_LARCH_TLS_IE_PC_HI20 signed_32 back ∷ []
 
 -- the offset from the thread pointer in 12 signed bits
-abbrev pub by_low_part : List (Condition LoongArch64Relocation)
+abbrev pub by_low_part : Conditions
 by_low_part = marked ∷ within r.R_LARCH_TLS_LE_LO12_R signed_12 0 ∷ []
 
 abbrev pub LoongArchEntry : Type 0
@@ -114,11 +118,11 @@ LoongArchChoice = Choice RelaxationKind LoongArch64Relocation
 
 abbrev pub loongarch_entries : LoongArch64Relocation → List LoongArchEntry
 loongarch_entries r.R_LARCH_GOT_PC_HI20 =
-    entry kinds.PcalaToPcaddi r.R_LARCH_PCREL20_S2 (without_entry (by_pcaddi 0))
-    ∷ entry kinds.NoOp r.R_LARCH_PCALA_HI20 (without_entry (by_pages 0)) ∷ []
+    entry kinds.PcalaToPcaddi r.R_LARCH_PCREL20_S2 (bound_by_pcaddi 0)
+    ∷ entry kinds.NoOp r.R_LARCH_PCALA_HI20 (bound_by_pages 0) ∷ []
 loongarch_entries r.R_LARCH_GOT_PC_LO12 =
-    entry kinds.Delete r.R_LARCH_NONE (without_entry (by_pcaddi 4))
-    ∷ entry kinds.LdToAddi r.R_LARCH_PCALA_LO12 (without_entry (by_pages 4)) ∷ []
+    entry kinds.Delete r.R_LARCH_NONE (bound_by_pcaddi 4)
+    ∷ entry kinds.LdToAddi r.R_LARCH_PCALA_LO12 (bound_by_pages 4) ∷ []
 loongarch_entries r.R_LARCH_PCALA_HI20 =
     entry kinds.PcalaToPcaddi r.R_LARCH_PCREL20_S2 (by_pcaddi 0) ∷ []
 loongarch_entries r.R_LARCH_PCALA_LO12 = entry kinds.Delete r.R_LARCH_NONE (by_pcaddi 4) ∷ []
@@ -154,8 +158,7 @@ loongarch_entries name = []
 -- offset or the addend.
 abbrev pub LoongArchApplies : LoongArch64Relocation → List ℕ → ℕ → LinkFacts → LoongArchEntry
     → Type 0
-LoongArchApplies name section o facts e =
-    IsAskedFor name e.kind section o × AllHold loongarch_row facts.operands facts e.conditions
+LoongArchApplies name = Applies (IsAskedFor name) loongarch_row (λ kind o operands. operands)
 
 -- that of the first entry that applies, and else to leave the instruction and the relocation
 abbrev pub IsLoongArchChoice : LoongArch64Relocation → List ℕ → ℕ → LinkFacts → LoongArchChoice

@@ -16,7 +16,7 @@ no_op_matches s o = tt
 pub aarch64_chosen_is_one : (name : AArch64Relocation) (s : List ℕ) (o : ℕ) (facts : LinkFacts) (c : AArch64Choice) → IsAArch64Choice name s o facts c
     → IsOneOf c (aarch64_choices name) × aarch64_matches c.kind s o
 aarch64_chosen_is_one name s o facts c is =
-    first_is_one (AArch64Applies name s o facts) (λ (d : AArch64Choice). aarch64_matches d.kind s o) (aarch64_entries name) (choice kinds.NoOp name) c (all_meant (AArch64Applies name s o facts) (λ (d : AArch64Choice). aarch64_matches d.kind s o) (λ e a. a.matches) (aarch64_entries name)) (no_op_matches s o) is
+    first_is_one (AArch64Applies name s o facts) (λ (d : AArch64Choice). aarch64_matches d.kind s o) (aarch64_entries name) (choice kinds.NoOp name) c (all_meant (AArch64Applies name s o facts) (λ (d : AArch64Choice). aarch64_matches d.kind s o) (λ e a. a.0.0) (aarch64_entries name)) (no_op_matches s o) is
 
 pub aarch64_chosen_is_same : (name : AArch64Relocation) (s : List ℕ) (o : ℕ) (facts : LinkFacts) (c d : AArch64Choice)
     → IsAArch64Choice name s o facts c → IsAArch64Choice name s o facts d → c ≡ d

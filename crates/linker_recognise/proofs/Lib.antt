@@ -6,6 +6,7 @@ pub mod Ppc64Made
 pub mod Read
 pub mod RiscVMade
 pub mod Same
+pub mod Tables
 pub mod WindowBits
 pub mod Written
 pub mod WrittenBits

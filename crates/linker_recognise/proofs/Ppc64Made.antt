@@ -16,9 +16,9 @@ no_op_matches s o = tt
 pub ppc64_chosen_is_one : (name : Ppc64Relocation) (s : List ℕ) (o : ℕ) (facts : LinkFacts) (c : Ppc64Choice) → IsPpc64Choice name s o facts c
     → IsOneOf c (ppc64_choices name) × ppc64_matches c.kind s o
 ppc64_chosen_is_one name s o facts c is =
-    first_is_one (λ e. Ppc64Applies s o facts e.kind e.conditions) (λ (d : Ppc64Choice). ppc64_matches d.kind s o) (ppc64_entries name) (choice kinds.NoOp name) c (all_meant (λ e. Ppc64Applies s o facts e.kind e.conditions) (λ (d : Ppc64Choice). ppc64_matches d.kind s o) (λ e a. a.matches) (ppc64_entries name)) (no_op_matches s o) is
+    first_is_one (Ppc64Applies s o facts) (λ (d : Ppc64Choice). ppc64_matches d.kind s o) (ppc64_entries name) (choice kinds.NoOp name) c (all_meant (Ppc64Applies s o facts) (λ (d : Ppc64Choice). ppc64_matches d.kind s o) (λ e a. a.0) (ppc64_entries name)) (no_op_matches s o) is
 
 pub ppc64_chosen_is_same : (name : Ppc64Relocation) (s : List ℕ) (o : ℕ) (facts : LinkFacts) (c d : Ppc64Choice)
     → IsPpc64Choice name s o facts c → IsPpc64Choice name s o facts d → c ≡ d
 ppc64_chosen_is_same name s o facts c d is other =
-    first_is_same (λ e. Ppc64Applies s o facts e.kind e.conditions) (ppc64_entries name) (choice kinds.NoOp name) c d is other
+    first_is_same (Ppc64Applies s o facts) (ppc64_entries name) (choice kinds.NoOp name) c d is other

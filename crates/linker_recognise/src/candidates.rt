@@ -1,47 +1,48 @@
-//! Lists of a relocation's choices.
+//! The choices that a relocation may have.
 
-ghost use Rattle.std.specs.Prelude.{◌≡◌, ◌∷◌, []};
-ghost use Rattle.linker_recognise.specs.Inner.Candidates.{padded};
+ghost use Rattle.std.specs.Prelude.{◌≡◌, ◌≤◌, length, slice_get};
+ghost use Rattle.linker_recognise.specs.Inner.Candidates.{choices_in, padded};
+
+use linker_elf::elf::Choice;
+use linker_elf::elf::choice_table::ChoiceEntry;
 
 /// How many choices a relocation may have.
 pub const CANDIDATES: usize = 6;
 
-/// One choice.
+/// The choice with an index: that of an entry, and behind these the one that changes nothing.
 #[inline(always)]
-pub(crate) fn one<A: Copy>(a: A) -> [Option<A>; CANDIDATES]
-    ensures { result ≡ padded (a ∷ []) }
+fn candidate<O, K: Copy, R: Copy>(
+    entries: &'static [ChoiceEntry<O, K, R>],
+    unchanged: Choice<K, R>,
+    index: usize,
+) -> Option<Choice<K, R>>
+    ensures { result ≡ slice_get (choices_in entries.now unchanged) index }
 {
-    [Some(a), None, None, None, None, None]
+    match entries.get(index) {
+        Some(entry) => Some(Choice {
+            kind: entry.kind,
+            relocation: entry.relocation,
+        }),
+        None if index == entries.len() => Some(unchanged),
+        None => None,
+    }
 }
 
-/// Two choices.
-#[inline(always)]
-pub(crate) fn two<A: Copy>(a: A, b: A) -> [Option<A>; CANDIDATES]
-    ensures { result ≡ padded (a ∷ b ∷ []) }
+/// The choices of a table's entries, and the one that changes nothing.
+#[inline]
+pub(crate) fn candidates<O, K: Copy, R: Copy>(
+    entries: &'static [ChoiceEntry<O, K, R>],
+    unchanged: Choice<K, R>,
+) -> [Option<Choice<K, R>>; CANDIDATES]
+    requires { length entries.now ≤ 5 }
+    ensures { result ≡ padded (choices_in entries.now unchanged) }
 {
-    [Some(a), Some(b), None, None, None, None]
-}
-
-/// Three choices.
-#[inline(always)]
-pub(crate) fn three<A: Copy>(a: A, b: A, c: A) -> [Option<A>; CANDIDATES]
-    ensures { result ≡ padded (a ∷ b ∷ c ∷ []) }
-{
-    [Some(a), Some(b), Some(c), None, None, None]
-}
-
-/// Four choices.
-#[inline(always)]
-pub(crate) fn four<A: Copy>(a: A, b: A, c: A, d: A) -> [Option<A>; CANDIDATES]
-    ensures { result ≡ padded (a ∷ b ∷ c ∷ d ∷ []) }
-{
-    [Some(a), Some(b), Some(c), Some(d), None, None]
-}
-
-/// Five choices.
-#[inline(always)]
-pub(crate) fn five<A: Copy>(a: A, b: A, c: A, d: A, e: A) -> [Option<A>; CANDIDATES]
-    ensures { result ≡ padded (a ∷ b ∷ c ∷ d ∷ e ∷ []) }
-{
-    [Some(a), Some(b), Some(c), Some(d), Some(e), None]
+    [
+        candidate(entries, unchanged, 0),
+        candidate(entries, unchanged, 1),
+        candidate(entries, unchanged, 2),
+        candidate(entries, unchanged, 3),
+        candidate(entries, unchanged, 4),
+        candidate(entries, unchanged, 5),
+    ]
 }

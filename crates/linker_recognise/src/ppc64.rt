@@ -2,139 +2,25 @@
 
 ghost use Rattle.std.specs.Prelude.{◌≡◌, ◌≤◌, ◌↔◌, Some, None, length};
 ghost use Rattle.linker_elf.specs.Ppc64Relocations.{ppc64_name, ppc64_row};
-ghost use Rattle.linker_recognise.specs.Ppc64Recognised.{Ppc64Choice, Ppc64Leaves, ppc64_choices};
+ghost use Rattle.linker_recognise.specs.Ppc64Recognised.{Ppc64Leaves};
 ghost use Rattle.linker_recognise.specs.Ppc64Recognised.{Ppc64Made, Ppc64Reads, IsPpc64Found};
-ghost use Rattle.linker_recognise.specs.Inner.Candidates.{padded};
 ghost use Rattle.linker_recognise.specs.Recognised.{IsOneOf, AreThose};
 ghost use Rattle.linker_recognise.specs.WrittenRows.{WrittenIsLeft};
-ghost use Rattle.linker_elf.specs.Choices as choices;
 ghost use Rattle.linker_ppc64.specs.Ppc64Choices.{IsPpc64Choice};
 ghost use Rattle.linker_ppc64.specs.Ppc64Originals.{ppc64_matches};
 ghost use Rattle.linker_ppc64.specs.Ppc64Rewrites.{ppc64_rewrite};
 ghost use Rattle.linker_utils.specs.declared.architecture.Relaxation.TheVariants as relaxations;
 ghost use Rattle.linker_elf.specs.declared.elf.choice.LinkFacts.{LinkFacts};
 
-use crate::candidates::{CANDIDATES, four, one, three, two};
+use crate::candidates::{CANDIDATES, candidates};
 use crate::engine::{Kind, Made, Name, recognise_among, recognise_one};
 use crate::fields::FieldBits;
 use linker_utils::architecture::Relaxation;
 use linker_utils::elf::{Choice, LinkFacts, Row};
-use linker_utils::ppc64::{Ppc64Relocation, RelaxationKind, choose, row};
+use linker_utils::ppc64::{Ppc64Relocation, RelaxationKind, choose, entries, row};
 use linker_utils::riscv64::DeletedBytes;
 
-type Ppc64Choice = Choice<RelaxationKind, Ppc64Relocation>;
-
 type Ppc64Made = Made<RelaxationKind, Ppc64Relocation>;
-
-#[inline(always)]
-fn choice(kind: RelaxationKind, relocation: Ppc64Relocation) -> Ppc64Choice
-    ensures { result ≡ choices.choice kind relocation }
-{
-    Choice { kind, relocation }
-}
-
-/// The choices of a relocation.
-fn candidates(name: Ppc64Relocation) -> [Option<Ppc64Choice>; CANDIDATES]
-    ensures { result ≡ padded (ppc64_choices name) }
-{
-    let unchanged = choice(RelaxationKind::NoOp, name);
-    match name {
-        Ppc64Relocation::R_PPC64_TOC16_HA
-        | Ppc64Relocation::R_PPC64_GOT_TPREL16_HA
-        | Ppc64Relocation::R_PPC64_GOT_TLSLD16_HA => two(
-            choice(RelaxationKind::AddisToNop, Ppc64Relocation::R_PPC64_NONE),
-            unchanged,
-        ),
-        Ppc64Relocation::R_PPC64_TOC16_LO => two(
-            choice(RelaxationKind::BaseToToc, Ppc64Relocation::R_PPC64_TOC16),
-            unchanged,
-        ),
-        Ppc64Relocation::R_PPC64_TOC16_LO_DS => two(
-            choice(RelaxationKind::BaseToToc, Ppc64Relocation::R_PPC64_TOC16_DS),
-            unchanged,
-        ),
-        Ppc64Relocation::R_PPC64_GOT16_HA => two(
-            choice(RelaxationKind::NoOp, Ppc64Relocation::R_PPC64_TOC16_HA),
-            unchanged,
-        ),
-        Ppc64Relocation::R_PPC64_GOT16_LO_DS => two(
-            choice(RelaxationKind::LdToAddi, Ppc64Relocation::R_PPC64_TOC16_LO),
-            unchanged,
-        ),
-        Ppc64Relocation::R_PPC64_GOT_PCREL34 => two(
-            choice(RelaxationKind::PldToPaddi, Ppc64Relocation::R_PPC64_PCREL34),
-            unchanged,
-        ),
-        Ppc64Relocation::R_PPC64_GOT_TPREL16_LO_DS => two(
-            choice(
-                RelaxationKind::LdToAddisThread,
-                Ppc64Relocation::R_PPC64_TPREL16_HA,
-            ),
-            unchanged,
-        ),
-        Ppc64Relocation::R_PPC64_TLS => four(
-            choice(
-                RelaxationKind::AddToAddi,
-                Ppc64Relocation::R_PPC64_TPREL16_LO,
-            ),
-            choice(
-                RelaxationKind::IndexedToD,
-                Ppc64Relocation::R_PPC64_TPREL16_LO,
-            ),
-            choice(
-                RelaxationKind::IndexedToDs,
-                Ppc64Relocation::R_PPC64_TPREL16_LO_DS,
-            ),
-            unchanged,
-        ),
-        Ppc64Relocation::R_PPC64_GOT_TLSGD16_HA => three(
-            choice(RelaxationKind::AddisToNop, Ppc64Relocation::R_PPC64_NONE),
-            choice(
-                RelaxationKind::NoOp,
-                Ppc64Relocation::R_PPC64_GOT_TPREL16_HA,
-            ),
-            unchanged,
-        ),
-        Ppc64Relocation::R_PPC64_GOT_TLSGD16_LO => three(
-            choice(
-                RelaxationKind::AddiToAddisThread,
-                Ppc64Relocation::R_PPC64_TPREL16_HA,
-            ),
-            choice(
-                RelaxationKind::AddiToLd,
-                Ppc64Relocation::R_PPC64_GOT_TPREL16_LO_DS,
-            ),
-            unchanged,
-        ),
-        Ppc64Relocation::R_PPC64_TLSGD => three(
-            choice(
-                RelaxationKind::CallToAddi,
-                Ppc64Relocation::R_PPC64_TPREL16_LO,
-            ),
-            choice(RelaxationKind::CallToAdd, Ppc64Relocation::R_PPC64_NONE),
-            unchanged,
-        ),
-        Ppc64Relocation::R_PPC64_GOT_TLSLD16_LO => two(
-            choice(
-                RelaxationKind::AddiToAddisThread,
-                Ppc64Relocation::R_PPC64_NONE,
-            ),
-            unchanged,
-        ),
-        Ppc64Relocation::R_PPC64_TLSLD => two(
-            choice(
-                RelaxationKind::CallToAddi4096,
-                Ppc64Relocation::R_PPC64_NONE,
-            ),
-            unchanged,
-        ),
-        Ppc64Relocation::R_PPC64_REL24 => two(
-            choice(RelaxationKind::NopToRestoreToc, name),
-            unchanged,
-        ),
-        _ => one(unchanged),
-    }
-}
 
 impl Kind for RelaxationKind {
     ghost matches = { ppc64_matches };
@@ -208,7 +94,12 @@ pub fn recognise(
         → Ppc64Leaves m.choice original.now offset others.now linked.now
         → Ppc64Reads m.choice offset linked.now m.offset m.value → IsOneOf (Some m) result }
 {
-    recognise_among(candidates(name), original, offset, others, linked)
+    let unchanged = Choice {
+        kind: RelaxationKind::NoOp,
+        relocation: name,
+    };
+    let choices = candidates(entries(name), unchanged);
+    recognise_among(choices, original, offset, others, linked)
 }
 
 /// The choice that `choose` makes by what the linker knows, if it leaves the linked bytes, as

@@ -5,23 +5,15 @@ use super::rewrites::{
     RelaxationKind, are_of_one_register, destination, is_add64, is_adrp, is_ldr64, source, word_at,
 };
 use crate::linker_base::rewrite::has_window;
-use crate::linker_elf::aarch64::{AArch64Relocation, row};
-use crate::linker_elf::elf::{Choice, LinkFacts};
-
-type AArch64Choice = Choice<RelaxationKind, AArch64Relocation>;
+use crate::linker_elf::aarch64::AArch64Relocation;
+use crate::linker_elf::elf::choice_table::{
+    BOUND, ChoiceEntry, ChosenKind, Conditions, EXECUTABLE, FIXED_DISTANCE, Originals,
+    ValueCondition, WEAK_ZERO, first_entry,
+};
+use crate::linker_elf::elf::{Choice, LinkFacts, Operands};
 
 /// `blr x0`; the register is bits 5 to 9.
 const BLR: u32 = 0xd63f_0000;
-
-/// The bits above the distance of `b` and of `bl`.
-const B: u32 = 0x05;
-
-const BL: u32 = 0x25;
-
-const ERASED: AArch64Choice = Choice {
-    kind: RelaxationKind::ReplaceWithNop,
-    relocation: AArch64Relocation::R_AARCH64_NONE,
-};
 
 /// Whether `adrp xN`, at an offset, and `ldr xN, [xN, #imm]` stand next to each other.
 #[inline]
@@ -31,12 +23,6 @@ fn is_entry_load(section: &[u8], offset: u64) -> bool {
     }
     let ldr = word_at(section, offset + 4);
     is_ldr64(ldr) && are_of_one_register(word_at(section, offset), ldr)
-}
-
-/// The same, where the `ldr` is at the offset.
-#[inline]
-fn ends_entry_load(section: &[u8], offset: u64) -> bool {
-    4 <= offset && is_entry_load(section, offset - 4)
 }
 
 #[inline]
@@ -70,75 +56,160 @@ pub fn is_tls_descriptor_sequence(section: &[u8], offset: u64) -> bool {
         )
 }
 
-/// Whether the instruction at an offset has these bits above a distance of 26 bits.
-#[inline(always)]
-fn has_opcode6(section: &[u8], offset: u64, opcode: u32) -> bool {
-    has_window(section, offset, 0, 4) && word_at(section, offset) >> 26 == opcode
+/// The instructions that an entry is for: what its rewrite is meant for, or others.
+pub enum Original {
+    /// What the rewrite is meant for.
+    OfRewrite,
+    /// The `adrp` of a pair `adrp xN`, `ldr xN, [xN, #imm]`.
+    AdrpOfPair,
+    /// The `ldr` of such a pair.
+    LdrOfPair,
+    /// The one so many bytes after the start of the sequence of a TLS descriptor.
+    OfDescriptor(u64),
+    /// `bl`.
+    Bl,
+    /// `b`.
+    B,
 }
 
-/// Whether the address itself, instead of that of its GOT entry, may be computed: the `adrp` is so
-/// many bytes before the place.
-#[inline]
-fn is_for_address(facts: &LinkFacts, back: u64) -> bool {
-    let adrp = row(AArch64Relocation::R_AARCH64_ADR_PREL_PG_HI21);
-    let is_direct = facts.is_bound() && facts.has_fixed_distance;
-    is_direct && facts.is_in_reach_if_known(adrp, &facts.operands, back)
-}
-
-/// Whether the offset from the thread pointer may be in the instructions.
-#[inline]
-fn is_for_local_exec(facts: &LinkFacts) -> bool {
-    let movz = row(AArch64Relocation::R_AARCH64_TLSLE_MOVW_TPREL_G1);
-    facts.is_executable && facts.is_bound() && facts.is_in_reach_if_known(movz, &facts.operands, 0)
-}
-
-/// Whether the offset from the thread pointer may be in the GOT: the `adrp` is so many bytes before
-/// the place.
-#[inline]
-fn is_for_initial_exec(facts: &LinkFacts, back: u64) -> bool {
-    let adrp = row(AArch64Relocation::R_AARCH64_TLSIE_ADR_GOTTPREL_PAGE21);
-    facts.is_executable && facts.is_in_reach_if_known(adrp, &facts.operands, back)
-}
-
-/// What is chosen for a relocation `back` bytes after the start of the sequence of a TLS
-/// descriptor: for local-exec, else for initial-exec, else a third.
-#[inline]
-fn choice_of_descriptor(
-    section: &[u8],
-    offset: u64,
-    back: u64,
-    facts: &LinkFacts,
-    local: AArch64Choice,
-    initial: AArch64Choice,
-    otherwise: AArch64Choice,
-) -> AArch64Choice {
-    if offset < back || !is_tls_descriptor_sequence(section, offset - back) {
-        otherwise
-    } else if is_for_local_exec(facts) {
-        local
-    } else if is_for_initial_exec(facts, back) {
-        initial
-    } else {
-        otherwise
+impl Originals<RelaxationKind> for Original {
+    #[inline(always)]
+    fn stand_at(&self, kind: RelaxationKind, section: &[u8], offset: u64) -> bool {
+        match *self {
+            Original::OfRewrite => kind.matches(section, offset),
+            Original::AdrpOfPair => is_entry_load(section, offset),
+            Original::LdrOfPair => 4 <= offset && is_entry_load(section, offset - 4),
+            Original::OfDescriptor(back) => {
+                back <= offset && is_tls_descriptor_sequence(section, offset - back)
+            }
+            _ if !has_window(section, offset, 0, 4) => false,
+            Original::Bl => word_at(section, offset) >> 26 == 0x25,
+            Original::B => word_at(section, offset) >> 26 == 0x05,
+        }
     }
 }
 
-/// Whether the address may be computed by `adr` alone.
-#[inline]
-fn is_for_adr(facts: &LinkFacts) -> bool {
-    let adr = row(AArch64Relocation::R_AARCH64_ADR_PREL_LO21);
-    facts.has_fixed_distance && facts.is_in_reach(adr, &facts.operands, 0)
+impl ChosenKind for RelaxationKind {
+    #[inline(always)]
+    fn operands_after(self, offset: u64, operands: &Operands) -> Operands {
+        let _ = offset;
+        *operands
+    }
 }
 
-#[inline(always)]
-fn chosen(kind: RelaxationKind, relocation: AArch64Relocation) -> AArch64Choice {
-    Choice { kind, relocation }
+/// An entry: the instructions, the rewrite, the relocation after it and the conditions.
+macro_rules! entry {
+    ($original:ident $(($back:expr))?: $kind:ident => $relocation:ident, $conditions:expr) => {
+        ChoiceEntry {
+            originals: Original::$original $(($back))?,
+            kind: RelaxationKind::$kind,
+            relocation: AArch64Relocation::$relocation,
+            conditions: $conditions,
+        }
+    };
 }
 
-/// One choice where it applies, and else another.
+/// Conditions: facts, and the values in reach, so many bytes before the place.
+macro_rules! conditions {
+    ($facts:expr $(, $value:ident $relocation:ident $back:expr)*) => {
+        Conditions {
+            facts: $facts,
+            addend: None,
+            values: &[$(ValueCondition::$value(AArch64Relocation::$relocation, $back),)*],
+        }
+    };
+}
+
+/// The address itself in place of that of the GOT entry: `adrp` is so many bytes before.
+macro_rules! to_address {
+    ($back:expr) => {
+        conditions!(BOUND + FIXED_DISTANCE, InReachIfKnown R_AARCH64_ADR_PREL_PG_HI21 $back)
+    };
+}
+
+/// The offset from the thread pointer in the GOT: `adrp` is so many bytes before.
+macro_rules! to_initial_exec {
+    ($back:expr) => {
+        conditions!(EXECUTABLE, InReachIfKnown R_AARCH64_TLSIE_ADR_GOTTPREL_PAGE21 $back)
+    };
+}
+
+/// By `adr` alone, which reaches 1 MiB.
+const TO_ADR: Conditions<AArch64Relocation> =
+    conditions!(FIXED_DISTANCE, InReach R_AARCH64_ADR_PREL_LO21 0);
+
+/// The offset from the thread pointer in the instructions.
+const TO_LOCAL_EXEC: Conditions<AArch64Relocation> =
+    conditions!(BOUND + EXECUTABLE, InReachIfKnown R_AARCH64_TLSLE_MOVW_TPREL_G1 0);
+
+/// The address of the symbol is 0.
+const TO_NEXT: Conditions<AArch64Relocation> = conditions!(WEAK_ZERO);
+
+type AArch64Entry = ChoiceEntry<Original, RelaxationKind, AArch64Relocation>;
+
+static ADR_GOT_PAGE: &[AArch64Entry] = &[
+    entry!(AdrpOfPair: NoOp => R_AARCH64_ADR_PREL_PG_HI21, to_address!(0)),
+];
+
+static LD64_GOT_LO12_NC: &[AArch64Entry] = &[
+    entry!(LdrOfPair: LdrToAdd => R_AARCH64_ADD_ABS_LO12_NC, to_address!(4)),
+];
+
+static ADD_ABS_LO12_NC: &[AArch64Entry] = &[
+    entry!(OfRewrite: AdrpAddToNopAdr => R_AARCH64_ADR_PREL_LO21, TO_ADR),
+];
+
+static TLSIE_ADR_GOTTPREL_PAGE21: &[AArch64Entry] = &[
+    entry!(AdrpOfPair: MovzXnLsl16 => R_AARCH64_TLSLE_MOVW_TPREL_G1, TO_LOCAL_EXEC),
+];
+
+static TLSIE_LD64_GOTTPREL_LO12_NC: &[AArch64Entry] = &[
+    entry!(LdrOfPair: MovkXn => R_AARCH64_TLSLE_MOVW_TPREL_G0_NC, TO_LOCAL_EXEC),
+];
+
+static TLSDESC_ADR_PAGE21: &[AArch64Entry] = &[
+    entry!(OfDescriptor(0): MovzX0Lsl16 => R_AARCH64_TLSLE_MOVW_TPREL_G1, TO_LOCAL_EXEC),
+    entry!(OfDescriptor(0): AdrpX0 => R_AARCH64_TLSIE_ADR_GOTTPREL_PAGE21, to_initial_exec!(0)),
+];
+
+static TLSDESC_LD64_LO12: &[AArch64Entry] = &[
+    entry!(OfDescriptor(4): MovkX0 => R_AARCH64_TLSLE_MOVW_TPREL_G0_NC, TO_LOCAL_EXEC),
+    entry!(OfDescriptor(4): LdrX0 => R_AARCH64_TLSIE_LD64_GOTTPREL_LO12_NC, to_initial_exec!(4)),
+];
+
+static TLSDESC_ADD_LO12: &[AArch64Entry] = &[
+    entry!(OfDescriptor(8): ReplaceWithNop => R_AARCH64_NONE, TO_LOCAL_EXEC),
+    entry!(OfDescriptor(8): ReplaceWithNop => R_AARCH64_NONE, to_initial_exec!(8)),
+];
+
+static TLSDESC_CALL: &[AArch64Entry] = &[
+    entry!(OfDescriptor(12): ReplaceWithNop => R_AARCH64_NONE, TO_LOCAL_EXEC),
+    entry!(OfDescriptor(12): ReplaceWithNop => R_AARCH64_NONE, to_initial_exec!(12)),
+];
+
+static CALL26: &[AArch64Entry] = &[entry!(Bl: ReplaceWithNop => R_AARCH64_NONE, TO_NEXT)];
+
+static JUMP26: &[AArch64Entry] = &[entry!(B: ReplaceWithNop => R_AARCH64_NONE, TO_NEXT)];
+
+static OTHERS: &[AArch64Entry] = &[];
+
+/// The entries of a relocation.
 #[inline(always)]
-fn choice_if(applies: bool, chosen: AArch64Choice, otherwise: AArch64Choice) -> AArch64Choice {
-    if applies { chosen } else { otherwise }
+fn entries(name: AArch64Relocation) -> &'static [AArch64Entry] {
+    match name {
+        AArch64Relocation::R_AARCH64_ADR_GOT_PAGE => ADR_GOT_PAGE,
+        AArch64Relocation::R_AARCH64_LD64_GOT_LO12_NC => LD64_GOT_LO12_NC,
+        AArch64Relocation::R_AARCH64_ADD_ABS_LO12_NC => ADD_ABS_LO12_NC,
+        AArch64Relocation::R_AARCH64_TLSIE_ADR_GOTTPREL_PAGE21 => TLSIE_ADR_GOTTPREL_PAGE21,
+        AArch64Relocation::R_AARCH64_TLSIE_LD64_GOTTPREL_LO12_NC => TLSIE_LD64_GOTTPREL_LO12_NC,
+        AArch64Relocation::R_AARCH64_TLSDESC_ADR_PAGE21 => TLSDESC_ADR_PAGE21,
+        AArch64Relocation::R_AARCH64_TLSDESC_LD64_LO12 => TLSDESC_LD64_LO12,
+        AArch64Relocation::R_AARCH64_TLSDESC_ADD_LO12 => TLSDESC_ADD_LO12,
+        AArch64Relocation::R_AARCH64_TLSDESC_CALL => TLSDESC_CALL,
+        AArch64Relocation::R_AARCH64_CALL26 => CALL26,
+        AArch64Relocation::R_AARCH64_JUMP26 => JUMP26,
+        _ => OTHERS,
+    }
 }
 
 /// The rewrite that a linker chooses for a relocation at an offset of a section, and the relocation
@@ -209,96 +280,11 @@ pub fn choose(
     offset: u64,
     facts: &LinkFacts,
 ) -> Choice<RelaxationKind, AArch64Relocation> {
-    let unchanged = chosen(RelaxationKind::NoOp, name);
-    match name {
-        AArch64Relocation::R_AARCH64_ADR_GOT_PAGE => choice_if(
-            is_entry_load(section, offset) && is_for_address(facts, 0),
-            chosen(
-                RelaxationKind::NoOp,
-                AArch64Relocation::R_AARCH64_ADR_PREL_PG_HI21,
-            ),
-            unchanged,
-        ),
-        AArch64Relocation::R_AARCH64_LD64_GOT_LO12_NC => choice_if(
-            ends_entry_load(section, offset) && is_for_address(facts, 4),
-            chosen(
-                RelaxationKind::LdrToAdd,
-                AArch64Relocation::R_AARCH64_ADD_ABS_LO12_NC,
-            ),
-            unchanged,
-        ),
-        AArch64Relocation::R_AARCH64_ADD_ABS_LO12_NC => choice_if(
-            RelaxationKind::AdrpAddToNopAdr.matches(section, offset) && is_for_adr(facts),
-            chosen(
-                RelaxationKind::AdrpAddToNopAdr,
-                AArch64Relocation::R_AARCH64_ADR_PREL_LO21,
-            ),
-            unchanged,
-        ),
-        AArch64Relocation::R_AARCH64_TLSIE_ADR_GOTTPREL_PAGE21 => choice_if(
-            is_entry_load(section, offset) && is_for_local_exec(facts),
-            chosen(
-                RelaxationKind::MovzXnLsl16,
-                AArch64Relocation::R_AARCH64_TLSLE_MOVW_TPREL_G1,
-            ),
-            unchanged,
-        ),
-        AArch64Relocation::R_AARCH64_TLSIE_LD64_GOTTPREL_LO12_NC => choice_if(
-            ends_entry_load(section, offset) && is_for_local_exec(facts),
-            chosen(
-                RelaxationKind::MovkXn,
-                AArch64Relocation::R_AARCH64_TLSLE_MOVW_TPREL_G0_NC,
-            ),
-            unchanged,
-        ),
-        AArch64Relocation::R_AARCH64_TLSDESC_ADR_PAGE21 => choice_of_descriptor(
-            section,
-            offset,
-            0,
-            facts,
-            chosen(
-                RelaxationKind::MovzX0Lsl16,
-                AArch64Relocation::R_AARCH64_TLSLE_MOVW_TPREL_G1,
-            ),
-            chosen(
-                RelaxationKind::AdrpX0,
-                AArch64Relocation::R_AARCH64_TLSIE_ADR_GOTTPREL_PAGE21,
-            ),
-            unchanged,
-        ),
-        AArch64Relocation::R_AARCH64_TLSDESC_LD64_LO12 => choice_of_descriptor(
-            section,
-            offset,
-            4,
-            facts,
-            chosen(
-                RelaxationKind::MovkX0,
-                AArch64Relocation::R_AARCH64_TLSLE_MOVW_TPREL_G0_NC,
-            ),
-            chosen(
-                RelaxationKind::LdrX0,
-                AArch64Relocation::R_AARCH64_TLSIE_LD64_GOTTPREL_LO12_NC,
-            ),
-            unchanged,
-        ),
-        AArch64Relocation::R_AARCH64_TLSDESC_ADD_LO12 => {
-            choice_of_descriptor(section, offset, 8, facts, ERASED, ERASED, unchanged)
-        }
-        AArch64Relocation::R_AARCH64_TLSDESC_CALL => {
-            choice_of_descriptor(section, offset, 12, facts, ERASED, ERASED, unchanged)
-        }
-        AArch64Relocation::R_AARCH64_CALL26 => choice_if(
-            facts.is_undefined_weak && has_opcode6(section, offset, BL),
-            ERASED,
-            unchanged,
-        ),
-        AArch64Relocation::R_AARCH64_JUMP26 => choice_if(
-            facts.is_undefined_weak && has_opcode6(section, offset, B),
-            ERASED,
-            unchanged,
-        ),
-        _ => unchanged,
-    }
+    let unchanged = Choice {
+        kind: RelaxationKind::NoOp,
+        relocation: name,
+    };
+    first_entry(entries(name), section, offset, facts, unchanged)
 }
 
 /// With the same facts, except that each has its own place, both relocations of a load of a GOT

@@ -3,24 +3,17 @@
 
 use super::rewrites::{RelaxationKind, are_of_one_register, destination, is_addi, is_ld, word_at};
 use crate::linker_base::rewrite::has_window;
-use crate::linker_elf::elf::{Choice, LinkFacts};
-use crate::linker_elf::loongarch64::{LoongArch64Relocation, row};
-
-type LoongArchChoice = Choice<RelaxationKind, LoongArch64Relocation>;
+use crate::linker_elf::elf::choice_table::{
+    BOUND, ChoiceEntry, ChosenKind, Conditions, EXECUTABLE, FIXED_DISTANCE, MARKED, Originals,
+    ValueCondition, first_entry,
+};
+use crate::linker_elf::elf::{Choice, LinkFacts, Operands};
+use crate::linker_elf::loongarch64::LoongArch64Relocation;
 
 /// `ld.d ra, a0, 0` and `jirl ra, ra, 0`.
 const LOAD_OF_DESCRIPTOR: u32 = 0x28c0_0081;
 
 const CALL_OF_DESCRIPTOR: u32 = 0x4c00_0021;
-
-/// The numbers of 32 bits in two's complement, the immediates of `ori`, and those of `addi.d`.
-const SIGNED_32: (i64, i64) = (-0x8000_0000, 0x8000_0000);
-
-const UNSIGNED_12: (i64, i64) = (0, 0x1000);
-
-const SIGNED_12: (i64, i64) = (-0x800, 0x800);
-
-// ---- what is there
 
 /// Whether `pcalau12i rd`, at an offset, and `ld.d rd, rd` stand next to each other.
 #[inline]
@@ -32,12 +25,6 @@ fn is_load(section: &[u8], offset: u64) -> bool {
     is_ld(ld) && are_of_one_register(word_at(section, offset), ld)
 }
 
-/// The same, where the `ld.d` is at the offset.
-#[inline]
-fn ends_load(section: &[u8], offset: u64) -> bool {
-    4 <= offset && is_load(section, offset - 4)
-}
-
 /// Whether `pcalau12i rd`, at an offset, and `addi.d rd, rd` stand next to each other.
 #[inline]
 fn is_sum(section: &[u8], offset: u64) -> bool {
@@ -46,12 +33,6 @@ fn is_sum(section: &[u8], offset: u64) -> bool {
     }
     let addi = word_at(section, offset + 4);
     is_addi(addi) && are_of_one_register(word_at(section, offset), addi)
-}
-
-/// The same, where the `addi.d` is at the offset.
-#[inline]
-fn ends_sum(section: &[u8], offset: u64) -> bool {
-    4 <= offset && is_sum(section, offset - 4)
 }
 
 #[inline]
@@ -78,12 +59,6 @@ pub fn is_tls_descriptor_sequence(section: &[u8], offset: u64) -> bool {
         )
 }
 
-/// The same, where the first instruction is so many bytes before.
-#[inline]
-fn is_in_descriptor(section: &[u8], offset: u64, back: u64) -> bool {
-    back <= offset && is_tls_descriptor_sequence(section, offset - back)
-}
-
 /// `lu12i.w`.
 #[inline(always)]
 fn is_lu12i(section: &[u8], offset: u64) -> bool {
@@ -96,381 +71,208 @@ fn is_add_tp(section: &[u8], offset: u64) -> bool {
     has_window(section, offset, 0, 4) && word_at(section, offset) >> 10 == 0x422
 }
 
-// ---- what the linker knows
-
-/// Whether the distance may be in `pcaddi`, which is so many bytes before the place.
-#[inline]
-fn is_by_pcaddi(facts: &LinkFacts, back: u64) -> bool {
-    facts.is_marked
-        && facts.has_fixed_distance
-        && facts.is_in_reach(
-            row(LoongArch64Relocation::R_LARCH_PCREL20_S2),
-            &facts.operands,
-            back,
-        )
+/// The instructions that an entry is for, of which the first is so many bytes before the offset.
+pub enum AskedFor {
+    /// Those that its rewrite is meant for.
+    OfRewrite,
+    /// `pcalau12i rd` and `ld.d rd, rd`.
+    Load(u64),
+    /// `pcalau12i rd` and `addi.d rd, rd`.
+    Sum(u64),
+    /// The sequence of a TLS descriptor.
+    Descriptor(u64),
+    /// `lu12i.w`.
+    Lu12i,
+    /// `add.d rd, rj, tp`.
+    AddTp,
 }
 
-/// Whether the symbol's definition may be used in place of its GOT entry.
+impl Originals<RelaxationKind> for AskedFor {
+    #[inline(always)]
+    fn stand_at(&self, kind: RelaxationKind, section: &[u8], offset: u64) -> bool {
+        match *self {
+            AskedFor::OfRewrite => kind.matches(section, offset),
+            AskedFor::Load(back) => back <= offset && is_load(section, offset - back),
+            AskedFor::Sum(back) => back <= offset && is_sum(section, offset - back),
+            AskedFor::Descriptor(back) => {
+                back <= offset && is_tls_descriptor_sequence(section, offset - back)
+            }
+            AskedFor::Lu12i => is_lu12i(section, offset),
+            AskedFor::AddTp => is_add_tp(section, offset),
+        }
+    }
+}
+
+impl ChosenKind for RelaxationKind {
+    #[inline(always)]
+    fn operands_after(self, _offset: u64, operands: &Operands) -> Operands {
+        *operands
+    }
+}
+
+/// An entry: a rewrite, the relocation after it, what it asks for and the conditions.
+macro_rules! entry {
+    ($kind:ident => $relocation:ident, $asked:ident$(($back:expr))?, $conditions:expr) => {
+        ChoiceEntry {
+            originals: AskedFor::$asked$(($back))?,
+            kind: RelaxationKind::$kind,
+            relocation: LoongArch64Relocation::$relocation,
+            conditions: $conditions,
+        }
+    };
+}
+
+/// Conditions: facts, the addend and a value.
+macro_rules! conditions {
+    ($facts:expr, $addend:expr, $value:ident $relocation:ident $($bound:expr),+) => {
+        Conditions {
+            facts: $facts,
+            addend: $addend,
+            values: &[ValueCondition::$value(LoongArch64Relocation::$relocation, $($bound),+)],
+        }
+    };
+}
+
+/// By `pcaddi` alone, which is so many bytes before.
+macro_rules! by_pcaddi {
+    ($back:expr) => {
+        conditions!(FIXED_DISTANCE + MARKED, None, InReach R_LARCH_PCREL20_S2 $back)
+    };
+}
+
+/// The same of the symbol's definition, in place of its GOT entry.
+macro_rules! bound_by_pcaddi {
+    ($back:expr) => {
+        conditions!(
+            BOUND + FIXED_DISTANCE + MARKED,
+            Some(0),
+            InReach R_LARCH_PCREL20_S2 $back
+        )
+    };
+}
+
+/// The definition by the distance in pages from `pcalau12i`, which is so many bytes before.
+macro_rules! bound_by_pages {
+    ($back:expr) => {
+        conditions!(
+            BOUND + FIXED_DISTANCE,
+            Some(0),
+            WithinIfKnown R_LARCH_PCALA_HI20 SIGNED_32, $back
+        )
+    };
+}
+
+/// The offset from the thread pointer in the GOT: `pcalau12i` is so many bytes before.
+macro_rules! to_initial_exec {
+    ($back:expr) => {
+        conditions!(EXECUTABLE, None, WithinIfKnown R_LARCH_TLS_IE_PC_HI20 SIGNED_32, $back)
+    };
+}
+
+/// The numbers of 32 bits in two's complement, the immediates of `ori`, and those of `addi.d`.
+const SIGNED_32: (i64, i64) = (-0x8000_0000, 0x8000_0000);
+
+const UNSIGNED_12: (i64, i64) = (0, 0x1000);
+
+const SIGNED_12: (i64, i64) = (-0x800, 0x800);
+
+/// By `b` or `bl`.
+const BY_BRANCH: Conditions<LoongArch64Relocation> =
+    conditions!(FIXED_DISTANCE + MARKED, None, InReach R_LARCH_B26 0);
+
+/// The offset from the thread pointer in the instructions, and by `ori` alone.
+const TO_LOCAL_EXEC: Conditions<LoongArch64Relocation> =
+    conditions!(BOUND + EXECUTABLE, Some(0), WithinIfKnown R_LARCH_TLS_LE_HI20 SIGNED_32, 0);
+
+const TO_SHORT_LOCAL_EXEC: Conditions<LoongArch64Relocation> =
+    conditions!(BOUND + EXECUTABLE, Some(0), Within R_LARCH_TLS_LE_LO12 UNSIGNED_12, 0);
+
+/// The offset from the thread pointer in 12 signed bits.
+const BY_LOW_PART: Conditions<LoongArch64Relocation> =
+    conditions!(MARKED, None, Within R_LARCH_TLS_LE_LO12_R SIGNED_12, 0);
+
+type LoongArchEntry = ChoiceEntry<AskedFor, RelaxationKind, LoongArch64Relocation>;
+
+static GOT_PC_HI20: &[LoongArchEntry] = &[
+    entry!(PcalaToPcaddi => R_LARCH_PCREL20_S2, Load(0), bound_by_pcaddi!(0)),
+    entry!(NoOp => R_LARCH_PCALA_HI20, Load(0), bound_by_pages!(0)),
+];
+
+static GOT_PC_LO12: &[LoongArchEntry] = &[
+    entry!(Delete => R_LARCH_NONE, Load(4), bound_by_pcaddi!(4)),
+    entry!(LdToAddi => R_LARCH_PCALA_LO12, Load(4), bound_by_pages!(4)),
+];
+
+static PCALA_HI20: &[LoongArchEntry] = &[
+    entry!(PcalaToPcaddi => R_LARCH_PCREL20_S2, Sum(0), by_pcaddi!(0)),
+];
+
+static PCALA_LO12: &[LoongArchEntry] = &[entry!(Delete => R_LARCH_NONE, Sum(4), by_pcaddi!(4))];
+
+static CALL36: &[LoongArchEntry] = &[
+    entry!(CallToB => R_LARCH_B26, OfRewrite, BY_BRANCH),
+    entry!(CallToBl => R_LARCH_B26, OfRewrite, BY_BRANCH),
+];
+
+static TLS_IE_PC_HI20: &[LoongArchEntry] = &[
+    entry!(ReplaceWithNop => R_LARCH_NONE, Load(0), TO_SHORT_LOCAL_EXEC),
+    entry!(PcalaToLu12i => R_LARCH_TLS_LE_HI20, Load(0), TO_LOCAL_EXEC),
+];
+
+static TLS_IE_PC_LO12: &[LoongArchEntry] = &[
+    entry!(LowToOriZero => R_LARCH_TLS_LE_LO12, Load(4), TO_SHORT_LOCAL_EXEC),
+    entry!(LowToOri => R_LARCH_TLS_LE_LO12, Load(4), TO_LOCAL_EXEC),
+];
+
+static TLS_DESC_PC_HI20: &[LoongArchEntry] = &[
+    entry!(PcalaToLu12i => R_LARCH_TLS_LE_HI20, Descriptor(0), TO_LOCAL_EXEC),
+    entry!(NoOp => R_LARCH_TLS_IE_PC_HI20, Descriptor(0), to_initial_exec!(0)),
+];
+
+static TLS_DESC_PC_LO12: &[LoongArchEntry] = &[
+    entry!(LowToOri => R_LARCH_TLS_LE_LO12, Descriptor(4), TO_LOCAL_EXEC),
+    entry!(AddiToLd => R_LARCH_TLS_IE_PC_LO12, Descriptor(4), to_initial_exec!(4)),
+];
+
+static TLS_DESC_LD: &[LoongArchEntry] = &[
+    entry!(ReplaceWithNop => R_LARCH_NONE, Descriptor(8), TO_LOCAL_EXEC),
+    entry!(ReplaceWithNop => R_LARCH_NONE, Descriptor(8), to_initial_exec!(8)),
+];
+
+static TLS_DESC_CALL: &[LoongArchEntry] = &[
+    entry!(ReplaceWithNop => R_LARCH_NONE, Descriptor(12), TO_LOCAL_EXEC),
+    entry!(ReplaceWithNop => R_LARCH_NONE, Descriptor(12), to_initial_exec!(12)),
+];
+
+static TLS_LE_HI20_R: &[LoongArchEntry] = &[entry!(Delete => R_LARCH_NONE, Lu12i, BY_LOW_PART)];
+
+static TLS_LE_ADD_R: &[LoongArchEntry] = &[entry!(Delete => R_LARCH_NONE, AddTp, BY_LOW_PART)];
+
+static TLS_LE_LO12_R: &[LoongArchEntry] = &[
+    entry!(BaseToTp => R_LARCH_TLS_LE_LO12_R, OfRewrite, BY_LOW_PART),
+];
+
+static OTHERS: &[LoongArchEntry] = &[];
+
+/// The entries of a relocation.
 #[inline(always)]
-fn is_without_entry(facts: &LinkFacts) -> bool {
-    facts.is_bound() && facts.operands.addend == 0
-}
-
-/// Whether the distance in pages may be in `pcalau12i`, which is so many bytes before the place.
-#[inline]
-fn is_by_pages(facts: &LinkFacts, back: u64) -> bool {
-    let pages = row(LoongArch64Relocation::R_LARCH_PCALA_HI20);
-    facts.has_fixed_distance && facts.is_within_if_known(pages, SIGNED_32, back)
-}
-
-/// Whether the distance may be in `b` or `bl`.
-#[inline]
-fn is_by_branch(facts: &LinkFacts) -> bool {
-    facts.is_marked
-        && facts.has_fixed_distance
-        && facts.is_in_reach(row(LoongArch64Relocation::R_LARCH_B26), &facts.operands, 0)
-}
-
-/// Whether the offset from the thread pointer may be in `lu12i.w` and `ori`.
-#[inline]
-fn is_for_local_exec(facts: &LinkFacts) -> bool {
-    let high = row(LoongArch64Relocation::R_LARCH_TLS_LE_HI20);
-    facts.is_executable && is_without_entry(facts) && facts.is_within_if_known(high, SIGNED_32, 0)
-}
-
-/// Whether it may be in `ori` alone.
-#[inline]
-fn is_for_short_local_exec(facts: &LinkFacts) -> bool {
-    let low = row(LoongArch64Relocation::R_LARCH_TLS_LE_LO12);
-    facts.is_executable && is_without_entry(facts) && facts.is_within(low, UNSIGNED_12, 0)
-}
-
-/// Whether it may be in the GOT: `pcalau12i` is so many bytes before the place.
-#[inline]
-fn is_for_initial_exec(facts: &LinkFacts, back: u64) -> bool {
-    let pages = row(LoongArch64Relocation::R_LARCH_TLS_IE_PC_HI20);
-    facts.is_executable && facts.is_within_if_known(pages, SIGNED_32, back)
-}
-
-/// Whether it may be in 12 signed bits.
-#[inline]
-fn is_by_low_part(facts: &LinkFacts) -> bool {
-    let low = row(LoongArch64Relocation::R_LARCH_TLS_LE_LO12_R);
-    facts.is_marked && facts.is_within(low, SIGNED_12, 0)
-}
-
-// ---- the choice
-
-#[inline(always)]
-fn chosen(kind: RelaxationKind, relocation: LoongArch64Relocation) -> LoongArchChoice {
-    Choice { kind, relocation }
-}
-
-/// For the `pcalau12i` of a load of a GOT entry.
-#[inline]
-fn of_entry_high(section: &[u8], offset: u64, facts: &LinkFacts) -> LoongArchChoice {
-    if !is_load(section, offset) {
-        chosen(
-            RelaxationKind::NoOp,
-            LoongArch64Relocation::R_LARCH_GOT_PC_HI20,
-        )
-    } else if is_without_entry(facts) && is_by_pcaddi(facts, 0) {
-        chosen(
-            RelaxationKind::PcalaToPcaddi,
-            LoongArch64Relocation::R_LARCH_PCREL20_S2,
-        )
-    } else if is_without_entry(facts) && is_by_pages(facts, 0) {
-        chosen(
-            RelaxationKind::NoOp,
-            LoongArch64Relocation::R_LARCH_PCALA_HI20,
-        )
-    } else {
-        chosen(
-            RelaxationKind::NoOp,
-            LoongArch64Relocation::R_LARCH_GOT_PC_HI20,
-        )
-    }
-}
-
-/// For its `ld.d`.
-#[inline]
-fn of_entry_low(section: &[u8], offset: u64, facts: &LinkFacts) -> LoongArchChoice {
-    if !ends_load(section, offset) {
-        chosen(
-            RelaxationKind::NoOp,
-            LoongArch64Relocation::R_LARCH_GOT_PC_LO12,
-        )
-    } else if is_without_entry(facts) && is_by_pcaddi(facts, 4) {
-        chosen(RelaxationKind::Delete, LoongArch64Relocation::R_LARCH_NONE)
-    } else if is_without_entry(facts) && is_by_pages(facts, 4) {
-        chosen(
-            RelaxationKind::LdToAddi,
-            LoongArch64Relocation::R_LARCH_PCALA_LO12,
-        )
-    } else {
-        chosen(
-            RelaxationKind::NoOp,
-            LoongArch64Relocation::R_LARCH_GOT_PC_LO12,
-        )
-    }
-}
-
-/// For the `pcalau12i` of an address.
-#[inline]
-fn of_address_high(section: &[u8], offset: u64, facts: &LinkFacts) -> LoongArchChoice {
-    if !is_sum(section, offset) {
-        chosen(
-            RelaxationKind::NoOp,
-            LoongArch64Relocation::R_LARCH_PCALA_HI20,
-        )
-    } else if is_by_pcaddi(facts, 0) {
-        chosen(
-            RelaxationKind::PcalaToPcaddi,
-            LoongArch64Relocation::R_LARCH_PCREL20_S2,
-        )
-    } else {
-        chosen(
-            RelaxationKind::NoOp,
-            LoongArch64Relocation::R_LARCH_PCALA_HI20,
-        )
-    }
-}
-
-/// For its `addi.d`.
-#[inline]
-fn of_address_low(section: &[u8], offset: u64, facts: &LinkFacts) -> LoongArchChoice {
-    if !ends_sum(section, offset) {
-        chosen(
-            RelaxationKind::NoOp,
-            LoongArch64Relocation::R_LARCH_PCALA_LO12,
-        )
-    } else if is_by_pcaddi(facts, 4) {
-        chosen(RelaxationKind::Delete, LoongArch64Relocation::R_LARCH_NONE)
-    } else {
-        chosen(
-            RelaxationKind::NoOp,
-            LoongArch64Relocation::R_LARCH_PCALA_LO12,
-        )
-    }
-}
-
-/// For a call.
-#[inline]
-fn of_call(section: &[u8], offset: u64, facts: &LinkFacts) -> LoongArchChoice {
-    if RelaxationKind::CallToB.matches(section, offset) && is_by_branch(facts) {
-        chosen(RelaxationKind::CallToB, LoongArch64Relocation::R_LARCH_B26)
-    } else if RelaxationKind::CallToBl.matches(section, offset) && is_by_branch(facts) {
-        chosen(RelaxationKind::CallToBl, LoongArch64Relocation::R_LARCH_B26)
-    } else {
-        chosen(RelaxationKind::NoOp, LoongArch64Relocation::R_LARCH_CALL36)
-    }
-}
-
-/// For the `pcalau12i` of initial-exec.
-#[inline]
-fn of_initial_exec_high(section: &[u8], offset: u64, facts: &LinkFacts) -> LoongArchChoice {
-    if !is_load(section, offset) {
-        chosen(
-            RelaxationKind::NoOp,
-            LoongArch64Relocation::R_LARCH_TLS_IE_PC_HI20,
-        )
-    } else if is_for_short_local_exec(facts) {
-        chosen(
-            RelaxationKind::ReplaceWithNop,
-            LoongArch64Relocation::R_LARCH_NONE,
-        )
-    } else if is_for_local_exec(facts) {
-        chosen(
-            RelaxationKind::PcalaToLu12i,
-            LoongArch64Relocation::R_LARCH_TLS_LE_HI20,
-        )
-    } else {
-        chosen(
-            RelaxationKind::NoOp,
-            LoongArch64Relocation::R_LARCH_TLS_IE_PC_HI20,
-        )
-    }
-}
-
-/// For its `ld.d`.
-#[inline]
-fn of_initial_exec_low(section: &[u8], offset: u64, facts: &LinkFacts) -> LoongArchChoice {
-    if !ends_load(section, offset) {
-        chosen(
-            RelaxationKind::NoOp,
-            LoongArch64Relocation::R_LARCH_TLS_IE_PC_LO12,
-        )
-    } else if is_for_short_local_exec(facts) {
-        chosen(
-            RelaxationKind::LowToOriZero,
-            LoongArch64Relocation::R_LARCH_TLS_LE_LO12,
-        )
-    } else if is_for_local_exec(facts) {
-        chosen(
-            RelaxationKind::LowToOri,
-            LoongArch64Relocation::R_LARCH_TLS_LE_LO12,
-        )
-    } else {
-        chosen(
-            RelaxationKind::NoOp,
-            LoongArch64Relocation::R_LARCH_TLS_IE_PC_LO12,
-        )
-    }
-}
-
-/// For the `pcalau12i` of a TLS descriptor.
-#[inline]
-fn of_descriptor_high(section: &[u8], offset: u64, facts: &LinkFacts) -> LoongArchChoice {
-    if !is_in_descriptor(section, offset, 0) {
-        chosen(
-            RelaxationKind::NoOp,
-            LoongArch64Relocation::R_LARCH_TLS_DESC_PC_HI20,
-        )
-    } else if is_for_local_exec(facts) {
-        chosen(
-            RelaxationKind::PcalaToLu12i,
-            LoongArch64Relocation::R_LARCH_TLS_LE_HI20,
-        )
-    } else if is_for_initial_exec(facts, 0) {
-        chosen(
-            RelaxationKind::NoOp,
-            LoongArch64Relocation::R_LARCH_TLS_IE_PC_HI20,
-        )
-    } else {
-        chosen(
-            RelaxationKind::NoOp,
-            LoongArch64Relocation::R_LARCH_TLS_DESC_PC_HI20,
-        )
-    }
-}
-
-/// For its `addi.d`.
-#[inline]
-fn of_descriptor_low(section: &[u8], offset: u64, facts: &LinkFacts) -> LoongArchChoice {
-    if !is_in_descriptor(section, offset, 4) {
-        chosen(
-            RelaxationKind::NoOp,
-            LoongArch64Relocation::R_LARCH_TLS_DESC_PC_LO12,
-        )
-    } else if is_for_local_exec(facts) {
-        chosen(
-            RelaxationKind::LowToOri,
-            LoongArch64Relocation::R_LARCH_TLS_LE_LO12,
-        )
-    } else if is_for_initial_exec(facts, 4) {
-        chosen(
-            RelaxationKind::AddiToLd,
-            LoongArch64Relocation::R_LARCH_TLS_IE_PC_LO12,
-        )
-    } else {
-        chosen(
-            RelaxationKind::NoOp,
-            LoongArch64Relocation::R_LARCH_TLS_DESC_PC_LO12,
-        )
-    }
-}
-
-/// For its `ld.d`.
-#[inline]
-fn of_descriptor_load(section: &[u8], offset: u64, facts: &LinkFacts) -> LoongArchChoice {
-    if !is_in_descriptor(section, offset, 8) {
-        chosen(
-            RelaxationKind::NoOp,
-            LoongArch64Relocation::R_LARCH_TLS_DESC_LD,
-        )
-    } else if is_for_local_exec(facts) {
-        chosen(
-            RelaxationKind::ReplaceWithNop,
-            LoongArch64Relocation::R_LARCH_NONE,
-        )
-    } else if is_for_initial_exec(facts, 8) {
-        chosen(
-            RelaxationKind::ReplaceWithNop,
-            LoongArch64Relocation::R_LARCH_NONE,
-        )
-    } else {
-        chosen(
-            RelaxationKind::NoOp,
-            LoongArch64Relocation::R_LARCH_TLS_DESC_LD,
-        )
-    }
-}
-
-/// For its `jirl`.
-#[inline]
-fn of_descriptor_call(section: &[u8], offset: u64, facts: &LinkFacts) -> LoongArchChoice {
-    if !is_in_descriptor(section, offset, 12) {
-        chosen(
-            RelaxationKind::NoOp,
-            LoongArch64Relocation::R_LARCH_TLS_DESC_CALL,
-        )
-    } else if is_for_local_exec(facts) {
-        chosen(
-            RelaxationKind::ReplaceWithNop,
-            LoongArch64Relocation::R_LARCH_NONE,
-        )
-    } else if is_for_initial_exec(facts, 12) {
-        chosen(
-            RelaxationKind::ReplaceWithNop,
-            LoongArch64Relocation::R_LARCH_NONE,
-        )
-    } else {
-        chosen(
-            RelaxationKind::NoOp,
-            LoongArch64Relocation::R_LARCH_TLS_DESC_CALL,
-        )
-    }
-}
-
-/// For the `lu12i.w` of local-exec.
-#[inline]
-fn of_local_exec_high(section: &[u8], offset: u64, facts: &LinkFacts) -> LoongArchChoice {
-    if !is_lu12i(section, offset) {
-        chosen(
-            RelaxationKind::NoOp,
-            LoongArch64Relocation::R_LARCH_TLS_LE_HI20_R,
-        )
-    } else if is_by_low_part(facts) {
-        chosen(RelaxationKind::Delete, LoongArch64Relocation::R_LARCH_NONE)
-    } else {
-        chosen(
-            RelaxationKind::NoOp,
-            LoongArch64Relocation::R_LARCH_TLS_LE_HI20_R,
-        )
-    }
-}
-
-/// For its `add.d`.
-#[inline]
-fn of_local_exec_sum(section: &[u8], offset: u64, facts: &LinkFacts) -> LoongArchChoice {
-    if !is_add_tp(section, offset) {
-        chosen(
-            RelaxationKind::NoOp,
-            LoongArch64Relocation::R_LARCH_TLS_LE_ADD_R,
-        )
-    } else if is_by_low_part(facts) {
-        chosen(RelaxationKind::Delete, LoongArch64Relocation::R_LARCH_NONE)
-    } else {
-        chosen(
-            RelaxationKind::NoOp,
-            LoongArch64Relocation::R_LARCH_TLS_LE_ADD_R,
-        )
-    }
-}
-
-/// For what adds its low part.
-#[inline]
-fn of_local_exec_low(section: &[u8], offset: u64, facts: &LinkFacts) -> LoongArchChoice {
-    if RelaxationKind::BaseToTp.matches(section, offset) && is_by_low_part(facts) {
-        chosen(
-            RelaxationKind::BaseToTp,
-            LoongArch64Relocation::R_LARCH_TLS_LE_LO12_R,
-        )
-    } else {
-        chosen(
-            RelaxationKind::NoOp,
-            LoongArch64Relocation::R_LARCH_TLS_LE_LO12_R,
-        )
+fn entries(name: LoongArch64Relocation) -> &'static [LoongArchEntry] {
+    match name {
+        LoongArch64Relocation::R_LARCH_GOT_PC_HI20 => GOT_PC_HI20,
+        LoongArch64Relocation::R_LARCH_GOT_PC_LO12 => GOT_PC_LO12,
+        LoongArch64Relocation::R_LARCH_PCALA_HI20 => PCALA_HI20,
+        LoongArch64Relocation::R_LARCH_PCALA_LO12 => PCALA_LO12,
+        LoongArch64Relocation::R_LARCH_CALL36 => CALL36,
+        LoongArch64Relocation::R_LARCH_TLS_IE_PC_HI20 => TLS_IE_PC_HI20,
+        LoongArch64Relocation::R_LARCH_TLS_IE_PC_LO12 => TLS_IE_PC_LO12,
+        LoongArch64Relocation::R_LARCH_TLS_DESC_PC_HI20 => TLS_DESC_PC_HI20,
+        LoongArch64Relocation::R_LARCH_TLS_DESC_PC_LO12 => TLS_DESC_PC_LO12,
+        LoongArch64Relocation::R_LARCH_TLS_DESC_LD => TLS_DESC_LD,
+        LoongArch64Relocation::R_LARCH_TLS_DESC_CALL => TLS_DESC_CALL,
+        LoongArch64Relocation::R_LARCH_TLS_LE_HI20_R => TLS_LE_HI20_R,
+        LoongArch64Relocation::R_LARCH_TLS_LE_ADD_R => TLS_LE_ADD_R,
+        LoongArch64Relocation::R_LARCH_TLS_LE_LO12_R => TLS_LE_LO12_R,
+        _ => OTHERS,
     }
 }
 
@@ -558,31 +360,11 @@ pub fn choose(
     offset: u64,
     facts: &LinkFacts,
 ) -> Choice<RelaxationKind, LoongArch64Relocation> {
-    match name {
-        LoongArch64Relocation::R_LARCH_GOT_PC_HI20 => of_entry_high(section, offset, facts),
-        LoongArch64Relocation::R_LARCH_GOT_PC_LO12 => of_entry_low(section, offset, facts),
-        LoongArch64Relocation::R_LARCH_PCALA_HI20 => of_address_high(section, offset, facts),
-        LoongArch64Relocation::R_LARCH_PCALA_LO12 => of_address_low(section, offset, facts),
-        LoongArch64Relocation::R_LARCH_CALL36 => of_call(section, offset, facts),
-        LoongArch64Relocation::R_LARCH_TLS_IE_PC_HI20 => of_initial_exec_high(
-            section, offset, facts,
-        ),
-        LoongArch64Relocation::R_LARCH_TLS_IE_PC_LO12 => of_initial_exec_low(
-            section, offset, facts,
-        ),
-        LoongArch64Relocation::R_LARCH_TLS_DESC_PC_HI20 => of_descriptor_high(
-            section, offset, facts,
-        ),
-        LoongArch64Relocation::R_LARCH_TLS_DESC_PC_LO12 => of_descriptor_low(
-            section, offset, facts,
-        ),
-        LoongArch64Relocation::R_LARCH_TLS_DESC_LD => of_descriptor_load(section, offset, facts),
-        LoongArch64Relocation::R_LARCH_TLS_DESC_CALL => of_descriptor_call(section, offset, facts),
-        LoongArch64Relocation::R_LARCH_TLS_LE_HI20_R => of_local_exec_high(section, offset, facts),
-        LoongArch64Relocation::R_LARCH_TLS_LE_ADD_R => of_local_exec_sum(section, offset, facts),
-        LoongArch64Relocation::R_LARCH_TLS_LE_LO12_R => of_local_exec_low(section, offset, facts),
-        _ => chosen(RelaxationKind::NoOp, name),
-    }
+    let unchanged = Choice {
+        kind: RelaxationKind::NoOp,
+        relocation: name,
+    };
+    first_entry(entries(name), section, offset, facts, unchanged)
 }
 
 /// With the same facts, except that each has its own place, both relocations of a pair are

@@ -2,79 +2,160 @@
 //! PowerPC64: which rewrite a linker chooses for a relocation.
 
 use super::rewrites::RelaxationKind;
-use crate::linker_elf::elf::{Choice, LinkFacts};
-use crate::linker_elf::ppc64::{Ppc64Relocation, row};
+use crate::linker_elf::elf::choice_table::{
+    BOUND, CHANGED_TOC, ChoiceEntry, ChosenKind, Conditions, EXECUTABLE, FIXED_DISTANCE, Originals,
+    PRIVATE_BASE, ValueCondition, first_entry,
+};
+use crate::linker_elf::elf::{Choice, LinkFacts, Operands};
+use crate::linker_elf::ppc64::Ppc64Relocation;
 
-/// Whether the high part of the distance from the TOC pointer is 0 and may go.
-#[inline]
-fn is_without_high_part(
-    kind: RelaxationKind,
-    section: &[u8],
-    offset: u64,
-    facts: &LinkFacts,
-) -> bool {
-    facts.has_private_base
-        && kind.matches(section, offset)
-        && facts.is_in_reach(row(Ppc64Relocation::R_PPC64_TOC16), &facts.operands, 0)
+/// The instructions that an entry's rewrite is meant for.
+pub struct OfRewrite;
+
+impl Originals<RelaxationKind> for OfRewrite {
+    #[inline(always)]
+    fn stand_at(&self, kind: RelaxationKind, section: &[u8], offset: u64) -> bool {
+        kind.matches(section, offset)
+    }
 }
 
-/// Whether the address may be computed from the TOC pointer instead of loaded.
-#[inline]
-fn is_for_toc_distance(kind: RelaxationKind, section: &[u8], offset: u64, facts: &LinkFacts) -> bool {
-    let high = row(Ppc64Relocation::R_PPC64_TOC16_HA);
-    facts.is_bound()
-        && facts.has_fixed_distance
-        && kind.matches(section, offset)
-        && facts.is_in_reach_if_known(high, &facts.operands, 0)
+impl ChosenKind for RelaxationKind {
+    #[inline(always)]
+    fn operands_after(self, _offset: u64, operands: &Operands) -> Operands {
+        *operands
+    }
 }
 
-/// Whether the address may be computed from that of the instruction instead of loaded.
-#[inline]
-fn is_for_distance(section: &[u8], offset: u64, facts: &LinkFacts) -> bool {
-    let distance = row(Ppc64Relocation::R_PPC64_PCREL34);
-    facts.is_bound()
-        && facts.has_fixed_distance
-        && RelaxationKind::PldToPaddi.matches(section, offset)
-        && facts.is_in_reach_if_known(distance, &facts.operands, 0)
+/// An entry: a rewrite, the relocation after it and the conditions.
+macro_rules! entry {
+    ($kind:ident => $relocation:ident, $conditions:expr) => {
+        ChoiceEntry {
+            originals: OfRewrite,
+            kind: RelaxationKind::$kind,
+            relocation: Ppc64Relocation::$relocation,
+            conditions: $conditions,
+        }
+    };
 }
 
-/// Whether the offset from the thread pointer may be in the instructions.
-#[inline]
-fn is_for_local_exec(kind: RelaxationKind, section: &[u8], offset: u64, facts: &LinkFacts) -> bool {
-    let high = row(Ppc64Relocation::R_PPC64_TPREL16_HA);
-    facts.is_executable
-        && facts.is_bound()
-        && kind.matches(section, offset)
-        && facts.is_in_reach_if_known(high, &facts.operands, 0)
+/// Conditions: facts, and the values in reach.
+macro_rules! conditions {
+    ($facts:expr $(, $value:ident $relocation:ident)*) => {
+        Conditions {
+            facts: $facts,
+            addend: None,
+            values: &[$(ValueCondition::$value(Ppc64Relocation::$relocation, 0),)*],
+        }
+    };
 }
+
+/// The high part of the distance from the TOC pointer is 0.
+const WITHOUT_HIGH_PART: Conditions<Ppc64Relocation> =
+    conditions!(PRIVATE_BASE, InReach R_PPC64_TOC16);
+
+/// The address by its distance from the TOC pointer.
+const TO_TOC_DISTANCE: Conditions<Ppc64Relocation> =
+    conditions!(BOUND + FIXED_DISTANCE, InReachIfKnown R_PPC64_TOC16_HA);
+
+/// The address by its distance from the instruction.
+const TO_DISTANCE: Conditions<Ppc64Relocation> =
+    conditions!(BOUND + FIXED_DISTANCE, InReachIfKnown R_PPC64_PCREL34);
+
+/// The offset from the thread pointer in the instructions.
+const TO_LOCAL_EXEC: Conditions<Ppc64Relocation> =
+    conditions!(BOUND + EXECUTABLE, InReachIfKnown R_PPC64_TPREL16_HA);
 
 /// The same of an access of whole words.
-#[inline]
-fn is_for_local_exec_words(section: &[u8], offset: u64, facts: &LinkFacts) -> bool {
-    let low = row(Ppc64Relocation::R_PPC64_TPREL16_LO_DS);
-    is_for_local_exec(RelaxationKind::IndexedToDs, section, offset, facts)
-        && facts.is_in_reach_if_known(low, &facts.operands, 0)
-}
+const TO_LOCAL_EXEC_WORDS: Conditions<Ppc64Relocation> = conditions!(
+    BOUND + EXECUTABLE,
+    InReachIfKnown R_PPC64_TPREL16_HA,
+    InReachIfKnown R_PPC64_TPREL16_LO_DS
+);
 
-/// Whether the offset from the thread pointer may be in the GOT.
-#[inline]
-fn is_for_initial_exec(kind: RelaxationKind, section: &[u8], offset: u64, facts: &LinkFacts) -> bool {
-    let high = row(Ppc64Relocation::R_PPC64_GOT_TPREL16_HA);
-    facts.is_executable
-        && kind.matches(section, offset)
-        && facts.is_in_reach_if_known(high, &facts.operands, 0)
-}
+/// The offset from the thread pointer in the GOT.
+const TO_INITIAL_EXEC: Conditions<Ppc64Relocation> =
+    conditions!(EXECUTABLE, InReachIfKnown R_PPC64_GOT_TPREL16_HA);
 
-/// Whether the module's block may be found from the thread pointer.
-#[inline]
-fn is_for_module(kind: RelaxationKind, section: &[u8], offset: u64, facts: &LinkFacts) -> bool {
-    facts.is_executable && kind.matches(section, offset)
-}
+/// The module's block from the thread pointer.
+const TO_MODULE: Conditions<Ppc64Relocation> = conditions!(EXECUTABLE);
 
-/// Whether the TOC pointer has to be restored after a call.
-#[inline]
-fn is_for_other_toc(section: &[u8], offset: u64, facts: &LinkFacts) -> bool {
-    facts.may_change_toc && RelaxationKind::NopToRestoreToc.matches(section, offset)
+/// A call may change the TOC pointer.
+const AFTER_CALL: Conditions<Ppc64Relocation> = conditions!(CHANGED_TOC);
+
+/// An entry of the table.
+pub type Ppc64Entry = ChoiceEntry<OfRewrite, RelaxationKind, Ppc64Relocation>;
+
+static TOC16_HA: &[Ppc64Entry] = &[entry!(AddisToNop => R_PPC64_NONE, WITHOUT_HIGH_PART)];
+
+static TOC16_LO: &[Ppc64Entry] = &[entry!(BaseToToc => R_PPC64_TOC16, WITHOUT_HIGH_PART)];
+
+static TOC16_LO_DS: &[Ppc64Entry] = &[entry!(BaseToToc => R_PPC64_TOC16_DS, WITHOUT_HIGH_PART)];
+
+static GOT16_HA: &[Ppc64Entry] = &[entry!(NoOp => R_PPC64_TOC16_HA, TO_TOC_DISTANCE)];
+
+static GOT16_LO_DS: &[Ppc64Entry] = &[entry!(LdToAddi => R_PPC64_TOC16_LO, TO_TOC_DISTANCE)];
+
+static GOT_PCREL34: &[Ppc64Entry] = &[entry!(PldToPaddi => R_PPC64_PCREL34, TO_DISTANCE)];
+
+static GOT_TPREL16_HA: &[Ppc64Entry] = &[entry!(AddisToNop => R_PPC64_NONE, TO_LOCAL_EXEC)];
+
+static GOT_TPREL16_LO_DS: &[Ppc64Entry] =
+    &[entry!(LdToAddisThread => R_PPC64_TPREL16_HA, TO_LOCAL_EXEC)];
+
+static TLS: &[Ppc64Entry] = &[
+    entry!(AddToAddi => R_PPC64_TPREL16_LO, TO_LOCAL_EXEC),
+    entry!(IndexedToD => R_PPC64_TPREL16_LO, TO_LOCAL_EXEC),
+    entry!(IndexedToDs => R_PPC64_TPREL16_LO_DS, TO_LOCAL_EXEC_WORDS),
+];
+
+static GOT_TLSGD16_HA: &[Ppc64Entry] = &[
+    entry!(AddisToNop => R_PPC64_NONE, TO_LOCAL_EXEC),
+    entry!(NoOp => R_PPC64_GOT_TPREL16_HA, TO_INITIAL_EXEC),
+];
+
+static GOT_TLSGD16_LO: &[Ppc64Entry] = &[
+    entry!(AddiToAddisThread => R_PPC64_TPREL16_HA, TO_LOCAL_EXEC),
+    entry!(AddiToLd => R_PPC64_GOT_TPREL16_LO_DS, TO_INITIAL_EXEC),
+];
+
+static TLSGD: &[Ppc64Entry] = &[
+    entry!(CallToAddi => R_PPC64_TPREL16_LO, TO_LOCAL_EXEC),
+    entry!(CallToAdd => R_PPC64_NONE, TO_INITIAL_EXEC),
+];
+
+static GOT_TLSLD16_HA: &[Ppc64Entry] = &[entry!(AddisToNop => R_PPC64_NONE, TO_MODULE)];
+
+static GOT_TLSLD16_LO: &[Ppc64Entry] = &[entry!(AddiToAddisThread => R_PPC64_NONE, TO_MODULE)];
+
+static TLSLD: &[Ppc64Entry] = &[entry!(CallToAddi4096 => R_PPC64_NONE, TO_MODULE)];
+
+static REL24: &[Ppc64Entry] = &[entry!(NopToRestoreToc => R_PPC64_REL24, AFTER_CALL)];
+
+static OTHERS: &[Ppc64Entry] = &[];
+
+/// The entries of a relocation.
+#[must_use]
+#[inline(always)]
+pub fn entries(name: Ppc64Relocation) -> &'static [Ppc64Entry] {
+    match name {
+        Ppc64Relocation::R_PPC64_TOC16_HA => TOC16_HA,
+        Ppc64Relocation::R_PPC64_TOC16_LO => TOC16_LO,
+        Ppc64Relocation::R_PPC64_TOC16_LO_DS => TOC16_LO_DS,
+        Ppc64Relocation::R_PPC64_GOT16_HA => GOT16_HA,
+        Ppc64Relocation::R_PPC64_GOT16_LO_DS => GOT16_LO_DS,
+        Ppc64Relocation::R_PPC64_GOT_PCREL34 => GOT_PCREL34,
+        Ppc64Relocation::R_PPC64_GOT_TPREL16_HA => GOT_TPREL16_HA,
+        Ppc64Relocation::R_PPC64_GOT_TPREL16_LO_DS => GOT_TPREL16_LO_DS,
+        Ppc64Relocation::R_PPC64_TLS => TLS,
+        Ppc64Relocation::R_PPC64_GOT_TLSGD16_HA => GOT_TLSGD16_HA,
+        Ppc64Relocation::R_PPC64_GOT_TLSGD16_LO => GOT_TLSGD16_LO,
+        Ppc64Relocation::R_PPC64_TLSGD => TLSGD,
+        Ppc64Relocation::R_PPC64_GOT_TLSLD16_HA => GOT_TLSLD16_HA,
+        Ppc64Relocation::R_PPC64_GOT_TLSLD16_LO => GOT_TLSLD16_LO,
+        Ppc64Relocation::R_PPC64_TLSLD => TLSLD,
+        Ppc64Relocation::R_PPC64_REL24 => REL24,
+        _ => OTHERS,
+    }
 }
 
 /// Which rewrite a linker may make of the instruction at a relocation's offset, and the relocation
@@ -155,162 +236,11 @@ pub fn choose(
     offset: u64,
     facts: &LinkFacts,
 ) -> Choice<RelaxationKind, Ppc64Relocation> {
-    let (kind, relocation) = match name {
-        Ppc64Relocation::R_PPC64_TOC16_HA => {
-            if is_without_high_part(RelaxationKind::AddisToNop, section, offset, facts) {
-                (RelaxationKind::AddisToNop, Ppc64Relocation::R_PPC64_NONE)
-            } else {
-                (RelaxationKind::NoOp, name)
-            }
-        }
-        Ppc64Relocation::R_PPC64_TOC16_LO => {
-            if is_without_high_part(RelaxationKind::BaseToToc, section, offset, facts) {
-                (RelaxationKind::BaseToToc, Ppc64Relocation::R_PPC64_TOC16)
-            } else {
-                (RelaxationKind::NoOp, name)
-            }
-        }
-        Ppc64Relocation::R_PPC64_TOC16_LO_DS => {
-            if is_without_high_part(RelaxationKind::BaseToToc, section, offset, facts) {
-                (RelaxationKind::BaseToToc, Ppc64Relocation::R_PPC64_TOC16_DS)
-            } else {
-                (RelaxationKind::NoOp, name)
-            }
-        }
-        Ppc64Relocation::R_PPC64_GOT16_HA => {
-            if is_for_toc_distance(RelaxationKind::NoOp, section, offset, facts) {
-                (RelaxationKind::NoOp, Ppc64Relocation::R_PPC64_TOC16_HA)
-            } else {
-                (RelaxationKind::NoOp, name)
-            }
-        }
-        Ppc64Relocation::R_PPC64_GOT16_LO_DS => {
-            if is_for_toc_distance(RelaxationKind::LdToAddi, section, offset, facts) {
-                (RelaxationKind::LdToAddi, Ppc64Relocation::R_PPC64_TOC16_LO)
-            } else {
-                (RelaxationKind::NoOp, name)
-            }
-        }
-        Ppc64Relocation::R_PPC64_GOT_PCREL34 => {
-            if is_for_distance(section, offset, facts) {
-                (RelaxationKind::PldToPaddi, Ppc64Relocation::R_PPC64_PCREL34)
-            } else {
-                (RelaxationKind::NoOp, name)
-            }
-        }
-        Ppc64Relocation::R_PPC64_GOT_TPREL16_HA => {
-            if is_for_local_exec(RelaxationKind::AddisToNop, section, offset, facts) {
-                (RelaxationKind::AddisToNop, Ppc64Relocation::R_PPC64_NONE)
-            } else {
-                (RelaxationKind::NoOp, name)
-            }
-        }
-        Ppc64Relocation::R_PPC64_GOT_TPREL16_LO_DS => {
-            if is_for_local_exec(RelaxationKind::LdToAddisThread, section, offset, facts) {
-                (
-                    RelaxationKind::LdToAddisThread,
-                    Ppc64Relocation::R_PPC64_TPREL16_HA,
-                )
-            } else {
-                (RelaxationKind::NoOp, name)
-            }
-        }
-        Ppc64Relocation::R_PPC64_TLS => {
-            if is_for_local_exec(RelaxationKind::AddToAddi, section, offset, facts) {
-                (
-                    RelaxationKind::AddToAddi,
-                    Ppc64Relocation::R_PPC64_TPREL16_LO,
-                )
-            } else if is_for_local_exec(RelaxationKind::IndexedToD, section, offset, facts) {
-                (
-                    RelaxationKind::IndexedToD,
-                    Ppc64Relocation::R_PPC64_TPREL16_LO,
-                )
-            } else if is_for_local_exec_words(section, offset, facts) {
-                (
-                    RelaxationKind::IndexedToDs,
-                    Ppc64Relocation::R_PPC64_TPREL16_LO_DS,
-                )
-            } else {
-                (RelaxationKind::NoOp, name)
-            }
-        }
-        Ppc64Relocation::R_PPC64_GOT_TLSGD16_HA => {
-            if is_for_local_exec(RelaxationKind::AddisToNop, section, offset, facts) {
-                (RelaxationKind::AddisToNop, Ppc64Relocation::R_PPC64_NONE)
-            } else if is_for_initial_exec(RelaxationKind::NoOp, section, offset, facts) {
-                (
-                    RelaxationKind::NoOp,
-                    Ppc64Relocation::R_PPC64_GOT_TPREL16_HA,
-                )
-            } else {
-                (RelaxationKind::NoOp, name)
-            }
-        }
-        Ppc64Relocation::R_PPC64_GOT_TLSGD16_LO => {
-            if is_for_local_exec(RelaxationKind::AddiToAddisThread, section, offset, facts) {
-                (
-                    RelaxationKind::AddiToAddisThread,
-                    Ppc64Relocation::R_PPC64_TPREL16_HA,
-                )
-            } else if is_for_initial_exec(RelaxationKind::AddiToLd, section, offset, facts) {
-                (
-                    RelaxationKind::AddiToLd,
-                    Ppc64Relocation::R_PPC64_GOT_TPREL16_LO_DS,
-                )
-            } else {
-                (RelaxationKind::NoOp, name)
-            }
-        }
-        Ppc64Relocation::R_PPC64_TLSGD => {
-            if is_for_local_exec(RelaxationKind::CallToAddi, section, offset, facts) {
-                (
-                    RelaxationKind::CallToAddi,
-                    Ppc64Relocation::R_PPC64_TPREL16_LO,
-                )
-            } else if is_for_initial_exec(RelaxationKind::CallToAdd, section, offset, facts) {
-                (RelaxationKind::CallToAdd, Ppc64Relocation::R_PPC64_NONE)
-            } else {
-                (RelaxationKind::NoOp, name)
-            }
-        }
-        Ppc64Relocation::R_PPC64_GOT_TLSLD16_HA => {
-            if is_for_module(RelaxationKind::AddisToNop, section, offset, facts) {
-                (RelaxationKind::AddisToNop, Ppc64Relocation::R_PPC64_NONE)
-            } else {
-                (RelaxationKind::NoOp, name)
-            }
-        }
-        Ppc64Relocation::R_PPC64_GOT_TLSLD16_LO => {
-            if is_for_module(RelaxationKind::AddiToAddisThread, section, offset, facts) {
-                (
-                    RelaxationKind::AddiToAddisThread,
-                    Ppc64Relocation::R_PPC64_NONE,
-                )
-            } else {
-                (RelaxationKind::NoOp, name)
-            }
-        }
-        Ppc64Relocation::R_PPC64_TLSLD => {
-            if is_for_module(RelaxationKind::CallToAddi4096, section, offset, facts) {
-                (
-                    RelaxationKind::CallToAddi4096,
-                    Ppc64Relocation::R_PPC64_NONE,
-                )
-            } else {
-                (RelaxationKind::NoOp, name)
-            }
-        }
-        Ppc64Relocation::R_PPC64_REL24 => {
-            if is_for_other_toc(section, offset, facts) {
-                (RelaxationKind::NopToRestoreToc, name)
-            } else {
-                (RelaxationKind::NoOp, name)
-            }
-        }
-        _ => (RelaxationKind::NoOp, name),
+    let unchanged = Choice {
+        kind: RelaxationKind::NoOp,
+        relocation: name,
     };
-    Choice { kind, relocation }
+    first_entry(entries(name), section, offset, facts, unchanged)
 }
 
 /// With the same facts, except that each has its own place, and each at an instruction that its

@@ -1,6 +1,6 @@
 -- Entries of the tables of choices, as the code has them.
-use Rattle.std.specs.Prelude.{◌≡◌, ◌==◌, ◌%◌, ◌/◌, ◌+◌, ◌*◌, ◌++◌, ◌⊎◌, ◌↔◌, ℕ, ℤ, ⊤, Bool, not, ◌&&◌}
-use Rattle.std.specs.Prelude.{if◌then◌else◌, List, [], ◌∷◌, Option, None, Some, map}
+use Rattle.std.specs.Prelude.{◌≡◌, ◌==◌, ◌++◌, ◌⊎◌, ◌↔◌, ℕ, ℤ, ⊤, Bool, not, ◌&&◌, ◌||◌, bit_and}
+use Rattle.std.specs.Prelude.{if◌then◌else◌, List, [], ◌∷◌, Option, None, Some, suc, zero}
 use Rattle.linker_elf.specs.Choices.{Condition, Entry, entry, choice, Applies, Holds, AllHold}
 use Rattle.linker_elf.specs.Choices.{bound, weak_zero, fixed_address, fixed_distance, executable}
 use Rattle.linker_elf.specs.Choices.{local_exec_base, compressible, marked, label_marked}
@@ -17,35 +17,47 @@ use Rattle.linker_elf.specs.declared.elf.value.Operands.{Operands}
 
 -- ---- facts as masks
 
--- the conditions that a mask has a bit for, from bit 0 up
-abbrev pub fact_conditions : {R : Type 0} → List (Condition R)
-fact_conditions =
-    bound ∷ weak_zero ∷ fixed_address ∷ fixed_distance ∷ executable ∷ local_exec_base
-    ∷ compressible ∷ marked ∷ label_marked ∷ got_high_part ∷ private_base ∷ changed_toc
-    ∷ without_plt ∷ []
+-- the condition of a fact, if a mask has its bit, and others
+abbrev pub with_fact : {R : Type 0} → ℕ → ℕ → Condition R → List (Condition R) → List (Condition R)
+with_fact mask bit c cs = if bit_and mask bit == 0 then cs else c ∷ cs
 
--- those of some conditions whose bits are 1
-abbrev pub conditions_in : {R : Type 0} → ℕ → List (Condition R) → List (Condition R)
-conditions_in mask [] = []
-conditions_in mask (c ∷ cs) =
-    if mask % 2 == 1 then c ∷ conditions_in (mask / 2) cs else conditions_in (mask / 2) cs
+-- the conditions that a mask has a bit for
+abbrev pub fact_conditions : {R : Type 0} → ℕ → List (Condition R)
+fact_conditions mask =
+    with_fact mask 1 bound
+    (with_fact mask 2 weak_zero
+    (with_fact mask 4 fixed_address
+    (with_fact mask 8 fixed_distance
+    (with_fact mask 0x10 executable
+    (with_fact mask 0x20 local_exec_base
+    (with_fact mask 0x40 compressible
+    (with_fact mask 0x80 marked
+    (with_fact mask 0x100 label_marked
+    (with_fact mask 0x200 got_high_part
+    (with_fact mask 0x400 private_base
+    (with_fact mask 0x800 changed_toc
+    (with_fact mask 0x1000 without_plt []))))))))))))
 
--- which of them hold
-abbrev pub known_facts : LinkFacts → List Bool
-known_facts facts =
-    (facts.is_local && not facts.is_ifunc) ∷ facts.is_undefined_weak ∷ facts.has_fixed_address
-    ∷ facts.has_fixed_distance ∷ facts.is_executable ∷ facts.has_local_exec_base
-    ∷ facts.may_compress ∷ facts.is_marked ∷ facts.is_label_marked ∷ facts.has_got_high_part
-    ∷ facts.has_private_base ∷ facts.may_change_toc
-    ∷ (facts.operands.plt_entry == facts.operands.symbol) ∷ []
+-- a fact holds, if a mask has its bit
+abbrev pub is_held : ℕ → ℕ → Bool → Bool
+is_held mask bit holds = bit_and mask bit == 0 || holds
 
--- the mask with a bit for each that doesn't hold
-abbrev pub missing_mask : List Bool → ℕ
-missing_mask [] = 0
-missing_mask (b ∷ bs) = (if b then 0 else 1) + 2 * missing_mask bs
-
-abbrev pub missing_facts : LinkFacts → ℕ
-missing_facts facts = missing_mask (known_facts facts)
+-- all facts hold that a mask has a bit for
+abbrev pub facts_hold : ℕ → LinkFacts → Bool
+facts_hold mask facts =
+    is_held mask 1 (facts.is_local && not facts.is_ifunc)
+    && is_held mask 2 facts.is_undefined_weak
+    && is_held mask 4 facts.has_fixed_address
+    && is_held mask 8 facts.has_fixed_distance
+    && is_held mask 0x10 facts.is_executable
+    && is_held mask 0x20 facts.has_local_exec_base
+    && is_held mask 0x40 facts.may_compress
+    && is_held mask 0x80 facts.is_marked
+    && is_held mask 0x100 facts.is_label_marked
+    && is_held mask 0x200 facts.has_got_high_part
+    && is_held mask 0x400 facts.has_private_base
+    && is_held mask 0x800 facts.may_change_toc
+    && is_held mask 0x1000 (facts.operands.plt_entry == facts.operands.symbol)
 
 -- ---- conditions
 
@@ -71,7 +83,7 @@ addend_condition (Some a) = addend a ∷ []
 -- the conditions of an entry: facts, then the addend, then values
 abbrev pub conditions_of : {O K R : Type 0} → ChoiceEntry O K R → List (Condition R)
 conditions_of e =
-    conditions_in e.conditions.facts fact_conditions
+    fact_conditions e.conditions.facts
     ++ (addend_condition e.conditions.addend ++ value_conditions e.conditions.values.now)
 
 abbrev pub entry_of : {O K R : Type 0} → ChoiceEntry O K R → Entry K R
@@ -89,10 +101,17 @@ EntryApplies are_at row after section o facts e =
 -- the choice is that of the first entry that applies, and else the last one
 abbrev pub IsFirstOf : {O K R : Type 0} → (ChoiceEntry O K R → Type 0) → List (ChoiceEntry O K R)
     → Choice K R → Choice K R → Type 0
-IsFirstOf Applies [] otherwise chosen = chosen ≡ otherwise
-IsFirstOf Applies (e ∷ es) otherwise chosen =
-    (Applies e × (chosen ≡ choice e.kind e.relocation))
-    ⊎ (¬ Applies e × IsFirstOf Applies es otherwise chosen)
+IsFirstOf A [] otherwise chosen = chosen ≡ otherwise
+IsFirstOf A (e ∷ es) otherwise chosen =
+    (A e × (chosen ≡ choice e.kind e.relocation)) ⊎ (¬ A e × IsFirstOf A es otherwise chosen)
+
+-- the choice of the entry with an index, or none if there isn't one that applies
+abbrev pub IsChoiceAt : {O K R : Type 0} → (ChoiceEntry O K R → Type 0) → List (ChoiceEntry O K R) → ℕ
+    → Option (Choice K R) → Type 0
+IsChoiceAt A [] i chosen = chosen ≡ None
+IsChoiceAt A (e ∷ es) zero chosen =
+    (A e × (chosen ≡ Some (choice e.kind e.relocation))) ⊎ (¬ A e × (chosen ≡ None))
+IsChoiceAt A (e ∷ es) (suc i) chosen = IsChoiceAt A es i chosen
 
 -- ---- tables
 

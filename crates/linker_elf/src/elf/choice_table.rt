@@ -1,9 +1,9 @@
 //! Tables of the rewrites that a linker chooses.
 
-ghost use Rattle.std.specs.Prelude.{◌≡◌, ◌↔◌, ◌≤◌, ℕ, List, Option, IsTrue, IfSome, if◌then◌else◌};
-ghost use Rattle.linker_elf.specs.Choices.{AllHold, Holds};
-ghost use Rattle.linker_elf.specs.Inner.ChoiceTables.{missing_facts, value_condition, ValuesHold};
-ghost use Rattle.linker_elf.specs.Inner.ChoiceTables.{EntryApplies, IsFirstOf, conditions_of};
+ghost use Rattle.std.specs.Prelude.{◌≡◌, ◌↔◌, ◌≤◌, ℕ, List, Option, IsTrue, IfSome, length};
+ghost use Rattle.linker_elf.specs.Choices.{Holds};
+ghost use Rattle.linker_elf.specs.Inner.ChoiceTables.{is_held, facts_hold, value_condition};
+ghost use Rattle.linker_elf.specs.Inner.ChoiceTables.{ValuesHold, EntryApplies, IsFirstOf, IsChoiceAt};
 ghost use Rattle.linker_elf.specs.declared.elf.RelocationKindInfo.{RelocationKindInfo};
 ghost use Rattle.linker_elf.specs.declared.elf.value.Operands.{Operands};
 
@@ -88,40 +88,40 @@ pub trait Originals<K> {
         ensures { IsTrue result ↔ are_at self.now kind section.now offset };
 }
 
-impl LinkFacts {
-    /// The facts that don't hold, as a mask.
-    #[inline(always)]
-    fn missing(&self) -> u32
-        ensures { result ≡ missing_facts self.now }
-    {
-        missing_bit(self.is_local && !self.is_ifunc)
-            + missing_bit(self.is_undefined_weak) * WEAK_ZERO
-            + missing_bit(self.has_fixed_address) * FIXED_ADDRESS
-            + missing_bit(self.has_fixed_distance) * FIXED_DISTANCE
-            + missing_bit(self.is_executable) * EXECUTABLE
-            + missing_bit(self.has_local_exec_base) * LOCAL_EXEC_BASE
-            + missing_bit(self.may_compress) * COMPRESSIBLE
-            + missing_bit(self.is_marked) * MARKED
-            + missing_bit(self.is_label_marked) * LABEL_MARKED
-            + missing_bit(self.has_got_high_part) * GOT_HIGH_PART
-            + missing_bit(self.has_private_base) * PRIVATE_BASE
-            + missing_bit(self.may_change_toc) * CHANGED_TOC
-            + missing_bit(self.operands.plt_entry == self.operands.symbol) * WITHOUT_PLT
-    }
+/// Whether a fact holds, if it is asked for.
+#[inline(always)]
+fn is_held(asked: u32, fact: u32, holds: bool) -> bool
+    ensures { result ≡ is_held asked fact holds }
+{
+    asked & fact == 0 || holds
 }
 
-/// 1 for a fact that doesn't hold.
-#[inline(always)]
-fn missing_bit(holds: bool) -> u32
-    ensures bit { result ≡ if holds then 0 else 1 }
-    ensures small { result ≤ 1 }
-{
-    u32::from(!holds)
+impl LinkFacts {
+    /// Whether the facts of a mask hold.
+    #[inline(always)]
+    fn hold(&self, asked: u32) -> bool
+        ensures { result ≡ facts_hold asked self.now }
+    {
+        let has_no_plt = self.operands.plt_entry == self.operands.symbol;
+        is_held(asked, BOUND, self.is_local && !self.is_ifunc)
+            & is_held(asked, WEAK_ZERO, self.is_undefined_weak)
+            & is_held(asked, FIXED_ADDRESS, self.has_fixed_address)
+            & is_held(asked, FIXED_DISTANCE, self.has_fixed_distance)
+            & is_held(asked, EXECUTABLE, self.is_executable)
+            & is_held(asked, LOCAL_EXEC_BASE, self.has_local_exec_base)
+            & is_held(asked, COMPRESSIBLE, self.may_compress)
+            & is_held(asked, MARKED, self.is_marked)
+            & is_held(asked, LABEL_MARKED, self.is_label_marked)
+            & is_held(asked, GOT_HIGH_PART, self.has_got_high_part)
+            & is_held(asked, PRIVATE_BASE, self.has_private_base)
+            & is_held(asked, CHANGED_TOC, self.may_change_toc)
+            & is_held(asked, WITHOUT_PLT, has_no_plt)
+    }
 }
 
 impl<R: RelocationName> ValueCondition<R> {
     /// Whether it holds.
-    #[inline]
+    #[inline(always)]
     fn holds(&self, facts: &LinkFacts, after: &Operands) -> bool
         ensures { IsTrue result
             ↔ Holds R.row_of after.now facts.now (value_condition self.now) }
@@ -173,37 +173,53 @@ fn has_addend(addend: Option<i64>, facts: &LinkFacts) -> bool
 }
 
 impl<O: Originals<K>, K: ChosenKind, R: RelocationName> ChoiceEntry<O, K, R> {
-    /// Whether the conditions of an entry hold, by the facts that are missing.
+    /// Whether its instructions are at an offset of a section, and its conditions hold.
     #[inline(always)]
-    fn conditions_hold(&self, missing: u32, offset: u64, facts: &LinkFacts) -> bool
-        requires { missing ≡ missing_facts facts.now }
-        ensures { IsTrue result ↔ AllHold R.row_of
-            (K.after self.now.kind offset facts.now.operands) facts.now (conditions_of self.now) }
+    fn applies(&self, section: &[u8], offset: u64, facts: &LinkFacts) -> bool
+        ensures { IsTrue result ↔ EntryApplies O.are_at R.row_of K.after section.now offset
+            facts.now self.now }
     {
         let conditions = &self.conditions;
-        if conditions.facts & missing != 0 {
+        if !facts.hold(conditions.facts) {
             return false;
         }
         if !has_addend(conditions.addend, facts) {
             return false;
         }
+        if !self.originals.stand_at(self.kind, section, offset) {
+            return false;
+        }
         let after = self.kind.operands_after(offset, &facts.operands);
         all_hold(conditions.values, facts, &after)
     }
-
-    /// Whether its instructions are at an offset of a section, and its conditions hold.
-    #[inline(always)]
-    fn applies(&self, missing: u32, section: &[u8], offset: u64, facts: &LinkFacts) -> bool
-        requires { missing ≡ missing_facts facts.now }
-        ensures { IsTrue result ↔ EntryApplies O.are_at R.row_of K.after section.now offset
-            facts.now self.now }
-    {
-        self.conditions_hold(missing, offset, facts)
-            && self.originals.stand_at(self.kind, section, offset)
-    }
 }
 
-/// The choice of the first entry that applies, and else another.
+/// The choice of the entry with an index, if there is one and it applies.
+#[inline(always)]
+fn choice_at<O: Originals<K>, K: ChosenKind, R: RelocationName>(
+    entries: &'static [ChoiceEntry<O, K, R>],
+    index: usize,
+    section: &[u8],
+    offset: u64,
+    facts: &LinkFacts,
+) -> Option<Choice<K, R>>
+    ensures { IsChoiceAt (EntryApplies O.are_at R.row_of K.after section.now offset facts.now)
+        entries.now index result }
+{
+    if index < entries.len() {
+        let entry = &entries[index];
+        if entry.applies(section, offset, facts) {
+            return Some(Choice {
+                kind: entry.kind,
+                relocation: entry.relocation,
+            });
+        }
+    }
+    None
+}
+
+/// The choice of the first entry that applies, and else another. Of a constant table the compiler
+/// leaves the tests that its entries ask for: so it is inlined, and has no loop.
 #[inline(always)]
 pub fn first_entry<O: Originals<K>, K: ChosenKind, R: RelocationName>(
     entries: &'static [ChoiceEntry<O, K, R>],
@@ -212,17 +228,24 @@ pub fn first_entry<O: Originals<K>, K: ChosenKind, R: RelocationName>(
     facts: &LinkFacts,
     otherwise: Choice<K, R>,
 ) -> Choice<K, R>
+    requires { length entries.now ≤ 5 }
     ensures { IsFirstOf (EntryApplies O.are_at R.row_of K.after section.now offset facts.now)
         entries.now otherwise result }
 {
-    let missing = facts.missing();
-    for entry in entries {
-        if entry.applies(missing, section, offset, facts) {
-            return Choice {
-                kind: entry.kind,
-                relocation: entry.relocation,
-            };
-        }
+    if let Some(chosen) = choice_at(entries, 0, section, offset, facts) {
+        return chosen;
+    }
+    if let Some(chosen) = choice_at(entries, 1, section, offset, facts) {
+        return chosen;
+    }
+    if let Some(chosen) = choice_at(entries, 2, section, offset, facts) {
+        return chosen;
+    }
+    if let Some(chosen) = choice_at(entries, 3, section, offset, facts) {
+        return chosen;
+    }
+    if let Some(chosen) = choice_at(entries, 4, section, offset, facts) {
+        return chosen;
     }
     otherwise
 }

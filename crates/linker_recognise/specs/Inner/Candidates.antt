@@ -2,7 +2,10 @@
 use Rattle.std.specs.Prelude.{◌≡◌, ◌⊎◌, ◌↔◌, ◌-◌, ℕ, List, [], ◌∷◌, ◌++◌, map, length, replicate}
 use Rattle.std.specs.Prelude.{Option, Some, None, ⊤}
 use Rattle.linker_base.specs.Rewrite.{Rewrite}
+use Rattle.linker_elf.specs.Choices.{choice}
 use Rattle.linker_elf.specs.declared.elf.RelocationKindInfo.{RelocationKindInfo}
+use Rattle.linker_elf.specs.declared.elf.choice.Choice.{Choice}
+use Rattle.linker_elf.specs.declared.elf.choice_table.ChoiceEntry.{ChoiceEntry}
 use Rattle.linker_recognise.specs.Recognised.{IsOneOf, IsLeft, IsRead}
 use Rattle.linker_recognise.specs.declared.engine.Made.{Made}
 use Rattle.linker_recognise.specs.declared.fields.FieldBits.{FieldBits}
@@ -11,6 +14,11 @@ use Rattle.linker_base.specs.declared.rewrite.DeletedBytes.{DeletedBytes}
 -- the values, and none in the rest of a list of six
 abbrev pub padded : {A : Type 0} → List A → List (Option A)
 padded xs = map Some xs ++ replicate (6 - length xs) None
+
+-- those of the code's entries, and the last one
+abbrev pub choices_in : {O K R : Type 0} → List (ChoiceEntry O K R) → Choice K R → List (Choice K R)
+choices_in [] otherwise = otherwise ∷ []
+choices_in (e ∷ es) otherwise = choice e.kind e.relocation ∷ choices_in es otherwise
 
 -- The choice leaves the linked bytes, and its field is read there.
 abbrev pub LeavesRead : {K R : Type 0} → (K → Option Rewrite) → (R → Option RelocationKindInfo)

@@ -1,16 +1,15 @@
+use Rattle.linker_loongarch64.proofs.LoongArchChoices.{chosen, chosen_matches, chosen_rewritable}
 use Rattle.linker_loongarch64.proofs.choices.choose.Goals as goal
 
-pub returns-in-R_LARCH_GOT_PC_HI20-clause-chosen : goal.returns-in-R_LARCH_GOT_PC_HI20-clause-chosen
-returns-in-R_LARCH_GOT_PC_HI20-clause-chosen c = rw c.in-R_LARCH_GOT_PC_HI20.is c.of_entry_high.ensures.chosen
+pub returns-clause-chosen : goal.returns-clause-chosen
+returns-clause-chosen c =
+    chosen c.args.name c.args.section.now c.args.offset c.args.facts.now c.entries.result.now c.first_entry.result
+    c.entries.ensures c.first_entry.ensures
 
-pub returns-in-R_LARCH_PCALA_HI20-clause-chosen : goal.returns-in-R_LARCH_PCALA_HI20-clause-chosen
-returns-in-R_LARCH_PCALA_HI20-clause-chosen c = rw c.in-R_LARCH_PCALA_HI20.is c.of_address_high.ensures.chosen
+pub returns-clause-matches : goal.returns-clause-matches
+returns-clause-matches c =
+    chosen_matches c.args.name c.args.section.now c.args.offset c.args.facts.now c.first_entry.result (returns-clause-chosen c)
 
-pub returns-in-R_LARCH_CALL36-clause-chosen : goal.returns-in-R_LARCH_CALL36-clause-chosen
-returns-in-R_LARCH_CALL36-clause-chosen c = rw c.in-R_LARCH_CALL36.is c.of_call.ensures.chosen
-
-pub returns-in-R_LARCH_TLS_IE_PC_HI20-clause-chosen : goal.returns-in-R_LARCH_TLS_IE_PC_HI20-clause-chosen
-returns-in-R_LARCH_TLS_IE_PC_HI20-clause-chosen c = rw c.in-R_LARCH_TLS_IE_PC_HI20.is c.of_initial_exec_high.ensures.chosen
-
-pub returns-in-R_LARCH_TLS_DESC_PC_HI20-clause-chosen : goal.returns-in-R_LARCH_TLS_DESC_PC_HI20-clause-chosen
-returns-in-R_LARCH_TLS_DESC_PC_HI20-clause-chosen c = rw c.in-R_LARCH_TLS_DESC_PC_HI20.is c.of_descriptor_high.ensures.chosen
+pub returns-clause-rewritable : goal.returns-clause-rewritable
+returns-clause-rewritable c =
+    chosen_rewritable c.args.name c.args.section.now c.args.offset c.args.facts.now c.first_entry.result (returns-clause-chosen c)

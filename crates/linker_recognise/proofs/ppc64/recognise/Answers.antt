@@ -1,8 +1,17 @@
+use Rattle.std.proofs.Common.{ap, ◌∙◌}
+use Rattle.linker_elf.specs.Choices.{choice}
+use Rattle.linker_ppc64.specs.Ppc64Choices.{ppc64_entries}
+use Rattle.linker_ppc64.specs.declared.rewrites.RelaxationKind.TheVariants as kinds
+use Rattle.linker_recognise.specs.Inner.Candidates.{padded}
+use Rattle.linker_recognise.specs.Ppc64Recognised.{ppc64_choices}
+use Rattle.linker_recognise.proofs.Tables.{same_choices}
 use Rattle.linker_recognise.proofs.Ppc64Made.{ppc64_chosen_is_one}
 use Rattle.linker_recognise.proofs.ppc64.recognise.Goals as goal
 
 pub returns-clause-found : goal.returns-clause-found
-returns-clause-found c = c.recognise_among.ensures _ c.candidates.ensures
+returns-clause-found c =
+    c.recognise_among.ensures (ppc64_choices c.args.name)
+    (c.candidates.ensures ∙ ap padded (same_choices _ _ _ (ppc64_entries c.args.name) (choice kinds.NoOp c.args.name) c.entries.ensures.table))
 
 pub returns-clause-any : goal.returns-clause-any
 returns-clause-any c = λ facts m is leaves reads.

@@ -1,0 +1,17 @@
+-- The instructions that the entries of AArch64's tables of choices are for.
+use Rattle.std.specs.Prelude.{◌+◌, ℕ, List}
+use Rattle.linker_elf.specs.Originals.{HasWord}
+use Rattle.linker_aarch64.specs.AArch64Choices.{IsEntryLoad, IsOfDescriptor, IsBranch, IsCall}
+use Rattle.linker_aarch64.specs.AArch64Originals.{aarch64_matches}
+use Rattle.linker_aarch64.specs.declared.choices.Original.{Original}
+use Rattle.linker_aarch64.specs.declared.choices.Original.TheVariants as originals
+use Rattle.linker_aarch64.specs.declared.rewrites.RelaxationKind.{RelaxationKind}
+
+-- what an entry with a rewrite is for is at an offset of a section
+abbrev pub IsThere : Original → RelaxationKind → List ℕ → ℕ → Type 0
+IsThere originals.OfRewrite kind section o = aarch64_matches kind section o
+IsThere originals.AdrpOfPair kind section o = IsEntryLoad section (o + 4)
+IsThere originals.LdrOfPair kind section o = IsEntryLoad section o
+IsThere (originals.OfDescriptor back) kind section o = IsOfDescriptor back section o
+IsThere originals.Bl kind section o = HasWord section o IsCall
+IsThere originals.B kind section o = HasWord section o IsBranch

@@ -1,0 +1,125 @@
+-- What is chosen on LoongArch matches, and can be rewritten.
+use Rattle.std.proofs.Common.{◌≡◌, ◌↔◌, ◌⊎◌, ◌≤◌, ℕ, ◌+◌, ◌-◌, List, [], ◌∷◌, inl, inr, subst, sym, arith, rules}
+use Rattle.std.specs.Bool.{⊤}
+use Rattle.linker_base.specs.Rewrite.{CanRewrite}
+use Rattle.linker_elf.specs.Choices.{choice, IsFirst}
+use Rattle.linker_elf.specs.Inner.ChoiceTables.{IsTableOf, IsFirstOf, EntryApplies}
+use Rattle.linker_elf.specs.LoongArchRelocations.{loongarch_row}
+use Rattle.linker_elf.specs.Originals.{HasWord}
+use Rattle.linker_elf.proofs.ChoiceTables.{first_of_table}
+use Rattle.linker_elf.specs.declared.elf.choice.LinkFacts.{LinkFacts}
+use Rattle.linker_elf.specs.declared.elf.choice_table.ChoiceEntry.{ChoiceEntry}
+use Rattle.linker_elf.specs.declared.elf.value.Operands.{Operands}
+use Rattle.linker_elf.specs.declared.loongarch64.relocations.LoongArch64Relocation.{LoongArch64Relocation}
+use Rattle.linker_elf.specs.declared.loongarch64.relocations.LoongArch64Relocation.TheVariants as r
+use Rattle.linker_loongarch64.specs.Inner.AskedFor.{is_asked_by}
+use Rattle.linker_loongarch64.specs.LoongArchChoices.{LoongArchChoice, LoongArchEntry, LoongArchApplies, IsLoongArchChoice, loongarch_entries, IsAskedFor, IsBehind, IsDescriptorSequence}
+use Rattle.linker_loongarch64.specs.LoongArchOriginals.{loongarch_matches, IsPair, IsAddi, IsLd, IsPcalau12i, IsIntoOwnSource, word_at}
+use Rattle.linker_loongarch64.specs.LoongArchRewrites.{loongarch_rewrite}
+use Rattle.linker_loongarch64.specs.declared.choices.AskedFor.{AskedFor}
+use Rattle.linker_loongarch64.specs.declared.rewrites.RelaxationKind.{RelaxationKind}
+use Rattle.linker_loongarch64.specs.declared.rewrites.RelaxationKind.TheVariants as kinds
+
+pub first_behind : (P : List ℕ → ℕ → Type 0) (s : List ℕ) (o : ℕ) → IsBehind 0 P s o ↔ P s o
+first_behind P s o =
+    let e : o - 0 ≡ o = omega arith in
+    (λ h. subst (P s) e h.1, λ h. (omega arith, subst (P s) (sym e) h))
+
+pub first_asked : (name known : LoongArch64Relocation) (kind : RelaxationKind) → name ≡ known → (s : List ℕ) (o : ℕ)
+    → IsBehind 0 (IsAskedFor known kind) s o ↔ IsAskedFor name kind s o
+first_asked name known kind e s o =
+    subst (λ x. IsBehind 0 (IsAskedFor known kind) s o ↔ IsAskedFor x kind s o) (sym e) (first_behind (IsAskedFor known kind) s o)
+
+-- ---- what a relocation asks for is what its rewrites are meant for
+
+pair_of_either : (s : List ℕ) (o : ℕ) → IsPair IsLd s o → IsPair (λ word. IsAddi word ⊎ IsLd word) s o
+pair_of_either s o h = record { within = h.within; second = inr h.second; one_register = h.one_register }
+
+address_of_either : (s : List ℕ) (o : ℕ) → IsPair IsAddi s o → IsPair (λ word. IsAddi word ⊎ IsLd word) s o
+address_of_either s o h = record { within = h.within; second = inl h.second; one_register = h.one_register }
+
+pair_begins : (P : ℕ → Type 0) (s : List ℕ) (o : ℕ) → IsPair P s o → HasWord s o IsPcalau12i
+pair_begins P s o h = (omega (arith, h.within), h.one_register.first)
+
+second_of_pair : (P : ℕ → Type 0) (s : List ℕ) (o : ℕ) → IsBehind 4 (IsPair P) s o → HasWord s o (λ word. P word × IsIntoOwnSource word)
+second_of_pair P s o h =
+    let e : o - 4 + 4 ≡ o = omega (arith, h.0) in
+    (omega (arith, h.0, h.1.within), subst (λ k. P (word_at s k) × IsIntoOwnSource (word_at s k)) e (h.1.second, h.1.one_register.into_own_source))
+
+of_either : (s : List ℕ) (o : ℕ) → HasWord s o (λ word. IsLd word × IsIntoOwnSource word)
+    → HasWord s o (λ word. (IsAddi word ⊎ IsLd word) × IsIntoOwnSource word)
+of_either s o h = (h.0, (inr h.1.0, h.1.1))
+
+addi_of_either : (s : List ℕ) (o : ℕ) → HasWord s o (λ word. IsAddi word × IsIntoOwnSource word)
+    → HasWord s o (λ word. (IsAddi word ⊎ IsLd word) × IsIntoOwnSource word)
+addi_of_either s o h = (h.0, (inl h.1.0, h.1.1))
+
+descriptor_begins : (s : List ℕ) (o : ℕ) → IsBehind 0 IsDescriptorSequence s o → HasWord s o IsPcalau12i
+descriptor_begins s o h =
+    let there = (first_behind IsDescriptorSequence s o).0 h in
+    (omega (arith, there.within), there.instructions.one_register.first)
+
+second_of_descriptor : (s : List ℕ) (o : ℕ) → IsBehind 4 IsDescriptorSequence s o → HasWord s o (λ word. IsAddi word × IsIntoOwnSource word)
+second_of_descriptor s o h =
+    let e : o - 4 + 4 ≡ o = omega (arith, h.0) in
+    (omega (arith, h.0, h.1.within), subst (λ k. IsAddi (word_at s k) × IsIntoOwnSource (word_at s k)) e (h.1.instructions.low_opcode, h.1.instructions.one_register.into_own_source))
+
+inside_descriptor : (n : ℕ) (s : List ℕ) (o : ℕ) → n ≤ 12 → IsBehind n IsDescriptorSequence s o → HasWord s o (λ _. ⊤)
+inside_descriptor n s o small h = (omega (arith, h.0, h.1.within), tt)
+
+-- each entry is for instructions that its rewrite is meant for
+abbrev AreMeant : LoongArch64Relocation → List ℕ → ℕ → List LoongArchEntry → Type 0
+AreMeant name s o [] = ⊤
+AreMeant name s o (e ∷ es) = (IsAskedFor name e.kind s o → loongarch_matches e.kind s o) × AreMeant name s o es
+
+meant : (name : LoongArch64Relocation) (s : List ℕ) (o : ℕ) → AreMeant name s o (loongarch_entries name)
+meant r.R_LARCH_GOT_PC_HI20 s o = (λ a. pair_of_either s o a, (λ a. tt, tt))
+meant r.R_LARCH_GOT_PC_LO12 s o = (λ a. ((second_of_pair IsLd s o a).0, tt), (λ a. second_of_pair IsLd s o a, tt))
+meant r.R_LARCH_PCALA_HI20 s o = (λ a. address_of_either s o a, tt)
+meant r.R_LARCH_PCALA_LO12 s o = (λ a. ((second_of_pair IsAddi s o a).0, tt), tt)
+meant r.R_LARCH_CALL36 s o = (λ a. a, (λ a. a, tt))
+meant r.R_LARCH_TLS_IE_PC_HI20 s o = (λ a. ((pair_begins IsLd s o a).0, tt), (λ a. pair_begins IsLd s o a, tt))
+meant r.R_LARCH_TLS_IE_PC_LO12 s o =
+    (λ a. of_either s o (second_of_pair IsLd s o a), (λ a. of_either s o (second_of_pair IsLd s o a), tt))
+meant r.R_LARCH_TLS_DESC_PC_HI20 s o = (λ a. descriptor_begins s o a, (λ a. tt, tt))
+meant r.R_LARCH_TLS_DESC_PC_LO12 s o =
+    (λ a. addi_of_either s o (second_of_descriptor s o a), (λ a. second_of_descriptor s o a, tt))
+meant r.R_LARCH_TLS_DESC_LD s o =
+    (λ a. inside_descriptor 8 s o (omega arith) a, (λ a. inside_descriptor 8 s o (omega arith) a, tt))
+meant r.R_LARCH_TLS_DESC_CALL s o =
+    (λ a. inside_descriptor 12 s o (omega arith) a, (λ a. inside_descriptor 12 s o (omega arith) a, tt))
+meant r.R_LARCH_TLS_LE_HI20_R s o = (λ a. (a.0, tt), tt)
+meant r.R_LARCH_TLS_LE_ADD_R s o = (λ a. (a.0, tt), tt)
+meant r.R_LARCH_TLS_LE_LO12_R s o = (λ a. a, tt)
+meant name s o = tt
+
+first_meant : (name : LoongArch64Relocation) (s : List ℕ) (o : ℕ) (facts : LinkFacts) (es : List LoongArchEntry) (otherwise c : LoongArchChoice)
+    → AreMeant name s o es → loongarch_matches otherwise.kind s o → IsFirst (LoongArchApplies name s o facts) es otherwise c
+    → loongarch_matches c.kind s o
+first_meant name s o facts [] otherwise c each last first = subst (λ x. loongarch_matches x.kind s o) (sym first) last
+first_meant name s o facts (e ∷ es) otherwise c each last (inl h) = subst (λ x. loongarch_matches x.kind s o) (sym h.1) (each.0 h.0.0)
+first_meant name s o facts (e ∷ es) otherwise c each last (inr h) = first_meant name s o facts es otherwise c each.1 last h.1
+
+-- ---- the choice
+
+can_rewrite : (kind : RelaxationKind) (s : List ℕ) (o : ℕ) → loongarch_matches kind s o → CanRewrite (loongarch_rewrite kind) s o
+can_rewrite kinds.NoOp s o matches = tt
+can_rewrite kind s o matches = search rules
+
+pub chosen : (name : LoongArch64Relocation) (s : List ℕ) (o : ℕ) (facts : LinkFacts)
+    → (es : List (ChoiceEntry AskedFor RelaxationKind LoongArch64Relocation)) (c : LoongArchChoice)
+    → IsTableOf is_asked_by (IsAskedFor name) es (loongarch_entries name)
+    → IsFirstOf (EntryApplies is_asked_by loongarch_row (λ (kind : RelaxationKind) (o : ℕ) (operands : Operands). operands) s o facts) es (choice kinds.NoOp name) c
+    → IsLoongArchChoice name s o facts c
+chosen name s o facts es c =
+    first_of_table is_asked_by (IsAskedFor name) loongarch_row
+    (λ (kind : RelaxationKind) (o : ℕ) (operands : Operands). operands) s o facts es (loongarch_entries name) (choice kinds.NoOp name) c
+
+pub chosen_matches : (name : LoongArch64Relocation) (s : List ℕ) (o : ℕ) (facts : LinkFacts) (c : LoongArchChoice)
+    → IsLoongArchChoice name s o facts c → loongarch_matches c.kind s o
+chosen_matches name s o facts c =
+    first_meant name s o facts (loongarch_entries name) (choice kinds.NoOp name) c (meant name s o) tt
+
+pub chosen_rewritable : (name : LoongArch64Relocation) (s : List ℕ) (o : ℕ) (facts : LinkFacts) (c : LoongArchChoice)
+    → IsLoongArchChoice name s o facts c → CanRewrite (loongarch_rewrite c.kind) s o
+chosen_rewritable name s o facts c is = can_rewrite c.kind s o (chosen_matches name s o facts c is)
