@@ -1,6 +1,6 @@
 //! RISC-V: which rewrite a linker chooses for a relocation.
 
-ghost use Rattle.std.specs.Prelude.{◌≡◌};
+ghost use Rattle.std.specs.Prelude.{◌≡◌, ◌≤◌, length};
 ghost use Rattle.std.specs.Int.{cast_unsigned, w64};
 ghost use Rattle.linker_base.specs.Rewrite.{CanRewrite};
 ghost use Rattle.linker_elf.specs.Inner.ChoiceTables.{IsTableOf};
@@ -152,7 +152,10 @@ macro_rules! without_got {
     };
 }
 
-type RiscVEntry = ChoiceEntry<Original, RelaxationKind, RiscVRelocation>;
+/// An entry of the table.
+pub type RiscVEntry = ChoiceEntry<Original, RelaxationKind, RiscVRelocation>;
+
+type RiscVChoice = Choice<RelaxationKind, RiscVRelocation>;
 
 static CALL: &[RiscVEntry] = &[
     entry!(TailToCJ => R_RISCV_RVC_JUMP, BY_SHORT_JUMP),
@@ -214,29 +217,65 @@ static PCREL_LO12_I: &[RiscVEntry] = &[
 
 static OTHERS: &[RiscVEntry] = &[];
 
+/// What a name's table is used for.
+macro_rules! by_table {
+    ($name:expr, $table:ident => $use:expr) => {
+        match $name {
+            RiscVRelocation::R_RISCV_CALL | RiscVRelocation::R_RISCV_CALL_PLT => {
+                let $table = CALL;
+                $use
+            }
+            RiscVRelocation::R_RISCV_HI20 => { let $table = HI20; $use }
+            RiscVRelocation::R_RISCV_RVC_LUI => { let $table = RVC_LUI; $use }
+            RiscVRelocation::R_RISCV_LO12_I => { let $table = LO12_I; $use }
+            RiscVRelocation::R_RISCV_LO12_S => { let $table = LO12_S; $use }
+            RiscVRelocation::R_RISCV_TPREL_HI20 => { let $table = TPREL_HI20; $use }
+            RiscVRelocation::R_RISCV_TPREL_ADD => { let $table = TPREL_ADD; $use }
+            RiscVRelocation::R_RISCV_TPREL_LO12_I => { let $table = TPREL_LO12_I; $use }
+            RiscVRelocation::R_RISCV_TPREL_LO12_S => { let $table = TPREL_LO12_S; $use }
+            RiscVRelocation::R_RISCV_TLSDESC_HI20 => { let $table = TLSDESC_HI20; $use }
+            RiscVRelocation::R_RISCV_TLSDESC_LOAD_LO12 => { let $table = TLSDESC_LOAD_LO12; $use }
+            RiscVRelocation::R_RISCV_TLSDESC_ADD_LO12 => { let $table = TLSDESC_ADD_LO12; $use }
+            RiscVRelocation::R_RISCV_TLSDESC_CALL => { let $table = TLSDESC_CALL; $use }
+            RiscVRelocation::R_RISCV_GOT_HI20 => { let $table = GOT_HI20; $use }
+            RiscVRelocation::R_RISCV_PCREL_LO12_I => { let $table = PCREL_LO12_I; $use }
+            _ => { let $table = OTHERS; $use }
+        }
+    };
+}
+
 /// The entries of a relocation.
 #[inline(always)]
-fn entries(name: RiscVRelocation) -> &'static [RiscVEntry]
-    ensures { IsTableOf IsThere (IsAskedFor name) result.now (riscv_entries name) }
+pub fn entries(name: RiscVRelocation) -> &'static [RiscVEntry]
+    ensures table { IsTableOf IsThere (IsAskedFor name) result.now (riscv_entries name) }
+    ensures few { length result.now ≤ 5 }
 {
-    match name {
-        RiscVRelocation::R_RISCV_CALL | RiscVRelocation::R_RISCV_CALL_PLT => CALL,
-        RiscVRelocation::R_RISCV_HI20 => HI20,
-        RiscVRelocation::R_RISCV_RVC_LUI => RVC_LUI,
-        RiscVRelocation::R_RISCV_LO12_I => LO12_I,
-        RiscVRelocation::R_RISCV_LO12_S => LO12_S,
-        RiscVRelocation::R_RISCV_TPREL_HI20 => TPREL_HI20,
-        RiscVRelocation::R_RISCV_TPREL_ADD => TPREL_ADD,
-        RiscVRelocation::R_RISCV_TPREL_LO12_I => TPREL_LO12_I,
-        RiscVRelocation::R_RISCV_TPREL_LO12_S => TPREL_LO12_S,
-        RiscVRelocation::R_RISCV_TLSDESC_HI20 => TLSDESC_HI20,
-        RiscVRelocation::R_RISCV_TLSDESC_LOAD_LO12 => TLSDESC_LOAD_LO12,
-        RiscVRelocation::R_RISCV_TLSDESC_ADD_LO12 => TLSDESC_ADD_LO12,
-        RiscVRelocation::R_RISCV_TLSDESC_CALL => TLSDESC_CALL,
-        RiscVRelocation::R_RISCV_GOT_HI20 => GOT_HI20,
-        RiscVRelocation::R_RISCV_PCREL_LO12_I => PCREL_LO12_I,
-        _ => OTHERS,
-    }
+    by_table!(name, table => table)
+}
+
+/// The choice by a table of a name.
+#[inline(always)]
+fn choice_by(
+    table: &'static [RiscVEntry],
+    name: RiscVRelocation,
+    section: &[u8],
+    offset: u64,
+    facts: &LinkFacts,
+) -> RiscVChoice
+    requires table { IsTableOf IsThere (IsAskedFor name) table.now (riscv_entries name) }
+    requires few { length table.now ≤ 5 }
+    ensures chosen { IsRiscVChoice name section.now offset facts.now result }
+    ensures matches { riscv_matches result.kind section.now offset }
+    ensures rewritable { CanRewrite (riscv_rewrite result.kind) section.now offset }
+    ensures compressed { result.kind ≡ RelaxationKind.Hi20ToCLui
+        → FitsClui (sum_64 facts.now.operands.symbol
+        (cast_unsigned w64 facts.now.operands.addend)) }
+{
+    let unchanged = Choice {
+        kind: RelaxationKind::NoOp,
+        relocation: name,
+    };
+    first_entry(table, section, offset, facts, unchanged)
 }
 
 /// Which rewrite a linker may make of the instruction or the pair at a relocation's offset, and the
@@ -349,11 +388,7 @@ pub fn choose(
         → FitsClui (sum_64 facts.now.operands.symbol
         (cast_unsigned w64 facts.now.operands.addend)) }
 {
-    let unchanged = Choice {
-        kind: RelaxationKind::NoOp,
-        relocation: name,
-    };
-    first_entry(entries(name), section, offset, facts, unchanged)
+    by_table!(name, table => choice_by(table, name, section, offset, facts))
 }
 
 /// With the same facts, all four relocations of a TLS descriptor are rewritten for local-exec, all
