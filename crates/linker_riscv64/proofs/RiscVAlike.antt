@@ -21,12 +21,12 @@ by_conditions : (Asked : RelaxationKind → List ℕ → ℕ → Type 0) (s : Li
     → ((kind : RelaxationKind) → Asked kind s o)
     → IsFirst (AppliesToRiscV Asked s o facts) es m a → IsFirst (holds facts) es m a
 by_conditions Asked s o facts [] m a asked e = e
-by_conditions Asked s o facts (e ∷ es) m a asked (inl h) = inl (h.0.conditions, h.1)
+by_conditions Asked s o facts (e ∷ es) m a asked (inl h) = inl (h.0.1, h.1)
 by_conditions Asked s o facts (e ∷ es) m a asked (inr h) =
-    inr (λ c. h.0 (record { matches = asked e.kind; conditions = c }), by_conditions Asked s o facts es m a asked h.1)
+    inr (λ c. h.0 (asked e.kind, c), by_conditions Asked s o facts es m a asked h.1)
 
 -- an offset that one instruction holds is one that two hold
-short_is_local : (facts : LinkFacts) → AllHold riscv_row_of facts.operands facts to_short_local_exec → AllHold riscv_row_of facts.operands facts to_local_exec
+short_is_local : (facts : LinkFacts) → AllHold riscv_row_of facts.operands facts (to_short_local_exec []) → AllHold riscv_row_of facts.operands facts (to_local_exec [])
 short_is_local facts h = (h.0, (h.1.0, (h.1.1.0, (h.1.1.1.0, tt))))
 
 -- ---- TLS descriptors
@@ -74,12 +74,12 @@ high_and_call facts section o p a b there f g =
     cases (inl h) (inr (m, inl k)) = inr (inr (inl (both h.1 k.1)))
     cases (inr (n, inl h)) (inr (m, inl k)) = inr (inr (inr (inl (both h.1 k.1))))
     cases (inr (n, inr h)) (inr (m, inl k)) = absurd (h.0 k.0)
-    cases (inl h) (inr (m, inr k)) = absurd (k.0 h.0.1)
+    cases (inl h) (inr (m, inr k)) = absurd (k.0 (h.0.0, (h.0.1.0, h.0.1.1.1)))
     cases (inr (n, inl h)) (inr (m, inr k)) = absurd (k.0 h.0)
     cases (inr (n, inr (n2, inl h))) (inr (m, inr (m2, inl k))) = inr (inr (inr (inr (inl (both h.1 k.1)))))
     cases (inr (n, inr (n2, inr (n3, inl h)))) (inr (m, inr (m2, inl k))) = inr (inr (inr (inr (inr (inl (both h.1 k.1))))))
     cases (inr (n, inr (n2, inr (n3, inr h)))) (inr (m, inr (m2, inl k))) = absurd (h.0 k.0)
-    cases (inr (n, inr (n2, inl h))) (inr (m, inr (m2, inr k))) = absurd (k.0 h.0.1)
+    cases (inr (n, inr (n2, inl h))) (inr (m, inr (m2, inr k))) = absurd (k.0 (h.0.0, h.0.1.1))
     cases (inr (n, inr (n2, inr (n3, inl h)))) (inr (m, inr (m2, inr k))) = absurd (k.0 h.0)
     cases (inr (n, inr (n2, inr (n3, inr h)))) (inr (m, inr (m2, inr k))) = inr (inr (inr (inr (inr (inr (inl (both h.1 k.1)))))))
 
@@ -93,7 +93,7 @@ sum_and_call facts section o p a b there f g =
         → IsFirst (holds facts) call_entries (choice kinds.NoOp r.R_RISCV_TLSDESC_CALL) b
         → IsAmong (a, b) ((deleted, from_zero) ∷ (nop, from_zero) ∷ (choice kinds.AddiToLui r.R_RISCV_TPREL_HI20, from_high) ∷ (choice kinds.AddiToAuipc r.R_RISCV_TLS_GOT_HI20, from_got) ∷ (choice kinds.NoOp r.R_RISCV_TLSDESC_ADD_LO12, choice kinds.NoOp r.R_RISCV_TLSDESC_CALL) ∷ [])
     cases (inl h) (inl k) = inl (both h.1 k.1)
-    cases (inl h) (inr k) = absurd (k.0 h.0.1)
+    cases (inl h) (inr k) = absurd (k.0 (h.0.0, (h.0.1.0, h.0.1.1.1)))
     cases (inr (n, inl h)) (inl k) = inr (inl (both h.1 k.1))
     cases (inr (n, inl h)) (inr k) = absurd (k.0 h.0)
     cases (inr (n, inr h)) (inl k) = absurd (h.0 k.0)
@@ -118,6 +118,6 @@ got_pair facts low section o p a b there f g =
         → IsFirst (AppliesToRiscV (IsAskedFor r.R_RISCV_PCREL_LO12_I) section p facts) (riscv_entries r.R_RISCV_PCREL_LO12_I) (choice kinds.NoOp r.R_RISCV_PCREL_LO12_I) b
         → IsAmong (a, b) ((choice kinds.NoOp r.R_RISCV_PCREL_HI20, choice kinds.LdToAddi r.R_RISCV_PCREL_LO12_I) ∷ (choice kinds.NoOp r.R_RISCV_GOT_HI20, choice kinds.NoOp r.R_RISCV_PCREL_LO12_I) ∷ [])
     cases (inl h) (inl k) = inl (both h.1 k.1)
-    cases (inl h) (inr k) = absurd (k.0 (record { matches = there.1; conditions = (low, h.0.conditions) }))
-    cases (inr h) (inl k) = absurd (h.0 (record { matches = there.0; conditions = k.0.conditions.1 }))
+    cases (inl h) (inr k) = absurd (k.0 (there.1, (h.0.1.0, (h.0.1.1.0, (h.0.1.1.1.0, (low, h.0.1.1.1.1))))))
+    cases (inr h) (inl k) = absurd (h.0 (there.0, (k.0.1.0, (k.0.1.1.0, (k.0.1.1.1.0, k.0.1.1.1.1.1)))))
     cases (inr h) (inr k) = inr (inl (both h.1 k.1))

@@ -7,7 +7,7 @@ use Rattle.linker_elf.specs.Choices.{Condition, fixed_address, fixed_distance, c
 use Rattle.linker_elf.specs.Choices.{marked, without_plt, low_12, in_reach, low_12_bounds}
 use Rattle.linker_elf.specs.Choices.{executable, bound, addend, within, in_reach_if_known}
 use Rattle.linker_elf.specs.Choices.{got_high_part, label_marked}
-use Rattle.linker_elf.specs.Choices.{Entry, entry, choice, AllHold, IsFirst}
+use Rattle.linker_elf.specs.Choices.{Entry, entry, choice, Applies, IsFirst}
 use Rattle.linker_elf.specs.Originals.{HasWord}
 use Rattle.linker_riscv64.specs.RiscVOriginals.{riscv_matches, IsLui, IsAuipc, IsLd, IsAddTp}
 use Rattle.linker_riscv64.specs.RiscVOriginals.{IsAddiToA0, IsCallOfDescriptor}
@@ -30,115 +30,108 @@ RiscVChoice = Choice RelaxationKind RiscVRelocation
 abbrev pub riscv_row_of : RiscVRelocation → Option RelocationKindInfo
 riscv_row_of name = (riscv_relocation name).row
 
--- ---- the table
+-- ---- conditions
 
--- the jump reaches the symbol
-abbrev pub by_jump : RiscVRelocation → List (Condition RiscVRelocation)
-by_jump jump = marked ∷ fixed_distance ∷ without_plt ∷ in_reach jump 0 ∷ []
+abbrev pub Conditions : Type 0
+Conditions = List (Condition RiscVRelocation)
 
-abbrev pub short_tail_call : RiscVEntry
-short_tail_call =
-    entry kinds.TailToCJ r.R_RISCV_RVC_JUMP (compressible ∷ by_jump r.R_RISCV_RVC_JUMP)
+-- a `jal` reaches the symbol
+abbrev pub by_jump : Conditions
+by_jump = fixed_distance ∷ marked ∷ without_plt ∷ in_reach r.R_RISCV_JAL 0 ∷ []
 
--- a call, or a tail call
-abbrev pub near_call : RelaxationKind → RiscVEntry
-near_call kind = entry kind r.R_RISCV_JAL (by_jump r.R_RISCV_JAL)
+-- a `c.j` reaches it
+abbrev pub by_short_jump : Conditions
+by_short_jump =
+    fixed_distance ∷ compressible ∷ marked ∷ without_plt ∷ in_reach r.R_RISCV_RVC_JUMP 0 ∷ []
 
 -- 12 signed bits hold the address
-abbrev pub with_low_part : List (Condition RiscVRelocation)
+abbrev pub with_low_part : Conditions
 with_low_part = fixed_address ∷ low_12 ∷ []
 
 -- and instructions may be deleted
-abbrev pub by_low_part : List (Condition RiscVRelocation)
-by_low_part = marked ∷ with_low_part
+abbrev pub by_low_part : Conditions
+by_low_part = fixed_address ∷ marked ∷ low_12 ∷ []
 
--- a high part that is 0
-abbrev pub no_high_part : RiscVEntry
-no_high_part = entry kinds.Hi20Delete r.R_RISCV_NONE by_low_part
+-- a `c.lui` holds the high part
+abbrev pub by_short_high_part : Conditions
+by_short_high_part =
+    fixed_address ∷ compressible ∷ marked ∷ in_reach r.R_RISCV_RVC_LUI 0 ∷ []
 
-abbrev pub short_high_part : RiscVEntry
-short_high_part =
-    entry kinds.Hi20ToCLui r.R_RISCV_RVC_LUI
-    (marked ∷ compressible ∷ fixed_address ∷ in_reach r.R_RISCV_RVC_LUI 0 ∷ [])
-
--- a high part that is 0, where the instruction has 2 bytes already
-abbrev pub zero_high_part : RiscVEntry
-zero_high_part = entry kinds.CLuiToCLi r.R_RISCV_NONE with_low_part
-
--- a low part whose high part is 0
-abbrev pub low_part : RiscVRelocation → RiscVEntry
-low_part name = entry kinds.Lo12Rs1ToZero name by_low_part
-
--- an offset from the thread pointer in 12 signed bits
-abbrev pub by_low_offset : List (Condition RiscVRelocation)
+-- 12 signed bits hold the offset from the thread pointer
+abbrev pub by_low_offset : Conditions
 by_low_offset = marked ∷ within r.R_RISCV_TPREL_LO12_I low_12_bounds 0 ∷ []
 
--- what computes the high part of such an offset
-abbrev pub no_high_offset : RiscVEntry
-no_high_offset = entry kinds.Delete r.R_RISCV_NONE by_low_offset
+-- the symbol's definition in this output, in place of its GOT entry or its descriptor, where some
+-- facts hold and some conditions on values
+abbrev pub without_entry : Conditions → Conditions → Conditions
+without_entry facts values = bound ∷ facts ++ addend (pos 0) ∷ values
 
-abbrev pub low_offset : RiscVRelocation → RiscVEntry
-low_offset name = entry kinds.BaseToTp name by_low_offset
+-- The offset from the thread pointer in place of a descriptor, where some facts hold too: in two
+-- instructions, in one, and in the GOT.
+abbrev pub to_local_exec : Conditions → Conditions
+to_local_exec facts =
+    without_entry (executable ∷ facts) (in_reach_if_known r.R_RISCV_TPREL_HI20 0 ∷ [])
 
--- the symbol's definition in this output, in place of its GOT entry or its descriptor
-abbrev pub without_entry : List (Condition RiscVRelocation) → List (Condition RiscVRelocation)
-without_entry conditions = bound ∷ addend (pos 0) ∷ conditions
-
--- The offset from the thread pointer in place of a descriptor: in two instructions, in one, and in
--- the GOT.
-abbrev pub to_local_exec : List (Condition RiscVRelocation)
-to_local_exec = executable ∷ without_entry (in_reach_if_known r.R_RISCV_TPREL_HI20 0 ∷ [])
-
-abbrev pub to_short_local_exec : List (Condition RiscVRelocation)
-to_short_local_exec =
-    executable ∷ without_entry (in_reach_if_known r.R_RISCV_TPREL_HI20 0
+abbrev pub to_short_local_exec : Conditions → Conditions
+to_short_local_exec facts =
+    without_entry (executable ∷ facts) (in_reach_if_known r.R_RISCV_TPREL_HI20 0
     ∷ within r.R_RISCV_TPREL_LO12_I low_12_bounds 0 ∷ [])
 
-abbrev pub to_initial_exec : List (Condition RiscVRelocation)
-to_initial_exec = executable ∷ in_reach_if_known r.R_RISCV_TLS_GOT_HI20 0 ∷ []
+abbrev pub to_initial_exec : Conditions → Conditions
+to_initial_exec facts = executable ∷ facts ++ in_reach_if_known r.R_RISCV_TLS_GOT_HI20 0 ∷ []
+
+-- the distance to the symbol in place of its GOT entry, where some facts hold too
+abbrev pub without_got : Conditions → Conditions
+without_got facts =
+    without_entry (fixed_distance ∷ label_marked ∷ facts)
+    (in_reach_if_known r.R_RISCV_PCREL_HI20 0 ∷ [])
+
+-- ---- the table
 
 -- An instruction that is left out: it is deleted where that may be, and else becomes `nop`.
-abbrev pub left_out : List (Condition RiscVRelocation) → List RiscVEntry → List RiscVEntry
+abbrev pub left_out : (Conditions → Conditions) → List RiscVEntry → List RiscVEntry
 left_out conditions entries =
-    entry kinds.Delete r.R_RISCV_NONE (marked ∷ conditions)
-    ∷ entry kinds.ReplaceWithLongNop r.R_RISCV_NONE conditions ∷ entries
+    entry kinds.Delete r.R_RISCV_NONE (conditions (marked ∷ []))
+    ∷ entry kinds.ReplaceWithLongNop r.R_RISCV_NONE (conditions []) ∷ entries
 
 -- the `auipc` and the `ld` of a descriptor
 abbrev pub start_of_descriptor : List RiscVEntry
 start_of_descriptor = left_out to_local_exec (left_out to_initial_exec [])
 
--- the distance to the symbol in place of its GOT entry
-abbrev pub without_got : List (Condition RiscVRelocation)
-without_got =
-    label_marked ∷ fixed_distance ∷ without_entry (in_reach_if_known r.R_RISCV_PCREL_HI20 0 ∷ [])
-
 abbrev pub call_entries : List RiscVEntry
-call_entries = short_tail_call ∷ near_call kinds.TailToJal ∷ near_call kinds.CallToJal ∷ []
+call_entries =
+    entry kinds.TailToCJ r.R_RISCV_RVC_JUMP by_short_jump
+    ∷ entry kinds.TailToJal r.R_RISCV_JAL by_jump
+    ∷ entry kinds.CallToJal r.R_RISCV_JAL by_jump ∷ []
 
 abbrev pub riscv_entries : RiscVRelocation → List RiscVEntry
 riscv_entries r.R_RISCV_CALL = call_entries
 riscv_entries r.R_RISCV_CALL_PLT = call_entries
-riscv_entries r.R_RISCV_HI20 = no_high_part ∷ short_high_part ∷ []
-riscv_entries r.R_RISCV_RVC_LUI = zero_high_part ∷ []
-riscv_entries r.R_RISCV_LO12_I = low_part r.R_RISCV_LO12_I ∷ []
-riscv_entries r.R_RISCV_LO12_S = low_part r.R_RISCV_LO12_S ∷ []
-riscv_entries r.R_RISCV_TPREL_HI20 = no_high_offset ∷ []
-riscv_entries r.R_RISCV_TPREL_ADD = no_high_offset ∷ []
-riscv_entries r.R_RISCV_TPREL_LO12_I = low_offset r.R_RISCV_TPREL_LO12_I ∷ []
-riscv_entries r.R_RISCV_TPREL_LO12_S = low_offset r.R_RISCV_TPREL_LO12_S ∷ []
+riscv_entries r.R_RISCV_HI20 =
+    entry kinds.Hi20Delete r.R_RISCV_NONE by_low_part
+    ∷ entry kinds.Hi20ToCLui r.R_RISCV_RVC_LUI by_short_high_part ∷ []
+riscv_entries r.R_RISCV_RVC_LUI = entry kinds.CLuiToCLi r.R_RISCV_NONE with_low_part ∷ []
+riscv_entries r.R_RISCV_LO12_I = entry kinds.Lo12Rs1ToZero r.R_RISCV_LO12_I by_low_part ∷ []
+riscv_entries r.R_RISCV_LO12_S = entry kinds.Lo12Rs1ToZero r.R_RISCV_LO12_S by_low_part ∷ []
+riscv_entries r.R_RISCV_TPREL_HI20 = entry kinds.Delete r.R_RISCV_NONE by_low_offset ∷ []
+riscv_entries r.R_RISCV_TPREL_ADD = entry kinds.Delete r.R_RISCV_NONE by_low_offset ∷ []
+riscv_entries r.R_RISCV_TPREL_LO12_I =
+    entry kinds.BaseToTp r.R_RISCV_TPREL_LO12_I by_low_offset ∷ []
+riscv_entries r.R_RISCV_TPREL_LO12_S =
+    entry kinds.BaseToTp r.R_RISCV_TPREL_LO12_S by_low_offset ∷ []
 riscv_entries r.R_RISCV_TLSDESC_HI20 = start_of_descriptor
 riscv_entries r.R_RISCV_TLSDESC_LOAD_LO12 = start_of_descriptor
 riscv_entries r.R_RISCV_TLSDESC_ADD_LO12 =
     left_out to_short_local_exec
-    (entry kinds.AddiToLui r.R_RISCV_TPREL_HI20 to_local_exec
-    ∷ entry kinds.AddiToAuipc r.R_RISCV_TLS_GOT_HI20 to_initial_exec ∷ [])
+    (entry kinds.AddiToLui r.R_RISCV_TPREL_HI20 (to_local_exec [])
+    ∷ entry kinds.AddiToAuipc r.R_RISCV_TLS_GOT_HI20 (to_initial_exec []) ∷ [])
 riscv_entries r.R_RISCV_TLSDESC_CALL =
-    entry kinds.CallToAddiZero r.R_RISCV_TPREL_LO12_I to_short_local_exec
-    ∷ entry kinds.CallToAddi r.R_RISCV_TPREL_LO12_I to_local_exec
-    ∷ entry kinds.CallToLd r.R_RISCV_PCREL_LO12_I to_initial_exec ∷ []
-riscv_entries r.R_RISCV_GOT_HI20 = entry kinds.NoOp r.R_RISCV_PCREL_HI20 without_got ∷ []
+    entry kinds.CallToAddiZero r.R_RISCV_TPREL_LO12_I (to_short_local_exec [])
+    ∷ entry kinds.CallToAddi r.R_RISCV_TPREL_LO12_I (to_local_exec [])
+    ∷ entry kinds.CallToLd r.R_RISCV_PCREL_LO12_I (to_initial_exec []) ∷ []
+riscv_entries r.R_RISCV_GOT_HI20 = entry kinds.NoOp r.R_RISCV_PCREL_HI20 (without_got []) ∷ []
 riscv_entries r.R_RISCV_PCREL_LO12_I =
-    entry kinds.LdToAddi r.R_RISCV_PCREL_LO12_I (got_high_part ∷ without_got) ∷ []
+    entry kinds.LdToAddi r.R_RISCV_PCREL_LO12_I (without_got (got_high_part ∷ [])) ∷ []
 riscv_entries name = []
 
 -- ---- which entry is chosen
@@ -154,12 +147,11 @@ IsAskedFor r.R_RISCV_TLSDESC_CALL = λ kind section o. HasWord section o IsCallO
 IsAskedFor r.R_RISCV_GOT_HI20 = λ kind section o. HasWord section o IsAuipc
 IsAskedFor name = riscv_matches
 
--- What the relocation asks for is at the offset, and the conditions hold. No rewrite of RISC-V
--- moves the offset or the addend.
-pub record AppliesToRiscV (Asked : RelaxationKind → List ℕ → ℕ → Type 0) (section : List ℕ) (o : ℕ)
-    (facts : LinkFacts) (e : RiscVEntry) : Type 0 where
-  pub matches : Asked e.kind section o
-  pub conditions : AllHold riscv_row_of facts.operands facts e.conditions
+-- What is asked for is at the offset, and the conditions hold. No rewrite of RISC-V moves the
+-- offset or the addend.
+abbrev pub AppliesToRiscV : (RelaxationKind → List ℕ → ℕ → Type 0) → List ℕ → ℕ → LinkFacts
+    → RiscVEntry → Type 0
+AppliesToRiscV Asked = Applies Asked riscv_row_of (λ kind o operands. operands)
 
 -- `NoOp` and the same relocation where no entry applies
 abbrev pub IsRiscVChoice : RiscVRelocation → List ℕ → ℕ → LinkFacts → RiscVChoice → Type 0

@@ -1,425 +1,281 @@
 //! RISC-V: which rewrite a linker chooses for a relocation.
 
-ghost use Rattle.std.specs.Prelude.{◌≡◌, ◌↔◌, IsTrue, [], if◌then◌else◌};
+ghost use Rattle.std.specs.Prelude.{◌≡◌, ◌≤◌, length};
 ghost use Rattle.std.specs.Int.{cast_unsigned, w64};
 ghost use Rattle.linker_base.specs.Rewrite.{CanRewrite};
-ghost use Rattle.linker_elf.specs.Choices.{AllHold, choice};
-ghost use Rattle.linker_elf.specs.Originals.{HasWord};
-ghost use Rattle.linker_riscv64.specs.RiscVRewrites.{riscv_rewrite, FitsClui};
-ghost use Rattle.linker_riscv64.specs.RiscVChoices.{riscv_row_of, by_jump, by_low_part};
-ghost use Rattle.linker_riscv64.specs.RiscVChoices.{AppliesToRiscV, IsRiscVChoice, short_tail_call};
-ghost use Rattle.linker_riscv64.specs.RiscVChoices.{near_call, no_high_part, short_high_part};
-ghost use Rattle.linker_riscv64.specs.RiscVChoices.{low_part, by_low_offset, low_offset};
-ghost use Rattle.linker_riscv64.specs.RiscVChoices.{with_low_part, zero_high_part};
-ghost use Rattle.linker_riscv64.specs.RiscVChoices.{without_entry, to_local_exec};
-ghost use Rattle.linker_riscv64.specs.RiscVChoices.{to_short_local_exec, to_initial_exec};
-ghost use Rattle.linker_riscv64.specs.RiscVChoices.{without_got};
-ghost use Rattle.linker_riscv64.specs.RiscVChoices.{DescriptorIsChosenAlike, GotPairIsChosenAlike};
-ghost use Rattle.linker_riscv64.specs.RiscVOriginals.{riscv_matches, IsLui, IsAuipc, IsLd, IsAddTp};
-ghost use Rattle.linker_riscv64.specs.RiscVOriginals.{IsAddiToA0, IsCallOfDescriptor};
+ghost use Rattle.linker_elf.specs.Inner.ChoiceTables.{IsTableOf};
 ghost use Rattle.linker_elf.specs.Value.{sum_64};
+ghost use Rattle.linker_riscv64.specs.Inner.Choices.{IsThere};
+ghost use Rattle.linker_riscv64.specs.RiscVChoices.{DescriptorIsChosenAlike, GotPairIsChosenAlike};
+ghost use Rattle.linker_riscv64.specs.RiscVChoices.{IsAskedFor, IsRiscVChoice, riscv_entries};
+ghost use Rattle.linker_riscv64.specs.RiscVOriginals.{riscv_matches};
+ghost use Rattle.linker_riscv64.specs.RiscVRewrites.{riscv_rewrite, FitsClui};
 
-use super::rewrites::{
-    is_add_tp, is_addi_to_a0, is_auipc, is_call_of_descriptor, is_ld, is_lui, word_at,
-};
-use super::{RelaxationKind, RiscVRelocation, row};
+use super::rewrites::{is_add_tp, is_addi_to_a0, is_auipc, is_ld, is_lui, word_at};
+use super::{RelaxationKind, RiscVRelocation};
 use linker_base::rewrite::has_window;
-use linker_elf::elf::{Choice, LinkFacts};
+use linker_elf::elf::choice_table::{
+    BOUND, COMPRESSIBLE, ChoiceEntry, ChosenKind, Conditions, EXECUTABLE, FIXED_ADDRESS,
+    FIXED_DISTANCE, GOT_HIGH_PART, LABEL_MARKED, MARKED, Originals, ValueCondition, WITHOUT_PLT,
+    first_entry,
+};
+use linker_elf::elf::{Choice, LinkFacts, Operands};
 
-type RiscVChoice = Choice<RelaxationKind, RiscVRelocation>;
+/// The instructions that an entry is for: what its rewrite is meant for, or another one.
+pub enum Original {
+    OfRewrite,
+    Lui,
+    AddTp,
+    Auipc,
+    Ld,
+    AddiToA0,
+}
+
+impl Originals<RelaxationKind> for Original {
+    ghost are_at = { IsThere };
+
+    #[inline(always)]
+    fn stand_at(&self, kind: RelaxationKind, section: &[u8], offset: u64) -> bool {
+        match self {
+            Original::OfRewrite => kind.matches(section, offset),
+            _ if !has_window(section, offset, 0, 4) => false,
+            Original::Lui => is_lui(word_at(section, offset)),
+            Original::AddTp => is_add_tp(word_at(section, offset)),
+            Original::Auipc => is_auipc(word_at(section, offset)),
+            Original::Ld => is_ld(word_at(section, offset)),
+            Original::AddiToA0 => is_addi_to_a0(word_at(section, offset)),
+        }
+    }
+}
+
+impl ChosenKind for RelaxationKind {
+    // no rewrite moves the place or the addend
+    ghost after = { λ kind o operands. operands };
+
+    #[inline(always)]
+    fn operands_after(self, _offset: u64, operands: &Operands) -> Operands {
+        *operands
+    }
+}
+
+/// An entry: the instruction where it isn't what the rewrite is meant for, the rewrite, the
+/// relocation after it and the conditions.
+macro_rules! entry {
+    ($kind:ident => $relocation:ident, $conditions:expr) => {
+        entry!(OfRewrite: $kind => $relocation, $conditions)
+    };
+    ($original:ident: $kind:ident => $relocation:ident, $conditions:expr) => {
+        ChoiceEntry {
+            originals: Original::$original,
+            kind: RelaxationKind::$kind,
+            relocation: RiscVRelocation::$relocation,
+            conditions: $conditions,
+        }
+    };
+}
+
+/// Conditions: facts, the addend, and what holds of values.
+macro_rules! conditions {
+    ($facts:expr, $addend:expr $(, $value:ident $(of $relocation:ident $(in $bounds:ident)?)?)*) => {
+        Conditions {
+            facts: $facts,
+            addend: $addend,
+            values: &[
+                $(ValueCondition::$value $((RiscVRelocation::$relocation, $($bounds,)? 0))?,)*
+            ],
+        }
+    };
+}
 
 /// The numbers of 12 bits in two's complement.
 const SIGNED_12: (i64, i64) = (-0x800, 0x800);
 
-// ---- what is there
+/// A `jal` reaches the symbol.
+const BY_JUMP: Conditions<RiscVRelocation> =
+    conditions!(FIXED_DISTANCE + MARKED + WITHOUT_PLT, None, InReach of R_RISCV_JAL);
 
-#[inline(always)]
-fn has_lui(section: &[u8], offset: u64) -> bool
-    ensures { IsTrue result ↔ HasWord section.now offset IsLui }
-{
-    has_window(section, offset, 0, 4) && is_lui(word_at(section, offset))
+/// A `c.j` reaches it.
+const BY_SHORT_JUMP: Conditions<RiscVRelocation> = conditions!(
+    FIXED_DISTANCE + COMPRESSIBLE + MARKED + WITHOUT_PLT,
+    None,
+    InReach of R_RISCV_RVC_JUMP
+);
+
+/// 12 signed bits hold the address.
+const WITH_LOW_PART: Conditions<RiscVRelocation> = conditions!(FIXED_ADDRESS, None, Low12);
+
+/// And instructions may be deleted.
+const BY_LOW_PART: Conditions<RiscVRelocation> = conditions!(FIXED_ADDRESS + MARKED, None, Low12);
+
+/// A `c.lui` holds the high part.
+const BY_SHORT_HIGH_PART: Conditions<RiscVRelocation> =
+    conditions!(FIXED_ADDRESS + COMPRESSIBLE + MARKED, None, InReach of R_RISCV_RVC_LUI);
+
+/// 12 signed bits hold the offset from the thread pointer.
+const BY_LOW_OFFSET: Conditions<RiscVRelocation> =
+    conditions!(MARKED, None, Within of R_RISCV_TPREL_LO12_I in SIGNED_12);
+
+/// That offset in two instructions in place of a descriptor, where a further fact holds, if any.
+macro_rules! to_local_exec {
+    ($($fact:ident)?) => {
+        conditions!(BOUND + EXECUTABLE $(+ $fact)?, Some(0), InReachIfKnown of R_RISCV_TPREL_HI20)
+    };
 }
 
-#[inline(always)]
-fn has_auipc(section: &[u8], offset: u64) -> bool
-    ensures { IsTrue result ↔ HasWord section.now offset IsAuipc }
-{
-    has_window(section, offset, 0, 4) && is_auipc(word_at(section, offset))
-}
-
-#[inline(always)]
-fn has_ld(section: &[u8], offset: u64) -> bool
-    ensures { IsTrue result ↔ HasWord section.now offset IsLd }
-{
-    has_window(section, offset, 0, 4) && is_ld(word_at(section, offset))
-}
-
-#[inline(always)]
-fn has_add_tp(section: &[u8], offset: u64) -> bool
-    ensures { IsTrue result ↔ HasWord section.now offset IsAddTp }
-{
-    has_window(section, offset, 0, 4) && is_add_tp(word_at(section, offset))
-}
-
-#[inline(always)]
-fn has_addi_to_a0(section: &[u8], offset: u64) -> bool
-    ensures { IsTrue result ↔ HasWord section.now offset IsAddiToA0 }
-{
-    has_window(section, offset, 0, 4) && is_addi_to_a0(word_at(section, offset))
-}
-
-#[inline(always)]
-fn has_call_of_descriptor(section: &[u8], offset: u64) -> bool
-    ensures { IsTrue result ↔ HasWord section.now offset IsCallOfDescriptor }
-{
-    has_window(section, offset, 0, 4) && is_call_of_descriptor(word_at(section, offset))
-}
-
-// ---- what the linker knows
-
-/// Whether a jump may stand in for a call of the symbol.
-#[inline(always)]
-fn reaches_by_jump(facts: &LinkFacts, jump: RiscVRelocation) -> bool
-    ensures { IsTrue result
-        ↔ AllHold riscv_row_of facts.now.operands facts.now (by_jump jump) }
-{
-    facts.is_marked
-        && facts.has_fixed_distance
-        && facts.operands.plt_entry == facts.operands.symbol
-        && facts.is_in_reach(row(jump), &facts.operands, 0)
-}
-
-/// Whether an instruction's signed 12 bits hold the symbol's address and addend.
-#[inline(always)]
-fn has_low_part_alone(facts: &LinkFacts) -> bool
-    ensures { IsTrue result ↔ AllHold riscv_row_of facts.now.operands facts.now with_low_part }
-{
-    let operands = &facts.operands;
-    let address = operands
-        .symbol
-        .wrapping_add(operands.addend.cast_unsigned())
-        .cast_signed();
-    facts.has_fixed_address && facts.has_addresses && -0x800 <= address && address < 0x800
-}
-
-/// The same, and instructions may be deleted.
-#[inline(always)]
-fn reaches_by_low_part(facts: &LinkFacts) -> bool
-    ensures { IsTrue result ↔ AllHold riscv_row_of facts.now.operands facts.now by_low_part }
-{
-    facts.is_marked && has_low_part_alone(facts)
-}
-
-#[inline(always)]
-fn is_short_tail_call(section: &[u8], offset: u64, facts: &LinkFacts) -> bool
-    ensures { IsTrue result ↔ AppliesToRiscV riscv_matches section.now offset facts.now
-        short_tail_call }
-{
-    facts.may_compress
-        && RelaxationKind::TailToCJ.matches(section, offset)
-        && reaches_by_jump(facts, RiscVRelocation::R_RISCV_RVC_JUMP)
-}
-
-#[inline(always)]
-fn is_near_call(kind: RelaxationKind, section: &[u8], offset: u64, facts: &LinkFacts) -> bool
-    ensures { IsTrue result ↔ AppliesToRiscV riscv_matches section.now offset facts.now
-        (near_call kind) }
-{
-    kind.matches(section, offset) && reaches_by_jump(facts, RiscVRelocation::R_RISCV_JAL)
-}
-
-#[inline(always)]
-fn has_no_high_part(section: &[u8], offset: u64, facts: &LinkFacts) -> bool
-    ensures { IsTrue result ↔ AppliesToRiscV riscv_matches section.now offset facts.now no_high_part }
-{
-    reaches_by_low_part(facts) && RelaxationKind::Hi20Delete.matches(section, offset)
-}
-
-#[inline(always)]
-fn has_short_high_part(section: &[u8], offset: u64, facts: &LinkFacts) -> bool
-    ensures { IsTrue result ↔ AppliesToRiscV riscv_matches section.now offset facts.now
-        short_high_part }
-{
-    facts.is_marked
-        && facts.may_compress
-        && facts.has_fixed_address
-        && facts.is_in_reach(row(RiscVRelocation::R_RISCV_RVC_LUI), &facts.operands, 0)
-        && RelaxationKind::Hi20ToCLui.matches(section, offset)
-}
-
-#[inline(always)]
-fn has_zero_high_part(section: &[u8], offset: u64, facts: &LinkFacts) -> bool
-    ensures { IsTrue result ↔ AppliesToRiscV riscv_matches section.now offset facts.now
-        zero_high_part }
-{
-    has_low_part_alone(facts) && RelaxationKind::CLuiToCLi.matches(section, offset)
-}
-
-#[inline(always)]
-fn is_low_part(name: RiscVRelocation, section: &[u8], offset: u64, facts: &LinkFacts) -> bool
-    ensures { IsTrue result ↔ AppliesToRiscV riscv_matches section.now offset facts.now
-        (low_part name) }
-{
-    reaches_by_low_part(facts) && RelaxationKind::Lo12Rs1ToZero.matches(section, offset)
-}
-
-/// Whether an offset from the thread pointer may be in 12 signed bits.
-#[inline]
-fn is_by_low_offset(facts: &LinkFacts) -> bool
-    ensures { IsTrue result ↔ AllHold riscv_row_of facts.now.operands facts.now by_low_offset }
-{
-    facts.is_marked && facts.is_within(row(RiscVRelocation::R_RISCV_TPREL_LO12_I), SIGNED_12, 0)
-}
-
-/// Whether the symbol's definition may be used in place of its GOT entry or of its descriptor.
-#[inline(always)]
-fn is_without_entry(facts: &LinkFacts) -> bool
-    ensures { IsTrue result
-        ↔ AllHold riscv_row_of facts.now.operands facts.now (without_entry []) }
-{
-    facts.is_bound() && facts.operands.addend == 0
-}
-
-/// Whether the offset may be in `lui` and `addi`.
-#[inline]
-fn is_for_local_exec(facts: &LinkFacts) -> bool
-    ensures { IsTrue result ↔ AllHold riscv_row_of facts.now.operands facts.now to_local_exec }
-{
-    let high = row(RiscVRelocation::R_RISCV_TPREL_HI20);
-    facts.is_executable
-        && is_without_entry(facts)
-        && facts.is_in_reach_if_known(high, &facts.operands, 0)
-}
-
-/// Whether it may be in `addi` alone.
-#[inline]
-fn is_for_short_local_exec(facts: &LinkFacts) -> bool
-    ensures { IsTrue result
-        ↔ AllHold riscv_row_of facts.now.operands facts.now to_short_local_exec }
-{
-    let low = row(RiscVRelocation::R_RISCV_TPREL_LO12_I);
-    is_for_local_exec(facts) && facts.is_within(low, SIGNED_12, 0)
-}
-
-/// Whether it may be in the GOT.
-#[inline]
-fn is_for_initial_exec(facts: &LinkFacts) -> bool
-    ensures { IsTrue result ↔ AllHold riscv_row_of facts.now.operands facts.now to_initial_exec }
-{
-    let high = row(RiscVRelocation::R_RISCV_TLS_GOT_HI20);
-    facts.is_executable && facts.is_in_reach_if_known(high, &facts.operands, 0)
-}
-
-/// Whether the distance to the symbol may be in place of its GOT entry.
-#[inline]
-fn is_without_got(facts: &LinkFacts) -> bool
-    ensures { IsTrue result ↔ AllHold riscv_row_of facts.now.operands facts.now without_got }
-{
-    let high = row(RiscVRelocation::R_RISCV_PCREL_HI20);
-    facts.is_label_marked
-        && facts.has_fixed_distance
-        && is_without_entry(facts)
-        && facts.is_in_reach_if_known(high, &facts.operands, 0)
-}
-
-// ---- the choice
-
-#[inline(always)]
-fn chosen(kind: RelaxationKind, relocation: RiscVRelocation) -> RiscVChoice
-    ensures { result ≡ choice kind relocation }
-{
-    Choice { kind, relocation }
-}
-
-/// What is left out is deleted where that may be, and else becomes `nop`.
-#[inline]
-fn left_out(facts: &LinkFacts) -> RiscVChoice
-    ensures { result ≡ choice
-        (if facts.now.is_marked then RelaxationKind.Delete else RelaxationKind.ReplaceWithLongNop)
-        RiscVRelocation.R_RISCV_NONE }
-{
-    if facts.is_marked {
-        chosen(RelaxationKind::Delete, RiscVRelocation::R_RISCV_NONE)
-    } else {
-        chosen(
-            RelaxationKind::ReplaceWithLongNop,
-            RiscVRelocation::R_RISCV_NONE,
+/// In one instruction.
+macro_rules! to_short_local_exec {
+    ($($fact:ident)?) => {
+        conditions!(
+            BOUND + EXECUTABLE $(+ $fact)?,
+            Some(0),
+            InReachIfKnown of R_RISCV_TPREL_HI20,
+            Within of R_RISCV_TPREL_LO12_I in SIGNED_12
         )
-    }
+    };
 }
 
-/// For the `lui` of an offset from the thread pointer.
-#[inline]
-fn of_high_offset(section: &[u8], offset: u64, facts: &LinkFacts) -> RiscVChoice
-    ensures chosen { IsRiscVChoice RiscVRelocation.R_RISCV_TPREL_HI20 section.now offset facts.now
-        result }
+/// In the GOT.
+macro_rules! to_initial_exec {
+    ($($fact:ident)?) => {
+        conditions!(EXECUTABLE $(+ $fact)?, None, InReachIfKnown of R_RISCV_TLS_GOT_HI20)
+    };
+}
+
+/// The distance to the symbol in place of its GOT entry, where a further fact holds, if any.
+macro_rules! without_got {
+    ($($fact:ident)?) => {
+        conditions!(
+            BOUND + FIXED_DISTANCE + LABEL_MARKED $(+ $fact)?,
+            Some(0),
+            InReachIfKnown of R_RISCV_PCREL_HI20
+        )
+    };
+}
+
+/// An entry of the table.
+pub type RiscVEntry = ChoiceEntry<Original, RelaxationKind, RiscVRelocation>;
+
+type RiscVChoice = Choice<RelaxationKind, RiscVRelocation>;
+
+static CALL: &[RiscVEntry] = &[
+    entry!(TailToCJ => R_RISCV_RVC_JUMP, BY_SHORT_JUMP),
+    entry!(TailToJal => R_RISCV_JAL, BY_JUMP),
+    entry!(CallToJal => R_RISCV_JAL, BY_JUMP),
+];
+
+static HI20: &[RiscVEntry] = &[
+    entry!(Hi20Delete => R_RISCV_NONE, BY_LOW_PART),
+    entry!(Hi20ToCLui => R_RISCV_RVC_LUI, BY_SHORT_HIGH_PART),
+];
+
+static RVC_LUI: &[RiscVEntry] = &[entry!(CLuiToCLi => R_RISCV_NONE, WITH_LOW_PART)];
+
+static LO12_I: &[RiscVEntry] = &[entry!(Lo12Rs1ToZero => R_RISCV_LO12_I, BY_LOW_PART)];
+
+static LO12_S: &[RiscVEntry] = &[entry!(Lo12Rs1ToZero => R_RISCV_LO12_S, BY_LOW_PART)];
+
+static TPREL_HI20: &[RiscVEntry] = &[entry!(Lui: Delete => R_RISCV_NONE, BY_LOW_OFFSET)];
+
+static TPREL_ADD: &[RiscVEntry] = &[entry!(AddTp: Delete => R_RISCV_NONE, BY_LOW_OFFSET)];
+
+static TPREL_LO12_I: &[RiscVEntry] = &[entry!(BaseToTp => R_RISCV_TPREL_LO12_I, BY_LOW_OFFSET)];
+
+static TPREL_LO12_S: &[RiscVEntry] = &[entry!(BaseToTp => R_RISCV_TPREL_LO12_S, BY_LOW_OFFSET)];
+
+static TLSDESC_HI20: &[RiscVEntry] = &[
+    entry!(Auipc: Delete => R_RISCV_NONE, to_local_exec!(MARKED)),
+    entry!(Auipc: ReplaceWithLongNop => R_RISCV_NONE, to_local_exec!()),
+    entry!(Auipc: Delete => R_RISCV_NONE, to_initial_exec!(MARKED)),
+    entry!(Auipc: ReplaceWithLongNop => R_RISCV_NONE, to_initial_exec!()),
+];
+
+static TLSDESC_LOAD_LO12: &[RiscVEntry] = &[
+    entry!(Ld: Delete => R_RISCV_NONE, to_local_exec!(MARKED)),
+    entry!(Ld: ReplaceWithLongNop => R_RISCV_NONE, to_local_exec!()),
+    entry!(Ld: Delete => R_RISCV_NONE, to_initial_exec!(MARKED)),
+    entry!(Ld: ReplaceWithLongNop => R_RISCV_NONE, to_initial_exec!()),
+];
+
+static TLSDESC_ADD_LO12: &[RiscVEntry] = &[
+    entry!(AddiToA0: Delete => R_RISCV_NONE, to_short_local_exec!(MARKED)),
+    entry!(AddiToA0: ReplaceWithLongNop => R_RISCV_NONE, to_short_local_exec!()),
+    entry!(AddiToLui => R_RISCV_TPREL_HI20, to_local_exec!()),
+    entry!(AddiToAuipc => R_RISCV_TLS_GOT_HI20, to_initial_exec!()),
+];
+
+static TLSDESC_CALL: &[RiscVEntry] = &[
+    entry!(CallToAddiZero => R_RISCV_TPREL_LO12_I, to_short_local_exec!()),
+    entry!(CallToAddi => R_RISCV_TPREL_LO12_I, to_local_exec!()),
+    entry!(CallToLd => R_RISCV_PCREL_LO12_I, to_initial_exec!()),
+];
+
+static GOT_HI20: &[RiscVEntry] = &[entry!(Auipc: NoOp => R_RISCV_PCREL_HI20, without_got!())];
+
+static PCREL_LO12_I: &[RiscVEntry] = &[
+    entry!(LdToAddi => R_RISCV_PCREL_LO12_I, without_got!(GOT_HIGH_PART)),
+];
+
+static OTHERS: &[RiscVEntry] = &[];
+
+/// What a name's table is used for.
+macro_rules! by_table {
+    ($name:expr, $table:ident => $use:expr) => {
+        match $name {
+            RiscVRelocation::R_RISCV_CALL | RiscVRelocation::R_RISCV_CALL_PLT => {
+                let $table = CALL;
+                $use
+            }
+            RiscVRelocation::R_RISCV_HI20 => { let $table = HI20; $use }
+            RiscVRelocation::R_RISCV_RVC_LUI => { let $table = RVC_LUI; $use }
+            RiscVRelocation::R_RISCV_LO12_I => { let $table = LO12_I; $use }
+            RiscVRelocation::R_RISCV_LO12_S => { let $table = LO12_S; $use }
+            RiscVRelocation::R_RISCV_TPREL_HI20 => { let $table = TPREL_HI20; $use }
+            RiscVRelocation::R_RISCV_TPREL_ADD => { let $table = TPREL_ADD; $use }
+            RiscVRelocation::R_RISCV_TPREL_LO12_I => { let $table = TPREL_LO12_I; $use }
+            RiscVRelocation::R_RISCV_TPREL_LO12_S => { let $table = TPREL_LO12_S; $use }
+            RiscVRelocation::R_RISCV_TLSDESC_HI20 => { let $table = TLSDESC_HI20; $use }
+            RiscVRelocation::R_RISCV_TLSDESC_LOAD_LO12 => { let $table = TLSDESC_LOAD_LO12; $use }
+            RiscVRelocation::R_RISCV_TLSDESC_ADD_LO12 => { let $table = TLSDESC_ADD_LO12; $use }
+            RiscVRelocation::R_RISCV_TLSDESC_CALL => { let $table = TLSDESC_CALL; $use }
+            RiscVRelocation::R_RISCV_GOT_HI20 => { let $table = GOT_HI20; $use }
+            RiscVRelocation::R_RISCV_PCREL_LO12_I => { let $table = PCREL_LO12_I; $use }
+            _ => { let $table = OTHERS; $use }
+        }
+    };
+}
+
+/// The entries of a relocation.
+#[inline(always)]
+pub fn entries(name: RiscVRelocation) -> &'static [RiscVEntry]
+    ensures table { IsTableOf IsThere (IsAskedFor name) result.now (riscv_entries name) }
+    ensures few { length result.now ≤ 5 }
+{
+    by_table!(name, table => table)
+}
+
+/// The choice by a table of a name.
+#[inline(always)]
+fn choice_by(
+    table: &'static [RiscVEntry],
+    name: RiscVRelocation,
+    section: &[u8],
+    offset: u64,
+    facts: &LinkFacts,
+) -> RiscVChoice
+    requires table { IsTableOf IsThere (IsAskedFor name) table.now (riscv_entries name) }
+    requires few { length table.now ≤ 5 }
+    ensures chosen { IsRiscVChoice name section.now offset facts.now result }
     ensures matches { riscv_matches result.kind section.now offset }
+    ensures rewritable { CanRewrite (riscv_rewrite result.kind) section.now offset }
+    ensures compressed { result.kind ≡ RelaxationKind.Hi20ToCLui
+        → FitsClui (sum_64 facts.now.operands.symbol
+        (cast_unsigned w64 facts.now.operands.addend)) }
 {
-    if has_lui(section, offset) && is_by_low_offset(facts) {
-        chosen(RelaxationKind::Delete, RiscVRelocation::R_RISCV_NONE)
-    } else {
-        chosen(RelaxationKind::NoOp, RiscVRelocation::R_RISCV_TPREL_HI20)
-    }
-}
-
-/// For the `add` of the thread pointer.
-#[inline]
-fn of_sum_with_tp(section: &[u8], offset: u64, facts: &LinkFacts) -> RiscVChoice
-    ensures chosen { IsRiscVChoice RiscVRelocation.R_RISCV_TPREL_ADD section.now offset facts.now
-        result }
-    ensures matches { riscv_matches result.kind section.now offset }
-{
-    if has_add_tp(section, offset) && is_by_low_offset(facts) {
-        chosen(RelaxationKind::Delete, RiscVRelocation::R_RISCV_NONE)
-    } else {
-        chosen(RelaxationKind::NoOp, RiscVRelocation::R_RISCV_TPREL_ADD)
-    }
-}
-
-/// For what adds the low part of an offset from the thread pointer.
-#[inline(always)]
-fn is_low_offset(name: RiscVRelocation, section: &[u8], offset: u64, facts: &LinkFacts) -> bool
-    ensures { IsTrue result
-        ↔ AppliesToRiscV riscv_matches section.now offset facts.now (low_offset name) }
-{
-    is_by_low_offset(facts) && RelaxationKind::BaseToTp.matches(section, offset)
-}
-
-/// For the `auipc` of a TLS descriptor.
-#[inline]
-fn of_descriptor_high(section: &[u8], offset: u64, facts: &LinkFacts) -> RiscVChoice
-    ensures chosen { IsRiscVChoice RiscVRelocation.R_RISCV_TLSDESC_HI20 section.now offset facts.now
-        result }
-    ensures matches { riscv_matches result.kind section.now offset }
-{
-    if !has_auipc(section, offset) {
-        chosen(RelaxationKind::NoOp, RiscVRelocation::R_RISCV_TLSDESC_HI20)
-    } else if is_for_local_exec(facts) {
-        left_out(facts)
-    } else if is_for_initial_exec(facts) {
-        left_out(facts)
-    } else {
-        chosen(RelaxationKind::NoOp, RiscVRelocation::R_RISCV_TLSDESC_HI20)
-    }
-}
-
-/// For its `ld`.
-#[inline]
-fn of_descriptor_load(section: &[u8], offset: u64, facts: &LinkFacts) -> RiscVChoice
-    ensures chosen { IsRiscVChoice RiscVRelocation.R_RISCV_TLSDESC_LOAD_LO12 section.now offset
-        facts.now result }
-    ensures matches { riscv_matches result.kind section.now offset }
-{
-    if !has_ld(section, offset) {
-        chosen(
-            RelaxationKind::NoOp,
-            RiscVRelocation::R_RISCV_TLSDESC_LOAD_LO12,
-        )
-    } else if is_for_local_exec(facts) {
-        left_out(facts)
-    } else if is_for_initial_exec(facts) {
-        left_out(facts)
-    } else {
-        chosen(
-            RelaxationKind::NoOp,
-            RiscVRelocation::R_RISCV_TLSDESC_LOAD_LO12,
-        )
-    }
-}
-
-/// For its `addi`.
-#[inline]
-fn of_descriptor_sum(section: &[u8], offset: u64, facts: &LinkFacts) -> RiscVChoice
-    ensures chosen { IsRiscVChoice RiscVRelocation.R_RISCV_TLSDESC_ADD_LO12 section.now offset
-        facts.now result }
-    ensures matches { riscv_matches result.kind section.now offset }
-{
-    if !has_addi_to_a0(section, offset) {
-        chosen(
-            RelaxationKind::NoOp,
-            RiscVRelocation::R_RISCV_TLSDESC_ADD_LO12,
-        )
-    } else if is_for_short_local_exec(facts) {
-        left_out(facts)
-    } else if is_for_local_exec(facts) {
-        chosen(
-            RelaxationKind::AddiToLui,
-            RiscVRelocation::R_RISCV_TPREL_HI20,
-        )
-    } else if is_for_initial_exec(facts) {
-        chosen(
-            RelaxationKind::AddiToAuipc,
-            RiscVRelocation::R_RISCV_TLS_GOT_HI20,
-        )
-    } else {
-        chosen(
-            RelaxationKind::NoOp,
-            RiscVRelocation::R_RISCV_TLSDESC_ADD_LO12,
-        )
-    }
-}
-
-/// For its `jalr`.
-#[inline]
-fn of_descriptor_call(section: &[u8], offset: u64, facts: &LinkFacts) -> RiscVChoice
-    ensures chosen { IsRiscVChoice RiscVRelocation.R_RISCV_TLSDESC_CALL section.now offset facts.now
-        result }
-    ensures matches { riscv_matches result.kind section.now offset }
-{
-    if !has_call_of_descriptor(section, offset) {
-        chosen(RelaxationKind::NoOp, RiscVRelocation::R_RISCV_TLSDESC_CALL)
-    } else if is_for_short_local_exec(facts) {
-        chosen(
-            RelaxationKind::CallToAddiZero,
-            RiscVRelocation::R_RISCV_TPREL_LO12_I,
-        )
-    } else if is_for_local_exec(facts) {
-        chosen(
-            RelaxationKind::CallToAddi,
-            RiscVRelocation::R_RISCV_TPREL_LO12_I,
-        )
-    } else if is_for_initial_exec(facts) {
-        chosen(
-            RelaxationKind::CallToLd,
-            RiscVRelocation::R_RISCV_PCREL_LO12_I,
-        )
-    } else {
-        chosen(RelaxationKind::NoOp, RiscVRelocation::R_RISCV_TLSDESC_CALL)
-    }
-}
-
-/// For the `auipc` of a load from the GOT.
-#[inline]
-fn of_entry_high(section: &[u8], offset: u64, facts: &LinkFacts) -> RiscVChoice
-    ensures chosen { IsRiscVChoice RiscVRelocation.R_RISCV_GOT_HI20 section.now offset facts.now
-        result }
-    ensures matches { riscv_matches result.kind section.now offset }
-{
-    if has_auipc(section, offset) && is_without_got(facts) {
-        chosen(RelaxationKind::NoOp, RiscVRelocation::R_RISCV_PCREL_HI20)
-    } else {
-        chosen(RelaxationKind::NoOp, RiscVRelocation::R_RISCV_GOT_HI20)
-    }
-}
-
-/// For its `ld`.
-#[inline]
-fn of_entry_low(section: &[u8], offset: u64, facts: &LinkFacts) -> RiscVChoice
-    ensures chosen { IsRiscVChoice RiscVRelocation.R_RISCV_PCREL_LO12_I section.now offset facts.now
-        result }
-    ensures matches { riscv_matches result.kind section.now offset }
-{
-    if facts.has_got_high_part
-        && is_without_got(facts)
-        && RelaxationKind::LdToAddi.matches(section, offset)
-    {
-        chosen(
-            RelaxationKind::LdToAddi,
-            RiscVRelocation::R_RISCV_PCREL_LO12_I,
-        )
-    } else {
-        chosen(RelaxationKind::NoOp, RiscVRelocation::R_RISCV_PCREL_LO12_I)
-    }
+    let unchanged = Choice {
+        kind: RelaxationKind::NoOp,
+        relocation: name,
+    };
+    first_entry(table, section, offset, facts, unchanged)
 }
 
 /// Which rewrite a linker may make of the instruction or the pair at a relocation's offset, and the
@@ -532,51 +388,7 @@ pub fn choose(
         → FitsClui (sum_64 facts.now.operands.symbol
         (cast_unsigned w64 facts.now.operands.addend)) }
 {
-    let (kind, relocation) = match name {
-        RiscVRelocation::R_RISCV_CALL | RiscVRelocation::R_RISCV_CALL_PLT => {
-            if is_short_tail_call(section, offset, facts) {
-                (RelaxationKind::TailToCJ, RiscVRelocation::R_RISCV_RVC_JUMP)
-            } else if is_near_call(RelaxationKind::TailToJal, section, offset, facts) {
-                (RelaxationKind::TailToJal, RiscVRelocation::R_RISCV_JAL)
-            } else if is_near_call(RelaxationKind::CallToJal, section, offset, facts) {
-                (RelaxationKind::CallToJal, RiscVRelocation::R_RISCV_JAL)
-            } else {
-                (RelaxationKind::NoOp, name)
-            }
-        }
-        RiscVRelocation::R_RISCV_HI20 => {
-            if has_no_high_part(section, offset, facts) {
-                (RelaxationKind::Hi20Delete, RiscVRelocation::R_RISCV_NONE)
-            } else if has_short_high_part(section, offset, facts) {
-                (RelaxationKind::Hi20ToCLui, RiscVRelocation::R_RISCV_RVC_LUI)
-            } else {
-                (RelaxationKind::NoOp, name)
-            }
-        }
-        RiscVRelocation::R_RISCV_RVC_LUI if has_zero_high_part(section, offset, facts) => {
-            (RelaxationKind::CLuiToCLi, RiscVRelocation::R_RISCV_NONE)
-        }
-        RiscVRelocation::R_RISCV_LO12_I | RiscVRelocation::R_RISCV_LO12_S
-            if is_low_part(name, section, offset, facts) => {
-            (RelaxationKind::Lo12Rs1ToZero, name)
-        }
-        RiscVRelocation::R_RISCV_TPREL_LO12_I | RiscVRelocation::R_RISCV_TPREL_LO12_S
-            if is_low_offset(name, section, offset, facts) => { (RelaxationKind::BaseToTp, name) }
-        RiscVRelocation::R_RISCV_TPREL_HI20 => return of_high_offset(section, offset, facts),
-        RiscVRelocation::R_RISCV_TPREL_ADD => return of_sum_with_tp(section, offset, facts),
-        RiscVRelocation::R_RISCV_TLSDESC_HI20 => return of_descriptor_high(section, offset, facts),
-        RiscVRelocation::R_RISCV_TLSDESC_LOAD_LO12 => {
-            return of_descriptor_load(section, offset, facts);
-        }
-        RiscVRelocation::R_RISCV_TLSDESC_ADD_LO12 => {
-            return of_descriptor_sum(section, offset, facts);
-        }
-        RiscVRelocation::R_RISCV_TLSDESC_CALL => return of_descriptor_call(section, offset, facts),
-        RiscVRelocation::R_RISCV_GOT_HI20 => return of_entry_high(section, offset, facts),
-        RiscVRelocation::R_RISCV_PCREL_LO12_I => return of_entry_low(section, offset, facts),
-        _ => (RelaxationKind::NoOp, name),
-    };
-    Choice { kind, relocation }
+    by_table!(name, table => choice_by(table, name, section, offset, facts))
 }
 
 /// With the same facts, all four relocations of a TLS descriptor are rewritten for local-exec, all

@@ -195,7 +195,7 @@ pub(super) fn is_addi_to_a0(word: u32) -> bool
 
 /// `jalr t0, 0(rs1)`, which calls the function of a TLS descriptor.
 #[inline(always)]
-pub(super) fn is_call_of_descriptor(word: u32) -> bool
+fn is_call_of_descriptor(word: u32) -> bool
     ensures { IsTrue result ↔ IsCallOfDescriptor word }
 {
     opcode(word) == 0x67 && function(word) == 0 && destination(word) == 5 && upper_bits(word) == 0

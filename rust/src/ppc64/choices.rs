@@ -85,6 +85,8 @@ const AFTER_CALL: Conditions<Ppc64Relocation> = conditions!(CHANGED_TOC);
 /// An entry of the table.
 pub type Ppc64Entry = ChoiceEntry<OfRewrite, RelaxationKind, Ppc64Relocation>;
 
+type Ppc64Choice = Choice<RelaxationKind, Ppc64Relocation>;
+
 static TOC16_HA: &[Ppc64Entry] = &[entry!(AddisToNop => R_PPC64_NONE, WITHOUT_HIGH_PART)];
 
 static TOC16_LO: &[Ppc64Entry] = &[entry!(BaseToToc => R_PPC64_TOC16, WITHOUT_HIGH_PART)];
@@ -133,29 +135,52 @@ static REL24: &[Ppc64Entry] = &[entry!(NopToRestoreToc => R_PPC64_REL24, AFTER_C
 
 static OTHERS: &[Ppc64Entry] = &[];
 
+/// What a name's table is used for.
+macro_rules! by_table {
+    ($name:expr, $table:ident => $use:expr) => {
+        match $name {
+            Ppc64Relocation::R_PPC64_TOC16_HA => { let $table = TOC16_HA; $use }
+            Ppc64Relocation::R_PPC64_TOC16_LO => { let $table = TOC16_LO; $use }
+            Ppc64Relocation::R_PPC64_TOC16_LO_DS => { let $table = TOC16_LO_DS; $use }
+            Ppc64Relocation::R_PPC64_GOT16_HA => { let $table = GOT16_HA; $use }
+            Ppc64Relocation::R_PPC64_GOT16_LO_DS => { let $table = GOT16_LO_DS; $use }
+            Ppc64Relocation::R_PPC64_GOT_PCREL34 => { let $table = GOT_PCREL34; $use }
+            Ppc64Relocation::R_PPC64_GOT_TPREL16_HA => { let $table = GOT_TPREL16_HA; $use }
+            Ppc64Relocation::R_PPC64_GOT_TPREL16_LO_DS => { let $table = GOT_TPREL16_LO_DS; $use }
+            Ppc64Relocation::R_PPC64_TLS => { let $table = TLS; $use }
+            Ppc64Relocation::R_PPC64_GOT_TLSGD16_HA => { let $table = GOT_TLSGD16_HA; $use }
+            Ppc64Relocation::R_PPC64_GOT_TLSGD16_LO => { let $table = GOT_TLSGD16_LO; $use }
+            Ppc64Relocation::R_PPC64_TLSGD => { let $table = TLSGD; $use }
+            Ppc64Relocation::R_PPC64_GOT_TLSLD16_HA => { let $table = GOT_TLSLD16_HA; $use }
+            Ppc64Relocation::R_PPC64_GOT_TLSLD16_LO => { let $table = GOT_TLSLD16_LO; $use }
+            Ppc64Relocation::R_PPC64_TLSLD => { let $table = TLSLD; $use }
+            Ppc64Relocation::R_PPC64_REL24 => { let $table = REL24; $use }
+            _ => { let $table = OTHERS; $use }
+        }
+    };
+}
+
 /// The entries of a relocation.
 #[must_use]
 #[inline(always)]
 pub fn entries(name: Ppc64Relocation) -> &'static [Ppc64Entry] {
-    match name {
-        Ppc64Relocation::R_PPC64_TOC16_HA => TOC16_HA,
-        Ppc64Relocation::R_PPC64_TOC16_LO => TOC16_LO,
-        Ppc64Relocation::R_PPC64_TOC16_LO_DS => TOC16_LO_DS,
-        Ppc64Relocation::R_PPC64_GOT16_HA => GOT16_HA,
-        Ppc64Relocation::R_PPC64_GOT16_LO_DS => GOT16_LO_DS,
-        Ppc64Relocation::R_PPC64_GOT_PCREL34 => GOT_PCREL34,
-        Ppc64Relocation::R_PPC64_GOT_TPREL16_HA => GOT_TPREL16_HA,
-        Ppc64Relocation::R_PPC64_GOT_TPREL16_LO_DS => GOT_TPREL16_LO_DS,
-        Ppc64Relocation::R_PPC64_TLS => TLS,
-        Ppc64Relocation::R_PPC64_GOT_TLSGD16_HA => GOT_TLSGD16_HA,
-        Ppc64Relocation::R_PPC64_GOT_TLSGD16_LO => GOT_TLSGD16_LO,
-        Ppc64Relocation::R_PPC64_TLSGD => TLSGD,
-        Ppc64Relocation::R_PPC64_GOT_TLSLD16_HA => GOT_TLSLD16_HA,
-        Ppc64Relocation::R_PPC64_GOT_TLSLD16_LO => GOT_TLSLD16_LO,
-        Ppc64Relocation::R_PPC64_TLSLD => TLSLD,
-        Ppc64Relocation::R_PPC64_REL24 => REL24,
-        _ => OTHERS,
-    }
+    by_table!(name, table => table)
+}
+
+/// The choice by a table of a name.
+#[inline(always)]
+fn choice_by(
+    table: &'static [Ppc64Entry],
+    name: Ppc64Relocation,
+    section: &[u8],
+    offset: u64,
+    facts: &LinkFacts,
+) -> Ppc64Choice {
+    let unchanged = Choice {
+        kind: RelaxationKind::NoOp,
+        relocation: name,
+    };
+    first_entry(table, section, offset, facts, unchanged)
 }
 
 /// Which rewrite a linker may make of the instruction at a relocation's offset, and the relocation
@@ -236,11 +261,7 @@ pub fn choose(
     offset: u64,
     facts: &LinkFacts,
 ) -> Choice<RelaxationKind, Ppc64Relocation> {
-    let unchanged = Choice {
-        kind: RelaxationKind::NoOp,
-        relocation: name,
-    };
-    first_entry(entries(name), section, offset, facts, unchanged)
+    by_table!(name, table => choice_by(table, name, section, offset, facts))
 }
 
 /// With the same facts, except that each has its own place, and each at an instruction that its

@@ -73,35 +73,36 @@ pub trait Originals<K> {
     fn stand_at(&self, kind: K, section: &[u8], offset: u64) -> bool;
 }
 
-impl LinkFacts {
-    /// The facts that don't hold, as a mask.
-    #[inline(always)]
-    fn missing(&self) -> u32 {
-        missing_bit(self.is_local && !self.is_ifunc)
-            + missing_bit(self.is_undefined_weak) * WEAK_ZERO
-            + missing_bit(self.has_fixed_address) * FIXED_ADDRESS
-            + missing_bit(self.has_fixed_distance) * FIXED_DISTANCE
-            + missing_bit(self.is_executable) * EXECUTABLE
-            + missing_bit(self.has_local_exec_base) * LOCAL_EXEC_BASE
-            + missing_bit(self.may_compress) * COMPRESSIBLE
-            + missing_bit(self.is_marked) * MARKED
-            + missing_bit(self.is_label_marked) * LABEL_MARKED
-            + missing_bit(self.has_got_high_part) * GOT_HIGH_PART
-            + missing_bit(self.has_private_base) * PRIVATE_BASE
-            + missing_bit(self.may_change_toc) * CHANGED_TOC
-            + missing_bit(self.operands.plt_entry == self.operands.symbol) * WITHOUT_PLT
-    }
+/// Whether a fact holds, if it is asked for.
+#[inline(always)]
+fn is_held(asked: u32, fact: u32, holds: bool) -> bool {
+    asked & fact == 0 || holds
 }
 
-/// 1 for a fact that doesn't hold.
-#[inline(always)]
-fn missing_bit(holds: bool) -> u32 {
-    u32::from(!holds)
+impl LinkFacts {
+    /// Whether the facts of a mask hold.
+    #[inline(always)]
+    fn hold(&self, asked: u32) -> bool {
+        let has_no_plt = self.operands.plt_entry == self.operands.symbol;
+        is_held(asked, BOUND, self.is_local && !self.is_ifunc)
+            & is_held(asked, WEAK_ZERO, self.is_undefined_weak)
+            & is_held(asked, FIXED_ADDRESS, self.has_fixed_address)
+            & is_held(asked, FIXED_DISTANCE, self.has_fixed_distance)
+            & is_held(asked, EXECUTABLE, self.is_executable)
+            & is_held(asked, LOCAL_EXEC_BASE, self.has_local_exec_base)
+            & is_held(asked, COMPRESSIBLE, self.may_compress)
+            & is_held(asked, MARKED, self.is_marked)
+            & is_held(asked, LABEL_MARKED, self.is_label_marked)
+            & is_held(asked, GOT_HIGH_PART, self.has_got_high_part)
+            & is_held(asked, PRIVATE_BASE, self.has_private_base)
+            & is_held(asked, CHANGED_TOC, self.may_change_toc)
+            & is_held(asked, WITHOUT_PLT, has_no_plt)
+    }
 }
 
 impl<R: RelocationName> ValueCondition<R> {
     /// Whether it holds.
-    #[inline]
+    #[inline(always)]
     fn holds(&self, facts: &LinkFacts, after: &Operands) -> bool {
         match *self {
             ValueCondition::Low12 => facts.is_low_12(),
@@ -146,30 +147,53 @@ fn has_addend(addend: Option<i64>, facts: &LinkFacts) -> bool {
 }
 
 impl<O: Originals<K>, K: ChosenKind, R: RelocationName> ChoiceEntry<O, K, R> {
-    /// Whether the conditions of an entry hold, by the facts that are missing.
+    /// Whether its instructions are at an offset of a section, and its conditions hold.
     #[inline(always)]
-    fn conditions_hold(&self, missing: u32, offset: u64, facts: &LinkFacts) -> bool {
+    fn applies(&self, section: &[u8], offset: u64, facts: &LinkFacts) -> bool {
         let conditions = &self.conditions;
-        if conditions.facts & missing != 0 {
+        if !facts.hold(conditions.facts) {
             return false;
         }
         if !has_addend(conditions.addend, facts) {
             return false;
         }
+        if !self.originals.stand_at(self.kind, section, offset) {
+            return false;
+        }
         let after = self.kind.operands_after(offset, &facts.operands);
         all_hold(conditions.values, facts, &after)
     }
-
-    /// Whether its instructions are at an offset of a section, and its conditions hold.
-    #[inline(always)]
-    fn applies(&self, missing: u32, section: &[u8], offset: u64, facts: &LinkFacts) -> bool {
-        self.conditions_hold(missing, offset, facts)
-            && self.originals.stand_at(self.kind, section, offset)
-    }
 }
 
-/// The choice of the first entry that applies, and else another.
+/// The choice of the entry with an index, if there is one and it applies.
+#[inline(always)]
+fn choice_at<O: Originals<K>, K: ChosenKind, R: RelocationName>(
+    entries: &'static [ChoiceEntry<O, K, R>],
+    index: usize,
+    section: &[u8],
+    offset: u64,
+    facts: &LinkFacts,
+) -> Option<Choice<K, R>> {
+    if index < entries.len() {
+        let entry = &entries[index];
+        if entry.applies(section, offset, facts) {
+            return Some(Choice {
+                kind: entry.kind,
+                relocation: entry.relocation,
+            });
+        }
+    }
+    None
+}
+
+/// The choice of the first entry that applies, and else another. Of a constant table the compiler
+/// leaves the tests that its entries ask for: so it is inlined, and has no loop.
+///
+/// # Requires
+///
+/// - `entries.len() <= 5`
 #[must_use]
+#[cfg_attr(debug_assertions, track_caller)]
 #[inline(always)]
 pub fn first_entry<O: Originals<K>, K: ChosenKind, R: RelocationName>(
     entries: &'static [ChoiceEntry<O, K, R>],
@@ -178,14 +202,21 @@ pub fn first_entry<O: Originals<K>, K: ChosenKind, R: RelocationName>(
     facts: &LinkFacts,
     otherwise: Choice<K, R>,
 ) -> Choice<K, R> {
-    let missing = facts.missing();
-    for entry in entries {
-        if entry.applies(missing, section, offset, facts) {
-            return Choice {
-                kind: entry.kind,
-                relocation: entry.relocation,
-            };
-        }
+    debug_assert!(entries.len() <= 5);
+    if let Some(chosen) = choice_at(entries, 0, section, offset, facts) {
+        return chosen;
+    }
+    if let Some(chosen) = choice_at(entries, 1, section, offset, facts) {
+        return chosen;
+    }
+    if let Some(chosen) = choice_at(entries, 2, section, offset, facts) {
+        return chosen;
+    }
+    if let Some(chosen) = choice_at(entries, 3, section, offset, facts) {
+        return chosen;
+    }
+    if let Some(chosen) = choice_at(entries, 4, section, offset, facts) {
+        return chosen;
     }
     otherwise
 }

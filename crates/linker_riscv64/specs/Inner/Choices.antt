@@ -1,0 +1,17 @@
+-- The instructions that the entries of RISC-V's tables of choices are for.
+use Rattle.std.specs.Prelude.{ℕ, List}
+use Rattle.linker_elf.specs.Originals.{HasWord}
+use Rattle.linker_riscv64.specs.RiscVOriginals.{riscv_matches, IsLui, IsAuipc, IsLd, IsAddTp}
+use Rattle.linker_riscv64.specs.RiscVOriginals.{IsAddiToA0}
+use Rattle.linker_riscv64.specs.declared.choices.Original.{Original}
+use Rattle.linker_riscv64.specs.declared.choices.Original.TheVariants as originals
+use Rattle.linker_riscv64.specs.declared.rewrites.RelaxationKind.{RelaxationKind}
+
+-- what an entry with a rewrite is for is at an offset of a section
+abbrev pub IsThere : Original → RelaxationKind → List ℕ → ℕ → Type 0
+IsThere originals.OfRewrite kind section o = riscv_matches kind section o
+IsThere originals.Lui kind section o = HasWord section o IsLui
+IsThere originals.AddTp kind section o = HasWord section o IsAddTp
+IsThere originals.Auipc kind section o = HasWord section o IsAuipc
+IsThere originals.Ld kind section o = HasWord section o IsLd
+IsThere originals.AddiToA0 kind section o = HasWord section o IsAddiToA0
