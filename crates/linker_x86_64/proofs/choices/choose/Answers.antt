@@ -1,8 +1,16 @@
-use Rattle.std.proofs.Common.{sym, subst, ◌-◌, slice_index}
+use Rattle.std.proofs.Common.{◌≡◌, ◌-◌, slice_index, subst}
 use Rattle.linker_x86_64.specs.X86Choices.{IsByTable, x86_64_table}
+use Rattle.linker_x86_64.proofs.X86Choices.{chosen, chosen_matches}
 use Rattle.linker_x86_64.proofs.choices.choose.Goals as goal
 
-pub returns-in-R_X86_64_TLSGD-clause-chosen : goal.returns-in-R_X86_64_TLSGD-clause-chosen
-returns-in-R_X86_64_TLSGD-clause-chosen c =
-    subst (λ name. IsByTable (x86_64_table name (slice_index c.args.section.now (c.args.offset - 2))) c.args.name c.args.section.now c.args.offset c.args.facts.now c.choose_for_general_dynamic.result)
-    (sym c.in-R_X86_64_TLSGD.is) c.choose_for_general_dynamic.ensures
+pub returns-clause-chosen : goal.returns-clause-chosen
+returns-clause-chosen c =
+    subst (λ opcode. IsByTable (x86_64_table c.args.name opcode) c.args.name c.args.section.now c.args.offset c.args.facts.now c.first_entry.result)
+    c.opcode_before-opcode.ensures
+    (chosen (x86_64_table c.args.name c.opcode_before-opcode.result) c.args.name c.args.section.now c.args.offset c.args.facts.now c.entries.result.now
+    c.first_entry.result c.entries.ensures c.first_entry.ensures)
+
+pub returns-clause-matches : goal.returns-clause-matches
+returns-clause-matches c =
+    chosen_matches (x86_64_table c.args.name (slice_index c.args.section.now (c.args.offset - 2))) c.args.name c.args.section.now c.args.offset
+    c.args.facts.now c.first_entry.result (returns-clause-chosen c)
