@@ -11,12 +11,12 @@ use Rattle.linker_elf.specs.declared.x86_64.relocations.X86_64Relocation.{X86_64
 use Rattle.linker_x86_64.specs.Inner.X86Tables.{StandAt}
 use Rattle.linker_x86_64.specs.X86Choices.{Table, IsAskedFor, IsByTable, x86_64_after}
 use Rattle.linker_x86_64.specs.X86Originals.{x86_64_matches}
-use Rattle.linker_x86_64.specs.declared.choices.X86Originals.{X86Originals}
+use Rattle.linker_x86_64.specs.declared.choices.AskedFor.{AskedFor}
 use Rattle.linker_x86_64.specs.declared.rewrites.RelaxationKind.{RelaxationKind}
 use Rattle.linker_x86_64.specs.declared.rewrites.RelaxationKind.TheVariants as kinds
 
 pub chosen : (t : Table) (name : X86_64Relocation) (section : List ℕ) (o : ℕ) (facts : LinkFacts)
-    → (es : List (ChoiceEntry X86Originals RelaxationKind X86_64Relocation)) (c : Choice RelaxationKind X86_64Relocation)
+    → (es : List (ChoiceEntry AskedFor RelaxationKind X86_64Relocation)) (c : Choice RelaxationKind X86_64Relocation)
     → IsTableOf StandAt (IsAskedFor t.instructions) es t.entries
     → IsFirstOf (EntryApplies StandAt x86_64_row x86_64_after section o facts) es (choice kinds.NoOp name) c
     → IsByTable t name section o facts c

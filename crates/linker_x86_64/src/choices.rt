@@ -1,6 +1,6 @@
 //! Which rewrite is chosen for a relocation of x86-64.
 
-ghost use Rattle.std.specs.Prelude.{◌-◌, ◌≡◌, slice_index};
+ghost use Rattle.std.specs.Prelude.{◌-◌, ◌≡◌, ◌≤◌, length, slice_index};
 ghost use Rattle.linker_elf.specs.Inner.ChoiceTables.{IsTableOf};
 ghost use Rattle.linker_x86_64.specs.Inner.X86Tables.{StandAt};
 ghost use Rattle.linker_x86_64.specs.X86Choices.{IsX86Choice, IsAskedFor, x86_64_after, x86_64_table};
@@ -15,7 +15,7 @@ use linker_elf::elf::choice_table::{
 use linker_elf::elf::{Choice, LinkFacts, Operands};
 
 /// The instructions that an entry is for.
-pub enum X86Originals {
+pub enum AskedFor {
     /// Those that its rewrite is for.
     OfRewrite,
     /// Of them those with an operand relative to the instruction pointer, so many bytes before the
@@ -25,15 +25,15 @@ pub enum X86Originals {
     LeaOfDescriptor(u8),
 }
 
-impl Originals<RelaxationKind> for X86Originals {
+impl Originals<RelaxationKind> for AskedFor {
     ghost are_at = { StandAt };
 
     #[inline(always)]
     fn stand_at(&self, kind: RelaxationKind, section: &[u8], offset: u64) -> bool {
         let are_asked = match *self {
-            X86Originals::OfRewrite => true,
-            X86Originals::Legacy(n, opcode) => is_legacy(section, offset, n, opcode),
-            X86Originals::LeaOfDescriptor(n) => is_lea_of_descriptor(section, offset, n),
+            AskedFor::OfRewrite => true,
+            AskedFor::Legacy(n, opcode) => is_legacy(section, offset, n, opcode),
+            AskedFor::LeaOfDescriptor(n) => is_lea_of_descriptor(section, offset, n),
         };
         are_asked && kind.matches(section, offset)
     }
@@ -120,7 +120,7 @@ macro_rules! entry {
         $originals:ident $(($($argument:expr),*))?
     ) => {
         ChoiceEntry {
-            originals: X86Originals::$originals $(($($argument),*))?,
+            originals: AskedFor::$originals $(($($argument),*))?,
             kind: RelaxationKind::$kind $(($n))?,
             relocation: X86_64Relocation::$relocation,
             conditions: $conditions,
@@ -162,7 +162,10 @@ const FROM_THREAD_POINTER_32: Conditions<X86_64Relocation> =
 const FROM_THREAD_POINTER_64: Conditions<X86_64Relocation> =
     conditions!(EXECUTABLE + LOCAL_EXEC_BASE, None, InReachIfKnown R_X86_64_TPOFF64);
 
-type X86Entry = ChoiceEntry<X86Originals, RelaxationKind, X86_64Relocation>;
+/// An entry of the table.
+pub type X86Entry = ChoiceEntry<AskedFor, RelaxationKind, X86_64Relocation>;
+
+type X86Choice = Choice<RelaxationKind, X86_64Relocation>;
 
 static BRANCH: &[X86Entry] = &[
     entry!(CallIndirectToRelative => R_X86_64_PC32, DISTANCE),
@@ -268,25 +271,6 @@ static GOT_5: [&[X86Entry]; 10] = operations!(5, RexMovIndirectToAbsolute(5) => 
 
 static GOT_6: [&[X86Entry]; 10] = operations!(6, RexMovIndirectToAbsolute(6) => R_X86_64_32S);
 
-/// The entries of an operation, by its opcode.
-macro_rules! of_opcode {
-    ($operations:ident, $opcode:expr) => {
-        match $opcode {
-            0x8b => $operations[0],
-            0x03 => $operations[1],
-            0x2b => $operations[2],
-            0x3b => $operations[3],
-            0x13 => $operations[4],
-            0x23 => $operations[5],
-            0x0b => $operations[6],
-            0x1b => $operations[7],
-            0x33 => $operations[8],
-            0x85 => $operations[9],
-            _ => OTHERS,
-        }
-    };
-}
-
 /// The entries of initial-exec accesses, by the count of the bytes before the field.
 macro_rules! accesses {
     ($n:literal) => {
@@ -305,45 +289,126 @@ static GOTTPOFF_5: [&[X86Entry]; 2] = accesses!(5);
 
 static GOTTPOFF_6: [&[X86Entry]; 2] = accesses!(6);
 
-/// The entries of an access, by its opcode.
-macro_rules! of_access {
-    ($accesses:ident, $opcode:expr) => {
+/// What the table of an operation is used for, by its opcode.
+macro_rules! by_operation {
+    ($operations:ident, $opcode:expr, $table:ident => $use:expr) => {
         match $opcode {
-            0x8b => $accesses[0],
-            0x03 => $accesses[1],
-            _ => OTHERS,
+            0x8b => { let $table = $operations[0]; $use }
+            0x03 => { let $table = $operations[1]; $use }
+            0x2b => { let $table = $operations[2]; $use }
+            0x3b => { let $table = $operations[3]; $use }
+            0x13 => { let $table = $operations[4]; $use }
+            0x23 => { let $table = $operations[5]; $use }
+            0x0b => { let $table = $operations[6]; $use }
+            0x1b => { let $table = $operations[7]; $use }
+            0x33 => { let $table = $operations[8]; $use }
+            0x85 => { let $table = $operations[9]; $use }
+            _ => { let $table = OTHERS; $use }
+        }
+    };
+}
+
+/// The same of an initial-exec access.
+macro_rules! by_access {
+    ($accesses:ident, $opcode:expr, $table:ident => $use:expr) => {
+        match $opcode {
+            0x8b => { let $table = $accesses[0]; $use }
+            0x03 => { let $table = $accesses[1]; $use }
+            _ => { let $table = OTHERS; $use }
+        }
+    };
+}
+
+/// What the table of a name and an opcode is used for.
+macro_rules! by_table {
+    ($name:expr, $opcode:expr, $table:ident => $use:expr) => {
+        match $name {
+            X86_64Relocation::R_X86_64_GOTPCRELX if $opcode == 0xff => {
+                let $table = BRANCH;
+                $use
+            }
+            X86_64Relocation::R_X86_64_GOTPCRELX => {
+                by_operation!(GOT_2, $opcode, $table => $use)
+            }
+            X86_64Relocation::R_X86_64_REX_GOTPCRELX => {
+                by_operation!(GOT_3, $opcode, $table => $use)
+            }
+            X86_64Relocation::R_X86_64_CODE_4_GOTPCRELX => {
+                by_operation!(GOT_4, $opcode, $table => $use)
+            }
+            X86_64Relocation::R_X86_64_CODE_5_GOTPCRELX => {
+                by_operation!(GOT_5, $opcode, $table => $use)
+            }
+            X86_64Relocation::R_X86_64_CODE_6_GOTPCRELX => {
+                by_operation!(GOT_6, $opcode, $table => $use)
+            }
+            X86_64Relocation::R_X86_64_GOTTPOFF => {
+                by_access!(GOTTPOFF_3, $opcode, $table => $use)
+            }
+            X86_64Relocation::R_X86_64_CODE_4_GOTTPOFF => {
+                by_access!(GOTTPOFF_4, $opcode, $table => $use)
+            }
+            X86_64Relocation::R_X86_64_CODE_5_GOTTPOFF => {
+                by_access!(GOTTPOFF_5, $opcode, $table => $use)
+            }
+            X86_64Relocation::R_X86_64_CODE_6_GOTTPOFF => {
+                by_access!(GOTTPOFF_6, $opcode, $table => $use)
+            }
+            X86_64Relocation::R_X86_64_TLSGD => { let $table = TLSGD; $use }
+            X86_64Relocation::R_X86_64_TLSLD => { let $table = TLSLD; $use }
+            X86_64Relocation::R_X86_64_DTPOFF32 => { let $table = DTPOFF32; $use }
+            X86_64Relocation::R_X86_64_DTPOFF64 => { let $table = DTPOFF64; $use }
+            X86_64Relocation::R_X86_64_GOTPC32_TLSDESC => { let $table = DESCRIPTOR_3; $use }
+            X86_64Relocation::R_X86_64_CODE_4_GOTPC32_TLSDESC => {
+                let $table = DESCRIPTOR_4;
+                $use
+            }
+            X86_64Relocation::R_X86_64_CODE_5_GOTPC32_TLSDESC => {
+                let $table = DESCRIPTOR_5;
+                $use
+            }
+            X86_64Relocation::R_X86_64_CODE_6_GOTPC32_TLSDESC => {
+                let $table = DESCRIPTOR_6;
+                $use
+            }
+            X86_64Relocation::R_X86_64_TLSDESC_CALL => { let $table = TLSDESC_CALL; $use }
+            _ => { let $table = OTHERS; $use }
         }
     };
 }
 
 /// The entries of a relocation, by the opcode, which is two bytes before the field.
 #[inline(always)]
-fn entries(name: X86_64Relocation, opcode: u8) -> &'static [X86Entry]
-    ensures { IsTableOf StandAt (IsAskedFor (x86_64_table name opcode).instructions) result.now
-        (x86_64_table name opcode).entries }
+pub fn entries(name: X86_64Relocation, opcode: u8) -> &'static [X86Entry]
+    ensures table { IsTableOf StandAt (IsAskedFor (x86_64_table name opcode).instructions)
+        result.now (x86_64_table name opcode).entries }
+    ensures few { length result.now ≤ 5 }
 {
-    match name {
-        X86_64Relocation::R_X86_64_GOTPCRELX if opcode == 0xff => BRANCH,
-        X86_64Relocation::R_X86_64_GOTPCRELX => of_opcode!(GOT_2, opcode),
-        X86_64Relocation::R_X86_64_REX_GOTPCRELX => of_opcode!(GOT_3, opcode),
-        X86_64Relocation::R_X86_64_CODE_4_GOTPCRELX => of_opcode!(GOT_4, opcode),
-        X86_64Relocation::R_X86_64_CODE_5_GOTPCRELX => of_opcode!(GOT_5, opcode),
-        X86_64Relocation::R_X86_64_CODE_6_GOTPCRELX => of_opcode!(GOT_6, opcode),
-        X86_64Relocation::R_X86_64_GOTTPOFF => of_access!(GOTTPOFF_3, opcode),
-        X86_64Relocation::R_X86_64_CODE_4_GOTTPOFF => of_access!(GOTTPOFF_4, opcode),
-        X86_64Relocation::R_X86_64_CODE_5_GOTTPOFF => of_access!(GOTTPOFF_5, opcode),
-        X86_64Relocation::R_X86_64_CODE_6_GOTTPOFF => of_access!(GOTTPOFF_6, opcode),
-        X86_64Relocation::R_X86_64_TLSGD => TLSGD,
-        X86_64Relocation::R_X86_64_TLSLD => TLSLD,
-        X86_64Relocation::R_X86_64_DTPOFF32 => DTPOFF32,
-        X86_64Relocation::R_X86_64_DTPOFF64 => DTPOFF64,
-        X86_64Relocation::R_X86_64_GOTPC32_TLSDESC => DESCRIPTOR_3,
-        X86_64Relocation::R_X86_64_CODE_4_GOTPC32_TLSDESC => DESCRIPTOR_4,
-        X86_64Relocation::R_X86_64_CODE_5_GOTPC32_TLSDESC => DESCRIPTOR_5,
-        X86_64Relocation::R_X86_64_CODE_6_GOTPC32_TLSDESC => DESCRIPTOR_6,
-        X86_64Relocation::R_X86_64_TLSDESC_CALL => TLSDESC_CALL,
-        _ => OTHERS,
-    }
+    by_table!(name, opcode, table => table)
+}
+
+/// The choice by a table of a name and an opcode.
+#[inline(always)]
+fn choice_by(
+    table: &'static [X86Entry],
+    name: X86_64Relocation,
+    opcode: u8,
+    section: &[u8],
+    offset: u64,
+    facts: &LinkFacts,
+) -> X86Choice
+    requires table { IsTableOf StandAt (IsAskedFor (x86_64_table name opcode).instructions)
+        table.now (x86_64_table name opcode).entries }
+    requires few { length table.now ≤ 5 }
+    requires opcode { opcode ≡ slice_index section.now (offset - 2) }
+    ensures chosen { IsX86Choice name section.now offset facts.now result }
+    ensures matches { x86_64_matches result.kind section.now offset }
+{
+    let unchanged = Choice {
+        kind: RelaxationKind::NoOp,
+        relocation: name,
+    };
+    first_entry(table, section, offset, facts, unchanged)
 }
 
 /// The byte two before an offset, which is the opcode of an instruction whose field is there.
@@ -416,10 +481,6 @@ pub fn choose(
     ensures chosen { IsX86Choice name section.now offset facts.now result }
     ensures matches { x86_64_matches result.kind section.now offset }
 {
-    let unchanged = Choice {
-        kind: RelaxationKind::NoOp,
-        relocation: name,
-    };
     let opcode = opcode_before(section, offset);
-    first_entry(entries(name, opcode), section, offset, facts, unchanged)
+    by_table!(name, opcode, table => choice_by(table, name, opcode, section, offset, facts))
 }
