@@ -1,18 +1,33 @@
 -- What is chosen on x86-64 matches.
-use Rattle.std.proofs.Common.{ℕ, List, [], ◌∷◌, inl, inr, sym, subst, rules}
-use Rattle.linker_elf.specs.Choices.{IsFirst, choice}
-use Rattle.linker_x86_64.specs.X86Choices.{X86Entry, Table, IsByTable}
-use Rattle.linker_x86_64.specs.X86Originals.{x86_64_matches}
+use Rattle.std.proofs.Common.{ℕ, List, rules}
+use Rattle.linker_elf.specs.Choices.{Applies, choice}
+use Rattle.linker_elf.specs.Inner.ChoiceTables.{IsTableOf, IsFirstOf, EntryApplies}
+use Rattle.linker_elf.proofs.ChoiceTables.{first_of_table, holds_of_first}
+use Rattle.linker_elf.specs.X86Relocations.{x86_64_row}
 use Rattle.linker_elf.specs.declared.elf.choice.Choice.{Choice}
 use Rattle.linker_elf.specs.declared.elf.choice.LinkFacts.{LinkFacts}
+use Rattle.linker_elf.specs.declared.elf.choice_table.ChoiceEntry.{ChoiceEntry}
 use Rattle.linker_elf.specs.declared.x86_64.relocations.X86_64Relocation.{X86_64Relocation}
+use Rattle.linker_x86_64.specs.Inner.X86Tables.{StandAt}
+use Rattle.linker_x86_64.specs.X86Choices.{Table, IsAskedFor, IsByTable, x86_64_after}
+use Rattle.linker_x86_64.specs.X86Originals.{x86_64_matches}
+use Rattle.linker_x86_64.specs.declared.choices.AskedFor.{AskedFor}
 use Rattle.linker_x86_64.specs.declared.rewrites.RelaxationKind.{RelaxationKind}
 use Rattle.linker_x86_64.specs.declared.rewrites.RelaxationKind.TheVariants as kinds
 
-first_matches : (Applies : X86Entry → Type 0) (s : List ℕ) (o : ℕ) → ((e : X86Entry) → Applies e → x86_64_matches e.kind s o) → (es : List X86Entry) (name : X86_64Relocation) (chosen : Choice RelaxationKind X86_64Relocation) → IsFirst Applies es (choice kinds.NoOp name) chosen → x86_64_matches chosen.kind s o
-first_matches Applies s o matches [] name chosen is = subst (λ c. x86_64_matches c.kind s o) (sym is) (search rules)
-first_matches Applies s o matches (e ∷ es) name chosen (inl this) = subst (λ c. x86_64_matches c.kind s o) (sym this.1) (matches e this.0)
-first_matches Applies s o matches (e ∷ es) name chosen (inr other) = first_matches Applies s o matches es name chosen other.1
+pub chosen : (t : Table) (name : X86_64Relocation) (section : List ℕ) (o : ℕ) (facts : LinkFacts)
+    → (es : List (ChoiceEntry AskedFor RelaxationKind X86_64Relocation)) (c : Choice RelaxationKind X86_64Relocation)
+    → IsTableOf StandAt (IsAskedFor t.instructions) es t.entries
+    → IsFirstOf (EntryApplies StandAt x86_64_row x86_64_after section o facts) es (choice kinds.NoOp name) c
+    → IsByTable t name section o facts c
+chosen t name section o facts es c =
+    first_of_table StandAt (IsAskedFor t.instructions) x86_64_row x86_64_after section o facts es t.entries (choice kinds.NoOp name) c
 
-pub chosen_matches : (t : Table) (name : X86_64Relocation) (s : List ℕ) (o : ℕ) (facts : LinkFacts) (chosen : Choice RelaxationKind X86_64Relocation) → IsByTable t name s o facts chosen → x86_64_matches chosen.kind s o
-chosen_matches t name s o facts chosen is = first_matches _ s o (λ e applies. applies.1.0) t.entries name chosen is
+no_op_matches : (section : List ℕ) (o : ℕ) → x86_64_matches kinds.NoOp section o
+no_op_matches section o = search rules
+
+pub chosen_matches : (t : Table) (name : X86_64Relocation) (section : List ℕ) (o : ℕ) (facts : LinkFacts) (c : Choice RelaxationKind X86_64Relocation)
+    → IsByTable t name section o facts c → x86_64_matches c.kind section o
+chosen_matches t name section o facts c =
+    holds_of_first (Applies (IsAskedFor t.instructions) x86_64_row x86_64_after section o facts) (λ x. x86_64_matches x.kind section o) t.entries (choice kinds.NoOp name) c
+    (λ e a. a.0.1) (no_op_matches section o)

@@ -3,7 +3,7 @@
 use Rattle.std.specs.Prelude.{ℕ, ◌-◌, ◌==◌, if◌then◌else◌, IsTrue, List, [], ◌∷◌, ◌++◌, slice_index}
 use Rattle.std.specs.Prelude.{pos, neg_ℤ}
 use Rattle.linker_elf.specs.Choices.{Condition, Entry, entry, choice, operands_after}
-use Rattle.linker_elf.specs.Choices.{AllHold, IsFirst}
+use Rattle.linker_elf.specs.Choices.{Applies, IsFirst}
 use Rattle.linker_elf.specs.Choices.{bound, weak_zero, fixed_address, fixed_distance, executable}
 use Rattle.linker_elf.specs.Choices.{local_exec_base, addend, in_reach, in_reach_if_known}
 use Rattle.linker_x86_64.specs.X86.{x86_64_rewrite}
@@ -13,6 +13,7 @@ use Rattle.linker_elf.specs.X86Relocations.{x86_64_row}
 use Rattle.linker_x86_64.specs.X86RelocationsAfter.{immediate_of}
 use Rattle.linker_elf.specs.declared.elf.choice.Choice.{Choice}
 use Rattle.linker_elf.specs.declared.elf.choice.LinkFacts.{LinkFacts}
+use Rattle.linker_elf.specs.declared.elf.value.Operands.{Operands}
 use Rattle.linker_elf.specs.declared.x86_64.relocations.X86_64Relocation.{X86_64Relocation}
 use Rattle.linker_elf.specs.declared.x86_64.relocations.X86_64Relocation.TheVariants as r
 use Rattle.linker_x86_64.specs.declared.rewrites.RelaxationKind.{RelaxationKind}
@@ -46,7 +47,7 @@ distance_by kind =
 abbrev pub local_exec_by : RelaxationKind → X86Entry
 local_exec_by kind =
     entry kind r.R_X86_64_TPOFF32
-    (executable ∷ bound ∷ from_end_of_field ∷ in_reach_if_known r.R_X86_64_TPOFF32 0 ∷ [])
+    (bound ∷ executable ∷ from_end_of_field ∷ in_reach_if_known r.R_X86_64_TPOFF32 0 ∷ [])
 
 abbrev pub initial_exec_by : RelaxationKind → X86Entry
 initial_exec_by kind =
@@ -162,19 +163,19 @@ x86_64_table name opcode = any_entry []
 
 -- ---- the choice
 
--- An entry applies: its rewrite matches, and its conditions hold.
-abbrev pub X86Applies : List ℕ → ℕ → LinkFacts → X86Entry → Type 0
-X86Applies section o facts e =
-    x86_64_matches e.kind section o
-    × AllHold x86_64_row (operands_after (x86_64_rewrite e.kind) o facts.operands) facts
-    e.conditions
+-- What is asked for with a rewrite: one of some instructions is there, and the rewrite matches.
+abbrev pub IsAskedFor : List Original → RelaxationKind → List ℕ → ℕ → Type 0
+IsAskedFor instructions kind section o =
+    IsTrue (is_one_at instructions section o) × x86_64_matches kind section o
+
+abbrev pub x86_64_after : RelaxationKind → ℕ → Operands → Operands
+x86_64_after kind = operands_after (x86_64_rewrite kind)
 
 abbrev pub IsByTable : Table → X86_64Relocation → List ℕ → ℕ → LinkFacts
     → Choice RelaxationKind X86_64Relocation → Type 0
 IsByTable t name section o facts chosen =
-    IsFirst
-    (λ e. IsTrue (is_one_at t.instructions section o) × X86Applies section o facts e)
-    t.entries (choice kinds.NoOp name) chosen
+    IsFirst (Applies (IsAskedFor t.instructions) x86_64_row x86_64_after section o facts) t.entries
+    (choice kinds.NoOp name) chosen
 
 abbrev pub IsX86Choice : X86_64Relocation → List ℕ → ℕ → LinkFacts
     → Choice RelaxationKind X86_64Relocation → Type 0
