@@ -145,7 +145,8 @@ const TO_LOCAL_EXEC: Conditions<AArch64Relocation> =
 /// The address of the symbol is 0.
 const TO_NEXT: Conditions<AArch64Relocation> = conditions!(WEAK_ZERO);
 
-type AArch64Entry = ChoiceEntry<Original, RelaxationKind, AArch64Relocation>;
+/// An entry of the table.
+pub type AArch64Entry = ChoiceEntry<Original, RelaxationKind, AArch64Relocation>;
 
 static ADR_GOT_PAGE: &[AArch64Entry] = &[
     entry!(AdrpOfPair: NoOp => R_AARCH64_ADR_PREL_PG_HI21, to_address!(0)),
@@ -193,23 +194,47 @@ static JUMP26: &[AArch64Entry] = &[entry!(B: ReplaceWithNop => R_AARCH64_NONE, T
 
 static OTHERS: &[AArch64Entry] = &[];
 
+/// What the table of a name is used for.
+macro_rules! by_table {
+    ($name:expr, $table:ident => $use:expr) => {
+        match $name {
+            AArch64Relocation::R_AARCH64_ADR_GOT_PAGE => { let $table = ADR_GOT_PAGE; $use }
+            AArch64Relocation::R_AARCH64_LD64_GOT_LO12_NC => { let $table = LD64_GOT_LO12_NC; $use }
+            AArch64Relocation::R_AARCH64_ADD_ABS_LO12_NC => { let $table = ADD_ABS_LO12_NC; $use }
+            AArch64Relocation::R_AARCH64_TLSIE_ADR_GOTTPREL_PAGE21 => { let $table = TLSIE_ADR_GOTTPREL_PAGE21; $use }
+            AArch64Relocation::R_AARCH64_TLSIE_LD64_GOTTPREL_LO12_NC => { let $table = TLSIE_LD64_GOTTPREL_LO12_NC; $use }
+            AArch64Relocation::R_AARCH64_TLSDESC_ADR_PAGE21 => { let $table = TLSDESC_ADR_PAGE21; $use }
+            AArch64Relocation::R_AARCH64_TLSDESC_LD64_LO12 => { let $table = TLSDESC_LD64_LO12; $use }
+            AArch64Relocation::R_AARCH64_TLSDESC_ADD_LO12 => { let $table = TLSDESC_ADD_LO12; $use }
+            AArch64Relocation::R_AARCH64_TLSDESC_CALL => { let $table = TLSDESC_CALL; $use }
+            AArch64Relocation::R_AARCH64_CALL26 => { let $table = CALL26; $use }
+            AArch64Relocation::R_AARCH64_JUMP26 => { let $table = JUMP26; $use }
+            _ => { let $table = OTHERS; $use }
+        }
+    };
+}
+
 /// The entries of a relocation.
+#[must_use]
 #[inline(always)]
-fn entries(name: AArch64Relocation) -> &'static [AArch64Entry] {
-    match name {
-        AArch64Relocation::R_AARCH64_ADR_GOT_PAGE => ADR_GOT_PAGE,
-        AArch64Relocation::R_AARCH64_LD64_GOT_LO12_NC => LD64_GOT_LO12_NC,
-        AArch64Relocation::R_AARCH64_ADD_ABS_LO12_NC => ADD_ABS_LO12_NC,
-        AArch64Relocation::R_AARCH64_TLSIE_ADR_GOTTPREL_PAGE21 => TLSIE_ADR_GOTTPREL_PAGE21,
-        AArch64Relocation::R_AARCH64_TLSIE_LD64_GOTTPREL_LO12_NC => TLSIE_LD64_GOTTPREL_LO12_NC,
-        AArch64Relocation::R_AARCH64_TLSDESC_ADR_PAGE21 => TLSDESC_ADR_PAGE21,
-        AArch64Relocation::R_AARCH64_TLSDESC_LD64_LO12 => TLSDESC_LD64_LO12,
-        AArch64Relocation::R_AARCH64_TLSDESC_ADD_LO12 => TLSDESC_ADD_LO12,
-        AArch64Relocation::R_AARCH64_TLSDESC_CALL => TLSDESC_CALL,
-        AArch64Relocation::R_AARCH64_CALL26 => CALL26,
-        AArch64Relocation::R_AARCH64_JUMP26 => JUMP26,
-        _ => OTHERS,
-    }
+pub fn entries(name: AArch64Relocation) -> &'static [AArch64Entry] {
+    by_table!(name, table => table)
+}
+
+/// The choice by the table of a name.
+#[inline(always)]
+fn choice_by(
+    table: &'static [AArch64Entry],
+    name: AArch64Relocation,
+    section: &[u8],
+    offset: u64,
+    facts: &LinkFacts,
+) -> Choice<RelaxationKind, AArch64Relocation> {
+    let unchanged = Choice {
+        kind: RelaxationKind::NoOp,
+        relocation: name,
+    };
+    first_entry(table, section, offset, facts, unchanged)
 }
 
 /// The rewrite that a linker chooses for a relocation at an offset of a section, and the relocation
@@ -280,11 +305,7 @@ pub fn choose(
     offset: u64,
     facts: &LinkFacts,
 ) -> Choice<RelaxationKind, AArch64Relocation> {
-    let unchanged = Choice {
-        kind: RelaxationKind::NoOp,
-        relocation: name,
-    };
-    first_entry(entries(name), section, offset, facts, unchanged)
+    by_table!(name, table => choice_by(table, name, section, offset, facts))
 }
 
 /// With the same facts, except that each has its own place, both relocations of a load of a GOT

@@ -1,103 +1,15 @@
 // Made by tools/erase of crates/linker_recognise/src/aarch64.rt.
 //! What a linker made of a relocation of AArch64.
 
-use crate::linker_recognise::candidates::{CANDIDATES, one, three, two};
+use crate::linker_recognise::candidates::{CANDIDATES, candidates};
 use crate::linker_recognise::engine::{Kind, Made, Name, recognise_among, recognise_one};
 use crate::linker_recognise::fields::FieldBits;
-use crate::aarch64::{AArch64Relocation, RelaxationKind, choose, row};
+use crate::aarch64::{AArch64Relocation, RelaxationKind, choose, entries, row};
 use crate::architecture::Relaxation;
 use crate::elf::{Choice, LinkFacts, Row};
 use crate::riscv64::DeletedBytes;
 
-type AArch64Choice = Choice<RelaxationKind, AArch64Relocation>;
-
 type AArch64Made = Made<RelaxationKind, AArch64Relocation>;
-
-#[inline(always)]
-fn choice(kind: RelaxationKind, relocation: AArch64Relocation) -> AArch64Choice {
-    Choice { kind, relocation }
-}
-
-/// The choices of a relocation.
-fn candidates(name: AArch64Relocation) -> [Option<AArch64Choice>; CANDIDATES] {
-    let unchanged = choice(RelaxationKind::NoOp, name);
-    match name {
-        AArch64Relocation::R_AARCH64_ADR_GOT_PAGE => two(
-            choice(
-                RelaxationKind::NoOp,
-                AArch64Relocation::R_AARCH64_ADR_PREL_PG_HI21,
-            ),
-            unchanged,
-        ),
-        AArch64Relocation::R_AARCH64_LD64_GOT_LO12_NC => two(
-            choice(
-                RelaxationKind::LdrToAdd,
-                AArch64Relocation::R_AARCH64_ADD_ABS_LO12_NC,
-            ),
-            unchanged,
-        ),
-        AArch64Relocation::R_AARCH64_ADD_ABS_LO12_NC => two(
-            choice(
-                RelaxationKind::AdrpAddToNopAdr,
-                AArch64Relocation::R_AARCH64_ADR_PREL_LO21,
-            ),
-            unchanged,
-        ),
-        AArch64Relocation::R_AARCH64_TLSIE_ADR_GOTTPREL_PAGE21 => two(
-            choice(
-                RelaxationKind::MovzXnLsl16,
-                AArch64Relocation::R_AARCH64_TLSLE_MOVW_TPREL_G1,
-            ),
-            unchanged,
-        ),
-        AArch64Relocation::R_AARCH64_TLSIE_LD64_GOTTPREL_LO12_NC => two(
-            choice(
-                RelaxationKind::MovkXn,
-                AArch64Relocation::R_AARCH64_TLSLE_MOVW_TPREL_G0_NC,
-            ),
-            unchanged,
-        ),
-        AArch64Relocation::R_AARCH64_TLSDESC_ADR_PAGE21 => three(
-            choice(
-                RelaxationKind::MovzX0Lsl16,
-                AArch64Relocation::R_AARCH64_TLSLE_MOVW_TPREL_G1,
-            ),
-            choice(
-                RelaxationKind::AdrpX0,
-                AArch64Relocation::R_AARCH64_TLSIE_ADR_GOTTPREL_PAGE21,
-            ),
-            unchanged,
-        ),
-        AArch64Relocation::R_AARCH64_TLSDESC_LD64_LO12 => three(
-            choice(
-                RelaxationKind::MovkX0,
-                AArch64Relocation::R_AARCH64_TLSLE_MOVW_TPREL_G0_NC,
-            ),
-            choice(
-                RelaxationKind::LdrX0,
-                AArch64Relocation::R_AARCH64_TLSIE_LD64_GOTTPREL_LO12_NC,
-            ),
-            unchanged,
-        ),
-        AArch64Relocation::R_AARCH64_TLSDESC_ADD_LO12 | AArch64Relocation::R_AARCH64_TLSDESC_CALL =>
-            {
-                // for local-exec and for initial-exec
-                let erased = choice(
-                    RelaxationKind::ReplaceWithNop,
-                    AArch64Relocation::R_AARCH64_NONE,
-                );
-                three(erased, erased, unchanged)
-            }
-        AArch64Relocation::R_AARCH64_CALL26 | AArch64Relocation::R_AARCH64_JUMP26 => two(
-            choice(
-                RelaxationKind::ReplaceWithNop,
-                AArch64Relocation::R_AARCH64_NONE,
-            ),
-            unchanged,
-        ),
-        _ => one(unchanged),
-    }
-}
 
 impl Kind for RelaxationKind {
     fn is_meant_for(self, section: &[u8], offset: u64) -> bool {
@@ -166,7 +78,12 @@ pub fn recognise(
     linked: &[u8],
 ) -> [Option<AArch64Made>; CANDIDATES] {
     debug_assert!(original.len() <= 64);
-    recognise_among(candidates(name), original, offset, others, linked)
+    let unchanged = Choice {
+        kind: RelaxationKind::NoOp,
+        relocation: name,
+    };
+    let choices = candidates(entries(name), unchanged);
+    recognise_among(choices, original, offset, others, linked)
 }
 
 /// The choice that `choose` makes by what the linker knows, if it leaves the linked bytes, as

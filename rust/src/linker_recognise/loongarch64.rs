@@ -1,124 +1,15 @@
 // Made by tools/erase of crates/linker_recognise/src/loongarch64.rt.
 //! What a linker made of a relocation of LoongArch.
 
-use crate::linker_recognise::candidates::{CANDIDATES, one, three, two};
+use crate::linker_recognise::candidates::{CANDIDATES, candidates};
 use crate::linker_recognise::engine::{Kind, Made, Name, recognise_among, recognise_one};
 use crate::linker_recognise::fields::FieldBits;
 use crate::architecture::Relaxation;
 use crate::elf::{Choice, LinkFacts, Row};
-use crate::loongarch64::{LoongArch64Relocation, RelaxationKind, choose, row};
+use crate::loongarch64::{LoongArch64Relocation, RelaxationKind, choose, entries, row};
 use crate::riscv64::DeletedBytes;
 
-type LoongArchChoice = Choice<RelaxationKind, LoongArch64Relocation>;
-
 type LoongArchMade = Made<RelaxationKind, LoongArch64Relocation>;
-
-#[inline(always)]
-fn choice(kind: RelaxationKind, relocation: LoongArch64Relocation) -> LoongArchChoice {
-    Choice { kind, relocation }
-}
-
-/// The choices of a relocation.
-fn candidates(name: LoongArch64Relocation) -> [Option<LoongArchChoice>; CANDIDATES] {
-    let unchanged = choice(RelaxationKind::NoOp, name);
-    match name {
-        LoongArch64Relocation::R_LARCH_GOT_PC_HI20 => three(
-            choice(
-                RelaxationKind::PcalaToPcaddi,
-                LoongArch64Relocation::R_LARCH_PCREL20_S2,
-            ),
-            choice(
-                RelaxationKind::NoOp,
-                LoongArch64Relocation::R_LARCH_PCALA_HI20,
-            ),
-            unchanged,
-        ),
-        LoongArch64Relocation::R_LARCH_GOT_PC_LO12 => three(
-            choice(RelaxationKind::Delete, LoongArch64Relocation::R_LARCH_NONE),
-            choice(
-                RelaxationKind::LdToAddi,
-                LoongArch64Relocation::R_LARCH_PCALA_LO12,
-            ),
-            unchanged,
-        ),
-        LoongArch64Relocation::R_LARCH_PCALA_HI20 => two(
-            choice(
-                RelaxationKind::PcalaToPcaddi,
-                LoongArch64Relocation::R_LARCH_PCREL20_S2,
-            ),
-            unchanged,
-        ),
-        LoongArch64Relocation::R_LARCH_PCALA_LO12
-        | LoongArch64Relocation::R_LARCH_TLS_LE_HI20_R
-        | LoongArch64Relocation::R_LARCH_TLS_LE_ADD_R => two(
-            choice(RelaxationKind::Delete, LoongArch64Relocation::R_LARCH_NONE),
-            unchanged,
-        ),
-        LoongArch64Relocation::R_LARCH_CALL36 => three(
-            choice(RelaxationKind::CallToB, LoongArch64Relocation::R_LARCH_B26),
-            choice(RelaxationKind::CallToBl, LoongArch64Relocation::R_LARCH_B26),
-            unchanged,
-        ),
-        LoongArch64Relocation::R_LARCH_TLS_IE_PC_HI20 => three(
-            choice(
-                RelaxationKind::ReplaceWithNop,
-                LoongArch64Relocation::R_LARCH_NONE,
-            ),
-            choice(
-                RelaxationKind::PcalaToLu12i,
-                LoongArch64Relocation::R_LARCH_TLS_LE_HI20,
-            ),
-            unchanged,
-        ),
-        LoongArch64Relocation::R_LARCH_TLS_IE_PC_LO12 => three(
-            choice(
-                RelaxationKind::LowToOriZero,
-                LoongArch64Relocation::R_LARCH_TLS_LE_LO12,
-            ),
-            choice(
-                RelaxationKind::LowToOri,
-                LoongArch64Relocation::R_LARCH_TLS_LE_LO12,
-            ),
-            unchanged,
-        ),
-        LoongArch64Relocation::R_LARCH_TLS_DESC_PC_HI20 => three(
-            choice(
-                RelaxationKind::PcalaToLu12i,
-                LoongArch64Relocation::R_LARCH_TLS_LE_HI20,
-            ),
-            choice(
-                RelaxationKind::NoOp,
-                LoongArch64Relocation::R_LARCH_TLS_IE_PC_HI20,
-            ),
-            unchanged,
-        ),
-        LoongArch64Relocation::R_LARCH_TLS_DESC_PC_LO12 => three(
-            choice(
-                RelaxationKind::LowToOri,
-                LoongArch64Relocation::R_LARCH_TLS_LE_LO12,
-            ),
-            choice(
-                RelaxationKind::AddiToLd,
-                LoongArch64Relocation::R_LARCH_TLS_IE_PC_LO12,
-            ),
-            unchanged,
-        ),
-        LoongArch64Relocation::R_LARCH_TLS_DESC_LD | LoongArch64Relocation::R_LARCH_TLS_DESC_CALL =>
-            {
-                // for local-exec and for initial-exec
-                let erased = choice(
-                    RelaxationKind::ReplaceWithNop,
-                    LoongArch64Relocation::R_LARCH_NONE,
-                );
-                three(erased, erased, unchanged)
-            }
-        LoongArch64Relocation::R_LARCH_TLS_LE_LO12_R => two(
-            choice(RelaxationKind::BaseToTp, name),
-            unchanged,
-        ),
-        _ => one(unchanged),
-    }
-}
 
 impl Kind for RelaxationKind {
     fn is_meant_for(self, section: &[u8], offset: u64) -> bool {
@@ -190,7 +81,12 @@ pub fn recognise(
     linked: &[u8],
 ) -> [Option<LoongArchMade>; CANDIDATES] {
     debug_assert!(original.len() <= 64);
-    recognise_among(candidates(name), original, offset, others, linked)
+    let unchanged = Choice {
+        kind: RelaxationKind::NoOp,
+        relocation: name,
+    };
+    let choices = candidates(entries(name), unchanged);
+    recognise_among(choices, original, offset, others, linked)
 }
 
 /// The choice that `choose` makes by what the linker knows, if it leaves the linked bytes, as

@@ -1,116 +1,14 @@
 // Made by tools/erase of crates/linker_recognise/src/riscv64.rt.
 //! What a linker made of a relocation of RISC-V.
 
-use crate::linker_recognise::candidates::{CANDIDATES, five, four, one, three, two};
+use crate::linker_recognise::candidates::{CANDIDATES, candidates};
 use crate::linker_recognise::engine::{Kind, Made, Name, recognise_among, recognise_one};
 use crate::linker_recognise::fields::FieldBits;
 use crate::architecture::Relaxation;
 use crate::elf::{Choice, LinkFacts, Row};
-use crate::riscv64::{DeletedBytes, RelaxationKind, RiscVRelocation, choose, row};
-
-type RiscVChoice = Choice<RelaxationKind, RiscVRelocation>;
+use crate::riscv64::{DeletedBytes, RelaxationKind, RiscVRelocation, choose, entries, row};
 
 type RiscVMade = Made<RelaxationKind, RiscVRelocation>;
-
-#[inline(always)]
-fn choice(kind: RelaxationKind, relocation: RiscVRelocation) -> RiscVChoice {
-    Choice { kind, relocation }
-}
-
-/// The choices of a relocation.
-fn candidates(name: RiscVRelocation) -> [Option<RiscVChoice>; CANDIDATES] {
-    let unchanged = choice(RelaxationKind::NoOp, name);
-    match name {
-        RiscVRelocation::R_RISCV_CALL | RiscVRelocation::R_RISCV_CALL_PLT => four(
-            choice(RelaxationKind::TailToCJ, RiscVRelocation::R_RISCV_RVC_JUMP),
-            choice(RelaxationKind::TailToJal, RiscVRelocation::R_RISCV_JAL),
-            choice(RelaxationKind::CallToJal, RiscVRelocation::R_RISCV_JAL),
-            unchanged,
-        ),
-        RiscVRelocation::R_RISCV_HI20 => three(
-            choice(RelaxationKind::Hi20Delete, RiscVRelocation::R_RISCV_NONE),
-            choice(RelaxationKind::Hi20ToCLui, RiscVRelocation::R_RISCV_RVC_LUI),
-            unchanged,
-        ),
-        RiscVRelocation::R_RISCV_RVC_LUI => two(
-            choice(RelaxationKind::CLuiToCLi, RiscVRelocation::R_RISCV_NONE),
-            unchanged,
-        ),
-        RiscVRelocation::R_RISCV_LO12_I => two(
-            choice(RelaxationKind::Lo12Rs1ToZero, name),
-            unchanged,
-        ),
-        RiscVRelocation::R_RISCV_LO12_S => two(
-            choice(RelaxationKind::Lo12Rs1ToZero, name),
-            unchanged,
-        ),
-        RiscVRelocation::R_RISCV_TPREL_HI20 | RiscVRelocation::R_RISCV_TPREL_ADD => two(
-            choice(RelaxationKind::Delete, RiscVRelocation::R_RISCV_NONE),
-            unchanged,
-        ),
-        RiscVRelocation::R_RISCV_TPREL_LO12_I => two(
-            choice(RelaxationKind::BaseToTp, name),
-            unchanged,
-        ),
-        RiscVRelocation::R_RISCV_TPREL_LO12_S => two(
-            choice(RelaxationKind::BaseToTp, name),
-            unchanged,
-        ),
-        RiscVRelocation::R_RISCV_TLSDESC_HI20 | RiscVRelocation::R_RISCV_TLSDESC_LOAD_LO12 => five(
-            choice(RelaxationKind::Delete, RiscVRelocation::R_RISCV_NONE),
-            choice(
-                RelaxationKind::ReplaceWithLongNop,
-                RiscVRelocation::R_RISCV_NONE,
-            ),
-            choice(RelaxationKind::Delete, RiscVRelocation::R_RISCV_NONE),
-            choice(
-                RelaxationKind::ReplaceWithLongNop,
-                RiscVRelocation::R_RISCV_NONE,
-            ),
-            unchanged,
-        ),
-        RiscVRelocation::R_RISCV_TLSDESC_ADD_LO12 => five(
-            choice(RelaxationKind::Delete, RiscVRelocation::R_RISCV_NONE),
-            choice(
-                RelaxationKind::ReplaceWithLongNop,
-                RiscVRelocation::R_RISCV_NONE,
-            ),
-            choice(
-                RelaxationKind::AddiToLui,
-                RiscVRelocation::R_RISCV_TPREL_HI20,
-            ),
-            choice(
-                RelaxationKind::AddiToAuipc,
-                RiscVRelocation::R_RISCV_TLS_GOT_HI20,
-            ),
-            unchanged,
-        ),
-        RiscVRelocation::R_RISCV_TLSDESC_CALL => four(
-            choice(
-                RelaxationKind::CallToAddiZero,
-                RiscVRelocation::R_RISCV_TPREL_LO12_I,
-            ),
-            choice(
-                RelaxationKind::CallToAddi,
-                RiscVRelocation::R_RISCV_TPREL_LO12_I,
-            ),
-            choice(
-                RelaxationKind::CallToLd,
-                RiscVRelocation::R_RISCV_PCREL_LO12_I,
-            ),
-            unchanged,
-        ),
-        RiscVRelocation::R_RISCV_GOT_HI20 => two(
-            choice(RelaxationKind::NoOp, RiscVRelocation::R_RISCV_PCREL_HI20),
-            unchanged,
-        ),
-        RiscVRelocation::R_RISCV_PCREL_LO12_I => two(
-            choice(RelaxationKind::LdToAddi, name),
-            unchanged,
-        ),
-        _ => one(unchanged),
-    }
-}
 
 impl Kind for RelaxationKind {
     fn is_meant_for(self, section: &[u8], offset: u64) -> bool {
@@ -179,7 +77,12 @@ pub fn recognise(
     linked: &[u8],
 ) -> [Option<RiscVMade>; CANDIDATES] {
     debug_assert!(original.len() <= 64);
-    recognise_among(candidates(name), original, offset, others, linked)
+    let unchanged = Choice {
+        kind: RelaxationKind::NoOp,
+        relocation: name,
+    };
+    let choices = candidates(entries(name), unchanged);
+    recognise_among(choices, original, offset, others, linked)
 }
 
 /// The choice that `choose` makes by what the linker knows, if it leaves the linked bytes, as

@@ -1,185 +1,15 @@
 // Made by tools/erase of crates/linker_recognise/src/x86_64.rt.
 //! What a linker made of a relocation of x86-64.
 
-use crate::linker_recognise::candidates::{CANDIDATES, four, one, three, two};
+use crate::linker_recognise::candidates::{CANDIDATES, candidates};
 use crate::linker_recognise::engine::{Kind, Made, Name, recognise_among, recognise_one};
 use crate::linker_recognise::fields::FieldBits;
 use crate::architecture::Relaxation;
 use crate::elf::{Choice, LinkFacts, Row};
 use crate::riscv64::DeletedBytes;
-use crate::x86_64::{RelaxationKind, X86_64Relocation, choose, row};
-
-type X86Choice = Choice<RelaxationKind, X86_64Relocation>;
+use crate::x86_64::{RelaxationKind, X86_64Relocation, choose, entries, row};
 
 type X86Made = Made<RelaxationKind, X86_64Relocation>;
-
-#[inline(always)]
-fn choice(kind: RelaxationKind, relocation: X86_64Relocation) -> X86Choice {
-    Choice { kind, relocation }
-}
-
-#[inline(always)]
-fn unchanged(name: X86_64Relocation) -> X86Choice {
-    choice(RelaxationKind::NoOp, name)
-}
-
-/// The relocation of an immediate of 32 bits.
-#[inline(always)]
-fn immediate_of(n: u8) -> X86_64Relocation {
-    if n == 2 {
-        X86_64Relocation::R_X86_64_32
-    } else {
-        X86_64Relocation::R_X86_64_32S
-    }
-}
-
-/// The choices of a `mov` through the GOT.
-fn of_mov(n: u8, name: X86_64Relocation) -> [Option<X86Choice>; CANDIDATES] {
-    let kind = if n == 2 {
-        RelaxationKind::MovIndirectToAbsolute
-    } else {
-        RelaxationKind::RexMovIndirectToAbsolute(n)
-    };
-    // of a definition, and of an address that is 0
-    let absolute = choice(kind, immediate_of(n));
-    four(
-        absolute,
-        absolute,
-        choice(
-            RelaxationKind::MovIndirectToLea,
-            X86_64Relocation::R_X86_64_PC32,
-        ),
-        unchanged(name),
-    )
-}
-
-/// The choices of an instruction with an operand in the GOT, by its opcode.
-fn of_got(n: u8, opcode: u8, name: X86_64Relocation) -> [Option<X86Choice>; CANDIDATES] {
-    let kind = match opcode {
-        0x8b => return of_mov(n, name),
-        0x03 => RelaxationKind::RexAddIndirectToAbsolute(n),
-        0x2b => RelaxationKind::RexSubIndirectToAbsolute(n),
-        0x3b => RelaxationKind::RexCmpIndirectToAbsolute(n),
-        0x13 => RelaxationKind::RexAdcIndirectToAbsolute(n),
-        0x23 => RelaxationKind::RexAndIndirectToAbsolute(n),
-        0x0b => RelaxationKind::RexOrIndirectToAbsolute(n),
-        0x1b => RelaxationKind::RexSbbIndirectToAbsolute(n),
-        0x33 => RelaxationKind::RexXorIndirectToAbsolute(n),
-        0x85 => RelaxationKind::RexTestIndirectToAbsolute(n),
-        _ => return one(unchanged(name)),
-    };
-    let absolute = choice(kind, immediate_of(n));
-    three(absolute, absolute, unchanged(name))
-}
-
-/// The choices of an initial-exec access to a TLS variable, by its opcode.
-fn of_initial_exec(n: u8, opcode: u8, name: X86_64Relocation) -> [Option<X86Choice>; CANDIDATES] {
-    let kind = match opcode {
-        0x8b => RelaxationKind::RexMovIndirectToAbsolute(n),
-        0x03 => RelaxationKind::RexAddIndirectToAbsolute(n),
-        _ => return one(unchanged(name)),
-    };
-    two(
-        choice(kind, X86_64Relocation::R_X86_64_TPOFF32),
-        unchanged(name),
-    )
-}
-
-/// The choices of the `lea` of a TLS descriptor.
-fn of_descriptor(n: u8, name: X86_64Relocation) -> [Option<X86Choice>; CANDIDATES] {
-    three(
-        choice(
-            RelaxationKind::TlsDescToLocalExec(n),
-            X86_64Relocation::R_X86_64_TPOFF32,
-        ),
-        choice(
-            RelaxationKind::TlsDescToInitialExec,
-            X86_64Relocation::R_X86_64_GOTTPOFF,
-        ),
-        unchanged(name),
-    )
-}
-
-/// The choices of a relocation, by its name and the opcode two bytes before its field.
-fn candidates(name: X86_64Relocation, opcode: u8) -> [Option<X86Choice>; CANDIDATES] {
-    match name {
-        X86_64Relocation::R_X86_64_GOTPCRELX => {
-            if opcode == 0xff {
-                three(
-                    choice(
-                        RelaxationKind::CallIndirectToRelative,
-                        X86_64Relocation::R_X86_64_PC32,
-                    ),
-                    choice(
-                        RelaxationKind::JmpIndirectToRelative,
-                        X86_64Relocation::R_X86_64_PC32,
-                    ),
-                    unchanged(name),
-                )
-            } else {
-                of_got(2, opcode, name)
-            }
-        }
-        X86_64Relocation::R_X86_64_REX_GOTPCRELX => of_got(3, opcode, name),
-        X86_64Relocation::R_X86_64_CODE_4_GOTPCRELX => of_got(4, opcode, name),
-        X86_64Relocation::R_X86_64_CODE_5_GOTPCRELX => of_got(5, opcode, name),
-        X86_64Relocation::R_X86_64_CODE_6_GOTPCRELX => of_got(6, opcode, name),
-        X86_64Relocation::R_X86_64_GOTTPOFF => of_initial_exec(3, opcode, name),
-        X86_64Relocation::R_X86_64_CODE_4_GOTTPOFF => of_initial_exec(4, opcode, name),
-        X86_64Relocation::R_X86_64_CODE_5_GOTTPOFF => of_initial_exec(5, opcode, name),
-        X86_64Relocation::R_X86_64_CODE_6_GOTTPOFF => of_initial_exec(6, opcode, name),
-        X86_64Relocation::R_X86_64_TLSGD => four(
-            choice(
-                RelaxationKind::TlsGdToLocalExec,
-                X86_64Relocation::R_X86_64_TPOFF32,
-            ),
-            choice(
-                RelaxationKind::TlsGdToLocalExecLarge,
-                X86_64Relocation::R_X86_64_TPOFF32,
-            ),
-            choice(
-                RelaxationKind::TlsGdToInitialExec,
-                X86_64Relocation::R_X86_64_GOTTPOFF,
-            ),
-            unchanged(name),
-        ),
-        X86_64Relocation::R_X86_64_TLSLD => four(
-            choice(
-                RelaxationKind::TlsLdToLocalExec,
-                X86_64Relocation::R_X86_64_NONE,
-            ),
-            choice(
-                RelaxationKind::TlsLdToLocalExecNoPlt,
-                X86_64Relocation::R_X86_64_NONE,
-            ),
-            choice(
-                RelaxationKind::TlsLdToLocalExec64,
-                X86_64Relocation::R_X86_64_NONE,
-            ),
-            unchanged(name),
-        ),
-        X86_64Relocation::R_X86_64_DTPOFF32 => two(
-            choice(RelaxationKind::NoOp, X86_64Relocation::R_X86_64_TPOFF32),
-            unchanged(name),
-        ),
-        X86_64Relocation::R_X86_64_DTPOFF64 => two(
-            choice(RelaxationKind::NoOp, X86_64Relocation::R_X86_64_TPOFF64),
-            unchanged(name),
-        ),
-        X86_64Relocation::R_X86_64_GOTPC32_TLSDESC => of_descriptor(3, name),
-        X86_64Relocation::R_X86_64_CODE_4_GOTPC32_TLSDESC => of_descriptor(4, name),
-        X86_64Relocation::R_X86_64_CODE_5_GOTPC32_TLSDESC => of_descriptor(5, name),
-        X86_64Relocation::R_X86_64_CODE_6_GOTPC32_TLSDESC => of_descriptor(6, name),
-        X86_64Relocation::R_X86_64_TLSDESC_CALL => two(
-            choice(
-                RelaxationKind::SkipTlsDescCall,
-                X86_64Relocation::R_X86_64_NONE,
-            ),
-            unchanged(name),
-        ),
-        _ => one(unchanged(name)),
-    }
-}
 
 /// The byte two before an offset, which is the opcode of an instruction whose field is there.
 #[inline(always)]
@@ -277,7 +107,11 @@ pub fn recognise(
     linked: &[u8],
 ) -> [Option<X86Made>; CANDIDATES] {
     debug_assert!(original.len() <= 64);
-    let choices = candidates(name, opcode_before(original, offset));
+    let unchanged = Choice {
+        kind: RelaxationKind::NoOp,
+        relocation: name,
+    };
+    let choices = candidates(entries(name, opcode_before(original, offset)), unchanged);
     recognise_among(choices, original, offset, others, linked)
 }
 

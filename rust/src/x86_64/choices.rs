@@ -1,433 +1,395 @@
 // Made by tools/erase of crates/linker_x86_64/src/choices.rt.
 //! Which rewrite is chosen for a relocation of x86-64.
 
-use super::rewrites::{immediate_of, is_lea_of_descriptor, is_legacy};
-use super::{RelaxationKind, X86_64Relocation, row};
+use super::rewrites::{is_lea_of_descriptor, is_legacy};
+use super::{RelaxationKind, X86_64Relocation};
+use crate::linker_elf::elf::choice_table::{
+    BOUND, ChoiceEntry, ChosenKind, Conditions, EXECUTABLE, FIXED_ADDRESS, FIXED_DISTANCE,
+    LOCAL_EXEC_BASE, Originals, ValueCondition, WEAK_ZERO, first_entry,
+};
 use crate::linker_elf::elf::{Choice, LinkFacts, Operands};
 
-/// The operands after a rewrite at an offset.
-#[inline(always)]
-fn operands_after(kind: RelaxationKind, offset: u64, operands: &Operands) -> Operands {
-    let place = operands.place;
-    match kind {
-        RelaxationKind::NoOp
-        | RelaxationKind::MovIndirectToLea
-        | RelaxationKind::CallIndirectToRelative
-        | RelaxationKind::TlsDescToInitialExec
-        | RelaxationKind::SkipTlsDescCall => *operands,
-        RelaxationKind::JmpIndirectToRelative => {
-            let before = offset.saturating_sub(1);
-            Operands {
-                place: place.wrapping_add(before).wrapping_sub(offset),
-                ..*operands
-            }
-        }
-        RelaxationKind::TlsGdToLocalExec => {
-            Operands {
-                place: place.wrapping_add(8),
-                addend: 0,
-                ..*operands
-            }
-        }
-        RelaxationKind::TlsGdToLocalExecLarge => {
-            Operands {
-                place: place.wrapping_add(9),
-                addend: 0,
-                ..*operands
-            }
-        }
-        RelaxationKind::TlsGdToInitialExec => {
-            Operands {
-                place: place.wrapping_add(8),
-                ..*operands
-            }
-        }
-        RelaxationKind::TlsLdToLocalExec | RelaxationKind::TlsLdToLocalExecNoPlt => {
-            Operands {
-                place: place.wrapping_add(5),
-                ..*operands
-            }
-        }
-        RelaxationKind::TlsLdToLocalExec64 => {
-            Operands {
-                place: place.wrapping_add(15),
-                ..*operands
-            }
-        }
-        RelaxationKind::MovIndirectToAbsolute
-        | RelaxationKind::RexMovIndirectToAbsolute(_)
-        | RelaxationKind::RexAddIndirectToAbsolute(_)
-        | RelaxationKind::RexSubIndirectToAbsolute(_)
-        | RelaxationKind::RexCmpIndirectToAbsolute(_)
-        | RelaxationKind::TlsDescToLocalExec(_)
-        | RelaxationKind::RexAdcIndirectToAbsolute(_)
-        | RelaxationKind::RexAndIndirectToAbsolute(_)
-        | RelaxationKind::RexOrIndirectToAbsolute(_)
-        | RelaxationKind::RexSbbIndirectToAbsolute(_)
-        | RelaxationKind::RexXorIndirectToAbsolute(_)
-        | RelaxationKind::RexTestIndirectToAbsolute(_) => Operands {
-            addend: 0,
-            ..*operands
-        },
+/// The instructions that an entry is for.
+pub enum AskedFor {
+    /// Those that its rewrite is for.
+    OfRewrite,
+    /// Of them those with an operand relative to the instruction pointer, so many bytes before the
+    /// field and this opcode.
+    Legacy(u8, u8),
+    /// Of them the `lea` of a TLS descriptor, with so many bytes before the field.
+    LeaOfDescriptor(u8),
+}
+
+impl Originals<RelaxationKind> for AskedFor {
+    #[inline(always)]
+    fn stand_at(&self, kind: RelaxationKind, section: &[u8], offset: u64) -> bool {
+        let are_asked = match *self {
+            AskedFor::OfRewrite => true,
+            AskedFor::Legacy(n, opcode) => is_legacy(section, offset, n, opcode),
+            AskedFor::LeaOfDescriptor(n) => is_lea_of_descriptor(section, offset, n),
+        };
+        are_asked && kind.matches(section, offset)
     }
 }
 
+impl ChosenKind for RelaxationKind {
+    #[inline(always)]
+    fn operands_after(self, offset: u64, operands: &Operands) -> Operands {
+        let place = operands.place;
+        match self {
+            RelaxationKind::NoOp
+            | RelaxationKind::MovIndirectToLea
+            | RelaxationKind::CallIndirectToRelative
+            | RelaxationKind::TlsDescToInitialExec
+            | RelaxationKind::SkipTlsDescCall => *operands,
+            RelaxationKind::JmpIndirectToRelative => {
+                let before = offset.saturating_sub(1);
+                Operands {
+                    place: place.wrapping_add(before).wrapping_sub(offset),
+                    ..*operands
+                }
+            }
+            RelaxationKind::TlsGdToLocalExec => {
+                Operands {
+                    place: place.wrapping_add(8),
+                    addend: 0,
+                    ..*operands
+                }
+            }
+            RelaxationKind::TlsGdToLocalExecLarge => {
+                Operands {
+                    place: place.wrapping_add(9),
+                    addend: 0,
+                    ..*operands
+                }
+            }
+            RelaxationKind::TlsGdToInitialExec => {
+                Operands {
+                    place: place.wrapping_add(8),
+                    ..*operands
+                }
+            }
+            RelaxationKind::TlsLdToLocalExec | RelaxationKind::TlsLdToLocalExecNoPlt => {
+                Operands {
+                    place: place.wrapping_add(5),
+                    ..*operands
+                }
+            }
+            RelaxationKind::TlsLdToLocalExec64 => {
+                Operands {
+                    place: place.wrapping_add(15),
+                    ..*operands
+                }
+            }
+            RelaxationKind::MovIndirectToAbsolute
+            | RelaxationKind::RexMovIndirectToAbsolute(_)
+            | RelaxationKind::RexAddIndirectToAbsolute(_)
+            | RelaxationKind::RexSubIndirectToAbsolute(_)
+            | RelaxationKind::RexCmpIndirectToAbsolute(_)
+            | RelaxationKind::TlsDescToLocalExec(_)
+            | RelaxationKind::RexAdcIndirectToAbsolute(_)
+            | RelaxationKind::RexAndIndirectToAbsolute(_)
+            | RelaxationKind::RexOrIndirectToAbsolute(_)
+            | RelaxationKind::RexSbbIndirectToAbsolute(_)
+            | RelaxationKind::RexXorIndirectToAbsolute(_)
+            | RelaxationKind::RexTestIndirectToAbsolute(_) => Operands {
+                addend: 0,
+                ..*operands
+            },
+        }
+    }
+}
+
+/// An entry: a rewrite, the relocation after it, the conditions, and the instructions that it is for,
+/// if not all of the rewrite's.
+macro_rules! entry {
+    ($kind:ident $(($n:expr))? => $relocation:ident, $conditions:expr) => {
+        entry!($kind $(($n))? => $relocation, $conditions, OfRewrite)
+    };
+    (
+        $kind:ident $(($n:expr))? => $relocation:ident, $conditions:expr,
+        $originals:ident $(($($argument:expr),*))?
+    ) => {
+        ChoiceEntry {
+            originals: AskedFor::$originals $(($($argument),*))?,
+            kind: RelaxationKind::$kind $(($n))?,
+            relocation: X86_64Relocation::$relocation,
+            conditions: $conditions,
+        }
+    };
+}
+
+/// Conditions: facts, the addend and the value in reach.
+macro_rules! conditions {
+    ($facts:expr, $addend:expr $(, $value:ident $relocation:ident)?) => {
+        Conditions {
+            facts: $facts,
+            addend: $addend,
+            values: &[$(ValueCondition::$value(X86_64Relocation::$relocation, 0),)?],
+        }
+    };
+}
+
+/// The field's value counts from its end.
+const FROM_END_OF_FIELD: Option<i64> = Some(-4);
+
+/// The operand becomes the distance to the symbol.
+const DISTANCE: Conditions<X86_64Relocation> =
+    conditions!(BOUND + FIXED_DISTANCE, FROM_END_OF_FIELD, InReachIfKnown R_X86_64_PC32);
+
+const LOCAL_EXEC: Conditions<X86_64Relocation> =
+    conditions!(BOUND + EXECUTABLE, FROM_END_OF_FIELD, InReachIfKnown R_X86_64_TPOFF32);
+
+const INITIAL_EXEC: Conditions<X86_64Relocation> =
+    conditions!(EXECUTABLE, FROM_END_OF_FIELD, InReachIfKnown R_X86_64_GOTTPOFF);
+
+/// Nothing is relocated any more.
+const UNRELOCATED: Conditions<X86_64Relocation> = conditions!(EXECUTABLE, None);
+
+/// An offset in the module's TLS block becomes one from the thread pointer.
+const FROM_THREAD_POINTER_32: Conditions<X86_64Relocation> =
+    conditions!(EXECUTABLE + LOCAL_EXEC_BASE, None, InReachIfKnown R_X86_64_TPOFF32);
+
+const FROM_THREAD_POINTER_64: Conditions<X86_64Relocation> =
+    conditions!(EXECUTABLE + LOCAL_EXEC_BASE, None, InReachIfKnown R_X86_64_TPOFF64);
+
+/// An entry of the table.
+pub type X86Entry = ChoiceEntry<AskedFor, RelaxationKind, X86_64Relocation>;
+
+type X86Choice = Choice<RelaxationKind, X86_64Relocation>;
+
+static BRANCH: &[X86Entry] = &[
+    entry!(CallIndirectToRelative => R_X86_64_PC32, DISTANCE),
+    entry!(JmpIndirectToRelative => R_X86_64_PC32, DISTANCE),
+];
+
+static TLSGD: &[X86Entry] = &[
+    entry!(TlsGdToLocalExec => R_X86_64_TPOFF32, LOCAL_EXEC),
+    entry!(TlsGdToLocalExecLarge => R_X86_64_TPOFF32, LOCAL_EXEC),
+    entry!(TlsGdToInitialExec => R_X86_64_GOTTPOFF, INITIAL_EXEC),
+];
+
+static TLSLD: &[X86Entry] = &[
+    entry!(TlsLdToLocalExec => R_X86_64_NONE, UNRELOCATED),
+    entry!(TlsLdToLocalExecNoPlt => R_X86_64_NONE, UNRELOCATED),
+    entry!(TlsLdToLocalExec64 => R_X86_64_NONE, UNRELOCATED),
+];
+
+static DTPOFF32: &[X86Entry] = &[entry!(NoOp => R_X86_64_TPOFF32, FROM_THREAD_POINTER_32)];
+
+static DTPOFF64: &[X86Entry] = &[entry!(NoOp => R_X86_64_TPOFF64, FROM_THREAD_POINTER_64)];
+
+static TLSDESC_CALL: &[X86Entry] = &[entry!(SkipTlsDescCall => R_X86_64_NONE, UNRELOCATED)];
+
+static OTHERS: &[X86Entry] = &[];
+
+/// The entries of the `lea` of a TLS descriptor, by the count of its bytes before the field.
+macro_rules! descriptor {
+    ($n:literal) => {
+        &[
+            entry!(
+                TlsDescToLocalExec($n) => R_X86_64_TPOFF32, LOCAL_EXEC, LeaOfDescriptor($n)
+            ),
+            entry!(
+                TlsDescToInitialExec => R_X86_64_GOTTPOFF, INITIAL_EXEC, LeaOfDescriptor($n)
+            ),
+        ]
+    };
+}
+
+static DESCRIPTOR_3: &[X86Entry] = descriptor!(3);
+
+static DESCRIPTOR_4: &[X86Entry] = descriptor!(4);
+
+static DESCRIPTOR_5: &[X86Entry] = descriptor!(5);
+
+static DESCRIPTOR_6: &[X86Entry] = descriptor!(6);
+
+/// The conditions on which an operand becomes the symbol's address, that of a definition or 0.
+macro_rules! address {
+    ($fact:ident, $reach:ident $relocation:ident) => {
+        conditions!($fact + FIXED_ADDRESS, FROM_END_OF_FIELD, $reach $relocation)
+    };
+}
+
+/// The entries of an operation on an operand in the GOT.
+macro_rules! operation {
+    ($kind:ident($n:literal) => $relocation:ident) => {
+        &[
+            entry!($kind($n) => $relocation, address!(BOUND, InReachIfKnown $relocation)),
+            entry!($kind($n) => $relocation, address!(WEAK_ZERO, InReachIfKnown $relocation)),
+        ]
+    };
+}
+
+/// Those of all operations, by the count of the bytes before the field, the rewrite of a `mov` and
+/// the relocation of an immediate. A `mov` takes only an address that is known, since it also takes
+/// a distance.
+macro_rules! operations {
+    ($n:literal, $mov:ident $(($m:literal))? => $relocation:ident) => {
+        [
+            &[
+                entry!(
+                    $mov $(($m))? => $relocation, address!(BOUND, InReach $relocation),
+                    Legacy($n, 0x8b)
+                ),
+                entry!(
+                    $mov $(($m))? => $relocation, address!(WEAK_ZERO, InReach $relocation),
+                    Legacy($n, 0x8b)
+                ),
+                entry!(MovIndirectToLea => R_X86_64_PC32, DISTANCE, Legacy($n, 0x8b)),
+            ],
+            operation!(RexAddIndirectToAbsolute($n) => $relocation),
+            operation!(RexSubIndirectToAbsolute($n) => $relocation),
+            operation!(RexCmpIndirectToAbsolute($n) => $relocation),
+            operation!(RexAdcIndirectToAbsolute($n) => $relocation),
+            operation!(RexAndIndirectToAbsolute($n) => $relocation),
+            operation!(RexOrIndirectToAbsolute($n) => $relocation),
+            operation!(RexSbbIndirectToAbsolute($n) => $relocation),
+            operation!(RexXorIndirectToAbsolute($n) => $relocation),
+            operation!(RexTestIndirectToAbsolute($n) => $relocation),
+        ]
+    };
+}
+
+static GOT_2: [&[X86Entry]; 10] = operations!(2, MovIndirectToAbsolute => R_X86_64_32);
+
+static GOT_3: [&[X86Entry]; 10] = operations!(3, RexMovIndirectToAbsolute(3) => R_X86_64_32S);
+
+static GOT_4: [&[X86Entry]; 10] = operations!(4, RexMovIndirectToAbsolute(4) => R_X86_64_32S);
+
+static GOT_5: [&[X86Entry]; 10] = operations!(5, RexMovIndirectToAbsolute(5) => R_X86_64_32S);
+
+static GOT_6: [&[X86Entry]; 10] = operations!(6, RexMovIndirectToAbsolute(6) => R_X86_64_32S);
+
+/// The entries of initial-exec accesses, by the count of the bytes before the field.
+macro_rules! accesses {
+    ($n:literal) => {
+        [
+            &[entry!(RexMovIndirectToAbsolute($n) => R_X86_64_TPOFF32, LOCAL_EXEC)],
+            &[entry!(RexAddIndirectToAbsolute($n) => R_X86_64_TPOFF32, LOCAL_EXEC)],
+        ]
+    };
+}
+
+static GOTTPOFF_3: [&[X86Entry]; 2] = accesses!(3);
+
+static GOTTPOFF_4: [&[X86Entry]; 2] = accesses!(4);
+
+static GOTTPOFF_5: [&[X86Entry]; 2] = accesses!(5);
+
+static GOTTPOFF_6: [&[X86Entry]; 2] = accesses!(6);
+
+/// What the table of an operation is used for, by its opcode.
+macro_rules! by_operation {
+    ($operations:ident, $opcode:expr, $table:ident => $use:expr) => {
+        match $opcode {
+            0x8b => { let $table = $operations[0]; $use }
+            0x03 => { let $table = $operations[1]; $use }
+            0x2b => { let $table = $operations[2]; $use }
+            0x3b => { let $table = $operations[3]; $use }
+            0x13 => { let $table = $operations[4]; $use }
+            0x23 => { let $table = $operations[5]; $use }
+            0x0b => { let $table = $operations[6]; $use }
+            0x1b => { let $table = $operations[7]; $use }
+            0x33 => { let $table = $operations[8]; $use }
+            0x85 => { let $table = $operations[9]; $use }
+            _ => { let $table = OTHERS; $use }
+        }
+    };
+}
+
+/// The same of an initial-exec access.
+macro_rules! by_access {
+    ($accesses:ident, $opcode:expr, $table:ident => $use:expr) => {
+        match $opcode {
+            0x8b => { let $table = $accesses[0]; $use }
+            0x03 => { let $table = $accesses[1]; $use }
+            _ => { let $table = OTHERS; $use }
+        }
+    };
+}
+
+/// What the table of a name and an opcode is used for.
+macro_rules! by_table {
+    ($name:expr, $opcode:expr, $table:ident => $use:expr) => {
+        match $name {
+            X86_64Relocation::R_X86_64_GOTPCRELX if $opcode == 0xff => {
+                let $table = BRANCH;
+                $use
+            }
+            X86_64Relocation::R_X86_64_GOTPCRELX => {
+                by_operation!(GOT_2, $opcode, $table => $use)
+            }
+            X86_64Relocation::R_X86_64_REX_GOTPCRELX => {
+                by_operation!(GOT_3, $opcode, $table => $use)
+            }
+            X86_64Relocation::R_X86_64_CODE_4_GOTPCRELX => {
+                by_operation!(GOT_4, $opcode, $table => $use)
+            }
+            X86_64Relocation::R_X86_64_CODE_5_GOTPCRELX => {
+                by_operation!(GOT_5, $opcode, $table => $use)
+            }
+            X86_64Relocation::R_X86_64_CODE_6_GOTPCRELX => {
+                by_operation!(GOT_6, $opcode, $table => $use)
+            }
+            X86_64Relocation::R_X86_64_GOTTPOFF => {
+                by_access!(GOTTPOFF_3, $opcode, $table => $use)
+            }
+            X86_64Relocation::R_X86_64_CODE_4_GOTTPOFF => {
+                by_access!(GOTTPOFF_4, $opcode, $table => $use)
+            }
+            X86_64Relocation::R_X86_64_CODE_5_GOTTPOFF => {
+                by_access!(GOTTPOFF_5, $opcode, $table => $use)
+            }
+            X86_64Relocation::R_X86_64_CODE_6_GOTTPOFF => {
+                by_access!(GOTTPOFF_6, $opcode, $table => $use)
+            }
+            X86_64Relocation::R_X86_64_TLSGD => { let $table = TLSGD; $use }
+            X86_64Relocation::R_X86_64_TLSLD => { let $table = TLSLD; $use }
+            X86_64Relocation::R_X86_64_DTPOFF32 => { let $table = DTPOFF32; $use }
+            X86_64Relocation::R_X86_64_DTPOFF64 => { let $table = DTPOFF64; $use }
+            X86_64Relocation::R_X86_64_GOTPC32_TLSDESC => { let $table = DESCRIPTOR_3; $use }
+            X86_64Relocation::R_X86_64_CODE_4_GOTPC32_TLSDESC => {
+                let $table = DESCRIPTOR_4;
+                $use
+            }
+            X86_64Relocation::R_X86_64_CODE_5_GOTPC32_TLSDESC => {
+                let $table = DESCRIPTOR_5;
+                $use
+            }
+            X86_64Relocation::R_X86_64_CODE_6_GOTPC32_TLSDESC => {
+                let $table = DESCRIPTOR_6;
+                $use
+            }
+            X86_64Relocation::R_X86_64_TLSDESC_CALL => { let $table = TLSDESC_CALL; $use }
+            _ => { let $table = OTHERS; $use }
+        }
+    };
+}
+
+/// The entries of a relocation, by the opcode, which is two bytes before the field.
+#[must_use]
 #[inline(always)]
-fn unchanged(name: X86_64Relocation) -> Choice<RelaxationKind, X86_64Relocation> {
-    Choice {
+pub fn entries(name: X86_64Relocation, opcode: u8) -> &'static [X86Entry] {
+    by_table!(name, opcode, table => table)
+}
+
+/// The choice by a table of a name and an opcode.
+#[inline(always)]
+fn choice_by(
+    table: &'static [X86Entry],
+    name: X86_64Relocation,
+    opcode: u8,
+    section: &[u8],
+    offset: u64,
+    facts: &LinkFacts,
+) -> X86Choice {
+    let unchanged = Choice {
         kind: RelaxationKind::NoOp,
         relocation: name,
-    }
-}
-
-/// Whether the value of a relocation after a rewrite can be written, if it is known.
-#[inline(always)]
-fn can_reach(kind: RelaxationKind, after: X86_64Relocation, offset: u64, facts: &LinkFacts) -> bool {
-    facts.is_in_reach_if_known(
-        row(after),
-        &operands_after(kind, offset, &facts.operands),
-        0,
-    )
-}
-
-/// Whether an operand can be the symbol's address, that of a definition in this output or 0, which
-/// is the same wherever the output is loaded.
-#[inline(always)]
-fn has_address(facts: &LinkFacts) -> bool {
-    (facts.is_bound() || facts.is_undefined_weak)
-        && facts.has_fixed_address
-        && facts.operands.addend == -4
-}
-
-/// Whether an operand can become the symbol's address, which is in reach if it is known.
-#[inline]
-fn can_take_address(
-    kind: RelaxationKind,
-    after: X86_64Relocation,
-    section: &[u8],
-    offset: u64,
-    facts: &LinkFacts,
-) -> bool {
-    has_address(facts) && kind.matches(section, offset) && can_reach(kind, after, offset, facts)
-}
-
-/// Whether an operand can become the distance to the symbol, which is in reach if it is known.
-#[inline]
-fn can_take_distance(kind: RelaxationKind, section: &[u8], offset: u64, facts: &LinkFacts) -> bool {
-    facts.is_bound()
-        && facts.has_fixed_distance
-        && facts.operands.addend == -4
-        && kind.matches(section, offset)
-        && can_reach(kind, X86_64Relocation::R_X86_64_PC32, offset, facts)
-}
-
-/// Whether an access to a TLS variable can become a local-exec one.
-#[inline]
-fn can_be_local_exec(kind: RelaxationKind, section: &[u8], offset: u64, facts: &LinkFacts) -> bool {
-    facts.is_executable
-        && facts.is_bound()
-        && facts.operands.addend == -4
-        && kind.matches(section, offset)
-        && can_reach(kind, X86_64Relocation::R_X86_64_TPOFF32, offset, facts)
-}
-
-/// Whether an access to a TLS variable can become an initial-exec one.
-#[inline]
-fn can_be_initial_exec(kind: RelaxationKind, section: &[u8], offset: u64, facts: &LinkFacts) -> bool {
-    facts.is_executable
-        && facts.operands.addend == -4
-        && kind.matches(section, offset)
-        && can_reach(kind, X86_64Relocation::R_X86_64_GOTTPOFF, offset, facts)
-}
-
-/// Whether an offset in the module's TLS block can become one from the thread pointer.
-#[inline]
-fn can_be_from_thread_pointer(after: X86_64Relocation, offset: u64, facts: &LinkFacts) -> bool {
-    facts.is_executable
-        && facts.has_local_exec_base
-        && can_reach(RelaxationKind::NoOp, after, offset, facts)
-}
-
-/// The rewrite of a `mov` through the GOT.
-#[inline]
-fn choose_for_mov(
-    n: u8,
-    name: X86_64Relocation,
-    section: &[u8],
-    offset: u64,
-    facts: &LinkFacts,
-) -> Choice<RelaxationKind, X86_64Relocation> {
-    if !is_legacy(section, offset, n, 0x8b) {
-        return unchanged(name);
-    }
-    let kind = if n == 2 {
-        RelaxationKind::MovIndirectToAbsolute
-    } else {
-        RelaxationKind::RexMovIndirectToAbsolute(n)
     };
-    let after = immediate_of(n);
-    if facts.has_addresses && can_take_address(kind, after, section, offset, facts) {
-        Choice {
-            kind,
-            relocation: after,
-        }
-    } else if can_take_distance(RelaxationKind::MovIndirectToLea, section, offset, facts) {
-        Choice {
-            kind: RelaxationKind::MovIndirectToLea,
-            relocation: X86_64Relocation::R_X86_64_PC32,
-        }
-    } else {
-        unchanged(name)
-    }
-}
-
-/// The rewrite of another operation on an operand in the GOT.
-#[inline]
-fn choose_for_operation(
-    kind: RelaxationKind,
-    n: u8,
-    name: X86_64Relocation,
-    section: &[u8],
-    offset: u64,
-    facts: &LinkFacts,
-) -> Choice<RelaxationKind, X86_64Relocation> {
-    let after = immediate_of(n);
-    if can_take_address(kind, after, section, offset, facts) {
-        Choice {
-            kind,
-            relocation: after,
-        }
-    } else {
-        unchanged(name)
-    }
-}
-
-/// The rewrite of an instruction with an operand in the GOT, by its opcode.
-#[inline]
-fn choose_for_got(
-    n: u8,
-    opcode: u8,
-    name: X86_64Relocation,
-    section: &[u8],
-    offset: u64,
-    facts: &LinkFacts,
-) -> Choice<RelaxationKind, X86_64Relocation> {
-    let kind = match opcode {
-        0x8b => return choose_for_mov(n, name, section, offset, facts),
-        0x03 => RelaxationKind::RexAddIndirectToAbsolute(n),
-        0x2b => RelaxationKind::RexSubIndirectToAbsolute(n),
-        0x3b => RelaxationKind::RexCmpIndirectToAbsolute(n),
-        0x13 => RelaxationKind::RexAdcIndirectToAbsolute(n),
-        0x23 => RelaxationKind::RexAndIndirectToAbsolute(n),
-        0x0b => RelaxationKind::RexOrIndirectToAbsolute(n),
-        0x1b => RelaxationKind::RexSbbIndirectToAbsolute(n),
-        0x33 => RelaxationKind::RexXorIndirectToAbsolute(n),
-        0x85 => RelaxationKind::RexTestIndirectToAbsolute(n),
-        _ => return unchanged(name),
-    };
-    choose_for_operation(kind, n, name, section, offset, facts)
-}
-
-/// The rewrite of `call *` or `jmp *` through the GOT.
-#[inline]
-fn choose_for_branch(
-    name: X86_64Relocation,
-    section: &[u8],
-    offset: u64,
-    facts: &LinkFacts,
-) -> Choice<RelaxationKind, X86_64Relocation> {
-    if can_take_distance(
-        RelaxationKind::CallIndirectToRelative,
-        section,
-        offset,
-        facts,
-    ) {
-        Choice {
-            kind: RelaxationKind::CallIndirectToRelative,
-            relocation: X86_64Relocation::R_X86_64_PC32,
-        }
-    } else if can_take_distance(
-        RelaxationKind::JmpIndirectToRelative,
-        section,
-        offset,
-        facts,
-    ) {
-        Choice {
-            kind: RelaxationKind::JmpIndirectToRelative,
-            relocation: X86_64Relocation::R_X86_64_PC32,
-        }
-    } else {
-        unchanged(name)
-    }
-}
-
-/// The rewrite of an initial-exec access to a TLS variable, by its opcode.
-#[inline]
-fn choose_for_initial_exec(
-    n: u8,
-    opcode: u8,
-    name: X86_64Relocation,
-    section: &[u8],
-    offset: u64,
-    facts: &LinkFacts,
-) -> Choice<RelaxationKind, X86_64Relocation> {
-    let kind = match opcode {
-        0x8b => RelaxationKind::RexMovIndirectToAbsolute(n),
-        0x03 => RelaxationKind::RexAddIndirectToAbsolute(n),
-        _ => return unchanged(name),
-    };
-    choose_local_exec(kind, name, section, offset, facts)
-}
-
-/// A local-exec access, or no rewrite.
-#[inline]
-fn choose_local_exec(
-    kind: RelaxationKind,
-    name: X86_64Relocation,
-    section: &[u8],
-    offset: u64,
-    facts: &LinkFacts,
-) -> Choice<RelaxationKind, X86_64Relocation> {
-    if can_be_local_exec(kind, section, offset, facts) {
-        Choice {
-            kind,
-            relocation: X86_64Relocation::R_X86_64_TPOFF32,
-        }
-    } else {
-        unchanged(name)
-    }
-}
-
-/// The rewrite of a general-dynamic TLS sequence.
-#[inline]
-fn choose_for_general_dynamic(
-    name: X86_64Relocation,
-    section: &[u8],
-    offset: u64,
-    facts: &LinkFacts,
-) -> Choice<RelaxationKind, X86_64Relocation> {
-    if can_be_local_exec(RelaxationKind::TlsGdToLocalExec, section, offset, facts) {
-        Choice {
-            kind: RelaxationKind::TlsGdToLocalExec,
-            relocation: X86_64Relocation::R_X86_64_TPOFF32,
-        }
-    } else if can_be_local_exec(
-        RelaxationKind::TlsGdToLocalExecLarge,
-        section,
-        offset,
-        facts,
-    ) {
-        Choice {
-            kind: RelaxationKind::TlsGdToLocalExecLarge,
-            relocation: X86_64Relocation::R_X86_64_TPOFF32,
-        }
-    } else if can_be_initial_exec(RelaxationKind::TlsGdToInitialExec, section, offset, facts) {
-        Choice {
-            kind: RelaxationKind::TlsGdToInitialExec,
-            relocation: X86_64Relocation::R_X86_64_GOTTPOFF,
-        }
-    } else {
-        unchanged(name)
-    }
-}
-
-/// The rewrite of a local-dynamic TLS sequence.
-#[inline]
-fn choose_for_local_dynamic(
-    name: X86_64Relocation,
-    section: &[u8],
-    offset: u64,
-    facts: &LinkFacts,
-) -> Choice<RelaxationKind, X86_64Relocation> {
-    let relocation = X86_64Relocation::R_X86_64_NONE;
-    if !facts.is_executable {
-        unchanged(name)
-    } else if RelaxationKind::TlsLdToLocalExec.matches(section, offset) {
-        Choice {
-            kind: RelaxationKind::TlsLdToLocalExec,
-            relocation,
-        }
-    } else if RelaxationKind::TlsLdToLocalExecNoPlt.matches(section, offset) {
-        Choice {
-            kind: RelaxationKind::TlsLdToLocalExecNoPlt,
-            relocation,
-        }
-    } else if RelaxationKind::TlsLdToLocalExec64.matches(section, offset) {
-        Choice {
-            kind: RelaxationKind::TlsLdToLocalExec64,
-            relocation,
-        }
-    } else {
-        unchanged(name)
-    }
-}
-
-/// The rewrite of the `lea` of a TLS descriptor.
-#[inline]
-fn choose_for_descriptor(
-    n: u8,
-    name: X86_64Relocation,
-    section: &[u8],
-    offset: u64,
-    facts: &LinkFacts,
-) -> Choice<RelaxationKind, X86_64Relocation> {
-    if !is_lea_of_descriptor(section, offset, n) {
-        unchanged(name)
-    } else if can_be_local_exec(
-        RelaxationKind::TlsDescToLocalExec(n),
-        section,
-        offset,
-        facts,
-    ) {
-        Choice {
-            kind: RelaxationKind::TlsDescToLocalExec(n),
-            relocation: X86_64Relocation::R_X86_64_TPOFF32,
-        }
-    } else if can_be_initial_exec(RelaxationKind::TlsDescToInitialExec, section, offset, facts) {
-        Choice {
-            kind: RelaxationKind::TlsDescToInitialExec,
-            relocation: X86_64Relocation::R_X86_64_GOTTPOFF,
-        }
-    } else {
-        unchanged(name)
-    }
-}
-
-/// The call through a TLS descriptor.
-#[inline]
-fn choose_for_descriptor_call(
-    name: X86_64Relocation,
-    section: &[u8],
-    offset: u64,
-    facts: &LinkFacts,
-) -> Choice<RelaxationKind, X86_64Relocation> {
-    if facts.is_executable && RelaxationKind::SkipTlsDescCall.matches(section, offset) {
-        Choice {
-            kind: RelaxationKind::SkipTlsDescCall,
-            relocation: X86_64Relocation::R_X86_64_NONE,
-        }
-    } else {
-        unchanged(name)
-    }
-}
-
-/// The relocation of an offset in the module's TLS block, whose base is the thread pointer.
-#[inline]
-fn choose_for_offset(
-    after: X86_64Relocation,
-    name: X86_64Relocation,
-    section: &[u8],
-    offset: u64,
-    facts: &LinkFacts,
-) -> Choice<RelaxationKind, X86_64Relocation> {
-    if can_be_from_thread_pointer(after, offset, facts) {
-        Choice {
-            kind: RelaxationKind::NoOp,
-            relocation: after,
-        }
-    } else {
-        unchanged(name)
-    }
+    first_entry(table, section, offset, facts, unchanged)
 }
 
 /// The byte two before an offset, which is the opcode of an instruction whose field is there.
@@ -497,65 +459,5 @@ pub fn choose(
     facts: &LinkFacts,
 ) -> Choice<RelaxationKind, X86_64Relocation> {
     let opcode = opcode_before(section, offset);
-    match name {
-        X86_64Relocation::R_X86_64_GOTPCRELX => {
-            if opcode == 0xff {
-                choose_for_branch(name, section, offset, facts)
-            } else {
-                choose_for_got(2, opcode, name, section, offset, facts)
-            }
-        }
-        X86_64Relocation::R_X86_64_REX_GOTPCRELX => {
-            choose_for_got(3, opcode, name, section, offset, facts)
-        }
-        X86_64Relocation::R_X86_64_CODE_4_GOTPCRELX => {
-            choose_for_got(4, opcode, name, section, offset, facts)
-        }
-        X86_64Relocation::R_X86_64_CODE_6_GOTPCRELX => {
-            choose_for_got(6, opcode, name, section, offset, facts)
-        }
-        X86_64Relocation::R_X86_64_GOTTPOFF => {
-            choose_for_initial_exec(3, opcode, name, section, offset, facts)
-        }
-        X86_64Relocation::R_X86_64_CODE_4_GOTTPOFF => {
-            choose_for_initial_exec(4, opcode, name, section, offset, facts)
-        }
-        X86_64Relocation::R_X86_64_CODE_6_GOTTPOFF => {
-            choose_for_initial_exec(6, opcode, name, section, offset, facts)
-        }
-        X86_64Relocation::R_X86_64_TLSGD => {
-            choose_for_general_dynamic(name, section, offset, facts)
-        }
-        X86_64Relocation::R_X86_64_TLSLD => {
-            choose_for_local_dynamic(name, section, offset, facts)
-        }
-        X86_64Relocation::R_X86_64_DTPOFF32 => {
-            choose_for_offset(
-                X86_64Relocation::R_X86_64_TPOFF32,
-                name,
-                section,
-                offset,
-                facts,
-            )
-        }
-        X86_64Relocation::R_X86_64_DTPOFF64 => {
-            choose_for_offset(
-                X86_64Relocation::R_X86_64_TPOFF64,
-                name,
-                section,
-                offset,
-                facts,
-            )
-        }
-        X86_64Relocation::R_X86_64_GOTPC32_TLSDESC => {
-            choose_for_descriptor(3, name, section, offset, facts)
-        }
-        X86_64Relocation::R_X86_64_CODE_4_GOTPC32_TLSDESC => {
-            choose_for_descriptor(4, name, section, offset, facts)
-        }
-        X86_64Relocation::R_X86_64_TLSDESC_CALL => {
-            choose_for_descriptor_call(name, section, offset, facts)
-        }
-        _ => unchanged(name),
-    }
+    by_table!(name, opcode, table => choice_by(table, name, opcode, section, offset, facts))
 }
