@@ -2,7 +2,7 @@
 use Rattle.std.proofs.lemmas.List.{drop_more, drop_all}
 use Rattle.std.proofs.lemmas.Option.{none-some}
 use Rattle.std.proofs.lemmas.Bool.{eqb-true, eq-eqb}
-use Rattle.std.proofs.Common.{◌≡◌, ◌↔◌, ◌+◌, ◌*◌, ◌<◌, ◌≤◌, ◌/◌, ◌%◌, ◌++◌, ℕ, ℤ, List, [], ◌∷◌, Option, Some, None, Bool, true, false, if◌then◌else◌, not, ◌&&◌, ◌||◌, ◌==◌, slice_get, zero, suc, IsTrue, refl, sym, ap, ◌∙◌, subst, arith, inl, inr, bit_and, length, drop, get_or, min, IfSome, true≢false}
+use Rattle.std.proofs.Common.{◌≡◌, ◌↔◌, ◌+◌, ◌<◌, ◌≤◌, ◌++◌, ℕ, ℤ, List, [], ◌∷◌, Option, Some, None, Bool, true, false, if◌then◌else◌, not, ◌&&◌, ◌||◌, ◌==◌, zero, suc, IsTrue, refl, sym, ap, ◌∙◌, subst, arith, inl, inr, bit_and, length, drop, get_or, IfSome, true≢false}
 use Rattle.std.specs.Bool.{⊤}
 use Rattle.linker_elf.specs.Choices.{Condition, Entry, Holds, AllHold, choice, Applies, IsFirst, bound, weak_zero, fixed_address, fixed_distance, executable, local_exec_base, compressible, marked, label_marked, got_high_part, private_base, changed_toc, without_plt}
 use Rattle.linker_elf.specs.Inner.ChoiceTables.{with_fact, fact_conditions, is_held, facts_hold, value_condition, value_conditions, ValuesHold, addend_condition, conditions_of, EntryApplies, IsFirstOf, IsChoiceAt, IsTableOf}
@@ -58,9 +58,10 @@ next : {R A : Type 0} → (row : R → Option RelocationKindInfo) (after : Opera
     → A ↔ (IsTrue (p && is_held mask bit b) × AllHold row after facts cs)
 next row after facts mask bit c cs p b so_far known =
     let one = first row after facts mask bit c cs b known in
-    let two = both p (is_held mask bit b) in
-    (λ h. (two.1 ((so_far.0 h).0, (one.0 (so_far.0 h).1).0), (one.0 (so_far.0 h).1).1),
-      λ h. so_far.1 ((two.0 h.0).0, one.1 ((two.0 h.0).1, h.1)))
+    let two = both p (is_held mask bit b) in (
+      λ h. (two.1 ((so_far.0 h).0, (one.0 (so_far.0 h).1).0), (one.0 (so_far.0 h).1).1),
+      λ h. so_far.1 ((two.0 h.0).0, one.1 ((two.0 h.0).1, h.1)),
+    )
 
 all_facts : {R : Type 0} → (row : R → Option RelocationKindInfo) (after : Operands) (facts : LinkFacts) (mask : ℕ)
     → AllHold row after facts (fact_conditions mask) ↔ (IsTrue (facts_hold mask facts) × ⊤)
@@ -119,9 +120,10 @@ parts row after facts e =
     let f = all_facts row after facts e.conditions.facts in
     let a = addend_holds row after facts e.conditions.addend in
     let second = all_hold_both row after facts (addend_condition e.conditions.addend) (value_conditions e.conditions.values.now) in
-    let first = all_hold_both row after facts (fact_conditions e.conditions.facts) (addend_condition e.conditions.addend ++ value_conditions e.conditions.values.now) in
-    (λ h. first.1 (f.1 (h.0, tt), second.1 (a.0 h.1.0, h.1.1)),
-      λ h. ((f.0 (first.0 h).0).0, (a.1 (second.0 (first.0 h).1).0, (second.0 (first.0 h).1).1)))
+    let first = all_hold_both row after facts (fact_conditions e.conditions.facts) (addend_condition e.conditions.addend ++ value_conditions e.conditions.values.now) in (
+      λ h. first.1 (f.1 (h.0, tt), second.1 (a.0 h.1.0, h.1.1)),
+      λ h. ((f.0 (first.0 h).0).0, (a.1 (second.0 (first.0 h).1).0, (second.0 (first.0 h).1).1)),
+    )
 
 -- whether an entry applies, where a test fails, and where only those of values are left
 pub without_fact : {O K R : Type 0} → (row : R → Option RelocationKindInfo) (after : Operands) (facts : LinkFacts) (e : ChoiceEntry O K R)
@@ -229,8 +231,10 @@ first_of_table {O} {K} {R} are_at Asked row after section o facts (e ∷ es) (d 
     (inl (((table.1.0 section o).0 h.0.0, h.0.1), h.1))
 first_of_table {O} {K} {R} are_at Asked row after section o facts (e ∷ es) (d ∷ ds) otherwise chosen table (inr h) =
     subst (λ x. IsFirst (Applies Asked row after section o facts) (x ∷ ds) otherwise chosen) table.0
-    (inr (λ a. h.0 ((table.1.0 section o).1 a.0, a.1),
-      first_of_table are_at Asked row after section o facts es ds otherwise chosen table.1.1 h.1))
+    (inr (
+      λ a. h.0 ((table.1.0 section o).1 a.0, a.1),
+      first_of_table are_at Asked row after section o facts es ds otherwise chosen table.1.1 h.1,
+    ))
 
 -- what holds of the choice of each entry that applies, and of the other choice, holds of what is chosen
 pub holds_of_first : {K R : Type 0} → (A : Entry K R → Type 0) (P : Choice K R → Type 0) (es : List (Entry K R))

@@ -1,7 +1,7 @@
 -- Entries of the tables of choices, as the code has them.
 use Rattle.std.specs.Prelude.{◌≡◌, ◌==◌, ◌++◌, ◌⊎◌, ◌↔◌, ℕ, ℤ, ⊤, Bool, not, ◌&&◌, ◌||◌, bit_and}
 use Rattle.std.specs.Prelude.{if◌then◌else◌, List, [], ◌∷◌, Option, None, Some, suc, zero}
-use Rattle.linker_elf.specs.Choices.{Condition, Entry, entry, choice, Applies, Holds, AllHold}
+use Rattle.linker_elf.specs.Choices.{Condition, Entry, entry, choice, Applies, AllHold}
 use Rattle.linker_elf.specs.Choices.{bound, weak_zero, fixed_address, fixed_distance, executable}
 use Rattle.linker_elf.specs.Choices.{local_exec_base, compressible, marked, label_marked}
 use Rattle.linker_elf.specs.Choices.{got_high_part, private_base, changed_toc, without_plt}

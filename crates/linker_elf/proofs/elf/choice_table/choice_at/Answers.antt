@@ -1,4 +1,4 @@
-use Rattle.std.proofs.Common.{◌≡◌, sym, ◌∙◌, true≢false, arith}
+use Rattle.std.proofs.Common.{sym, ◌∙◌, true≢false, arith}
 use Rattle.linker_elf.specs.Inner.ChoiceTables.{EntryApplies}
 use Rattle.linker_elf.proofs.ChoiceTables.{item_chosen, item_not_chosen, none_at}
 use Rattle.linker_elf.proofs.elf.choice_table.choice_at.Goals.{then-index-entries+else-applies, else-index-entries}
@@ -14,13 +14,13 @@ returns-then-applies g c =
 pub returns : goal.returns
 returns g c =
     elim c.if-index-entries.branch [
-      then-index-entries+else-applies w ↦
-      item_not_chosen
-      (EntryApplies g.O.Originals.are_at g.R.RelocationName.row_of g.K.ChosenKind.after c.args.section.now c.args.offset c.args.facts.now)
-      c.args.entries.now c.args.index w.index-entries-index.result w.if-index-entries.true w.index-entries-index.is
-      (λ a. true≢false (sym (w.applies.ensures.1 a) ∙ w.if-applies.false))
-    | else-index-entries w ↦
-      none_at
-      (EntryApplies g.O.Originals.are_at g.R.RelocationName.row_of g.K.ChosenKind.after c.args.section.now c.args.offset c.args.facts.now)
-      c.args.entries.now c.args.index (omega (arith, w.if-index-entries.false))
+      | then-index-entries+else-applies w ↦
+          item_not_chosen
+          (EntryApplies g.O.Originals.are_at g.R.RelocationName.row_of g.K.ChosenKind.after c.args.section.now c.args.offset c.args.facts.now)
+          c.args.entries.now c.args.index w.index-entries-index.result w.if-index-entries.true w.index-entries-index.is
+          (λ a. true≢false (sym (w.applies.ensures.1 a) ∙ w.if-applies.false))
+      | else-index-entries w ↦
+          none_at
+          (EntryApplies g.O.Originals.are_at g.R.RelocationName.row_of g.K.ChosenKind.after c.args.section.now c.args.offset c.args.facts.now)
+          c.args.entries.now c.args.index (omega (arith, w.if-index-entries.false))
     ]

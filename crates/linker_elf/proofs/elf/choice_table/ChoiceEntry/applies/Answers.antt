@@ -1,4 +1,4 @@
-use Rattle.std.proofs.Common.{◌≡◌, ◌↔◌, IsTrue, true≢false, sym, ◌∙◌, subst}
+use Rattle.std.proofs.Common.{◌↔◌, IsTrue, true≢false, sym, ◌∙◌, subst}
 use Rattle.linker_elf.specs.Inner.ChoiceTables.{ValuesHold}
 use Rattle.linker_elf.proofs.ChoiceTables.{without_fact, without_addend, by_values}
 use Rattle.linker_elf.proofs.elf.choice_table.ChoiceEntry.applies.Goals as goal
