@@ -116,8 +116,9 @@ static GOT_PCREL34: &[Ppc64Entry] = &[entry!(PldToPaddi => R_PPC64_PCREL34, TO_D
 
 static GOT_TPREL16_HA: &[Ppc64Entry] = &[entry!(AddisToNop => R_PPC64_NONE, TO_LOCAL_EXEC)];
 
-static GOT_TPREL16_LO_DS: &[Ppc64Entry] =
-    &[entry!(LdToAddisThread => R_PPC64_TPREL16_HA, TO_LOCAL_EXEC)];
+static GOT_TPREL16_LO_DS: &[Ppc64Entry] = &[
+    entry!(LdToAddisThread => R_PPC64_TPREL16_HA, TO_LOCAL_EXEC),
+];
 
 static TLS: &[Ppc64Entry] = &[
     entry!(AddToAddi => R_PPC64_TPREL16_LO, TO_LOCAL_EXEC),
