@@ -215,6 +215,7 @@ macro_rules! by_table {
 }
 
 /// The entries of a relocation.
+#[doc(hidden)]
 #[must_use]
 #[inline(always)]
 pub fn entries(name: AArch64Relocation) -> &'static [AArch64Entry] {

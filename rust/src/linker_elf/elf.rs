@@ -5,6 +5,7 @@
 mod choice;
 pub mod choice_table;
 pub(crate) mod engine;
+#[doc(hidden)]
 mod entries;
 mod numbers;
 mod reach;

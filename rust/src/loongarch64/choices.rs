@@ -256,6 +256,7 @@ static TLS_LE_LO12_R: &[LoongArchEntry] = &[
 static OTHERS: &[LoongArchEntry] = &[];
 
 /// The entries of a relocation.
+#[doc(hidden)]
 #[must_use]
 #[inline(always)]
 pub fn entries(name: LoongArch64Relocation) -> &'static [LoongArchEntry] {

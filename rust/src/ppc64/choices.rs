@@ -101,8 +101,9 @@ static GOT_PCREL34: &[Ppc64Entry] = &[entry!(PldToPaddi => R_PPC64_PCREL34, TO_D
 
 static GOT_TPREL16_HA: &[Ppc64Entry] = &[entry!(AddisToNop => R_PPC64_NONE, TO_LOCAL_EXEC)];
 
-static GOT_TPREL16_LO_DS: &[Ppc64Entry] =
-    &[entry!(LdToAddisThread => R_PPC64_TPREL16_HA, TO_LOCAL_EXEC)];
+static GOT_TPREL16_LO_DS: &[Ppc64Entry] = &[
+    entry!(LdToAddisThread => R_PPC64_TPREL16_HA, TO_LOCAL_EXEC),
+];
 
 static TLS: &[Ppc64Entry] = &[
     entry!(AddToAddi => R_PPC64_TPREL16_LO, TO_LOCAL_EXEC),
@@ -161,6 +162,7 @@ macro_rules! by_table {
 }
 
 /// The entries of a relocation.
+#[doc(hidden)]
 #[must_use]
 #[inline(always)]
 pub fn entries(name: Ppc64Relocation) -> &'static [Ppc64Entry] {

@@ -230,6 +230,7 @@ macro_rules! by_table {
 }
 
 /// The entries of a relocation.
+#[doc(hidden)]
 #[must_use]
 #[inline(always)]
 pub fn entries(name: RiscVRelocation) -> &'static [RiscVEntry] {

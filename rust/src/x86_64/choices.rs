@@ -369,6 +369,7 @@ macro_rules! by_table {
 }
 
 /// The entries of a relocation, by the opcode, which is two bytes before the field.
+#[doc(hidden)]
 #[must_use]
 #[inline(always)]
 pub fn entries(name: X86_64Relocation, opcode: u8) -> &'static [X86Entry] {

@@ -152,6 +152,7 @@ impl LinkFacts {
     }
 
     /// Whether S + A is known, and is a number of 12 bits in two's complement.
+    #[doc(hidden)]
     #[must_use]
     #[inline(always)]
     pub fn is_low_12(&self) -> bool {

@@ -5,17 +5,29 @@ use crate::linker_elf::elf::{Choice, LinkFacts, Operands, Row};
 
 /// The facts that an entry may ask for, each a bit of a mask.
 pub const BOUND: u32 = 1 << 0;
+
 pub const WEAK_ZERO: u32 = 1 << 1;
+
 pub const FIXED_ADDRESS: u32 = 1 << 2;
+
 pub const FIXED_DISTANCE: u32 = 1 << 3;
+
 pub const EXECUTABLE: u32 = 1 << 4;
+
 pub const LOCAL_EXEC_BASE: u32 = 1 << 5;
+
 pub const COMPRESSIBLE: u32 = 1 << 6;
+
 pub const MARKED: u32 = 1 << 7;
+
 pub const LABEL_MARKED: u32 = 1 << 8;
+
 pub const GOT_HIGH_PART: u32 = 1 << 9;
+
 pub const PRIVATE_BASE: u32 = 1 << 10;
+
 pub const CHANGED_TOC: u32 = 1 << 11;
+
 pub const WITHOUT_PLT: u32 = 1 << 12;
 
 /// What an entry asks of the value of a relocation, so many bytes before the place, or of S + A.
