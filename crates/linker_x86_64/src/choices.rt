@@ -3,7 +3,8 @@
 ghost use Rattle.std.specs.Prelude.{◌-◌, ◌≡◌, ◌≤◌, length, slice_index};
 ghost use Rattle.linker_elf.specs.Inner.ChoiceTables.{IsTableOf};
 ghost use Rattle.linker_x86_64.specs.Inner.X86Tables.{StandAt};
-ghost use Rattle.linker_x86_64.specs.X86Choices.{IsX86Choice, IsAskedFor, x86_64_after, x86_64_table};
+ghost use Rattle.linker_x86_64.specs.X86Choices.{IsX86Choice, IsAskedFor, x86_64_after};
+ghost use Rattle.linker_x86_64.specs.X86Choices.{x86_64_table};
 ghost use Rattle.linker_x86_64.specs.X86Originals.{x86_64_matches};
 
 use super::rewrites::{is_lea_of_descriptor, is_legacy};
@@ -109,8 +110,8 @@ impl ChosenKind for RelaxationKind {
     }
 }
 
-/// An entry: a rewrite, the relocation after it, the conditions, and the instructions that it is for,
-/// if not all of the rewrite's.
+/// An entry: a rewrite, the relocation after it, the conditions, and the instructions that it is
+/// for, if not all of the rewrite's.
 macro_rules! entry {
     ($kind:ident $(($n:expr))? => $relocation:ident, $conditions:expr) => {
         entry!($kind $(($n))? => $relocation, $conditions, OfRewrite)

@@ -100,8 +100,8 @@ impl ChosenKind for RelaxationKind {
     }
 }
 
-/// An entry: a rewrite, the relocation after it, the conditions, and the instructions that it is for,
-/// if not all of the rewrite's.
+/// An entry: a rewrite, the relocation after it, the conditions, and the instructions that it is
+/// for, if not all of the rewrite's.
 macro_rules! entry {
     ($kind:ident $(($n:expr))? => $relocation:ident, $conditions:expr) => {
         entry!($kind $(($n))? => $relocation, $conditions, OfRewrite)
