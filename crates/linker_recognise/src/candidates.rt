@@ -18,13 +18,16 @@ fn candidate<O, K: Copy, R: Copy>(
 ) -> Option<Choice<K, R>>
     ensures { result ≡ slice_get (choices_in entries.now unchanged) index }
 {
-    match entries.get(index) {
-        Some(entry) => Some(Choice {
+    if index < entries.len() {
+        let entry = &entries[index];
+        Some(Choice {
             kind: entry.kind,
             relocation: entry.relocation,
-        }),
-        None if index == entries.len() => Some(unchanged),
-        None => None,
+        })
+    } else if index == entries.len() {
+        Some(unchanged)
+    } else {
+        None
     }
 }
 
