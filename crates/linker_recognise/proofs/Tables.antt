@@ -1,7 +1,7 @@
 -- The choices of the code's entries are those of the definition's.
 use Rattle.std.proofs.Common.{◌≡◌, ◌≤◌, ◌<◌, ◌+◌, ℕ, zero, suc, List, [], ◌∷◌, Option, Some, None, length, get_or, slice_get, refl, ap, ◌∙◌, sym, arith}
 use Rattle.linker_elf.specs.Choices.{Entry, choice}
-use Rattle.linker_elf.specs.Inner.ChoiceTables.{IsTableOf, entry_of}
+use Rattle.linker_elf.specs.Inner.ChoiceTables.{IsTableOf}
 use Rattle.linker_elf.specs.declared.elf.choice.Choice.{Choice}
 use Rattle.linker_elf.specs.declared.elf.choice_table.ChoiceEntry.{ChoiceEntry}
 use Rattle.linker_recognise.specs.Inner.Candidates.{choices_in, padded}

@@ -1,31 +1,27 @@
 -- A write of a row's value to an instruction keeps the bits that aren't of the row's field.
-use Rattle.std.proofs.Common.{◌≡◌, ◌≤◌, ◌<◌, ℕ, zero, suc, ◌+◌, ◌-◌, ◌*◌, ◌/◌, ◌%◌, ◌^◌, Bool, true, false, not, ◌&&◌, ◌||◌, List, [], ◌∷◌, ◌++◌, length, refl, sym, ap, subst, ◌∙◌, ⊎_elim, arith, ℤ, pos, max, eqb, ltb}
-use Rattle.std.specs.Prelude.{nat_lt, if◌then◌else◌, int_lt}
-use Rattle.std.specs.Int.{bit_at, byte_len, w64, cast_unsigned}
-use Rattle.std.specs.List.{list_any}
-use Rattle.std.proofs.lemmas.Bool.{cases_lt, lt-ltb, le-ltb, ltb-true, or_cases, eqb-true}
+use Rattle.std.proofs.Common.{◌≡◌, ◌≤◌, ◌<◌, ℕ, zero, suc, ◌+◌, ◌-◌, ◌*◌, ◌/◌, ◌%◌, ◌^◌, Bool, true, false, not, ◌&&◌, ◌||◌, List, [], ◌∷◌, refl, sym, ap, subst, ◌∙◌, ⊎_elim, arith, ℤ, max, eqb}
+use Rattle.std.specs.Prelude.{nat_lt, if◌then◌else◌}
+use Rattle.std.specs.Int.{bit_at, w64, cast_unsigned}
+use Rattle.std.proofs.lemmas.Bool.{cases_lt, lt-ltb, le-ltb, or_cases, eqb-true}
 use Rattle.std.proofs.lemmas.List.Folds.{list_any-append}
 use Rattle.std.proofs.lemmas.Nat.{mod_below, pow_pos}
 use Rattle.std.proofs.lemmas.Nat.Bits.{bit_at_cat_low, bit_at_cat_high, bit_at-lt}
-use Rattle.linker_base.specs.Bits.{field}
-use Rattle.linker_base.specs.Form.{ImmediateBit, Mark, replaced, ored, cleared, Form, BitsWritten, Written, WriteKeepsOtherBits, is_placed, placed_bit, bit_for, or_bits_to, bits_to}
+use Rattle.linker_base.specs.Form.{ImmediateBit, Mark, replaced, ored, cleared, Form, BitsWritten, Written, WriteKeepsOtherBits, is_placed, or_bits_to}
 use Rattle.linker_base.specs.declared.bit_misc.BitRange.{BitRange}
 use Rattle.linker_base.proofs.Fields.{bit_at_mod, bit_at_mod_above}
-use Rattle.linker_elf.specs.AArch64.{aarch64_form, access_scale, move_opcode, movnz}
-use Rattle.linker_elf.specs.Elf.{relocation_form}
+use Rattle.linker_elf.specs.AArch64.{aarch64_form, access_scale, move_opcode}
 use Rattle.linker_elf.specs.Inner.FormLaws.{aarch64_keeps, riscv_keeps, ppc64_keeps, loongarch_keeps}
 use Rattle.linker_elf.specs.LoongArch.{loongarch_form, shift10_low}
 use Rattle.linker_elf.specs.Ppc64.{ppc64_form}
-use Rattle.linker_elf.specs.Relocate.{clearing, ored_cleared, places_cleared, number_placed, bits_taken, is_dq_form, with_low_4, with_bit_31_if, is_32_bit_move, InstructionWritten}
+use Rattle.linker_elf.specs.Relocate.{clearing, ored_cleared, places_cleared, number_placed, bits_taken, is_dq_form, with_low_4, with_bit_31_if, is_32_bit_move}
 use Rattle.linker_elf.specs.RiscV.{riscv_form}
 use Rattle.linker_elf.specs.declared.aarch64.forms.AArch64Instruction.{AArch64Instruction}
 use Rattle.linker_elf.specs.declared.aarch64.forms.AArch64Instruction.TheVariants.{Movnz, MachOLow12}
-use Rattle.linker_elf.specs.declared.elf.RelocationInstruction.{RelocationInstruction}
 use Rattle.linker_elf.specs.declared.elf.RelocationInstruction.TheVariants.{AArch64, RiscV, Ppc64, LoongArch64}
 use Rattle.linker_elf.specs.declared.loongarch64.forms.LoongArch64Instruction.{LoongArch64Instruction}
-use Rattle.linker_elf.specs.declared.loongarch64.forms.LoongArch64Instruction.TheVariants.{Shift5, Shift10}
+use Rattle.linker_elf.specs.declared.loongarch64.forms.LoongArch64Instruction.TheVariants.{Shift10}
 use Rattle.linker_elf.specs.declared.ppc64.forms.Ppc64Instruction.{Ppc64Instruction}
-use Rattle.linker_elf.specs.declared.ppc64.forms.Ppc64Instruction.TheVariants.{D, Ds}
+use Rattle.linker_elf.specs.declared.ppc64.forms.Ppc64Instruction.TheVariants.{Ds}
 use Rattle.linker_elf.specs.declared.riscv64.forms.RiscVInstruction.{RiscVInstruction}
 use Rattle.linker_elf.specs.declared.riscv64.forms.RiscVInstruction.TheVariants.{UType}
 use Rattle.linker_elf.proofs.Clearing.{same_window, none_ored}

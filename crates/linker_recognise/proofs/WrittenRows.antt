@@ -1,12 +1,12 @@
 -- A write of a row's value to bytes changes bits of its field only.
-use Rattle.std.proofs.Common.{◌≡◌, ◌≤◌, ◌<◌, ℕ, zero, suc, ◌+◌, ◌-◌, ◌*◌, ◌/◌, ◌%◌, ◌^◌, Bool, true, false, not, ◌&&◌, ◌||◌, List, [], ◌∷◌, ◌++◌, length, take, drop, replicate, get_or, refl, sym, ap, subst, ◌∙◌, ⊎_elim, arith, ℤ, pos, negsuc, eqb, ltb}
+use Rattle.std.proofs.Common.{◌≡◌, ◌≤◌, ◌<◌, ℕ, zero, suc, ◌+◌, ◌-◌, ◌*◌, ◌/◌, ◌%◌, ◌^◌, Bool, true, false, ◌&&◌, List, ◌++◌, length, take, drop, replicate, get_or, refl, sym, ap, subst, ◌∙◌, ⊎_elim, arith, ℤ, pos, negsuc}
 use Rattle.std.specs.Prelude.{nat_lt, nat_le, slice_index, if◌then◌else◌, int_lt, ◌+ℤ◌, ◌-ℤ◌, unsigned_abs}
-use Rattle.std.specs.Int.{Width, bit_at, byte_len, w16, w32, w64, from_le_bytes, to_le_bytes, int_rem_euclid}
+use Rattle.std.specs.Int.{bit_at, byte_len, w64, to_le_bytes, int_rem_euclid}
 use Rattle.std.proofs.lemmas.Bool.{cases_lt, lt-ltb, le-leb, and_parts, ltb-true, both_ways, and_from}
 use Rattle.std.proofs.Math.Nat.{pow-le-pow_right}
 use Rattle.std.proofs.lemmas.List.{get_or-drop, get_or_append_left, get_or-append_right, get_or-take, length-take-le, drop_at}
 use Rattle.std.proofs.lemmas.Nat.Bits.{bit_at_cat_high}
-use Rattle.linker_base.specs.Form.{Form, window_of, Written, BitsWritten}
+use Rattle.linker_base.specs.Form.{window_of}
 use Rattle.linker_base.specs.declared.bit_misc.BitRange.{BitRange}
 use Rattle.linker_base.proofs.Fields.{bit_at_mod, bit_at_shr}
 use Rattle.linker_elf.specs.AArch64.{aarch64_form}
@@ -15,7 +15,7 @@ use Rattle.linker_elf.specs.LoongArch.{loongarch_form}
 use Rattle.linker_elf.specs.Ppc64.{ppc64_form}
 use Rattle.linker_elf.specs.RiscV.{riscv_form}
 use Rattle.linker_elf.specs.Relocate.{insn_at, bits_at, value_at, is_low_jump}
-use Rattle.linker_elf.specs.Relocate.{IsWritten, InstructionWritten, WritesRow, window_len, size_len, bits_taken, takes_size, SizeNumber, number_of_bytes, number_written, low_bytes}
+use Rattle.linker_elf.specs.Relocate.{IsWritten, InstructionWritten, WritesRow, size_len, bits_taken, takes_size, SizeNumber, number_of_bytes, number_written, low_bytes}
 use Rattle.linker_elf.specs.declared.aarch64.forms.AArch64Instruction.{AArch64Instruction}
 use Rattle.linker_elf.specs.declared.aarch64.forms.AArch64Instruction.TheVariants.{Movnz}
 use Rattle.linker_elf.specs.declared.elf.RelocationInstruction.{RelocationInstruction}
@@ -31,7 +31,7 @@ use Rattle.linker_elf.specs.declared.ppc64.forms.Ppc64Instruction.{Ppc64Instruct
 use Rattle.linker_elf.specs.declared.ppc64.forms.Ppc64Instruction.TheVariants.{D}
 use Rattle.linker_elf.specs.declared.riscv64.forms.RiscVInstruction.{RiscVInstruction}
 use Rattle.linker_elf.specs.declared.riscv64.forms.RiscVInstruction.TheVariants.{UType}
-use Rattle.linker_recognise.specs.Fields.{is_field_bit, is_size_bit, is_instruction_bit, is_value_bit, IsSameBut, AreSameButFor}
+use Rattle.linker_recognise.specs.Fields.{is_size_bit, is_instruction_bit, is_value_bit, IsSameBut, AreSameButFor}
 use Rattle.linker_recognise.specs.WrittenRows.{AreBytes, ChangesField}
 use Rattle.linker_recognise.proofs.WindowBits.{window_bit}
 use Rattle.linker_recognise.proofs.Written.{IsWhole, whole_writes_field}

@@ -11,7 +11,7 @@ use Rattle.linker_recognise.proofs.riscv64.recognise.Goals as goal
 pub returns-clause-found : goal.returns-clause-found
 returns-clause-found c =
     c.recognise_among.ensures (riscv_choices c.args.name)
-    (c.candidates.ensures ∙ ap padded (same_choices _ _ _ (riscv_entries c.args.name) (choice kinds.NoOp c.args.name) c.entries.ensures.table))
+    (c.candidates-choices.ensures ∙ ap padded (same_choices _ _ _ (riscv_entries c.args.name) (choice kinds.NoOp c.args.name) c.entries.ensures.table))
 
 pub returns-clause-any : goal.returns-clause-any
 returns-clause-any c = λ facts m is leaves reads.
