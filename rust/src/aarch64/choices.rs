@@ -223,7 +223,7 @@ pub fn entries(name: AArch64Relocation) -> &'static [AArch64Entry] {
 }
 
 /// The choice by the table of a name.
-#[inline(always)]
+#[cfg_attr(not(debug_assertions), inline(always))]
 fn choice_by(
     table: &'static [AArch64Entry],
     name: AArch64Relocation,

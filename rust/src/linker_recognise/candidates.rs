@@ -14,13 +14,16 @@ fn candidate<O, K: Copy, R: Copy>(
     unchanged: Choice<K, R>,
     index: usize,
 ) -> Option<Choice<K, R>> {
-    match entries.get(index) {
-        Some(entry) => Some(Choice {
+    if index < entries.len() {
+        let entry = &entries[index];
+        Some(Choice {
             kind: entry.kind,
             relocation: entry.relocation,
-        }),
-        None if index == entries.len() => Some(unchanged),
-        None => None,
+        })
+    } else if index == entries.len() {
+        Some(unchanged)
+    } else {
+        None
     }
 }
 

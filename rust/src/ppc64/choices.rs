@@ -170,7 +170,7 @@ pub fn entries(name: Ppc64Relocation) -> &'static [Ppc64Entry] {
 }
 
 /// The choice by a table of a name.
-#[inline(always)]
+#[cfg_attr(not(debug_assertions), inline(always))]
 fn choice_by(
     table: &'static [Ppc64Entry],
     name: Ppc64Relocation,

@@ -238,7 +238,7 @@ pub fn entries(name: RiscVRelocation) -> &'static [RiscVEntry] {
 }
 
 /// The choice by a table of a name.
-#[inline(always)]
+#[cfg_attr(not(debug_assertions), inline(always))]
 fn choice_by(
     table: &'static [RiscVEntry],
     name: RiscVRelocation,

@@ -377,7 +377,7 @@ pub fn entries(name: X86_64Relocation, opcode: u8) -> &'static [X86Entry] {
 }
 
 /// The choice by a table of a name and an opcode.
-#[inline(always)]
+#[cfg_attr(not(debug_assertions), inline(always))]
 fn choice_by(
     table: &'static [X86Entry],
     name: X86_64Relocation,

@@ -178,7 +178,7 @@ impl<O: Originals<K>, K: ChosenKind, R: RelocationName> ChoiceEntry<O, K, R> {
 }
 
 /// The choice of the entry with an index, if there is one and it applies.
-#[inline(always)]
+#[cfg_attr(not(debug_assertions), inline(always))]
 fn choice_at<O: Originals<K>, K: ChosenKind, R: RelocationName>(
     entries: &'static [ChoiceEntry<O, K, R>],
     index: usize,
