@@ -2,7 +2,7 @@
 //! same, leave the same behind and allocate as often.
 
 use exports::*;
-use linker_utils::elf::{Operands, RelocationNumbers};
+use linker_utils::elf::{Operands, RelocationNumbers, RewriteWindow};
 use linker_utils::recognise::FieldBits;
 use linker_utils::relaxation::{BlockHead, Call, RelaxDelta};
 use linker_utils::runs::relaxation::{Shape, Shapes};
@@ -309,6 +309,7 @@ fields! { RelaxDelta: input_offset, bytes_deleted, cumulative_deleted, }
 fields! { BlockHead: input_offset, output_offset, }
 fields! { Call: site, target, }
 fields! { FieldBits: offset, bits, }
+fields! { RewriteWindow: back, len, }
 fields! { Operands: symbol, addend, place, got_entry, got_base, plt_entry, symbol_size, tls_base, }
 fields! {
     RelocationNumbers: kind, form, mask, machine, is_bits, byte_size, first_bit, end_bit,
