@@ -173,7 +173,7 @@ impl LinkFacts {
     }
 }
 
-#[inline(always)]
+#[inline]
 fn reaches(row: Option<Row>, after: &Operands, back: u64) -> bool
     ensures { IsTrue result ↔ RowReaches row (operands_before back after.now) }
 {
@@ -184,7 +184,7 @@ fn reaches(row: Option<Row>, after: &Operands, back: u64) -> bool
     }
 }
 
-#[inline(always)]
+#[inline]
 fn value_is_within(row: Option<Row>, bounds: (i64, i64), operands: &Operands, back: u64) -> bool
     ensures { IsTrue result ↔ RowIsWithin row bounds (operands_before back operands.now) }
 {

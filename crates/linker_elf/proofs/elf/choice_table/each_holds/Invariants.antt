@@ -1,6 +1,6 @@
 use Rattle.std.proofs.Common.{◌↔◌, drop}
 use Rattle.linker_elf.specs.Inner.ChoiceTables.{ValuesHold}
-use Rattle.linker_elf.proofs.elf.choice_table.all_hold.Given as goal
+use Rattle.linker_elf.proofs.elf.choice_table.each_holds.Given as goal
 
 abbrev pub invariant-loop-value : goal.invariant-loop-value
 invariant-loop-value g l =
