@@ -3,9 +3,13 @@
 
 use crate::measure::{Beside, Report, Side};
 use crate::table::{AARCH64, RISCV, X86_64};
+use erased_crate::aarch64::{self, AArch64Relocation};
 use erased_crate::architecture::Relaxation;
 use erased_crate::elf::{Architecture, InstructionRewrite, LinkFacts, Operands};
+use erased_crate::riscv64::{self, RiscVRelocation};
+use erased_crate::x86_64::{self, X86_64Relocation};
 use sathunne::raw::*;
+use std::hint::black_box;
 
 const COUNT: usize = 20_000;
 
@@ -258,5 +262,78 @@ pub fn choices(report: &mut Report) {
             side(by_crate, false),
         ];
         report.line(stream.name, sites.len(), false, sides);
+    }
+}
+
+/// Relocations that the tables of choices don't list, of eight bytes and of four.
+const UNLISTED: [(u16, u32); 3] = [(AARCH64, 257), (RISCV, 2), (X86_64, 2)];
+
+/// How many relocations: what is known of them fits in a cache.
+const ALONE: usize = 250;
+
+/// Chooses for each site by a relocation's name.
+fn choose_all<N: Copy, C>(
+    known: &[(u32, &Site, LinkFacts)],
+    name_of: impl Fn(u32) -> N,
+    choose: impl Fn(N, u64, &LinkFacts) -> C,
+) -> u64 {
+    let name = name_of(known[0].0);
+    for (_, site, facts) in known {
+        black_box(choose(black_box(name), site.offset, facts));
+    }
+    0
+}
+
+/// A choice alone, of a relocation that a table lists and of one that none does: by its code, and in
+/// the crate by its name.
+pub fn choosing(report: &mut Report) {
+    report.heading("Choosing a rewrite, a relocation", Beside::Nothing);
+    for stream in &Stream::all() {
+        let (machine, section) = (stream.machine, &stream.section[..]);
+        let unlisted = UNLISTED.into_iter().find(|&(of, _)| of == machine);
+        let (_, unlisted) = unlisted.expect("of each stream");
+        for (name, other) in [(String::new(), None), (" without a table".into(), Some(unlisted))] {
+            let sites = || {
+                let listed = stream.sites[0].r_type;
+                let of_one = stream.sites.iter().filter(move |site| site.r_type == listed);
+                of_one.take(ALONE).map(move |site| (other.unwrap_or(listed), site, facts(site)))
+            };
+            let known: Vec<(u32, &Site, LinkFacts)> = sites().collect();
+            let count = known.len();
+            let known_of_c: Vec<(u32, &Site, sathunne::raw::LinkFacts)> = sites()
+                .map(|(r_type, site, _)| (r_type, site, (&site.facts()).into()))
+                .collect();
+            let exports = Side::over(
+                Choice::default(),
+                |_: &mut Choice| (),
+                move |choice: &mut Choice| {
+                    for (r_type, site, facts) in &known_of_c {
+                        let (at, len) = (section.as_ptr(), section.len());
+                        // SAFETY: the section is there
+                        let status = unsafe {
+                            linker_utils_choose_nonnull(
+                                machine, *r_type, at, len, site.offset, facts, choice,
+                            )
+                        };
+                        assert_eq!(status, 0);
+                    }
+                },
+                |_| 0,
+            );
+            let by_crate = Side::number(move || match machine {
+                AARCH64 => choose_all(&known, AArch64Relocation::from_elf, |name, offset, facts| {
+                    aarch64::choose(name, section, offset, facts)
+                }),
+                RISCV => choose_all(&known, RiscVRelocation::from_elf, |name, offset, facts| {
+                    riscv64::choose(name, section, offset, facts)
+                }),
+                _ => choose_all(&known, X86_64Relocation::from_elf, |name, offset, facts| {
+                    x86_64::choose(name, section, offset, facts)
+                }),
+            });
+            let sides = [Some(exports), None, Some(by_crate), None];
+            let line = format!("{}{name}", stream.name);
+            report.line(&line, count, false, sides);
+        }
     }
 }

@@ -58,10 +58,11 @@ fn main() {
         let mut parts = args.iter().filter(|arg| !arg.starts_with("--")).peekable();
         parts.peek().is_none() || parts.any(|arg| arg == part)
     };
-    let parts: [(&str, fn(&mut Report)); 16] = [
+    let parts: [(&str, fn(&mut Report)); 17] = [
         ("forms", forms),
         ("rewrites", rewrites),
         ("choices", choices::choices),
+        ("choosing", choices::choosing),
         ("rows", rows),
         ("stream", streams),
         ("numbers", numbers),
