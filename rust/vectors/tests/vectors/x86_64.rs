@@ -862,61 +862,6 @@ fn indirect_jumps_become_direct() {
     assert_eq!((offset, addend), (1, -4));
 }
 
-#[test]
-fn fields_have_the_relocation_of_the_psabi() {
-    for (kind, before, after) in [
-        (
-            RelaxationKind::MovIndirectToLea,
-            X86_64Relocation::R_X86_64_CODE_4_GOTPCRELX,
-            Some(X86_64Relocation::R_X86_64_PC32),
-        ),
-        (
-            RelaxationKind::JmpIndirectToRelative,
-            X86_64Relocation::R_X86_64_GOTPCRELX,
-            Some(X86_64Relocation::R_X86_64_PC32),
-        ),
-        (
-            RelaxationKind::MovIndirectToAbsolute,
-            X86_64Relocation::R_X86_64_GOTPCRELX,
-            Some(X86_64Relocation::R_X86_64_32),
-        ),
-        (
-            RelaxationKind::RexTestIndirectToAbsolute(3),
-            X86_64Relocation::R_X86_64_REX_GOTPCRELX,
-            Some(X86_64Relocation::R_X86_64_32S),
-        ),
-        (
-            RelaxationKind::RexAddIndirectToAbsolute(6),
-            X86_64Relocation::R_X86_64_CODE_6_GOTTPOFF,
-            Some(X86_64Relocation::R_X86_64_TPOFF32),
-        ),
-        (RelaxationKind::RexXorIndirectToAbsolute(3), X86_64Relocation::R_X86_64_GOTTPOFF, None),
-        (
-            RelaxationKind::TlsGdToInitialExec,
-            X86_64Relocation::R_X86_64_TLSGD,
-            Some(X86_64Relocation::R_X86_64_GOTTPOFF),
-        ),
-        (
-            RelaxationKind::TlsLdToLocalExec,
-            X86_64Relocation::R_X86_64_TLSLD,
-            Some(X86_64Relocation::R_X86_64_NONE),
-        ),
-        (
-            RelaxationKind::TlsDescToLocalExec(3),
-            X86_64Relocation::R_X86_64_GOTPC32_TLSDESC,
-            Some(X86_64Relocation::R_X86_64_TPOFF32),
-        ),
-        (
-            RelaxationKind::SkipTlsDescCall,
-            X86_64Relocation::R_X86_64_TLSDESC_CALL,
-            Some(X86_64Relocation::R_X86_64_NONE),
-        ),
-        (RelaxationKind::NoOp, X86_64Relocation::R_X86_64_GOTPCRELX, None),
-    ] {
-        assert_eq!(kind.relocation_after(before), after, "{kind:?}");
-    }
-}
-
 /// Each rewrite, the offset in a section that is just its window, and the section's length.
 static WINDOWS: [(RelaxationKind, u64, usize); 21] = [
     (RelaxationKind::MovIndirectToLea, 2, 1),
