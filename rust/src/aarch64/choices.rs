@@ -57,6 +57,7 @@ pub fn is_tls_descriptor_sequence(section: &[u8], offset: u64) -> bool {
 }
 
 /// The instructions that an entry is for: what its rewrite is meant for, or others.
+#[derive(Debug)]
 pub enum Original {
     /// What the rewrite is meant for.
     OfRewrite,

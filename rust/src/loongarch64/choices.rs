@@ -72,6 +72,7 @@ fn is_add_tp(section: &[u8], offset: u64) -> bool {
 }
 
 /// The instructions that an entry is for, of which the first is so many bytes before the offset.
+#[derive(Debug)]
 pub enum AskedFor {
     /// Those that its rewrite is meant for.
     OfRewrite,

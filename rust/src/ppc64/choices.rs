@@ -10,6 +10,7 @@ use crate::linker_elf::elf::{Choice, LinkFacts, Operands};
 use crate::linker_elf::ppc64::Ppc64Relocation;
 
 /// The instructions that an entry's rewrite is meant for.
+#[derive(Debug)]
 pub struct OfRewrite;
 
 impl Originals<RelaxationKind> for OfRewrite {

@@ -12,6 +12,7 @@ use crate::linker_elf::elf::choice_table::{
 use crate::linker_elf::elf::{Choice, LinkFacts, Operands};
 
 /// The instructions that an entry is for: what its rewrite is meant for, or another one.
+#[derive(Debug)]
 pub enum Original {
     OfRewrite,
     Lui,

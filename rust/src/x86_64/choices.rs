@@ -10,6 +10,7 @@ use crate::linker_elf::elf::choice_table::{
 use crate::linker_elf::elf::{Choice, LinkFacts, Operands};
 
 /// The instructions that an entry is for.
+#[derive(Debug)]
 pub enum AskedFor {
     /// Those that its rewrite is for.
     OfRewrite,
