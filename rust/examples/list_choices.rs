@@ -1,15 +1,14 @@
 //! Lists the tables of the rewrites that a linker chooses, of which `choose` takes the first that
 //! applies. `tools/choice_tables` makes the tables of the docs and of the header of it.
 //!
-//! A line has words between tabs. Of an architecture, and then of each entry in its order:
+//! A line has words with tabs between. An architecture is followed by its entries, each in its place,
+//! and by the relocations that their conditions name:
 //!
 //! ```text
 //! architecture NAME
 //! entry RELOCATION OPCODES INSTRUCTIONS REWRITE NUMBER N RELOCATION_AFTER WRITTEN DELETED OTHER CONDITION..
+//! value RELOCATION FORMULA REACH MULTIPLE
 //! ```
-//!
-//! and of each relocation that a condition names, behind the entries: `value RELOCATION FORMULA REACH
-//! MULTIPLE`.
 
 use linker_utils::aarch64::{self, AArch64Relocation};
 use linker_utils::architecture::Relaxation;
@@ -139,7 +138,7 @@ fn value<R: Copy + Debug>(condition: &ValueCondition<R>) -> (String, Option<R>) 
         }
     };
     let place = if back == 0 { String::new() } else { format!(" at -{back}") };
-    let known = if may_be_unknown { ", if known" } else { "" };
+    let known = if may_be_unknown { " if known" } else { "" };
     (format!("`{name:?}`{place} {held}{known}"), Some(name))
 }
 
@@ -271,8 +270,11 @@ fn list<O: Debug + 'static, K: Copy + Debug + 'static, R: Copy + Debug + Into<u3
     }
     for (code, name) in values {
         let row = architecture.row(code).expect("a relocation of a condition has a row");
+        let info = row.info();
+        let biased = info.bias.map_or(String::new(), |bias| format!(" + {:#x}", bias.value()));
+        let pages = if info.mask.is_some() { ", of pages" } else { "" };
         let reach = row.reach().bounds.map_or(String::new(), |(from, past)| range(from, past));
-        println!("value\t{name:?}\t{:?}\t{reach}\t{}", row.kind(), row.info().alignment);
+        println!("value\t{name:?}\t`{:?}`{biased}{pages}\t{reach}\t{}", info.kind, info.alignment);
     }
     architecture
 }

@@ -301,6 +301,7 @@ fn choice_by(
 /// assert_eq!(section, [0x03, 0, 0, 0x90, 0x63, 0, 0, 0x91]);
 /// ```
 #[must_use]
+#[doc = include_str!("../../doc/aarch64/choose.md")]
 pub fn choose(
     name: AArch64Relocation,
     section: &[u8],

@@ -388,6 +388,7 @@ macro_rules! first_of {
 /// assert_eq!(chosen.relocation, LoongArch64Relocation::R_LARCH_B26);
 /// ```
 #[must_use]
+#[doc = include_str!("../../doc/loongarch64/choose.md")]
 pub fn choose(
     name: LoongArch64Relocation,
     section: &[u8],

@@ -258,6 +258,7 @@ fn choice_by(
 /// assert_eq!(load.kind, RelaxationKind::IndexedToD);
 /// ```
 #[must_use]
+#[doc = include_str!("../../doc/ppc64/choose.md")]
 pub fn choose(
     name: Ppc64Relocation,
     section: &[u8],

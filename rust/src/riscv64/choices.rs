@@ -351,6 +351,7 @@ fn choice_by(
 /// assert_eq!(chosen.kind, RelaxationKind::NoOp);
 /// ```
 #[must_use]
+#[doc = include_str!("../../doc/riscv64/choose.md")]
 pub fn choose(
     name: RiscVRelocation,
     section: &[u8],

@@ -454,6 +454,7 @@ fn opcode_before(section: &[u8], offset: u64) -> u8 {
 /// assert_eq!(section, [0x48, 0xc7, 0xc7, 0x10, 0x40, 0x40, 0]);
 /// ```
 #[must_use]
+#[doc = include_str!("../../doc/x86_64/choose.md")]
 pub fn choose(
     name: X86_64Relocation,
     section: &[u8],
