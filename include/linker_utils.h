@@ -340,14 +340,8 @@ enum linker_utils_ppc64_rewrite {
 };
 
 /* Where `n` is marked it is the count of the instruction's bytes before the field: 2 without a
- * prefix, 3 with REX, 4 with REX2 and 6 with EVEX. The relocation of the field afterwards:
- *   MOV_INDIRECT_TO_LEA, CALL_ and JMP_INDIRECT_TO_RELATIVE   R_X86_64_PC32
- *   .._TO_ABSOLUTE           R_X86_64_32S, without a prefix R_X86_64_32; of MOV and ADD also
- *                            R_X86_64_TPOFF32, in place of R_X86_64_GOTTPOFF
- *   TLS_GD_ and TLS_DESC_TO_LOCAL_EXEC       R_X86_64_TPOFF32
- *   TLS_GD_ and TLS_DESC_TO_INITIAL_EXEC     R_X86_64_GOTTPOFF
- *   TLS_LD_TO_LOCAL_EXEC, SKIP_TLS_DESC_CALL none; R_X86_64_DTPOFF32 and R_X86_64_DTPOFF64 of the
- *                            local-dynamic block become R_X86_64_TPOFF32 and R_X86_64_TPOFF64 */
+ * prefix, 3 with REX, 4 with REX2 and 6 with EVEX. The relocation of the field afterwards is in the
+ * tables of choices below. */
 enum linker_utils_x86_64_rewrite {
     LINKER_UTILS_X86_64_REWRITE_MOV_INDIRECT_TO_LEA = 0,
     LINKER_UTILS_X86_64_REWRITE_MOV_INDIRECT_TO_ABSOLUTE = 1,
@@ -718,18 +712,18 @@ struct linker_utils_choice {
 };
 
 /* The rewrite of the instruction at a relocation that the psABI allows by these facts, and the
- * relocation after it, into `choice`. `linker_utils_matches` of the rewrite then returns
- * LINKER_UTILS_OK. Where no rewrite is allowed, or the bytes are not the instruction that the
- * relocation's name asks for, it is NO_OP and the same relocation. NO_OP and another relocation are
- * possible: the `adrp` of a pair. The bytes are those of the object file: the two halves of a pair,
- * and the instructions of a TLS descriptor's sequence on AArch64 and LoongArch, test the whole of it, so that all
- * are chosen alike where the facts and the symbol are the same. So they have to be chosen before one
- * of them is rewritten. On RISC-V the instructions of a descriptor, and the `auipc` and `ld` of a GOT
- * entry, may be apart: each is chosen by the facts of the high part that its label names, `is_marked`
- * of a descriptor's R_RISCV_TLSDESC_HI20 among them; the `auipc` and `ld` by `is_label_marked`, and
- * not by `is_marked` of either. After ADDI_TO_AUIPC the place of
- * R_RISCV_TLS_GOT_HI20, and of the R_RISCV_PCREL_LO12_I that CALL_TO_LD leaves, is that of the `addi`,
- * and S of the latter is the GOT entry. */
+ * relocation after it, into `choice`: by the tables below. `linker_utils_matches` of the rewrite
+ * then returns LINKER_UTILS_OK. Where no rewrite is allowed, or the bytes are not the instruction
+ * that the relocation's name asks for, it is NO_OP and the same relocation. NO_OP and another
+ * relocation are possible: the `adrp` of a pair. The bytes are those of the object file: the two
+ * halves of a pair, and the instructions of a TLS descriptor's sequence on AArch64 and LoongArch,
+ * test the whole of it, so that all are chosen alike where the facts and the symbol are the same.
+ * So they have to be chosen before one of them is rewritten. On RISC-V the instructions of a
+ * descriptor, and the `auipc` and `ld` of a GOT entry, may be apart: each is chosen by the facts of
+ * the high part that its label names, `is_marked` of a descriptor's R_RISCV_TLSDESC_HI20 among
+ * them; the `auipc` and `ld` by `is_label_marked`, and not by `is_marked` of either. After
+ * ADDI_TO_AUIPC the place of R_RISCV_TLS_GOT_HI20, and of the R_RISCV_PCREL_LO12_I that CALL_TO_LD
+ * leaves, is that of the `addi`, and S of the latter is the GOT entry. */
 static inline uint32_t linker_utils_choose(uint16_t machine, uint32_t r_type,
                                            const uint8_t *section, size_t section_len,
                                            uint64_t offset,
@@ -738,8 +732,8 @@ static inline uint32_t linker_utils_choose(uint16_t machine, uint32_t r_type,
 
 /* ---- The tables of choices, made by tools/choice_tables.
  * The first entry of a relocation is chosen whose instructions are at its offset and whose
- *   conditions hold, and else NO_OP and the same relocation. Conditions are on struct
- *   linker_utils_link_facts, and on values by these words:
+ * conditions hold, and else NO_OP and the same relocation. Conditions are on struct
+ * linker_utils_link_facts, and on values by these words:
  * - R in reach: the value of the relocation R, after the rewrite, is known and can be written.
  * - R in a..b: that value is known, and is from a up, below b.
  * - R at -4: that value of a place 4 bytes before.
