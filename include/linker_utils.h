@@ -340,14 +340,8 @@ enum linker_utils_ppc64_rewrite {
 };
 
 /* Where `n` is marked it is the count of the instruction's bytes before the field: 2 without a
- * prefix, 3 with REX, 4 with REX2 and 6 with EVEX. The relocation of the field afterwards:
- *   MOV_INDIRECT_TO_LEA, CALL_ and JMP_INDIRECT_TO_RELATIVE   R_X86_64_PC32
- *   .._TO_ABSOLUTE           R_X86_64_32S, without a prefix R_X86_64_32; of MOV and ADD also
- *                            R_X86_64_TPOFF32, in place of R_X86_64_GOTTPOFF
- *   TLS_GD_ and TLS_DESC_TO_LOCAL_EXEC       R_X86_64_TPOFF32
- *   TLS_GD_ and TLS_DESC_TO_INITIAL_EXEC     R_X86_64_GOTTPOFF
- *   TLS_LD_TO_LOCAL_EXEC, SKIP_TLS_DESC_CALL none; R_X86_64_DTPOFF32 and R_X86_64_DTPOFF64 of the
- *                            local-dynamic block become R_X86_64_TPOFF32 and R_X86_64_TPOFF64 */
+ * prefix, 3 with REX, 4 with REX2 and 6 with EVEX. The relocation of the field afterwards is in the
+ * tables of choices below. */
 enum linker_utils_x86_64_rewrite {
     LINKER_UTILS_X86_64_REWRITE_MOV_INDIRECT_TO_LEA = 0,
     LINKER_UTILS_X86_64_REWRITE_MOV_INDIRECT_TO_ABSOLUTE = 1,
@@ -718,23 +712,243 @@ struct linker_utils_choice {
 };
 
 /* The rewrite of the instruction at a relocation that the psABI allows by these facts, and the
- * relocation after it, into `choice`. `linker_utils_matches` of the rewrite then returns
- * LINKER_UTILS_OK. Where no rewrite is allowed, or the bytes are not the instruction that the
- * relocation's name asks for, it is NO_OP and the same relocation. NO_OP and another relocation are
- * possible: the `adrp` of a pair. The bytes are those of the object file: the two halves of a pair,
- * and the instructions of a TLS descriptor's sequence on AArch64 and LoongArch, test the whole of it, so that all
- * are chosen alike where the facts and the symbol are the same. So they have to be chosen before one
- * of them is rewritten. On RISC-V the instructions of a descriptor, and the `auipc` and `ld` of a GOT
- * entry, may be apart: each is chosen by the facts of the high part that its label names, `is_marked`
- * of a descriptor's R_RISCV_TLSDESC_HI20 among them; the `auipc` and `ld` by `is_label_marked`, and
- * not by `is_marked` of either. After ADDI_TO_AUIPC the place of
- * R_RISCV_TLS_GOT_HI20, and of the R_RISCV_PCREL_LO12_I that CALL_TO_LD leaves, is that of the `addi`,
- * and S of the latter is the GOT entry. */
+ * relocation after it, into `choice`: by the tables below. `linker_utils_matches` of the rewrite
+ * then returns LINKER_UTILS_OK. Where no rewrite is allowed, or the bytes are not the instruction
+ * that the relocation's name asks for, it is NO_OP and the same relocation. NO_OP and another
+ * relocation are possible: the `adrp` of a pair. The bytes are those of the object file: the two
+ * halves of a pair, and the instructions of a TLS descriptor's sequence on AArch64 and LoongArch,
+ * test the whole of it, so that all are chosen alike where the facts and the symbol are the same.
+ * So they have to be chosen before one of them is rewritten. On RISC-V the instructions of a
+ * descriptor, and the `auipc` and `ld` of a GOT entry, may be apart: each is chosen by the facts of
+ * the high part that its label names, `is_marked` of a descriptor's R_RISCV_TLSDESC_HI20 among
+ * them; the `auipc` and `ld` by `is_label_marked`, and not by `is_marked` of either. After
+ * ADDI_TO_AUIPC the place of R_RISCV_TLS_GOT_HI20, and of the R_RISCV_PCREL_LO12_I that CALL_TO_LD
+ * leaves, is that of the `addi`, and S of the latter is the GOT entry. */
 static inline uint32_t linker_utils_choose(uint16_t machine, uint32_t r_type,
                                            const uint8_t *section, size_t section_len,
                                            uint64_t offset,
                                            const struct linker_utils_link_facts *facts,
                                            struct linker_utils_choice *choice);
+
+/* ---- The tables of choices, made by tools/choice_tables.
+ * The first entry of a relocation is chosen whose instructions are at its offset and whose
+ * conditions hold, and else NO_OP and the same relocation. Conditions are on struct
+ * linker_utils_link_facts, and on values by these words:
+ * - R in reach: the value of the relocation R, after the rewrite, is known and can be written.
+ * - R in a..b: that value is known, and is from a up, below b.
+ * - R at -4: that value of a place 4 bytes before.
+ * - if known: it holds too where no address is known (has_addresses).
+ * - S + A in 12 bits: the sum is known, and is a number of 12 bits in two's complement.
+ * docs/CHOICES.md also names the instructions.
+ *
+ * AArch64, with the prefixes R_AARCH64_ and LINKER_UTILS_AARCH64_REWRITE_:
+ *   ADD_ABS_LO12_NC              ADRP_ADD_TO_NOP_ADR  ADR_PREL_LO21                (1)
+ *   JUMP26                       REPLACE_WITH_NOP     NONE                         (2)
+ *   CALL26                       REPLACE_WITH_NOP     NONE                         (2)
+ *   ADR_GOT_PAGE                 NO_OP                ADR_PREL_PG_HI21             (3)
+ *   LD64_GOT_LO12_NC             LDR_TO_ADD           ADD_ABS_LO12_NC              (4)
+ *   TLSIE_ADR_GOTTPREL_PAGE21    MOVZ_XN_LSL16        TLSLE_MOVW_TPREL_G1          (5)
+ *   TLSIE_LD64_GOTTPREL_LO12_NC  MOVK_XN              TLSLE_MOVW_TPREL_G0_NC       (5)
+ *   TLSDESC_ADR_PAGE21           MOVZ_X0_LSL16        TLSLE_MOVW_TPREL_G1          (5)
+ *                                ADRP_X0              TLSIE_ADR_GOTTPREL_PAGE21    (6)
+ *   TLSDESC_LD64_LO12            MOVK_X0              TLSLE_MOVW_TPREL_G0_NC       (5)
+ *                                LDR_X0               TLSIE_LD64_GOTTPREL_LO12_NC  (7)
+ *   TLSDESC_ADD_LO12             REPLACE_WITH_NOP     NONE                         (8)
+ *   TLSDESC_CALL                 REPLACE_WITH_NOP     NONE                         (9)
+ *   (1) has_fixed_distance, ADR_PREL_LO21 in reach
+ *   (2) is_undefined_weak
+ *   (3) is_local, not is_ifunc, has_fixed_distance, ADR_PREL_PG_HI21 in reach if known
+ *   (4) is_local, not is_ifunc, has_fixed_distance, ADR_PREL_PG_HI21 at -4 in reach if known
+ *   (5) is_local, not is_ifunc, is_executable, TLSLE_MOVW_TPREL_G1 in reach if known
+ *   (6) is_executable, TLSIE_ADR_GOTTPREL_PAGE21 in reach if known
+ *   (7) is_executable, TLSIE_ADR_GOTTPREL_PAGE21 at -4 in reach if known
+ *   (8) is_executable, and either is_local and not is_ifunc and TLSLE_MOVW_TPREL_G1 in reach if
+ *       known, or TLSIE_ADR_GOTTPREL_PAGE21 at -8 in reach if known
+ *   (9) is_executable, and either is_local and not is_ifunc and TLSLE_MOVW_TPREL_G1 in reach if
+ *       known, or TLSIE_ADR_GOTTPREL_PAGE21 at -12 in reach if known
+ *
+ * RISC-V, with the prefixes R_RISCV_ and LINKER_UTILS_RISCV_REWRITE_:
+ *   CALL, CALL_PLT              TAIL_TO_C_J            RVC_JUMP      (1)
+ *                               TAIL_TO_JAL            JAL           (2)
+ *                               CALL_TO_JAL            JAL           (2)
+ *   GOT_HI20                    NO_OP                  PCREL_HI20    (3)
+ *   PCREL_LO12_I                LD_TO_ADDI             PCREL_LO12_I  (4)
+ *   HI20                        HI20_DELETE            NONE          (5)
+ *                               HI20_TO_C_LUI          RVC_LUI       (6)
+ *   LO12_I, LO12_S              LO12_RS1_TO_ZERO       the same      (5)
+ *   TPREL_HI20                  DELETE                 NONE          (7)
+ *   TPREL_LO12_I, TPREL_LO12_S  BASE_TO_TP             the same      (7)
+ *   TPREL_ADD                   DELETE                 NONE          (7)
+ *   RVC_LUI                     C_LUI_TO_C_LI          NONE          (8)
+ *   TLSDESC_HI20                DELETE                 NONE          (9)
+ *                               REPLACE_WITH_LONG_NOP  NONE          (10)
+ *                               DELETE                 NONE          (11)
+ *                               REPLACE_WITH_LONG_NOP  NONE          (12)
+ *   TLSDESC_LOAD_LO12           DELETE                 NONE          (9)
+ *                               REPLACE_WITH_LONG_NOP  NONE          (10)
+ *                               DELETE                 NONE          (11)
+ *                               REPLACE_WITH_LONG_NOP  NONE          (12)
+ *   TLSDESC_ADD_LO12            DELETE                 NONE          (13)
+ *                               REPLACE_WITH_LONG_NOP  NONE          (14)
+ *                               ADDI_TO_LUI            TPREL_HI20    (10)
+ *                               ADDI_TO_AUIPC          TLS_GOT_HI20  (12)
+ *   TLSDESC_CALL                CALL_TO_ADDI_ZERO      TPREL_LO12_I  (14)
+ *                               CALL_TO_ADDI           TPREL_LO12_I  (10)
+ *                               CALL_TO_LD             PCREL_LO12_I  (12)
+ *   (1) has_fixed_distance, may_compress, is_marked, plt_entry is symbol, RVC_JUMP in reach
+ *   (2) has_fixed_distance, is_marked, plt_entry is symbol, JAL in reach
+ *   (3) is_local, not is_ifunc, has_fixed_distance, is_label_marked, addend 0, PCREL_HI20 in reach
+ *       if known
+ *   (4) is_local, not is_ifunc, has_fixed_distance, is_label_marked, has_got_high_part, addend 0,
+ *       PCREL_HI20 in reach if known
+ *   (5) has_fixed_address, is_marked, S + A in 12 bits
+ *   (6) has_fixed_address, may_compress, is_marked, RVC_LUI in reach
+ *   (7) is_marked, TPREL_LO12_I in -0x800..0x800
+ *   (8) has_fixed_address, S + A in 12 bits
+ *   (9) is_local, not is_ifunc, is_executable, is_marked, addend 0, TPREL_HI20 in reach if known
+ *   (10) is_local, not is_ifunc, is_executable, addend 0, TPREL_HI20 in reach if known
+ *   (11) is_executable, is_marked, TLS_GOT_HI20 in reach if known
+ *   (12) is_executable, TLS_GOT_HI20 in reach if known
+ *   (13) is_local, not is_ifunc, is_executable, is_marked, addend 0, TPREL_HI20 in reach if known,
+ *       TPREL_LO12_I in -0x800..0x800
+ *   (14) is_local, not is_ifunc, is_executable, addend 0, TPREL_HI20 in reach if known,
+ *       TPREL_LO12_I in -0x800..0x800
+ *
+ * LoongArch, with the prefixes R_LARCH_ and LINKER_UTILS_LOONGARCH64_REWRITE_:
+ *   PCALA_HI20        PCALA_TO_PCADDI   PCREL20_S2      (1)
+ *   PCALA_LO12        DELETE            NONE            (2)
+ *   GOT_PC_HI20       PCALA_TO_PCADDI   PCREL20_S2      (3)
+ *                     NO_OP             PCALA_HI20      (4)
+ *   GOT_PC_LO12       DELETE            NONE            (5)
+ *                     LD_TO_ADDI        PCALA_LO12      (6)
+ *   TLS_IE_PC_HI20    REPLACE_WITH_NOP  NONE            (7)
+ *                     PCALA_TO_LU12I    TLS_LE_HI20     (8)
+ *   TLS_IE_PC_LO12    LOW_TO_ORI_ZERO   TLS_LE_LO12     (7)
+ *                     LOW_TO_ORI        TLS_LE_LO12     (8)
+ *   CALL36            CALL_TO_B         B26             (9)
+ *                     CALL_TO_BL        B26             (9)
+ *   TLS_DESC_PC_HI20  PCALA_TO_LU12I    TLS_LE_HI20     (8)
+ *                     NO_OP             TLS_IE_PC_HI20  (10)
+ *   TLS_DESC_PC_LO12  LOW_TO_ORI        TLS_LE_LO12     (8)
+ *                     ADDI_TO_LD        TLS_IE_PC_LO12  (11)
+ *   TLS_DESC_LD       REPLACE_WITH_NOP  NONE            (12)
+ *   TLS_DESC_CALL     REPLACE_WITH_NOP  NONE            (13)
+ *   TLS_LE_HI20_R     DELETE            NONE            (14)
+ *   TLS_LE_ADD_R      DELETE            NONE            (14)
+ *   TLS_LE_LO12_R     BASE_TO_TP        TLS_LE_LO12_R   (14)
+ *   (1) has_fixed_distance, is_marked, PCREL20_S2 in reach
+ *   (2) has_fixed_distance, is_marked, PCREL20_S2 at -4 in reach
+ *   (3) is_local, not is_ifunc, has_fixed_distance, is_marked, addend 0, PCREL20_S2 in reach
+ *   (4) is_local, not is_ifunc, has_fixed_distance, addend 0, PCALA_HI20 in -0x80000000..0x80000000
+ *       if known
+ *   (5) is_local, not is_ifunc, has_fixed_distance, is_marked, addend 0, PCREL20_S2 at -4 in reach
+ *   (6) is_local, not is_ifunc, has_fixed_distance, addend 0, PCALA_HI20 at -4 in
+ *       -0x80000000..0x80000000 if known
+ *   (7) is_local, not is_ifunc, is_executable, addend 0, TLS_LE_LO12 in 0x0..0x1000
+ *   (8) is_local, not is_ifunc, is_executable, addend 0, TLS_LE_HI20 in -0x80000000..0x80000000 if
+ *       known
+ *   (9) has_fixed_distance, is_marked, B26 in reach
+ *   (10) is_executable, TLS_IE_PC_HI20 in -0x80000000..0x80000000 if known
+ *   (11) is_executable, TLS_IE_PC_HI20 at -4 in -0x80000000..0x80000000 if known
+ *   (12) is_executable, and either is_local and not is_ifunc and addend 0 and TLS_LE_HI20 in
+ *       -0x80000000..0x80000000 if known, or TLS_IE_PC_HI20 at -8 in -0x80000000..0x80000000 if
+ *       known
+ *   (13) is_executable, and either is_local and not is_ifunc and addend 0 and TLS_LE_HI20 in
+ *       -0x80000000..0x80000000 if known, or TLS_IE_PC_HI20 at -12 in -0x80000000..0x80000000 if
+ *       known
+ *   (14) is_marked, TLS_LE_LO12_R in -0x800..0x800
+ *
+ * PowerPC64, with the prefixes R_PPC64_ and LINKER_UTILS_PPC64_REWRITE_:
+ *   REL24              NOP_TO_RESTORE_TOC    REL24              (1)
+ *   GOT16_HA           NO_OP                 TOC16_HA           (2)
+ *   TOC16_LO           BASE_TO_TOC           TOC16              (3)
+ *   TOC16_HA           ADDIS_TO_NOP          NONE               (3)
+ *   GOT16_LO_DS        LD_TO_ADDI            TOC16_LO           (2)
+ *   TOC16_LO_DS        BASE_TO_TOC           TOC16_DS           (3)
+ *   TLS                ADD_TO_ADDI           TPREL16_LO         (4)
+ *                      INDEXED_TO_D          TPREL16_LO         (4)
+ *                      INDEXED_TO_DS         TPREL16_LO_DS      (5)
+ *   GOT_TLSGD16_LO     ADDI_TO_ADDIS_THREAD  TPREL16_HA         (4)
+ *                      ADDI_TO_LD            GOT_TPREL16_LO_DS  (6)
+ *   GOT_TLSGD16_HA     ADDIS_TO_NOP          NONE               (4)
+ *                      NO_OP                 GOT_TPREL16_HA     (6)
+ *   GOT_TLSLD16_LO     ADDI_TO_ADDIS_THREAD  NONE               (7)
+ *   GOT_TLSLD16_HA     ADDIS_TO_NOP          NONE               (7)
+ *   GOT_TPREL16_LO_DS  LD_TO_ADDIS_THREAD    TPREL16_HA         (4)
+ *   GOT_TPREL16_HA     ADDIS_TO_NOP          NONE               (4)
+ *   TLSGD              CALL_TO_ADDI          TPREL16_LO         (4)
+ *                      CALL_TO_ADD           NONE               (6)
+ *   TLSLD              CALL_TO_ADDI4096      NONE               (7)
+ *   GOT_PCREL34        PLD_TO_PADDI          PCREL34            (8)
+ *   (1) may_change_toc
+ *   (2) is_local, not is_ifunc, has_fixed_distance, TOC16_HA in reach if known
+ *   (3) has_private_base, TOC16 in reach
+ *   (4) is_local, not is_ifunc, is_executable, TPREL16_HA in reach if known
+ *   (5) is_local, not is_ifunc, is_executable, TPREL16_HA in reach if known, TPREL16_LO_DS in reach
+ *       if known
+ *   (6) is_executable, GOT_TPREL16_HA in reach if known
+ *   (7) is_executable
+ *   (8) is_local, not is_ifunc, has_fixed_distance, PCREL34 in reach if known
+ *
+ * x86-64, with the prefixes R_X86_64_ and LINKER_UTILS_X86_64_REWRITE_:
+ *   DTPOFF64      NO_OP                          TPOFF64   (1)
+ *   TLSGD         TLS_GD_TO_LOCAL_EXEC           TPOFF32   (2)
+ *                 TLS_GD_TO_LOCAL_EXEC_LARGE     TPOFF32   (2)
+ *                 TLS_GD_TO_INITIAL_EXEC         GOTTPOFF  (3)
+ *   TLSLD         TLS_LD_TO_LOCAL_EXEC           NONE      (4)
+ *                 TLS_LD_TO_LOCAL_EXEC_NO_PLT    NONE      (4)
+ *                 TLS_LD_TO_LOCAL_EXEC64         NONE      (4)
+ *   DTPOFF32      NO_OP                          TPOFF32   (5)
+ *   GOTTPOFF (n = 3), CODE_4_GOTTPOFF (n = 4), CODE_5_GOTTPOFF (n = 5), CODE_6_GOTTPOFF (n = 6)
+ *                 REX_ADD_INDIRECT_TO_ABSOLUTE   TPOFF32   (2)
+ *                 REX_MOV_INDIRECT_TO_ABSOLUTE   TPOFF32   (2)
+ *   GOTPC32_TLSDESC (n = 3), CODE_4_GOTPC32_TLSDESC (n = 4), CODE_5_GOTPC32_TLSDESC (n = 5),
+ *     CODE_6_GOTPC32_TLSDESC (n = 6)
+ *                 TLS_DESC_TO_LOCAL_EXEC         TPOFF32   (2)
+ *                 TLS_DESC_TO_INITIAL_EXEC       GOTTPOFF  (3)
+ *   TLSDESC_CALL  SKIP_TLS_DESC_CALL             NONE      (4)
+ *   GOTPCRELX     REX_ADD_INDIRECT_TO_ABSOLUTE   32        (6)
+ *                 REX_OR_INDIRECT_TO_ABSOLUTE    32        (6)
+ *                 REX_ADC_INDIRECT_TO_ABSOLUTE   32        (6)
+ *                 REX_SBB_INDIRECT_TO_ABSOLUTE   32        (6)
+ *                 REX_AND_INDIRECT_TO_ABSOLUTE   32        (6)
+ *                 REX_SUB_INDIRECT_TO_ABSOLUTE   32        (6)
+ *                 REX_XOR_INDIRECT_TO_ABSOLUTE   32        (6)
+ *                 REX_CMP_INDIRECT_TO_ABSOLUTE   32        (6)
+ *                 REX_TEST_INDIRECT_TO_ABSOLUTE  32        (6)
+ *                 MOV_INDIRECT_TO_ABSOLUTE       32        (7)
+ *                 MOV_INDIRECT_TO_LEA            PC32      (8)
+ *                 CALL_INDIRECT_TO_RELATIVE      PC32      (8)
+ *                 JMP_INDIRECT_TO_RELATIVE       PC32      (8)
+ *   REX_GOTPCRELX (n = 3), CODE_4_GOTPCRELX (n = 4), CODE_5_GOTPCRELX (n = 5), CODE_6_GOTPCRELX
+ *     (n = 6)
+ *                 REX_ADD_INDIRECT_TO_ABSOLUTE   32S       (9)
+ *                 REX_OR_INDIRECT_TO_ABSOLUTE    32S       (9)
+ *                 REX_ADC_INDIRECT_TO_ABSOLUTE   32S       (9)
+ *                 REX_SBB_INDIRECT_TO_ABSOLUTE   32S       (9)
+ *                 REX_AND_INDIRECT_TO_ABSOLUTE   32S       (9)
+ *                 REX_SUB_INDIRECT_TO_ABSOLUTE   32S       (9)
+ *                 REX_XOR_INDIRECT_TO_ABSOLUTE   32S       (9)
+ *                 REX_CMP_INDIRECT_TO_ABSOLUTE   32S       (9)
+ *                 REX_TEST_INDIRECT_TO_ABSOLUTE  32S       (9)
+ *                 REX_MOV_INDIRECT_TO_ABSOLUTE   32S       (10)
+ *                 MOV_INDIRECT_TO_LEA            PC32      (8)
+ *   (1) is_executable, has_local_exec_base, TPOFF64 in reach if known
+ *   (2) is_local, not is_ifunc, is_executable, addend -4, TPOFF32 in reach if known
+ *   (3) is_executable, addend -4, GOTTPOFF in reach if known
+ *   (4) is_executable
+ *   (5) is_executable, has_local_exec_base, TPOFF32 in reach if known
+ *   (6) has_fixed_address, addend -4, 32 in reach if known, and either is_local and not is_ifunc,
+ *       or is_undefined_weak
+ *   (7) has_fixed_address, addend -4, 32 in reach, and either is_local and not is_ifunc, or
+ *       is_undefined_weak
+ *   (8) is_local, not is_ifunc, has_fixed_distance, addend -4, PC32 in reach if known
+ *   (9) has_fixed_address, addend -4, 32S in reach if known, and either is_local and not is_ifunc,
+ *       or is_undefined_weak
+ *   (10) has_fixed_address, addend -4, 32S in reach, and either is_local and not is_ifunc, or
+ *       is_undefined_weak
+ *
+ * End of the tables of choices. */
 
 /* Whether a choice at the relocation of type `r_type` leaves both as they are: the rewrite is
  * NO_OP, and the relocation after it has the same type. The choice of another instruction may still

@@ -27,6 +27,9 @@ pub mod readers;
 mod relocation_laws;
 mod traits;
 
+#[doc(hidden)]
+pub use crate::linker_elf::elf::choice_table;
+
 pub mod runs {
     #![doc = include_str!("../doc/runs.md")]
     pub use crate::linker_pack::packing;

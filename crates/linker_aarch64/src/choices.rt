@@ -278,36 +278,13 @@ fn choice_by(
 
 /// The rewrite that a linker chooses for a relocation at an offset of a section, and the relocation
 /// after it (ELF for the Arm 64-bit Architecture, "Relocation optimization" and the sequences of
-/// thread-local storage). It is the first of this table whose instruction is there and whose
-/// conditions hold, and else `NoOp` and the same relocation, as for any name that isn't listed and
-/// for an offset that isn't in the section. Names have the prefix `R_AARCH64_`.
-///
-/// | Relocation | Instruction | Rewrite | Relocation after | Condition |
-/// |---|---|---|---|---|
-/// | `ADR_GOT_PAGE` | `adrp xN` of the pair `adrp xN`, `ldr xN, [xN]` | `NoOp` | `ADR_PREL_PG_HI21` | direct |
-/// | `LD64_GOT_LO12_NC` | `ldr` of the pair | `LdrToAdd` | `ADD_ABS_LO12_NC` | direct |
-/// | `ADD_ABS_LO12_NC` | `add` of the pair `adrp xN`, `add xN, xN` | `AdrpAddToNopAdr` | `ADR_PREL_LO21` | fixed distance, which is known to be in reach of `adr` |
-/// | `TLSIE_ADR_GOTTPREL_PAGE21` | `adrp xN` of the pair `adrp xN`, `ldr xN, [xN]` | `MovzXnLsl16` | `TLSLE_MOVW_TPREL_G1` | local-exec |
-/// | `TLSIE_LD64_GOTTPREL_LO12_NC` | `ldr` of the pair | `MovkXn` | `TLSLE_MOVW_TPREL_G0_NC` | local-exec |
-/// | `TLSDESC_ADR_PAGE21` | `adrp` of the sequence | `MovzX0Lsl16` | `TLSLE_MOVW_TPREL_G1` | local-exec |
-/// | | | `AdrpX0` | `TLSIE_ADR_GOTTPREL_PAGE21` | initial-exec |
-/// | `TLSDESC_LD64_LO12` | `ldr` of the sequence | `MovkX0` | `TLSLE_MOVW_TPREL_G0_NC` | local-exec |
-/// | | | `LdrX0` | `TLSIE_LD64_GOTTPREL_LO12_NC` | initial-exec |
-/// | `TLSDESC_ADD_LO12` | `add` of the sequence | `ReplaceWithNop` | `NONE` | local-exec or initial-exec |
-/// | `TLSDESC_CALL` | `blr` of the sequence | `ReplaceWithNop` | `NONE` | local-exec or initial-exec |
-/// | `CALL26` | `bl` | `ReplaceWithNop` | `NONE` | `is_undefined_weak` |
-/// | `JUMP26` | `b` | `ReplaceWithNop` | `NONE` | `is_undefined_weak` |
-///
-/// - The sequence is that of a TLS descriptor (`is_tls_descriptor_sequence`).
-/// - Direct: `is_local` and not `is_ifunc`, `has_fixed_distance`, and the symbol is in reach of
-///   `adrp`.
-/// - Local-exec: `is_executable`, `is_local` and not `is_ifunc`, and the offset from `tls_base` is
-///   in reach of `TLSLE_MOVW_TPREL_G1`.
-/// - Initial-exec: `is_executable`, and `got_entry` is in reach of `adrp`. It has to be the address
-///   of the entry for initial-exec.
-/// - Where no address is known, all is in reach but `ADR_PREL_LO21`.
+/// thread-local storage). It is the first entry of the relocation in the table of choices whose
+/// instructions are there and whose conditions hold, and else `NoOp` and the same relocation, as
+/// for any name that isn't listed and for an offset that isn't in the section.
 ///
 /// `apply` may be called at the offset with the rewrite. It leaves offset and addend as they are.
+/// The sequence of a TLS descriptor is that of `is_tls_descriptor_sequence`. Where it becomes
+/// initial-exec, `got_entry` has to be the address of the entry for initial-exec.
 ///
 /// Both halves of a load of a GOT entry, and all four relocations of a descriptor, are chosen alike
 /// (`relocations_are_chosen_alike`), since each is chosen by the whole pair or sequence and by the
@@ -317,8 +294,7 @@ fn choice_by(
 ///   the facts are the same for all of them, except for `place`, which is that of each.
 /// - All of them are chosen before any is rewritten: what was rewritten isn't what the others are
 ///   chosen by.
-/// - `AdrpAddToNopAdr` erases the `adrp`. Its relocation, `ADR_PREL_PG_HI21`, has to be of the same
-///   symbol and addend, and becomes `NONE`, as `RelaxationKind::other_relocation` says.
+/// - `AdrpAddToNopAdr` erases the `adrp`, whose relocation has to be of the same symbol and addend.
 /// - Nothing jumps between the instructions.
 ///
 /// ```

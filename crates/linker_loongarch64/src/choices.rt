@@ -347,46 +347,13 @@ macro_rules! first_of {
 
 /// Which rewrite a linker may make of the instruction or the pair at a relocation's offset, and the
 /// relocation whose value is then written (LoongArch ELF psABI, relaxation and the sequences of
-/// thread-local storage). It is the first of this table whose instruction is there and whose
-/// conditions hold, and else `NoOp` and the same relocation, as for any name that isn't listed and
-/// for an offset that isn't in the section. Names have the prefix `R_LARCH_`.
-///
-/// | Relocation | Instruction | Rewrite | Relocation after | Condition |
-/// |---|---|---|---|---|
-/// | `GOT_PC_HI20` | `pcalau12i rd` of the pair `pcalau12i rd`, `ld.d rd, rd` | `PcalaToPcaddi` | `PCREL20_S2` | bound, near |
-/// | | | `NoOp` | `PCALA_HI20` | bound, in pages |
-/// | `GOT_PC_LO12` | `ld.d` of the pair | `Delete` | `NONE` | bound, near |
-/// | | | `LdToAddi` | `PCALA_LO12` | bound, in pages |
-/// | `PCALA_HI20` | `pcalau12i rd` of the pair `pcalau12i rd`, `addi.d rd, rd` | `PcalaToPcaddi` | `PCREL20_S2` | near |
-/// | `PCALA_LO12` | `addi.d` of the pair | `Delete` | `NONE` | near |
-/// | `CALL36` | `pcaddu18i rd`, `jirl zero, rd` | `CallToB` | `B26` | `is_marked`, fixed distance in reach of `b` |
-/// | | `pcaddu18i rd`, `jirl ra, rd` | `CallToBl` | `B26` | the same of `bl` |
-/// | `TLS_IE_PC_HI20` | `pcalau12i rd` of the pair `pcalau12i rd`, `ld.d rd, rd` | `ReplaceWithNop` | `NONE` | local-exec, known from 0 to 0xfff |
-/// | | | `PcalaToLu12i` | `TLS_LE_HI20` | local-exec |
-/// | `TLS_IE_PC_LO12` | `ld.d` of the pair | `LowToOriZero` | `TLS_LE_LO12` | local-exec, known from 0 to 0xfff |
-/// | | | `LowToOri` | `TLS_LE_LO12` | local-exec |
-/// | `TLS_DESC_PC_HI20` | `pcalau12i` of the sequence | `PcalaToLu12i` | `TLS_LE_HI20` | local-exec |
-/// | | | `NoOp` | `TLS_IE_PC_HI20` | initial-exec |
-/// | `TLS_DESC_PC_LO12` | `addi.d` of the sequence | `LowToOri` | `TLS_LE_LO12` | local-exec |
-/// | | | `AddiToLd` | `TLS_IE_PC_LO12` | initial-exec |
-/// | `TLS_DESC_LD` | `ld.d` of the sequence | `ReplaceWithNop` | `NONE` | local-exec or initial-exec |
-/// | `TLS_DESC_CALL` | `jirl` of the sequence | `ReplaceWithNop` | `NONE` | local-exec or initial-exec |
-/// | `TLS_LE_HI20_R` | `lu12i.w` | `Delete` | `NONE` | short |
-/// | `TLS_LE_ADD_R` | `add.d rd, rj, tp` | `Delete` | `NONE` | short |
-/// | `TLS_LE_LO12_R` | one that adds 12 bits | `BaseToTp` | the same | short |
-///
-/// - The sequence is that of a TLS descriptor (`is_tls_descriptor_sequence`).
-/// - Bound: `is_local` and not `is_ifunc`, and an addend of 0.
-/// - Near: `is_marked`, `has_fixed_distance`, and the distance is known, is a multiple of 4 and is
-///   in reach of `pcaddi`, 2 MiB.
-/// - In pages: `has_fixed_distance`, and the distance in pages has 32 signed bits.
-/// - Local-exec: `is_executable`, bound, and the offset from `tls_base` has 32 signed bits.
-/// - Initial-exec: `is_executable`, and the distance in pages to `got_entry` has 32 signed bits. It
-///   has to be the address of the entry for initial-exec.
-/// - Short: `is_marked`, and the offset from `tls_base` is known and is from -0x800 to 0x7ff.
-/// - Where no address is known, numbers of 32 bits are taken to fit, and nothing else.
+/// thread-local storage). It is the first entry of the relocation in the table of choices whose
+/// instructions are there and whose conditions hold, and else `NoOp` and the same relocation, as
+/// for any name that isn't listed and for an offset that isn't in the section.
 ///
 /// `apply` may be called at the offset with the rewrite. It leaves offset and addend as they are.
+/// The sequence of a TLS descriptor is that of `is_tls_descriptor_sequence`. Where it becomes
+/// initial-exec, `got_entry` has to be the address of the entry for initial-exec.
 ///
 /// Both halves of a pair, and all four relocations of a descriptor, are chosen alike
 /// (`relocations_are_chosen_alike`). The linker sees to the rest:

@@ -424,16 +424,15 @@ fn opcode_before(section: &[u8], offset: u64) -> u8
 }
 
 /// The rewrite that a linker makes of the instruction or the sequence with a relocation, and the
-/// relocation whose value it then writes: the first that applies of those in the x86-64 psABI,
-/// "Optimize GOTPCRELX Relocations" and "ELF Handling For Thread-Local Storage". Where none
-/// applies, and for names for which there is none, it is `NoOp` and the same name. The offset is
-/// that of the relocation in the section. Any bytes and any offset may be passed, and the rewrite
-/// can be applied there.
+/// relocation whose value it then writes (x86-64 psABI, "Optimize GOTPCRELX Relocations" and "ELF
+/// Handling For Thread-Local Storage"). It is the first entry of the relocation in the table of
+/// choices whose instructions are there and whose conditions hold, and else `NoOp` and the same
+/// relocation. The offset is that of the relocation in the section. Any bytes and any offset may be
+/// passed, and the rewrite can be applied there.
 ///
-/// The addend is always read. Where the field's value counts from its end it has to be -4, and with
-/// another addend nothing is rewritten. Addresses are read where `has_addresses` says that they are
-/// known. A `mov` takes an address as its immediate only where it is known, and otherwise becomes a
-/// `lea`.
+/// The addend is always read: it has to be -4 where the field's value counts from its end. Addresses
+/// are read where `has_addresses` says that they are known. So a `mov` takes an address as its
+/// immediate only where it is known, and otherwise becomes a `lea`.
 ///
 /// The `lea` and the call of a TLS descriptor have relocations of their own, and are chosen one by
 /// one, by the same facts. The call is rewritten in every executable. The `lea` is not, where it is

@@ -10,6 +10,7 @@ use crate::linker_elf::elf::{Choice, LinkFacts, Operands};
 use crate::linker_elf::ppc64::Ppc64Relocation;
 
 /// The instructions that an entry's rewrite is meant for.
+#[derive(Debug)]
 pub struct OfRewrite;
 
 impl Originals<RelaxationKind> for OfRewrite {
@@ -187,42 +188,10 @@ fn choice_by(
 
 /// Which rewrite a linker may make of the instruction at a relocation's offset, and the relocation
 /// whose value is then written (64-bit ELF V2 ABI for Power, "TOC Optimizations" and "TLS Linkage
-/// Optimizations"). It is the first of this table whose instruction is there and whose conditions
-/// hold, and else `NoOp` and the same relocation, as for any name that isn't listed and for an
-/// offset that isn't in the section. Names have the prefix `R_PPC64_`.
-///
-/// | Relocation | Rewrite | Relocation after it | Where |
-/// |---|---|---|---|
-/// | `TOC16_HA` | `AddisToNop` | `NONE` | near the TOC |
-/// | `TOC16_LO` | `BaseToToc` | `TOC16` | near the TOC |
-/// | `TOC16_LO_DS` | `BaseToToc` | `TOC16_DS` | near the TOC |
-/// | `GOT16_HA` | `NoOp` | `TOC16_HA` | direct |
-/// | `GOT16_LO_DS` | `LdToAddi` | `TOC16_LO` | direct |
-/// | `GOT_PCREL34` | `PldToPaddi` | `PCREL34` | direct |
-/// | `GOT_TPREL16_HA` | `AddisToNop` | `NONE` | local-exec |
-/// | `GOT_TPREL16_LO_DS` | `LdToAddisThread` | `TPREL16_HA` | local-exec |
-/// | `TLS` | `AddToAddi`, `IndexedToD` | `TPREL16_LO` | local-exec |
-/// | | `IndexedToDs` | `TPREL16_LO_DS` | local-exec, and the offset is a multiple of 4 |
-/// | `GOT_TLSGD16_HA` | `AddisToNop` | `NONE` | local-exec |
-/// | | `NoOp` | `GOT_TPREL16_HA` | initial-exec |
-/// | `GOT_TLSGD16_LO` | `AddiToAddisThread` | `TPREL16_HA` | local-exec |
-/// | | `AddiToLd` | `GOT_TPREL16_LO_DS` | initial-exec |
-/// | `TLSGD` | `CallToAddi` | `TPREL16_LO` | local-exec |
-/// | | `CallToAdd` | `NONE` | initial-exec |
-/// | `GOT_TLSLD16_HA` | `AddisToNop` | `NONE` | `is_executable` |
-/// | `GOT_TLSLD16_LO` | `AddiToAddisThread` | `NONE` | `is_executable` |
-/// | `TLSLD` | `CallToAddi4096` | `NONE` | `is_executable` |
-/// | `REL24` | `NopToRestoreToc` | the same | `may_change_toc` |
-///
-/// - Near the TOC: `has_private_base`, and S + A less `got_base`, the TOC pointer, is known and is
-///   from -0x8000 to 0x7fff.
-/// - Direct: `is_local` and not `is_ifunc`, `has_fixed_distance`, and the value after it is in
-///   reach: from -2^31 - 0x8000 to 2^31 - 0x8001 from the TOC pointer, or 34 signed bits.
-/// - Local-exec: `is_executable`, `is_local` and not `is_ifunc`, and the offset from `tls_base` is
-///   in reach of `TPREL16_HA`.
-/// - Initial-exec: `is_executable`, and `got_entry` is in reach of `GOT_TPREL16_HA`. It has to be
-///   the address of the entry for initial-exec.
-/// - Where no address is known, all is in reach but what is near the TOC.
+/// Optimizations"). It is the first entry of the relocation in the table of choices whose
+/// instructions are there and whose conditions hold, and else `NoOp` and the same relocation, as
+/// for any name that isn't listed and for an offset that isn't in the section. Where TLS becomes
+/// initial-exec, `got_entry` has to be the address of the entry for initial-exec.
 ///
 /// A doubleword of the TOC that holds the address of a symbol is a GOT entry of that symbol: for
 /// `TOC16_HA` and `TOC16_LO_DS` of it, ask for `GOT16_HA` and `GOT16_LO_DS`, with the symbol's
@@ -257,6 +226,7 @@ fn choice_by(
 /// assert_eq!(load.kind, RelaxationKind::IndexedToD);
 /// ```
 #[must_use]
+#[doc = include_str!("../../doc/ppc64/choose.md")]
 pub fn choose(
     name: Ppc64Relocation,
     section: &[u8],

@@ -12,6 +12,7 @@ use crate::linker_elf::elf::choice_table::{
 use crate::linker_elf::elf::{Choice, LinkFacts, Operands};
 
 /// The instructions that an entry is for: what its rewrite is meant for, or another one.
+#[derive(Debug)]
 pub enum Original {
     OfRewrite,
     Lui,
@@ -254,53 +255,13 @@ fn choice_by(
 }
 
 /// Which rewrite a linker may make of the instruction or the pair at a relocation's offset, and the
-/// relocation whose value is then written (RISC-V ELF psABI, "Linker Relaxation"). The first of
-/// these that applies:
+/// relocation whose value is then written (RISC-V ELF psABI, "Linker Relaxation"). It is the first
+/// entry of the relocation in the table of choices whose instructions are there and whose
+/// conditions hold, and else `NoOp` and the same relocation.
 ///
-/// | Relocation | Rewrite | Relocation after it | Where |
-/// |---|---|---|---|
-/// | `R_RISCV_CALL`, `R_RISCV_CALL_PLT` | `TailToCJ` | `R_RISCV_RVC_JUMP` | a `c.j` reaches |
-/// | | `TailToJal`, `CallToJal` | `R_RISCV_JAL` | a `jal` reaches |
-/// | `R_RISCV_HI20` | `Hi20Delete` | `R_RISCV_NONE` | S + A is from -0x800 to 0x7ff |
-/// | | `Hi20ToCLui` | `R_RISCV_RVC_LUI` | a `c.lui` reaches |
-/// | `R_RISCV_RVC_LUI` | `CLuiToCLi` | `R_RISCV_NONE` | S + A is from -0x800 to 0x7ff |
-/// | `R_RISCV_LO12_I`, `_S` | `Lo12Rs1ToZero` | the same | S + A is from -0x800 to 0x7ff |
-///
-/// Each asks that the addresses are known, that `matches` of the rewrite holds, and but for
-/// `CLuiToCLi` that the relocation is marked; `c.j` and `Hi20ToCLui` that the code may have them. Jumps ask that the symbol has no
-/// PLT entry and that its distance is fixed, the others that its address is fixed. Where none
-/// applies, it is `NoOp` and the same relocation.
-///
-/// Of thread-local storage and of GOT entries, with names that have the prefix `R_RISCV_`:
-///
-/// | Relocation | Instruction | Rewrite | Relocation after it | Where |
-/// |---|---|---|---|---|
-/// | `TPREL_HI20` | `lui` | `Delete` | `NONE` | near `tp` |
-/// | `TPREL_ADD` | `add rd, rs1, tp` | `Delete` | `NONE` | near `tp` |
-/// | `TPREL_LO12_I`, `_S` | one that adds 12 bits | `BaseToTp` | the same | near `tp` |
-/// | `TLSDESC_HI20` | `auipc` | `Delete`, `ReplaceWithLongNop` | `NONE` | local-exec, initial-exec |
-/// | `TLSDESC_LOAD_LO12` | `ld` | the same | `NONE` | local-exec, initial-exec |
-/// | `TLSDESC_ADD_LO12` | `addi a0, rs1` | the same | `NONE` | short local-exec |
-/// | | | `AddiToLui` | `TPREL_HI20` | local-exec |
-/// | | | `AddiToAuipc` | `TLS_GOT_HI20` | initial-exec |
-/// | `TLSDESC_CALL` | `jalr t0, 0(rs1)` | `CallToAddiZero` | `TPREL_LO12_I` | short local-exec |
-/// | | | `CallToAddi` | `TPREL_LO12_I` | local-exec |
-/// | | | `CallToLd` | `PCREL_LO12_I` | initial-exec |
-/// | `GOT_HI20` | `auipc` | `NoOp` | `PCREL_HI20` | without GOT |
-/// | `PCREL_LO12_I` | `ld` | `LdToAddi` | `PCREL_LO12_I` | without GOT, `has_got_high_part` |
-///
-/// - Near `tp`: `is_marked`, and the offset from `tls_base` is known and is from -0x800 to 0x7ff.
-/// - `Delete` where `is_marked`, else `ReplaceWithLongNop`: no other row asks for the mark.
-/// - Local-exec: `is_executable`, `is_local` and not `is_ifunc`, an addend of 0, and the offset
-///   from `tls_base` is in reach of `lui` and `addi`. Short: it is known, and is from -0x800 to
-///   0x7ff.
-/// - Initial-exec: `is_executable`, and the distance to `got_entry` is in reach of `auipc` and
-///   `ld`. It has to be the address of the entry for initial-exec.
-/// - Without GOT: `is_label_marked`, `has_fixed_distance`, `is_local` and not `is_ifunc`, an addend
-///   of 0, and the distance to the symbol is in reach of `auipc` and `addi`. Today's compilers mark
-///   only the low parts (GNU as 2.40 and LLVM 19), so that `is_label_marked` is false for what they
-///   make.
-/// - Where no address is known, a pair is taken to reach, and nothing else.
+/// Where a TLS descriptor becomes initial-exec, `got_entry` has to be the address of the entry for
+/// initial-exec. Today's compilers mark only the low parts of a load from the GOT (GNU as 2.40 and
+/// LLVM 19), so that `is_label_marked` is false for what they make.
 ///
 /// All four relocations of a descriptor, and both of a load from the GOT, are chosen alike
 /// (`relocations_are_chosen_alike`), with the same facts: those of the high part that the label of
@@ -350,6 +311,7 @@ fn choice_by(
 /// assert_eq!(chosen.kind, RelaxationKind::NoOp);
 /// ```
 #[must_use]
+#[doc = include_str!("../../doc/riscv64/choose.md")]
 pub fn choose(
     name: RiscVRelocation,
     section: &[u8],

@@ -68,18 +68,21 @@ pub struct ChoiceEntry<O, K, R: 'static> {
 }
 
 /// A relocation's name, which has a row.
+#[doc(hidden)]
 pub trait RelocationName: Copy {
     #[must_use]
     fn find_row(self) -> Option<Row>;
 }
 
 /// A rewrite of an architecture.
+#[doc(hidden)]
 pub trait ChosenKind: Copy {
     #[must_use]
     fn operands_after(self, offset: u64, operands: &Operands) -> Operands;
 }
 
 /// The instructions that an entry is for.
+#[doc(hidden)]
 pub trait Originals<K> {
     #[must_use]
     fn stand_at(&self, kind: K, section: &[u8], offset: u64) -> bool;
