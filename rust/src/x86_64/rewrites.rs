@@ -343,77 +343,6 @@ pub(super) fn is_lea_of_descriptor(section: &[u8], offset: u64, n: u8) -> bool {
     }
 }
 
-#[inline(always)]
-fn after_got(after: X86_64Relocation, before: X86_64Relocation) -> Option<X86_64Relocation> {
-    match before {
-        X86_64Relocation::R_X86_64_GOTPCRELX
-        | X86_64Relocation::R_X86_64_REX_GOTPCRELX
-        | X86_64Relocation::R_X86_64_CODE_4_GOTPCRELX
-        | X86_64Relocation::R_X86_64_CODE_5_GOTPCRELX
-        | X86_64Relocation::R_X86_64_CODE_6_GOTPCRELX => Some(after),
-        _ => None,
-    }
-}
-
-#[inline(always)]
-fn after_got_or_tp(after: X86_64Relocation, before: X86_64Relocation) -> Option<X86_64Relocation> {
-    match before {
-        X86_64Relocation::R_X86_64_GOTTPOFF
-        | X86_64Relocation::R_X86_64_CODE_4_GOTTPOFF
-        | X86_64Relocation::R_X86_64_CODE_5_GOTTPOFF
-        | X86_64Relocation::R_X86_64_CODE_6_GOTTPOFF => Some(X86_64Relocation::R_X86_64_TPOFF32),
-        _ => after_got(after, before),
-    }
-}
-
-#[inline(always)]
-fn after_descriptor(after: X86_64Relocation, before: X86_64Relocation) -> Option<X86_64Relocation> {
-    match before {
-        X86_64Relocation::R_X86_64_GOTPC32_TLSDESC
-        | X86_64Relocation::R_X86_64_CODE_4_GOTPC32_TLSDESC
-        | X86_64Relocation::R_X86_64_CODE_5_GOTPC32_TLSDESC
-        | X86_64Relocation::R_X86_64_CODE_6_GOTPC32_TLSDESC => Some(after),
-        _ => None,
-    }
-}
-
-#[inline(always)]
-fn after_general_dynamic(
-    after: X86_64Relocation,
-    before: X86_64Relocation,
-) -> Option<X86_64Relocation> {
-    match before {
-        X86_64Relocation::R_X86_64_TLSGD => Some(after),
-        _ => None,
-    }
-}
-
-#[inline(always)]
-fn after_local_dynamic(before: X86_64Relocation) -> Option<X86_64Relocation> {
-    match before {
-        X86_64Relocation::R_X86_64_TLSLD => Some(X86_64Relocation::R_X86_64_NONE),
-        _ => None,
-    }
-}
-
-#[inline(always)]
-fn after_descriptor_call(before: X86_64Relocation) -> Option<X86_64Relocation> {
-    match before {
-        X86_64Relocation::R_X86_64_TLSDESC_CALL => Some(X86_64Relocation::R_X86_64_NONE),
-        _ => None,
-    }
-}
-
-/// The relocation of an immediate of 32 bits.
-#[inline(always)]
-pub(super) fn immediate_of(n: u8) -> X86_64Relocation {
-    if n == 2 {
-        X86_64Relocation::R_X86_64_32
-    } else {
-        X86_64Relocation::R_X86_64_32S
-    }
-}
-
 impl RelaxationKind {
     /// The rewrite with a number, its place in the enum. None above the last. The rewrites that
     /// have a number of bytes before the field take `n`.
@@ -757,56 +686,6 @@ impl RelaxationKind {
     #[inline]
     pub fn matches(self, section: &[u8], offset: u64) -> bool {
         self.can_apply(section, offset) && self.is_for(section, offset)
-    }
-
-    /// The relocation of the field after the rewrite, by the one before it. `R_X86_64_NONE` says
-    /// that nothing is relocated any more. Returns `None` where the rewrite is not for such a
-    /// relocation, and for `NoOp`, whose relocation the caller chooses.
-    ///
-    /// An immediate has `R_X86_64_32S`, and without a prefix `R_X86_64_32`. With a prefix whose W
-    /// is 0 the operand has 32 bits too, and `R_X86_64_32` is also right.
-    #[must_use]
-    #[inline]
-    pub fn relocation_after(self, before: X86_64Relocation) -> Option<X86_64Relocation> {
-        match self {
-            RelaxationKind::MovIndirectToLea
-            | RelaxationKind::CallIndirectToRelative
-            | RelaxationKind::JmpIndirectToRelative => {
-                after_got(X86_64Relocation::R_X86_64_PC32, before)
-            }
-            RelaxationKind::MovIndirectToAbsolute => {
-                after_got_or_tp(X86_64Relocation::R_X86_64_32, before)
-            }
-            RelaxationKind::RexMovIndirectToAbsolute(n)
-            | RelaxationKind::RexAddIndirectToAbsolute(n) => {
-                after_got_or_tp(immediate_of(n), before)
-            }
-            RelaxationKind::RexSubIndirectToAbsolute(n)
-            | RelaxationKind::RexCmpIndirectToAbsolute(n)
-            | RelaxationKind::RexAdcIndirectToAbsolute(n)
-            | RelaxationKind::RexAndIndirectToAbsolute(n)
-            | RelaxationKind::RexOrIndirectToAbsolute(n)
-            | RelaxationKind::RexSbbIndirectToAbsolute(n)
-            | RelaxationKind::RexXorIndirectToAbsolute(n)
-            | RelaxationKind::RexTestIndirectToAbsolute(n) => after_got(immediate_of(n), before),
-            RelaxationKind::NoOp => None,
-            RelaxationKind::TlsGdToLocalExec | RelaxationKind::TlsGdToLocalExecLarge => {
-                after_general_dynamic(X86_64Relocation::R_X86_64_TPOFF32, before)
-            }
-            RelaxationKind::TlsGdToInitialExec => {
-                after_general_dynamic(X86_64Relocation::R_X86_64_GOTTPOFF, before)
-            }
-            RelaxationKind::TlsLdToLocalExec
-            | RelaxationKind::TlsLdToLocalExecNoPlt
-            | RelaxationKind::TlsLdToLocalExec64 => after_local_dynamic(before),
-            RelaxationKind::TlsDescToLocalExec(_) => {
-                after_descriptor(X86_64Relocation::R_X86_64_TPOFF32, before)
-            }
-            RelaxationKind::TlsDescToInitialExec => {
-                after_descriptor(X86_64Relocation::R_X86_64_GOTTPOFF, before)
-            }
-            RelaxationKind::SkipTlsDescCall => after_descriptor_call(before),
-        }
     }
 
     /// What happens to the next relocation: the TLS sequences skip that of their call.

@@ -162,7 +162,7 @@ impl LinkFacts {
     }
 }
 
-#[inline(always)]
+#[inline]
 fn reaches(row: Option<Row>, after: &Operands, back: u64) -> bool {
     let place = after.place.wrapping_sub(back);
     match row {
@@ -171,7 +171,7 @@ fn reaches(row: Option<Row>, after: &Operands, back: u64) -> bool {
     }
 }
 
-#[inline(always)]
+#[inline]
 fn value_is_within(row: Option<Row>, bounds: (i64, i64), operands: &Operands, back: u64) -> bool {
     let place = operands.place.wrapping_sub(back);
     let value = match row {

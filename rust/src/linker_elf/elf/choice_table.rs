@@ -3,31 +3,45 @@
 
 use crate::linker_elf::elf::{Choice, LinkFacts, Operands, Row};
 
-/// The facts that an entry may ask for, each a bit of a mask.
+/// The definition in this output is what is used at run time, and is no indirect function: `is_local`
+/// and not `is_ifunc`. This and the constants below are the facts of `LinkFacts` that an entry may
+/// ask for, each a bit of a mask.
 pub const BOUND: u32 = 1 << 0;
 
+/// `is_undefined_weak`.
 pub const WEAK_ZERO: u32 = 1 << 1;
 
+/// `has_fixed_address`.
 pub const FIXED_ADDRESS: u32 = 1 << 2;
 
+/// `has_fixed_distance`.
 pub const FIXED_DISTANCE: u32 = 1 << 3;
 
+/// `is_executable`.
 pub const EXECUTABLE: u32 = 1 << 4;
 
+/// `has_local_exec_base`.
 pub const LOCAL_EXEC_BASE: u32 = 1 << 5;
 
+/// `may_compress`.
 pub const COMPRESSIBLE: u32 = 1 << 6;
 
+/// `is_marked`.
 pub const MARKED: u32 = 1 << 7;
 
+/// `is_label_marked`.
 pub const LABEL_MARKED: u32 = 1 << 8;
 
+/// `has_got_high_part`.
 pub const GOT_HIGH_PART: u32 = 1 << 9;
 
+/// `has_private_base`.
 pub const PRIVATE_BASE: u32 = 1 << 10;
 
+/// `may_change_toc`.
 pub const CHANGED_TOC: u32 = 1 << 11;
 
+/// The symbol has no PLT entry: `plt_entry` is `symbol`.
 pub const WITHOUT_PLT: u32 = 1 << 12;
 
 /// What an entry asks of the value of a relocation, so many bytes before the place, or of S + A.
@@ -70,6 +84,7 @@ pub struct ChoiceEntry<O, K, R: 'static> {
 /// A relocation's name, which has a row.
 #[doc(hidden)]
 pub trait RelocationName: Copy {
+    /// Its row, if it has one.
     #[must_use]
     fn find_row(self) -> Option<Row>;
 }
@@ -77,6 +92,7 @@ pub trait RelocationName: Copy {
 /// A rewrite of an architecture.
 #[doc(hidden)]
 pub trait ChosenKind: Copy {
+    /// The operands of the relocation after the rewrite at an offset, from those before it.
     #[must_use]
     fn operands_after(self, offset: u64, operands: &Operands) -> Operands;
 }
@@ -84,6 +100,7 @@ pub trait ChosenKind: Copy {
 /// The instructions that an entry is for.
 #[doc(hidden)]
 pub trait Originals<K> {
+    /// Whether they are at an offset of a section, where the entry has a rewrite.
     #[must_use]
     fn stand_at(&self, kind: K, section: &[u8], offset: u64) -> bool;
 }
@@ -137,9 +154,8 @@ impl<R: RelocationName> ValueCondition<R> {
     }
 }
 
-/// Whether all conditions on values hold.
-#[inline(always)]
-fn all_hold<R: RelocationName>(
+/// Whether each of some conditions on values holds.
+fn each_holds<R: RelocationName>(
     values: &'static [ValueCondition<R>],
     facts: &LinkFacts,
     after: &Operands,
@@ -150,6 +166,21 @@ fn all_hold<R: RelocationName>(
         }
     }
     true
+}
+
+/// Whether all conditions on values hold. Of a constant list of one or two the compiler knows which.
+#[inline(always)]
+fn all_hold<R: RelocationName>(
+    values: &'static [ValueCondition<R>],
+    facts: &LinkFacts,
+    after: &Operands,
+) -> bool {
+    match values {
+        [] => true,
+        [one] => one.holds(facts, after),
+        [one, other] => one.holds(facts, after) && other.holds(facts, after),
+        _ => each_holds(values, facts, after),
+    }
 }
 
 /// Whether the addend is the one that is asked for, if any.
