@@ -1,18 +1,24 @@
+use Rattle.std.proofs.Common.{refl}
+use Rattle.linker_elf.specs.declared.loongarch64.relocations.LoongArch64Relocation.TheVariants as r
+use Rattle.linker_loongarch64.specs.declared.rewrites.RelaxationKind.TheVariants as kinds
+use Rattle.linker_loongarch64.proofs.LoongArchChoices.{first_asked}
 use Rattle.linker_loongarch64.proofs.choices.choose.Goals as goal
 
-pub returns-in-R_LARCH_GOT_PC_HI20-clause-chosen : goal.returns-in-R_LARCH_GOT_PC_HI20-clause-chosen
-returns-in-R_LARCH_GOT_PC_HI20-clause-chosen c = rw c.in-R_LARCH_GOT_PC_HI20.is c.first.ensures.chosen
+pub choice_by-requires-in-R_LARCH_GOT_PC_HI20-clause-table : goal.choice_by-requires-in-R_LARCH_GOT_PC_HI20-clause-table
+choice_by-requires-in-R_LARCH_GOT_PC_HI20-clause-table c =
+    let is = c.in-R_LARCH_GOT_PC_HI20.is in
+    let near = first_asked c.args.name r.R_LARCH_GOT_PC_HI20 kinds.PcalaToPcaddi is in
+    let paged = first_asked c.args.name r.R_LARCH_GOT_PC_HI20 kinds.NoOp is in
+    rw is (refl, (near, (refl, (paged, tt))))
 
-pub returns-in-R_LARCH_PCALA_HI20-clause-chosen : goal.returns-in-R_LARCH_PCALA_HI20-clause-chosen
-returns-in-R_LARCH_PCALA_HI20-clause-chosen c = rw c.in-R_LARCH_PCALA_HI20.is c.first-in-R_LARCH_PCALA_HI20.ensures.chosen
+pub choice_by-requires-in-R_LARCH_PCALA_HI20-clause-table : goal.choice_by-requires-in-R_LARCH_PCALA_HI20-clause-table
+choice_by-requires-in-R_LARCH_PCALA_HI20-clause-table c =
+    let is = c.in-R_LARCH_PCALA_HI20.is in
+    rw is (refl, (first_asked c.args.name r.R_LARCH_PCALA_HI20 kinds.PcalaToPcaddi is, tt))
 
-pub returns-in-R_LARCH_CALL36-clause-chosen : goal.returns-in-R_LARCH_CALL36-clause-chosen
-returns-in-R_LARCH_CALL36-clause-chosen c = rw c.in-R_LARCH_CALL36.is c.first-in-R_LARCH_CALL36.ensures.chosen
-
-pub returns-in-R_LARCH_TLS_IE_PC_HI20-clause-chosen : goal.returns-in-R_LARCH_TLS_IE_PC_HI20-clause-chosen
-returns-in-R_LARCH_TLS_IE_PC_HI20-clause-chosen c =
-    rw c.in-R_LARCH_TLS_IE_PC_HI20.is c.first-in-R_LARCH_TLS_IE_PC_HI20.ensures.chosen
-
-pub returns-in-R_LARCH_TLS_DESC_PC_HI20-clause-chosen : goal.returns-in-R_LARCH_TLS_DESC_PC_HI20-clause-chosen
-returns-in-R_LARCH_TLS_DESC_PC_HI20-clause-chosen c =
-    rw c.in-R_LARCH_TLS_DESC_PC_HI20.is c.first-in-R_LARCH_TLS_DESC_PC_HI20.ensures.chosen
+pub choice_by-requires-in-R_LARCH_TLS_IE_PC_HI20-clause-table : goal.choice_by-requires-in-R_LARCH_TLS_IE_PC_HI20-clause-table
+choice_by-requires-in-R_LARCH_TLS_IE_PC_HI20-clause-table c =
+    let is = c.in-R_LARCH_TLS_IE_PC_HI20.is in
+    let short = first_asked c.args.name r.R_LARCH_TLS_IE_PC_HI20 kinds.ReplaceWithNop is in
+    let long = first_asked c.args.name r.R_LARCH_TLS_IE_PC_HI20 kinds.PcalaToLu12i is in
+    rw is (refl, (short, (refl, (long, tt))))

@@ -1,10 +1,10 @@
 use Rattle.linker_loongarch64.proofs.LoongArchChoices.{chosen, chosen_matches, chosen_rewritable}
-use Rattle.linker_loongarch64.proofs.choices.first.Goals as goal
+use Rattle.linker_loongarch64.proofs.choices.choice_by.Goals as goal
 
 pub returns-clause-chosen : goal.returns-clause-chosen
 returns-clause-chosen c =
-    chosen c.args.name c.args.section.now c.args.offset c.args.facts.now c.entries.result.now c.first_entry.result
-    c.entries.ensures.table c.first_entry.ensures
+    chosen c.args.name c.args.section.now c.args.offset c.args.facts.now c.args.table.now c.first_entry.result
+    c.requires.table c.first_entry.ensures
 
 pub returns-clause-matches : goal.returns-clause-matches
 returns-clause-matches c =
