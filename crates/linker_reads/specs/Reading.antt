@@ -9,6 +9,7 @@ use Rattle.linker_base.specs.Form.{window_of}
 use Rattle.linker_base.specs.declared.bit_misc.BitRange.{BitRange}
 use Rattle.linker_elf.specs.AArch64.{movnz}
 use Rattle.linker_elf.specs.Elf.{relocation_form, bit_bounds}
+use Rattle.linker_elf.specs.Forms.{immediate_of}
 use Rattle.linker_elf.specs.Reach.{reach_of}
 use Rattle.linker_elf.specs.Relocate.{number_of_bytes, ppc64_reads, window_len, WritesRow}
 use Rattle.linker_elf.specs.Relocate.{is_low_jump, insn_at}
@@ -82,40 +83,6 @@ number_held insn x = (relocation_form insn).machine x
 abbrev pub are_signed : ℕ → Bounds → Bool
 are_signed n None = false
 are_signed n (Some b) = le_z (bit_bounds n Signed).0 b.0 && le_z b.1 (bit_bounds n Signed).1
-
--- which bits of that number the instruction has; those below are 0
-abbrev pub immediate_of : RelocationInstruction → BitRange
-immediate_of (AArch64 Adr) = record { start = 0; end = 21 }
-immediate_of (AArch64 Movkz) = record { start = 0; end = 16 }
-immediate_of (AArch64 Movnz) = record { start = 0; end = 16 }
-immediate_of (AArch64 Ldr) = record { start = 0; end = 19 }
-immediate_of (AArch64 LdrRegister) = record { start = 0; end = 12 }
-immediate_of (AArch64 Add) = record { start = 0; end = 12 }
-immediate_of (AArch64 LdSt) = record { start = 0; end = 12 }
-immediate_of (AArch64 TstBr) = record { start = 0; end = 14 }
-immediate_of (AArch64 Bcond) = record { start = 0; end = 19 }
-immediate_of (AArch64 JumpCall) = record { start = 0; end = 26 }
-immediate_of (AArch64 MachOLow12) = record { start = 0; end = 12 }
-immediate_of (RiscV UType) = record { start = 12; end = 32 }
-immediate_of (RiscV IType) = record { start = 0; end = 12 }
-immediate_of (RiscV SType) = record { start = 0; end = 12 }
-immediate_of (RiscV BType) = record { start = 1; end = 13 }
-immediate_of (RiscV JType) = record { start = 1; end = 21 }
-immediate_of (RiscV CbType) = record { start = 1; end = 9 }
-immediate_of (RiscV CjType) = record { start = 1; end = 12 }
-immediate_of (RiscV CluiType) = record { start = 12; end = 18 }
-immediate_of (RiscV UiType) = record { start = 0; end = 32 }
-immediate_of (Ppc64 D) = record { start = 0; end = 16 }
-immediate_of (Ppc64 Ds) = record { start = 2; end = 16 }
-immediate_of (Ppc64 Branch14) = record { start = 2; end = 16 }
-immediate_of (Ppc64 Branch24) = record { start = 2; end = 26 }
-immediate_of (Ppc64 Prefixed) = record { start = 0; end = 34 }
-immediate_of (LoongArch64 Shift5) = record { start = 0; end = 20 }
-immediate_of (LoongArch64 Shift10) = record { start = 0; end = 16 }
-immediate_of (LoongArch64 Branch26) = record { start = 0; end = 26 }
-immediate_of (LoongArch64 Branch21) = record { start = 0; end = 21 }
-immediate_of (LoongArch64 Call30) = record { start = 0; end = 20 }
-immediate_of (LoongArch64 Call36) = record { start = 0; end = 36 }
 
 -- the bits of a value, of a range, that an immediate has
 abbrev pub bits_within : BitRange → BitRange → BitRange
