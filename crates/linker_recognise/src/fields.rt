@@ -30,16 +30,10 @@ pub struct FieldBits {
 fn bits_of_bytes(len: usize) -> u64
     ensures { result ≡ bytes_mask len }
 {
-    match len {
-        0 => 0,
-        1 => 0xff,
-        2 => 0xffff,
-        3 => 0x00ff_ffff,
-        4 => 0xffff_ffff,
-        5 => 0x00ff_ffff_ffff,
-        6 => 0xffff_ffff_ffff,
-        7 => 0x00ff_ffff_ffff_ffff,
-        _ => u64::MAX,
+    if len < 8 {
+        (1 << (8 * len)) - 1
+    } else {
+        u64::MAX
     }
 }
 
