@@ -4,7 +4,7 @@ use Rattle.std.specs.Int.{w32, w64, from_le_bytes, bit_at, cast_unsigned, int_re
 use Rattle.std.proofs.lemmas.Bool.{le-ltb}
 use Rattle.std.proofs.lemmas.List.Elements.{All-take, All-drop}
 use Rattle.linker_base.specs.Bits.{field, signed}
-use Rattle.linker_base.specs.Form.{window_of, ImmediateBit, BitsWritten, bit_for, placed_bit, Fits, Written, MachineReads, place_sum, replaced, one_field}
+use Rattle.linker_base.specs.Form.{window_of, ImmediateBit, BitsWritten, bit_for, placed_bit, Fits, Written, MachineReads, place_sum, replaced, cleared, consecutive_bits, one_field}
 use Rattle.linker_base.proofs.Immediates.{layout_machine, place_sum_below, fills, none_ored, place_sum_laid, always_clear}
 use Rattle.linker_base.proofs.Places.{adds}
 use Rattle.linker_base.proofs.Parts.{ArePlaced, all_replaced, part_laid}
@@ -17,7 +17,7 @@ use Rattle.linker_elf.specs.declared.loongarch64.forms.WordBits.{WordBits}
 use Rattle.linker_elf.specs.Inner.Immediates.{is_one_word, loongarch_bits, loongarch_read}
 use Rattle.linker_elf.specs.Inner.Runs.{words_below}
 use Rattle.linker_elf.proofs.MovedBits.{signed_wide, Moved, up, down, laid, masks_write, masks_read, written_by_masks, read_by_masks}
-use Rattle.linker_elf.proofs.Runs.{laid_below}
+use Rattle.linker_elf.proofs.Runs.{laid_below, mask_cleared}
 use Rattle.std.specs.Int.RustNames.{bit_or}
 use lib.Bits.{bit_and}
 use Rattle.std.specs.Int.Bits.{or_zero_l}
@@ -60,6 +60,10 @@ shift10_low_field x = consecutive_bits_sum replaced 12 0 10 0 x refl ∙ omega a
 
 pub shift10_field : (v before after : ℕ) → v < 2 ^ 12 → BitsWritten shift10_places v before after → field after 10 22 ≡ v
 shift10_field v before after h laid = sym (shift10_low_field after) ∙ shift10_low_sum v before after (omega arith) laid ∙ omega arith
+
+-- an immediate of 16 bits without those that are only ORed
+pub shift10_cleared : (x : ℕ) → x < 2 ^ 32 → BitsWritten (consecutive_bits 4 12 22 0 cleared) 0 x (bit_and x (2 ^ 64 - 1 - 0x3c00000))
+shift10_cleared x small = mask_cleared 4 12 22 0 x (omega arith) (omega arith) (omega arith)
 
 -- ---- `pcaddu18i` and `jirl`
 

@@ -5,7 +5,7 @@ use Rattle.std.specs.Int.{w32, w64, cast_unsigned, from_le_bytes}
 use Rattle.linker_base.specs.Form.{Written, MachineReads, BitsWritten, place_sum, replaced, window_of}
 use Rattle.linker_base.proofs.ConsecutiveBits.{consecutive_bits_sum}
 use Rattle.linker_base.proofs.Immediates.{layout_machine}
-use Rattle.linker_elf.specs.Inner.Masks.{word_mask}
+use Rattle.linker_elf.specs.Forms.{ppc64_word_mask}
 use Rattle.linker_elf.specs.Ppc64.{ppc64_form, ppc64_layout}
 use Rattle.linker_elf.specs.declared.ppc64.forms.Ppc64Instruction.{Ppc64Instruction}
 use Rattle.linker_elf.specs.declared.ppc64.forms.Ppc64Instruction.TheVariants.{D, Ds, Branch14, Branch24}
@@ -40,7 +40,7 @@ i_written v x = mask_written 24 2 v x (omega arith) (omega arith)
 
 -- both, of each form of one word
 pub mask_reads : (f : Ppc64Instruction) → ¬ (f ≡ Prefixed) → (x : ℕ)
-    → bit_and x (word_mask f) ≡ place_sum ((ppc64_form f).places 0) x
+    → bit_and x (ppc64_word_mask f) ≡ place_sum ((ppc64_form f).places 0) x
 mask_reads D isnt = d_mask
 mask_reads Ds isnt = ds_mask
 mask_reads Branch14 isnt = ds_mask
@@ -50,7 +50,7 @@ mask_reads Prefixed isnt = absurd (isnt refl)
 pub mask_writes : (f : Ppc64Instruction) → ¬ (f ≡ Prefixed) → (v : ℕ) (neg : Bool) (x : ℕ)
     → v < 2 ^ 64 → x < 2 ^ 64
     → Written (ppc64_form f) v neg x
-    (bit_or (bit_and x (2 ^ 64 - 1 - word_mask f)) (bit_and v (word_mask f)))
+    (bit_or (bit_and x (2 ^ 64 - 1 - ppc64_word_mask f)) (bit_and v (ppc64_word_mask f)))
 mask_writes D isnt v neg = d_written v
 mask_writes Ds isnt v neg = ds_written v
 mask_writes Branch14 isnt v neg = ds_written v

@@ -1,7 +1,8 @@
 -- For which relocations a linker makes an entry: those that ask for a GOT entry, and those that a
 -- PLT entry may serve (the sections on relocations of the psABIs, as `Value` names them).
-use Rattle.std.specs.Prelude.{◌≡◌, ◌≢◌, ◌⊎◌, ℕ, ◌-◌, Bool, true, false, nat_lt, Option, Some, None}
+use Rattle.std.specs.Prelude.{◌≡◌, ◌≢◌, ◌⊎◌, ℕ, Bool, true, false, Option, Some, None}
 use Rattle.linker_base.specs.declared.bit_misc.BitRange.{BitRange}
+use Rattle.linker_elf.specs.LoongArch.{has_16_bits}
 use Rattle.linker_elf.specs.Value.{value_of}
 use Rattle.linker_elf.specs.declared.aarch64.forms.AArch64Instruction.{AArch64Instruction}
 use Rattle.linker_elf.specs.declared.aarch64.forms.AArch64Instruction.TheVariants.{TstBr, Bcond}
@@ -86,7 +87,7 @@ is_ppc64_branch f = false
 
 -- Among instructions of the form `Shift10` those with an immediate of 16 bits are branches.
 abbrev pub is_loongarch_branch : LoongArch64Instruction → BitRange → Bool
-is_loongarch_branch Shift10 bits = nat_lt 12 (bits.end - bits.start)
+is_loongarch_branch Shift10 bits = has_16_bits bits
 is_loongarch_branch Branch21 bits = true
 is_loongarch_branch Branch26 bits = true
 is_loongarch_branch Call30 bits = true

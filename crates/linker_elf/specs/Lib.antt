@@ -6,6 +6,7 @@ pub mod Choices
 pub mod Elf
 pub mod ElfNames
 pub mod Entries
+pub mod Forms
 pub mod Inner
 pub mod LoongArch
 pub mod LoongArchRelocations

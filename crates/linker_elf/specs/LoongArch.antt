@@ -1,13 +1,14 @@
 -- LoongArch: its instruction forms (LoongArch Reference Manual, volume 1), and its calls and
 -- addresses of several instructions (LoongArch ELF psABI).
-use Rattle.std.specs.Prelude.{◌≡◌, ℕ, ◌+◌, ◌-◌, ◌*◌, ◌%◌, ◌^◌, true, false, ◌==◌, if◌then◌else◌}
-use Rattle.std.specs.Prelude.{List, [], ◌∷◌, ◌++◌, drop, ℤ, pos, neg_ℤ, ◌+ℤ◌}
+use Rattle.std.specs.Prelude.{◌≡◌, ℕ, ◌+◌, ◌-◌, ◌*◌, ◌%◌, ◌^◌, Bool, true, false, ◌==◌, nat_lt}
+use Rattle.std.specs.Prelude.{if◌then◌else◌, List, [], ◌∷◌, ◌++◌, drop, ℤ, pos, neg_ℤ, ◌+ℤ◌}
 use Rattle.std.specs.Prelude.{◌-ℤ◌, ◌*ℤ◌, ◌≤ℤ◌, ◌<ℤ◌, ⊤, ◌≤◌}
 use Rattle.std.specs.Int.{w32, w64, bit_at, from_le_bytes, cast_unsigned, int_rem_euclid}
 use Rattle.linker_base.specs.Bits.{field, signed}
 use Rattle.linker_base.specs.Form.{Form, ImmediateBit, bits_to, or_bits_to, sum_bits_to}
 use Rattle.linker_base.specs.Form.{cleared_bits, place_sum, Field, field_form, Layout, one_field}
 use Rattle.linker_base.specs.Form.{own_form, form_of, unsigned, twos_complement, modulo, unclaimed}
+use Rattle.linker_base.specs.declared.bit_misc.BitRange.{BitRange}
 use Rattle.linker_elf.specs.declared.loongarch64.forms.LoongArch64Instruction.{LoongArch64Instruction}
 use Rattle.linker_elf.specs.declared.loongarch64.forms.LoongArch64Instruction.TheVariants.{Shift5}
 use Rattle.linker_elf.specs.declared.loongarch64.forms.LoongArch64Instruction.TheVariants.{Shift10}
@@ -72,6 +73,11 @@ immediate n ps =
 -- a distance of n bits, which `read_value` reads in two's complement too
 abbrev pub distance : ℕ → List ImmediateBit → Field
 distance n ps = record (immediate n ps) { read = twos_complement; flags = true }
+
+-- A `Shift10` has an immediate of 16 bits where more than 12 bits of a value are taken, and else one
+-- of 12.
+abbrev pub has_16_bits : BitRange → Bool
+has_16_bits bits = nat_lt 12 (bits.end - bits.start)
 
 -- the immediate of 16 bits in a `Shift10`
 abbrev pub shift10_imm16 : Field

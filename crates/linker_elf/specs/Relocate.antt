@@ -14,7 +14,7 @@ use Rattle.linker_elf.specs.AArch64.{aarch64_form, shift_of}
 use Rattle.linker_elf.specs.Agrees.{bits_from, IsSameIn, aarch64_reads, loongarch_reads}
 use Rattle.linker_elf.specs.Agrees.{is_of_halves, is_of_words, AgreesBy, AgreesInReach}
 use Rattle.linker_elf.specs.Elf.{IsWithin, bit_bounds, relocation_form}
-use Rattle.linker_elf.specs.LoongArch.{loongarch_form, reach}
+use Rattle.linker_elf.specs.LoongArch.{loongarch_form, reach, has_16_bits}
 use Rattle.linker_elf.specs.Ppc64.{ppc64_form}
 use Rattle.linker_elf.specs.Reach.{reach_of, clui_hole}
 use Rattle.linker_elf.specs.RiscV.{riscv_form}
@@ -97,7 +97,7 @@ places_cleared (AArch64 f) bits x = ored_cleared ((aarch64_form f).places x)
 places_cleared (RiscV f) bits x = []
 places_cleared (Ppc64 f) bits x = []
 places_cleared (LoongArch64 f) bits x =
-    if nat_lt 12 (bits.end - bits.start) then ored_cleared ((loongarch_form f).places x) else []
+    if has_16_bits bits then ored_cleared ((loongarch_form f).places x) else []
 
 -- the bits of the value that are written
 abbrev pub bits_taken : BitRange → ℤ → ℕ

@@ -8,6 +8,7 @@ use Rattle.std.specs.Int.{w64, cast_unsigned}
 use Rattle.linker_base.specs.Form.{window_of}
 use Rattle.linker_base.specs.declared.bit_misc.BitRange.{BitRange}
 use Rattle.linker_elf.specs.Elf.{relocation_form}
+use Rattle.linker_elf.specs.Forms.{immediate_of}
 use Rattle.linker_elf.specs.Relocate.{number_of_bytes, stays_movk, insn_at, is_low_jump}
 use Rattle.linker_elf.specs.Rows.{Bounds}
 use Rattle.linker_elf.specs.Value.{sum_64, difference_64}
@@ -23,7 +24,7 @@ use Rattle.linker_elf.specs.declared.elf.RelocationSize.TheVariants.{ByteSize, B
 use Rattle.linker_reads.proofs.Ranges.{upper_below, moved_below}
 use Rattle.linker_reads.specs.Fields.{IsProper}
 use Rattle.linker_reads.specs.Reading.{holds_value, holds_bits, holds_field, are_signed, bits_held}
-use Rattle.linker_reads.specs.Reading.{immediate_of, bits_within, holds_some, number_held, with_alignment}
+use Rattle.linker_reads.specs.Reading.{bits_within, holds_some, number_held, with_alignment}
 use Rattle.linker_reads.specs.Reading.{bits_read, bits_of_bytes, bytes_read, field_read, jump_read}
 use Rattle.linker_reads.specs.Reading.{leaves_one, up_to_sign, with_reach, least_sum, steps_above}
 use Rattle.linker_reads.specs.declared.fields.FieldValue.{FieldValue}

@@ -19,6 +19,7 @@ use Rattle.linker_base.proofs.Places.{sums}
 use Rattle.linker_elf.specs.AArch64.{aarch64_form, aarch64_layout, movnz, moved_value, moved_bits, move_opcode, imm16_places}
 use Rattle.linker_elf.specs.Agrees.{bits_from}
 use Rattle.linker_elf.specs.Elf.{IsWithin, bit_bounds, relocation_form, relocation_layout}
+use Rattle.linker_elf.specs.Forms.{immediate_of}
 use Rattle.linker_elf.specs.LoongArch.{loongarch_form, shift10_low, shift10_imm16, pcaddu18i_imm, jirl_imm}
 use Rattle.linker_elf.specs.Ppc64.{ppc64_form}
 use Rattle.linker_elf.specs.Relocate.{InstructionWritten, bits_taken, ppc64_reads}
@@ -61,7 +62,7 @@ use Rattle.linker_reads.proofs.Aligned.{cast_below}
 use Rattle.linker_reads.proofs.BitFields.{sum_bits, layout_bits, part_of_part, own_bits, low_bits_same, number_bits}
 use Rattle.linker_reads.proofs.Numbers.{IsShort, short}
 use Rattle.linker_reads.specs.Fields.{IsOfValue}
-use Rattle.linker_reads.specs.Reading.{immediate_of, bits_within, bits_held, bits_read, holds_bits, are_signed}
+use Rattle.linker_reads.specs.Reading.{bits_within, bits_held, bits_read, holds_bits, are_signed}
 use Rattle.linker_reads.specs.Reading.{holds_value, holds_field, field_read, bytes_read, bits_of_bytes, jump_read}
 use Rattle.linker_reads.proofs.Proper.{some_of_bytes}
 

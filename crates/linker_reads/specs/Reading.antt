@@ -9,17 +9,13 @@ use Rattle.linker_base.specs.Form.{window_of}
 use Rattle.linker_base.specs.declared.bit_misc.BitRange.{BitRange}
 use Rattle.linker_elf.specs.AArch64.{movnz}
 use Rattle.linker_elf.specs.Elf.{relocation_form, bit_bounds}
+use Rattle.linker_elf.specs.Forms.{immediate_of}
 use Rattle.linker_elf.specs.Reach.{reach_of}
 use Rattle.linker_elf.specs.Relocate.{number_of_bytes, ppc64_reads, window_len, WritesRow}
 use Rattle.linker_elf.specs.Relocate.{is_low_jump, insn_at}
 use Rattle.linker_elf.specs.Rows.{Bounds}
 use Rattle.linker_elf.specs.Value.{sum_64, difference_64}
-use Rattle.linker_elf.specs.declared.aarch64.forms.AArch64Instruction.TheVariants.{Adr, Movkz}
-use Rattle.linker_elf.specs.declared.aarch64.forms.AArch64Instruction.TheVariants.{Movnz, Ldr}
-use Rattle.linker_elf.specs.declared.aarch64.forms.AArch64Instruction.TheVariants.{LdrRegister}
-use Rattle.linker_elf.specs.declared.aarch64.forms.AArch64Instruction.TheVariants.{Add, LdSt}
-use Rattle.linker_elf.specs.declared.aarch64.forms.AArch64Instruction.TheVariants.{TstBr, Bcond}
-use Rattle.linker_elf.specs.declared.aarch64.forms.AArch64Instruction.TheVariants.{JumpCall}
+use Rattle.linker_elf.specs.declared.aarch64.forms.AArch64Instruction.TheVariants.{Movnz}
 use Rattle.linker_elf.specs.declared.aarch64.forms.AArch64Instruction.TheVariants.{MachOLow12}
 use Rattle.linker_elf.specs.declared.elf.RelocationInstruction.{RelocationInstruction}
 use Rattle.linker_elf.specs.declared.elf.RelocationInstruction.TheVariants.{RiscV, Ppc64}
@@ -29,20 +25,11 @@ use Rattle.linker_elf.specs.declared.elf.RelocationKind.TheVariants as kinds
 use Rattle.linker_elf.specs.declared.elf.RelocationKindInfo.{RelocationKindInfo}
 use Rattle.linker_elf.specs.declared.elf.RelocationSize.{RelocationSize}
 use Rattle.linker_elf.specs.declared.elf.RelocationSize.TheVariants.{ByteSize, BitMasking}
-use Rattle.linker_elf.specs.declared.loongarch64.forms.LoongArch64Instruction.TheVariants.{Shift5}
-use Rattle.linker_elf.specs.declared.loongarch64.forms.LoongArch64Instruction.TheVariants.{Shift10}
-use Rattle.linker_elf.specs.declared.loongarch64.forms.LoongArch64Instruction.TheVariants.{Branch26}
-use Rattle.linker_elf.specs.declared.loongarch64.forms.LoongArch64Instruction.TheVariants.{Branch21}
 use Rattle.linker_elf.specs.declared.loongarch64.forms.LoongArch64Instruction.TheVariants.{Call30}
-use Rattle.linker_elf.specs.declared.loongarch64.forms.LoongArch64Instruction.TheVariants.{Call36}
-use Rattle.linker_elf.specs.declared.ppc64.forms.Ppc64Instruction.TheVariants.{D, Ds, Branch14}
-use Rattle.linker_elf.specs.declared.ppc64.forms.Ppc64Instruction.TheVariants.{Branch24, Prefixed}
+use Rattle.linker_elf.specs.declared.ppc64.forms.Ppc64Instruction.TheVariants.{Ds}
 use Rattle.linker_elf.specs.declared.elf.Sign.TheVariants.{Signed}
-use Rattle.linker_elf.specs.declared.riscv64.forms.RiscVInstruction.TheVariants.{UType, IType}
-use Rattle.linker_elf.specs.declared.riscv64.forms.RiscVInstruction.TheVariants.{SType, BType}
-use Rattle.linker_elf.specs.declared.riscv64.forms.RiscVInstruction.TheVariants.{JType, CbType}
-use Rattle.linker_elf.specs.declared.riscv64.forms.RiscVInstruction.TheVariants.{CjType}
-use Rattle.linker_elf.specs.declared.riscv64.forms.RiscVInstruction.TheVariants.{CluiType, UiType}
+use Rattle.linker_elf.specs.declared.riscv64.forms.RiscVInstruction.TheVariants.{UType}
+use Rattle.linker_elf.specs.declared.riscv64.forms.RiscVInstruction.TheVariants.{CluiType}
 use Rattle.linker_reads.specs.Fields.{IsOfValue}
 use Rattle.linker_reads.specs.declared.fields.FieldValue.{FieldValue}
 
@@ -82,40 +69,6 @@ number_held insn x = (relocation_form insn).machine x
 abbrev pub are_signed : ℕ → Bounds → Bool
 are_signed n None = false
 are_signed n (Some b) = le_z (bit_bounds n Signed).0 b.0 && le_z b.1 (bit_bounds n Signed).1
-
--- which bits of that number the instruction has; those below are 0
-abbrev pub immediate_of : RelocationInstruction → BitRange
-immediate_of (AArch64 Adr) = record { start = 0; end = 21 }
-immediate_of (AArch64 Movkz) = record { start = 0; end = 16 }
-immediate_of (AArch64 Movnz) = record { start = 0; end = 16 }
-immediate_of (AArch64 Ldr) = record { start = 0; end = 19 }
-immediate_of (AArch64 LdrRegister) = record { start = 0; end = 12 }
-immediate_of (AArch64 Add) = record { start = 0; end = 12 }
-immediate_of (AArch64 LdSt) = record { start = 0; end = 12 }
-immediate_of (AArch64 TstBr) = record { start = 0; end = 14 }
-immediate_of (AArch64 Bcond) = record { start = 0; end = 19 }
-immediate_of (AArch64 JumpCall) = record { start = 0; end = 26 }
-immediate_of (AArch64 MachOLow12) = record { start = 0; end = 12 }
-immediate_of (RiscV UType) = record { start = 12; end = 32 }
-immediate_of (RiscV IType) = record { start = 0; end = 12 }
-immediate_of (RiscV SType) = record { start = 0; end = 12 }
-immediate_of (RiscV BType) = record { start = 1; end = 13 }
-immediate_of (RiscV JType) = record { start = 1; end = 21 }
-immediate_of (RiscV CbType) = record { start = 1; end = 9 }
-immediate_of (RiscV CjType) = record { start = 1; end = 12 }
-immediate_of (RiscV CluiType) = record { start = 12; end = 18 }
-immediate_of (RiscV UiType) = record { start = 0; end = 32 }
-immediate_of (Ppc64 D) = record { start = 0; end = 16 }
-immediate_of (Ppc64 Ds) = record { start = 2; end = 16 }
-immediate_of (Ppc64 Branch14) = record { start = 2; end = 16 }
-immediate_of (Ppc64 Branch24) = record { start = 2; end = 26 }
-immediate_of (Ppc64 Prefixed) = record { start = 0; end = 34 }
-immediate_of (LoongArch64 Shift5) = record { start = 0; end = 20 }
-immediate_of (LoongArch64 Shift10) = record { start = 0; end = 16 }
-immediate_of (LoongArch64 Branch26) = record { start = 0; end = 26 }
-immediate_of (LoongArch64 Branch21) = record { start = 0; end = 21 }
-immediate_of (LoongArch64 Call30) = record { start = 0; end = 20 }
-immediate_of (LoongArch64 Call36) = record { start = 0; end = 36 }
 
 -- the bits of a value, of a range, that an immediate has
 abbrev pub bits_within : BitRange → BitRange → BitRange

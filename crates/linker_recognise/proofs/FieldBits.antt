@@ -7,6 +7,7 @@ use Rattle.linker_base.specs.Form.{is_placed, window_of}
 use Rattle.linker_base.specs.declared.bit_misc.BitRange.{BitRange}
 use Rattle.linker_elf.specs.AArch64.{access_scale, low12_places}
 use Rattle.linker_elf.specs.Elf.{relocation_form}
+use Rattle.linker_elf.specs.Forms.{instruction_mask}
 use Rattle.linker_elf.specs.Inner.FormLaws.{scale_small}
 use Rattle.linker_elf.specs.LoongArch.{loongarch_form, shift10_low}
 use Rattle.linker_elf.specs.Relocate.{is_dq_form, insn_at, bits_at}
@@ -22,7 +23,7 @@ use Rattle.linker_elf.specs.declared.loongarch64.forms.LoongArch64Instruction.Th
 use Rattle.linker_elf.specs.declared.ppc64.forms.Ppc64Instruction.TheVariants as ppc64
 use Rattle.linker_elf.specs.declared.riscv64.forms.RiscVInstruction.TheVariants as riscv
 use Rattle.linker_recognise.specs.Fields.{is_instruction_bit, is_size_bit, is_field_bit, is_value_bit}
-use Rattle.linker_recognise.specs.Inner.Masks.{instruction_mask, bytes_mask, number_mask, size_mask, field_mask}
+use Rattle.linker_recognise.specs.Inner.Masks.{bytes_mask, number_mask, size_mask, field_mask}
 
 -- ---- instructions
 

@@ -9,6 +9,7 @@ use crate::linker_elf::elf::{
     RelocationInstruction, RelocationKind, RelocationKindInfo, RelocationSize, RiscVInstruction,
     Row, Sign,
 };
+use crate::linker_elf::ppc64::DQ_UNIT;
 
 /// Whether bytes hold the value, or its low bits, and not a sum of it and what stood there.
 fn holds_value(kind: RelocationKind) -> bool {
@@ -58,20 +59,13 @@ fn riscv_number(insn: RiscVInstruction, bytes: &[u8]) -> u64 {
     }
 }
 
-/// Whether a word is an instruction of DQ-form, whose displacement is in units of 16 (Power ISA,
-/// "DQ-Form"): `lq`, `lxvp`, `stxvp`, `lxv` or `stxv`.
-fn is_dq_form(word: u32) -> bool {
-    let opcode = word >> 26;
-    opcode == 56 || opcode == 6 || (opcode == 61 && word % 4 == 1)
-}
-
 /// What an instruction of PowerPC64 holds, in two's complement.
 fn ppc64_number(insn: Ppc64Instruction, bytes: &[u8]) -> u64 {
     let (number, _) = insn.read(bytes);
     match insn {
         Ppc64Instruction::Ds => {
-            if is_dq_form(u32_from_slice(bytes)) {
-                (number - number % 16).low_bits_signed(16)
+            if insn.is_dq_form(bytes) {
+                (number - number % DQ_UNIT).low_bits_signed(16)
             } else {
                 number.low_bits_signed(16)
             }
@@ -120,71 +114,6 @@ fn are_signed(count: u32, reach: AllowedRange) -> bool {
     }
 }
 
-/// A range of bits.
-fn bits(start: u8, end: u8) -> BitRange {
-    BitRange { start, end }
-}
-
-/// Which bits of its number an instruction of AArch64 has.
-fn aarch64_immediate(insn: AArch64Instruction) -> BitRange {
-    match insn {
-        AArch64Instruction::Adr => bits(0, 21),
-        AArch64Instruction::Movkz | AArch64Instruction::Movnz => bits(0, 16),
-        AArch64Instruction::Ldr | AArch64Instruction::Bcond => bits(0, 19),
-        AArch64Instruction::LdrRegister
-        | AArch64Instruction::Add
-        | AArch64Instruction::LdSt
-        | AArch64Instruction::MachOLow12 => bits(0, 12),
-        AArch64Instruction::TstBr => bits(0, 14),
-        AArch64Instruction::JumpCall => bits(0, 26),
-    }
-}
-
-/// The same of RISC-V.
-fn riscv_immediate(insn: RiscVInstruction) -> BitRange {
-    match insn {
-        RiscVInstruction::UType => bits(12, 32),
-        RiscVInstruction::IType | RiscVInstruction::SType => bits(0, 12),
-        RiscVInstruction::BType => bits(1, 13),
-        RiscVInstruction::JType => bits(1, 21),
-        RiscVInstruction::CbType => bits(1, 9),
-        RiscVInstruction::CjType => bits(1, 12),
-        RiscVInstruction::CluiType => bits(12, 18),
-        RiscVInstruction::UiType => bits(0, 32),
-    }
-}
-
-/// The same of PowerPC64.
-fn ppc64_immediate(insn: Ppc64Instruction) -> BitRange {
-    match insn {
-        Ppc64Instruction::D => bits(0, 16),
-        Ppc64Instruction::Ds | Ppc64Instruction::Branch14 => bits(2, 16),
-        Ppc64Instruction::Branch24 => bits(2, 26),
-        Ppc64Instruction::Prefixed => bits(0, 34),
-    }
-}
-
-/// The same of LoongArch.
-fn loongarch_immediate(insn: LoongArch64Instruction) -> BitRange {
-    match insn {
-        LoongArch64Instruction::Shift5 | LoongArch64Instruction::Call30 => bits(0, 20),
-        LoongArch64Instruction::Shift10 => bits(0, 16),
-        LoongArch64Instruction::Branch26 => bits(0, 26),
-        LoongArch64Instruction::Branch21 => bits(0, 21),
-        LoongArch64Instruction::Call36 => bits(0, 36),
-    }
-}
-
-/// Which bits of its number an instruction has.
-fn immediate_of(insn: RelocationInstruction) -> BitRange {
-    match insn {
-        RelocationInstruction::AArch64(insn) => aarch64_immediate(insn),
-        RelocationInstruction::RiscV(insn) => riscv_immediate(insn),
-        RelocationInstruction::Ppc64(insn) => ppc64_immediate(insn),
-        RelocationInstruction::LoongArch64(insn) => loongarch_immediate(insn),
-    }
-}
-
 /// Which bits of a value, of a range, an immediate has.
 fn bits_within(immediate: BitRange, bits: BitRange) -> BitRange {
     let end = bits.start as u32 + immediate.end as u32;
@@ -211,7 +140,7 @@ fn bits_held(insn: RelocationInstruction, bits: BitRange, reach: AllowedRange) -
                 bits
             }
         }
-        _ => bits_within(immediate_of(insn), bits),
+        _ => bits_within(insn.value_bits(), bits),
     }
 }
 
@@ -251,7 +180,7 @@ fn number_of_bytes(len: usize, bytes: &[u8]) -> u64 {
 fn jump_read(bytes: &[u8]) -> FieldValue {
     let word = u32_from_slice(bytes) as u64;
     FieldValue {
-        known: bits(0, 12),
+        known: BitRange { start: 0, end: 12 },
         bits: word.extract_bit_range(10..20) * 4,
         rounding: 0,
     }

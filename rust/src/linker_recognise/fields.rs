@@ -1,11 +1,8 @@
 // Made by tools/erase of crates/linker_recognise/src/fields.rt.
 //! The bits of a relocation's field, and bytes that differ in such bits only.
 
-use crate::linker_base::bit_misc::{BitExtraction, BitRange};
-use crate::linker_elf::elf::{
-    AArch64Instruction, LoongArch64Instruction, Ppc64Instruction, RelocationInstruction,
-    RelocationKind, RelocationSize, RiscVInstruction, Row,
-};
+use crate::linker_base::bit_misc::BitExtraction;
+use crate::linker_elf::elf::{RelocationKind, RelocationSize, Row};
 
 /// Some of the bits of the eight bytes from an offset of a window on.
 #[repr(C)]
@@ -17,89 +14,13 @@ pub struct FieldBits {
     pub bits: u64,
 }
 
-/// The number of a word in little-endian order.
-#[inline(always)]
-fn word_of(bytes: &[u8]) -> u32 {
-    u32::from_le_bytes([bytes[0], bytes[1], bytes[2], bytes[3]])
-}
-
-/// Whether a word is an instruction of DQ-form: `lq`, `lxvp`, `stxvp`, `lxv` or `stxv` (Power ISA,
-/// "DQ-Form").
-#[inline(always)]
-fn is_dq_form(word: u32) -> bool {
-    let opcode = word >> 26;
-    opcode == 56 || opcode == 6 || (opcode == 61 && word % 4 == 1)
-}
-
-/// The bits that a write of a row may change in an instruction.
-#[inline]
-fn instruction_bits(insn: RelocationInstruction, range: BitRange, bytes: &[u8]) -> u64 {
-    match insn {
-        RelocationInstruction::AArch64(insn) => match insn {
-            AArch64Instruction::Adr => 0x60ff_ffe0,
-            AArch64Instruction::Movkz => 0x001f_ffe0,
-            // and the opcode but for the size of the register
-            AArch64Instruction::Movnz => 0x7f9f_ffe0,
-            AArch64Instruction::Ldr | AArch64Instruction::Bcond => 0x00ff_ffe0,
-            AArch64Instruction::LdrRegister
-            | AArch64Instruction::Add
-            | AArch64Instruction::LdSt
-            | AArch64Instruction::MachOLow12 => 0x003f_fc00,
-            AArch64Instruction::TstBr => 0x0007_ffe0,
-            AArch64Instruction::JumpCall => 0x03ff_ffff,
-        },
-        RelocationInstruction::RiscV(insn) => match insn {
-            RiscVInstruction::UType | RiscVInstruction::JType => 0xffff_f000,
-            RiscVInstruction::IType => 0xfff0_0000,
-            RiscVInstruction::SType | RiscVInstruction::BType => 0xfe00_0f80,
-            RiscVInstruction::CbType => 0x1c7c,
-            RiscVInstruction::CjType => 0x1ffc,
-            RiscVInstruction::CluiType => 0x107c,
-            RiscVInstruction::UiType => 0xfff0_0000_ffff_f000,
-        },
-        RelocationInstruction::Ppc64(insn) => match insn {
-            Ppc64Instruction::D => 0xffff,
-            Ppc64Instruction::Ds => {
-                if is_dq_form(word_of(bytes)) {
-                    0xfff0
-                } else {
-                    0xfffc
-                }
-            }
-            Ppc64Instruction::Branch14 => 0xfffc,
-            Ppc64Instruction::Branch24 => 0x03ff_fffc,
-            Ppc64Instruction::Prefixed => 0xffff_0003_ffff,
-        },
-        RelocationInstruction::LoongArch64(insn) => match insn {
-            LoongArch64Instruction::Shift5 => 0x01ff_ffe0,
-            LoongArch64Instruction::Shift10 => {
-                if 12 < range.end.saturating_sub(range.start) {
-                    0x03ff_fc00
-                } else {
-                    0x003f_fc00
-                }
-            }
-            LoongArch64Instruction::Branch26 => 0x03ff_ffff,
-            LoongArch64Instruction::Branch21 => 0x03ff_fc1f,
-            LoongArch64Instruction::Call30 => 0x0007_fc00_01ff_ffe0,
-            LoongArch64Instruction::Call36 => 0x03ff_fc00_01ff_ffe0,
-        },
-    }
-}
-
 /// The lowest bits of a number of so many bytes, of at most 8.
 #[inline(always)]
 fn bits_of_bytes(len: usize) -> u64 {
-    match len {
-        0 => 0,
-        1 => 0xff,
-        2 => 0xffff,
-        3 => 0x00ff_ffff,
-        4 => 0xffff_ffff,
-        5 => 0x00ff_ffff_ffff,
-        6 => 0xffff_ffff_ffff,
-        7 => 0x00ff_ffff_ffff_ffff,
-        _ => u64::MAX,
+    if len < 8 {
+        (1 << (8 * len)) - 1
+    } else {
+        u64::MAX
     }
 }
 
@@ -115,21 +36,6 @@ fn number_bits(kind: RelocationKind, len: usize) -> u64 {
     }
 }
 
-/// The bits of a value that a write of a row places: a `jirl` at the low part of an address gets 16.
-#[inline(always)]
-fn placed_bits(
-    insn: RelocationInstruction,
-    kind: RelocationKind,
-    range: BitRange,
-    bytes: &[u8],
-) -> BitRange {
-    if insn.is_low_jump(kind, bytes) {
-        BitRange { start: 2, end: 18 }
-    } else {
-        range
-    }
-}
-
 /// The bits that a write of a row may change, as a mask.
 #[inline(always)]
 fn mask_of(row: &Row, bytes: &[u8]) -> u64 {
@@ -137,8 +43,8 @@ fn mask_of(row: &Row, bytes: &[u8]) -> u64 {
     match info.size {
         RelocationSize::ByteSize(len) => number_bits(info.kind, len as usize),
         RelocationSize::BitMasking { range, insn } => {
-            let placed = placed_bits(insn, info.kind, range, bytes);
-            instruction_bits(insn.written_at(range, bytes), placed, bytes)
+            let placed = insn.placed_bits(info.kind, range, bytes);
+            insn.written_at(range, bytes).field_mask(placed, bytes)
         }
     }
 }

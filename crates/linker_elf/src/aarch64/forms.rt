@@ -12,12 +12,15 @@ ghost use Rattle.linker_elf.specs.Inner.FormLaws.{aarch64_keeps, aarch64_restore
 ghost use Rattle.linker_elf.specs.AArch64.{aarch64_form};
 ghost use Rattle.linker_elf.specs.AArch64.{access_scale};
 ghost use Rattle.linker_elf.specs.AArch64.{moved_bits, move_opcode};
-ghost use Rattle.linker_elf.specs.Relocate.{ored_cleared};
+ghost use Rattle.linker_elf.specs.Entries.{is_aarch64_branch};
+ghost use Rattle.linker_elf.specs.Forms.{aarch64_mask, immediate_of};
+ghost use Rattle.linker_elf.specs.Reach.{aarch64_reach};
+ghost use Rattle.linker_elf.specs.Relocate.{ored_cleared, is_32_bit_move, is_movk};
 ghost use Rattle.linker_elf.specs.Inner.Immediates.{is_ored_alone, aarch64_immediate};
 
 use crate::elf::engine::{self, Mark, Run, Window, run};
-use crate::elf::{InstructionForm, RelocationInstruction};
-use linker_base::bit_misc::BitExtraction;
+use crate::elf::{AllowedRange, InstructionForm, RelocationInstruction, Sign, bits};
+use linker_base::bit_misc::{BitExtraction, BitRange};
 
 /// AArch64 instructions with an immediate (Arm Architecture Reference Manual for A-profile, DDI
 /// 0487, C6.2 and C7.2). The window is one instruction of 4 bytes. Except for `Movnz` and
@@ -279,6 +282,88 @@ impl AArch64Instruction {
             }
         }
     }
+}
+
+/// What other modules ask of a form.
+impl AArch64Instruction {
+    /// The bits of an instruction that a write of the form may change: of `Movnz` also those of the
+    /// opcode but for the size of the register.
+    #[inline]
+    pub fn field_mask(self) -> u64
+        ensures { result ≡ aarch64_mask self }
+    {
+        match self {
+            AArch64Instruction::Movnz => 0x7f9f_ffe0,
+            AArch64Instruction::MachOLow12 => 0x003f_fc00,
+            _ => {
+                let immediate = self.immediate();
+                immediate.low << 29 | immediate.mask
+            }
+        }
+    }
+
+    /// Which bits of its number the immediate has.
+    #[inline]
+    pub fn value_bits(self) -> BitRange
+        ensures { result ≡ immediate_of (RelocationInstruction.AArch64 self) }
+    {
+        match self {
+            AArch64Instruction::Adr => bits(0, 21),
+            AArch64Instruction::Movkz | AArch64Instruction::Movnz => bits(0, 16),
+            AArch64Instruction::Ldr | AArch64Instruction::Bcond => bits(0, 19),
+            AArch64Instruction::LdrRegister
+            | AArch64Instruction::Add
+            | AArch64Instruction::LdSt
+            | AArch64Instruction::MachOLow12 => bits(0, 12),
+            AArch64Instruction::TstBr => bits(0, 14),
+            AArch64Instruction::JumpCall => bits(0, 26),
+        }
+    }
+
+    /// Whether the form is that of a branch.
+    #[inline(always)]
+    pub(crate) fn is_branch(self) -> bool
+        ensures { result ≡ is_aarch64_branch self }
+    {
+        matches!(
+            self,
+            AArch64Instruction::TstBr | AArch64Instruction::Bcond | AArch64Instruction::JumpCall
+        )
+    }
+
+    /// Which values of a row can be written of which an instruction takes some bits.
+    #[inline(always)]
+    pub(crate) fn reach(self, bits: BitRange, range: AllowedRange) -> AllowedRange
+        ensures { result.bounds ≡ aarch64_reach self bits range.bounds }
+    {
+        match (self, range.bounds) {
+            (AArch64Instruction::Movnz, None) => {
+                if bits.end > 48 {
+                    range
+                } else {
+                    AllowedRange::from_bit_size(bits.end as u32 + 1, Sign::Signed)
+                }
+            }
+            _ => range,
+        }
+    }
+
+    /// Whether an instruction is MOVN or MOVZ of 32 bits, which bit 31 tells.
+    #[inline(always)]
+    pub(crate) fn is_32_bit_move(self, word: u64) -> bool
+        requires { word < 2 ^ 32 }
+        ensures { result ≡ is_32_bit_move (RelocationInstruction.AArch64 self) word }
+    {
+        self == AArch64Instruction::Movnz && word >> 31 == 0
+    }
+}
+
+/// Whether an instruction is MOVK (DDI 0487, "MOVK").
+#[inline(always)]
+pub(crate) fn is_movk(word: u64) -> bool
+    ensures { result ≡ is_movk word }
+{
+    (word >> 23) % 256 == 0xe5
 }
 
 impl InstructionForm for AArch64Instruction {

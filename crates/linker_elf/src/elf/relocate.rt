@@ -18,16 +18,19 @@ ghost use Rattle.linker_elf.specs.Relocate.{is_of_uleb128, takes_size, is_suppor
 ghost use Rattle.linker_elf.specs.Relocate.{IsAligned, HoldsBits, IsAccepted, RejectsValue};
 ghost use Rattle.linker_elf.specs.Relocate.{SizeNumber, WritesRow, IsInUnits, IsMultiple};
 ghost use Rattle.linker_elf.specs.Relocate.{size_len};
-ghost use Rattle.linker_elf.specs.Relocate.{is_dq_form, number_placed, is_32_bit_move, is_call30};
+ghost use Rattle.linker_elf.specs.Relocate.{bits_at, is_call30};
 ghost use Rattle.linker_elf.specs.Relocate.{stays_movk, insn_at, is_low_jump, low_part};
 ghost use Rattle.linker_elf.specs.Relocate.{IsInWords, IsEncoded};
 ghost use Rattle.linker_elf.specs.Inner.RowTables.{is_over};
 
-use crate::elf::engine::{self, Run, Window, run};
+use crate::aarch64::is_movk;
+use crate::elf::engine::{self, Window};
 use crate::elf::{
-    AArch64Instruction, InstructionForm, LoongArch64Instruction, Ppc64Instruction,
-    RelocationInstruction, RelocationKind, RelocationKindInfo, RelocationSize, RiscVInstruction,
+    AArch64Instruction, InstructionForm, LoongArch64Instruction, RelocationInstruction,
+    RelocationKind, RelocationKindInfo, RelocationSize, RiscVInstruction,
 };
+use crate::loongarch64::is_jirl;
+use crate::ppc64::DQ_UNIT;
 use linker_base::bit_misc::{BitExtraction, BitRange};
 
 /// Why a relocation's value isn't written.
@@ -159,67 +162,6 @@ fn taken_bits(bits: BitRange, value: i64) -> u64
         .extract_bit_range(bits.start as u32..bits.end as u32)
 }
 
-/// Whether a word is an instruction of DQ-form, whose displacement is in units of 16 (Power ISA,
-/// "DQ-Form"): `lq`, `lxvp`, `stxvp`, `lxv` or `stxv`.
-#[inline(always)]
-fn is_dq_form(word: u64) -> bool
-    requires { word < 2 ^ 32 }
-    ensures { result ≡ is_dq_form word }
-{
-    let opcode = word >> 26;
-    opcode == 56 || opcode == 6 || (opcode == 61 && word % 4 == 1)
-}
-
-/// The number that a PowerPC64 instruction gets. The lowest four bits of one of DQ-form are kept:
-/// they aren't its displacement's.
-#[inline(always)]
-fn displacement(insn: Ppc64Instruction, number: u64, dest: &[u8]) -> u64
-    requires { byte_len (ppc64_form insn).window ≤ length dest.now }
-    ensures { result
-        ≡ number_placed (RelocationInstruction.Ppc64 insn) (window_of (ppc64_form insn) dest.now)
-        number }
-{
-    if let Ppc64Instruction::Ds = insn {
-        let word = Window::Four.load(dest);
-        if is_dq_form(word) {
-            return number - number % 16 + word % 16;
-        }
-    }
-    number
-}
-
-/// Whether an instruction is MOVN or MOVZ of 32 bits, which bit 31 tells.
-#[inline(always)]
-fn is_32_bit_move(insn: AArch64Instruction, word: u64) -> bool
-    requires { word < 2 ^ 32 }
-    ensures { result ≡ is_32_bit_move (RelocationInstruction.AArch64 insn) word }
-{
-    insn == AArch64Instruction::Movnz && word >> 31 == 0
-}
-
-const SHIFT_10_ORED: [Run; 1] = [run!(12, 22, 4, 0, Cleared)];
-
-/// Clears the bits of a LoongArch instruction that its form only ORs. An immediate of 12 bits has
-/// its opcode there.
-#[inline(always)]
-fn clear_loongarch(insn: LoongArch64Instruction, bits: BitRange, dest: &mut [u8])
-    requires room { byte_len (loongarch_form insn).window ≤ length dest.old }
-    requires some { bits.start < bits.end }
-    ensures clears { BitsWritten
-        (places_cleared (RelocationInstruction.LoongArch64 insn) bits
-        (window_of (loongarch_form insn) dest.old))
-        0 (window_of (loongarch_form insn) dest.old) (window_of (loongarch_form insn) dest.new) }
-    ensures rest { drop (byte_len (loongarch_form insn).window) dest.new
-        ≡ drop (byte_len (loongarch_form insn).window) dest.old }
-{
-    if let LoongArch64Instruction::Shift10 = insn {
-        if bits.end - bits.start > 12 {
-            let word = engine::window_with(&SHIFT_10_ORED, 0, Window::Four.load(dest));
-            Window::Four.store(word, dest);
-        }
-    }
-}
-
 /// Writes bits of a number into an instruction.
 #[inline(always)]
 pub(crate) fn write_field(insn: RelocationInstruction, bits: BitRange, value: i64, dest: &mut [u8])
@@ -237,7 +179,7 @@ pub(crate) fn write_field(insn: RelocationInstruction, bits: BitRange, value: i6
             let old = Window::Four.load(dest);
             let word = insn.word_with(number, negative, insn.clear_immediate(old));
             // a move keeps its size
-            let new = if is_32_bit_move(insn, old) {
+            let new = if insn.is_32_bit_move(old) {
                 word - (1 << 31)
             } else {
                 word
@@ -246,11 +188,11 @@ pub(crate) fn write_field(insn: RelocationInstruction, bits: BitRange, value: i6
         }
         RelocationInstruction::RiscV(insn) => insn.write_to_value(number, negative, dest),
         RelocationInstruction::Ppc64(insn) => {
-            let number = displacement(insn, number, dest);
+            let number = insn.number_placed(number, dest);
             insn.write_to_value(number, negative, dest);
         }
         RelocationInstruction::LoongArch64(insn) => {
-            clear_loongarch(insn, bits, dest);
+            insn.clear_immediate(bits, dest);
             insn.write_to_value(number, negative, dest);
         }
     }
@@ -278,8 +220,7 @@ fn stays_movk(insn: RelocationInstruction, bits: BitRange, dest: &[u8]) -> bool
 {
     match insn {
         RelocationInstruction::AArch64(AArch64Instruction::Movnz) => {
-            let opcode = (Window::Four.load(dest) >> 23) % 256;
-            opcode == 0xe5 && bits.end.saturating_sub(bits.start) < 17
+            is_movk(Window::Four.load(dest)) && bits.end.saturating_sub(bits.start) < 17
         }
         _ => false,
     }
@@ -308,12 +249,28 @@ impl RelocationInstruction {
     {
         match self {
             RelocationInstruction::LoongArch64(LoongArch64Instruction::Shift10) => {
-                kind == RelocationKind::AbsoluteLowPart && Window::Four.load(dest) >> 26 == 19
+                kind == RelocationKind::AbsoluteLowPart && is_jirl(Window::Four.load(dest))
             }
             _ => false,
         }
     }
+
+    /// The bits of a value that a row's write places: a `jirl` at the low part of an address gets 16.
+    #[inline(always)]
+    pub fn placed_bits(self, kind: RelocationKind, bits: BitRange, dest: &[u8]) -> BitRange
+        requires { byte_len (relocation_form self).window ≤ length dest.now }
+        ensures { result ≡ bits_at self kind bits (window_of (relocation_form self) dest.now) }
+    {
+        if self.is_low_jump(kind, dest) {
+            JUMP_BITS
+        } else {
+            bits
+        }
+    }
 }
+
+/// The bits of an address's low part that a `jirl` gets.
+const JUMP_BITS: BitRange = BitRange { start: 2, end: 18 };
 
 /// The low 12 bits of a value in two's complement.
 #[inline(always)]
@@ -343,7 +300,7 @@ pub(crate) fn write_bits(
 {
     let form = insn.written_at(bits, dest);
     let (taken, number) = if insn.is_low_jump(kind, dest) {
-        (BitRange { start: 2, end: 18 }, low_part(value))
+        (JUMP_BITS, low_part(value))
     } else {
         (bits, value)
     };
@@ -386,9 +343,9 @@ fn is_in_units(size: RelocationSize, value: i64, dest: &[u8]) -> bool
 {
     match size {
         RelocationSize::BitMasking {
-            insn: RelocationInstruction::Ppc64(Ppc64Instruction::Ds),
+            insn: RelocationInstruction::Ppc64(insn),
             ..
-        } => !is_dq_form(Window::Four.load(dest)) || value.rem_euclid(16) == 0,
+        } => !insn.is_dq_form(dest) || value.rem_euclid(DQ_UNIT as i64) == 0,
         _ => true,
     }
 }

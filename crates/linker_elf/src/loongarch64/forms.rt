@@ -7,11 +7,15 @@ ghost use Rattle.linker_base.specs.Form.{window_of, BitsWritten, Fits, Written, 
 ghost use Rattle.linker_base.specs.Form.{IsReadBack, place_sum};
 ghost use Rattle.linker_elf.specs.Inner.FormLaws.{loongarch_keeps, loongarch_restored};
 ghost use Rattle.linker_elf.specs.Inner.Immediates.{is_one_word, loongarch_bits, loongarch_read};
-ghost use Rattle.linker_elf.specs.LoongArch.{loongarch_form, ReadsLow, Reaches};
+ghost use Rattle.linker_elf.specs.Entries.{is_loongarch_branch};
+ghost use Rattle.linker_elf.specs.Forms.{loongarch_mask, immediate_of};
+ghost use Rattle.linker_elf.specs.LoongArch.{loongarch_form, has_16_bits, ReadsLow, Reaches};
+ghost use Rattle.linker_elf.specs.Reach.{loongarch_reach};
+ghost use Rattle.linker_elf.specs.Relocate.{places_cleared, is_jirl};
 
 use crate::elf::engine::{self, Run, Window, run};
-use crate::elf::{InstructionForm, RelocationInstruction};
-use linker_base::bit_misc::BitExtraction;
+use crate::elf::{AllowedRange, InstructionForm, RelocationInstruction, bits};
+use linker_base::bit_misc::{BitExtraction, BitRange};
 
 /// LoongArch instructions with an immediate, and the pairs of long calls (LoongArch Reference
 /// Manual, volume 1, "Instruction Encoding"). The window is 4 bytes, and 8 for a pair.
@@ -224,6 +228,114 @@ impl LoongArch64Instruction {
                 let number = self.extract(Window::Four.load(bytes));
                 let bits = self.bits();
                 engine::signed_by(number, bits.sign_bits, bits.sign)
+            }
+        }
+    }
+}
+
+/// What `Call36` takes off each end of the range of its high part, because the low part is signed.
+const SIGNED_LOW_18: i64 = 0x20000;
+
+/// Whether the immediate of a `Shift10` has 16 bits, where those of a range are taken, and not 12.
+#[inline(always)]
+fn has_16_bits(bits: BitRange) -> bool
+    ensures { result ≡ has_16_bits bits }
+{
+    bits.end as u32 > bits.start as u32 + 12
+}
+
+/// Whether an instruction is `jirl` (LoongArch Reference Manual, volume 1, "JIRL").
+#[inline(always)]
+pub(crate) fn is_jirl(word: u64) -> bool
+    requires { word < 2 ^ 32 }
+    ensures { result ≡ is_jirl word }
+{
+    word >> 26 == 19
+}
+
+/// What other modules ask of a form.
+impl LoongArch64Instruction {
+    /// The bits of an instruction, or of a pair, that a write of the form may change, where those of
+    /// a range are taken.
+    #[inline]
+    pub fn field_mask(self, range: BitRange) -> u64
+        ensures { result ≡ loongarch_mask self range }
+    {
+        match self {
+            LoongArch64Instruction::Call30 => 0x0007_fc00_01ff_ffe0,
+            LoongArch64Instruction::Call36 => 0x03ff_fc00_01ff_ffe0,
+            _ => {
+                let word = self.bits();
+                let read = word.up_5 | word.up_10 | word.down_16;
+                if has_16_bits(range) {
+                    read | word.ored_10
+                } else {
+                    read
+                }
+            }
+        }
+    }
+
+    /// Which bits of its number the immediate has.
+    #[inline]
+    pub fn value_bits(self) -> BitRange
+        ensures { result ≡ immediate_of (RelocationInstruction.LoongArch64 self) }
+    {
+        match self {
+            LoongArch64Instruction::Shift5 | LoongArch64Instruction::Call30 => bits(0, 20),
+            LoongArch64Instruction::Shift10 => bits(0, 16),
+            LoongArch64Instruction::Branch26 => bits(0, 26),
+            LoongArch64Instruction::Branch21 => bits(0, 21),
+            LoongArch64Instruction::Call36 => bits(0, 36),
+        }
+    }
+
+    /// Whether the form is that of a branch, where bits of a range are taken. Other instructions
+    /// than branches have an immediate of 12 bits in a `Shift10`.
+    #[inline(always)]
+    pub(crate) fn is_branch(self, range: BitRange) -> bool
+        ensures { result ≡ is_loongarch_branch self range }
+    {
+        match self {
+            LoongArch64Instruction::Shift5 => false,
+            LoongArch64Instruction::Shift10 => has_16_bits(range),
+            LoongArch64Instruction::Branch26
+            | LoongArch64Instruction::Branch21
+            | LoongArch64Instruction::Call30
+            | LoongArch64Instruction::Call36 => true,
+        }
+    }
+
+    /// Which values of a row can be written of which an instruction takes some bits.
+    #[inline(always)]
+    pub(crate) fn reach(self, range: AllowedRange) -> AllowedRange
+        ensures { result.bounds ≡ loongarch_reach self range.bounds }
+    {
+        match self {
+            LoongArch64Instruction::Call36 => {
+                let half = 1i64 << 37;
+                AllowedRange::new(-half - SIGNED_LOW_18, half - SIGNED_LOW_18)
+            }
+            _ => range,
+        }
+    }
+
+    /// Clears the bits of an instruction that the form only ORs. An immediate of 12 bits has its
+    /// opcode there.
+    #[inline(always)]
+    pub(crate) fn clear_immediate(self, range: BitRange, dest: &mut [u8])
+        requires { byte_len (loongarch_form self).window ≤ length dest.old }
+        ensures clears { BitsWritten
+            (places_cleared (RelocationInstruction.LoongArch64 self) range
+            (window_of (loongarch_form self) dest.old))
+            0 (window_of (loongarch_form self) dest.old) (window_of (loongarch_form self) dest.new) }
+        ensures rest { drop (byte_len (loongarch_form self).window) dest.new
+            ≡ drop (byte_len (loongarch_form self).window) dest.old }
+    {
+        if let LoongArch64Instruction::Shift10 = self {
+            if has_16_bits(range) {
+                let word = Window::Four.load(dest) & !self.bits().ored_10;
+                Window::Four.store(word, dest);
             }
         }
     }

@@ -8,12 +8,16 @@ ghost use Rattle.linker_base.specs.Form.{window_of, Written, MachineReads, IsRea
 ghost use Rattle.linker_base.specs.Form.{place_sum};
 ghost use Rattle.linker_base.specs.Rewrite.{CanRewrite, rewritten, offset_after, addend_after};
 ghost use Rattle.linker_elf.specs.Inner.FormLaws.{ppc64_keeps, ppc64_restored};
-ghost use Rattle.linker_elf.specs.Inner.Masks.{word_mask};
+ghost use Rattle.linker_elf.specs.Entries.{is_ppc64_branch};
+ghost use Rattle.linker_elf.specs.Forms.{ppc64_word_mask, ppc64_mask, is_dq_at, immediate_of};
 ghost use Rattle.linker_elf.specs.Ppc64.{ppc64_form, PairHolds};
 ghost use Rattle.linker_elf.specs.Ppc64.{KeepsHigh};
+ghost use Rattle.linker_elf.specs.Reach.{ppc64_reach};
+ghost use Rattle.linker_elf.specs.Relocate.{number_placed};
 
 use crate::elf::engine::{self, Run, Window, run};
-use crate::elf::{InstructionForm, RelocationInstruction};
+use crate::elf::{AllowedRange, InstructionForm, RelocationInstruction, Sign, bits};
+use linker_base::bit_misc::BitRange;
 
 /// PowerPC64 instructions that hold a displacement. The window is 4 bytes, and 8 for `Prefixed`.
 /// Every value fits: except for `Prefixed` its bits are in the word where they are in the value,
@@ -51,7 +55,7 @@ impl Ppc64Instruction {
     /// value.
     #[inline(always)]
     fn mask(self) -> u64
-        ensures is { result ≡ word_mask self }
+        ensures is { result ≡ ppc64_word_mask self }
         ensures small { result < 2 ^ 32 }
     {
         MASKS[self as usize]
@@ -106,6 +110,105 @@ impl Ppc64Instruction {
             Ppc64Instruction::Prefixed => { (engine::read(Window::Eight, &PREFIXED, bytes), false) }
             _ => (Window::Four.load(bytes) & self.mask(), false),
         }
+    }
+}
+
+/// The unit of the displacements of DQ-form: the lowest four bits of such a word are others.
+pub const DQ_UNIT: u64 = 16;
+
+/// What other modules ask of a form.
+impl Ppc64Instruction {
+    /// Whether an instruction of DQ-form (Power ISA, "DQ-Form") is where one of DS-form is expected:
+    /// `lq`, `lxvp`, `stxvp`, `lxv` or `stxv`.
+    #[inline(always)]
+    pub fn is_dq_form(self, bytes: &[u8]) -> bool
+        requires { byte_len (ppc64_form self).window ≤ length bytes.now }
+        ensures { result ≡ is_dq_at self (window_of (ppc64_form self) bytes.now) }
+    {
+        match self {
+            Ppc64Instruction::Ds => {
+                let word = Window::Four.load(bytes);
+                let opcode = word >> 26;
+                opcode == 56 || opcode == 6 || (opcode == 61 && word % 4 == 1)
+            }
+            _ => false,
+        }
+    }
+
+    /// The bits that a write of the form may change in the instruction that `bytes` begins with.
+    #[inline]
+    pub fn field_mask(self, bytes: &[u8]) -> u64
+        requires { byte_len (ppc64_form self).window ≤ length bytes.now }
+        ensures { result ≡ ppc64_mask self (window_of (ppc64_form self) bytes.now) }
+    {
+        match self {
+            Ppc64Instruction::Prefixed => 0xffff_0003_ffff,
+            _ => {
+                if self.is_dq_form(bytes) {
+                    self.mask() & !(DQ_UNIT - 1)
+                } else {
+                    self.mask()
+                }
+            }
+        }
+    }
+
+    /// Which bits of its number the immediate has.
+    #[inline]
+    pub fn value_bits(self) -> BitRange
+        ensures { result ≡ immediate_of (RelocationInstruction.Ppc64 self) }
+    {
+        match self {
+            Ppc64Instruction::D => bits(0, 16),
+            Ppc64Instruction::Ds | Ppc64Instruction::Branch14 => bits(2, 16),
+            Ppc64Instruction::Branch24 => bits(2, 26),
+            Ppc64Instruction::Prefixed => bits(0, 34),
+        }
+    }
+
+    /// Whether the form is that of a branch.
+    #[inline(always)]
+    pub(crate) fn is_branch(self) -> bool
+        ensures { result ≡ is_ppc64_branch self }
+    {
+        matches!(
+            self,
+            Ppc64Instruction::Branch14 | Ppc64Instruction::Branch24
+        )
+    }
+
+    /// Which values of a row can be written of which an instruction takes some bits.
+    #[inline(always)]
+    pub(crate) fn reach(self, bits: BitRange, range: AllowedRange) -> AllowedRange
+        ensures { result.bounds ≡ ppc64_reach self bits range.bounds }
+    {
+        match (self, range.bounds) {
+            (Ppc64Instruction::D, None) => {
+                if bits.start == 16 {
+                    AllowedRange::from_bit_size(32, Sign::Signed)
+                } else {
+                    range
+                }
+            }
+            _ => range,
+        }
+    }
+
+    /// The number that an instruction gets. The lowest four bits of one of DQ-form are kept: they
+    /// aren't its displacement's.
+    #[inline(always)]
+    pub(crate) fn number_placed(self, number: u64, dest: &[u8]) -> u64
+        requires { byte_len (ppc64_form self).window ≤ length dest.now }
+        ensures { result ≡ number_placed (RelocationInstruction.Ppc64 self)
+            (window_of (ppc64_form self) dest.now) number }
+    {
+        if let Ppc64Instruction::Ds = self {
+            if self.is_dq_form(dest) {
+                let word = Window::Four.load(dest);
+                return number - number % DQ_UNIT + word % DQ_UNIT;
+            }
+        }
+        number
     }
 }
 

@@ -7,7 +7,6 @@ ghost use Rattle.linker_base.specs.Form.{window_of, Written, MachineReads, IsRea
 ghost use Rattle.linker_base.specs.Form.{place_sum};
 ghost use Rattle.linker_base.specs.Rewrite.{CanRewrite, rewritten, offset_after, addend_after};
 ghost use Rattle.linker_elf.specs.Inner.FormLaws.{ppc64_keeps, ppc64_restored};
-ghost use Rattle.linker_elf.specs.Inner.Masks.{word_mask};
 ghost use Rattle.linker_elf.specs.Ppc64.{ppc64_form, PairHolds};
 ghost use Rattle.linker_elf.specs.Ppc64.{KeepsHigh};
 

@@ -6,10 +6,14 @@ ghost use Rattle.linker_elf.specs.RiscV.{riscv_forms};
 ghost use Rattle.linker_base.specs.Form.{window_of, BitsWritten, Written, MachineReads, IsReadBack};
 ghost use Rattle.linker_elf.specs.Inner.FormLaws.{riscv_keeps, riscv_restored};
 ghost use Rattle.linker_elf.specs.Inner.Immediates.{is_by_masks, riscv_bits};
+ghost use Rattle.linker_elf.specs.Entries.{is_riscv_branch};
+ghost use Rattle.linker_elf.specs.Forms.{riscv_mask, immediate_of};
+ghost use Rattle.linker_elf.specs.Reach.{riscv_reach};
 ghost use Rattle.linker_elf.specs.RiscV.{riscv_form, PairReads};
 
 use crate::elf::engine::{self, Run, Window, run};
-use crate::elf::{InstructionForm, RelocationInstruction};
+use crate::elf::{AllowedRange, InstructionForm, RelocationInstruction, SIZE_2GB, bits};
+use linker_base::bit_misc::BitRange;
 
 /// RISC-V instructions with an immediate (RISC-V unprivileged ISA, "Immediate Encoding Variants"
 /// and "Compressed Instruction Formats"). Every value fits. The window is 4 bytes unless said
@@ -262,6 +266,81 @@ impl RiscVInstruction {
                 let (low, _) = engine::read_signed(Window::Eight, &UI_LOW, 12, bytes);
                 (high.wrapping_add(low), false)
             }
+        }
+    }
+}
+
+/// What the pairs and `c.lui` take off each end of the range of their high part, because the low part
+/// is signed.
+const SIGNED_LOW_12: i64 = 0x800;
+
+/// What other modules ask of a form.
+impl RiscVInstruction {
+    /// The bits of an instruction, or of a pair, that a write of the form may change.
+    #[inline]
+    pub fn field_mask(self) -> u64
+        ensures { result ≡ riscv_mask self }
+    {
+        match self {
+            RiscVInstruction::UType | RiscVInstruction::JType => 0xffff_f000,
+            RiscVInstruction::IType => 0xfff0_0000,
+            RiscVInstruction::SType | RiscVInstruction::BType => 0xfe00_0f80,
+            RiscVInstruction::CbType => 0x1c7c,
+            RiscVInstruction::CjType => 0x1ffc,
+            RiscVInstruction::CluiType => 0x107c,
+            RiscVInstruction::UiType => 0xfff0_0000_ffff_f000,
+        }
+    }
+
+    /// Which bits of its number the immediate has.
+    #[inline]
+    pub fn value_bits(self) -> BitRange
+        ensures { result ≡ immediate_of (RelocationInstruction.RiscV self) }
+    {
+        match self {
+            RiscVInstruction::UType => bits(12, 32),
+            RiscVInstruction::IType | RiscVInstruction::SType => bits(0, 12),
+            RiscVInstruction::BType => bits(1, 13),
+            RiscVInstruction::JType => bits(1, 21),
+            RiscVInstruction::CbType => bits(1, 9),
+            RiscVInstruction::CjType => bits(1, 12),
+            RiscVInstruction::CluiType => bits(12, 18),
+            RiscVInstruction::UiType => bits(0, 32),
+        }
+    }
+
+    /// Whether the form is that of a branch.
+    #[inline(always)]
+    pub(crate) fn is_branch(self) -> bool
+        ensures { result ≡ is_riscv_branch self }
+    {
+        matches!(
+            self,
+            RiscVInstruction::BType
+                | RiscVInstruction::JType
+                | RiscVInstruction::CbType
+                | RiscVInstruction::CjType
+                | RiscVInstruction::UiType
+        )
+    }
+
+    /// Which values of a row can be written of which an instruction takes some bits.
+    #[inline(always)]
+    pub(crate) fn reach(self, range: AllowedRange) -> AllowedRange
+        ensures { result.bounds ≡ riscv_reach self range.bounds }
+    {
+        match self {
+            RiscVInstruction::UType
+            | RiscVInstruction::IType
+            | RiscVInstruction::SType
+            | RiscVInstruction::UiType => {
+                let half = SIZE_2GB as i64;
+                AllowedRange::new(-half - SIGNED_LOW_12, half - SIGNED_LOW_12)
+            }
+            RiscVInstruction::CluiType => {
+                AllowedRange::new(-0x20000 - SIGNED_LOW_12, 0x20000 - SIGNED_LOW_12)
+            }
+            _ => range,
         }
     }
 }

@@ -2,8 +2,8 @@
 //! AArch64 instructions that hold a value.
 
 use crate::linker_elf::elf::engine::{self, Mark, Run, Window, run};
-use crate::linker_elf::elf::{InstructionForm, RelocationInstruction};
-use crate::linker_base::bit_misc::BitExtraction;
+use crate::linker_elf::elf::{AllowedRange, InstructionForm, RelocationInstruction, Sign, bits};
+use crate::linker_base::bit_misc::{BitExtraction, BitRange};
 
 /// AArch64 instructions with an immediate (Arm Architecture Reference Manual for A-profile, DDI
 /// 0487, C6.2 and C7.2). The window is one instruction of 4 bytes. Except for `Movnz` and
@@ -232,6 +232,79 @@ impl AArch64Instruction {
             }
         }
     }
+}
+
+/// What other modules ask of a form.
+impl AArch64Instruction {
+    /// The bits of an instruction that a write of the form may change: of `Movnz` also those of the
+    /// opcode but for the size of the register.
+    #[doc(hidden)]
+    #[must_use]
+    #[inline]
+    pub fn field_mask(self) -> u64 {
+        match self {
+            AArch64Instruction::Movnz => 0x7f9f_ffe0,
+            AArch64Instruction::MachOLow12 => 0x003f_fc00,
+            _ => {
+                let immediate = self.immediate();
+                immediate.low << 29 | immediate.mask
+            }
+        }
+    }
+
+    /// Which bits of its number the immediate has.
+    #[doc(hidden)]
+    #[must_use]
+    #[inline]
+    pub fn value_bits(self) -> BitRange {
+        match self {
+            AArch64Instruction::Adr => bits(0, 21),
+            AArch64Instruction::Movkz | AArch64Instruction::Movnz => bits(0, 16),
+            AArch64Instruction::Ldr | AArch64Instruction::Bcond => bits(0, 19),
+            AArch64Instruction::LdrRegister
+            | AArch64Instruction::Add
+            | AArch64Instruction::LdSt
+            | AArch64Instruction::MachOLow12 => bits(0, 12),
+            AArch64Instruction::TstBr => bits(0, 14),
+            AArch64Instruction::JumpCall => bits(0, 26),
+        }
+    }
+
+    /// Whether the form is that of a branch.
+    #[inline(always)]
+    pub(crate) fn is_branch(self) -> bool {
+        matches!(
+            self,
+            AArch64Instruction::TstBr | AArch64Instruction::Bcond | AArch64Instruction::JumpCall
+        )
+    }
+
+    /// Which values of a row can be written of which an instruction takes some bits.
+    #[inline(always)]
+    pub(crate) fn reach(self, bits: BitRange, range: AllowedRange) -> AllowedRange {
+        match (self, range.bounds) {
+            (AArch64Instruction::Movnz, None) => {
+                if bits.end > 48 {
+                    range
+                } else {
+                    AllowedRange::from_bit_size(bits.end as u32 + 1, Sign::Signed)
+                }
+            }
+            _ => range,
+        }
+    }
+
+    /// Whether an instruction is MOVN or MOVZ of 32 bits, which bit 31 tells.
+    #[inline(always)]
+    pub(crate) fn is_32_bit_move(self, word: u64) -> bool {
+        self == AArch64Instruction::Movnz && word >> 31 == 0
+    }
+}
+
+/// Whether an instruction is MOVK (DDI 0487, "MOVK").
+#[inline(always)]
+pub(crate) fn is_movk(word: u64) -> bool {
+    (word >> 23) % 256 == 0xe5
 }
 
 impl InstructionForm for AArch64Instruction {

@@ -2,8 +2,7 @@
 //! For which relocations a linker makes an entry of the GOT or of the PLT.
 
 use crate::linker_elf::elf::{
-    AArch64Instruction, LoongArch64Instruction, Ppc64Instruction, RelocationInstruction,
-    RelocationKind, RelocationKindInfo, RelocationSize, RiscVInstruction,
+    RelocationInstruction, RelocationKind, RelocationKindInfo, RelocationSize, RiscVInstruction,
 };
 
 /// Whether the formula names the address of a GOT entry.
@@ -58,35 +57,7 @@ fn is_of_high_part(size: RelocationSize) -> bool {
 fn is_branch(size: RelocationSize) -> bool {
     match size {
         RelocationSize::ByteSize(_) => false,
-        RelocationSize::BitMasking { range, insn } => match insn {
-            RelocationInstruction::AArch64(form) => matches!(
-                form,
-                AArch64Instruction::TstBr | AArch64Instruction::Bcond | AArch64Instruction::JumpCall
-            ),
-            RelocationInstruction::RiscV(form) => matches!(
-                form,
-                RiscVInstruction::BType
-                    | RiscVInstruction::JType
-                    | RiscVInstruction::CbType
-                    | RiscVInstruction::CjType
-                    | RiscVInstruction::UiType
-            ),
-            RelocationInstruction::Ppc64(form) => {
-                matches!(
-                    form,
-                    Ppc64Instruction::Branch14 | Ppc64Instruction::Branch24
-                )
-            }
-            RelocationInstruction::LoongArch64(form) => match form {
-                LoongArch64Instruction::Shift5 => false,
-                // other instructions of this form have an immediate of 12 bits
-                LoongArch64Instruction::Shift10 => range.end.saturating_sub(range.start) > 12,
-                LoongArch64Instruction::Branch26
-                | LoongArch64Instruction::Branch21
-                | LoongArch64Instruction::Call30
-                | LoongArch64Instruction::Call36 => true,
-            },
-        },
+        RelocationSize::BitMasking { range, insn } => insn.is_branch(range),
     }
 }
 

@@ -2,74 +2,8 @@
 //! Which values of a relocation the machine reads back as they are.
 
 use crate::linker_elf::elf::{
-    AArch64Instruction, AllowedRange, LoongArch64Instruction, Ppc64Instruction,
-    RelocationInstruction, RelocationKind, RelocationKindInfo, RelocationSize, RiscVInstruction,
-    SIZE_2GB, Sign,
+    AllowedRange, RelocationInstruction, RelocationKind, RelocationKindInfo, RelocationSize, Sign,
 };
-use crate::linker_base::bit_misc::BitRange;
-
-/// What RISC-V's pairs and `c.lui` take off each end of the range of their high part, because the
-/// low part is signed.
-const SIGNED_LOW_12: i64 = 0x800;
-
-/// What `R_LARCH_CALL36` takes off likewise.
-const SIGNED_LOW_18: i64 = 0x20000;
-
-#[inline(always)]
-fn reach_of_aarch64(insn: AArch64Instruction, bits: BitRange, range: AllowedRange) -> AllowedRange {
-    match (insn, range.bounds) {
-        (AArch64Instruction::Movnz, None) => {
-            if bits.end > 48 {
-                range
-            } else {
-                AllowedRange::from_bit_size(bits.end as u32 + 1, Sign::Signed)
-            }
-        }
-        _ => range,
-    }
-}
-
-#[inline(always)]
-fn reach_of_riscv(insn: RiscVInstruction, range: AllowedRange) -> AllowedRange {
-    match insn {
-        RiscVInstruction::UType
-        | RiscVInstruction::IType
-        | RiscVInstruction::SType
-        | RiscVInstruction::UiType => {
-            let half = SIZE_2GB as i64;
-            AllowedRange::new(-half - SIGNED_LOW_12, half - SIGNED_LOW_12)
-        }
-        RiscVInstruction::CluiType => {
-            AllowedRange::new(-0x20000 - SIGNED_LOW_12, 0x20000 - SIGNED_LOW_12)
-        }
-        _ => range,
-    }
-}
-
-#[inline(always)]
-fn reach_of_loongarch(insn: LoongArch64Instruction, range: AllowedRange) -> AllowedRange {
-    match insn {
-        LoongArch64Instruction::Call36 => {
-            let half = 1i64 << 37;
-            AllowedRange::new(-half - SIGNED_LOW_18, half - SIGNED_LOW_18)
-        }
-        _ => range,
-    }
-}
-
-#[inline(always)]
-fn reach_of_ppc64(insn: Ppc64Instruction, bits: BitRange, range: AllowedRange) -> AllowedRange {
-    match (insn, range.bounds) {
-        (Ppc64Instruction::D, None) => {
-            if bits.start == 16 {
-                AllowedRange::from_bit_size(32, Sign::Signed)
-            } else {
-                range
-            }
-        }
-        _ => range,
-    }
-}
 
 #[inline(always)]
 fn reach_of_bytes(kind: RelocationKind, len: u8, range: AllowedRange) -> AllowedRange {
@@ -115,10 +49,10 @@ impl RelocationKindInfo {
         match self.size {
             RelocationSize::ByteSize(len) => reach_of_bytes(self.kind, len, self.range),
             RelocationSize::BitMasking { range, insn } => match insn {
-                RelocationInstruction::AArch64(insn) => reach_of_aarch64(insn, range, self.range),
-                RelocationInstruction::RiscV(insn) => reach_of_riscv(insn, self.range),
-                RelocationInstruction::Ppc64(insn) => reach_of_ppc64(insn, range, self.range),
-                RelocationInstruction::LoongArch64(insn) => reach_of_loongarch(insn, self.range),
+                RelocationInstruction::AArch64(insn) => insn.reach(range, self.range),
+                RelocationInstruction::RiscV(insn) => insn.reach(self.range),
+                RelocationInstruction::Ppc64(insn) => insn.reach(range, self.range),
+                RelocationInstruction::LoongArch64(insn) => insn.reach(self.range),
             },
         }
     }

@@ -1,11 +1,14 @@
 // Made by tools/erase of crates/linker_elf/src/elf/relocate.rt.
 //! Writes the value of a relocation.
 
-use crate::linker_elf::elf::engine::{self, Run, Window, run};
+use crate::linker_elf::aarch64::is_movk;
+use crate::linker_elf::elf::engine::{self, Window};
 use crate::linker_elf::elf::{
-    AArch64Instruction, InstructionForm, LoongArch64Instruction, Ppc64Instruction,
-    RelocationInstruction, RelocationKind, RelocationKindInfo, RelocationSize, RiscVInstruction,
+    AArch64Instruction, InstructionForm, LoongArch64Instruction, RelocationInstruction,
+    RelocationKind, RelocationKindInfo, RelocationSize, RiscVInstruction,
 };
+use crate::linker_elf::loongarch64::is_jirl;
+use crate::linker_elf::ppc64::DQ_UNIT;
 use crate::linker_base::bit_misc::{BitExtraction, BitRange};
 
 /// Why a relocation's value isn't written.
@@ -110,47 +113,6 @@ fn taken_bits(bits: BitRange, value: i64) -> u64 {
         .extract_bit_range(bits.start as u32..bits.end as u32)
 }
 
-/// Whether a word is an instruction of DQ-form, whose displacement is in units of 16 (Power ISA,
-/// "DQ-Form"): `lq`, `lxvp`, `stxvp`, `lxv` or `stxv`.
-#[inline(always)]
-fn is_dq_form(word: u64) -> bool {
-    let opcode = word >> 26;
-    opcode == 56 || opcode == 6 || (opcode == 61 && word % 4 == 1)
-}
-
-/// The number that a PowerPC64 instruction gets. The lowest four bits of one of DQ-form are kept:
-/// they aren't its displacement's.
-#[inline(always)]
-fn displacement(insn: Ppc64Instruction, number: u64, dest: &[u8]) -> u64 {
-    if let Ppc64Instruction::Ds = insn {
-        let word = Window::Four.load(dest);
-        if is_dq_form(word) {
-            return number - number % 16 + word % 16;
-        }
-    }
-    number
-}
-
-/// Whether an instruction is MOVN or MOVZ of 32 bits, which bit 31 tells.
-#[inline(always)]
-fn is_32_bit_move(insn: AArch64Instruction, word: u64) -> bool {
-    insn == AArch64Instruction::Movnz && word >> 31 == 0
-}
-
-const SHIFT_10_ORED: [Run; 1] = [run!(12, 22, 4, 0, Cleared)];
-
-/// Clears the bits of a LoongArch instruction that its form only ORs. An immediate of 12 bits has
-/// its opcode there.
-#[inline(always)]
-fn clear_loongarch(insn: LoongArch64Instruction, bits: BitRange, dest: &mut [u8]) {
-    if let LoongArch64Instruction::Shift10 = insn {
-        if bits.end - bits.start > 12 {
-            let word = engine::window_with(&SHIFT_10_ORED, 0, Window::Four.load(dest));
-            Window::Four.store(word, dest);
-        }
-    }
-}
-
 /// Writes bits of a number into an instruction.
 #[inline(always)]
 pub(crate) fn write_field(insn: RelocationInstruction, bits: BitRange, value: i64, dest: &mut [u8]) {
@@ -161,7 +123,7 @@ pub(crate) fn write_field(insn: RelocationInstruction, bits: BitRange, value: i6
             let old = Window::Four.load(dest);
             let word = insn.word_with(number, negative, insn.clear_immediate(old));
             // a move keeps its size
-            let new = if is_32_bit_move(insn, old) {
+            let new = if insn.is_32_bit_move(old) {
                 word - (1 << 31)
             } else {
                 word
@@ -170,11 +132,11 @@ pub(crate) fn write_field(insn: RelocationInstruction, bits: BitRange, value: i6
         }
         RelocationInstruction::RiscV(insn) => insn.write_to_value(number, negative, dest),
         RelocationInstruction::Ppc64(insn) => {
-            let number = displacement(insn, number, dest);
+            let number = insn.number_placed(number, dest);
             insn.write_to_value(number, negative, dest);
         }
         RelocationInstruction::LoongArch64(insn) => {
-            clear_loongarch(insn, bits, dest);
+            insn.clear_immediate(bits, dest);
             insn.write_to_value(number, negative, dest);
         }
     }
@@ -192,8 +154,7 @@ pub(crate) fn write_aarch64(insn: AArch64Instruction, bits: BitRange, value: i64
 fn stays_movk(insn: RelocationInstruction, bits: BitRange, dest: &[u8]) -> bool {
     match insn {
         RelocationInstruction::AArch64(AArch64Instruction::Movnz) => {
-            let opcode = (Window::Four.load(dest) >> 23) % 256;
-            opcode == 0xe5 && bits.end.saturating_sub(bits.start) < 17
+            is_movk(Window::Four.load(dest)) && bits.end.saturating_sub(bits.start) < 17
         }
         _ => false,
     }
@@ -232,12 +193,33 @@ impl RelocationInstruction {
         debug_assert!(self.window() <= dest.len());
         match self {
             RelocationInstruction::LoongArch64(LoongArch64Instruction::Shift10) => {
-                kind == RelocationKind::AbsoluteLowPart && Window::Four.load(dest) >> 26 == 19
+                kind == RelocationKind::AbsoluteLowPart && is_jirl(Window::Four.load(dest))
             }
             _ => false,
         }
     }
+
+    /// The bits of a value that a row's write places: a `jirl` at the low part of an address gets 16.
+    ///
+    /// # Requires
+    ///
+    /// - `self.window() <= dest.len()`
+    #[doc(hidden)]
+    #[must_use]
+    #[cfg_attr(debug_assertions, track_caller)]
+    #[inline(always)]
+    pub fn placed_bits(self, kind: RelocationKind, bits: BitRange, dest: &[u8]) -> BitRange {
+        debug_assert!(self.window() <= dest.len());
+        if self.is_low_jump(kind, dest) {
+            JUMP_BITS
+        } else {
+            bits
+        }
+    }
 }
+
+/// The bits of an address's low part that a `jirl` gets.
+const JUMP_BITS: BitRange = BitRange { start: 2, end: 18 };
 
 /// The low 12 bits of a value in two's complement.
 #[inline(always)]
@@ -258,7 +240,7 @@ pub(crate) fn write_bits(
 ) {
     let form = insn.written_at(bits, dest);
     let (taken, number) = if insn.is_low_jump(kind, dest) {
-        (BitRange { start: 2, end: 18 }, low_part(value))
+        (JUMP_BITS, low_part(value))
     } else {
         (bits, value)
     };
@@ -293,9 +275,9 @@ pub(crate) fn is_encoded(size: RelocationSize, value: i64) -> bool {
 fn is_in_units(size: RelocationSize, value: i64, dest: &[u8]) -> bool {
     match size {
         RelocationSize::BitMasking {
-            insn: RelocationInstruction::Ppc64(Ppc64Instruction::Ds),
+            insn: RelocationInstruction::Ppc64(insn),
             ..
-        } => !is_dq_form(Window::Four.load(dest)) || value.rem_euclid(16) == 0,
+        } => !insn.is_dq_form(dest) || value.rem_euclid(DQ_UNIT as i64) == 0,
         _ => true,
     }
 }

@@ -2,8 +2,8 @@
 //! LoongArch: the immediates of instructions.
 
 use crate::linker_elf::elf::engine::{self, Run, Window, run};
-use crate::linker_elf::elf::{InstructionForm, RelocationInstruction};
-use crate::linker_base::bit_misc::BitExtraction;
+use crate::linker_elf::elf::{AllowedRange, InstructionForm, RelocationInstruction, bits};
+use crate::linker_base::bit_misc::{BitExtraction, BitRange};
 
 /// LoongArch instructions with an immediate, and the pairs of long calls (LoongArch Reference
 /// Manual, volume 1, "Instruction Encoding"). The window is 4 bytes, and 8 for a pair.
@@ -189,6 +189,97 @@ impl LoongArch64Instruction {
                 let number = self.extract(Window::Four.load(bytes));
                 let bits = self.bits();
                 engine::signed_by(number, bits.sign_bits, bits.sign)
+            }
+        }
+    }
+}
+
+/// What `Call36` takes off each end of the range of its high part, because the low part is signed.
+const SIGNED_LOW_18: i64 = 0x20000;
+
+/// Whether the immediate of a `Shift10` has 16 bits, where those of a range are taken, and not 12.
+#[inline(always)]
+fn has_16_bits(bits: BitRange) -> bool {
+    bits.end as u32 > bits.start as u32 + 12
+}
+
+/// Whether an instruction is `jirl` (LoongArch Reference Manual, volume 1, "JIRL").
+#[inline(always)]
+pub(crate) fn is_jirl(word: u64) -> bool {
+    word >> 26 == 19
+}
+
+/// What other modules ask of a form.
+impl LoongArch64Instruction {
+    /// The bits of an instruction, or of a pair, that a write of the form may change, where those of
+    /// a range are taken.
+    #[doc(hidden)]
+    #[must_use]
+    #[inline]
+    pub fn field_mask(self, range: BitRange) -> u64 {
+        match self {
+            LoongArch64Instruction::Call30 => 0x0007_fc00_01ff_ffe0,
+            LoongArch64Instruction::Call36 => 0x03ff_fc00_01ff_ffe0,
+            _ => {
+                let word = self.bits();
+                let read = word.up_5 | word.up_10 | word.down_16;
+                if has_16_bits(range) {
+                    read | word.ored_10
+                } else {
+                    read
+                }
+            }
+        }
+    }
+
+    /// Which bits of its number the immediate has.
+    #[doc(hidden)]
+    #[must_use]
+    #[inline]
+    pub fn value_bits(self) -> BitRange {
+        match self {
+            LoongArch64Instruction::Shift5 | LoongArch64Instruction::Call30 => bits(0, 20),
+            LoongArch64Instruction::Shift10 => bits(0, 16),
+            LoongArch64Instruction::Branch26 => bits(0, 26),
+            LoongArch64Instruction::Branch21 => bits(0, 21),
+            LoongArch64Instruction::Call36 => bits(0, 36),
+        }
+    }
+
+    /// Whether the form is that of a branch, where bits of a range are taken. Other instructions
+    /// than branches have an immediate of 12 bits in a `Shift10`.
+    #[inline(always)]
+    pub(crate) fn is_branch(self, range: BitRange) -> bool {
+        match self {
+            LoongArch64Instruction::Shift5 => false,
+            LoongArch64Instruction::Shift10 => has_16_bits(range),
+            LoongArch64Instruction::Branch26
+            | LoongArch64Instruction::Branch21
+            | LoongArch64Instruction::Call30
+            | LoongArch64Instruction::Call36 => true,
+        }
+    }
+
+    /// Which values of a row can be written of which an instruction takes some bits.
+    #[inline(always)]
+    pub(crate) fn reach(self, range: AllowedRange) -> AllowedRange {
+        match self {
+            LoongArch64Instruction::Call36 => {
+                let half = 1i64 << 37;
+                AllowedRange::new(-half - SIGNED_LOW_18, half - SIGNED_LOW_18)
+            }
+            _ => range,
+        }
+    }
+
+    /// Clears the bits of an instruction that the form only ORs. An immediate of 12 bits has its
+    /// opcode there.
+    #[inline(always)]
+    pub(crate) fn clear_immediate(self, range: BitRange, dest: &mut [u8]) {
+        if let LoongArch64Instruction::Shift10 = self {
+            if has_16_bits(range) {
+                let word = Window::Four.load(dest) & !self.bits().ored_10;
+                Window::Four.store(word, dest);
             }
         }
     }

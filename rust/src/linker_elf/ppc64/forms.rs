@@ -2,7 +2,8 @@
 //! PowerPC64 instructions that hold a value.
 
 use crate::linker_elf::elf::engine::{self, Run, Window, run};
-use crate::linker_elf::elf::{InstructionForm, RelocationInstruction};
+use crate::linker_elf::elf::{AllowedRange, InstructionForm, RelocationInstruction, Sign, bits};
+use crate::linker_base::bit_misc::BitRange;
 
 /// PowerPC64 instructions that hold a displacement. The window is 4 bytes, and 8 for `Prefixed`.
 /// Every value fits: except for `Prefixed` its bits are in the word where they are in the value,
@@ -87,6 +88,107 @@ impl Ppc64Instruction {
             Ppc64Instruction::Prefixed => { (engine::read(Window::Eight, &PREFIXED, bytes), false) }
             _ => (Window::Four.load(bytes) & self.mask(), false),
         }
+    }
+}
+
+/// The unit of the displacements of DQ-form: the lowest four bits of such a word are others.
+pub const DQ_UNIT: u64 = 16;
+
+/// What other modules ask of a form.
+impl Ppc64Instruction {
+    /// Whether an instruction of DQ-form (Power ISA, "DQ-Form") is where one of DS-form is expected:
+    /// `lq`, `lxvp`, `stxvp`, `lxv` or `stxv`.
+    ///
+    /// # Requires
+    ///
+    /// - `self.window() <= bytes.len()`
+    #[doc(hidden)]
+    #[must_use]
+    #[cfg_attr(debug_assertions, track_caller)]
+    #[inline(always)]
+    pub fn is_dq_form(self, bytes: &[u8]) -> bool {
+        debug_assert!(self.window() <= bytes.len());
+        match self {
+            Ppc64Instruction::Ds => {
+                let word = Window::Four.load(bytes);
+                let opcode = word >> 26;
+                opcode == 56 || opcode == 6 || (opcode == 61 && word % 4 == 1)
+            }
+            _ => false,
+        }
+    }
+
+    /// The bits that a write of the form may change in the instruction that `bytes` begins with.
+    ///
+    /// # Requires
+    ///
+    /// - `self.window() <= bytes.len()`
+    #[doc(hidden)]
+    #[must_use]
+    #[cfg_attr(debug_assertions, track_caller)]
+    #[inline]
+    pub fn field_mask(self, bytes: &[u8]) -> u64 {
+        debug_assert!(self.window() <= bytes.len());
+        match self {
+            Ppc64Instruction::Prefixed => 0xffff_0003_ffff,
+            _ => {
+                if self.is_dq_form(bytes) {
+                    self.mask() & !(DQ_UNIT - 1)
+                } else {
+                    self.mask()
+                }
+            }
+        }
+    }
+
+    /// Which bits of its number the immediate has.
+    #[doc(hidden)]
+    #[must_use]
+    #[inline]
+    pub fn value_bits(self) -> BitRange {
+        match self {
+            Ppc64Instruction::D => bits(0, 16),
+            Ppc64Instruction::Ds | Ppc64Instruction::Branch14 => bits(2, 16),
+            Ppc64Instruction::Branch24 => bits(2, 26),
+            Ppc64Instruction::Prefixed => bits(0, 34),
+        }
+    }
+
+    /// Whether the form is that of a branch.
+    #[inline(always)]
+    pub(crate) fn is_branch(self) -> bool {
+        matches!(
+            self,
+            Ppc64Instruction::Branch14 | Ppc64Instruction::Branch24
+        )
+    }
+
+    /// Which values of a row can be written of which an instruction takes some bits.
+    #[inline(always)]
+    pub(crate) fn reach(self, bits: BitRange, range: AllowedRange) -> AllowedRange {
+        match (self, range.bounds) {
+            (Ppc64Instruction::D, None) => {
+                if bits.start == 16 {
+                    AllowedRange::from_bit_size(32, Sign::Signed)
+                } else {
+                    range
+                }
+            }
+            _ => range,
+        }
+    }
+
+    /// The number that an instruction gets. The lowest four bits of one of DQ-form are kept: they
+    /// aren't its displacement's.
+    #[inline(always)]
+    pub(crate) fn number_placed(self, number: u64, dest: &[u8]) -> u64 {
+        if let Ppc64Instruction::Ds = self {
+            if self.is_dq_form(dest) {
+                let word = Window::Four.load(dest);
+                return number - number % DQ_UNIT + word % DQ_UNIT;
+            }
+        }
+        number
     }
 }
 

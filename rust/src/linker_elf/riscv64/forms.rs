@@ -2,7 +2,8 @@
 //! RISC-V: the immediates of instructions.
 
 use crate::linker_elf::elf::engine::{self, Run, Window, run};
-use crate::linker_elf::elf::{InstructionForm, RelocationInstruction};
+use crate::linker_elf::elf::{AllowedRange, InstructionForm, RelocationInstruction, SIZE_2GB, bits};
+use crate::linker_base::bit_misc::BitRange;
 
 /// RISC-V instructions with an immediate (RISC-V unprivileged ISA, "Immediate Encoding Variants"
 /// and "Compressed Instruction Formats"). Every value fits. The window is 4 bytes unless said
@@ -236,6 +237,77 @@ impl RiscVInstruction {
                 let (low, _) = engine::read_signed(Window::Eight, &UI_LOW, 12, bytes);
                 (high.wrapping_add(low), false)
             }
+        }
+    }
+}
+
+/// What the pairs and `c.lui` take off each end of the range of their high part, because the low part
+/// is signed.
+const SIGNED_LOW_12: i64 = 0x800;
+
+/// What other modules ask of a form.
+impl RiscVInstruction {
+    /// The bits of an instruction, or of a pair, that a write of the form may change.
+    #[doc(hidden)]
+    #[must_use]
+    #[inline]
+    pub fn field_mask(self) -> u64 {
+        match self {
+            RiscVInstruction::UType | RiscVInstruction::JType => 0xffff_f000,
+            RiscVInstruction::IType => 0xfff0_0000,
+            RiscVInstruction::SType | RiscVInstruction::BType => 0xfe00_0f80,
+            RiscVInstruction::CbType => 0x1c7c,
+            RiscVInstruction::CjType => 0x1ffc,
+            RiscVInstruction::CluiType => 0x107c,
+            RiscVInstruction::UiType => 0xfff0_0000_ffff_f000,
+        }
+    }
+
+    /// Which bits of its number the immediate has.
+    #[doc(hidden)]
+    #[must_use]
+    #[inline]
+    pub fn value_bits(self) -> BitRange {
+        match self {
+            RiscVInstruction::UType => bits(12, 32),
+            RiscVInstruction::IType | RiscVInstruction::SType => bits(0, 12),
+            RiscVInstruction::BType => bits(1, 13),
+            RiscVInstruction::JType => bits(1, 21),
+            RiscVInstruction::CbType => bits(1, 9),
+            RiscVInstruction::CjType => bits(1, 12),
+            RiscVInstruction::CluiType => bits(12, 18),
+            RiscVInstruction::UiType => bits(0, 32),
+        }
+    }
+
+    /// Whether the form is that of a branch.
+    #[inline(always)]
+    pub(crate) fn is_branch(self) -> bool {
+        matches!(
+            self,
+            RiscVInstruction::BType
+                | RiscVInstruction::JType
+                | RiscVInstruction::CbType
+                | RiscVInstruction::CjType
+                | RiscVInstruction::UiType
+        )
+    }
+
+    /// Which values of a row can be written of which an instruction takes some bits.
+    #[inline(always)]
+    pub(crate) fn reach(self, range: AllowedRange) -> AllowedRange {
+        match self {
+            RiscVInstruction::UType
+            | RiscVInstruction::IType
+            | RiscVInstruction::SType
+            | RiscVInstruction::UiType => {
+                let half = SIZE_2GB as i64;
+                AllowedRange::new(-half - SIGNED_LOW_12, half - SIGNED_LOW_12)
+            }
+            RiscVInstruction::CluiType => {
+                AllowedRange::new(-0x20000 - SIGNED_LOW_12, 0x20000 - SIGNED_LOW_12)
+            }
+            _ => range,
         }
     }
 }

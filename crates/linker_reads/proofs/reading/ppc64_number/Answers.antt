@@ -1,18 +1,17 @@
-use Rattle.std.proofs.Common.{sym, ◌∙◌, ap}
-use Rattle.linker_elf.specs.Relocate.{is_dq_form}
+use Rattle.std.proofs.Common.{sym, ◌∙◌}
 use Rattle.linker_reads.proofs.Numbers.{d_held, ds_held, dq_held, branch14_held, branch24_held, prefixed_held}
 use Rattle.linker_reads.proofs.reading.ppc64_number.Goals as goal
 
 pub returns-then-is_dq_form : goal.returns-then-is_dq_form
 returns-then-is_dq_form c =
     rw c.in-Ds.is (dq_held _ c.read-number.result.0 c.low_bits_signed.result
-    (rw c.in-Ds.is at c.read-number.ensures.number) (ap is_dq_form (sym c.u32_from_slice.ensures) ∙ sym c.is_dq_form.ensures ∙ c.if-is_dq_form.true)
+    (rw c.in-Ds.is at c.read-number.ensures.number) (sym (rw c.in-Ds.is at c.is_dq_form.ensures) ∙ c.if-is_dq_form.true)
     c.low_bits_signed.ensures)
 
 pub returns-else-is_dq_form : goal.returns-else-is_dq_form
 returns-else-is_dq_form c =
     rw c.in-Ds.is (ds_held _ c.read-number.result.0 c.low_bits_signed-else-is_dq_form.result
-    (rw c.in-Ds.is at c.read-number.ensures.number) (ap is_dq_form (sym c.u32_from_slice.ensures) ∙ sym c.is_dq_form.ensures ∙ c.if-is_dq_form.false)
+    (rw c.in-Ds.is at c.read-number.ensures.number) (sym (rw c.in-Ds.is at c.is_dq_form.ensures) ∙ c.if-is_dq_form.false)
     c.low_bits_signed-else-is_dq_form.ensures)
 
 pub returns-in-D : goal.returns-in-D

@@ -61,19 +61,19 @@ returns-in-Ppc64 c =
       clears = nothing_written 0 old;
       written = of_value (Ppc64 f) c.args.bits c.args.value _ c.taken_bits-number.result old old new
           c.taken_bits-number.ensures (to_z-of_z w64 c.args.value c.ranges.value)
-          (rw (sym c.displacement-number.ensures) c.write_to_value-in-Ppc64.ensures.written);
+          (rw (sym c.number_placed-number.ensures) c.write_to_value-in-Ppc64.ensures.written);
       rest = c.write_to_value-in-Ppc64.ensures.rest;
     })
 
 pub returns-in-LoongArch64 : goal.returns-in-LoongArch64
 returns-in-LoongArch64 c =
     let f = c.in-LoongArch64.insn in
-    let clear = window_of (loongarch_form f) c.clear_loongarch.new.dest in
+    let clear = window_of (loongarch_form f) c.clear_immediate-in-LoongArch64.new.dest in
     rw c.in-LoongArch64.is (record {
       clear = clear;
-      clears = c.clear_loongarch.ensures.clears;
+      clears = c.clear_immediate-in-LoongArch64.ensures.clears;
       written = of_value (LoongArch64 f) c.args.bits c.args.value _ c.taken_bits-number.result clear clear
           (window_of (loongarch_form f) c.write_to_value-in-LoongArch64.new.dest)
           c.taken_bits-number.ensures (to_z-of_z w64 c.args.value c.ranges.value) c.write_to_value-in-LoongArch64.ensures.written;
-      rest = c.write_to_value-in-LoongArch64.ensures.rest ∙ c.clear_loongarch.ensures.rest;
+      rest = c.write_to_value-in-LoongArch64.ensures.rest ∙ c.clear_immediate-in-LoongArch64.ensures.rest;
     })

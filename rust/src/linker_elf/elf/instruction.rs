@@ -1,0 +1,57 @@
+// Made by tools/erase of crates/linker_elf/src/elf/instruction.rt.
+//! What a form says of an instruction, for all architectures.
+
+use crate::linker_elf::elf::{InstructionForm, RelocationInstruction};
+use crate::linker_base::bit_misc::BitRange;
+
+/// Bits `start` and up, below `end`.
+#[inline(always)]
+pub(crate) fn bits(start: u8, end: u8) -> BitRange {
+    BitRange { start, end }
+}
+
+impl RelocationInstruction {
+    /// The bits that a write of a row may change in the instruction that `bytes` begins with, where
+    /// those of a range are taken.
+    ///
+    /// # Requires
+    ///
+    /// - `self.window() <= bytes.len()`
+    #[doc(hidden)]
+    #[must_use]
+    #[cfg_attr(debug_assertions, track_caller)]
+    #[inline]
+    pub fn field_mask(self, range: BitRange, bytes: &[u8]) -> u64 {
+        debug_assert!(self.window() <= bytes.len());
+        match self {
+            RelocationInstruction::AArch64(insn) => insn.field_mask(),
+            RelocationInstruction::RiscV(insn) => insn.field_mask(),
+            RelocationInstruction::Ppc64(insn) => insn.field_mask(bytes),
+            RelocationInstruction::LoongArch64(insn) => insn.field_mask(range),
+        }
+    }
+
+    /// Which bits of its number an instruction has.
+    #[doc(hidden)]
+    #[must_use]
+    #[inline]
+    pub fn value_bits(self) -> BitRange {
+        match self {
+            RelocationInstruction::AArch64(insn) => insn.value_bits(),
+            RelocationInstruction::RiscV(insn) => insn.value_bits(),
+            RelocationInstruction::Ppc64(insn) => insn.value_bits(),
+            RelocationInstruction::LoongArch64(insn) => insn.value_bits(),
+        }
+    }
+
+    /// Whether the value goes into a branch.
+    #[inline(always)]
+    pub(crate) fn is_branch(self, range: BitRange) -> bool {
+        match self {
+            RelocationInstruction::AArch64(insn) => insn.is_branch(),
+            RelocationInstruction::RiscV(insn) => insn.is_branch(),
+            RelocationInstruction::Ppc64(insn) => insn.is_branch(),
+            RelocationInstruction::LoongArch64(insn) => insn.is_branch(range),
+        }
+    }
+}
