@@ -166,7 +166,8 @@ class Pairs:
         for key in [(symbol, addend, register), (symbol, addend)]:
             found = [self.last[high, *key] for high in low.highs if (high, *key) in self.last]
             if found:
-                return self.add_user(low, max(found, key=lambda high: high.offset), offset, register)
+                high = max(found, key=lambda high: high.offset)
+                return self.add_user(low, high, offset, register)
         is_other = any((high, symbol, register) in self.of_symbol for high in low.highs)
         self.counts[low.name, "another addend" if is_other else "none"]["places"] += 1
 
