@@ -31,7 +31,8 @@ AARCH64 = [
     (0x7F000000, 0x35000000, "cbnz"), (0x7F000000, 0x36000000, "tbz"),
     (0x7F000000, 0x37000000, "tbnz"), (0xFFFFFC1F, 0xD63F0000, "blr"),
     (0xFFFFFC1F, 0xD61F0000, "br"), (0xFFFFFC1F, 0xD65F0000, "ret"),
-    (0xFFE00C00, 0xF8400400, "ldr x, post"), (0x9FF80400, 0x0F000400, "movi"),
+    (0xFFE00C00, 0xF8400400, "ldr x, post"), (0xFFE00C00, 0xF8400C00, "ldr x, pre"),
+    (0xFFE00C00, 0xF8600800, "ldr x, x"), (0x9FF80400, 0x0F000400, "movi"),
     (0x0E000000, 0x0E000000, "floating-point or SIMD"),
 ]
 LOONGARCH64 = [
@@ -82,7 +83,8 @@ PPC64 = [
         (7, "mulli"), (10, "cmpldi"), (11, "cmpdi"), (14, "addi"), (15, "addis"), (24, "ori"),
         (25, "oris"), (32, "lwz"), (33, "lwzu"), (34, "lbz"), (35, "lbzu"), (36, "stw"),
         (37, "stwu"), (38, "stb"), (39, "stbu"), (40, "lhz"), (42, "lha"), (44, "sth"),
-        (48, "lfs"), (50, "lfd"), (52, "stfs"), (54, "stfd"), (30, "rotate")]],
+        (48, "lfs"), (50, "lfd"), (52, "stfs"), (54, "stfd"), (21, "rotate"),
+        (28, "andi."), (29, "andis."), (30, "rotate")]],
     *[(0xFC000003, opcode << 26 | n, name) for opcode, n, name in [
         (57, 2, "lxsd"), (57, 3, "lxssp"), (58, 0, "ld"), (58, 1, "ldu"), (58, 2, "lwa"),
         (61, 2, "stxsd"), (61, 3, "stxssp"), (62, 0, "std"), (62, 1, "stdu"), (62, 2, "stq")]],
@@ -91,7 +93,9 @@ PPC64 = [
         (0, "cmp"), (32, "cmpl"), (266, "add"), (40, "subf"), (21, "ldx"), (23, "lwzx"),
         (87, "lbzx"), (279, "lhzx"), (341, "lwax"), (343, "lhax"), (149, "stdx"), (151, "stwx"),
         (215, "stbx"), (407, "sthx"), (535, "lfsx"), (599, "lfdx"), (663, "stfsx"),
-        (727, "stfdx"), (444, "or")]],
+        (727, "stfdx"), (444, "or"), (28, "and"), (60, "andc"), (124, "nor"), (316, "xor"),
+        (104, "neg"), (922, "extsh"), (954, "extsb"), (986, "extsw"), (339, "mfspr"),
+        (467, "mtspr")]],
 ]
 # prefixed instructions by the opcode of their second word
 PREFIXED = {14: "paddi", 32: "plwz", 34: "plbz", 36: "pstw", 38: "pstb", 40: "plhz", 41: "plwa",
@@ -110,6 +114,8 @@ def by_opcode(machine, word):
     for bits, value, name in table:
         if word & bits == value:
             return name
+    if machine == 21 and word >> 26 == 31:
+        opcode = 0xFC0007FE
     return f"{word & opcode:#010x}"
 
 
