@@ -1,0 +1,132 @@
+//! Says where in sections instructions stand that a rewrite is chosen for, whatever a linker knows
+//! of the symbol and of its output. `tools/places` asks it.
+//!
+//! Without an argument it lists the relocations that any choice is made for, by `e_machine` and
+//! code. With the argument `-` it reads requests and answers each: three numbers of 64 bits
+//! (`e_machine`, the length of a section and that of its relocations), the section, and the
+//! relocations as `Elf64_Rela`. The answer has one byte for each relocation: `-` where no choice is
+//! made for its type, `y` where a rewrite is chosen for what stands there, and `n` where it isn't.
+
+use linker_utils::aarch64::{self, AArch64Relocation};
+use linker_utils::elf::{Architecture, LinkFacts, Operands};
+use linker_utils::loongarch64::{self, LoongArch64Relocation};
+use linker_utils::ppc64::{self, Ppc64Relocation};
+use linker_utils::riscv64::{self, RiscVRelocation};
+use linker_utils::x86_64::{self, X86_64Relocation};
+use std::collections::BTreeSet;
+use std::io::{self, BufReader, BufWriter, ErrorKind, Read, Write};
+
+/// Whether the table of choices has entries for a relocation.
+fn has_choices(architecture: Architecture, code: u32) -> bool {
+    match architecture {
+        Architecture::AArch64 => !aarch64::entries(AArch64Relocation::from_elf(code)).is_empty(),
+        Architecture::RiscV => !riscv64::entries(RiscVRelocation::from_elf(code)).is_empty(),
+        Architecture::LoongArch64 => {
+            !loongarch64::entries(LoongArch64Relocation::from_elf(code)).is_empty()
+        }
+        Architecture::Ppc64 => !ppc64::entries(Ppc64Relocation::from_elf(code)).is_empty(),
+        Architecture::X86_64 => {
+            let name = X86_64Relocation::from_elf(code);
+            (0..=u8::MAX).any(|opcode| !x86_64::entries(name, opcode).is_empty())
+        }
+        _ => false,
+    }
+}
+
+/// The codes of an architecture's relocations that any choice is made for.
+fn codes_with_choices(architecture: Architecture) -> BTreeSet<u32> {
+    // no psABI has a type above
+    (0..0x1_0000)
+        .filter(|code| architecture.name(*code).is_some() && has_choices(architecture, *code))
+        .collect()
+}
+
+/// What a linker knows where every condition of a choice holds. Each distance is 0, or the few bytes
+/// between two instructions, and so in reach.
+fn facts(addend: i64) -> LinkFacts {
+    LinkFacts {
+        is_local: true,
+        is_undefined_weak: true,
+        has_fixed_address: true,
+        has_fixed_distance: true,
+        is_executable: true,
+        has_local_exec_base: true,
+        may_compress: true,
+        is_marked: true,
+        has_got_high_part: true,
+        is_label_marked: true,
+        has_private_base: true,
+        may_change_toc: true,
+        has_addresses: true,
+        operands: Operands { addend, ..Operands::default() },
+        ..LinkFacts::default()
+    }
+}
+
+/// Whether a rewrite is chosen for the bytes at an offset, with an addend that is asked for.
+fn is_chosen(architecture: Architecture, code: u32, section: &[u8], offset: u64) -> bool {
+    [0, -4].into_iter().any(|addend| {
+        let choice = architecture.choose(code, section, offset, &facts(addend));
+        !choice.is_unchanged(code)
+    })
+}
+
+/// The answer to a request.
+fn answer(
+    architecture: Architecture,
+    codes: &BTreeSet<u32>,
+    section: &[u8],
+    rela: &[u8],
+) -> Vec<u8> {
+    let of = |entry: &[u8]| {
+        let offset = u64::from_le_bytes(entry[..8].try_into().expect("8 bytes"));
+        let code = u32::from_le_bytes(entry[8..12].try_into().expect("4 bytes"));
+        match codes.contains(&code) {
+            false => b'-',
+            true if is_chosen(architecture, code, section, offset) => b'y',
+            true => b'n',
+        }
+    };
+    rela.chunks_exact(24).map(of).collect()
+}
+
+fn bytes(input: &mut impl Read, len: u64) -> io::Result<Vec<u8>> {
+    let mut bytes = vec![];
+    input.take(len).read_to_end(&mut bytes)?;
+    if bytes.len() as u64 == len { Ok(bytes) } else { Err(ErrorKind::UnexpectedEof.into()) }
+}
+
+fn architectures() -> impl Iterator<Item = Architecture> {
+    (0..=u16::MAX).filter_map(Architecture::from_machine)
+}
+
+fn serve(input: &mut impl Read, out: &mut impl Write) -> io::Result<()> {
+    let tables: Vec<_> = architectures().map(|one| (one, codes_with_choices(one))).collect();
+    loop {
+        let mut numbers = [0; 24];
+        match input.read_exact(&mut numbers) {
+            Err(error) if error.kind() == ErrorKind::UnexpectedEof => return Ok(()),
+            read => read?,
+        }
+        let [machine, section, rela] =
+            [0, 8, 16].map(|at| u64::from_le_bytes(numbers[at..at + 8].try_into().expect("8")));
+        let table = tables.iter().find(|(one, _)| u64::from(one.machine()) == machine);
+        let (architecture, codes) = table.ok_or(ErrorKind::InvalidInput)?;
+        let (section, rela) = (bytes(input, section)?, bytes(input, rela)?);
+        out.write_all(&answer(*architecture, codes, &section, &rela))?;
+        out.flush()?;
+    }
+}
+
+fn main() -> io::Result<()> {
+    let (mut input, mut out) = (BufReader::new(io::stdin()), BufWriter::new(io::stdout()));
+    if std::env::args().nth(1).as_deref() == Some("-") {
+        return serve(&mut input, &mut out);
+    }
+    for architecture in architectures() {
+        for code in codes_with_choices(architecture) {
+            writeln!(out, "{} {code}", architecture.machine())?;
+        }
+    }
+    out.flush()
+}
