@@ -265,108 +265,204 @@ static inline uint32_t linker_utils_read(uint16_t machine, uint32_t form, const 
  * statuses LINKER_UTILS_UNKNOWN_ARCHITECTURE and LINKER_UTILS_UNKNOWN_REWRITE come first. */
 
 enum linker_utils_aarch64_rewrite {
-    LINKER_UTILS_AARCH64_REWRITE_NO_OP = 0, /* nothing: only the relocation's kind changes */
-    LINKER_UTILS_AARCH64_REWRITE_REPLACE_WITH_NOP = 1,
-    LINKER_UTILS_AARCH64_REWRITE_MOVZ_X0_LSL16 = 2, /* movz x0, #0, lsl #16 */
-    LINKER_UTILS_AARCH64_REWRITE_MOVK_X0 = 3, /* movk x0, #0 */
-    LINKER_UTILS_AARCH64_REWRITE_MOVZ_XN_LSL16 = 4, /* movz xn, #0, lsl #16 */
-    LINKER_UTILS_AARCH64_REWRITE_MOVK_XN = 5, /* movk xn, #0, from one with source xn too */
-    LINKER_UTILS_AARCH64_REWRITE_ADRP_TO_ADR = 6,
-    LINKER_UTILS_AARCH64_REWRITE_ADRP_X0 = 7, /* adrp x0, of distance 0 */
-    LINKER_UTILS_AARCH64_REWRITE_LDR_X0 = 8, /* ldr x0, [x0] */
-    LINKER_UTILS_AARCH64_REWRITE_ADD_TO_ADR = 9, /* the old immediate is unchanged */
-    LINKER_UTILS_AARCH64_REWRITE_LDR_TO_ADR = 10, /* the old immediate is unchanged */
-    LINKER_UTILS_AARCH64_REWRITE_LDR_TO_ADD = 11, /* from an ldr of 64 bits */
-    /* the adrp 4 bytes before, whose relocation becomes R_AARCH64_NONE, and add */
+    /* Leaves the instruction as it is; only the kind of its relocation changes. */
+    LINKER_UTILS_AARCH64_REWRITE_NO_OP = 0,
+    LINKER_UTILS_AARCH64_REWRITE_REPLACE_WITH_NOP = 1, /* Writes `nop`. */
+    LINKER_UTILS_AARCH64_REWRITE_MOVZ_X0_LSL16 = 2, /* Writes `movz x0, #0, lsl #16`. */
+    LINKER_UTILS_AARCH64_REWRITE_MOVK_X0 = 3, /* Writes `movk x0, #0`. */
+    /* Writes `movz xN, #0, lsl #16`, with the old instruction's destination register. */
+    LINKER_UTILS_AARCH64_REWRITE_MOVZ_XN_LSL16 = 4,
+    /* Writes `movk xN, #0`, with the old instruction's destination register. Requires that this is
+     * also its source register, bits 5 to 9. */
+    LINKER_UTILS_AARCH64_REWRITE_MOVK_XN = 5,
+    LINKER_UTILS_AARCH64_REWRITE_ADRP_TO_ADR = 6, /* Turns `adrp` into `adr`: clears bit 31. */
+    LINKER_UTILS_AARCH64_REWRITE_ADRP_X0 = 7, /* Writes `adrp x0` of distance 0. */
+    LINKER_UTILS_AARCH64_REWRITE_LDR_X0 = 8, /* Writes `ldr x0, [x0]`. */
+    /* Turns `add` into `adr`: clears bits 24, 27 and 31. The immediate is unchanged, and
+     * LINKER_UTILS_AARCH64_FORM_ADR only ORs a value into them: the caller clears bits 5 to 23, 29
+     * and 30 before that write. */
+    LINKER_UTILS_AARCH64_REWRITE_ADD_TO_ADR = 9,
+    /* Turns `ldr` with an unsigned offset into `adr`: clears bits 24, 27 and 31. The immediate's
+     * old bits are unchanged, as are bits 22, 29 and 30 of the opcode, which are immediate bits of
+     * `adr`: the caller clears bits 5 to 23, 29 and 30 before it writes
+     * LINKER_UTILS_AARCH64_FORM_ADR. */
+    LINKER_UTILS_AARCH64_REWRITE_LDR_TO_ADR = 10,
+    /* Turns LDR (immediate), 64 bits with an unsigned offset, into ADD (immediate). Bits 0 to 20
+     * are unchanged. Requires such an instruction. */
+    LINKER_UTILS_AARCH64_REWRITE_LDR_TO_ADD = 11,
+    /* Turns `adrp`, 4 bytes before the offset, and `add` into `nop` and `adr` of distance 0, with
+     * the `adrp`'s destination register. The relocation of the `adrp` is then `R_AARCH64_NONE`
+     * (`other_relocation`). */
     LINKER_UTILS_AARCH64_REWRITE_ADRP_ADD_TO_NOP_ADR = 12
 };
 
 enum linker_utils_riscv_rewrite {
+    /* Leaves the instruction as it is; only the kind of its relocation changes. */
     LINKER_UTILS_RISCV_REWRITE_NO_OP = 0,
-    LINKER_UTILS_RISCV_REWRITE_REPLACE_WITH_NOP = 1, /* two c.nop, of the C extension */
-    LINKER_UTILS_RISCV_REWRITE_CALL_TO_JAL = 2, /* auipc of a call; the caller deletes the jalr */
-    LINKER_UTILS_RISCV_REWRITE_HI20_TO_C_LUI = 3, /* lui; the caller deletes its last two bytes */
-    LINKER_UTILS_RISCV_REWRITE_HI20_DELETE = 4, /* nothing: the caller deletes the lui */
+    /* Writes two `c.nop` in place of four bytes. Requires the C extension. */
+    LINKER_UTILS_RISCV_REWRITE_REPLACE_WITH_NOP = 1,
+    /* Turns the `auipc` of an `auipc` and `jalr` pair into a `jal` of distance 0 with the `auipc`'s
+     * destination register (RISC-V ELF psABI, "Function Call Relaxation"). The caller deletes the
+     * `jalr` after it. If the `jalr` links another register than the `auipc`'s, as in `tail f`,
+     * that is not the call's jump: `matches` is the test. */
+    LINKER_UTILS_RISCV_REWRITE_CALL_TO_JAL = 2,
+    /* Turns the first two bytes of a `lui` into a `c.lui` of immediate 0 with the `lui`'s
+     * destination register. The caller deletes the two bytes after it. */
+    LINKER_UTILS_RISCV_REWRITE_HI20_TO_C_LUI = 3,
+    /* Leaves a `lui` whose immediate is 0 as it is; the caller deletes it. */
+    LINKER_UTILS_RISCV_REWRITE_HI20_DELETE = 4,
+    /* Clears bits 15 to 19: the source register of the instruction that adds the low part becomes
+     * x0. */
     LINKER_UTILS_RISCV_REWRITE_LO12_RS1_TO_ZERO = 5,
-    LINKER_UTILS_RISCV_REWRITE_TAIL_TO_JAL = 6, /* the auipc; the caller deletes the jalr */
-    LINKER_UTILS_RISCV_REWRITE_TAIL_TO_C_J = 7, /* c.j; the caller deletes the last 6 bytes */
-    LINKER_UTILS_RISCV_REWRITE_DELETE = 8, /* nothing: the caller deletes the instruction */
-    LINKER_UTILS_RISCV_REWRITE_REPLACE_WITH_LONG_NOP = 9, /* one nop of 4 bytes */
-    LINKER_UTILS_RISCV_REWRITE_BASE_TO_TP = 10, /* x4 as the base of a low part */
-    /* Of a TLS descriptor: its addi becomes lui or auipc, and its jalr the addi or the ld behind */
+    /* Turns the `auipc` of a tail call, whose `jalr` links no register, into a `jal x0` of distance
+     * 0. The caller deletes the `jalr` after it. */
+    LINKER_UTILS_RISCV_REWRITE_TAIL_TO_JAL = 6,
+    /* Turns the first two bytes of a tail call into a `c.j` of distance 0. Requires the C
+     * extension. The caller deletes the six bytes after it. */
+    LINKER_UTILS_RISCV_REWRITE_TAIL_TO_C_J = 7,
+    /* Leaves the instruction as it is; the caller deletes its four bytes. */
+    LINKER_UTILS_RISCV_REWRITE_DELETE = 8,
+    /* Writes one nop of four bytes, `addi x0, x0, 0`, in place of an instruction. */
+    LINKER_UTILS_RISCV_REWRITE_REPLACE_WITH_LONG_NOP = 9,
+    /* Makes x4, the thread pointer, the source register of the instruction that adds the low part
+     * of an offset: bits 15 to 19. */
+    LINKER_UTILS_RISCV_REWRITE_BASE_TO_TP = 10,
+    /* Turns the `addi a0` of a TLS descriptor into `lui a0` of 0 (RISC-V ELF psABI, "TLS
+     * Descriptors -> Local Exec Relaxation"). */
     LINKER_UTILS_RISCV_REWRITE_ADDI_TO_LUI = 11,
+    /* Turns it into `auipc a0` of 0 ("TLS Descriptors -> Initial Exec Relaxation"). */
     LINKER_UTILS_RISCV_REWRITE_ADDI_TO_AUIPC = 12,
+    /* Turns the `jalr t0` of a TLS descriptor into `addi a0, a0, 0`. */
     LINKER_UTILS_RISCV_REWRITE_CALL_TO_ADDI = 13,
-    LINKER_UTILS_RISCV_REWRITE_CALL_TO_ADDI_ZERO = 14, /* the addi of x0, without a lui */
-    LINKER_UTILS_RISCV_REWRITE_CALL_TO_LD = 15,
-    LINKER_UTILS_RISCV_REWRITE_LD_TO_ADDI = 16, /* the address in place of its GOT entry */
-    LINKER_UTILS_RISCV_REWRITE_C_LUI_TO_C_LI = 17 /* c.li of 0, which c.lui can't have */
+    LINKER_UTILS_RISCV_REWRITE_CALL_TO_ADDI_ZERO = 14, /* Turns it into `addi a0, x0, 0`. */
+    LINKER_UTILS_RISCV_REWRITE_CALL_TO_LD = 15, /* Turns it into `ld a0, 0(a0)`. */
+    /* Turns `ld` into `addi`, with both of its registers and its immediate. */
+    LINKER_UTILS_RISCV_REWRITE_LD_TO_ADDI = 16,
+    /* Turns `c.lui` into `c.li` of 0, with its destination register: the ISA reserves the immediate
+     * 0 of `c.lui`, which a high part of 0 would need ("Integer Constant-Generation
+     * Instructions"). */
+    LINKER_UTILS_RISCV_REWRITE_C_LUI_TO_C_LI = 17
 };
 
 enum linker_utils_loongarch64_rewrite {
+    /* Leaves the instruction as it is; only the kind of its relocation changes. */
     LINKER_UTILS_LOONGARCH64_REWRITE_NO_OP = 0,
-    LINKER_UTILS_LOONGARCH64_REWRITE_REPLACE_WITH_NOP = 1,
+    LINKER_UTILS_LOONGARCH64_REWRITE_REPLACE_WITH_NOP = 1, /* Turns the instruction into `nop`. */
+    /* Turns `ld.d` into `addi.d`. Bits 0 to 21 are unchanged. */
     LINKER_UTILS_LOONGARCH64_REWRITE_LD_TO_ADDI = 2,
+    /* Turns `addi.d` into `ld.d`. Bits 0 to 21 are unchanged. */
     LINKER_UTILS_LOONGARCH64_REWRITE_ADDI_TO_LD = 3,
-    LINKER_UTILS_LOONGARCH64_REWRITE_PCALA_TO_PCADDI = 4, /* the pair's second one is deleted */
-    LINKER_UTILS_LOONGARCH64_REWRITE_CALL_TO_BL = 5, /* pcaddu18i; the caller deletes the jirl */
-    LINKER_UTILS_LOONGARCH64_REWRITE_CALL_TO_B = 6, /* the same of a tail call */
+    /* Turns the `pcalau12i` of a pair into `pcaddi` of distance 0, with its destination register.
+     * The pair's second instruction is deleted for its own relocation. */
+    LINKER_UTILS_LOONGARCH64_REWRITE_PCALA_TO_PCADDI = 4,
+    /* Turns the `pcaddu18i` of a call, whose `jirl` links `ra`, into `bl` of distance 0. The caller
+     * deletes the `jirl` after it. */
+    LINKER_UTILS_LOONGARCH64_REWRITE_CALL_TO_BL = 5,
+    /* Turns the `pcaddu18i` of a tail call, whose `jirl` links no register, into `b` of distance 0.
+     * The caller deletes the `jirl` after it. */
+    LINKER_UTILS_LOONGARCH64_REWRITE_CALL_TO_B = 6,
+    /* Turns `pcalau12i` into `lu12i.w` of 0, with its destination register. */
     LINKER_UTILS_LOONGARCH64_REWRITE_PCALA_TO_LU12I = 7,
-    LINKER_UTILS_LOONGARCH64_REWRITE_LOW_TO_ORI = 8, /* addi.d or ld.d; both registers stay */
-    LINKER_UTILS_LOONGARCH64_REWRITE_LOW_TO_ORI_ZERO = 9, /* the same, from $zero */
+    /* Turns `addi.d` or `ld.d` into `ori` of 0, with both of its registers. */
+    LINKER_UTILS_LOONGARCH64_REWRITE_LOW_TO_ORI = 8,
+    /* Turns `addi.d` or `ld.d` into `ori` of 0 from `zero`, with its destination register. */
+    LINKER_UTILS_LOONGARCH64_REWRITE_LOW_TO_ORI_ZERO = 9,
+    /* Makes `tp` the source register of the instruction that adds the low part of an offset. */
     LINKER_UTILS_LOONGARCH64_REWRITE_BASE_TO_TP = 10,
-    LINKER_UTILS_LOONGARCH64_REWRITE_DELETE = 11 /* nothing: the caller deletes the instruction */
+    /* Leaves the instruction as it is; the caller deletes it. */
+    LINKER_UTILS_LOONGARCH64_REWRITE_DELETE = 11
 };
 
 /* Those of a call stand for 8 bytes, the call and the `nop` after it. CALL_TO_ADDI, CALL_TO_ADD and
  * CALL_TO_ADDI4096 move the offset 4 bytes on, to the instruction behind the `nop` that they leave;
  * the next relocation, R_PPC64_REL24 of the call, is skipped. */
 enum linker_utils_ppc64_rewrite {
+    /* Leaves the instruction as it is; only the kind of its relocation changes. */
     LINKER_UTILS_PPC64_REWRITE_NO_OP = 0,
-    LINKER_UTILS_PPC64_REWRITE_ADDIS_TO_NOP = 1, /* addis rT,2 */
-    LINKER_UTILS_PPC64_REWRITE_BASE_TO_TOC = 2, /* an addi or an access, over register 2 */
-    LINKER_UTILS_PPC64_REWRITE_LD_TO_ADDI = 3,
-    LINKER_UTILS_PPC64_REWRITE_PLD_TO_PADDI = 4, /* 8 bytes */
-    LINKER_UTILS_PPC64_REWRITE_LD_TO_ADDIS_THREAD = 5, /* addis rT,13,0 */
-    LINKER_UTILS_PPC64_REWRITE_ADD_TO_ADDI = 6, /* add rT,rA,13 */
-    LINKER_UTILS_PPC64_REWRITE_INDEXED_TO_D = 7, /* lwzx rT,rA,13 and its like, lwz rT,0(rA) */
-    LINKER_UTILS_PPC64_REWRITE_INDEXED_TO_DS = 8, /* ldx, stdx, lwax */
-    LINKER_UTILS_PPC64_REWRITE_ADDI_TO_ADDIS_THREAD = 9, /* addis rT,13,0 */
-    LINKER_UTILS_PPC64_REWRITE_ADDI_TO_LD = 10,
-    LINKER_UTILS_PPC64_REWRITE_CALL_TO_ADDI = 11, /* nop; addi 3,3,0 */
-    LINKER_UTILS_PPC64_REWRITE_CALL_TO_ADD = 12, /* nop; add 3,3,13 */
-    LINKER_UTILS_PPC64_REWRITE_CALL_TO_ADDI4096 = 13, /* nop; addi 3,3,4096 */
-    LINKER_UTILS_PPC64_REWRITE_NOP_TO_RESTORE_TOC = 14 /* the nop becomes ld 2,24(1) */
+    LINKER_UTILS_PPC64_REWRITE_ADDIS_TO_NOP = 1, /* Writes `nop` in place of `addis rT,2`. */
+    /* Makes register 2, the TOC pointer, the base of an instruction: bits 16 to 20. */
+    LINKER_UTILS_PPC64_REWRITE_BASE_TO_TOC = 2,
+    LINKER_UTILS_PPC64_REWRITE_LD_TO_ADDI = 3, /* Turns `ld rT,x(rA)` into `addi rT,rA,0`. */
+    /* Turns `pld rT`, relative to the instruction, into `paddi rT,0,0,1`. */
+    LINKER_UTILS_PPC64_REWRITE_PLD_TO_PADDI = 4,
+    /* Turns `ld rT` into `addis rT,13,0`, which adds to the thread pointer. */
+    LINKER_UTILS_PPC64_REWRITE_LD_TO_ADDIS_THREAD = 5,
+    LINKER_UTILS_PPC64_REWRITE_ADD_TO_ADDI = 6, /* Turns `add rT,rA,13` into `addi rT,rA,0`. */
+    /* Turns an indexed load or store, as `lwzx rT,rA,13`, into that with a displacement, as `lwz
+     * rT,0(rA)`. */
+    LINKER_UTILS_PPC64_REWRITE_INDEXED_TO_D = 7,
+    /* Turns `ldx`, `stdx` or `lwax` into `ld`, `std` or `lwa`, whose displacement is in whole
+     * words. */
+    LINKER_UTILS_PPC64_REWRITE_INDEXED_TO_DS = 8,
+    LINKER_UTILS_PPC64_REWRITE_ADDI_TO_ADDIS_THREAD = 9, /* Turns `addi rT` into `addis rT,13,0`. */
+    LINKER_UTILS_PPC64_REWRITE_ADDI_TO_LD = 10, /* Turns `addi rT,rA` into `ld rT,0(rA)`. */
+    /* Turns the call of `__tls_get_addr` and the `nop` after it into `nop` and `addi 3,3,0`. The
+     * offset is then that of the `addi`, 4 bytes on. */
+    LINKER_UTILS_PPC64_REWRITE_CALL_TO_ADDI = 11,
+    /* Turns the call of `__tls_get_addr` and the `nop` after it into `nop` and `add 3,3,13`. The
+     * offset is then that of the `add`, 4 bytes on. */
+    LINKER_UTILS_PPC64_REWRITE_CALL_TO_ADD = 12,
+    /* Turns the call of `__tls_get_addr` and the `nop` after it into `nop` and `addi 3,3,4096`. The
+     * offset is then that of the `addi`, 4 bytes on. */
+    LINKER_UTILS_PPC64_REWRITE_CALL_TO_ADDI4096 = 13,
+    /* Turns the `nop` after a call into `ld 2,24(1)`, which restores the TOC pointer. The offset is
+     * that of the call, which stays. */
+    LINKER_UTILS_PPC64_REWRITE_NOP_TO_RESTORE_TOC = 14
 };
 
 /* Where `n` is marked it is the count of the instruction's bytes before the field: 2 without a
  * prefix, 3 with REX, 4 with REX2 and 6 with EVEX. The relocation of the field afterwards is in the
  * tables of choices below. */
 enum linker_utils_x86_64_rewrite {
+    /* Turns `mov x@GOTPCREL(%rip), %reg` into `lea x(%rip), %reg`. */
     LINKER_UTILS_X86_64_REWRITE_MOV_INDIRECT_TO_LEA = 0,
+    /* Turns `mov x@GOTPCREL(%rip), %reg` into `mov $x, %reg`, where no prefix names the
+     * register. */
     LINKER_UTILS_X86_64_REWRITE_MOV_INDIRECT_TO_ABSOLUTE = 1,
-    LINKER_UTILS_X86_64_REWRITE_REX_MOV_INDIRECT_TO_ABSOLUTE = 2, /* n */
-    LINKER_UTILS_X86_64_REWRITE_REX_ADD_INDIRECT_TO_ABSOLUTE = 3, /* n */
-    LINKER_UTILS_X86_64_REWRITE_REX_SUB_INDIRECT_TO_ABSOLUTE = 4, /* n */
-    LINKER_UTILS_X86_64_REWRITE_REX_CMP_INDIRECT_TO_ABSOLUTE = 5, /* n */
+    /* n: turns `mov x@GOTPCREL(%rip), %reg` into `mov $x, %reg`. */
+    LINKER_UTILS_X86_64_REWRITE_REX_MOV_INDIRECT_TO_ABSOLUTE = 2,
+    /* n: turns `add x@GOTPCREL(%rip), %reg` into `add $x, %reg`. */
+    LINKER_UTILS_X86_64_REWRITE_REX_ADD_INDIRECT_TO_ABSOLUTE = 3,
+    /* n: turns `sub x@GOTPCREL(%rip), %reg` into `sub $x, %reg`. */
+    LINKER_UTILS_X86_64_REWRITE_REX_SUB_INDIRECT_TO_ABSOLUTE = 4,
+    /* n: turns `cmp x@GOTPCREL(%rip), %reg` into `cmp $x, %reg`. */
+    LINKER_UTILS_X86_64_REWRITE_REX_CMP_INDIRECT_TO_ABSOLUTE = 5,
+    /* Turns `call *x@GOTPCREL(%rip)` into `addr32 call x`. */
     LINKER_UTILS_X86_64_REWRITE_CALL_INDIRECT_TO_RELATIVE = 6,
+    /* Turns `jmp *x@GOTPCREL(%rip)` into `jmp x; nop`. The offset becomes 1 less. */
     LINKER_UTILS_X86_64_REWRITE_JMP_INDIRECT_TO_RELATIVE = 7,
+    /* Leaves the instruction as it is; only the kind of its relocation changes. */
     LINKER_UTILS_X86_64_REWRITE_NO_OP = 8,
+    /* Turns a general-dynamic TLS sequence into a local-exec one. */
     LINKER_UTILS_X86_64_REWRITE_TLS_GD_TO_LOCAL_EXEC = 9,
-    LINKER_UTILS_X86_64_REWRITE_TLS_GD_TO_LOCAL_EXEC_LARGE = 10, /* of the large code model */
+    /* Turns the large code model's general-dynamic TLS sequence into a local-exec one. */
+    LINKER_UTILS_X86_64_REWRITE_TLS_GD_TO_LOCAL_EXEC_LARGE = 10,
+    /* Turns a local-dynamic TLS sequence into a local-exec one. */
     LINKER_UTILS_X86_64_REWRITE_TLS_LD_TO_LOCAL_EXEC = 11,
-    LINKER_UTILS_X86_64_REWRITE_TLS_LD_TO_LOCAL_EXEC_NO_PLT = 12, /* the call goes by the GOT */
-    LINKER_UTILS_X86_64_REWRITE_TLS_LD_TO_LOCAL_EXEC64 = 13, /* of the large code model */
+    /* Turns a local-dynamic TLS sequence whose call goes through the GOT into a local-exec one. */
+    LINKER_UTILS_X86_64_REWRITE_TLS_LD_TO_LOCAL_EXEC_NO_PLT = 12,
+    /* Turns the large code model's local-dynamic TLS sequence into a local-exec one. */
+    LINKER_UTILS_X86_64_REWRITE_TLS_LD_TO_LOCAL_EXEC64 = 13,
+    /* Turns a general-dynamic TLS sequence into an initial-exec one. */
     LINKER_UTILS_X86_64_REWRITE_TLS_GD_TO_INITIAL_EXEC = 14,
-    LINKER_UTILS_X86_64_REWRITE_TLS_DESC_TO_LOCAL_EXEC = 15, /* n */
+    /* n: turns the `lea` of a TLS descriptor into `mov $x, %reg`. */
+    LINKER_UTILS_X86_64_REWRITE_TLS_DESC_TO_LOCAL_EXEC = 15,
+    /* Turns the `lea` of a TLS descriptor into `mov x@GOTTPOFF(%rip), %reg`. */
     LINKER_UTILS_X86_64_REWRITE_TLS_DESC_TO_INITIAL_EXEC = 16,
+    /* Turns the call through a TLS descriptor into a `nop` of two bytes. */
     LINKER_UTILS_X86_64_REWRITE_SKIP_TLS_DESC_CALL = 17,
-    LINKER_UTILS_X86_64_REWRITE_REX_ADC_INDIRECT_TO_ABSOLUTE = 18, /* n */
-    LINKER_UTILS_X86_64_REWRITE_REX_AND_INDIRECT_TO_ABSOLUTE = 19, /* n */
-    LINKER_UTILS_X86_64_REWRITE_REX_OR_INDIRECT_TO_ABSOLUTE = 20, /* n */
-    LINKER_UTILS_X86_64_REWRITE_REX_SBB_INDIRECT_TO_ABSOLUTE = 21, /* n */
-    LINKER_UTILS_X86_64_REWRITE_REX_XOR_INDIRECT_TO_ABSOLUTE = 22, /* n */
-    LINKER_UTILS_X86_64_REWRITE_REX_TEST_INDIRECT_TO_ABSOLUTE = 23 /* n */
+    /* n: turns `adc x@GOTPCREL(%rip), %reg` into `adc $x, %reg`. */
+    LINKER_UTILS_X86_64_REWRITE_REX_ADC_INDIRECT_TO_ABSOLUTE = 18,
+    /* n: turns `and x@GOTPCREL(%rip), %reg` into `and $x, %reg`. */
+    LINKER_UTILS_X86_64_REWRITE_REX_AND_INDIRECT_TO_ABSOLUTE = 19,
+    /* n: turns `or x@GOTPCREL(%rip), %reg` into `or $x, %reg`. */
+    LINKER_UTILS_X86_64_REWRITE_REX_OR_INDIRECT_TO_ABSOLUTE = 20,
+    /* n: turns `sbb x@GOTPCREL(%rip), %reg` into `sbb $x, %reg`. */
+    LINKER_UTILS_X86_64_REWRITE_REX_SBB_INDIRECT_TO_ABSOLUTE = 21,
+    /* n: turns `xor x@GOTPCREL(%rip), %reg` into `xor $x, %reg`. */
+    LINKER_UTILS_X86_64_REWRITE_REX_XOR_INDIRECT_TO_ABSOLUTE = 22,
+    /* n: turns `test %reg, x@GOTPCREL(%rip)` into `test $x, %reg`. */
+    LINKER_UTILS_X86_64_REWRITE_REX_TEST_INDIRECT_TO_ABSOLUTE = 23
 };
 
 /* What happens to the next relocation: the entry after the rewritten instruction's own in the order

@@ -58,8 +58,8 @@ const SPELLED: [(&str, &str); 10] = [
 
 /// How many bytes hold any name, how many rewrites a relocation may have, and for each of the header's enums a macro of its name:
 /// `ENUM! { MACRO START }` is `MACRO! { START { CONSTANTS } }`. A constant is
-/// `#[doc = "COMMENT"] NAME = NUMBER,` or, where its comment is `n`, `NAME(n) = NUMBER,`, and a status
-/// `NAME = NUMBER "TEXT",`.
+/// `#[doc = "COMMENT"] NAME = NUMBER,` or, where its comment begins with `n: `, the same with `NAME(n)`,
+/// and a status `NAME = NUMBER "TEXT",`.
 fn constants(header: &str) -> String {
     let mut code = String::new();
     for name in ["NAME_SIZE", "CANDIDATES"] {
@@ -98,14 +98,16 @@ fn entries(of_enum: &str, body: &str) -> String {
         comment += after.strip_suffix("*/").expect("the line ends the comment");
         let (name, number) = constant.split_once(" = ").expect("a number");
         let (name, number) = (variant(of_enum, name), number.trim_end_matches(','));
-        code += &match comment.trim() {
-            "" => format!("{name} = {number},\n"),
-            "n" => format!("{name}(n) = {number},\n"),
-            text => {
-                let text = text.replace('[', "\\[").replace("linker_utils_", "");
-                format!("#[doc = {text:?}] {name} = {number},\n")
-            }
+        let text = comment.trim();
+        let (text, n) = match text.strip_prefix("n: ") {
+            Some(text) => (text, "(n)"),
+            None => (text, ""),
         };
+        if !text.is_empty() {
+            let text = text.replace('[', "\\[").replace("linker_utils_", "");
+            code += &format!("#[doc = {text:?}] ");
+        }
+        code += &format!("{name}{n} = {number},\n");
         comment.clear();
     }
     code
