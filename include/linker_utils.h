@@ -807,19 +807,29 @@ struct linker_utils_choice {
     uint8_t n; /* The rewrite's `n`. */
 };
 
-/* The rewrite of the instruction at a relocation that the psABI allows by these facts, and the
- * relocation after it, into `choice`: by the tables below. `linker_utils_matches` of the rewrite
- * then returns LINKER_UTILS_OK. Where no rewrite is allowed, or the bytes are not the instruction
- * that the relocation's name asks for, it is NO_OP and the same relocation. NO_OP and another
- * relocation are possible: the `adrp` of a pair. The bytes are those of the object file: the two
- * halves of a pair, and the instructions of a TLS descriptor's sequence on AArch64 and LoongArch,
- * test the whole of it, so that all are chosen alike where the facts and the symbol are the same.
- * So they have to be chosen before one of them is rewritten. On RISC-V the instructions of a
- * descriptor, and the `auipc` and `ld` of a GOT entry, may be apart: each is chosen by the facts of
- * the high part that its label names, `is_marked` of a descriptor's R_RISCV_TLSDESC_HI20 among
- * them; the `auipc` and `ld` by `is_label_marked`, and not by `is_marked` of either. After
- * ADDI_TO_AUIPC the place of R_RISCV_TLS_GOT_HI20, and of the R_RISCV_PCREL_LO12_I that CALL_TO_LD
- * leaves, is that of the `addi`, and S of the latter is the GOT entry. */
+/* The rewrite that a linker may make of the instruction at a relocation by these facts, and the
+ * relocation after it, into `choice`: by the tables below, which are made after the psABIs and
+ * after what linkers do. `linker_utils_matches` of the rewrite then returns LINKER_UTILS_OK. Where
+ * no entry applies, or the bytes are not the instruction that the relocation's name asks for, it is
+ * NO_OP and the same relocation. NO_OP and another relocation are possible: the `adrp` of a pair.
+ * The bytes are those of the object file: on AArch64 and LoongArch the two relocations of a load
+ * from the GOT, those of LoongArch's `pcalau12i` and `addi.d`, and the four of a TLS descriptor
+ * test the whole pair or sequence, so that all are chosen alike where the symbol is the same and
+ * the facts are, but for `place`. So they have to be chosen before one of them is rewritten. On
+ * RISC-V the instructions of a descriptor, and the `auipc` and `ld` of a GOT entry, may be apart:
+ * each is chosen by the facts of the high part that its label names, `is_marked` of a descriptor's
+ * R_RISCV_TLSDESC_HI20 among them; the `auipc` and `ld` by `is_label_marked`, and not by
+ * `is_marked` of either. After ADDI_TO_AUIPC the place of R_RISCV_TLS_GOT_HI20, and of the
+ * R_RISCV_PCREL_LO12_I that CALL_TO_LD leaves, is that of the `addi`, and S of the latter is the
+ * GOT entry. On PowerPC64 too each instruction is chosen by itself: those of a pair and of
+ * `__tls_get_addr` are chosen alike by the same facts but for `place`, where each is one that its
+ * rewrites are meant for.
+ *
+ * Of others the linker has to see itself that all are rewritten or none is: of R_RISCV_HI20 and its
+ * low parts; of R_RISCV_TPREL_HI20, R_RISCV_TPREL_ADD and its low parts; of the same of
+ * R_LARCH_TLS_LE_HI20_R; of R_PPC64_TLS and the load of its entry; and of the `lea` and the call of
+ * a descriptor on x86-64. AArch64's ADRP_ADD_TO_NOP_ADR erases the `adrp` too, whose relocation has
+ * to be of the same symbol and addend as the `add`'s. */
 static inline uint32_t linker_utils_choose(uint16_t machine, uint32_t r_type,
                                            const uint8_t *section, size_t section_len,
                                            uint64_t offset,

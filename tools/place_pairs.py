@@ -144,6 +144,7 @@ class Pairs:
         self.of_symbol = set()  # the kinds, symbols and registers that were
         self.lows = []  # those with labels: their high parts may be behind them
         self.low_keys = set()  # the high parts for which there is a low part
+        self.joined = []  # each low part with its high part, by offset and name
         self.counts = collections.defaultdict(collections.Counter)
 
     def add(self, name, offset, symbol, addend, words):
@@ -173,6 +174,7 @@ class Pairs:
 
     def add_user(self, low, high, offset, register):
         """A low part with its high part."""
+        self.joined.append(((offset, low.name), (high.offset, high.name)))
         is_next = low.is_next(high, offset)
         high.users[low.group].append(is_next)
         found = self.counts[low.name, high.name]
@@ -195,3 +197,14 @@ class Pairs:
             highs[high.name][high.kind(key in self.low_keys)] += 1
         for key, found in self.counts.items():
             lows[key].update(found)
+
+    def groups(self):
+        """The relocations that belong together, each as its offset and name; once all are read."""
+        group_of = {}
+        for low, high in self.joined:
+            group = group_of.get(high, [high])
+            further = group_of.get(low, [low])
+            if group is not further:
+                group += further
+                group_of.update({member: group for member in group})
+        return {id(group): group for group in group_of.values()}.values()

@@ -544,7 +544,7 @@ pub fn next_modifier(rewrite: impl Into<Rewrite>) -> Result<Modifier, Status> {
     result_of(status, modifier)
 }
 
-/// The rewrite of the instruction at a relocation that the psABI allows by these facts, and the
+/// The rewrite that a linker may make of the instruction at a relocation by these facts, and the
 /// relocation after it.
 pub fn choose(
     architecture: Architecture,
