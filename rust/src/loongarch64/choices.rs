@@ -256,33 +256,41 @@ static TLS_LE_LO12_R: &[LoongArchEntry] = &[
 
 static OTHERS: &[LoongArchEntry] = &[];
 
+/// What a name's table is used for.
+macro_rules! by_table {
+    ($name:expr, $table:ident => $use:expr) => {
+        match $name {
+            LoongArch64Relocation::R_LARCH_GOT_PC_HI20 => { let $table = GOT_PC_HI20; $use }
+            LoongArch64Relocation::R_LARCH_GOT_PC_LO12 => { let $table = GOT_PC_LO12; $use }
+            LoongArch64Relocation::R_LARCH_PCALA_HI20 => { let $table = PCALA_HI20; $use }
+            LoongArch64Relocation::R_LARCH_PCALA_LO12 => { let $table = PCALA_LO12; $use }
+            LoongArch64Relocation::R_LARCH_CALL36 => { let $table = CALL36; $use }
+            LoongArch64Relocation::R_LARCH_TLS_IE_PC_HI20 => { let $table = TLS_IE_PC_HI20; $use }
+            LoongArch64Relocation::R_LARCH_TLS_IE_PC_LO12 => { let $table = TLS_IE_PC_LO12; $use }
+            LoongArch64Relocation::R_LARCH_TLS_DESC_PC_HI20 => { let $table = TLS_DESC_PC_HI20; $use }
+            LoongArch64Relocation::R_LARCH_TLS_DESC_PC_LO12 => { let $table = TLS_DESC_PC_LO12; $use }
+            LoongArch64Relocation::R_LARCH_TLS_DESC_LD => { let $table = TLS_DESC_LD; $use }
+            LoongArch64Relocation::R_LARCH_TLS_DESC_CALL => { let $table = TLS_DESC_CALL; $use }
+            LoongArch64Relocation::R_LARCH_TLS_LE_HI20_R => { let $table = TLS_LE_HI20_R; $use }
+            LoongArch64Relocation::R_LARCH_TLS_LE_ADD_R => { let $table = TLS_LE_ADD_R; $use }
+            LoongArch64Relocation::R_LARCH_TLS_LE_LO12_R => { let $table = TLS_LE_LO12_R; $use }
+            _ => { let $table = OTHERS; $use }
+        }
+    };
+}
+
 /// The entries of a relocation.
 #[doc(hidden)]
 #[must_use]
 #[inline(always)]
 pub fn entries(name: LoongArch64Relocation) -> &'static [LoongArchEntry] {
-    match name {
-        LoongArch64Relocation::R_LARCH_GOT_PC_HI20 => GOT_PC_HI20,
-        LoongArch64Relocation::R_LARCH_GOT_PC_LO12 => GOT_PC_LO12,
-        LoongArch64Relocation::R_LARCH_PCALA_HI20 => PCALA_HI20,
-        LoongArch64Relocation::R_LARCH_PCALA_LO12 => PCALA_LO12,
-        LoongArch64Relocation::R_LARCH_CALL36 => CALL36,
-        LoongArch64Relocation::R_LARCH_TLS_IE_PC_HI20 => TLS_IE_PC_HI20,
-        LoongArch64Relocation::R_LARCH_TLS_IE_PC_LO12 => TLS_IE_PC_LO12,
-        LoongArch64Relocation::R_LARCH_TLS_DESC_PC_HI20 => TLS_DESC_PC_HI20,
-        LoongArch64Relocation::R_LARCH_TLS_DESC_PC_LO12 => TLS_DESC_PC_LO12,
-        LoongArch64Relocation::R_LARCH_TLS_DESC_LD => TLS_DESC_LD,
-        LoongArch64Relocation::R_LARCH_TLS_DESC_CALL => TLS_DESC_CALL,
-        LoongArch64Relocation::R_LARCH_TLS_LE_HI20_R => TLS_LE_HI20_R,
-        LoongArch64Relocation::R_LARCH_TLS_LE_ADD_R => TLS_LE_ADD_R,
-        LoongArch64Relocation::R_LARCH_TLS_LE_LO12_R => TLS_LE_LO12_R,
-        _ => OTHERS,
-    }
+    by_table!(name, table => table)
 }
 
-/// The choice of the first entry that applies.
-#[inline(always)]
-fn first(
+/// The choice by a table of a name.
+#[cfg_attr(not(debug_assertions), inline(always))]
+fn choice_by(
+    table: &'static [LoongArchEntry],
     name: LoongArch64Relocation,
     section: &[u8],
     offset: u64,
@@ -292,22 +300,7 @@ fn first(
         kind: RelaxationKind::NoOp,
         relocation: name,
     };
-    first_entry(entries(name), section, offset, facts, unchanged)
-}
-
-/// The same, by each name alone: so the compiler knows its entries.
-macro_rules! first_of {
-    ($name:expr, $section:expr, $offset:expr, $facts:expr; $($known:ident)+) => {
-        match $name {
-            $(LoongArch64Relocation::$known => {
-                first(LoongArch64Relocation::$known, $section, $offset, $facts)
-            })+
-            _ => Choice {
-                kind: RelaxationKind::NoOp,
-                relocation: $name,
-            },
-        }
-    };
+    first_entry(table, section, offset, facts, unchanged)
 }
 
 /// Which rewrite a linker may make of the instruction or the pair at a relocation's offset, and the
@@ -362,13 +355,7 @@ pub fn choose(
     offset: u64,
     facts: &LinkFacts,
 ) -> Choice<RelaxationKind, LoongArch64Relocation> {
-    first_of!(
-        name, section, offset, facts;
-        R_LARCH_GOT_PC_HI20 R_LARCH_GOT_PC_LO12 R_LARCH_PCALA_HI20 R_LARCH_PCALA_LO12 R_LARCH_CALL36
-        R_LARCH_TLS_IE_PC_HI20 R_LARCH_TLS_IE_PC_LO12 R_LARCH_TLS_DESC_PC_HI20
-        R_LARCH_TLS_DESC_PC_LO12 R_LARCH_TLS_DESC_LD R_LARCH_TLS_DESC_CALL R_LARCH_TLS_LE_HI20_R
-        R_LARCH_TLS_LE_ADD_R R_LARCH_TLS_LE_LO12_R
-    )
+    by_table!(name, table => choice_by(table, name, section, offset, facts))
 }
 
 /// With the same facts, except that each has its own place, both relocations of a pair are

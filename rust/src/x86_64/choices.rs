@@ -315,54 +315,24 @@ macro_rules! by_access {
 macro_rules! by_table {
     ($name:expr, $opcode:expr, $table:ident => $use:expr) => {
         match $name {
-            X86_64Relocation::R_X86_64_GOTPCRELX if $opcode == 0xff => {
-                let $table = BRANCH;
-                $use
-            }
-            X86_64Relocation::R_X86_64_GOTPCRELX => {
-                by_operation!(GOT_2, $opcode, $table => $use)
-            }
-            X86_64Relocation::R_X86_64_REX_GOTPCRELX => {
-                by_operation!(GOT_3, $opcode, $table => $use)
-            }
-            X86_64Relocation::R_X86_64_CODE_4_GOTPCRELX => {
-                by_operation!(GOT_4, $opcode, $table => $use)
-            }
-            X86_64Relocation::R_X86_64_CODE_5_GOTPCRELX => {
-                by_operation!(GOT_5, $opcode, $table => $use)
-            }
-            X86_64Relocation::R_X86_64_CODE_6_GOTPCRELX => {
-                by_operation!(GOT_6, $opcode, $table => $use)
-            }
-            X86_64Relocation::R_X86_64_GOTTPOFF => {
-                by_access!(GOTTPOFF_3, $opcode, $table => $use)
-            }
-            X86_64Relocation::R_X86_64_CODE_4_GOTTPOFF => {
-                by_access!(GOTTPOFF_4, $opcode, $table => $use)
-            }
-            X86_64Relocation::R_X86_64_CODE_5_GOTTPOFF => {
-                by_access!(GOTTPOFF_5, $opcode, $table => $use)
-            }
-            X86_64Relocation::R_X86_64_CODE_6_GOTTPOFF => {
-                by_access!(GOTTPOFF_6, $opcode, $table => $use)
-            }
+            X86_64Relocation::R_X86_64_GOTPCRELX if $opcode == 0xff => { let $table = BRANCH; $use }
+            X86_64Relocation::R_X86_64_GOTPCRELX => by_operation!(GOT_2, $opcode, $table => $use),
+            X86_64Relocation::R_X86_64_REX_GOTPCRELX => by_operation!(GOT_3, $opcode, $table => $use),
+            X86_64Relocation::R_X86_64_CODE_4_GOTPCRELX => by_operation!(GOT_4, $opcode, $table => $use),
+            X86_64Relocation::R_X86_64_CODE_5_GOTPCRELX => by_operation!(GOT_5, $opcode, $table => $use),
+            X86_64Relocation::R_X86_64_CODE_6_GOTPCRELX => by_operation!(GOT_6, $opcode, $table => $use),
+            X86_64Relocation::R_X86_64_GOTTPOFF => by_access!(GOTTPOFF_3, $opcode, $table => $use),
+            X86_64Relocation::R_X86_64_CODE_4_GOTTPOFF => by_access!(GOTTPOFF_4, $opcode, $table => $use),
+            X86_64Relocation::R_X86_64_CODE_5_GOTTPOFF => by_access!(GOTTPOFF_5, $opcode, $table => $use),
+            X86_64Relocation::R_X86_64_CODE_6_GOTTPOFF => by_access!(GOTTPOFF_6, $opcode, $table => $use),
             X86_64Relocation::R_X86_64_TLSGD => { let $table = TLSGD; $use }
             X86_64Relocation::R_X86_64_TLSLD => { let $table = TLSLD; $use }
             X86_64Relocation::R_X86_64_DTPOFF32 => { let $table = DTPOFF32; $use }
             X86_64Relocation::R_X86_64_DTPOFF64 => { let $table = DTPOFF64; $use }
             X86_64Relocation::R_X86_64_GOTPC32_TLSDESC => { let $table = DESCRIPTOR_3; $use }
-            X86_64Relocation::R_X86_64_CODE_4_GOTPC32_TLSDESC => {
-                let $table = DESCRIPTOR_4;
-                $use
-            }
-            X86_64Relocation::R_X86_64_CODE_5_GOTPC32_TLSDESC => {
-                let $table = DESCRIPTOR_5;
-                $use
-            }
-            X86_64Relocation::R_X86_64_CODE_6_GOTPC32_TLSDESC => {
-                let $table = DESCRIPTOR_6;
-                $use
-            }
+            X86_64Relocation::R_X86_64_CODE_4_GOTPC32_TLSDESC => { let $table = DESCRIPTOR_4; $use }
+            X86_64Relocation::R_X86_64_CODE_5_GOTPC32_TLSDESC => { let $table = DESCRIPTOR_5; $use }
+            X86_64Relocation::R_X86_64_CODE_6_GOTPC32_TLSDESC => { let $table = DESCRIPTOR_6; $use }
             X86_64Relocation::R_X86_64_TLSDESC_CALL => { let $table = TLSDESC_CALL; $use }
             _ => { let $table = OTHERS; $use }
         }
