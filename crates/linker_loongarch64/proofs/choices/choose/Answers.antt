@@ -4,8 +4,8 @@ use Rattle.linker_loongarch64.specs.declared.rewrites.RelaxationKind.TheVariants
 use Rattle.linker_loongarch64.proofs.LoongArchChoices.{first_asked}
 use Rattle.linker_loongarch64.proofs.choices.choose.Goals as goal
 
-pub choice_by-requires-in-R_LARCH_GOT_PC_HI20-clause-table : goal.choice_by-requires-in-R_LARCH_GOT_PC_HI20-clause-table
-choice_by-requires-in-R_LARCH_GOT_PC_HI20-clause-table c =
+pub choice_by-requires-clause-table : goal.choice_by-requires-clause-table
+choice_by-requires-clause-table c =
     let is = c.in-R_LARCH_GOT_PC_HI20.is in
     let near = first_asked c.args.name r.R_LARCH_GOT_PC_HI20 kinds.PcalaToPcaddi is in
     let paged = first_asked c.args.name r.R_LARCH_GOT_PC_HI20 kinds.NoOp is in
