@@ -14,6 +14,19 @@ use linker_utils::ppc64::Ppc64Relocation;
 use linker_utils::riscv64::RiscVRelocation;
 use linker_utils::x86_64::X86_64Relocation;
 
+/// What is found of the relocation's name that an architecture has for a code.
+macro_rules! of_name {
+    ($architecture:expr, $code:expr, $name:ident => $found:expr) => {
+        match $architecture {
+            Architecture::AArch64 => { let $name = AArch64Relocation::from_elf($code); $found }
+            Architecture::RiscV => { let $name = RiscVRelocation::from_elf($code); $found }
+            Architecture::LoongArch64 => { let $name = LoongArch64Relocation::from_elf($code); $found }
+            Architecture::Ppc64 => { let $name = Ppc64Relocation::from_elf($code); $found }
+            Architecture::X86_64 => { let $name = X86_64Relocation::from_elf($code); $found }
+        }
+    };
+}
+
 /// The same with the rewrite as one of all architectures', and the relocation's code.
 fn by_code<N: Rewritten>(found: Option<Made<N::Kind, N>>) -> Option<Made<Relaxation, u32>>
     ensures { result ≡ of_some (by_code N.how) found }
@@ -78,28 +91,9 @@ pub fn recognise(
     requires { length original.now ≤ 64 }
     ensures found { AreFound architecture code original.now offset others.now linked.now result }
 {
-    match architecture {
-        Architecture::AArch64 => {
-            let name = AArch64Relocation::from_elf(code);
-            all_by_code(engine::recognise(name, original, offset, others, linked))
-        }
-        Architecture::RiscV => {
-            let name = RiscVRelocation::from_elf(code);
-            all_by_code(engine::recognise(name, original, offset, others, linked))
-        }
-        Architecture::LoongArch64 => {
-            let name = LoongArch64Relocation::from_elf(code);
-            all_by_code(engine::recognise(name, original, offset, others, linked))
-        }
-        Architecture::Ppc64 => {
-            let name = Ppc64Relocation::from_elf(code);
-            all_by_code(engine::recognise(name, original, offset, others, linked))
-        }
-        Architecture::X86_64 => {
-            let name = X86_64Relocation::from_elf(code);
-            all_by_code(engine::recognise(name, original, offset, others, linked))
-        }
-    }
+    of_name!(architecture, code, name => {
+        all_by_code(engine::recognise(name, original, offset, others, linked))
+    })
 }
 
 /// The choice that `choose` makes by what the linker knows, if it leaves the linked bytes, as
@@ -117,26 +111,7 @@ pub fn recognise_chosen(
     ensures found { IsFoundChosen architecture code original.now offset others.now linked.now
         facts.now result }
 {
-    match architecture {
-        Architecture::AArch64 => {
-            let name = AArch64Relocation::from_elf(code);
-            by_code(engine::recognise_chosen(name, original, offset, others, linked, facts))
-        }
-        Architecture::RiscV => {
-            let name = RiscVRelocation::from_elf(code);
-            by_code(engine::recognise_chosen(name, original, offset, others, linked, facts))
-        }
-        Architecture::LoongArch64 => {
-            let name = LoongArch64Relocation::from_elf(code);
-            by_code(engine::recognise_chosen(name, original, offset, others, linked, facts))
-        }
-        Architecture::Ppc64 => {
-            let name = Ppc64Relocation::from_elf(code);
-            by_code(engine::recognise_chosen(name, original, offset, others, linked, facts))
-        }
-        Architecture::X86_64 => {
-            let name = X86_64Relocation::from_elf(code);
-            by_code(engine::recognise_chosen(name, original, offset, others, linked, facts))
-        }
-    }
+    of_name!(architecture, code, name => {
+        by_code(engine::recognise_chosen(name, original, offset, others, linked, facts))
+    })
 }

@@ -183,13 +183,14 @@ fn choice_of<O, K: Copy, R: Copy>(entry: &'static ChoiceEntry<O, K, R>) -> Choic
 #[cfg_attr(not(debug_assertions), inline(always))]
 fn choice_at<O, K: Copy, R: Copy>(
     entries: &'static [ChoiceEntry<O, K, R>],
-    unchanged: Choice<K, R>,
+    kind: K,
+    relocation: R,
     index: usize,
 ) -> Option<Choice<K, R>> {
     if index < entries.len() {
         Some(choice_of(&entries[index]))
     } else if index == entries.len() {
-        Some(unchanged)
+        Some(Choice { kind, relocation })
     } else {
         None
     }
@@ -212,7 +213,8 @@ fn is_among<O, N: Rewritten>(
 /// is at an offset and leave the linked bytes.
 pub(crate) fn recognise_in<O, N: Rewritten>(
     entries: &'static [ChoiceEntry<O, N::Kind, N>],
-    unchanged: Choice<N::Kind, N>,
+    no_op: N::Kind,
+    name: N,
     original: &[u8],
     offset: u64,
     others: &[FieldBits],
@@ -220,7 +222,7 @@ pub(crate) fn recognise_in<O, N: Rewritten>(
 ) -> [Option<Made<N::Kind, N>>; CANDIDATES] {
     let mut found = [None; CANDIDATES];
     for index in 0..CANDIDATES {
-        let Some(choice) = choice_at(entries, unchanged, index) else {
+        let Some(choice) = choice_at(entries, no_op, name, index) else {
             break;
         };
         if !is_among(&choice, &entries[..index]) && N::matches(choice.kind, original, offset) {

@@ -27,37 +27,27 @@ impl Rewritten for AArch64Relocation {
         self.elf_code()
     }
 
-    fn relaxation(kind: aarch64::RelaxationKind) -> Relaxation {
+    fn relaxation(kind: Self::Kind) -> Relaxation {
         Relaxation::AArch64(kind)
     }
 
-    fn matches(kind: aarch64::RelaxationKind, section: &[u8], offset: u64) -> bool {
+    fn matches(kind: Self::Kind, section: &[u8], offset: u64) -> bool {
         kind.matches(section, offset)
     }
 
-    fn deleted(_kind: aarch64::RelaxationKind) -> Option<DeletedBytes> {
+    fn deleted(_kind: Self::Kind) -> Option<DeletedBytes> {
         None
     }
 
-    fn are_same(
-        a: &Choice<aarch64::RelaxationKind, Self>,
-        b: &Choice<aarch64::RelaxationKind, Self>,
-    ) -> bool {
+    fn are_same(a: &Choice<Self::Kind, Self>, b: &Choice<Self::Kind, Self>) -> bool {
         a.kind == b.kind
-            && matches!(
-                (a.relocation, b.relocation),
-                (Self::R_AARCH64_NONE, Self::R_AARCH64_NONE)
-            )
+            && matches!(a.relocation, Self::R_AARCH64_NONE)
+            && matches!(b.relocation, Self::R_AARCH64_NONE)
     }
 }
 
 impl Recognised for AArch64Relocation {
-    fn choose(
-        self,
-        original: &[u8],
-        offset: u64,
-        facts: &LinkFacts,
-    ) -> Choice<aarch64::RelaxationKind, Self> {
+    fn choose(self, original: &[u8], offset: u64, facts: &LinkFacts) -> Choice<Self::Kind, Self> {
         aarch64::choose(self, original, offset, facts)
     }
 
@@ -68,14 +58,11 @@ impl Recognised for AArch64Relocation {
         offset: u64,
         others: &[FieldBits],
         linked: &[u8],
-    ) -> [Option<Made<aarch64::RelaxationKind, Self>>; CANDIDATES] {
+    ) -> [Option<Made<Self::Kind, Self>>; CANDIDATES] {
         debug_assert!(original.len() <= 64);
-        let unchanged = Choice {
-            kind: aarch64::RelaxationKind::NoOp,
-            relocation: self,
-        };
+        let no_op = aarch64::RelaxationKind::NoOp;
         let entries = aarch64::entries(self);
-        recognise_in(entries, unchanged, original, offset, others, linked)
+        recognise_in(entries, no_op, self, original, offset, others, linked)
     }
 }
 
@@ -86,37 +73,27 @@ impl Rewritten for RiscVRelocation {
         self.elf_code()
     }
 
-    fn relaxation(kind: riscv64::RelaxationKind) -> Relaxation {
+    fn relaxation(kind: Self::Kind) -> Relaxation {
         Relaxation::RiscV(kind)
     }
 
-    fn matches(kind: riscv64::RelaxationKind, section: &[u8], offset: u64) -> bool {
+    fn matches(kind: Self::Kind, section: &[u8], offset: u64) -> bool {
         kind.matches(section, offset)
     }
 
-    fn deleted(kind: riscv64::RelaxationKind) -> Option<DeletedBytes> {
+    fn deleted(kind: Self::Kind) -> Option<DeletedBytes> {
         kind.deleted()
     }
 
-    fn are_same(
-        a: &Choice<riscv64::RelaxationKind, Self>,
-        b: &Choice<riscv64::RelaxationKind, Self>,
-    ) -> bool {
+    fn are_same(a: &Choice<Self::Kind, Self>, b: &Choice<Self::Kind, Self>) -> bool {
         a.kind == b.kind
-            && matches!(
-                (a.relocation, b.relocation),
-                (Self::R_RISCV_NONE, Self::R_RISCV_NONE)
-            )
+            && matches!(a.relocation, Self::R_RISCV_NONE)
+            && matches!(b.relocation, Self::R_RISCV_NONE)
     }
 }
 
 impl Recognised for RiscVRelocation {
-    fn choose(
-        self,
-        original: &[u8],
-        offset: u64,
-        facts: &LinkFacts,
-    ) -> Choice<riscv64::RelaxationKind, Self> {
+    fn choose(self, original: &[u8], offset: u64, facts: &LinkFacts) -> Choice<Self::Kind, Self> {
         riscv64::choose(self, original, offset, facts)
     }
 
@@ -127,14 +104,11 @@ impl Recognised for RiscVRelocation {
         offset: u64,
         others: &[FieldBits],
         linked: &[u8],
-    ) -> [Option<Made<riscv64::RelaxationKind, Self>>; CANDIDATES] {
+    ) -> [Option<Made<Self::Kind, Self>>; CANDIDATES] {
         debug_assert!(original.len() <= 64);
-        let unchanged = Choice {
-            kind: riscv64::RelaxationKind::NoOp,
-            relocation: self,
-        };
+        let no_op = riscv64::RelaxationKind::NoOp;
         let entries = riscv64::entries(self);
-        recognise_in(entries, unchanged, original, offset, others, linked)
+        recognise_in(entries, no_op, self, original, offset, others, linked)
     }
 }
 
@@ -145,37 +119,27 @@ impl Rewritten for LoongArch64Relocation {
         self.elf_code()
     }
 
-    fn relaxation(kind: loongarch64::RelaxationKind) -> Relaxation {
+    fn relaxation(kind: Self::Kind) -> Relaxation {
         Relaxation::LoongArch64(kind)
     }
 
-    fn matches(kind: loongarch64::RelaxationKind, section: &[u8], offset: u64) -> bool {
+    fn matches(kind: Self::Kind, section: &[u8], offset: u64) -> bool {
         kind.matches(section, offset)
     }
 
-    fn deleted(kind: loongarch64::RelaxationKind) -> Option<DeletedBytes> {
+    fn deleted(kind: Self::Kind) -> Option<DeletedBytes> {
         kind.deleted()
     }
 
-    fn are_same(
-        a: &Choice<loongarch64::RelaxationKind, Self>,
-        b: &Choice<loongarch64::RelaxationKind, Self>,
-    ) -> bool {
+    fn are_same(a: &Choice<Self::Kind, Self>, b: &Choice<Self::Kind, Self>) -> bool {
         a.kind == b.kind
-            && matches!(
-                (a.relocation, b.relocation),
-                (Self::R_LARCH_NONE, Self::R_LARCH_NONE)
-            )
+            && matches!(a.relocation, Self::R_LARCH_NONE)
+            && matches!(b.relocation, Self::R_LARCH_NONE)
     }
 }
 
 impl Recognised for LoongArch64Relocation {
-    fn choose(
-        self,
-        original: &[u8],
-        offset: u64,
-        facts: &LinkFacts,
-    ) -> Choice<loongarch64::RelaxationKind, Self> {
+    fn choose(self, original: &[u8], offset: u64, facts: &LinkFacts) -> Choice<Self::Kind, Self> {
         loongarch64::choose(self, original, offset, facts)
     }
 
@@ -186,14 +150,11 @@ impl Recognised for LoongArch64Relocation {
         offset: u64,
         others: &[FieldBits],
         linked: &[u8],
-    ) -> [Option<Made<loongarch64::RelaxationKind, Self>>; CANDIDATES] {
+    ) -> [Option<Made<Self::Kind, Self>>; CANDIDATES] {
         debug_assert!(original.len() <= 64);
-        let unchanged = Choice {
-            kind: loongarch64::RelaxationKind::NoOp,
-            relocation: self,
-        };
+        let no_op = loongarch64::RelaxationKind::NoOp;
         let entries = loongarch64::entries(self);
-        recognise_in(entries, unchanged, original, offset, others, linked)
+        recognise_in(entries, no_op, self, original, offset, others, linked)
     }
 }
 
@@ -204,33 +165,25 @@ impl Rewritten for Ppc64Relocation {
         self.elf_code()
     }
 
-    fn relaxation(kind: ppc64::RelaxationKind) -> Relaxation {
+    fn relaxation(kind: Self::Kind) -> Relaxation {
         Relaxation::Ppc64(kind)
     }
 
-    fn matches(kind: ppc64::RelaxationKind, section: &[u8], offset: u64) -> bool {
+    fn matches(kind: Self::Kind, section: &[u8], offset: u64) -> bool {
         kind.matches(section, offset)
     }
 
-    fn deleted(_kind: ppc64::RelaxationKind) -> Option<DeletedBytes> {
+    fn deleted(_kind: Self::Kind) -> Option<DeletedBytes> {
         None
     }
 
-    fn are_same(
-        _a: &Choice<ppc64::RelaxationKind, Self>,
-        _b: &Choice<ppc64::RelaxationKind, Self>,
-    ) -> bool {
+    fn are_same(_a: &Choice<Self::Kind, Self>, _b: &Choice<Self::Kind, Self>) -> bool {
         false
     }
 }
 
 impl Recognised for Ppc64Relocation {
-    fn choose(
-        self,
-        original: &[u8],
-        offset: u64,
-        facts: &LinkFacts,
-    ) -> Choice<ppc64::RelaxationKind, Self> {
+    fn choose(self, original: &[u8], offset: u64, facts: &LinkFacts) -> Choice<Self::Kind, Self> {
         ppc64::choose(self, original, offset, facts)
     }
 
@@ -241,14 +194,11 @@ impl Recognised for Ppc64Relocation {
         offset: u64,
         others: &[FieldBits],
         linked: &[u8],
-    ) -> [Option<Made<ppc64::RelaxationKind, Self>>; CANDIDATES] {
+    ) -> [Option<Made<Self::Kind, Self>>; CANDIDATES] {
         debug_assert!(original.len() <= 64);
-        let unchanged = Choice {
-            kind: ppc64::RelaxationKind::NoOp,
-            relocation: self,
-        };
+        let no_op = ppc64::RelaxationKind::NoOp;
         let entries = ppc64::entries(self);
-        recognise_in(entries, unchanged, original, offset, others, linked)
+        recognise_in(entries, no_op, self, original, offset, others, linked)
     }
 }
 
@@ -259,22 +209,19 @@ impl Rewritten for X86_64Relocation {
         self.elf_code()
     }
 
-    fn relaxation(kind: x86_64::RelaxationKind) -> Relaxation {
+    fn relaxation(kind: Self::Kind) -> Relaxation {
         Relaxation::X86_64(kind)
     }
 
-    fn matches(kind: x86_64::RelaxationKind, section: &[u8], offset: u64) -> bool {
+    fn matches(kind: Self::Kind, section: &[u8], offset: u64) -> bool {
         kind.matches(section, offset)
     }
 
-    fn deleted(_kind: x86_64::RelaxationKind) -> Option<DeletedBytes> {
+    fn deleted(_kind: Self::Kind) -> Option<DeletedBytes> {
         None
     }
 
-    fn are_same(
-        a: &Choice<x86_64::RelaxationKind, Self>,
-        b: &Choice<x86_64::RelaxationKind, Self>,
-    ) -> bool {
+    fn are_same(a: &Choice<Self::Kind, Self>, b: &Choice<Self::Kind, Self>) -> bool {
         a.kind == b.kind
             && matches!(
                 (a.relocation, b.relocation),
@@ -284,12 +231,7 @@ impl Rewritten for X86_64Relocation {
 }
 
 impl Recognised for X86_64Relocation {
-    fn choose(
-        self,
-        original: &[u8],
-        offset: u64,
-        facts: &LinkFacts,
-    ) -> Choice<x86_64::RelaxationKind, Self> {
+    fn choose(self, original: &[u8], offset: u64, facts: &LinkFacts) -> Choice<Self::Kind, Self> {
         x86_64::choose(self, original, offset, facts)
     }
 
@@ -300,14 +242,11 @@ impl Recognised for X86_64Relocation {
         offset: u64,
         others: &[FieldBits],
         linked: &[u8],
-    ) -> [Option<Made<x86_64::RelaxationKind, Self>>; CANDIDATES] {
+    ) -> [Option<Made<Self::Kind, Self>>; CANDIDATES] {
         debug_assert!(original.len() <= 64);
-        let unchanged = Choice {
-            kind: x86_64::RelaxationKind::NoOp,
-            relocation: self,
-        };
+        let no_op = x86_64::RelaxationKind::NoOp;
         let entries = x86_64::entries(self, opcode_before(original, offset));
-        recognise_in(entries, unchanged, original, offset, others, linked)
+        recognise_in(entries, no_op, self, original, offset, others, linked)
     }
 }
 
