@@ -51,6 +51,9 @@ pub mod recognise {
     pub use crate::linker_recognise::fields::{
         FieldBits, field_bits, same_but_for, writes_change_fields,
     };
-    pub use crate::linker_recognise::{CANDIDATES, MAX_WINDOW, Made};
-    pub use crate::linker_recognise::{aarch64, architecture, loongarch64, ppc64, riscv64, x86_64};
+    pub use crate::linker_recognise::architecture;
+    pub use crate::linker_recognise::{
+        CANDIDATES, MAX_WINDOW, Made, Recognised, Rewritten, recognise, recognise_chosen,
+        written_choices_are_left,
+    };
 }

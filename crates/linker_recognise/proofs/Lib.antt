@@ -1,10 +1,7 @@
-pub mod AArch64Made
+pub mod Chosen
 pub mod FieldBits
-pub mod Kept
-pub mod LoongArchMade
-pub mod Ppc64Made
+pub mod Found
 pub mod Read
-pub mod RiscVMade
 pub mod Same
 pub mod Tables
 pub mod WindowBits
@@ -12,4 +9,3 @@ pub mod Written
 pub mod WrittenBits
 pub mod WrittenLeft
 pub mod WrittenRows
-pub mod X86Made

@@ -1,22 +1,12 @@
 -- The choices of the code's entries are those of the definition's.
-use Rattle.std.proofs.Common.{◌≡◌, ◌≤◌, ◌<◌, ◌+◌, ℕ, zero, suc, List, [], ◌∷◌, Option, Some, None, length, get_or, slice_get, refl, ap, ◌∙◌, sym, arith}
+use Rattle.std.proofs.Common.{◌≡◌, ◌≤◌, ◌<◌, ◌+◌, ℕ, zero, suc, List, [], ◌∷◌, Some, None, length, map, take, get_or, slice_get, refl, inl, inr, ap, ◌∙◌, arith}
+use Rattle.std.proofs.lemmas.Option.{none-some}
 use Rattle.linker_elf.specs.Choices.{Entry, choice}
 use Rattle.linker_elf.specs.Inner.ChoiceTables.{IsTableOf}
 use Rattle.linker_elf.specs.declared.elf.choice.Choice.{Choice}
 use Rattle.linker_elf.specs.declared.elf.choice_table.ChoiceEntry.{ChoiceEntry}
-use Rattle.linker_recognise.specs.Inner.Candidates.{choices_in, padded}
-use Rattle.linker_recognise.specs.Recognised.{choices_of}
-
-pub six_of : {A : Type 0} → (xs : List A) → length xs ≤ 6 → padded xs
-    ≡ slice_get xs 0 ∷ slice_get xs 1 ∷ slice_get xs 2 ∷ slice_get xs 3 ∷ slice_get xs 4 ∷ slice_get xs 5 ∷ []
-six_of [] short = refl
-six_of (a ∷ []) short = refl
-six_of (a ∷ b ∷ []) short = refl
-six_of (a ∷ b ∷ c ∷ []) short = refl
-six_of (a ∷ b ∷ c ∷ d ∷ []) short = refl
-six_of (a ∷ b ∷ c ∷ d ∷ e ∷ []) short = refl
-six_of (a ∷ b ∷ c ∷ d ∷ e ∷ f ∷ []) short = refl
-six_of (a ∷ b ∷ c ∷ d ∷ e ∷ f ∷ g ∷ xs) short = absurd (omega arith)
+use Rattle.linker_recognise.specs.Inner.Found.{choice_in, choices_in}
+use Rattle.linker_recognise.specs.Recognised.{IsOneOf, choices_of}
 
 pub one_more : {O K R : Type 0} → (es : List (ChoiceEntry O K R)) (otherwise : Choice K R)
     → length (choices_in es otherwise) ≡ length es + 1
@@ -53,14 +43,29 @@ behind_end [] otherwise (suc i) end = refl
 behind_end (e ∷ es) otherwise zero end = absurd (omega (arith, end))
 behind_end (e ∷ es) otherwise (suc i) end = behind_end es otherwise i (omega (arith, end))
 
-pub same_six : {A : Type 0} → (xs : List A) (a b c d e f : Option A) → a ≡ slice_get xs 0 → b ≡ slice_get xs 1
-    → c ≡ slice_get xs 2 → d ≡ slice_get xs 3 → e ≡ slice_get xs 4 → f ≡ slice_get xs 5 → length xs ≤ 6
-    → a ∷ b ∷ c ∷ d ∷ e ∷ f ∷ [] ≡ padded xs
-same_six xs a b c d e f at0 at1 at2 at3 at4 at5 short =
-    ap (λ x. x ∷ b ∷ c ∷ d ∷ e ∷ f ∷ []) at0
-    ∙ ap (λ x. slice_get xs 0 ∷ x ∷ c ∷ d ∷ e ∷ f ∷ []) at1
-    ∙ ap (λ x. slice_get xs 0 ∷ slice_get xs 1 ∷ x ∷ d ∷ e ∷ f ∷ []) at2
-    ∙ ap (λ x. slice_get xs 0 ∷ slice_get xs 1 ∷ slice_get xs 2 ∷ x ∷ e ∷ f ∷ []) at3
-    ∙ ap (λ x. slice_get xs 0 ∷ slice_get xs 1 ∷ slice_get xs 2 ∷ slice_get xs 3 ∷ x ∷ f ∷ []) at4
-    ∙ ap (λ x. slice_get xs 0 ∷ slice_get xs 1 ∷ slice_get xs 2 ∷ slice_get xs 3 ∷ slice_get xs 4 ∷ x ∷ []) at5
-    ∙ sym (six_of xs short)
+pub behind : {A : Type 0} (a : A) (xs : List A) (i : ℕ) → slice_get xs i ≡ Some a → i < length xs
+behind a [] i e = absurd (none-some a e)
+behind a (x ∷ xs) zero e = omega arith
+behind a (x ∷ xs) (suc i) e = let h = behind a xs i e in omega arith
+
+-- one of the first entries' choices has its place
+pub listed_before : {O K R : Type 0} → (es : List (ChoiceEntry O K R)) (otherwise : Choice K R) (n : ℕ) (c : Choice K R)
+    → IsOneOf c (map choice_in (take n es)) → (j : ℕ) × ((j < n) × (slice_get (choices_in es otherwise) j ≡ Some c))
+listed_before es otherwise zero c h = absurd h
+listed_before [] otherwise (suc n) c h = absurd h
+listed_before (e ∷ es) otherwise (suc n) c (inl is) = (0, (omega arith, ap Some is))
+listed_before (e ∷ es) otherwise (suc n) c (inr h) =
+    let rest = listed_before es otherwise n c h in (suc rest.0, (omega (arith, rest.1.0), rest.1.1))
+
+-- what has a place is an entry's choice or the last one
+pub within_entries : {O K R : Type 0} → (es : List (ChoiceEntry O K R)) (otherwise : Choice K R) (i : ℕ) (c : Choice K R)
+    → slice_get (choices_in es otherwise) i ≡ Some c → i ≤ length es
+within_entries es otherwise i c at =
+    let h = behind c (choices_in es otherwise) i at in omega (arith, h, one_more es otherwise)
+
+-- the choice of an entry by its index
+pub one_entry : {O K R : Type 0} → (es : List (ChoiceEntry O K R)) (i : ℕ) (d : ChoiceEntry O K R) (c : Choice K R)
+    → i < length es → choice_in (get_or es i d) ≡ c → IsOneOf c (map choice_in es)
+one_entry [] i d c h e = absurd (omega (arith, h))
+one_entry (x ∷ es) zero d c h e = inl e
+one_entry (x ∷ es) (suc i) d c h e = inr (one_entry es i d c (omega (arith, h)) e)

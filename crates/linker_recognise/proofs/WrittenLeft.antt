@@ -4,10 +4,10 @@ use Rattle.std.specs.Prelude.{slice_index, if◌then◌else◌}
 use Rattle.std.specs.Int.{bit_at}
 use Rattle.std.proofs.lemmas.Bool.{cases_lt, lt-ltb, le-ltb}
 use Rattle.std.proofs.lemmas.List.{get_or_append_left, get_or-append_right, get_or-take, get_or-drop, length-take-le}
-use Rattle.linker_base.specs.Rewrite.{Rewrite, rewritten, offset_after}
+use Rattle.linker_base.specs.Rewrite.{rewritten, offset_after}
 use Rattle.linker_elf.specs.declared.elf.RelocationKindInfo.{RelocationKindInfo}
 use Rattle.linker_recognise.specs.Fields.{is_in_field, is_in_one, kept_index, AreSameBut}
-use Rattle.linker_recognise.specs.Recognised.{AreLeft, deleted_start, deleted_count}
+use Rattle.linker_recognise.specs.Recognised.{Recogniser, AreLeft, deleted_start, deleted_count}
 use Rattle.linker_recognise.specs.WrittenRows.{WrittenIsLeft, without_deleted}
 use Rattle.linker_recognise.specs.declared.fields.FieldBits.{FieldBits}
 use Rattle.linker_recognise.proofs.Written.{written_is_left, no_gap}
@@ -62,14 +62,13 @@ left_without row deleted section whole at o others inside left =
       same = same_without (is_in_field row at section) others (deleted_start deleted o) (deleted_count deleted) section whole (omega arith) left.same;
     }
 
-pub written_choice_is_left : {K R : Type 0} (rewrite : K → Option Rewrite) (row_of : R → Option RelocationKindInfo) (deleted : K → Option DeletedBytes)
-    → WrittenIsLeft rewrite row_of deleted
-written_choice_is_left rewrite row_of deleted c row original o v written others e can inside room bytes writes =
-    let section = rewritten (rewrite c.kind) original o in
-    let at = offset_after (rewrite c.kind) o in
+pub written_choice_is_left : {K R : Type 0} (it : Recogniser K R) → WrittenIsLeft it
+written_choice_is_left it c row original o v written others e can inside room bytes writes =
+    let section = rewritten (it.rewrite c.kind) original o in
+    let at = offset_after (it.rewrite c.kind) o in
     let left = written_is_left row section written at o others inside (row_changes_field row v (drop at section) written bytes writes) in
     record {
       rewritable = can;
-      left = subst (λ (found : Option RelocationKindInfo). AreLeft section at found (deleted c.kind) o others (without_deleted (deleted c.kind) o (take at section ++ written))) (sym e)
-          (left_without (Some row) (deleted c.kind) section (take at section ++ written) at o others room left);
+      left = subst (λ (found : Option RelocationKindInfo). AreLeft section at found (it.deleted c.kind) o others (without_deleted (it.deleted c.kind) o (take at section ++ written))) (sym e)
+          (left_without (Some row) (it.deleted c.kind) section (take at section ++ written) at o others room left);
     }

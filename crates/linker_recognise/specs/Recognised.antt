@@ -1,6 +1,6 @@
 -- What a linker made of a relocation: the choices of a rewrite that leave the linked bytes.
 use Rattle.std.specs.Prelude.{◌≡◌, ◌⊎◌, ◌≤◌, ◌+◌, ◌-◌, ℕ, List, [], ◌∷◌, length, drop, min}
-use Rattle.std.specs.Prelude.{Option, Some, None, ⊤}
+use Rattle.std.specs.Prelude.{Option, Some, None, ⊤, slice_get, slice_index_or}
 use Rattle.linker_base.specs.Rewrite.{Rewrite, CanRewrite, rewritten, offset_after}
 use Rattle.linker_elf.specs.Relocate.{window_len}
 use Rattle.linker_elf.specs.declared.elf.RelocationKindInfo.{RelocationKindInfo}
@@ -9,8 +9,11 @@ use Rattle.linker_reads.specs.declared.fields.FieldValue.{FieldValue}
 use Rattle.linker_recognise.specs.Fields.{is_in_field, AreSameBut}
 use Rattle.linker_recognise.specs.declared.engine.Made.{Made}
 use Rattle.linker_recognise.specs.declared.fields.FieldBits.{FieldBits}
-use Rattle.linker_elf.specs.Choices.{Entry, choice}
+use Rattle.linker_elf.specs.Choices.{Entry, IsFirst, choice}
+use Rattle.linker_elf.specs.ElfNames.{ElfName}
 use Rattle.linker_elf.specs.declared.elf.choice.Choice.{Choice}
+use Rattle.linker_elf.specs.declared.elf.choice.LinkFacts.{LinkFacts}
+use Rattle.linker_utils.specs.declared.architecture.Relaxation.{Relaxation}
 use Rattle.linker_base.specs.declared.rewrite.DeletedBytes.{DeletedBytes}
 
 -- ---- what a rewrite leaves
@@ -68,33 +71,78 @@ pub record IsRead (rewrite : Option Rewrite) (row : Option RelocationKindInfo)
   pub at_is : at ≡ linked_offset deleted o (offset_after rewrite o)
   pub value_is : value ≡ value_at row at linked
 
+-- ---- what an architecture brings
+
+-- What is recognised of an architecture: its tables, rewrites and relocations. K are its rewrites, R
+-- the names of its relocations.
+pub record Recogniser (K R : Type 0) : Type 1 where
+  -- the entries of the table at a relocation at an offset of bytes, and whether one of them applies
+  -- by what a linker knows
+  pub entries : R → List ℕ → ℕ → List (Entry K R)
+  pub applies : R → List ℕ → ℕ → LinkFacts → Entry K R → Type 0
+  -- the rewrite that changes nothing
+  pub no_op : K
+  -- a rewrite is meant for what is at an offset
+  pub matches : K → List ℕ → ℕ → Type 0
+  pub rewrite : K → Option Rewrite
+  -- the bytes that are deleted after a rewrite
+  pub deleted : K → Option DeletedBytes
+  pub row : R → Option RelocationKindInfo
+  -- how ELF names a relocation
+  pub elf_name : R → ElfName
+  -- a rewrite as one of all architectures'
+  pub relaxation : K → Relaxation
+
 -- ---- which choices there are
+
+abbrev pub IsOneOf : {A : Type 0} → A → List A → Type 0
+IsOneOf a [] = ⊥
+IsOneOf a (x ∷ xs) = (x ≡ a) ⊎ IsOneOf a xs
 
 -- those of a table's entries, and the last one
 abbrev pub choices_of : {K R : Type 0} → List (Entry K R) → Choice K R → List (Choice K R)
 choices_of [] otherwise = otherwise ∷ []
 choices_of (e ∷ es) otherwise = choice e.kind e.relocation ∷ choices_of es otherwise
 
-abbrev pub IsOneOf : {A : Type 0} → A → List A → Type 0
-IsOneOf a [] = ⊥
-IsOneOf a (x ∷ xs) = (x ≡ a) ⊎ IsOneOf a xs
+-- those at a relocation: the last one leaves the instruction and the relocation
+abbrev pub choices_at : {K R : Type 0} → Recogniser K R → R → List ℕ → ℕ → List (Choice K R)
+choices_at it name original o =
+    choices_of (it.entries name original o) (choice it.no_op name)
 
--- It is one of some choices, its rewrite is meant for what is there, and it leaves the linked
--- bytes.
-pub record IsMade {K R : Type 0} (choices : List (Choice K R))
-    (Matches : K → List ℕ → ℕ → Type 0)
-    (Leaves : Choice K R → List ℕ → ℕ → List FieldBits → List ℕ → Type 0) (original : List ℕ)
-    (o : ℕ) (others : List FieldBits) (linked : List ℕ) (c : Choice K R) : Type 0 where
-  pub listed : IsOneOf c choices
-  pub matches : Matches c.kind original o
-  pub leaves : Leaves c original o others linked
+-- the one that is made by what a linker knows
+abbrev pub IsChosen : {K R : Type 0} → Recogniser K R → R → List ℕ → ℕ → LinkFacts → Choice K R
+    → Type 0
+IsChosen it name original o facts c =
+    IsFirst (it.applies name original o facts) (it.entries name original o)
+    (choice it.no_op name) c
 
--- The choice was made, with the offset of its relocation's field and what is known of the value.
-abbrev pub IsFound : {K R : Type 0} → (Choice K R → Type 0)
-    → (Choice K R → ℕ → Option FieldValue → Type 0) → Made K R → Type 0
-IsFound IsMade Reads m = IsMade m.choice × Reads m.choice m.offset m.value
+-- ---- which of them were made
+
+-- The choice leaves the linked bytes, its field is at that offset of them, and that is known of the
+-- value.
+pub record IsMade {K R : Type 0} (it : Recogniser K R) (original : List ℕ) (o : ℕ)
+    (others : List FieldBits) (linked : List ℕ) (m : Made K R) : Type 0 where
+  pub leaves :
+      IsLeft (it.rewrite m.choice.kind) (it.row m.choice.relocation) (it.deleted m.choice.kind)
+      original o others linked
+  pub reads :
+      IsRead (it.rewrite m.choice.kind) (it.row m.choice.relocation) (it.deleted m.choice.kind) o
+      linked m.offset m.value
+
+-- It is one of the choices at a relocation, its rewrite is meant for what is there, and it was made.
+pub record IsFound {K R : Type 0} (it : Recogniser K R) (name : R) (original : List ℕ) (o : ℕ)
+    (others : List FieldBits) (linked : List ℕ) (m : Made K R) : Type 0 where
+  pub listed : IsOneOf m.choice (choices_at it name original o)
+  pub matches : it.matches m.choice.kind original o
+  pub made : IsMade it original o others linked m
 
 -- Those that were found are those that are so.
 pub record AreThose {A : Type 0} (IsSo : A → Type 0) (found : List (Option A)) : Type 0 where
   pub only : (a : A) → IsOneOf (Some a) found → IsSo a
   pub all : (a : A) → IsSo a → IsOneOf (Some a) found
+
+-- Each of those that were found has the place of its choice.
+abbrev pub ArePlaced : {K R : Type 0} → List (Choice K R) → List (Option (Made K R)) → Type 0
+ArePlaced {K} {R} choices found =
+    (i : ℕ) (m : Made K R) → slice_index_or found i None ≡ Some m
+    → slice_get choices i ≡ Some m.choice

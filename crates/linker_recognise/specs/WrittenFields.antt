@@ -1,13 +1,16 @@
 -- What a write of a relocation's value leaves is what is recognised.
-use Rattle.std.specs.Prelude.{◌≡◌, ◌≤◌, ℕ, List, ◌++◌, length, take, drop, ℤ, Some}
+use Rattle.std.specs.Prelude.{◌≡◌, ◌≤◌, ℕ, List, ◌++◌, length, take, drop, ℤ, None, Some}
 use Rattle.linker_base.specs.Rewrite.{CanRewrite, rewritten, offset_after}
 use Rattle.linker_elf.specs.Relocate.{WritesRow}
 use Rattle.linker_elf.specs.X86Relocations.{x86_64_row}
 use Rattle.linker_elf.specs.declared.elf.RelocationKindInfo.{RelocationKindInfo}
+use Rattle.linker_elf.specs.declared.elf.choice.Choice.{Choice}
+use Rattle.linker_elf.specs.declared.x86_64.relocations.X86_64Relocation.{X86_64Relocation}
 use Rattle.linker_recognise.specs.Fields.{AreSameButFor}
-use Rattle.linker_recognise.specs.X86Recognised.{X86Choice, X86Leaves}
+use Rattle.linker_recognise.specs.Recognised.{IsLeft}
 use Rattle.linker_recognise.specs.declared.fields.FieldBits.{FieldBits}
 use Rattle.linker_x86_64.specs.X86.{x86_64_rewrite}
+use Rattle.linker_x86_64.specs.declared.rewrites.RelaxationKind.{RelaxationKind}
 
 -- a write changes bits of the row's field only
 abbrev pub WritesField : RelocationKindInfo → Type 0
@@ -18,7 +21,7 @@ WritesField row =
 -- at the offset after it, the choice leaves these bytes, whatever else is ignored.
 abbrev pub X86WrittenIsLeft : Type 0
 X86WrittenIsLeft =
-    (c : X86Choice) (row : RelocationKindInfo) (original : List ℕ) (o : ℕ) (v : ℤ)
+    (c : Choice RelaxationKind X86_64Relocation) (row : RelocationKindInfo) (original : List ℕ) (o : ℕ) (v : ℤ)
     (written : List ℕ) (others : List FieldBits)
     → x86_64_row c.relocation ≡ Some row
     → CanRewrite (x86_64_rewrite c.kind) original o
@@ -26,6 +29,6 @@ X86WrittenIsLeft =
     → WritesRow row v
     (drop (offset_after (x86_64_rewrite c.kind) o) (rewritten (x86_64_rewrite c.kind) original o))
     written
-    → X86Leaves c original o others
+    → IsLeft (x86_64_rewrite c.kind) (x86_64_row c.relocation) None original o others
     (take (offset_after (x86_64_rewrite c.kind) o) (rewritten (x86_64_rewrite c.kind) original o)
     ++ written)

@@ -1,14 +1,11 @@
 //! What a linker made of a relocation, by its architecture and its code.
 
-ghost use Rattle.std.specs.Prelude.{◌≡◌, ◌≤◌, length, map, Some};
+ghost use Rattle.std.specs.Prelude.{◌≡◌, ◌≤◌, length, map};
 ghost use Rattle.linker_recognise.specs.FoundByCode.{by_code, AreFound, IsFoundChosen};
-ghost use Rattle.linker_recognise.specs.Recognised.{IsOneOf};
-ghost use Rattle.linker_utils.specs.Architectures.{of_some, relaxation_architecture};
+ghost use Rattle.linker_utils.specs.Architectures.{of_some};
 
-use crate::candidates::CANDIDATES;
-use crate::engine::{Kind, Made, Name};
+use crate::engine::{self, CANDIDATES, Made, Rewritten};
 use crate::fields::FieldBits;
-use crate::{aarch64, loongarch64, ppc64, riscv64, x86_64};
 use linker_utils::aarch64::AArch64Relocation;
 use linker_utils::architecture::Relaxation;
 use linker_utils::elf::{Architecture, Choice, LinkFacts};
@@ -17,14 +14,27 @@ use linker_utils::ppc64::Ppc64Relocation;
 use linker_utils::riscv64::RiscVRelocation;
 use linker_utils::x86_64::X86_64Relocation;
 
+/// What is found of the relocation's name that an architecture has for a code.
+macro_rules! of_name {
+    ($architecture:expr, $code:expr, $name:ident => $found:expr) => {
+        match $architecture {
+            Architecture::AArch64 => { let $name = AArch64Relocation::from_elf($code); $found }
+            Architecture::RiscV => { let $name = RiscVRelocation::from_elf($code); $found }
+            Architecture::LoongArch64 => { let $name = LoongArch64Relocation::from_elf($code); $found }
+            Architecture::Ppc64 => { let $name = Ppc64Relocation::from_elf($code); $found }
+            Architecture::X86_64 => { let $name = X86_64Relocation::from_elf($code); $found }
+        }
+    };
+}
+
 /// The same with the rewrite as one of all architectures', and the relocation's code.
-fn by_code<K: Kind, R: Name>(found: Option<Made<K, R>>) -> Option<Made<Relaxation, u32>>
-    ensures { result ≡ of_some (by_code K.relaxation_of R.elf_name) found }
+fn by_code<N: Rewritten>(found: Option<Made<N::Kind, N>>) -> Option<Made<Relaxation, u32>>
+    ensures { result ≡ of_some (by_code N.how) found }
 {
     match found {
         Some(made) => Some(Made {
             choice: Choice {
-                kind: made.choice.kind.relaxation(),
+                kind: N::relaxation(made.choice.kind),
                 relocation: made.choice.relocation.code(),
             },
             offset: made.offset,
@@ -35,11 +45,11 @@ fn by_code<K: Kind, R: Name>(found: Option<Made<K, R>>) -> Option<Made<Relaxatio
 }
 
 /// The same of each.
-fn all_by_code<K: Kind, R: Name>(
-    found: [Option<Made<K, R>>; CANDIDATES],
+fn all_by_code<N: Rewritten>(
+    found: [Option<Made<N::Kind, N>>; CANDIDATES],
 ) -> [Option<Made<Relaxation, u32>>; CANDIDATES]
     requires { length found ≡ 6 }
-    ensures { result ≡ map (of_some (by_code K.relaxation_of R.elf_name)) found }
+    ensures { result ≡ map (of_some (by_code N.how)) found }
 {
     let [a, b, c, d, e, f] = found;
     [
@@ -53,8 +63,7 @@ fn all_by_code<K: Kind, R: Name>(
 }
 
 /// Which rewrites, and relocations after them, a linker may have made at the relocation with a
-/// code, `r_type` in ELF files, as `recognise` of `aarch64`, `riscv64`, `loongarch64`, `ppc64` and
-/// `x86_64` says.
+/// code, `r_type` in ELF files, as `recognise` of this crate says.
 ///
 /// ```
 /// use linker_recognise::architecture::recognise;
@@ -82,32 +91,13 @@ pub fn recognise(
     requires { length original.now ≤ 64 }
     ensures found { AreFound architecture code original.now offset others.now linked.now result }
 {
-    match architecture {
-        Architecture::AArch64 => {
-            let name = AArch64Relocation::from_elf(code);
-            all_by_code(aarch64::recognise(name, original, offset, others, linked))
-        }
-        Architecture::RiscV => {
-            let name = RiscVRelocation::from_elf(code);
-            all_by_code(riscv64::recognise(name, original, offset, others, linked))
-        }
-        Architecture::LoongArch64 => {
-            let name = LoongArch64Relocation::from_elf(code);
-            all_by_code(loongarch64::recognise(name, original, offset, others, linked))
-        }
-        Architecture::Ppc64 => {
-            let name = Ppc64Relocation::from_elf(code);
-            all_by_code(ppc64::recognise(name, original, offset, others, linked))
-        }
-        Architecture::X86_64 => {
-            let name = X86_64Relocation::from_elf(code);
-            all_by_code(x86_64::recognise(name, original, offset, others, linked))
-        }
-    }
+    of_name!(architecture, code, name => {
+        all_by_code(engine::recognise(name, original, offset, others, linked))
+    })
 }
 
 /// The choice that `choose` makes by what the linker knows, if it leaves the linked bytes, as
-/// `recognise_chosen` of the architecture's module says.
+/// `recognise_chosen` of this crate says.
 pub fn recognise_chosen(
     architecture: Architecture,
     code: u32,
@@ -121,26 +111,7 @@ pub fn recognise_chosen(
     ensures found { IsFoundChosen architecture code original.now offset others.now linked.now
         facts.now result }
 {
-    match architecture {
-        Architecture::AArch64 => {
-            let name = AArch64Relocation::from_elf(code);
-            by_code(aarch64::recognise_chosen(name, original, offset, others, linked, facts))
-        }
-        Architecture::RiscV => {
-            let name = RiscVRelocation::from_elf(code);
-            by_code(riscv64::recognise_chosen(name, original, offset, others, linked, facts))
-        }
-        Architecture::LoongArch64 => {
-            let name = LoongArch64Relocation::from_elf(code);
-            by_code(loongarch64::recognise_chosen(name, original, offset, others, linked, facts))
-        }
-        Architecture::Ppc64 => {
-            let name = Ppc64Relocation::from_elf(code);
-            by_code(ppc64::recognise_chosen(name, original, offset, others, linked, facts))
-        }
-        Architecture::X86_64 => {
-            let name = X86_64Relocation::from_elf(code);
-            by_code(x86_64::recognise_chosen(name, original, offset, others, linked, facts))
-        }
-    }
+    of_name!(architecture, code, name => {
+        by_code(engine::recognise_chosen(name, original, offset, others, linked, facts))
+    })
 }

@@ -1,27 +1,30 @@
-//! Whether a choice of a rewrite leaves the linked bytes, and what then stands in its field.
+//! Which choices of a table leave the linked bytes, and what then stands in the field.
 
-ghost use Rattle.std.specs.Prelude.{◌≡◌, ℕ, ◌+◌, ◌-◌, ◌^◌, ◌≤◌, ◌↔◌, IsTrue, IfSome, IfNone};
-ghost use Rattle.std.specs.Prelude.{length, min, List, Option, Some};
-ghost use Rattle.linker_base.specs.Rewrite.{rewritten, offset_after, CanRewrite};
-ghost use Rattle.linker_recognise.specs.Fields.{is_in, is_in_field, AreSameBut};
-ghost use Rattle.linker_elf.specs.ElfNames.{ElfName, code_of};
-ghost use Rattle.linker_elf.specs.declared.elf.RelocationKindInfo.{RelocationKindInfo};
-ghost use Rattle.linker_recognise.specs.Inner.Candidates.{padded, IsKept, LeavesRead};
-ghost use Rattle.linker_recognise.specs.Recognised.{HasField, IsLeft, AreLeft, deleted_start};
-ghost use Rattle.linker_recognise.specs.Recognised.{deleted_count, linked_offset, value_at};
-ghost use Rattle.linker_recognise.specs.Recognised.{IsRead, IsOneOf, AreThose, IsMade, IsFound};
-ghost use Rattle.linker_utils.specs.declared.architecture.Relaxation.{Relaxation};
+ghost use Rattle.std.specs.Prelude.{◌≡◌, ℕ, ◌-◌, ◌^◌, ◌≤◌, ◌↔◌, IsTrue, IfSome, IfNone};
+ghost use Rattle.std.specs.Prelude.{length, map, min, List, Option, Some, slice_get};
 ghost use Rattle.linker_base.specs.declared.rewrite.DeletedBytes.{DeletedBytes};
+ghost use Rattle.linker_elf.specs.Choices.{choice};
+ghost use Rattle.linker_elf.specs.ElfNames.{code_of};
 ghost use Rattle.linker_elf.specs.declared.elf.choice.Choice.{Choice};
+ghost use Rattle.linker_elf.specs.declared.elf.choice.LinkFacts.{LinkFacts};
+ghost use Rattle.linker_recognise.specs.Fields.{is_in, is_in_field};
+ghost use Rattle.linker_recognise.specs.Inner.Found.{AreFoundOf, IsMeant, choice_in, choices_in};
+ghost use Rattle.linker_recognise.specs.Recognised.{HasField, AreLeft, deleted_start, deleted_count};
+ghost use Rattle.linker_recognise.specs.Recognised.{linked_offset, value_at, Recogniser};
+ghost use Rattle.linker_recognise.specs.Recognised.{choices_at, IsChosen, IsMade, IsFound};
+ghost use Rattle.linker_recognise.specs.Recognised.{IsOneOf, AreThose, ArePlaced};
 
-use crate::candidates::CANDIDATES;
 use crate::fields::{FieldBits, are_same_but};
+use linker_elf::elf::choice_table::{ChoiceEntry, RelocationName};
 use linker_elf::elf::{InstructionRewrite, Row};
 use linker_reads::fields::FieldValue;
 use linker_reads::reading::read;
 use linker_utils::architecture::Relaxation;
-use linker_utils::elf::Choice;
+use linker_utils::elf::{Choice, LinkFacts};
 use linker_utils::riscv64::DeletedBytes;
+
+/// How many choices a relocation may have.
+pub const CANDIDATES: usize = 6;
 
 /// How long the windows of original bytes may be.
 pub const MAX_WINDOW: usize = 64;
@@ -115,62 +118,78 @@ fn value_at(row: &Option<Row>, at: u64, linked: &[u8]) -> Option<FieldValue>
     }
 }
 
-/// A rewrite of an architecture, with what it is meant for and what is deleted after it.
-pub(crate) trait Kind: InstructionRewrite {
-    // what it is meant for is at an offset of a section
-    ghost matches: { Self → List ℕ → ℕ → Type 0 };
+/// A relocation's name, with the rewrites of its architecture.
+pub trait Rewritten: RelocationName {
+    /// The rewrites.
+    type Kind: InstructionRewrite;
 
-    // the bytes that are deleted after it
-    ghost deleted: { Self → Option DeletedBytes };
+    // the tables, rewrites and relocations
+    ghost how: { Recogniser Self.Kind Self };
 
-    // as one of the rewrites of all architectures
-    ghost relaxation_of: { Self → Relaxation };
+    /// The code, `r_type` in ELF files.
+    fn code(self) -> u32
+        ensures { result ≡ code_of (how.elf_name self) };
 
-    fn is_meant_for(self, section: &[u8], offset: u64) -> bool
-        ensures { IsTrue result ↔ matches self section.now offset };
+    /// A rewrite as one of all architectures'.
+    fn relaxation(kind: Self::Kind) -> Relaxation
+        ensures { result ≡ how.relaxation kind };
 
-    fn deleted_bytes(self) -> Option<DeletedBytes>
-        ensures { result ≡ deleted self };
+    /// Whether a rewrite is meant for what is at an offset of a section.
+    fn matches(kind: Self::Kind, section: &[u8], offset: u64) -> bool
+        ensures { IsTrue result ↔ how.matches kind section.now offset };
 
-    fn is(self, other: Self) -> bool
-        ensures { IsTrue result → self ≡ other };
+    /// The bytes that are deleted after a rewrite.
+    fn deleted(kind: Self::Kind) -> Option<DeletedBytes>
+        ensures { result ≡ how.deleted kind };
 
-    fn relaxation(self) -> Relaxation
-        ensures { result ≡ relaxation_of self };
+    /// Whether both are the same one of the choices that a table lists twice.
+    fn are_same(a: &Choice<Self::Kind, Self>, b: &Choice<Self::Kind, Self>) -> bool
+        ensures { IsTrue result → a.now ≡ b.now };
+
+    ghost rewrites: { Self.Kind.rewrite ≡ how.rewrite };
+
+    ghost rows: { Self.row_of ≡ how.row };
 }
 
-/// A relocation's name.
-pub(crate) trait Name: Copy {
-    // its row
-    ghost row_of: { Self → Option RelocationKindInfo };
+/// A relocation's name, with the table of its choices.
+pub trait Recognised: Rewritten {
+    /// The choice by what a linker knows.
+    fn choose(self, original: &[u8], offset: u64, facts: &LinkFacts) -> Choice<Self::Kind, Self>
+        ensures { IsChosen Self.how self original.now offset facts.now result };
 
-    // how ELF names it
-    ghost elf_name: { Self → ElfName };
+    /// Those choices of the table that are meant for what is at the offset and leave the linked
+    /// bytes, as `recognise` says.
+    fn recognise_listed(
+        self,
+        original: &[u8],
+        offset: u64,
+        others: &[FieldBits],
+        linked: &[u8],
+    ) -> [Option<Made<Self::Kind, Self>>; CANDIDATES]
+        requires { length original.now ≤ 64 }
+        ensures found { AreThose (IsFound Self.how self original.now offset others.now linked.now)
+            result }
+        ensures placed { ArePlaced (choices_at Self.how self original.now offset) result };
 
-    fn find_row(self) -> Option<Row>
-        ensures { result ≡ row_of self };
-
-    /// Whether both are one of the names that a table lists twice.
-    fn repeats(self, other: Self) -> bool
-        ensures { IsTrue result → self ≡ other };
-
-    fn code(self) -> u32
-        ensures { result ≡ code_of (elf_name self) };
+    // what is chosen is meant for what is there
+    ghost chosen_matches: { (name : Self) (s : List ℕ) (o : ℕ) (facts : LinkFacts)
+        (c : Choice Self.Kind Self) → IsChosen Self.how name s o facts c
+        → Self.how.matches c.kind s o };
 }
 
 /// A choice with what stands in its field, if it leaves the linked bytes: if these differ from what
 /// its rewrite makes of the original ones only in the field of the relocation after it and in some
 /// other bits.
-pub(crate) fn recognise_one<K: Kind, R: Name>(
-    choice: Choice<K, R>,
+fn recognise_one<N: Rewritten>(
+    choice: Choice<N::Kind, N>,
     original: &[u8],
     offset: u64,
     others: &[FieldBits],
     linked: &[u8],
-) -> Option<Made<K, R>>
+) -> Option<Made<N::Kind, N>>
     requires { length original.now ≤ 64 }
-    ensures { (m : Made K R) → (result ≡ Some m) ↔ ((m.choice ≡ choice)
-        × LeavesRead K.rewrite R.row_of K.deleted original.now offset others.now linked.now m) }
+    ensures { (m : Made N.Kind N) → (result ≡ Some m)
+        ↔ ((m.choice ≡ choice) × IsMade N.how original.now offset others.now linked.now m) }
 {
     if !choice.kind.can_apply(original, offset) {
         return None;
@@ -181,7 +200,7 @@ pub(crate) fn recognise_one<K: Kind, R: Name>(
     let (mut at, mut addend) = (offset, 0);
     choice.kind.apply(after, &mut at, &mut addend);
     let row = choice.relocation.find_row();
-    let deleted = choice.kind.deleted_bytes();
+    let deleted = N::deleted(choice.kind);
     if !are_left(after, at, &row, deleted, offset, others, linked) {
         return None;
     }
@@ -193,99 +212,156 @@ pub(crate) fn recognise_one<K: Kind, R: Name>(
     })
 }
 
-/// The same of a choice, if there is one whose rewrite is meant for what is at the offset.
-fn kept<K: Kind, R: Name>(
-    candidate: Option<Choice<K, R>>,
-    original: &[u8],
-    offset: u64,
-    others: &[FieldBits],
-    linked: &[u8],
-) -> Option<Made<K, R>>
-    requires { length original.now ≤ 64 }
-    ensures { (m : Made K R) → (result ≡ Some m) ↔ ((candidate ≡ Some m.choice)
-        × (K.matches m.choice.kind original.now offset
-        × LeavesRead K.rewrite R.row_of K.deleted original.now offset others.now linked.now m)) }
+/// The choice of an entry.
+#[inline(always)]
+fn choice_of<O, K: Copy, R: Copy>(entry: &'static ChoiceEntry<O, K, R>) -> Choice<K, R>
+    ensures { result ≡ choice entry.now.kind entry.now.relocation }
 {
-    let choice = candidate?;
-    if choice.kind.is_meant_for(original, offset) {
-        recognise_one(choice, original, offset, others, linked)
+    Choice {
+        kind: entry.kind,
+        relocation: entry.relocation,
+    }
+}
+
+/// The choice with an index: that of an entry, and behind these the one that changes nothing.
+#[inline(always)]
+fn choice_at<O, K: Copy, R: Copy>(
+    entries: &'static [ChoiceEntry<O, K, R>],
+    kind: K,
+    relocation: R,
+    index: usize,
+) -> Option<Choice<K, R>>
+    ensures { result ≡ slice_get (choices_in entries.now (choice kind relocation)) index }
+{
+    if index < entries.len() {
+        Some(choice_of(&entries[index]))
+    } else if index == entries.len() {
+        Some(Choice { kind, relocation })
     } else {
         None
     }
 }
 
-/// Whether there are two choices, and they are the same.
-#[inline(always)]
-fn are_same<K: Kind, R: Name>(a: Option<Choice<K, R>>, b: Option<Choice<K, R>>) -> bool
-    ensures { IsTrue result → a ≡ b }
-{
-    let (Some(a), Some(b)) = (a, b) else {
-        return false;
-    };
-    a.kind.is(b.kind) && a.relocation.repeats(b.relocation)
-}
-
-/// Whether there is a choice, and it is found to be one of some.
-fn is_among<K: Kind, R: Name>(
-    candidate: Option<Choice<K, R>>,
-    earlier: &[Option<Choice<K, R>>],
+/// Whether a choice is found to be that of one of some entries.
+fn is_among<O, N: Rewritten>(
+    choice: &Choice<N::Kind, N>,
+    earlier: &'static [ChoiceEntry<O, N::Kind, N>],
 ) -> bool
-    ensures { IsTrue result → IsOneOf candidate earlier.now }
+    ensures { IsTrue result → IsOneOf choice.now (map choice_in earlier.now) }
 {
-    for one in earlier {
-        if are_same(candidate, *one) {
+    for entry in earlier {
+        if N::are_same(&choice_of(entry), choice) {
             return true;
         }
     }
     false
 }
 
-/// The same as `kept`, but none if the choice is one of the earlier ones.
-fn kept_once<K: Kind, R: Name>(
-    earlier: &[Option<Choice<K, R>>],
-    candidate: Option<Choice<K, R>>,
+/// Those choices of a table's entries, and of the one that changes nothing, that are meant for what
+/// is at an offset and leave the linked bytes.
+pub(crate) fn recognise_in<O, N: Rewritten>(
+    entries: &'static [ChoiceEntry<O, N::Kind, N>],
+    no_op: N::Kind,
+    name: N,
     original: &[u8],
     offset: u64,
     others: &[FieldBits],
     linked: &[u8],
-) -> Option<Made<K, R>>
-    requires { length original.now ≤ 64 }
-    ensures { IsKept (λ (m : Made K R). m.choice) (λ (m : Made K R).
-        K.matches m.choice.kind original.now offset
-        × LeavesRead K.rewrite R.row_of K.deleted original.now offset others.now linked.now m)
-        earlier.now candidate result }
+) -> [Option<Made<N::Kind, N>>; CANDIDATES]
+    requires few { length entries.now ≤ 5 }
+    requires short { length original.now ≤ 64 }
+    ensures { AreFoundOf (λ (m : Made N.Kind N). m.choice)
+        (IsMeant N.how original.now offset others.now linked.now)
+        (choices_in entries.now (choice no_op name)) result }
 {
-    if is_among(candidate, earlier) {
-        return None;
+    let mut found = [None; CANDIDATES];
+    for index in 0..CANDIDATES {
+        let Some(choice) = choice_at(entries, no_op, name, index) else {
+            break;
+        };
+        if !is_among(&choice, &entries[..index]) && N::matches(choice.kind, original, offset) {
+            found[index] = recognise_one(choice, original, offset, others, linked);
+        }
     }
-    kept(candidate, original, offset, others, linked)
+    found
 }
 
-/// Those of some choices that are meant for what is at the offset and leave the linked bytes.
-pub(crate) fn recognise_among<K: Kind, R: Name>(
-    choices: [Option<Choice<K, R>>; CANDIDATES],
+/// Which rewrites, and relocations after them, a linker may have made at the relocation with a
+/// name, whose offset in the original bytes is given: those after which the original bytes differ
+/// from the linked ones only in the field of the relocation after it and in `others`. They have
+/// their places in the table of `choose`, behind which is `NoOp` and the same name. No choice is
+/// returned twice.
+///
+/// - Both windows may begin before the relocation, at the same place. The original one has at most
+///   `MAX_WINDOW` bytes. After a rewrite that deletes bytes the linked window is shorter by these, and
+///   empty if they are all of the original one.
+/// - `others` are bits of the original window that other relocations write, as
+///   `FieldBits::of_row` gives them, among them those of a relocation that the choice skips. Of an
+///   instruction that another relocation rewrites or deletes they are all bits. Where a skipped
+///   relocation isn't named, its field is compared with what the rewrite left, since it isn't
+///   applied.
+/// - Nothing needs to be known of the symbol. So several choices are returned where their bytes are
+///   the same, as where only the relocation changes. Each comes with the offset of its field in the
+///   linked bytes and with what `read` of `linker_reads` returns there.
+/// - A choice is returned only if its rewrite is meant for what is at the offset, as `matches`
+///   says, and the field is in the window. Each that `choose` makes, whatever the linker knows, is
+///   one of them if it leaves the linked bytes so.
+///
+/// ```
+/// use linker_recognise::recognise;
+/// use linker_utils::riscv64::RiscVRelocation;
+/// use linker_utils::x86_64::{RelaxationKind, X86_64Relocation};
+///
+/// // mov x@GOTPCREL(%rip), %rdi became lea x(%rip), %rdi
+/// let original = [0x48, 0x8b, 0x3d, 0, 0, 0, 0];
+/// let linked = [0x48, 0x8d, 0x3d, 0x10, 0x20, 0, 0];
+/// let name = X86_64Relocation::R_X86_64_REX_GOTPCRELX;
+/// let mut choices = recognise(name, &original, 3, &[], &linked).into_iter().flatten();
+/// let made = choices.next().unwrap();
+/// assert_eq!(made.choice.kind, RelaxationKind::MovIndirectToLea);
+/// assert_eq!(made.value.unwrap().number(), Some(0x2010));
+/// assert!(choices.next().is_none());
+///
+/// // `auipc ra, 0` and `jalr ra, 0(ra)` became `jal ra, 256`
+/// let original = [0x97, 0, 0, 0, 0xe7, 0x80, 0, 0];
+/// let linked = [0xef, 0, 0, 0x10];
+/// let name = RiscVRelocation::R_RISCV_CALL_PLT;
+/// let mut choices = recognise(name, &original, 0, &[], &linked).into_iter().flatten();
+/// assert_eq!(choices.next().unwrap().choice.relocation, RiscVRelocation::R_RISCV_JAL);
+/// ```
+pub fn recognise<N: Recognised>(
+    name: N,
     original: &[u8],
     offset: u64,
     others: &[FieldBits],
     linked: &[u8],
-) -> [Option<Made<K, R>>; CANDIDATES]
-    requires six { length choices ≡ 6 }
-    requires short { length original.now ≤ 64 }
-    ensures { (xs : List (Choice K R)) → choices ≡ padded xs
-        → AreThose (IsFound (IsMade xs K.matches (λ (c : Choice K R). IsLeft (K.rewrite c.kind)
-        (R.row_of c.relocation) (K.deleted c.kind)) original.now offset others.now linked.now)
-        (λ (c : Choice K R). IsRead (K.rewrite c.kind) (R.row_of c.relocation)
-        (K.deleted c.kind) offset linked.now)) result }
+) -> [Option<Made<N::Kind, N>>; CANDIDATES]
+    requires { length original.now ≤ 64 }
+    ensures found { AreThose (IsFound N.how name original.now offset others.now linked.now)
+        result }
+    ensures any { (facts : LinkFacts) (m : Made N.Kind N)
+        → IsChosen N.how name original.now offset facts m.choice
+        → IsMade N.how original.now offset others.now linked.now m → IsOneOf (Some m) result }
+    ensures placed { ArePlaced (choices_at N.how name original.now offset) result }
 {
-    let [a, b, c, d, e, f] = choices;
-    let backwards = [e, d, c, b, a];
-    let before = &backwards[..];
-    [
-        kept_once(&before[5..], a, original, offset, others, linked),
-        kept_once(&before[4..], b, original, offset, others, linked),
-        kept_once(&before[3..], c, original, offset, others, linked),
-        kept_once(&before[2..], d, original, offset, others, linked),
-        kept_once(&before[1..], e, original, offset, others, linked),
-        kept_once(before, f, original, offset, others, linked),
-    ]
+    name.recognise_listed(original, offset, others, linked)
+}
+
+/// The choice that `choose` makes by what the linker knows, if it leaves the linked bytes, as
+/// `recognise` says.
+pub fn recognise_chosen<N: Recognised>(
+    name: N,
+    original: &[u8],
+    offset: u64,
+    others: &[FieldBits],
+    linked: &[u8],
+    facts: &LinkFacts,
+) -> Option<Made<N::Kind, N>>
+    requires { length original.now ≤ 64 }
+    ensures { (m : Made N.Kind N) → (result ≡ Some m)
+        ↔ (IsChosen N.how name original.now offset facts.now m.choice
+        × IsMade N.how original.now offset others.now linked.now m) }
+{
+    let chosen = name.choose(original, offset, facts);
+    recognise_one(chosen, original, offset, others, linked)
 }

@@ -2,15 +2,12 @@
 //! relocation it then wrote, and what stands in its field.
 #![tactic(auto)]
 
-pub mod aarch64;
 pub mod architecture;
-mod candidates;
 mod engine;
 pub mod fields;
-pub mod loongarch64;
-pub mod ppc64;
-pub mod riscv64;
-pub mod x86_64;
+mod recognisers;
 
-pub use candidates::CANDIDATES;
-pub use engine::{MAX_WINDOW, Made};
+pub use engine::{
+    CANDIDATES, MAX_WINDOW, Made, Recognised, Rewritten, recognise, recognise_chosen,
+};
+pub use recognisers::written_choices_are_left;

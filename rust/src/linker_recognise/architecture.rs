@@ -1,10 +1,8 @@
 // Made by tools/erase of crates/linker_recognise/src/architecture.rt.
 //! What a linker made of a relocation, by its architecture and its code.
 
-use crate::linker_recognise::candidates::CANDIDATES;
-use crate::linker_recognise::engine::{Kind, Made, Name};
+use crate::linker_recognise::engine::{self, CANDIDATES, Made, Rewritten};
 use crate::linker_recognise::fields::FieldBits;
-use crate::linker_recognise::{aarch64, loongarch64, ppc64, riscv64, x86_64};
 use crate::aarch64::AArch64Relocation;
 use crate::architecture::Relaxation;
 use crate::elf::{Architecture, Choice, LinkFacts};
@@ -13,12 +11,25 @@ use crate::ppc64::Ppc64Relocation;
 use crate::riscv64::RiscVRelocation;
 use crate::x86_64::X86_64Relocation;
 
+/// What is found of the relocation's name that an architecture has for a code.
+macro_rules! of_name {
+    ($architecture:expr, $code:expr, $name:ident => $found:expr) => {
+        match $architecture {
+            Architecture::AArch64 => { let $name = AArch64Relocation::from_elf($code); $found }
+            Architecture::RiscV => { let $name = RiscVRelocation::from_elf($code); $found }
+            Architecture::LoongArch64 => { let $name = LoongArch64Relocation::from_elf($code); $found }
+            Architecture::Ppc64 => { let $name = Ppc64Relocation::from_elf($code); $found }
+            Architecture::X86_64 => { let $name = X86_64Relocation::from_elf($code); $found }
+        }
+    };
+}
+
 /// The same with the rewrite as one of all architectures', and the relocation's code.
-fn by_code<K: Kind, R: Name>(found: Option<Made<K, R>>) -> Option<Made<Relaxation, u32>> {
+fn by_code<N: Rewritten>(found: Option<Made<N::Kind, N>>) -> Option<Made<Relaxation, u32>> {
     match found {
         Some(made) => Some(Made {
             choice: Choice {
-                kind: made.choice.kind.relaxation(),
+                kind: N::relaxation(made.choice.kind),
                 relocation: made.choice.relocation.code(),
             },
             offset: made.offset,
@@ -29,8 +40,8 @@ fn by_code<K: Kind, R: Name>(found: Option<Made<K, R>>) -> Option<Made<Relaxatio
 }
 
 /// The same of each.
-fn all_by_code<K: Kind, R: Name>(
-    found: [Option<Made<K, R>>; CANDIDATES],
+fn all_by_code<N: Rewritten>(
+    found: [Option<Made<N::Kind, N>>; CANDIDATES],
 ) -> [Option<Made<Relaxation, u32>>; CANDIDATES] {
     let [a, b, c, d, e, f] = found;
     [
@@ -44,8 +55,7 @@ fn all_by_code<K: Kind, R: Name>(
 }
 
 /// Which rewrites, and relocations after them, a linker may have made at the relocation with a
-/// code, `r_type` in ELF files, as `recognise` of `aarch64`, `riscv64`, `loongarch64`, `ppc64` and
-/// `x86_64` says.
+/// code, `r_type` in ELF files, as `recognise` of this crate says.
 ///
 /// ```
 /// use linker_utils::recognise::architecture::recognise;
@@ -77,32 +87,13 @@ pub fn recognise(
     linked: &[u8],
 ) -> [Option<Made<Relaxation, u32>>; CANDIDATES] {
     debug_assert!(original.len() <= 64);
-    match architecture {
-        Architecture::AArch64 => {
-            let name = AArch64Relocation::from_elf(code);
-            all_by_code(aarch64::recognise(name, original, offset, others, linked))
-        }
-        Architecture::RiscV => {
-            let name = RiscVRelocation::from_elf(code);
-            all_by_code(riscv64::recognise(name, original, offset, others, linked))
-        }
-        Architecture::LoongArch64 => {
-            let name = LoongArch64Relocation::from_elf(code);
-            all_by_code(loongarch64::recognise(name, original, offset, others, linked))
-        }
-        Architecture::Ppc64 => {
-            let name = Ppc64Relocation::from_elf(code);
-            all_by_code(ppc64::recognise(name, original, offset, others, linked))
-        }
-        Architecture::X86_64 => {
-            let name = X86_64Relocation::from_elf(code);
-            all_by_code(x86_64::recognise(name, original, offset, others, linked))
-        }
-    }
+    of_name!(architecture, code, name => {
+        all_by_code(engine::recognise(name, original, offset, others, linked))
+    })
 }
 
 /// The choice that `choose` makes by what the linker knows, if it leaves the linked bytes, as
-/// `recognise_chosen` of the architecture's module says.
+/// `recognise_chosen` of this crate says.
 ///
 /// # Requires
 ///
@@ -119,26 +110,7 @@ pub fn recognise_chosen(
     facts: &LinkFacts,
 ) -> Option<Made<Relaxation, u32>> {
     debug_assert!(original.len() <= 64);
-    match architecture {
-        Architecture::AArch64 => {
-            let name = AArch64Relocation::from_elf(code);
-            by_code(aarch64::recognise_chosen(name, original, offset, others, linked, facts))
-        }
-        Architecture::RiscV => {
-            let name = RiscVRelocation::from_elf(code);
-            by_code(riscv64::recognise_chosen(name, original, offset, others, linked, facts))
-        }
-        Architecture::LoongArch64 => {
-            let name = LoongArch64Relocation::from_elf(code);
-            by_code(loongarch64::recognise_chosen(name, original, offset, others, linked, facts))
-        }
-        Architecture::Ppc64 => {
-            let name = Ppc64Relocation::from_elf(code);
-            by_code(ppc64::recognise_chosen(name, original, offset, others, linked, facts))
-        }
-        Architecture::X86_64 => {
-            let name = X86_64Relocation::from_elf(code);
-            by_code(x86_64::recognise_chosen(name, original, offset, others, linked, facts))
-        }
-    }
+    of_name!(architecture, code, name => {
+        by_code(engine::recognise_chosen(name, original, offset, others, linked, facts))
+    })
 }

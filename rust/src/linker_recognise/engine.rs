@@ -1,14 +1,17 @@
 // Made by tools/erase of crates/linker_recognise/src/engine.rt.
-//! Whether a choice of a rewrite leaves the linked bytes, and what then stands in its field.
+//! Which choices of a table leave the linked bytes, and what then stands in the field.
 
-use crate::linker_recognise::candidates::CANDIDATES;
 use crate::linker_recognise::fields::{FieldBits, are_same_but};
+use crate::linker_elf::elf::choice_table::{ChoiceEntry, RelocationName};
 use crate::linker_elf::elf::{InstructionRewrite, Row};
 use crate::linker_reads::fields::FieldValue;
 use crate::linker_reads::reading::read;
 use crate::architecture::Relaxation;
-use crate::elf::Choice;
+use crate::elf::{Choice, LinkFacts};
 use crate::riscv64::DeletedBytes;
+
+/// How many choices a relocation may have.
+pub const CANDIDATES: usize = 6;
 
 /// How long the windows of original bytes may be.
 pub const MAX_WINDOW: usize = 64;
@@ -88,37 +91,64 @@ fn value_at(row: &Option<Row>, at: u64, linked: &[u8]) -> Option<FieldValue> {
     }
 }
 
-/// A rewrite of an architecture, with what it is meant for and what is deleted after it.
-pub(crate) trait Kind: InstructionRewrite {
-    fn is_meant_for(self, section: &[u8], offset: u64) -> bool;
+/// A relocation's name, with the rewrites of its architecture.
+pub trait Rewritten: RelocationName {
+    /// The rewrites.
+    type Kind: InstructionRewrite;
 
-    fn deleted_bytes(self) -> Option<DeletedBytes>;
+    /// The code, `r_type` in ELF files.
+    #[must_use]
+    fn code(self) -> u32;
 
-    fn is(self, other: Self) -> bool;
+    /// A rewrite as one of all architectures'.
+    #[must_use]
+    fn relaxation(kind: Self::Kind) -> Relaxation;
 
-    fn relaxation(self) -> Relaxation;
+    /// Whether a rewrite is meant for what is at an offset of a section.
+    #[must_use]
+    fn matches(kind: Self::Kind, section: &[u8], offset: u64) -> bool;
+
+    /// The bytes that are deleted after a rewrite.
+    #[must_use]
+    fn deleted(kind: Self::Kind) -> Option<DeletedBytes>;
+
+    /// Whether both are the same one of the choices that a table lists twice.
+    #[must_use]
+    fn are_same(a: &Choice<Self::Kind, Self>, b: &Choice<Self::Kind, Self>) -> bool;
 }
 
-/// A relocation's name.
-pub(crate) trait Name: Copy {
-    fn find_row(self) -> Option<Row>;
+/// A relocation's name, with the table of its choices.
+pub trait Recognised: Rewritten {
+    /// The choice by what a linker knows.
+    #[must_use]
+    fn choose(self, original: &[u8], offset: u64, facts: &LinkFacts) -> Choice<Self::Kind, Self>;
 
-    /// Whether both are one of the names that a table lists twice.
-    fn repeats(self, other: Self) -> bool;
-
-    fn code(self) -> u32;
+    /// Those choices of the table that are meant for what is at the offset and leave the linked
+    /// bytes, as `recognise` says.
+    ///
+    /// # Requires
+    ///
+    /// - `original.len() <= 64`
+    #[must_use]
+    fn recognise_listed(
+        self,
+        original: &[u8],
+        offset: u64,
+        others: &[FieldBits],
+        linked: &[u8],
+    ) -> [Option<Made<Self::Kind, Self>>; CANDIDATES];
 }
 
 /// A choice with what stands in its field, if it leaves the linked bytes: if these differ from what
 /// its rewrite makes of the original ones only in the field of the relocation after it and in some
 /// other bits.
-pub(crate) fn recognise_one<K: Kind, R: Name>(
-    choice: Choice<K, R>,
+fn recognise_one<N: Rewritten>(
+    choice: Choice<N::Kind, N>,
     original: &[u8],
     offset: u64,
     others: &[FieldBits],
     linked: &[u8],
-) -> Option<Made<K, R>> {
+) -> Option<Made<N::Kind, N>> {
     if !choice.kind.can_apply(original, offset) {
         return None;
     }
@@ -128,7 +158,7 @@ pub(crate) fn recognise_one<K: Kind, R: Name>(
     let (mut at, mut addend) = (offset, 0);
     choice.kind.apply(after, &mut at, &mut addend);
     let row = choice.relocation.find_row();
-    let deleted = choice.kind.deleted_bytes();
+    let deleted = N::deleted(choice.kind);
     if !are_left(after, at, &row, deleted, offset, others, linked) {
         return None;
     }
@@ -140,76 +170,145 @@ pub(crate) fn recognise_one<K: Kind, R: Name>(
     })
 }
 
-/// The same of a choice, if there is one whose rewrite is meant for what is at the offset.
-fn kept<K: Kind, R: Name>(
-    candidate: Option<Choice<K, R>>,
-    original: &[u8],
-    offset: u64,
-    others: &[FieldBits],
-    linked: &[u8],
-) -> Option<Made<K, R>> {
-    let choice = candidate?;
-    if choice.kind.is_meant_for(original, offset) {
-        recognise_one(choice, original, offset, others, linked)
+/// The choice of an entry.
+#[inline(always)]
+fn choice_of<O, K: Copy, R: Copy>(entry: &'static ChoiceEntry<O, K, R>) -> Choice<K, R> {
+    Choice {
+        kind: entry.kind,
+        relocation: entry.relocation,
+    }
+}
+
+/// The choice with an index: that of an entry, and behind these the one that changes nothing.
+#[cfg_attr(not(debug_assertions), inline(always))]
+fn choice_at<O, K: Copy, R: Copy>(
+    entries: &'static [ChoiceEntry<O, K, R>],
+    kind: K,
+    relocation: R,
+    index: usize,
+) -> Option<Choice<K, R>> {
+    if index < entries.len() {
+        Some(choice_of(&entries[index]))
+    } else if index == entries.len() {
+        Some(Choice { kind, relocation })
     } else {
         None
     }
 }
 
-/// Whether there are two choices, and they are the same.
-#[inline(always)]
-fn are_same<K: Kind, R: Name>(a: Option<Choice<K, R>>, b: Option<Choice<K, R>>) -> bool {
-    let (Some(a), Some(b)) = (a, b) else {
-        return false;
-    };
-    a.kind.is(b.kind) && a.relocation.repeats(b.relocation)
-}
-
-/// Whether there is a choice, and it is found to be one of some.
-fn is_among<K: Kind, R: Name>(
-    candidate: Option<Choice<K, R>>,
-    earlier: &[Option<Choice<K, R>>],
+/// Whether a choice is found to be that of one of some entries.
+fn is_among<O, N: Rewritten>(
+    choice: &Choice<N::Kind, N>,
+    earlier: &'static [ChoiceEntry<O, N::Kind, N>],
 ) -> bool {
-    for one in earlier {
-        if are_same(candidate, *one) {
+    for entry in earlier {
+        if N::are_same(&choice_of(entry), choice) {
             return true;
         }
     }
     false
 }
 
-/// The same as `kept`, but none if the choice is one of the earlier ones.
-fn kept_once<K: Kind, R: Name>(
-    earlier: &[Option<Choice<K, R>>],
-    candidate: Option<Choice<K, R>>,
+/// Those choices of a table's entries, and of the one that changes nothing, that are meant for what
+/// is at an offset and leave the linked bytes.
+pub(crate) fn recognise_in<O, N: Rewritten>(
+    entries: &'static [ChoiceEntry<O, N::Kind, N>],
+    no_op: N::Kind,
+    name: N,
     original: &[u8],
     offset: u64,
     others: &[FieldBits],
     linked: &[u8],
-) -> Option<Made<K, R>> {
-    if is_among(candidate, earlier) {
-        return None;
+) -> [Option<Made<N::Kind, N>>; CANDIDATES] {
+    let mut found = [None; CANDIDATES];
+    for index in 0..CANDIDATES {
+        let Some(choice) = choice_at(entries, no_op, name, index) else {
+            break;
+        };
+        if !is_among(&choice, &entries[..index]) && N::matches(choice.kind, original, offset) {
+            found[index] = recognise_one(choice, original, offset, others, linked);
+        }
     }
-    kept(candidate, original, offset, others, linked)
+    found
 }
 
-/// Those of some choices that are meant for what is at the offset and leave the linked bytes.
-pub(crate) fn recognise_among<K: Kind, R: Name>(
-    choices: [Option<Choice<K, R>>; CANDIDATES],
+/// Which rewrites, and relocations after them, a linker may have made at the relocation with a
+/// name, whose offset in the original bytes is given: those after which the original bytes differ
+/// from the linked ones only in the field of the relocation after it and in `others`. They have
+/// their places in the table of `choose`, behind which is `NoOp` and the same name. No choice is
+/// returned twice.
+///
+/// - Both windows may begin before the relocation, at the same place. The original one has at most
+///   `MAX_WINDOW` bytes. After a rewrite that deletes bytes the linked window is shorter by these, and
+///   empty if they are all of the original one.
+/// - `others` are bits of the original window that other relocations write, as
+///   `FieldBits::of_row` gives them, among them those of a relocation that the choice skips. Of an
+///   instruction that another relocation rewrites or deletes they are all bits. Where a skipped
+///   relocation isn't named, its field is compared with what the rewrite left, since it isn't
+///   applied.
+/// - Nothing needs to be known of the symbol. So several choices are returned where their bytes are
+///   the same, as where only the relocation changes. Each comes with the offset of its field in the
+///   linked bytes and with what `read` of `linker_reads` returns there.
+/// - A choice is returned only if its rewrite is meant for what is at the offset, as `matches`
+///   says, and the field is in the window. Each that `choose` makes, whatever the linker knows, is
+///   one of them if it leaves the linked bytes so.
+///
+/// ```
+/// use linker_utils::recognise::recognise;
+/// use linker_utils::riscv64::RiscVRelocation;
+/// use linker_utils::x86_64::{RelaxationKind, X86_64Relocation};
+///
+/// // mov x@GOTPCREL(%rip), %rdi became lea x(%rip), %rdi
+/// let original = [0x48, 0x8b, 0x3d, 0, 0, 0, 0];
+/// let linked = [0x48, 0x8d, 0x3d, 0x10, 0x20, 0, 0];
+/// let name = X86_64Relocation::R_X86_64_REX_GOTPCRELX;
+/// let mut choices = recognise(name, &original, 3, &[], &linked).into_iter().flatten();
+/// let made = choices.next().unwrap();
+/// assert_eq!(made.choice.kind, RelaxationKind::MovIndirectToLea);
+/// assert_eq!(made.value.unwrap().number(), Some(0x2010));
+/// assert!(choices.next().is_none());
+///
+/// // `auipc ra, 0` and `jalr ra, 0(ra)` became `jal ra, 256`
+/// let original = [0x97, 0, 0, 0, 0xe7, 0x80, 0, 0];
+/// let linked = [0xef, 0, 0, 0x10];
+/// let name = RiscVRelocation::R_RISCV_CALL_PLT;
+/// let mut choices = recognise(name, &original, 0, &[], &linked).into_iter().flatten();
+/// assert_eq!(choices.next().unwrap().choice.relocation, RiscVRelocation::R_RISCV_JAL);
+/// ```
+///
+/// # Requires
+///
+/// - `original.len() <= 64`
+#[must_use]
+#[cfg_attr(debug_assertions, track_caller)]
+pub fn recognise<N: Recognised>(
+    name: N,
     original: &[u8],
     offset: u64,
     others: &[FieldBits],
     linked: &[u8],
-) -> [Option<Made<K, R>>; CANDIDATES] {
-    let [a, b, c, d, e, f] = choices;
-    let backwards = [e, d, c, b, a];
-    let before = &backwards[..];
-    [
-        kept_once(&before[5..], a, original, offset, others, linked),
-        kept_once(&before[4..], b, original, offset, others, linked),
-        kept_once(&before[3..], c, original, offset, others, linked),
-        kept_once(&before[2..], d, original, offset, others, linked),
-        kept_once(&before[1..], e, original, offset, others, linked),
-        kept_once(before, f, original, offset, others, linked),
-    ]
+) -> [Option<Made<N::Kind, N>>; CANDIDATES] {
+    debug_assert!(original.len() <= 64);
+    name.recognise_listed(original, offset, others, linked)
+}
+
+/// The choice that `choose` makes by what the linker knows, if it leaves the linked bytes, as
+/// `recognise` says.
+///
+/// # Requires
+///
+/// - `original.len() <= 64`
+#[must_use]
+#[cfg_attr(debug_assertions, track_caller)]
+pub fn recognise_chosen<N: Recognised>(
+    name: N,
+    original: &[u8],
+    offset: u64,
+    others: &[FieldBits],
+    linked: &[u8],
+    facts: &LinkFacts,
+) -> Option<Made<N::Kind, N>> {
+    debug_assert!(original.len() <= 64);
+    let chosen = name.choose(original, offset, facts);
+    recognise_one(chosen, original, offset, others, linked)
 }

@@ -7,8 +7,7 @@ use linker_utils::elf::{Architecture, Choice, LinkFacts};
 use linker_utils::loongarch64::{LoongArch64Relocation, RelaxationKind as LoongArchKind};
 use linker_utils::ppc64::{Ppc64Relocation, RelaxationKind as Ppc64Kind};
 use linker_utils::reading::FieldValue;
-use linker_utils::recognise::{FieldBits, same_but_for};
-use linker_utils::recognise::{Made, aarch64, architecture, loongarch64, ppc64, riscv64, x86_64};
+use linker_utils::recognise::{FieldBits, Made, architecture, recognise, same_but_for};
 use linker_utils::riscv64::{RelaxationKind as RiscVKind, RiscVRelocation};
 use linker_utils::x86_64::{RelaxationKind as X86Kind, X86_64Relocation};
 
@@ -42,7 +41,7 @@ const LOCAL_EXEC: [u8; 17] = [
 fn a_sequence_that_gnu_ld_rewrote_is_recognised() {
     let name = X86_64Relocation::R_X86_64_TLSGD;
     let local_exec = x86_64_choice(X86Kind::TlsGdToLocalExec, X86_64Relocation::R_X86_64_TPOFF32);
-    let found = x86_64::recognise(name, &GENERAL_DYNAMIC, 4, &[], &LOCAL_EXEC);
+    let found = recognise(name, &GENERAL_DYNAMIC, 4, &[], &LOCAL_EXEC);
     // lea -0xcb8(%rax), %rax
     let made = Made { choice: local_exec, offset: 12, value: Some(whole(-0xcb8)) };
     assert_eq!(found, [Some(made), None, None, None, None, None]);
@@ -51,7 +50,7 @@ fn a_sequence_that_gnu_ld_rewrote_is_recognised() {
     for at in [10, 16] {
         let mut altered = LOCAL_EXEC;
         altered[at] ^= 8;
-        let found = x86_64::recognise(name, &GENERAL_DYNAMIC, 4, &[], &altered);
+        let found = recognise(name, &GENERAL_DYNAMIC, 4, &[], &altered);
         assert_eq!(found, [None; 6]);
     }
 }
@@ -65,13 +64,13 @@ fn fields_of_other_relocations_are_ignored_and_their_neighbours_are_not() {
     let name = X86_64Relocation::R_X86_64_TLSGD;
     let unchanged = x86_64_choice(X86Kind::NoOp, name);
     let call = FieldBits { offset: 12, bits: 0xffff_ffff };
-    let found = x86_64::recognise(name, &GENERAL_DYNAMIC, 4, &[call], &linked);
+    let found = recognise(name, &GENERAL_DYNAMIC, 4, &[call], &linked);
     let made = Made { choice: unchanged, offset: 4, value: Some(whole(0x10)) };
     assert_eq!(found, [None, None, None, Some(made), None, None]);
-    let found = x86_64::recognise(name, &GENERAL_DYNAMIC, 4, &[], &linked);
+    let found = recognise(name, &GENERAL_DYNAMIC, 4, &[], &linked);
     assert_eq!(found, [None; 6]);
     linked[11] ^= 1;
-    let found = x86_64::recognise(name, &GENERAL_DYNAMIC, 4, &[call], &linked);
+    let found = recognise(name, &GENERAL_DYNAMIC, 4, &[call], &linked);
     assert_eq!(found, [None; 6]);
 }
 
@@ -96,7 +95,7 @@ fn instructions_of_aarch64_that_lld_rewrote_are_recognised() {
             12,
         ),
     ] {
-        let found = aarch64::recognise(name, &[0x01, 0x00, 0x40, 0xf9], 0, &[], &linked);
+        let found = recognise(name, &[0x01, 0x00, 0x40, 0xf9], 0, &[], &linked);
         let mut choices = found.into_iter().flatten();
         let made = Made {
             choice: Choice { kind, relocation },
@@ -117,11 +116,11 @@ fn what_linkers_deleted_on_riscv_is_not_compared() {
         Choice { kind: RiscVKind::Hi20ToCLui, relocation: RiscVRelocation::R_RISCV_RVC_LUI };
     let name = RiscVRelocation::R_RISCV_HI20;
     let lui = [0x37, 0x05, 0x00, 0x00];
-    let found = riscv64::recognise(name, &lui, 0, &[], &[]);
+    let found = recognise(name, &lui, 0, &[], &[]);
     let deleted = Made { choice: delete, offset: 0, value: None };
     assert_eq!(found, [Some(deleted), None, None, None, None, None]);
     let lui = [0xb7, 0x04, 0x00, 0x00];
-    let found = riscv64::recognise(name, &lui, 0, &[], &[0x89, 0x64]);
+    let found = recognise(name, &lui, 0, &[], &[0x89, 0x64]);
     let made = found[1].expect("a choice");
     assert_eq!(found, [None, Some(made), None, None, None, None]);
     assert_eq!((made.choice, made.offset), (compress, 0));
@@ -130,7 +129,7 @@ fn what_linkers_deleted_on_riscv_is_not_compared() {
         assert_eq!(value.is_of(number), is_read);
     }
     // `c.li s1, 2` isn't what a linker makes of it
-    let found = riscv64::recognise(name, &lui, 0, &[], &[0x89, 0x44]);
+    let found = recognise(name, &lui, 0, &[], &[0x89, 0x44]);
     assert_eq!(found, [None; 6]);
 }
 
@@ -140,9 +139,9 @@ fn what_linkers_made_of_clui_is_recognised() {
     let name = RiscVRelocation::R_RISCV_RVC_LUI;
     let zeroed = Choice { kind: RiscVKind::CLuiToCLi, relocation: RiscVRelocation::R_RISCV_NONE };
     let made = Made { choice: zeroed, offset: 0, value: None };
-    let found = riscv64::recognise(name, &[0x05, 0x65], 0, &[], &[0x01, 0x45]);
+    let found = recognise(name, &[0x05, 0x65], 0, &[], &[0x01, 0x45]);
     assert_eq!(found, [Some(made), None, None, None, None, None]);
-    let found = riscv64::recognise(name, &[0x05, 0x65], 0, &[], &[0x81, 0x45]);
+    let found = recognise(name, &[0x05, 0x65], 0, &[], &[0x81, 0x45]);
     assert_eq!(found, [None; 6]);
 }
 
@@ -161,18 +160,18 @@ fn what_gnu_ld_made_on_loongarch_is_recognised() {
     let pair = [0x04, 0x00, 0x00, 0x1a, 0x84, 0x00, 0xc0, 0x28];
     let linked = [0xc4, 0xec, 0x0f, 0x18, 0x04, 0x64, 0x00, 0x1a];
     let name = LoongArch64Relocation::R_LARCH_GOT_PC_HI20;
-    let found = loongarch64::recognise(name, &pair, 0, &[second], &linked);
+    let found = recognise(name, &pair, 0, &[second], &linked);
     // `pcaddi a0, 0x7f66`, in units of 4 bytes
     let made = Made { choice: near, offset: 0, value: Some(whole(0x1fd98)) };
     assert_eq!(found, [Some(made), None, None, None, None, None]);
     let name = LoongArch64Relocation::R_LARCH_GOT_PC_LO12;
-    let found = loongarch64::recognise(name, &pair, 4, &[first], &linked[..4]);
+    let found = recognise(name, &pair, 4, &[first], &linked[..4]);
     let made = Made { choice: delete, offset: 4, value: None };
     assert_eq!(found, [Some(made), None, None, None, None, None]);
     // into another register
     let altered = [0xc5, 0xec, 0x0f, 0x18, 0x04, 0x64, 0x00, 0x1a];
     let name = LoongArch64Relocation::R_LARCH_GOT_PC_HI20;
-    let found = loongarch64::recognise(name, &pair, 0, &[second], &altered);
+    let found = recognise(name, &pair, 0, &[second], &altered);
     assert_eq!(found, [None; 6]);
 }
 
@@ -184,12 +183,12 @@ fn what_linkers_made_on_powerpc64_is_recognised() {
     let low = Choice { kind: Ppc64Kind::BaseToToc, relocation: Ppc64Relocation::R_PPC64_TOC16 };
     let name = Ppc64Relocation::R_PPC64_TOC16_HA;
     let original = 0x3c62_0000u32.to_le_bytes();
-    let found = ppc64::recognise(name, &original, 0, &[], &0x6000_0000u32.to_le_bytes());
+    let found = recognise(name, &original, 0, &[], &0x6000_0000u32.to_le_bytes());
     let made = Made { choice: nop, offset: 0, value: None };
     assert_eq!(found, [Some(made), None, None, None, None, None]);
     let name = Ppc64Relocation::R_PPC64_TOC16_LO;
     let original = 0x3863_0000u32.to_le_bytes();
-    let found = ppc64::recognise(name, &original, 0, &[], &0x3862_8100u32.to_le_bytes());
+    let found = recognise(name, &original, 0, &[], &0x3862_8100u32.to_le_bytes());
     let made = Made { choice: low, offset: 0, value: Some(whole(-32512)) };
     assert_eq!(found, [Some(made), None, None, None, None, None]);
 }
@@ -245,7 +244,7 @@ fn no_choice_is_returned_twice() {
         offset: 0,
         value: None,
     };
-    let found = riscv64::recognise(name, &auipc, 0, &[], &[]);
+    let found = recognise(name, &auipc, 0, &[], &[]);
     assert_eq!(found, [Some(made), None, None, None, None, None]);
 }
 
@@ -255,7 +254,7 @@ fn no_choice_is_returned_twice() {
 fn jumps_and_kept_moves_are_recognised() {
     let name = LoongArch64Relocation::R_LARCH_PCALA_LO12;
     let before = 0x4c00_0180u32.to_le_bytes();
-    let found = loongarch64::recognise(name, &before, 0, &[], &0x4ff8_0180u32.to_le_bytes());
+    let found = recognise(name, &before, 0, &[], &0x4ff8_0180u32.to_le_bytes());
     let choice = Choice { kind: LoongArchKind::NoOp, relocation: name };
     let made = Made { choice, offset: 0, value: Some(low_bits(12, 0x800)) };
     assert!(found.contains(&Some(made)), "{found:?}");

@@ -1,5 +1,5 @@
 use Rattle.std.specs.Bool.{⊤}
 use Rattle.linker_recognise.proofs.engine.is_among.Given as goal
 
-abbrev pub invariant-loop-one : goal.invariant-loop-one
-invariant-loop-one g l = ⊤
+abbrev pub invariant-loop-entry : goal.invariant-loop-entry
+invariant-loop-entry g l = ⊤
