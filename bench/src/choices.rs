@@ -322,13 +322,13 @@ pub fn choosing(report: &mut Report) {
             );
             let by_crate = Side::number(move || match machine {
                 AARCH64 => choose_all(&known, AArch64Relocation::from_elf, |name, offset, facts| {
-                    aarch64::choose(name, section, offset, facts)
+                    aarch64::choose(name, section, offset, facts).relocation
                 }),
                 RISCV => choose_all(&known, RiscVRelocation::from_elf, |name, offset, facts| {
-                    riscv64::choose(name, section, offset, facts)
+                    riscv64::choose(name, section, offset, facts).relocation
                 }),
                 _ => choose_all(&known, X86_64Relocation::from_elf, |name, offset, facts| {
-                    x86_64::choose(name, section, offset, facts)
+                    x86_64::choose(name, section, offset, facts).relocation
                 }),
             });
             let sides = [Some(exports), None, Some(by_crate), None];
