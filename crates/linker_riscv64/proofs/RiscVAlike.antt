@@ -1,7 +1,7 @@
 -- The relocations of a sequence are chosen alike: each by the same conditions.
-use Rattle.std.proofs.Common.{◌≡◌, ◌↔◌, inl, inr, ℕ, List, [], ◌∷◌, ap, ◌∙◌}
+use Rattle.std.proofs.Common.{◌≡◌, ◌↔◌, inl, inr, ℕ, List, [], ◌∷◌, ap, ◌∙◌, slice_index_or}
 use Rattle.linker_elf.specs.Choices.{AllHold, IsFirst, entry, choice, facts_on}
-use Rattle.linker_riscv64.specs.RiscVChoices.{RiscVEntry, RiscVChoice, AppliesToRiscV, IsAskedFor, riscv_row_of, riscv_entries, start_of_descriptor, to_local_exec, to_short_local_exec, IsAmong, AreChosenAlike, deleted, nop, from_zero, from_high, from_got, DescriptorIsChosenAlike, GotPairIsChosenAlike, AbsoluteIsChosenAlike, ThreadOffsetIsChosenAlike, by_low_part, by_short_high_part, by_low_offset}
+use Rattle.linker_riscv64.specs.RiscVChoices.{RiscVEntry, RiscVChoice, AppliesToRiscV, IsAskedFor, riscv_row_of, riscv_entries, start_of_descriptor, to_local_exec, to_short_local_exec, IsAmong, AreChosenAlike, deleted, nop, from_zero, from_high, from_got, DescriptorIsChosenAlike, GotPairIsChosenAlike, AbsoluteIsChosenAlike, ThreadOffsetIsChosenAlike}
 use Rattle.linker_elf.specs.declared.riscv64.relocations.RiscVRelocation.TheVariants as r
 use Rattle.linker_riscv64.specs.declared.rewrites.RelaxationKind.TheVariants as kinds
 use Rattle.linker_elf.specs.declared.elf.choice.LinkFacts.{LinkFacts}
@@ -144,39 +144,38 @@ first_alike A B d d' e m n a b (inr h) (inl k) f = absurd (h.0 (f.1 k.0))
 first_alike A B d d' e m n a b (inr (_, inl h)) (inr k) f = inr (inl (both h.1 k.1))
 first_alike A B d d' e m n a b (inr (_, inr h)) (inr k) f = inr (inr (inl (both h.1 k.1)))
 
--- Only the instructions differ: no place enters the conditions.
 abbrev at : RiscVRelocation → List ℕ → ℕ → LinkFacts → RiscVEntry → Type 0
 at name = AppliesToRiscV (IsAskedFor name)
 
+-- an entry of a relocation
+abbrev nth : ℕ → RiscVRelocation → RiscVEntry
+nth i name = slice_index_or (riscv_entries name) i (entry kinds.NoOp name [])
+
+-- Only the instructions differ: no place enters the conditions.
 pub absolute : AbsoluteIsChosenAlike
 absolute = (
   λ section o p n facts a b there f g.
       first_alike (at r.R_RISCV_HI20 section o facts) (at r.R_RISCV_LO12_I section p (facts_on n facts))
-      (entry kinds.Hi20Delete r.R_RISCV_NONE by_low_part) (entry kinds.Hi20ToCLui r.R_RISCV_RVC_LUI by_short_high_part)
-      (entry kinds.Lo12Rs1ToZero r.R_RISCV_LO12_I by_low_part) _ _ a b f g
+      (nth 0 r.R_RISCV_HI20) (nth 1 r.R_RISCV_HI20) (nth 0 r.R_RISCV_LO12_I) _ _ a b f g
       (λ h. (there.1, h.1), λ h. (there.0, h.1)),
   λ section o p n facts a b there f g.
       first_alike (at r.R_RISCV_HI20 section o facts) (at r.R_RISCV_LO12_S section p (facts_on n facts))
-      (entry kinds.Hi20Delete r.R_RISCV_NONE by_low_part) (entry kinds.Hi20ToCLui r.R_RISCV_RVC_LUI by_short_high_part)
-      (entry kinds.Lo12Rs1ToZero r.R_RISCV_LO12_S by_low_part) _ _ a b f g
+      (nth 0 r.R_RISCV_HI20) (nth 1 r.R_RISCV_HI20) (nth 0 r.R_RISCV_LO12_S) _ _ a b f g
       (λ h. (there.1, h.1), λ h. (there.0, h.1)),
 )
-
-abbrev high : RiscVEntry
-high = entry kinds.Delete r.R_RISCV_NONE by_low_offset
 
 pub thread_offset : ThreadOffsetIsChosenAlike
 thread_offset = (
   λ section o p n facts a b there f g.
       one_alike (at r.R_RISCV_TPREL_HI20 section o facts) (at r.R_RISCV_TPREL_ADD section p (facts_on n facts))
-      high high _ _ a b f g
+      (nth 0 r.R_RISCV_TPREL_HI20) (nth 0 r.R_RISCV_TPREL_ADD) _ _ a b f g
       (λ h. (there.1, h.1), λ h. (there.0, h.1)),
   λ section o p n facts a b there f g.
       one_alike (at r.R_RISCV_TPREL_HI20 section o facts) (at r.R_RISCV_TPREL_LO12_I section p (facts_on n facts))
-      high (entry kinds.BaseToTp r.R_RISCV_TPREL_LO12_I by_low_offset) _ _ a b f g
+      (nth 0 r.R_RISCV_TPREL_HI20) (nth 0 r.R_RISCV_TPREL_LO12_I) _ _ a b f g
       (λ h. (there.1, h.1), λ h. (there.0, h.1)),
   λ section o p n facts a b there f g.
       one_alike (at r.R_RISCV_TPREL_HI20 section o facts) (at r.R_RISCV_TPREL_LO12_S section p (facts_on n facts))
-      high (entry kinds.BaseToTp r.R_RISCV_TPREL_LO12_S by_low_offset) _ _ a b f g
+      (nth 0 r.R_RISCV_TPREL_HI20) (nth 0 r.R_RISCV_TPREL_LO12_S) _ _ a b f g
       (λ h. (there.1, h.1), λ h. (there.0, h.1)),
 )
