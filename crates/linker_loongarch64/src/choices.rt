@@ -362,9 +362,10 @@ fn choice_by(
 /// - Nothing jumps between the instructions.
 /// - It deletes the bytes that `RelaxationKind::deleted` names.
 /// - Once a `lu12i.w` of local-exec is deleted, its `add.d` has to be deleted and each low part of
-///   it rewritten. They are chosen alike too, wherever they are, with the same facts except for
-///   `place`, where the low parts are instructions that `BaseToTp` is meant for. So all of them have
-///   to have the same symbol and addend, and all are marked or none is.
+///   it rewritten. They are chosen alike (`relocations_are_chosen_alike`), wherever they are, with
+///   the same facts except for `place`, where a `lu12i.w` and an `add.d` of `tp` are there and each
+///   low part is an instruction that `BaseToTp` is meant for. So all of them have to have the same
+///   symbol and addend, and to be marked if one of them is.
 /// - The distance is that of the addresses in `facts`. Deleted bytes make it smaller, but the
 ///   padding of an alignment between may grow. `write` then returns an error if the distance is out
 ///   of reach.

@@ -296,10 +296,11 @@ fn choice_by(
 /// The linker sees to the rest:
 ///
 /// - Once a `lui` is deleted, each low part of it has to be rewritten, and of a `lui` of an offset
-///   from the thread pointer the `add` has to be deleted. They are chosen alike too, with the same
-///   facts except for `place`, where the low parts are instructions that `Lo12Rs1ToZero` is meant
-///   for, and of an offset `BaseToTp`. So all of one `lui` have to have the same S + A, and all are
-///   marked or none is.
+///   from the thread pointer the `add` has to be deleted. They are chosen alike
+///   (`relocations_are_chosen_alike`), with the same facts except for `place`, where a `lui` and an
+///   `add` of `tp` are there and each low part is an instruction that its rewrite is meant for:
+///   `Lo12Rs1ToZero`, and of an offset `BaseToTp`. So all of one `lui` have to have the same S + A,
+///   and to be marked if one of them is.
 /// - After `AddiToAuipc` the place is that of the `addi`, for the `ld` behind it too, and the
 ///   symbol of the latter's `R_RISCV_PCREL_LO12_I` is the GOT entry. So it is of an
 ///   `R_RISCV_PCREL_LO12_I` that isn't rewritten and has a high part of the GOT.
