@@ -1,12 +1,13 @@
 -- The relocations of a pair or of a sequence are chosen alike: each by the same conditions of the place
 -- of the first.
-use Rattle.std.proofs.Common.{◌≡◌, ◌↔◌, ◌≤◌, inl, inr, ℕ, ◌+◌, ◌-◌, List, [], ◌∷◌, ap, ◌∙◌, sym, subst, arith}
+use Rattle.std.proofs.Common.{◌≡◌, ◌↔◌, ◌≤◌, inl, inr, ℕ, ◌+◌, ◌-◌, List, [], ◌∷◌, ap, ◌∙◌, sym, subst, slice_index_or, arith}
 use Rattle.linker_elf.specs.Choices.{facts_on}
 use Rattle.linker_elf.specs.Choices.{AllHold, IsFirst, entry, choice, RowReaches, RowIsWithin}
-use Rattle.linker_loongarch64.specs.LoongArchChoices.{LoongArchEntry, LoongArchChoice, LoongArchApplies, IsBehind, IsAmong, IsDescriptorSequence, by_pcaddi, bound_by_pcaddi, bound_by_pages, to_initial_exec, to_local_exec, to_short_local_exec, signed_32, GotPairIsChosenAlike, AddressPairIsChosenAlike, InitialExecPairIsChosenAlike, DescriptorIsChosenAlike, erased}
+use Rattle.linker_loongarch64.specs.LoongArchChoices.{LoongArchEntry, LoongArchChoice, LoongArchApplies, IsBehind, IsAmong, IsDescriptorSequence, by_pcaddi, bound_by_pcaddi, bound_by_pages, to_initial_exec, to_local_exec, to_short_local_exec, signed_32, GotPairIsChosenAlike, AddressPairIsChosenAlike, InitialExecPairIsChosenAlike, DescriptorIsChosenAlike, erased, ThreadOffsetIsChosenAlike, loongarch_entries}
 use Rattle.linker_loongarch64.specs.LoongArchOriginals.{IsPair, IsAddi, IsLd}
 use Rattle.linker_elf.specs.LoongArchRelocations.{loongarch_row}
 use Rattle.linker_elf.specs.declared.elf.choice.LinkFacts.{LinkFacts}
+use Rattle.linker_elf.specs.declared.loongarch64.relocations.LoongArch64Relocation.{LoongArch64Relocation}
 use Rattle.linker_elf.specs.declared.loongarch64.relocations.LoongArch64Relocation.TheVariants as r
 use Rattle.linker_loongarch64.specs.declared.rewrites.RelaxationKind.TheVariants as kinds
 use Rattle.linker_elf.proofs.Choices.{same_reach}
@@ -153,3 +154,22 @@ descriptor_call s o facts a b small h k =
     (entry kinds.PcalaToLu12i r.R_LARCH_TLS_LE_HI20 to_local_exec) (entry kinds.NoOp r.R_LARCH_TLS_IE_PC_HI20 (to_initial_exec 0))
     (entry kinds.ReplaceWithNop r.R_LARCH_NONE to_local_exec) (entry kinds.ReplaceWithNop r.R_LARCH_NONE (to_initial_exec 12))
     _ _ a b (product (there_on 12 s o) (local_exec 12 facts)) (product (there_on 12 s o) (initial_exec 12 facts (omega arith))) h k
+
+-- ---- a `lu12i.w` of an offset from the thread pointer
+
+-- the entry of a relocation
+abbrev only : LoongArch64Relocation → LoongArchEntry
+only name = slice_index_or (loongarch_entries name) 0 (entry kinds.NoOp name [])
+
+-- Only the instructions differ: no place enters the conditions.
+pub thread_offset : ThreadOffsetIsChosenAlike
+thread_offset = (
+  λ s o p n facts a b first second h k.
+      one_alike (LoongArchApplies r.R_LARCH_TLS_LE_HI20_R s o facts) (LoongArchApplies r.R_LARCH_TLS_LE_ADD_R s p (facts_on n facts))
+      (only r.R_LARCH_TLS_LE_HI20_R) (only r.R_LARCH_TLS_LE_ADD_R)
+      _ _ a b (λ there. (second, there.1), λ there. (first, there.1)) h k,
+  λ s o p n facts a b first second h k.
+      one_alike (LoongArchApplies r.R_LARCH_TLS_LE_HI20_R s o facts) (LoongArchApplies r.R_LARCH_TLS_LE_LO12_R s p (facts_on n facts))
+      (only r.R_LARCH_TLS_LE_HI20_R) (only r.R_LARCH_TLS_LE_LO12_R)
+      _ _ a b (λ there. (second, there.1), λ there. (first, there.1)) h k,
+)

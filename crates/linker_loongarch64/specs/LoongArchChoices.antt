@@ -226,3 +226,22 @@ DescriptorsAreChosenAlike =
     (choice kinds.AddiToLd r.R_LARCH_TLS_IE_PC_LO12)
     × DescriptorIsChosenAlike 8 r.R_LARCH_TLS_DESC_LD erased erased
     × DescriptorIsChosenAlike 12 r.R_LARCH_TLS_DESC_CALL erased erased
+
+-- The `lu12i.w` of an offset from the thread pointer with its `add.d` or a low part, wherever both
+-- are, with the same facts but for the place: where each is an instruction that its relocation asks
+-- for, both are rewritten, or both relocations are left.
+abbrev pub OfThreadOffsetIsChosenAlike : LoongArch64Relocation → LoongArchChoice → Type 0
+OfThreadOffsetIsChosenAlike name chosen =
+    (section : List ℕ) (o p n : ℕ) (facts : LinkFacts) (a b : LoongArchChoice)
+    → IsAskedFor r.R_LARCH_TLS_LE_HI20_R kinds.Delete section o
+    → IsAskedFor name chosen.kind section p
+    → IsLoongArchChoice r.R_LARCH_TLS_LE_HI20_R section o facts a
+    → IsLoongArchChoice name section p (facts_on n facts) b
+    → IsAmong (a, b) ((choice kinds.Delete r.R_LARCH_NONE, chosen)
+    ∷ (choice kinds.NoOp r.R_LARCH_TLS_LE_HI20_R, choice kinds.NoOp name) ∷ [])
+
+abbrev pub ThreadOffsetIsChosenAlike : Type 0
+ThreadOffsetIsChosenAlike =
+    OfThreadOffsetIsChosenAlike r.R_LARCH_TLS_LE_ADD_R (choice kinds.Delete r.R_LARCH_NONE)
+    × OfThreadOffsetIsChosenAlike r.R_LARCH_TLS_LE_LO12_R
+    (choice kinds.BaseToTp r.R_LARCH_TLS_LE_LO12_R)

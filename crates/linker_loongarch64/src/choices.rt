@@ -12,6 +12,7 @@ ghost use Rattle.linker_loongarch64.specs.LoongArchChoices.{GotPairIsChosenAlike
 ghost use Rattle.linker_loongarch64.specs.LoongArchChoices.{AddressPairIsChosenAlike};
 ghost use Rattle.linker_loongarch64.specs.LoongArchChoices.{InitialExecPairIsChosenAlike};
 ghost use Rattle.linker_loongarch64.specs.LoongArchChoices.{DescriptorsAreChosenAlike};
+ghost use Rattle.linker_loongarch64.specs.LoongArchChoices.{ThreadOffsetIsChosenAlike};
 ghost use Rattle.linker_loongarch64.specs.LoongArchOriginals.{IsAddi, IsLd, IsLu12i, IsAddTp};
 ghost use Rattle.linker_loongarch64.specs.LoongArchOriginals.{IsPair, loongarch_matches};
 ghost use Rattle.linker_loongarch64.specs.LoongArchRewrites.{loongarch_rewrite};
@@ -66,8 +67,8 @@ fn are_of_descriptor(pcala: u32, addi: u32, ld: u32, jirl: u32) -> bool
 }
 
 /// Whether the sequence of a TLS descriptor is at an offset of the section: `pcalau12i a0`,
-/// `addi.d a0, a0, #imm`, `ld.d ra, a0, 0` and `jirl ra, ra, 0`. Compilers emit it as it is, so
-/// that a linker may rewrite it (LoongArch ELF psABI, the sequences of thread-local storage).
+/// `addi.d a0, a0, #imm`, `ld.d ra, a0, 0` and `jirl ra, ra, 0` (LoongArch ELF psABI, the sequences
+/// of thread-local storage). Where other instructions stand between them none of it is rewritten.
 #[inline]
 pub fn is_tls_descriptor_sequence(section: &[u8], offset: u64) -> bool
     ensures { IsTrue result ↔ IsDescriptorSequence section.now offset }
@@ -361,8 +362,10 @@ fn choice_by(
 /// - Nothing jumps between the instructions.
 /// - It deletes the bytes that `RelaxationKind::deleted` names.
 /// - Once a `lu12i.w` of local-exec is deleted, its `add.d` has to be deleted and each low part of
-///   it rewritten. They are, if they have the same symbol and addend and are marked, and are
-///   instructions that `BaseToTp` is meant for.
+///   it rewritten. They are chosen alike (`relocations_are_chosen_alike`), wherever they are, with
+///   the same facts except for `place`, where a `lu12i.w` and an `add.d` of `tp` are there and each
+///   low part is an instruction that `BaseToTp` is meant for. So all of them have to have the same
+///   symbol and addend, and to be marked if one of them is.
 /// - The distance is that of the addresses in `facts`. Deleted bytes make it smaller, but the
 ///   padding of an alignment between may grow. `write` then returns an error if the distance is out
 ///   of reach.
@@ -400,10 +403,12 @@ pub fn choose(
 /// With the same facts, except that each has its own place, both relocations of a pair are
 /// rewritten alike or neither is: of a load of a GOT entry, also where it loads an offset for
 /// initial-exec, and of an address. And so are the four of a TLS descriptor: all for local-exec,
-/// all for initial-exec, or none.
+/// all for initial-exec, or none. And so are the `lu12i.w` of an offset from the thread pointer, its
+/// `add.d` and its low parts, wherever they are, where each is at an instruction that it asks for.
 pub fn relocations_are_chosen_alike()
     ensures got { GotPairIsChosenAlike }
     ensures address { AddressPairIsChosenAlike }
     ensures initial_exec { InitialExecPairIsChosenAlike }
     ensures descriptor { DescriptorsAreChosenAlike }
+    ensures thread { ThreadOffsetIsChosenAlike }
 {}

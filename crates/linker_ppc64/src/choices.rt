@@ -225,8 +225,8 @@ fn choice_by(
 ///
 /// - The instructions of one sequence are not next to each other, and each is chosen alone. The
 ///   facts are the same for all of them, except for `place`. If one of them keeps its relocation,
-///   all do: where each is the instruction that its rewrites are meant for, those of a pair and of
-///   `__tls_get_addr` are chosen alike (`relocations_are_chosen_alike`).
+///   all have to; where each is the instruction that its rewrites are meant for, those of a pair
+///   and of `__tls_get_addr` are chosen alike (`relocations_are_chosen_alike`).
 /// - The register that an `addis` before a `nop` has set, and for TLS also the one that the `ld`
 ///   has set, are read by the instructions of the sequence only, as the ABI asks of compilers.
 /// - `tls_base` is the thread pointer, 0x7000 above the first byte of the TLS segment. After

@@ -1,11 +1,12 @@
 -- The relocations of a sequence are chosen alike: each by the same conditions.
-use Rattle.std.proofs.Common.{◌≡◌, inl, inr, ℕ, List, [], ◌∷◌, ap, ◌∙◌}
-use Rattle.linker_elf.specs.Choices.{AllHold, IsFirst, choice}
-use Rattle.linker_riscv64.specs.RiscVChoices.{RiscVEntry, RiscVChoice, AppliesToRiscV, IsAskedFor, riscv_row_of, riscv_entries, start_of_descriptor, to_local_exec, to_short_local_exec, IsAmong, AreChosenAlike, deleted, nop, from_zero, from_high, from_got, DescriptorIsChosenAlike, GotPairIsChosenAlike}
+use Rattle.std.proofs.Common.{◌≡◌, ◌↔◌, inl, inr, ℕ, List, [], ◌∷◌, ap, ◌∙◌, slice_index_or}
+use Rattle.linker_elf.specs.Choices.{AllHold, IsFirst, entry, choice, facts_on}
+use Rattle.linker_riscv64.specs.RiscVChoices.{RiscVEntry, RiscVChoice, AppliesToRiscV, IsAskedFor, riscv_row_of, riscv_entries, start_of_descriptor, to_local_exec, to_short_local_exec, IsAmong, AreChosenAlike, deleted, nop, from_zero, from_high, from_got, DescriptorIsChosenAlike, GotPairIsChosenAlike, AbsoluteIsChosenAlike, ThreadOffsetIsChosenAlike}
 use Rattle.linker_elf.specs.declared.riscv64.relocations.RiscVRelocation.TheVariants as r
 use Rattle.linker_riscv64.specs.declared.rewrites.RelaxationKind.TheVariants as kinds
 use Rattle.linker_elf.specs.declared.elf.choice.LinkFacts.{LinkFacts}
 use Rattle.linker_riscv64.specs.declared.rewrites.RelaxationKind.{RelaxationKind}
+use Rattle.linker_elf.specs.declared.riscv64.relocations.RiscVRelocation.{RiscVRelocation}
 
 abbrev two : RiscVChoice → RiscVChoice → RiscVChoice × RiscVChoice
 two a b = (a, b)
@@ -121,3 +122,60 @@ got_pair facts low section o p a b there f g =
     cases (inl h) (inr k) = absurd (k.0 (there.1, (h.0.1.0, (h.0.1.1.0, (h.0.1.1.1.0, (low, h.0.1.1.1.1))))))
     cases (inr h) (inl k) = absurd (h.0 (there.0, (k.0.1.0, (k.0.1.1.0, (k.0.1.1.1.0, k.0.1.1.1.1.1)))))
     cases (inr h) (inr k) = inr (inl (both h.1 k.1))
+
+-- ---- a `lui` and what reads it
+
+-- `d` applies where `e` does
+one_alike : (A B : RiscVEntry → Type 0) (d e : RiscVEntry) (m n a b : RiscVChoice)
+    → IsFirst A (d ∷ []) m a → IsFirst B (e ∷ []) n b → (A d ↔ B e)
+    → IsAmong (a, b) ((choice d.kind d.relocation, choice e.kind e.relocation) ∷ (m, n) ∷ [])
+one_alike A B d e m n a b (inl h) (inl k) f = inl (both h.1 k.1)
+one_alike A B d e m n a b (inl h) (inr k) f = absurd (k.0 (f.0 h.0))
+one_alike A B d e m n a b (inr h) (inl k) f = absurd (h.0 (f.1 k.0))
+one_alike A B d e m n a b (inr h) (inr k) f = inr (inl (both h.1 k.1))
+
+-- and where it doesn't, another entry may
+first_alike : (A B : RiscVEntry → Type 0) (d d' e : RiscVEntry) (m n a b : RiscVChoice)
+    → IsFirst A (d ∷ d' ∷ []) m a → IsFirst B (e ∷ []) n b → (A d ↔ B e)
+    → IsAmong (a, b) ((choice d.kind d.relocation, choice e.kind e.relocation) ∷ (choice d'.kind d'.relocation, n) ∷ (m, n) ∷ [])
+first_alike A B d d' e m n a b (inl h) (inl k) f = inl (both h.1 k.1)
+first_alike A B d d' e m n a b (inl h) (inr k) f = absurd (k.0 (f.0 h.0))
+first_alike A B d d' e m n a b (inr h) (inl k) f = absurd (h.0 (f.1 k.0))
+first_alike A B d d' e m n a b (inr (_, inl h)) (inr k) f = inr (inl (both h.1 k.1))
+first_alike A B d d' e m n a b (inr (_, inr h)) (inr k) f = inr (inr (inl (both h.1 k.1)))
+
+abbrev at : RiscVRelocation → List ℕ → ℕ → LinkFacts → RiscVEntry → Type 0
+at name = AppliesToRiscV (IsAskedFor name)
+
+-- an entry of a relocation
+abbrev nth : ℕ → RiscVRelocation → RiscVEntry
+nth i name = slice_index_or (riscv_entries name) i (entry kinds.NoOp name [])
+
+-- Only the instructions differ: no place enters the conditions.
+pub absolute : AbsoluteIsChosenAlike
+absolute = (
+  λ section o p n facts a b there f g.
+      first_alike (at r.R_RISCV_HI20 section o facts) (at r.R_RISCV_LO12_I section p (facts_on n facts))
+      (nth 0 r.R_RISCV_HI20) (nth 1 r.R_RISCV_HI20) (nth 0 r.R_RISCV_LO12_I) _ _ a b f g
+      (λ h. (there.1, h.1), λ h. (there.0, h.1)),
+  λ section o p n facts a b there f g.
+      first_alike (at r.R_RISCV_HI20 section o facts) (at r.R_RISCV_LO12_S section p (facts_on n facts))
+      (nth 0 r.R_RISCV_HI20) (nth 1 r.R_RISCV_HI20) (nth 0 r.R_RISCV_LO12_S) _ _ a b f g
+      (λ h. (there.1, h.1), λ h. (there.0, h.1)),
+)
+
+pub thread_offset : ThreadOffsetIsChosenAlike
+thread_offset = (
+  λ section o p n facts a b there f g.
+      one_alike (at r.R_RISCV_TPREL_HI20 section o facts) (at r.R_RISCV_TPREL_ADD section p (facts_on n facts))
+      (nth 0 r.R_RISCV_TPREL_HI20) (nth 0 r.R_RISCV_TPREL_ADD) _ _ a b f g
+      (λ h. (there.1, h.1), λ h. (there.0, h.1)),
+  λ section o p n facts a b there f g.
+      one_alike (at r.R_RISCV_TPREL_HI20 section o facts) (at r.R_RISCV_TPREL_LO12_I section p (facts_on n facts))
+      (nth 0 r.R_RISCV_TPREL_HI20) (nth 0 r.R_RISCV_TPREL_LO12_I) _ _ a b f g
+      (λ h. (there.1, h.1), λ h. (there.0, h.1)),
+  λ section o p n facts a b there f g.
+      one_alike (at r.R_RISCV_TPREL_HI20 section o facts) (at r.R_RISCV_TPREL_LO12_S section p (facts_on n facts))
+      (nth 0 r.R_RISCV_TPREL_HI20) (nth 0 r.R_RISCV_TPREL_LO12_S) _ _ a b f g
+      (λ h. (there.1, h.1), λ h. (there.0, h.1)),
+)

@@ -6,7 +6,7 @@ use Rattle.std.specs.Prelude.{ℕ, List, [], ◌∷◌, Option, pos, ◌⊎◌, 
 use Rattle.linker_elf.specs.Choices.{Condition, fixed_address, fixed_distance, compressible}
 use Rattle.linker_elf.specs.Choices.{marked, without_plt, low_12, in_reach, low_12_bounds}
 use Rattle.linker_elf.specs.Choices.{executable, bound, addend, within, in_reach_if_known}
-use Rattle.linker_elf.specs.Choices.{got_high_part, label_marked}
+use Rattle.linker_elf.specs.Choices.{got_high_part, label_marked, facts_on}
 use Rattle.linker_elf.specs.Choices.{Entry, entry, choice, Applies, IsFirst}
 use Rattle.linker_elf.specs.Originals.{HasWord}
 use Rattle.linker_riscv64.specs.RiscVOriginals.{riscv_matches, IsLui, IsAuipc, IsLd, IsAddTp}
@@ -221,3 +221,34 @@ GotPairIsChosenAlike =
       choice kinds.NoOp r.R_RISCV_PCREL_HI20,
       choice kinds.LdToAddi r.R_RISCV_PCREL_LO12_I,
     ) ∷ []) facts
+
+-- A `lui` and what reads it, wherever both are, with the same facts but for the place: where each is
+-- an instruction that its relocation asks for with the rewrites of the first line, both choices are
+-- those of one line, or both relocations are left.
+abbrev pub OfLuiAreChosenAlike : RiscVRelocation → RiscVRelocation → RiscVChoice × RiscVChoice
+    → List (RiscVChoice × RiscVChoice) → Type 0
+OfLuiAreChosenAlike first second line lines =
+    (section : List ℕ) (o p n : ℕ) (facts : LinkFacts) (a b : RiscVChoice)
+    → AreAskedFor first second (line ∷ []) section o p → IsRiscVChoice first section o facts a
+    → IsRiscVChoice second section p (facts_on n facts) b
+    → IsAmong (a, b) (line ∷ lines ++ (choice kinds.NoOp first, choice kinds.NoOp second) ∷ [])
+
+-- the `lui` of an address and a low part of it, which is left where the `lui` becomes a `c.lui`
+abbrev pub LowPartIsChosenAlike : RiscVRelocation → Type 0
+LowPartIsChosenAlike low =
+    OfLuiAreChosenAlike r.R_RISCV_HI20 low
+    (choice kinds.Hi20Delete r.R_RISCV_NONE, choice kinds.Lo12Rs1ToZero low)
+    ((choice kinds.Hi20ToCLui r.R_RISCV_RVC_LUI, choice kinds.NoOp low) ∷ [])
+
+abbrev pub AbsoluteIsChosenAlike : Type 0
+AbsoluteIsChosenAlike =
+    LowPartIsChosenAlike r.R_RISCV_LO12_I × LowPartIsChosenAlike r.R_RISCV_LO12_S
+
+-- the `lui` of an offset from the thread pointer with its `add` and with a low part of it
+abbrev pub ThreadOffsetIsChosenAlike : Type 0
+ThreadOffsetIsChosenAlike =
+    OfLuiAreChosenAlike r.R_RISCV_TPREL_HI20 r.R_RISCV_TPREL_ADD (deleted, deleted) []
+    × OfLuiAreChosenAlike r.R_RISCV_TPREL_HI20 r.R_RISCV_TPREL_LO12_I
+    (deleted, choice kinds.BaseToTp r.R_RISCV_TPREL_LO12_I) []
+    × OfLuiAreChosenAlike r.R_RISCV_TPREL_HI20 r.R_RISCV_TPREL_LO12_S
+    (deleted, choice kinds.BaseToTp r.R_RISCV_TPREL_LO12_S) []

@@ -7,6 +7,7 @@ ghost use Rattle.linker_elf.specs.Inner.ChoiceTables.{IsTableOf};
 ghost use Rattle.linker_elf.specs.Value.{sum_64};
 ghost use Rattle.linker_riscv64.specs.Inner.Choices.{IsThere};
 ghost use Rattle.linker_riscv64.specs.RiscVChoices.{DescriptorIsChosenAlike, GotPairIsChosenAlike};
+ghost use Rattle.linker_riscv64.specs.RiscVChoices.{AbsoluteIsChosenAlike, ThreadOffsetIsChosenAlike};
 ghost use Rattle.linker_riscv64.specs.RiscVChoices.{IsAskedFor, IsRiscVChoice, riscv_entries};
 ghost use Rattle.linker_riscv64.specs.RiscVOriginals.{riscv_matches};
 ghost use Rattle.linker_riscv64.specs.RiscVRewrites.{riscv_rewrite, FitsClui};
@@ -288,15 +289,18 @@ fn choice_by(
 /// LLVM 19), so that `is_label_marked` is false for what they make.
 ///
 /// All four relocations of a descriptor, and both of a load from the GOT, are chosen alike
-/// (`relocations_are_chosen_alike`), with the same facts: those of the high part that the label of
-/// the others names, also its symbol, addend and place. Of a descriptor also `is_marked` is that of
-/// `R_RISCV_TLSDESC_HI20`.
+/// (`relocations_are_chosen_alike`), where each is at an instruction that it asks for, with the same
+/// facts: those of the high part that the label of the others names, also its symbol, addend and
+/// place. Of a descriptor also `is_marked` is that of `R_RISCV_TLSDESC_HI20`.
 ///
 /// The linker sees to the rest:
 ///
-/// - Once a `lui` is deleted, each low part of it has to be rewritten. They are, if they have the
-///   same S + A and are marked, and are instructions that `Lo12Rs1ToZero` is meant for. So have the
-///   `add` and the low parts of a `lui` of an offset, with `BaseToTp`.
+/// - Once a `lui` is deleted, each low part of it has to be rewritten, and of a `lui` of an offset
+///   from the thread pointer the `add` has to be deleted. They are chosen alike
+///   (`relocations_are_chosen_alike`), with the same facts except for `place`, where a `lui` and an
+///   `add` of `tp` are there and each low part is an instruction that its rewrite is meant for:
+///   `Lo12Rs1ToZero`, and of an offset `BaseToTp`. So all of one `lui` have to have the same S + A,
+///   and to be marked if one of them is.
 /// - After `AddiToAuipc` the place is that of the `addi`, for the `ld` behind it too, and the
 ///   symbol of the latter's `R_RISCV_PCREL_LO12_I` is the GOT entry. So it is of an
 ///   `R_RISCV_PCREL_LO12_I` that isn't rewritten and has a high part of the GOT.
@@ -353,8 +357,14 @@ pub fn choose(
 
 /// With the same facts, all four relocations of a TLS descriptor are rewritten for local-exec, all
 /// for initial-exec, or none; and the `auipc` and the `ld` of a GOT entry are both rewritten or
-/// neither is. This holds where each is at an instruction that it asks for, wherever that is.
+/// neither is. With the same facts, except that each has its own place, the `lui` of an address is
+/// deleted exactly where a low part of it is rewritten: where it becomes a `c.lui` the low part
+/// stays. And the `lui` of an offset from the thread pointer, its `add` and its low parts are all
+/// rewritten or none is. This holds where each is at an instruction that it asks for, wherever that
+/// is.
 pub fn relocations_are_chosen_alike()
     ensures descriptor { DescriptorIsChosenAlike }
     ensures got { GotPairIsChosenAlike }
+    ensures absolute { AbsoluteIsChosenAlike }
+    ensures thread { ThreadOffsetIsChosenAlike }
 {}

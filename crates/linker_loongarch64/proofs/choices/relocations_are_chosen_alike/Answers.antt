@@ -1,4 +1,4 @@
-use Rattle.linker_loongarch64.proofs.LoongArchAlike.{got_pair, address_pair, initial_exec_pair, descriptor_low, descriptor_load, descriptor_call}
+use Rattle.linker_loongarch64.proofs.LoongArchAlike.{got_pair, address_pair, initial_exec_pair, descriptor_low, descriptor_load, descriptor_call, thread_offset}
 use Rattle.linker_loongarch64.proofs.choices.relocations_are_chosen_alike.Goals as goal
 
 pub returns-clause-got : goal.returns-clause-got
@@ -12,3 +12,6 @@ returns-clause-initial_exec c = initial_exec_pair
 
 pub returns-clause-descriptor : goal.returns-clause-descriptor
 returns-clause-descriptor c = (descriptor_low, descriptor_load, descriptor_call)
+
+pub returns-clause-thread : goal.returns-clause-thread
+returns-clause-thread c = thread_offset
