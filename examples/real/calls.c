@@ -1,15 +1,9 @@
 /* Calls of functions of this object, of another one and of the C library: direct ones, by pointers, at
  * the end of a function, of weak symbols that something defines or nothing, and switches. */
-#include <ctype.h>
-#include <errno.h>
-#include <locale.h>
 #include <setjmp.h>
 #include <stdio.h>
 #include <stdlib.h>
 #include <string.h>
-#include <strings.h>
-#include <time.h>
-#include <wchar.h>
 
 #include "calls.h"
 
@@ -79,37 +73,6 @@ static APART void pointers(void) {
     puts("");
 }
 
-static int by_name(const void *a, const void *b) {
-    return strcasecmp(*(const char *const *)a, *(const char *const *)b);
-}
-
-static void library(void) {
-    const char *words[] = {"TOC", "got", "Plt", "gOt2", "pLT0", "a"};
-    qsort(words, 6, sizeof *words, by_name);
-    for (int i = 0; i < 6; i++) printf("%s ", words[i]);
-    char line[] = "one,two;three", *rest = NULL;
-    for (char *word = strtok_r(line, ",;", &rest); word; word = strtok_r(NULL, ",;", &rest))
-        printf("%s ", word);
-    printf("%s %d %d\n", setlocale(LC_ALL, "C"), strncasecmp("ABCx", "abcy", 3), toupper('q'));
-    errno = 0;
-    long number = strtol("0x7fz", &rest, 0);
-    printf("%ld %s %d ", number, rest, errno);
-    number = strtol("-999999999999999999999", NULL, 10);
-    printf("%d %d %s\n", number < 0, errno == ERANGE, strerror(ENOENT));
-    fopen("/nothing/here", "r");
-    printf("%d %d %d\n", errno == ENOENT, isalpha('x') != 0, isdigit('x') != 0);
-    locale_t here = newlocale(LC_ALL_MASK, "C", NULL), before = uselocale(here);
-    printf("%d %.3f %s %d\n", strcasecmp("Straight", "sTRAIGHT"), strtod("1e3x", &rest), rest,
-           localeconv()->decimal_point[0]);
-    uselocale(before);
-    freelocale(here);
-    wchar_t wide[8];
-    printf("%zu %d\n", mbstowcs(wide, "wide", 8), wcscmp(wide, L"wide"));
-    time_t start = 86400;
-    struct tm parts;
-    printf("%d %d\n", gmtime_r(&start, &parts)->tm_year, parts.tm_mday);
-}
-
 static jmp_buf place;
 static APART void jump(int n) {
     if (n == 0) longjmp(place, 3);
@@ -125,7 +88,6 @@ int main(int argc, char **argv) {
     for (int i = 0; i < 8; i++) printf("%s ", name(i * argc));
     puts("");
     pointers();
-    library();
     volatile int left = 5;
     if (setjmp(place) < 3) jump(left);
     printf("%d %ld %ld\n", left, fibonacci(15), last(last_inside(8)));

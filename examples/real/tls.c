@@ -7,7 +7,6 @@
 #include <stdio.h>
 #include <stdlib.h>
 #include <string.h>
-#include <strings.h>
 
 #include "tls.h"
 
@@ -111,8 +110,7 @@ static void *run(void *argument) {
     long big = strtol("99999999999999999999999", NULL, 10); /* sets this thread's errno */
     int error = errno;
     errno = (int)part->number;
-    snprintf(to, (size_t)(end - to), "%d %d %d %d\n", big > 0, error == ERANGE, errno,
-             strcasecmp("RELOCATION", "relocatiox") < 0);
+    snprintf(to, (size_t)(end - to), "%d %d %d\n", big > 0, error == ERANGE, errno);
     return NULL;
 }
 

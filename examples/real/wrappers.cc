@@ -29,7 +29,10 @@ int main() {
     std::printf("%ld\n", work(1));
     for (int i = 0; i < 4; i++) {
         long result = 0;
-        std::thread([&] { result = work(i) + work(i + 1); }).join();
+        std::thread([&] {
+            result = work(i);
+            result += work(i + 1);
+        }).join();
         std::printf("%d %ld %d\n", i, result, alive());
     }
     std::vector<std::unique_ptr<Shape>> shapes;
