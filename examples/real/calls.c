@@ -1,5 +1,5 @@
-/* Calls of functions of this object, of another one and of the C library: direct ones, by pointers, at
- * the end of a function, of weak symbols that something defines or nothing, and switches. */
+/* Calls of functions of this object, of another one and of the C library: direct ones, by pointers,
+ * at the end of a function, of weak symbols that something defines or nothing, and switches. */
 #include <setjmp.h>
 #include <stdio.h>
 #include <stdlib.h>
@@ -12,10 +12,11 @@ extern WEAK int absent_array[8];
 WEAK long absent(long), absent_too(void);
 
 long main_twice(long n) { return 2 * n + 1; }
-WEAK long replaced(long n) { return other_twice(n) + 10; } /* one of two weak or global ones counts */
+/* the other object has another one, which isn't weak */
+WEAK long replaced(long n) { return other_twice(n) + 10; }
 
 static APART long inside(long n) { return n * 3; }
-static APART long last(long n) { return other_twice(n + 1); }         /* jumps */
+static APART long last(long n) { return other_twice(n + 1); } /* jumps */
 static APART long last_inside(long n) { return inside(n - 1); }
 static APART long last_pointer(function f, long n) { return f(n * 2); }
 static APART long fibonacci(long n) { return n < 2 ? n : fibonacci(n - 1) + fibonacci(n - 2); }
@@ -66,8 +67,8 @@ static APART void pointers(void) {
     char text[8];
     copy(text, "copied", 7);
     puts(text);
-    printf("%d %d %d %d\n", is_same(&absent_data, NULL), is_same(absent_array, NULL), absent_too != NULL,
-           constant_table[5] != NULL);
+    printf("%d %d %d %d\n", is_same(&absent_data, NULL), is_same(absent_array, NULL),
+           absent_too != NULL, constant_table[5] != NULL);
     for (int i = 0; i < 5; i++) printf("%ld ", constant_table[i](-4 - i));
     for (int i = 0; i < 4; i++) printf("%ld ", table[i](5 + i) + other_table[i](i));
     puts("");

@@ -6,7 +6,9 @@
 
 long other_twice(long n) { return 2 * n; }
 long other_back(long n, function f) { return f(n + 1) + main_twice(n); }
-struct three other_three(long n) { return (struct three){n, n * n, -n}; }
+struct three other_three(long n) {
+    return (struct three){n, n * n, -n};
+}
 long other_hidden(long n) { return n ^ 0x55; }
 long replaced(long n) { return n + 1000; }
 static APART long local(long n) { return n - 7; }
@@ -16,7 +18,8 @@ long other_sum(int count, ...) {
     va_list numbers;
     long sum = 0;
     va_start(numbers, count);
-    for (int i = 0; i < count; i++) sum += i & 1 ? (long)va_arg(numbers, double) : va_arg(numbers, long);
+    for (int i = 0; i < count; i++)
+        sum += i & 1 ? (long)va_arg(numbers, double) : va_arg(numbers, long);
     va_end(numbers);
     return sum;
 }

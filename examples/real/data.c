@@ -17,9 +17,11 @@ static const char large_constant[68000] = {[67999] = 4};
 static char page[64] __attribute__((aligned(4096)));
 static struct record last = {&other_record, "last", 5, 6, 0.5}, first = {&last, "first", 7, 8, 9.5};
 
-static int *const constant_places[] = {&counter, &other_number, main_numbers + 63, &other_numbers[99]};
-static const void *places[] = {large + 79999, large_set + 65999, &other_text[5], &first.number, &bytes[32],
-                               &other_large[69999], (const char *)masks + 7, &large_constant[67999]};
+static int *const constant_places[] = {&counter, &other_number, main_numbers + 63,
+                                       &other_numbers[99]};
+static const void *places[] = {
+    large + 79999, large_set + 65999,   &other_text[5],          &first.number,
+    &bytes[32],    &other_large[69999], (const char *)masks + 7, &large_constant[67999]};
 
 static APART void scalars(int n) {
     counter += n;
@@ -42,8 +44,8 @@ static APART void arrays(int n) {
     other_numbers[n] += other_numbers[99] + other_constants[49];
     other_zero[19999]++;
     other_zero[n * 100] += other_constants[n - 1];
-    printf("%d %d %d %d %d %d %d\n", main_numbers[n], halves[n & 31], bytes[n & 31], other_numbers[n],
-           other_zero[19999], other_zero[n * 100], other_numbers[50]);
+    printf("%d %d %d %d %d %d %d\n", main_numbers[n], halves[n & 31], bytes[n & 31],
+           other_numbers[n], other_zero[19999], other_zero[n * 100], other_numbers[50]);
     printf("%g %g %g %llx\n", fractions[n % 3], (double)singles[n & 1], 0.7 + fractions[2] * n,
            (unsigned long long)(masks[0] ^ masks[n % 3] ^ UINT64_C(0x123456789abcdef)));
 }
@@ -55,8 +57,9 @@ static APART void all_large(long n) {
     other_large[69999] = (char)(other_large[69999] + large_set[65999]);
     other_large_zero[89999]++;
     other_large_zero[n * 1001] = (char)n;
-    printf("%d %d %d %d %d %d %d\n", large[79999], large[n * 1000], large_set[65999], other_large[69999],
-           other_large_zero[89999], other_large_zero[n * 1001], large_constant[67999]);
+    printf("%d %d %d %d %d %d %d\n", large[79999], large[n * 1000], large_set[65999],
+           other_large[69999], other_large_zero[89999], other_large_zero[n * 1001],
+           large_constant[67999]);
     memcpy(large + 100, other_large, 50000);
     memset(page, 1, sizeof page);
     printf("%d %d %d\n", large[100], (int)((uintptr_t)page & 4095), page[63]);
@@ -70,7 +73,8 @@ static APART void pointers(int n) {
     printf("%d %d %c %g %d %d %d %d\n", *(const char *)places[0], *(const char *)places[1],
            *(const char *)places[2], *(const double *)places[3], *(const uint8_t *)places[4],
            *(const char *)places[5], *(const uint8_t *)places[6], *(const char *)places[7]);
-    printf("%s %s %s %s\n", other_names[n % 3], other_names[2], other_text + n, other_list->next->name);
+    printf("%s %s %s %s\n", other_names[n % 3], other_names[2], other_text + n,
+           other_list->next->name);
     printf("%d %d\n", other_place(1) == &other_numbers[50], other_place(2) == main_numbers + 10);
     *other_place(3) += n;
     *other_place(4) += *other_place(3);

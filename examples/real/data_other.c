@@ -4,7 +4,8 @@
 extern int main_numbers[64];
 int other_number = 12, other_numbers[100] = {1, 2, 3, [50] = 4, [99] = 5}, other_zero[20000];
 const int other_constants[50] = {9, 8, 7, [49] = -6};
-const char other_text[] = "text of another object", *const other_names[3] = {"first", other_text, other_text + 8};
+const char other_text[] = "text of another object", *const other_names[3] = {"first", other_text,
+                                                                             other_text + 8};
 static struct record end = {0, "end", -3, 200, 0.125};
 struct record other_record = {&end, "other", -2, 100, 2.5}, *other_list = &other_record;
 long other_hidden = -77;

@@ -1,4 +1,4 @@
-/* Functions of the C library that use thread-local variables: `errno`, the locale and its tables. */
+/* Functions of the C library that use thread-local variables: `errno` and the locale's tables. */
 #include <ctype.h>
 #include <errno.h>
 #include <locale.h>

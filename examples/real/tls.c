@@ -1,6 +1,6 @@
-/* Thread-local variables of this object and of another one, initialised and not, in several threads:
- * their values and addresses, with constant and variable offsets, several of one module at once, and
- * across calls. */
+/* Thread-local variables of this object and of another one, initialised and not, in several
+ * threads: their values and addresses, with constant and variable offsets, several of one module at
+ * once, and across calls. */
 #include <errno.h>
 #include <pthread.h>
 #include <stdint.h>
@@ -16,57 +16,57 @@ static long (*volatile escapes)(void *);
 static APART long low_bits(void *at) { return (long)((uintptr_t)at & 7); }
 
 /* The static variables of a group, and functions that use these and the shared ones. */
-#define USE(name, model)                                                                     \
-    static MODEL(model) __thread int name##_set = 7;                                         \
-    static MODEL(model) __thread long name##_unset;                                          \
-    static MODEL(model) __thread char name##_room[ROOM];                                     \
-    static MODEL(model) __thread short name##_array[30];                                     \
-    static MODEL(model) __thread struct pair name##_inner = {3, 4};                          \
-    static MODEL(model) __thread unsigned char name##_bytes[16];                             \
-    static MODEL(model) __thread double name##_double = 0.5;                                 \
-    static MODEL(model) __thread float name##_float;                                         \
-    static MODEL(model) __thread char name##_aligned[32] __attribute__((aligned(32)));       \
-    static APART long name##_values(long n) {                                                \
-        name##_set += (int)n;                                                                \
-        name##_unset -= n;                                                                   \
-        name##_array[3] = (short)(name##_array[2] + n);                                      \
-        name##_array[n & 15]++;                                                              \
-        name##_bytes[5] = (unsigned char)(name##_bytes[4] - n);                              \
-        name##_double *= 1.5;                                                                \
-        name##_float += 0.25f;                                                               \
-        return name##_set + name##_unset + name##_array[3] + name##_bytes[5] +               \
-               (long)(name##_double * 8) + (long)(name##_float * 4);                         \
-    }                                                                                        \
-    static APART short *name##_element(long i) { return &name##_array[i + 2]; }              \
-    static APART long *name##_second(void) { return &name##_inner.second; }                  \
-    static APART void *name##_shared_at(int which) {                                         \
-        if (which == 0) return &name##_shared;                                               \
-        return which == 1 ? (void *)&name##_shorts[7] : (void *)&name##_pair.second;         \
-    }                                                                                        \
-    static APART long name##_calls(long n) {                                                 \
-        long sum = 0;                                                                        \
-        for (long i = 0; i < n; i++) {                                                       \
-            sum += name##_change(i) + name##_inner.first;                                    \
-            name##_inner.second += name##_shared + name##_shorts[i & 7];                     \
-            name##_pair.first -= name##_set;                                                 \
-            if (escapes) sum += escapes(&name##_inner) + escapes(&name##_pair);              \
-            name##_room[ROOM - 1]++;                                                         \
-        }                                                                                    \
-        return sum + name##_pair.first + name##_byte + name##_room[ROOM - 1];                \
-    }                                                                                        \
-    static APART int name##_zero(void) {                                                     \
-        memset(name##_bytes, 1, sizeof name##_bytes);                                        \
-        memcpy(name##_aligned, name##_bytes, 16);                                            \
-        return (int)((uintptr_t)name##_aligned & 31) + name##_aligned[9];                    \
-    }                                                                                        \
-    static APART int name##_print(char *to, size_t room, long n) {                           \
-        long values = name##_values(n), calls = name##_calls(n + 2);                         \
-        *name##_element(n & 7) -= 3;                                                         \
-        *name##_second() += *name##_element(1);                                              \
-        *(long *)name##_shared_at(0) += *(short *)name##_shared_at(1);                       \
-        return snprintf(to, room, #name " %ld %ld %ld %ld %ld %d %d\n", values, calls,       \
-                        name##_inner.second, name##_shared, *(long *)name##_shared_at(2),    \
-                        name##_zero(), name##_array[2 + (n & 7)]);                           \
+#define USE(name, model)                                                                  \
+    static MODEL(model) __thread int name##_set = 7;                                      \
+    static MODEL(model) __thread long name##_unset;                                       \
+    static MODEL(model) __thread char name##_room[ROOM];                                  \
+    static MODEL(model) __thread short name##_array[30];                                  \
+    static MODEL(model) __thread struct pair name##_inner = {3, 4};                       \
+    static MODEL(model) __thread unsigned char name##_bytes[16];                          \
+    static MODEL(model) __thread double name##_double = 0.5;                              \
+    static MODEL(model) __thread float name##_float;                                      \
+    static MODEL(model) __thread char name##_aligned[32] __attribute__((aligned(32)));    \
+    static APART long name##_values(long n) {                                             \
+        name##_set += (int)n;                                                             \
+        name##_unset -= n;                                                                \
+        name##_array[3] = (short)(name##_array[2] + n);                                   \
+        name##_array[n & 15]++;                                                           \
+        name##_bytes[5] = (unsigned char)(name##_bytes[4] - n);                           \
+        name##_double *= 1.5;                                                             \
+        name##_float += 0.25f;                                                            \
+        return name##_set + name##_unset + name##_array[3] + name##_bytes[5] +            \
+               (long)(name##_double * 8) + (long)(name##_float * 4);                      \
+    }                                                                                     \
+    static APART short *name##_element(long i) { return &name##_array[i + 2]; }           \
+    static APART long *name##_second(void) { return &name##_inner.second; }               \
+    static APART void *name##_shared_at(int which) {                                      \
+        if (which == 0) return &name##_shared;                                            \
+        return which == 1 ? (void *)&name##_shorts[7] : (void *)&name##_pair.second;      \
+    }                                                                                     \
+    static APART long name##_calls(long n) {                                              \
+        long sum = 0;                                                                     \
+        for (long i = 0; i < n; i++) {                                                    \
+            sum += name##_change(i) + name##_inner.first;                                 \
+            name##_inner.second += name##_shared + name##_shorts[i & 7];                  \
+            name##_pair.first -= name##_set;                                              \
+            if (escapes) sum += escapes(&name##_inner) + escapes(&name##_pair);           \
+            name##_room[ROOM - 1]++;                                                      \
+        }                                                                                 \
+        return sum + name##_pair.first + name##_byte + name##_room[ROOM - 1];             \
+    }                                                                                     \
+    static APART int name##_zero(void) {                                                  \
+        memset(name##_bytes, 1, sizeof name##_bytes);                                     \
+        memcpy(name##_aligned, name##_bytes, 16);                                         \
+        return (int)((uintptr_t)name##_aligned & 31) + name##_aligned[9];                 \
+    }                                                                                     \
+    static APART int name##_print(char *to, size_t room, long n) {                        \
+        long values = name##_values(n), calls = name##_calls(n + 2);                      \
+        *name##_element(n & 7) -= 3;                                                      \
+        *name##_second() += *name##_element(1);                                           \
+        *(long *)name##_shared_at(0) += *(short *)name##_shared_at(1);                    \
+        return snprintf(to, room, #name " %ld %ld %ld %ld %ld %d %d\n", values, calls,    \
+                        name##_inner.second, name##_shared, *(long *)name##_shared_at(2), \
+                        name##_zero(), name##_array[2 + (n & 7)]);                        \
     }
 
 USE(le, "local-exec")

@@ -1,5 +1,5 @@
-/* Thread-local variables that two objects share. With -DMODELS each group has a model of its own, and
- * else the compiler's flags say which. */
+/* Thread-local variables that two objects share. With -DMODELS each group has a model of its own,
+ * and else the compiler's flags say which. */
 #ifdef MODELS
 #define MODEL(name) __attribute__((tls_model(name)))
 #else
@@ -16,10 +16,10 @@ struct pair {
     long second;
 };
 
-#define GROUP(name, model)                                     \
-    extern MODEL(model) __thread long name##_shared;           \
-    extern MODEL(model) __thread short name##_shorts[20];      \
-    extern HIDDEN MODEL(model) __thread struct pair name##_pair; \
+#define GROUP(name, model)                                         \
+    extern MODEL(model) __thread long name##_shared;               \
+    extern MODEL(model) __thread short name##_shorts[20];          \
+    extern HIDDEN MODEL(model) __thread struct pair name##_pair;   \
     extern HIDDEN MODEL(model) __thread unsigned char name##_byte; \
     long name##_change(long);
 

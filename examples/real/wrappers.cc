@@ -20,7 +20,8 @@ static long work(int n) {
     Holder<double>::value *= 1.5;
     numbers.push_back(n);
     long sum = other_calls(n) + shared.number + mine.number + static_cast<long>(numbers.size());
-    return sum + static_cast<long>(Holder<double>::value * 8) + static_cast<long>(shared.text.size());
+    return sum + static_cast<long>(Holder<double>::value * 8) +
+           static_cast<long>(shared.text.size());
 }
 
 static int alive() { return __atomic_load_n(&Counted::alive, 5); }
@@ -39,7 +40,8 @@ int main() {
     shapes.emplace_back(new Square(3));
     shapes.emplace_back(other_shape(4));
     std::function<long(long)> each = [&](long n) { return shapes[n & 1]->area() + n; };
-    std::printf("%ld %ld %d\n", each(2), each(3), dynamic_cast<Square *>(shapes[1].get()) != nullptr);
+    std::printf("%ld %ld %d\n", each(2), each(3),
+                dynamic_cast<Square *>(shapes[1].get()) != nullptr);
     std::printf("%ld %d %ld %ld\n", inlined, plain, Holder<long>::value, once<long>(9));
     return 0;
 }

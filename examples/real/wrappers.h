@@ -19,13 +19,11 @@ struct Square : Shape {
     long area() const override;
 };
 
-extern thread_local Counted shared;     // has a constructor in the other object
-extern thread_local int plain;          // may have one, as far as this object knows
-template <typename T> struct Holder {
-    static thread_local T value;
-};
+extern thread_local Counted shared; // has a constructor in the other object
+extern thread_local int plain;      // may have one, as far as this object knows
+template <typename T> struct Holder { static thread_local T value; };
 template <typename T> thread_local T Holder<T>::value = T(3);
-inline thread_local long inlined = 11;  // of both objects
+inline thread_local long inlined = 11; // of both objects
 
 template <typename T> T &once(T start) {
     static T value = start;

@@ -14,6 +14,6 @@ struct Other final : Square {
     using Square::Square;
     long area() const override { return Square::area() + 1; }
 };
-}  // namespace
+} // namespace
 Shape *other_shape(long side) { return new Other(side); }
 long other_calls(long n) { return inlined += n + Holder<long>::value++ + once<long>(5)++; }
