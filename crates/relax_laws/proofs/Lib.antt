@@ -2,3 +2,5 @@ pub mod Covering
 pub mod First
 pub mod Reaching
 pub mod Shrunk
+pub mod Writable
+pub mod Made

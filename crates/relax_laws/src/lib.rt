@@ -4,6 +4,7 @@
 ghost use Rattle.std.specs.Prelude.{◌≡◌};
 ghost use Rattle.relax_laws.specs.Calls.{call_shapes, CallsAreShrunkAlike};
 ghost use Rattle.relax_laws.specs.FirstBytes.{FirstBytesAreKept};
+ghost use Rattle.relax_laws.specs.Writable.{ShortSitesAreWritable, MadeSitesHaveInstructions};
 
 use linker_relax::relaxation::Shapes;
 use linker_relax::shapes::riscv64::CALL;
@@ -25,4 +26,18 @@ pub fn calls_are_shrunk_alike()
 /// returns, and they are the item's first ones. So `pack_run` never returns `NotItsFirstBytes` then.
 pub fn first_bytes_are_kept()
     ensures { FirstBytesAreKept }
+{}
+
+/// What `relax` made shorter, `pack_run` can write with the deletions that it returns: the written
+/// instruction reaches the target. So where the bytes of a site are those that it was made of
+/// (`has_its_instructions` of `linker_pack`), and the site has a short shape, `pack_run` never returns
+/// `OutOfReach` for it, nor any other error that is about the site alone.
+pub fn short_sites_are_writable()
+    ensures { ShortSitesAreWritable }
+{}
+
+/// The sites that `items` of `linker_runs` returns have their instructions, as
+/// `short_sites_are_writable` asks.
+pub fn made_sites_have_instructions()
+    ensures { MadeSitesHaveInstructions }
 {}
