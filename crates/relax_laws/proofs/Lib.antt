@@ -4,3 +4,4 @@ pub mod Reaching
 pub mod Shrunk
 pub mod Writable
 pub mod Made
+pub mod LongCalls

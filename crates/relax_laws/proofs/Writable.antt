@@ -70,7 +70,7 @@ module _ (start from to : ℕ) where
       (units : (v : ℤ) → IsInUnits row.size v bytes) (words : (v : ℤ) → IsInWords row.size row.kind v bytes)
       (small : (v : ℤ) → IsWithin (reach_of row) v → (neg_ℤ (pos (2 ^ 63)) ≤ℤ v) × (v <ℤ pos (2 ^ 63)))
       (value : value_of row (operands_of (sum_64 start from) (sum_64 start to)) ≡ Some (cast_signed w64 number)) where
-    not_rejected : IsInReach row (pos to -ℤ pos from) → IsRejected row (operands_of (sum_64 start from) (sum_64 start to)) bytes → ⊥
+    pub not_rejected : IsInReach row (pos to -ℤ pos from) → IsRejected row (operands_of (sum_64 start from) (sum_64 start to)) bytes → ⊥
     not_rejected near rejected =
         let v : ℤ = pos to -ℤ pos from in
         let bounds = small v near.within in

@@ -4,7 +4,8 @@
 ghost use Rattle.std.specs.Prelude.{◌≡◌};
 ghost use Rattle.relax_laws.specs.Calls.{call_shapes, CallsAreShrunkAlike};
 ghost use Rattle.relax_laws.specs.FirstBytes.{FirstBytesAreKept};
-ghost use Rattle.relax_laws.specs.Writable.{ShortSitesAreWritable, MadeSitesHaveInstructions};
+ghost use Rattle.relax_laws.specs.Writable.{ShortSitesAreWritable, NearCallsAreWritable};
+ghost use Rattle.relax_laws.specs.Writable.{MadeSitesHaveInstructions};
 
 use linker_relax::relaxation::Shapes;
 use linker_relax::shapes::riscv64::CALL;
@@ -34,6 +35,13 @@ pub fn first_bytes_are_kept()
 /// `OutOfReach` for it, nor any other error that is about the site alone.
 pub fn short_sites_are_writable()
     ensures { ShortSitesAreWritable }
+{}
+
+/// Each call of RISC-V that has its instructions, `pack_run` can write where it and its target lie in
+/// the first 2 GiB less 2 KiB of the run, also where it stays long. So `pack_run` never returns
+/// `OutOfReach` for such a run.
+pub fn near_calls_are_writable()
+    ensures { NearCallsAreWritable }
 {}
 
 /// The sites that `items` of `linker_runs` returns have their instructions, as
