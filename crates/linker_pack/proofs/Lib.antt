@@ -3,5 +3,7 @@ mod Copied
 mod Nops
 mod Sites
 mod RiscV
-mod LoongArch
+pub mod LoongArch
 mod Items
+mod Same
+mod Origins

@@ -1,6 +1,6 @@
 -- What calls and addresses of LoongArch become.
-use Rattle.std.proofs.Common.{◌≡◌, ℕ, ◌+◌, ◌*◌, ◌^◌, ◌<◌, List, length, take, drop, refl, subst, ◌∙◌, ap, arith, inl, inr, ℤ, pos, ◌+ℤ◌, Bool, true, false, int_lt, Some, eqb, not}
-use Rattle.std.specs.Prelude.{IsSomeAnd, ◌*ℤ◌, ◌⊎◌}
+use Rattle.std.proofs.Common.{◌≡◌, ℕ, ◌+◌, ◌*◌, ◌^◌, ◌<◌, List, length, take, drop, refl, subst, ◌∙◌, ap, arith, inl, inr, ℤ, pos, ◌+ℤ◌, Bool, true, false, int_lt, Some, eqb, not, ◌↔◌, ⊎_elim}
+use Rattle.std.specs.Prelude.{IsSomeAnd, ◌*ℤ◌, ◌⊎◌, IsTrue}
 use Rattle.std.specs.Int.{w32, w64, from_le_bytes, to_le_bytes}
 use Rattle.std.proofs.lemmas.Bool.{agree_below}
 use Rattle.std.proofs.lemmas.Nat.{from_le_bytes-to_le_bytes_4}
@@ -19,9 +19,12 @@ use Rattle.linker_elf.specs.Value.{sum_64}
 use Rattle.relocation_laws.specs.LoongArchLaws.{Branches, Calls, RelativeAddresses, page_and_low}
 use Rattle.relocation_laws.specs.Schemes.{IsAddress, AreAddresses}
 use Rattle.linker_pack.specs.Sites.{operands_of, IsRelocated, IsOutOfReach}
-use Rattle.linker_pack.specs.LoongArchSites.{IsCall36At, IsPcalaAt, IsSiteAt, destination, branch_template, pcaddi_template, call_template, IsBranch, IsPcaddi, IsFarCall, IsFarAddress, LoongArchBecomes, LoongArchAccepts, LoongArchCause}
-use Rattle.linker_pack.specs.LoongArchSites.{jump, call, far_call, address, far_address, short_call, long_call, short_address, long_address}
-use Rattle.linker_pack.specs.Inner.LoongArch.{IsKindAt, short_template, AreRelocated, IsLongOf, IsLongInReach}
+use Rattle.linker_pack.specs.LoongArchSites.{IsCall36At, IsPcalaAt, IsSiteAt, destination, branch_template, pcaddi_template, call_template, IsBranch, IsPcaddi, IsFarCall, IsFarAddress, LoongArchBecomes, LoongArchAccepts, LoongArchIsFar, LoongArchCause}
+use Rattle.linker_pack.specs.LoongArchSites.{jump, call, far_call, address, far_address, short_call, long_call, short_address, long_address, far_from_branch, far_from_call, far_from_pcaddi, far_from_pair}
+use Rattle.linker_pack.specs.Origins.{HasLoongArchShapes}
+use Rattle.linker_relax.specs.declared.relaxation.Shapes.{Shapes}
+use Rattle.linker_relax.specs.declared.shapes.loongarch64.TheConstants.{CALL36, PCALA}
+use Rattle.linker_pack.specs.Inner.LoongArch.{IsKindAt, short_template, AreRelocated, IsLongOf, IsLongOutOfReach}
 use Rattle.linker_pack.specs.declared.loongarch64.Kind.{Kind}
 use Rattle.linker_pack.specs.declared.loongarch64.Kind.TheVariants.{Call, Address}
 use Rattle.linker_pack.specs.declared.packing.ItemError.{ItemError}
@@ -120,9 +123,28 @@ accepted_len section o kept place target (long_call here len reached) = inr len
 accepted_len section o kept place target (short_address here len reached) = inl len
 accepted_len section o kept place target (long_address here len reached) = inr len
 
-not_both : (section : List ℕ) (o : ℕ) → IsCall36At section o → IsPcalaAt section o → ⊥
+pub not_both : (section : List ℕ) (o : ℕ) → IsCall36At section o → IsPcalaAt section o → ⊥
 not_both section o (inl one) pair = let a = one.first in let b = pair.one_register.first in omega arith
 not_both section o (inr none) pair = let a = none.first in let b = pair.one_register.first in omega arith
+
+-- what is far isn't accepted
+far_excludes : (section : List ℕ) (o kept place target : ℕ) → LoongArchAccepts section o kept place target → LoongArchIsFar section o kept place target → ⊥
+far_excludes section o kept place target (short_call here len reached) (far_from_branch _ _ out) = in_reach (branch_template (destination section o)) place target reached out
+far_excludes section o kept place target (short_call here len reached) (far_from_call _ eight out) = omega arith
+far_excludes section o kept place target (short_call here len reached) (far_from_pcaddi pair _ out) = not_both section o here pair
+far_excludes section o kept place target (short_call here len reached) (far_from_pair pair _ out) = not_both section o here pair
+far_excludes section o kept place target (long_call here len reached) (far_from_branch _ four out) = omega arith
+far_excludes section o kept place target (long_call here len reached) (far_from_call _ _ out) = in_reach (call_template section o) place target reached out
+far_excludes section o kept place target (long_call here len reached) (far_from_pcaddi pair _ out) = not_both section o here pair
+far_excludes section o kept place target (long_call here len reached) (far_from_pair pair _ out) = not_both section o here pair
+far_excludes section o kept place target (short_address pair len reached) (far_from_branch here _ out) = not_both section o here pair
+far_excludes section o kept place target (short_address pair len reached) (far_from_call here _ out) = not_both section o here pair
+far_excludes section o kept place target (short_address pair len reached) (far_from_pcaddi _ _ out) = in_reach (pcaddi_template (destination section o)) place target reached out
+far_excludes section o kept place target (short_address pair len reached) (far_from_pair _ eight out) = omega arith
+far_excludes section o kept place target (long_address pair len reached) (far_from_branch here _ out) = not_both section o here pair
+far_excludes section o kept place target (long_address pair len reached) (far_from_call here _ out) = not_both section o here pair
+far_excludes section o kept place target (long_address pair len reached) (far_from_pcaddi _ four out) = omega arith
+far_excludes section o kept place target (long_address pair len reached) (far_from_pair _ _ out) = out reached
 
 pub loongarch_excludes : (section : List ℕ) (o kept place target : ℕ) (error : ItemError) → LoongArchAccepts section o kept place target → LoongArchCause section o kept place target error → ⊥
 loongarch_excludes section o kept place target NotItsInstructions a cause = cause (accepted_site section o kept place target a)
@@ -130,7 +152,7 @@ loongarch_excludes section o kept place target NoShape a cause = elim (accepted_
   | inl four ↦ cause.1 four
   | inr eight ↦ cause.2 eight
 ]
-loongarch_excludes section o kept place target OutOfReach a cause = cause.2 a
+loongarch_excludes section o kept place target OutOfReach a cause = far_excludes section o kept place target a cause
 loongarch_excludes section o kept place target Overlaps a cause = cause
 loongarch_excludes section o kept place target OutOfSection a cause = cause
 loongarch_excludes section o kept place target DeletedOutside a cause = cause
@@ -146,22 +168,24 @@ module _ (section : List ℕ) (o kept place target : ℕ) where
   long_accepts Address written here len applied = long_address here len
       (record { pages = applied.pages; high = (take 4 written, applied.high); low = (drop 4 written, applied.low) })
 
-  pub short_rejected : (kind : Kind) → IsKindAt section o kind → kept ≡ 4 → IsOutOfReach (short_template section o kind) place target → LoongArchAccepts section o kept place target → ⊥
-  short_rejected Call here four out (short_call _ len reached) = in_reach (branch_template (destination section o)) place target reached out
-  short_rejected Call here four out (long_call _ len reached) = omega arith
-  short_rejected Call here four out (short_address pair len reached) = not_both section o here pair
-  short_rejected Call here four out (long_address pair len reached) = not_both section o here pair
-  short_rejected Address here four out (short_call one len reached) = not_both section o one here
-  short_rejected Address here four out (long_call one len reached) = not_both section o one here
-  short_rejected Address here four out (short_address _ len reached) = in_reach (pcaddi_template (destination section o)) place target reached out
-  short_rejected Address here four out (long_address _ len reached) = omega arith
+  pub short_rejected : (kind : Kind) → IsKindAt section o kind → kept ≡ 4 → IsOutOfReach (short_template section o kind) place target → LoongArchIsFar section o kept place target
+  short_rejected Call here four out = far_from_branch here four out
+  short_rejected Address here four out = far_from_pcaddi here four out
 
-  pub long_rejected : (kind : Kind) → IsKindAt section o kind → kept ≡ 8 → (IsLongInReach section o kind place target → ⊥) → LoongArchAccepts section o kept place target → ⊥
-  long_rejected Call here eight out (short_call _ len reached) = omega arith
-  long_rejected Call here eight out (long_call _ len reached) = out reached
-  long_rejected Call here eight out (short_address pair len reached) = not_both section o here pair
-  long_rejected Call here eight out (long_address pair len reached) = not_both section o here pair
-  long_rejected Address here eight out (short_call one len reached) = not_both section o one here
-  long_rejected Address here eight out (long_call one len reached) = not_both section o one here
-  long_rejected Address here eight out (short_address _ len reached) = omega arith
-  long_rejected Address here eight out (long_address _ len reached) = out reached
+  pub long_rejected : (kind : Kind) → IsKindAt section o kind → kept ≡ 8 → IsLongOutOfReach section o kind place target → LoongArchIsFar section o kept place target
+  long_rejected Call here eight out = far_from_call here eight out
+  long_rejected Address here eight out = far_from_pair here eight out
+
+-- ---- which shapes a site can have
+
+pub call_shapes : (section : List ℕ) (o : ℕ) (shapes : Shapes) (same : Bool) → IsCall36At section o → (IsTrue same ↔ (shapes ≡ CALL36)) → IsTrue same ↔ HasLoongArchShapes section o shapes
+call_shapes section o shapes same here is = (
+  λ h. inl (here, is.0 h),
+  λ h. ⊎_elim (λ (call : IsCall36At section o × (shapes ≡ CALL36)). is.1 call.1) (λ (pair : IsPcalaAt section o × (shapes ≡ PCALA)). absurd (not_both section o here pair.0)) h,
+)
+
+pub pair_shapes : (section : List ℕ) (o : ℕ) (shapes : Shapes) (same : Bool) → IsPcalaAt section o → (IsTrue same ↔ (shapes ≡ PCALA)) → IsTrue same ↔ HasLoongArchShapes section o shapes
+pair_shapes section o shapes same here is = (
+  λ h. inr (here, is.0 h),
+  λ h. ⊎_elim (λ (call : IsCall36At section o × (shapes ≡ CALL36)). absurd (not_both section o call.0 here)) (λ (pair : IsPcalaAt section o × (shapes ≡ PCALA)). is.1 pair.1) h,
+)

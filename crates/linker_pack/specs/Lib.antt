@@ -1,5 +1,6 @@
-pub mod Sites
-pub mod RiscVSites
-pub mod LoongArchSites
-pub mod Packing
 pub mod Inner
+pub mod LoongArchSites
+pub mod Origins
+pub mod Packing
+pub mod RiscVSites
+pub mod Sites

@@ -15,7 +15,7 @@ use Rattle.linker_elf.specs.declared.loongarch64.relocations.LoongArch64Relocati
 use Rattle.linker_loongarch64.specs.LoongArchOriginals.{IsAddi, IsCall, IsPair, word_at}
 use Rattle.linker_loongarch64.specs.LoongArchRewrites.{rd_of}
 use Rattle.relocation_laws.specs.Schemes.{IsAddress}
-use Rattle.linker_pack.specs.Sites.{Template, operands_of, IsRelocated, IsInReach}
+use Rattle.linker_pack.specs.Sites.{Template, operands_of, IsRelocated, IsInReach, IsOutOfReach}
 use Rattle.linker_pack.specs.declared.packing.ItemError.{ItemError}
 use Rattle.linker_pack.specs.declared.packing.ItemError.TheVariants.{NotItsInstructions, NoShape}
 use Rattle.linker_pack.specs.declared.packing.ItemError.TheVariants.{OutOfReach}
@@ -141,12 +141,24 @@ pub data LoongArchAccepts (section : List ℕ) (o kept place target : ℕ) : Typ
   long_address : IsPcalaAt section o → kept ≡ 8 → IsAddressInReach section o place target
       → LoongArchAccepts section o kept place target
 
+-- A site is at the offset, and its instructions of so many bytes don't reach the target.
+pub data LoongArchIsFar (section : List ℕ) (o kept place target : ℕ) : Type 0 where
+  far_from_branch : IsCall36At section o → kept ≡ 4
+      → IsOutOfReach (branch_template (destination section o)) place target
+      → LoongArchIsFar section o kept place target
+  far_from_call : IsCall36At section o → kept ≡ 8
+      → IsOutOfReach (call_template section o) place target
+      → LoongArchIsFar section o kept place target
+  far_from_pcaddi : IsPcalaAt section o → kept ≡ 4
+      → IsOutOfReach (pcaddi_template (destination section o)) place target
+      → LoongArchIsFar section o kept place target
+  far_from_pair : IsPcalaAt section o → kept ≡ 8 → ¬ IsAddressInReach section o place target
+      → LoongArchIsFar section o kept place target
+
 -- why nothing is written of the eight bytes at an offset of which so many stay
 abbrev pub LoongArchCause : List ℕ → ℕ → ℕ → ℕ → ℕ → ItemError → Type 0
 LoongArchCause section o kept place target NotItsInstructions = ¬ IsSiteAt section o
 LoongArchCause section o kept place target NoShape =
     IsSiteAt section o × (kept ≢ 4) × (kept ≢ 8)
-LoongArchCause section o kept place target OutOfReach =
-    IsSiteAt section o × ((kept ≡ 4) ⊎ (kept ≡ 8))
-    × ¬ LoongArchAccepts section o kept place target
+LoongArchCause section o kept place target OutOfReach = LoongArchIsFar section o kept place target
 LoongArchCause section o kept place target other = ⊥

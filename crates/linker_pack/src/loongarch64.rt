@@ -10,7 +10,8 @@ ghost use Rattle.linker_pack.specs.LoongArchSites.{ArePagesNear, IsAddressInReac
 ghost use Rattle.linker_pack.specs.LoongArchSites.{LoongArchBecomes, LoongArchAccepts};
 ghost use Rattle.linker_pack.specs.LoongArchSites.{LoongArchCause};
 ghost use Rattle.linker_pack.specs.Inner.LoongArch.{IsKindAt, short_template, AreRelocated};
-ghost use Rattle.linker_pack.specs.Inner.LoongArch.{IsLongOf, IsLongInReach};
+ghost use Rattle.linker_pack.specs.Inner.LoongArch.{IsLongOf, IsLongOutOfReach};
+ghost use Rattle.linker_pack.specs.Origins.{HasLoongArchShapes};
 ghost use Rattle.linker_pack.specs.Inner.Pieces.{template_is, code_bytes};
 
 use crate::code::{Code, Template, operands_of, pair_at, relocated};
@@ -18,6 +19,8 @@ use crate::packing::ItemError;
 use linker_base::utils::u32_from_slice;
 use linker_elf::elf::{AllowedRange, RelocationKindInfo, Sign};
 use linker_loongarch64::{LoongArch64Relocation, RelaxationKind, relocation_type_from_raw};
+use linker_relax::relaxation::Shapes;
+use linker_relax::shapes::loongarch64::{CALL36, PCALA};
 use relocation_laws::apply;
 
 /// The instructions of a site.
@@ -167,7 +170,7 @@ fn address_of(section: &[u8], offset: u64, place: u64, target: u64) -> Option<[u
 /// reach the target.
 fn long_of(section: &[u8], offset: u64, kind: Kind, place: u64, target: u64) -> Option<Code>
     requires { offset + 8 ≤ length section.now }
-    ensures long { MatchOption result (¬ IsLongInReach section.now offset kind place target)
+    ensures long { MatchOption result (IsLongOutOfReach section.now offset kind place target)
         (λ code. IsLongOf section.now offset kind place target (code_bytes code)) }
     ensures len { IfSome result (λ code. length (code_bytes code) ≡ 8) }
 {
@@ -215,5 +218,16 @@ pub(crate) fn code_of(
             None => Err(ItemError::OutOfReach),
         },
         _ => Err(ItemError::NoShape),
+    }
+}
+
+/// Whether a site at an offset has the shapes.
+pub(crate) fn has_shapes(section: &[u8], offset: u64, shapes: &Shapes) -> bool
+    ensures { IsTrue result ↔ HasLoongArchShapes section.now offset shapes.now }
+{
+    match kind_at(section, offset) {
+        Some(Kind::Call) => *shapes == CALL36,
+        Some(Kind::Address) => *shapes == PCALA,
+        None => false,
     }
 }

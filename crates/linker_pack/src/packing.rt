@@ -15,6 +15,7 @@ ghost use Rattle.linker_pack.specs.Packing.{IsFirstRejected, SiteBecomes, SiteAc
 ghost use Rattle.linker_pack.specs.Packing.{ItemCause};
 ghost use Rattle.linker_pack.specs.Packing.{KeepsFirst, ItemBecomes, ItemAccepts, IsWritable};
 ghost use Rattle.linker_pack.specs.Packing.{IsUnwritable};
+ghost use Rattle.linker_pack.specs.Origins.{HasItsInstructions};
 ghost use Rattle.linker_pack.specs.Inner.Pieces.{code_bytes, piece_bytes, IsWhole, IsPieceOf};
 ghost use Rattle.linker_pack.specs.Inner.Packing.{IsFilled, AreReady};
 
@@ -454,6 +455,30 @@ pub fn packed_run_len(base: u64, len: usize, deltas: &[RelaxDelta]) -> usize
 {
     let end = to_output(deltas, base + len as u64);
     end.saturating_sub(to_output(deltas, base)) as usize
+}
+
+/// Whether a site is eight bytes of a section, of instructions that can have its shapes: of RISC-V
+/// `auipc` and `jalr` with `CALL`, or with `TAIL_C` where they link x0; of LoongArch `pcaddu18i` and
+/// `jirl` with `CALL36`, or `pcalau12i` and `addi.d` of one register with `PCALA`. The section begins
+/// at the input offset `base` of the run. A site of which the linker has decided has none of these
+/// shapes; an alignment has no instructions to be tested.
+///
+/// Where this is so of a site that `relax` made shorter, `pack_run` can write it: the instruction
+/// reaches its target.
+pub fn has_its_instructions(machine: Machine, section: &[u8], base: u64, item: &Item) -> bool
+    ensures { IsTrue result ↔ HasItsInstructions machine section.now base item.now }
+{
+    let Item::Site(site) = item else {
+        return true;
+    };
+    if site.len != 8 || !is_inside(section, base, item) {
+        return false;
+    }
+    let offset = site.offset - base;
+    match machine {
+        Machine::RiscV64 => riscv64::has_shapes(section, offset, &site.shapes),
+        Machine::LoongArch64 => loongarch64::has_shapes(section, offset, &site.shapes),
+    }
 }
 
 /// Packs a section of a relaxed run into memory of the caller's: the bytes that stay, in order,

@@ -1,7 +1,7 @@
 //! RISC-V: what a call becomes.
 
-ghost use Rattle.std.specs.Prelude.{◌≡◌, ◌+◌, ◌≤◌, ◌<◌, ◌*◌, ◌^◌, Some, None, IfOk, IfErr, OnOk};
-ghost use Rattle.std.specs.Prelude.{length};
+ghost use Rattle.std.specs.Prelude.{◌≡◌, ◌↔◌, ◌+◌, ◌≤◌, ◌<◌, ◌*◌, ◌^◌, Some, None, IfOk, IfErr, OnOk};
+ghost use Rattle.std.specs.Prelude.{length, IsTrue, ◌⊎◌};
 ghost use Rattle.std.specs.Prelude.{IsSomeAnd, IfSome, IfNone, ⊤};
 ghost use Rattle.std.specs.Int.{w32, to_le_bytes};
 ghost use Rattle.linker_elf.specs.RiscVRelocations.{riscv_row};
@@ -10,11 +10,14 @@ ghost use Rattle.linker_riscv64.specs.RiscVCalls.{link_register};
 ghost use Rattle.linker_riscv64.specs.declared.calls.LinkRegister.TheVariants.{OfJalr};
 ghost use Rattle.linker_pack.specs.RiscVSites.{riscv_template, RiscVBecomes, RiscVAccepts};
 ghost use Rattle.linker_pack.specs.RiscVSites.{RiscVCause};
+ghost use Rattle.linker_pack.specs.Origins.{HasRiscVShapes};
 ghost use Rattle.linker_pack.specs.Inner.Pieces.{template_is, code_bytes};
 
 use crate::code::{Code, Template, pair_at, relocated};
 use crate::packing::ItemError;
 use linker_elf::elf::RelocationKindInfo;
+use linker_relax::relaxation::Shapes;
+use linker_relax::shapes::riscv64::{CALL, TAIL_C};
 use linker_riscv64::{RiscVRelocation, relocation_type_from_raw};
 use linker_runs::riscv64::link_at;
 
@@ -88,5 +91,23 @@ pub(crate) fn code_of(
     match relocated(template, place, target) {
         Some(code) => Ok(code),
         None => Err(ItemError::OutOfReach),
+    }
+}
+
+/// Whether a call that links a register can have the shapes.
+fn are_of_link(link: u32, shapes: &Shapes) -> bool
+    ensures { IsTrue result ↔ ((shapes.now ≡ CALL) ⊎ ((shapes.now ≡ TAIL_C) × (link ≡ 0))) }
+{
+    *shapes == CALL || (link == 0 && *shapes == TAIL_C)
+}
+
+/// Whether a call at an offset can have the shapes.
+pub(crate) fn has_shapes(section: &[u8], offset: u64, shapes: &Shapes) -> bool
+    requires { offset + 8 ≤ length section.now }
+    ensures { IsTrue result ↔ HasRiscVShapes section.now offset shapes.now }
+{
+    match link_at(section, offset) {
+        Some(link) => are_of_link(link, shapes),
+        None => false,
     }
 }

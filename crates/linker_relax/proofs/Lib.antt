@@ -8,6 +8,7 @@ pub mod Layouts
 pub mod Multiples
 pub mod Nearer
 pub mod Powers
+pub mod Reaches
 pub mod Rounds
 pub mod Sweeps
 pub mod Units

@@ -4,6 +4,8 @@
 ghost use Rattle.std.specs.Prelude.{◌≡◌};
 ghost use Rattle.relax_laws.specs.Calls.{call_shapes, CallsAreShrunkAlike};
 ghost use Rattle.relax_laws.specs.FirstBytes.{FirstBytesAreKept};
+ghost use Rattle.relax_laws.specs.Writable.{ShortSitesAreWritable, NearCallsAreWritable};
+ghost use Rattle.relax_laws.specs.Writable.{MadeSitesHaveInstructions};
 
 use linker_relax::relaxation::Shapes;
 use linker_relax::shapes::riscv64::CALL;
@@ -25,4 +27,25 @@ pub fn calls_are_shrunk_alike()
 /// returns, and they are the item's first ones. So `pack_run` never returns `NotItsFirstBytes` then.
 pub fn first_bytes_are_kept()
     ensures { FirstBytesAreKept }
+{}
+
+/// What `relax` made shorter, `pack_run` can write with the deletions that it returns: the written
+/// instruction reaches the target. So where the bytes of a site are those that it was made of
+/// (`has_its_instructions` of `linker_pack`), and the site has a short shape, `pack_run` never returns
+/// `OutOfReach` for it, nor any other error that is about the site alone.
+pub fn short_sites_are_writable()
+    ensures { ShortSitesAreWritable }
+{}
+
+/// Each call of RISC-V that has its instructions, `pack_run` can write where it and its target lie in
+/// the first 2 GiB less 2 KiB of the run, also where it stays long. So `pack_run` never returns
+/// `OutOfReach` for such a run.
+pub fn near_calls_are_writable()
+    ensures { NearCallsAreWritable }
+{}
+
+/// The sites that `items` of `linker_runs` returns have their instructions, as
+/// `short_sites_are_writable` asks.
+pub fn made_sites_have_instructions()
+    ensures { MadeSitesHaveInstructions }
 {}

@@ -6,6 +6,8 @@ use crate::linker_pack::packing::ItemError;
 use crate::linker_base::utils::u32_from_slice;
 use crate::linker_elf::elf::{AllowedRange, RelocationKindInfo, Sign};
 use crate::loongarch64::{LoongArch64Relocation, RelaxationKind, relocation_type_from_raw};
+use crate::linker_relax::relaxation::Shapes;
+use crate::linker_relax::shapes::loongarch64::{CALL36, PCALA};
 use crate::relocation_laws::apply;
 
 /// The instructions of a site.
@@ -157,5 +159,14 @@ pub(crate) fn code_of(
             None => Err(ItemError::OutOfReach),
         },
         _ => Err(ItemError::NoShape),
+    }
+}
+
+/// Whether a site at an offset has the shapes.
+pub(crate) fn has_shapes(section: &[u8], offset: u64, shapes: &Shapes) -> bool {
+    match kind_at(section, offset) {
+        Some(Kind::Call) => *shapes == CALL36,
+        Some(Kind::Address) => *shapes == PCALA,
+        None => false,
     }
 }

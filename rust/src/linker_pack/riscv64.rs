@@ -4,6 +4,8 @@
 use crate::linker_pack::code::{Code, Template, pair_at, relocated};
 use crate::linker_pack::packing::ItemError;
 use crate::linker_elf::elf::RelocationKindInfo;
+use crate::linker_relax::relaxation::Shapes;
+use crate::linker_relax::shapes::riscv64::{CALL, TAIL_C};
 use crate::riscv64::{RiscVRelocation, relocation_type_from_raw};
 use crate::linker_runs::riscv64::link_at;
 
@@ -57,5 +59,18 @@ pub(crate) fn code_of(
     match relocated(template, place, target) {
         Some(code) => Ok(code),
         None => Err(ItemError::OutOfReach),
+    }
+}
+
+/// Whether a call that links a register can have the shapes.
+fn are_of_link(link: u32, shapes: &Shapes) -> bool {
+    *shapes == CALL || (link == 0 && *shapes == TAIL_C)
+}
+
+/// Whether a call at an offset can have the shapes.
+pub(crate) fn has_shapes(section: &[u8], offset: u64, shapes: &Shapes) -> bool {
+    match link_at(section, offset) {
+        Some(link) => are_of_link(link, shapes),
+        None => false,
     }
 }

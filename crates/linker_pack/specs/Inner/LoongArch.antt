@@ -1,7 +1,7 @@
 -- What sites of LoongArch become, by their kinds.
 use Rattle.std.specs.Prelude.{ℕ, List, take, drop}
 use Rattle.linker_elf.specs.Value.{sum_64}
-use Rattle.linker_pack.specs.Sites.{Template, IsRelocated, IsInReach}
+use Rattle.linker_pack.specs.Sites.{Template, IsRelocated, IsOutOfReach}
 use Rattle.linker_pack.specs.LoongArchSites.{IsCall36At, IsPcalaAt, destination, branch_template}
 use Rattle.linker_pack.specs.LoongArchSites.{pcaddi_template, call_template, high_template}
 use Rattle.linker_pack.specs.LoongArchSites.{low_template, ArePagesNear, IsAddressInReach}
@@ -29,6 +29,6 @@ IsLongOf section o Call place target written =
     IsRelocated (call_template section o) place target written
 IsLongOf section o Address place target written = AreRelocated section o place target written
 
-abbrev pub IsLongInReach : List ℕ → ℕ → Kind → ℕ → ℕ → Type 0
-IsLongInReach section o Call place target = IsInReach (call_template section o) place target
-IsLongInReach section o Address place target = IsAddressInReach section o place target
+abbrev pub IsLongOutOfReach : List ℕ → ℕ → Kind → ℕ → ℕ → Type 0
+IsLongOutOfReach section o Call place target = IsOutOfReach (call_template section o) place target
+IsLongOutOfReach section o Address place target = ¬ IsAddressInReach section o place target

