@@ -1,4 +1,4 @@
--- A call of RISC-V that stays long can be written in a run of less than 2 GiB.
+-- A call of RISC-V that stays long can be written in a run of less than 2 GiB less 2 KiB.
 use Rattle.std.proofs.Common.{◌≡◌, ℕ, ◌+◌, ◌-◌, ◌%◌, ◌^◌, ◌<◌, ◌≤◌, ◌∙◌, true, false, List, length, take, drop, refl, ap, sym, subst, inl, inr, ⊎_elim, arith, ℤ, pos, negsuc, ◌-ℤ◌, None}
 use Rattle.std.specs.Prelude.{nat_lt, IsSomeAnd, ◌⊎◌}
 use Rattle.std.proofs.lemmas.Bool.{cases_lt, cond-true, cond-false}

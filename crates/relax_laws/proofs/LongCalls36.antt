@@ -1,4 +1,4 @@
--- A call of LoongArch that stays long can be written where it reaches its target before relaxation.
+-- A call of LoongArch that stays long can be written in a run of less than 128 GiB less 128 KiB.
 use Rattle.std.proofs.Common.{◌≡◌, ℕ, zero, suc, ◌+◌, ◌-◌, ◌*◌, ◌%◌, ◌^◌, ◌<◌, ◌≤◌, ◌∙◌, true, false, List, length, take, drop, refl, ap, sym, subst, inl, ⊎_elim, arith, pos, negsuc, ◌-ℤ◌, mul_assoc}
 use Rattle.std.specs.Prelude.{nat_lt}
 use Rattle.std.proofs.lemmas.Bool.{cases_lt, cond-true, cond-false}
