@@ -5,3 +5,4 @@ pub mod Shrunk
 pub mod Writable
 pub mod Made
 pub mod LongCalls
+pub mod LongCalls36

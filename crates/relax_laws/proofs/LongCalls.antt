@@ -1,22 +1,20 @@
--- A call of RISC-V that stays long can be written in a run of less than 2 GiB.
-use Rattle.std.proofs.Common.{◌≡◌, ℕ, ◌+◌, ◌-◌, ◌%◌, ◌^◌, ◌<◌, ◌≤◌, ◌∙◌, Bool, true, false, List, length, take, drop, get_or, refl, ap, sym, subst, inl, inr, ⊎_elim, arith, ℤ, pos, negsuc, ◌-ℤ◌, Option, Some, None}
+-- A call of RISC-V that stays long can be written in a run of less than 2 GiB less 2 KiB.
+use Rattle.std.proofs.Common.{◌≡◌, ℕ, ◌+◌, ◌-◌, ◌%◌, ◌^◌, ◌<◌, ◌≤◌, ◌∙◌, true, false, List, length, take, drop, refl, ap, sym, subst, inl, inr, ⊎_elim, arith, ℤ, pos, negsuc, ◌-ℤ◌, None}
 use Rattle.std.specs.Prelude.{nat_lt, IsSomeAnd, ◌⊎◌}
 use Rattle.std.proofs.lemmas.Bool.{cases_lt, cond-true, cond-false}
 use Rattle.std.proofs.lemmas.Bool.Decides.{nat_tests}
 use Rattle.std.proofs.lemmas.Int.{ints}
 use Rattle.std.proofs.lemmas.List.{length-take, length-drop}
 use Rattle.linker_base.specs.Deletions.{rank}
-use Rattle.linker_elf.specs.Relocate.{IsInReach, IsAligned}
-use Rattle.linker_elf.specs.RiscVRelocations.{riscv_row}
+use Rattle.linker_elf.specs.Relocate.{IsAligned}
 use Rattle.linker_elf.specs.Value.{sum_64}
 use Rattle.linker_elf.specs.declared.riscv64.relocations.RiscVRelocation.TheVariants.{R_RISCV_CALL_PLT}
 use Rattle.linker_elf.proofs.RowsFit.{riscv_fits}
 use Rattle.linker_relax.specs.declared.relaxation.Shapes.{Shapes}
-use Rattle.linker_relax.specs.declared.relaxation.Site.{Site as sites}
 use Rattle.linker_relax.specs.declared.relaxation.Item.{Item}
 use Rattle.linker_relax.specs.declared.relaxation.Item.TheVariants.{Site, Aligned}
 use Rattle.linker_relax.specs.declared.shapes.riscv64.TheConstants.{CALL, TAIL_C}
-use Rattle.linker_relax.specs.Relaxing.{offset_of, target_of, item_at, short_shape, shape_len, kept_by, freed_before, choice_of, place_of}
+use Rattle.linker_relax.specs.Relaxing.{offset_of, target_of, item_at, short_shape, kept_by, freed_before, choice_of, place_of}
 use Rattle.linker_relax.specs.Choosing.{IsSite}
 use Rattle.linker_relax.specs.Deleting.{deletions_of_run}
 use Rattle.linker_relax.proofs.Translations.{translations_exact}
@@ -111,7 +109,7 @@ module _ (bytes : List ℕ) (base : ℕ) (d : List (ℕ × ℕ)) (start : ℕ) w
       by DeletedOutside u = u.1.1
 
 -- an item has a short shape, or none
-short_or_long : (item : Item) (k : ℕ) → IsShortened item k ⊎ (IsShortened item k → ⊥)
+pub short_or_long : (item : Item) (k : ℕ) → IsShortened item k ⊎ (IsShortened item k → ⊥)
 short_or_long (Site site) k = ⊎_elim (λ (short : k < site.shapes.count). inl short) (λ (long : site.shapes.count ≤ k). inr (λ short. omega arith)) (cases_lt k site.shapes.count)
 short_or_long (Aligned alignment) k = inr (λ short. short)
 

@@ -5,7 +5,7 @@ ghost use Rattle.std.specs.Prelude.{◌≡◌};
 ghost use Rattle.relax_laws.specs.Calls.{call_shapes, CallsAreShrunkAlike};
 ghost use Rattle.relax_laws.specs.FirstBytes.{FirstBytesAreKept};
 ghost use Rattle.relax_laws.specs.Writable.{ShortSitesAreWritable, NearCallsAreWritable};
-ghost use Rattle.relax_laws.specs.Writable.{MadeSitesHaveInstructions};
+ghost use Rattle.relax_laws.specs.Writable.{NearCalls36AreWritable, MadeSitesHaveInstructions};
 
 use linker_relax::relaxation::Shapes;
 use linker_relax::shapes::riscv64::CALL;
@@ -42,6 +42,12 @@ pub fn short_sites_are_writable()
 /// `OutOfReach` for such a run.
 pub fn near_calls_are_writable()
     ensures { NearCallsAreWritable }
+{}
+
+/// The same of each `R_LARCH_CALL36` that has its instructions, where it and its target lie at
+/// multiples of 4 in the first 128 GiB less 128 KiB of the run.
+pub fn near_calls_36_are_writable()
+    ensures { NearCalls36AreWritable }
 {}
 
 /// The sites that `items` of `linker_runs` returns have their instructions, as
