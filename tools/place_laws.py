@@ -119,7 +119,7 @@ class Sequence:
         """Which one a relocation is of; None if it is of none."""
         return next((step for step, (_, names) in enumerate(self.steps) if name in names), None)
 
-    def verdict(self, members, word, answer):
+    def verdict(self, members, word, response):
         """Why the laws don't cover relocations that belong together, or that they do."""
         steps = [self.step_of(name) for _, name in members]
         if None in steps or len(steps) > len(set(steps)):
@@ -129,7 +129,7 @@ class Sequence:
         at = dict(zip(steps, (offset for offset, _ in members)))
         if any(at[step] - at[0] != distance for step, (distance, _) in enumerate(self.steps)):
             return "apart"
-        is_asked_for = "n" not in [answer.get(member) for member in members]
+        is_asked_for = "n" not in [response.get(member) for member in members]
         is_theirs = is_asked_for and self.test([word(at[step]) for step in sorted(at)])
         return COVERED if is_theirs and self.have_forms(members, word) else "registers"
 
@@ -235,19 +235,19 @@ def count(machine, relocations, groups, word, found):
     """Adds the places of a section, except for x86-64. `groups` has the relocations that belong
     together, each as its offset and name; `word` says which word is at an offset."""
     of_place = {}
-    answers = {(offset & ~3 if machine == 21 else offset, name): answer
-               for offset, name, _, _, answer in relocations}
+    responses = {(offset & ~3 if machine == 21 else offset, name): response
+               for offset, name, _, _, response in relocations}
     for members in map(sorted, groups):
         verdict = "kind"
         for one in SEQUENCES[machine]:
             if any(name in one.steps[0][1] for _, name in members):
-                verdict = one.verdict(members, word, answers)
+                verdict = one.verdict(members, word, responses)
         of_place.update({member: verdict for member in members})
     of_sequence = {name: one.laws for one in SEQUENCES[machine] for _, names in one.steps
                    for name in names}
     alone = {name: (laws, test) for laws, names, test in ALONE[machine] for name in names.split()}
-    for offset, name, _, _, answer in relocations:
-        if answer != "y":
+    for offset, name, _, _, response in relocations:
+        if response != "y":
             continue
         at = offset & ~3 if machine == 21 else offset
         if name in of_sequence:
@@ -291,6 +291,6 @@ def count_of_x86(relocations, code, is_resolved, found):
             return COVERED if is_resolved(offset, name) else "call"
         return of_descriptor(offset, name, symbol) if "TLSDESC" in name else COVERED
 
-    for offset, name, symbol, addend, answer in relocations:
-        if answer == "y":
+    for offset, name, symbol, addend, response in relocations:
+        if response == "y":
             found[laws_of[name], name][verdict(offset, name, symbol, addend)] += 1

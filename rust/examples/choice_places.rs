@@ -1,11 +1,12 @@
 //! Says where in sections instructions stand that a rewrite is chosen for, whatever a linker knows
-//! of the symbol and of its output. `tools/places` asks it.
+//! of the symbol and of its output. `tools/places` runs it.
 //!
 //! Without an argument it lists the relocations that any choice is made for, by `e_machine` and
-//! code. With the argument `-` it reads requests and answers each: three numbers of 64 bits
-//! (`e_machine`, the length of a section and that of its relocations), the section, and the
-//! relocations as `Elf64_Rela`. The answer has one byte for each relocation: `-` where no choice is
-//! made for its type, `y` where a rewrite is chosen for what stands there, and `n` where it isn't.
+//! code. With the argument `-` it reads requests and writes a response to each. A request is three
+//! numbers of 64 bits (`e_machine`, the length of a section and that of its relocations), the
+//! section, and the relocations as `Elf64_Rela`. A response has one byte for each relocation: `-`
+//! where no choice is made for its type, `y` where a rewrite is chosen for what stands there, and `n`
+//! where it isn't.
 
 use linker_utils::aarch64::{self, AArch64Relocation};
 use linker_utils::elf::{Architecture, LinkFacts, Operands};
@@ -71,8 +72,8 @@ fn is_chosen(architecture: Architecture, code: u32, section: &[u8], offset: u64)
     })
 }
 
-/// The answer to a request.
-fn answer(
+/// The response to a request.
+fn response(
     architecture: Architecture,
     codes: &BTreeSet<u32>,
     section: &[u8],
@@ -113,7 +114,7 @@ fn serve(input: &mut impl Read, out: &mut impl Write) -> io::Result<()> {
         let table = tables.iter().find(|(one, _)| u64::from(one.machine()) == machine);
         let (architecture, codes) = table.ok_or(ErrorKind::InvalidInput)?;
         let (section, rela) = (bytes(input, section)?, bytes(input, rela)?);
-        out.write_all(&answer(*architecture, codes, &section, &rela))?;
+        out.write_all(&response(*architecture, codes, &section, &rela))?;
         out.flush()?;
     }
 }
