@@ -782,6 +782,9 @@ struct linker_utils_link_facts {
     /* The addresses in `operands` are known. Where they are not, a rewrite that depends on a
      * distance is not chosen; another is, and its value may turn out to be out of reach. */
     uint8_t has_addresses;
+    /* Each relocation of the sequence that this one is part of can be rewritten. Where the
+     * instructions of a sequence may be apart, none of them is rewritten without it. */
+    uint8_t group_fits;
     /* Those of the relocation before the rewrite. The addend is always read. `got_entry` is that of
      * the relocation after it: of a rewrite to initial-exec TLS that of the offset from the thread
      * pointer. */

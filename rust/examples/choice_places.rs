@@ -58,6 +58,7 @@ fn facts(addend: i64) -> LinkFacts {
         is_label_marked: true,
         has_private_base: true,
         may_change_toc: true,
+        group_fits: true,
         has_addresses: true,
         operands: Operands { addend, ..Operands::default() },
         ..LinkFacts::default()

@@ -51,7 +51,7 @@ macro_rules! statements {
 statements! {
     is_local is_ifunc is_undefined_weak has_fixed_address has_fixed_distance is_executable
     has_local_exec_base may_compress is_marked has_got_high_part is_label_marked has_private_base
-    may_change_toc has_addresses
+    may_change_toc has_addresses group_fits
 }
 
 /// The instructions, the rewrite and the relocation of an entry that asks for facts alone; or of

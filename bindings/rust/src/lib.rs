@@ -141,6 +141,7 @@ pub struct LinkFacts {
     pub has_private_base: bool,
     pub may_change_toc: bool,
     pub has_addresses: bool,
+    pub group_fits: bool,
     pub operands: Operands,
 }
 
@@ -161,6 +162,7 @@ impl From<&LinkFacts> for raw::LinkFacts {
             has_private_base: facts.has_private_base.into(),
             may_change_toc: facts.may_change_toc.into(),
             has_addresses: facts.has_addresses.into(),
+            group_fits: facts.group_fits.into(),
             operands: facts.operands,
         }
     }

@@ -53,6 +53,7 @@ pub struct LinkFacts {
     pub has_private_base: u8,
     pub may_change_toc: u8,
     pub has_addresses: u8,
+    pub group_fits: u8,
     pub operands: Operands,
 }
 

@@ -733,7 +733,8 @@ fn the_structs_are_those_of_the_library() {
         "linker_utils_link_facts": raw::LinkFacts {
             is_local, is_ifunc, is_undefined_weak, has_fixed_address, has_fixed_distance,
             is_executable, has_local_exec_base, may_compress, is_marked, has_got_high_part,
-            is_label_marked, has_private_base, may_change_toc, has_addresses, operands,
+            is_label_marked, has_private_base, may_change_toc, has_addresses, group_fits,
+            operands,
         }
         "linker_utils_choice": raw::Choice {
             rewrite, relocation, modifier, deleted_len, deleted_start, other_offset,

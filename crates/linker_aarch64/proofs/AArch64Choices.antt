@@ -5,9 +5,9 @@ use Rattle.std.specs.Prelude.{⊤}
 use Rattle.std.specs.Int.{w32, from_le_bytes}
 use Rattle.linker_base.specs.Rewrite.{CanRewrite, offset_after, addend_after}
 use Rattle.linker_aarch64.specs.AArch64Rewrites.{aarch64_rewrite, rd_of, rn_of}
-use Rattle.linker_aarch64.specs.AArch64Choices.{AreOfDescriptor, IsOfDescriptor, IsEntryLoad, IsAskedFor, AArch64Applies, AArch64Choice, IsAArch64Choice, aarch64_entries}
+use Rattle.linker_aarch64.specs.AArch64Rewrites.{AreOfDescriptor, IsOfDescriptor, IsEntryLoad, IsAskedFor, AArch64Applies, AArch64Choice, IsAArch64Choice, aarch64_entries}
 use Rattle.linker_aarch64.specs.Inner.Choices.{IsThere}
-use Rattle.linker_aarch64.specs.AArch64Originals.{IsAdrp, IsLdr64, aarch64_matches}
+use Rattle.linker_aarch64.specs.AArch64Rewrites.{IsAdrp, IsLdr64, aarch64_matches}
 use Rattle.linker_elf.specs.AArch64Relocations.{aarch64_row}
 use Rattle.linker_elf.specs.Choices.{choice, operands_after}
 use Rattle.linker_elf.specs.Inner.ChoiceTables.{IsTableOf, IsFirstOf, EntryApplies}

@@ -1,4 +1,2 @@
-pub mod AArch64Choices
-pub mod AArch64Originals
 pub mod AArch64Rewrites
 pub mod Inner

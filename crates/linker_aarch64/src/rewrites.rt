@@ -17,9 +17,9 @@ ghost use Rattle.linker_aarch64.specs.AArch64Rewrites.{aarch64_other, AreChanged
 ghost use Rattle.linker_elf.specs.AArch64.{access_scale};
 ghost use Rattle.linker_aarch64.specs.AArch64Rewrites.{rd_of, rn_of, mov_word, mov_words, mov4};
 ghost use Rattle.linker_elf.specs.AArch64.{moved_bits, move_opcode};
-ghost use Rattle.linker_aarch64.specs.AArch64Originals.{IsAdrp, IsAdd64, IsLdr64, IsIntoOwnSource};
-ghost use Rattle.linker_aarch64.specs.AArch64Originals.{AreOfOneRegister, IsAdrpPair};
-ghost use Rattle.linker_aarch64.specs.AArch64Originals.{aarch64_matches};
+ghost use Rattle.linker_aarch64.specs.AArch64Rewrites.{IsAdrp, IsAdd64, IsLdr64, IsIntoOwnSource};
+ghost use Rattle.linker_aarch64.specs.AArch64Rewrites.{AreOfOneRegister, IsAdrpPair};
+ghost use Rattle.linker_aarch64.specs.AArch64Rewrites.{aarch64_matches};
 ghost use Rattle.linker_elf.specs.Relocate.{ored_cleared};
 ghost use Rattle.linker_elf.specs.Inner.Immediates.{is_ored_alone, aarch64_immediate};
 ghost use Rattle.linker_aarch64.specs.declared.rewrites.RelaxationKind.TheVariants.{NoOp};

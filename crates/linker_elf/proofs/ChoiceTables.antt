@@ -4,7 +4,7 @@ use Rattle.std.proofs.lemmas.Option.{none-some}
 use Rattle.std.proofs.lemmas.Bool.{eqb-true, eq-eqb}
 use Rattle.std.proofs.Common.{◌≡◌, ◌↔◌, ◌+◌, ◌<◌, ◌≤◌, ◌++◌, ℕ, ℤ, List, [], ◌∷◌, Option, Some, None, Bool, true, false, if◌then◌else◌, not, ◌&&◌, ◌||◌, ◌==◌, zero, suc, IsTrue, refl, sym, ap, ◌∙◌, subst, arith, inl, inr, bit_and, length, drop, get_or, IfSome, true≢false}
 use Rattle.std.specs.Bool.{⊤}
-use Rattle.linker_elf.specs.Choices.{Condition, Entry, Holds, AllHold, choice, Applies, IsFirst, bound, weak_zero, fixed_address, fixed_distance, executable, local_exec_base, compressible, marked, label_marked, got_high_part, private_base, changed_toc, without_plt}
+use Rattle.linker_elf.specs.Choices.{Condition, Entry, Holds, AllHold, choice, Applies, IsFirst, bound, weak_zero, fixed_address, fixed_distance, executable, local_exec_base, compressible, marked, label_marked, got_high_part, private_base, changed_toc, without_plt, group_fits}
 use Rattle.linker_elf.specs.Inner.ChoiceTables.{with_fact, fact_conditions, is_held, facts_hold, value_condition, value_conditions, ValuesHold, addend_condition, conditions_of, EntryApplies, IsFirstOf, IsChoiceAt, IsTableOf}
 use Rattle.linker_elf.specs.declared.elf.RelocationKindInfo.{RelocationKindInfo}
 use Rattle.linker_elf.specs.declared.elf.choice.Choice.{Choice}
@@ -66,7 +66,8 @@ next row after facts mask bit c cs p b so_far known =
 all_facts : {R : Type 0} → (row : R → Option RelocationKindInfo) (after : Operands) (facts : LinkFacts) (mask : ℕ)
     → AllHold row after facts (fact_conditions mask) ↔ (IsTrue (facts_hold mask facts) × ⊤)
 all_facts {R} row after facts mask =
-    let f12 : List (Condition R) = with_fact mask 4096 without_plt [] in
+    let f13 : List (Condition R) = with_fact mask 8192 group_fits [] in
+    let f12 : List (Condition R) = with_fact mask 4096 without_plt f13 in
     let f11 : List (Condition R) = with_fact mask 2048 changed_toc f12 in
     let f10 : List (Condition R) = with_fact mask 1024 private_base f11 in
     let f9 : List (Condition R) = with_fact mask 512 got_high_part f10 in
@@ -78,7 +79,8 @@ all_facts {R} row after facts mask =
     let f3 : List (Condition R) = with_fact mask 8 fixed_distance f4 in
     let f2 : List (Condition R) = with_fact mask 4 fixed_address f3 in
     let f1 : List (Condition R) = with_fact mask 2 weak_zero f2 in
-    next row after facts mask 4096 without_plt [] _ _
+    next row after facts mask 8192 group_fits [] _ _
+    (next row after facts mask 4096 without_plt f13 _ _
     (next row after facts mask 2048 changed_toc f12 _ _
     (next row after facts mask 1024 private_base f11 _ _
     (next row after facts mask 512 got_high_part f10 _ _
@@ -102,7 +104,8 @@ all_facts {R} row after facts mask =
     (same (facts.has_got_high_part ≡ true)))
     (same (facts.has_private_base ≡ true)))
     (same (facts.may_change_toc ≡ true)))
-    (is_same facts.operands.plt_entry facts.operands.symbol)
+    (is_same facts.operands.plt_entry facts.operands.symbol))
+    (same (facts.group_fits ≡ true))
 
 addend_holds : {R : Type 0} → (row : R → Option RelocationKindInfo) (after : Operands) (facts : LinkFacts) (a : Option ℤ)
     → IfSome a (λ x. facts.operands.addend ≡ x) ↔ AllHold row after facts (addend_condition a)

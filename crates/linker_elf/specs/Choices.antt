@@ -1,5 +1,5 @@
 -- Choosing a rewrite: entries of tables, and which of them is chosen. The tables of an architecture
--- are in `specs/ARCHChoices`.
+-- are in `specs/ARCHRewrites`.
 use Rattle.std.specs.Prelude.{◌≡◌, ℕ, ℤ, pos, neg_ℤ, ◌⊎◌, ⊤, List, [], ◌∷◌}
 use Rattle.std.specs.Prelude.{true, false, Option, None, Some}
 use Rattle.std.specs.Int.{w64, cast_signed, cast_unsigned}
@@ -35,6 +35,8 @@ pub data Condition (R : Type 0) : Type 0 where
   changed_toc : Condition R
   -- the address of the symbol's PLT entry is S: it has none
   without_plt : Condition R
+  -- each relocation of the sequence can be rewritten
+  group_fits : Condition R
   -- the addend before the rewrite
   addend : ℤ → Condition R
   -- S + A is known, and is a number of 12 bits in two's complement
@@ -130,6 +132,7 @@ Holds row after facts got_high_part = facts.has_got_high_part ≡ true
 Holds row after facts private_base = facts.has_private_base ≡ true
 Holds row after facts changed_toc = facts.may_change_toc ≡ true
 Holds row after facts without_plt = facts.operands.plt_entry ≡ facts.operands.symbol
+Holds row after facts group_fits = facts.group_fits ≡ true
 Holds row after facts (addend a) = facts.operands.addend ≡ a
 Holds row after facts low_12 =
     HasAddresses facts × IsWithin (Some low_12_bounds) (symbol_and_addend facts.operands)

@@ -3,8 +3,8 @@
 use Rattle.std.proofs.Common.{◌≡◌, ◌↔◌, ◌≤◌, inl, inr, ℕ, ◌+◌, ◌-◌, List, [], ◌∷◌, ap, ◌∙◌, sym, subst, slice_index_or, arith}
 use Rattle.linker_elf.specs.Choices.{facts_on}
 use Rattle.linker_elf.specs.Choices.{AllHold, IsFirst, entry, choice, RowReaches, RowIsWithin}
-use Rattle.linker_loongarch64.specs.LoongArchChoices.{LoongArchEntry, LoongArchChoice, LoongArchApplies, IsBehind, IsAmong, IsDescriptorSequence, by_pcaddi, bound_by_pcaddi, bound_by_pages, to_initial_exec, to_local_exec, to_short_local_exec, signed_32, GotPairIsChosenAlike, AddressPairIsChosenAlike, InitialExecPairIsChosenAlike, DescriptorIsChosenAlike, erased, ThreadOffsetIsChosenAlike, loongarch_entries}
-use Rattle.linker_loongarch64.specs.LoongArchOriginals.{IsPair, IsAddi, IsLd}
+use Rattle.linker_loongarch64.specs.LoongArchRewrites.{LoongArchEntry, LoongArchChoice, LoongArchApplies, IsBehind, IsAmong, IsDescriptorSequence, by_pcaddi, bound_by_pcaddi, bound_by_pages, to_initial_exec, to_local_exec, to_short_local_exec, signed_32, GotPairIsChosenAlike, AddressPairIsChosenAlike, InitialExecPairIsChosenAlike, DescriptorIsChosenAlike, erased, ThreadOffsetIsChosenAlike, loongarch_entries}
+use Rattle.linker_loongarch64.specs.LoongArchRewrites.{IsPair, IsAddi, IsLd}
 use Rattle.linker_elf.specs.LoongArchRelocations.{loongarch_row}
 use Rattle.linker_elf.specs.declared.elf.choice.LinkFacts.{LinkFacts}
 use Rattle.linker_elf.specs.declared.loongarch64.relocations.LoongArch64Relocation.{LoongArch64Relocation}

@@ -13,8 +13,8 @@ use Rattle.linker_elf.specs.declared.elf.value.Operands.{Operands}
 use Rattle.linker_elf.specs.declared.loongarch64.relocations.LoongArch64Relocation.{LoongArch64Relocation}
 use Rattle.linker_elf.specs.declared.loongarch64.relocations.LoongArch64Relocation.TheVariants as r
 use Rattle.linker_loongarch64.specs.Inner.AskedFor.{is_asked_by}
-use Rattle.linker_loongarch64.specs.LoongArchChoices.{LoongArchChoice, LoongArchEntry, LoongArchApplies, IsLoongArchChoice, loongarch_entries, IsAskedFor, IsBehind, IsDescriptorSequence}
-use Rattle.linker_loongarch64.specs.LoongArchOriginals.{loongarch_matches, IsPair, IsAddi, IsLd, IsPcalau12i, IsIntoOwnSource, word_at}
+use Rattle.linker_loongarch64.specs.LoongArchRewrites.{LoongArchChoice, LoongArchEntry, LoongArchApplies, IsLoongArchChoice, loongarch_entries, IsAskedFor, IsBehind, IsDescriptorSequence}
+use Rattle.linker_loongarch64.specs.LoongArchRewrites.{loongarch_matches, IsPair, IsAddi, IsLd, IsPcalau12i, IsIntoOwnSource, word_at}
 use Rattle.linker_loongarch64.specs.LoongArchRewrites.{loongarch_rewrite}
 use Rattle.linker_loongarch64.specs.declared.choices.AskedFor.{AskedFor}
 use Rattle.linker_loongarch64.specs.declared.rewrites.RelaxationKind.{RelaxationKind}

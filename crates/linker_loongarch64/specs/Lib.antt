@@ -1,4 +1,2 @@
-pub mod LoongArchChoices
-pub mod LoongArchOriginals
 pub mod LoongArchRewrites
 pub mod Inner

@@ -11,11 +11,11 @@ ghost use Rattle.linker_loongarch64.specs.LoongArchRewrites.{loongarch64_rewrite
 ghost use Rattle.linker_loongarch64.specs.LoongArchRewrites.{loongarch_rewrite};
 ghost use Rattle.linker_loongarch64.specs.LoongArchRewrites.{loongarch_modifier, loongarch_deleted};
 ghost use Rattle.linker_loongarch64.specs.LoongArchRewrites.{rd_of, rj_of};
-ghost use Rattle.linker_loongarch64.specs.LoongArchOriginals.{loongarch_matches, adds_low12};
-ghost use Rattle.linker_loongarch64.specs.LoongArchOriginals.{IsAddi};
-ghost use Rattle.linker_loongarch64.specs.LoongArchOriginals.{IsLd};
-ghost use Rattle.linker_loongarch64.specs.LoongArchOriginals.{IsIntoOwnSource, AreOfOneRegister};
-ghost use Rattle.linker_loongarch64.specs.LoongArchOriginals.{IsCall};
+ghost use Rattle.linker_loongarch64.specs.LoongArchRewrites.{loongarch_matches, adds_low12};
+ghost use Rattle.linker_loongarch64.specs.LoongArchRewrites.{IsAddi};
+ghost use Rattle.linker_loongarch64.specs.LoongArchRewrites.{IsLd};
+ghost use Rattle.linker_loongarch64.specs.LoongArchRewrites.{IsIntoOwnSource, AreOfOneRegister};
+ghost use Rattle.linker_loongarch64.specs.LoongArchRewrites.{IsCall};
 ghost use Rattle.linker_loongarch64.specs.declared.rewrites.RelaxationKind.TheVariants.{NoOp};
 
 use linker_base::relaxation::RelocationModifier;

@@ -1,7 +1,7 @@
 -- The relocations of a sequence are chosen alike: each by the same conditions, which no place enters.
 use Rattle.std.proofs.Common.{◌≡◌, ◌↔◌, inl, inr, ℕ, List, [], ◌∷◌, ap, ◌∙◌, slice_index_or}
 use Rattle.linker_elf.specs.Choices.{Entry, entry, IsFirst, choice}
-use Rattle.linker_ppc64.specs.Ppc64Choices.{ppc64_entries, Ppc64Choice, Ppc64Applies, facts_at, IsAmong, TocPairsAreChosenAlike, GotPairIsChosenAlike, InitialExecPairIsChosenAlike, GeneralDynamicIsChosenAlike, LocalDynamicIsChosenAlike}
+use Rattle.linker_ppc64.specs.Ppc64Rewrites.{ppc64_entries, Ppc64Choice, Ppc64Applies, facts_at, IsAmong, TocPairsAreChosenAlike, GotPairIsChosenAlike, InitialExecPairIsChosenAlike, GeneralDynamicIsChosenAlike, LocalDynamicIsChosenAlike}
 use Rattle.linker_elf.specs.declared.elf.choice.LinkFacts.{LinkFacts}
 use Rattle.linker_elf.specs.declared.ppc64.relocations.Ppc64Relocation.{Ppc64Relocation}
 use Rattle.linker_elf.specs.declared.ppc64.relocations.Ppc64Relocation.TheVariants as r

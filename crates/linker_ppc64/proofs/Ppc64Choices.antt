@@ -10,8 +10,8 @@ use Rattle.linker_elf.specs.declared.elf.choice.LinkFacts.{LinkFacts}
 use Rattle.linker_elf.specs.declared.elf.choice_table.ChoiceEntry.{ChoiceEntry}
 use Rattle.linker_elf.specs.declared.elf.value.Operands.{Operands}
 use Rattle.linker_elf.specs.declared.ppc64.relocations.Ppc64Relocation.{Ppc64Relocation}
-use Rattle.linker_ppc64.specs.Ppc64Choices.{ppc64_entries, Ppc64Applies, IsPpc64Choice}
-use Rattle.linker_ppc64.specs.Ppc64Originals.{ppc64_matches}
+use Rattle.linker_ppc64.specs.Ppc64Rewrites.{ppc64_entries, Ppc64Applies, IsPpc64Choice}
+use Rattle.linker_ppc64.specs.Ppc64Rewrites.{ppc64_matches}
 use Rattle.linker_ppc64.specs.Ppc64Rewrites.{ppc64_rewrite}
 use Rattle.linker_ppc64.specs.declared.choices.OfRewrite.{OfRewrite}
 use Rattle.linker_ppc64.specs.declared.rewrites.RelaxationKind.{RelaxationKind}

@@ -1,7 +1,8 @@
 -- What the rewrites of PowerPC64 leave (64-bit ELF V2 ABI for Power, "TLS Linkage Optimizations"
 -- and "TOC Optimizations"; Power ISA, "Instruction Formats"). Bits are numbered from the lowest, 0.
-use Rattle.std.specs.Prelude.{ℕ, ◌+◌, ◌*◌, ◌^◌, ◌==◌, if◌then◌else◌, List, [], ◌∷◌, drop}
-use Rattle.std.specs.Prelude.{Option, None, Some, true}
+use Rattle.std.specs.Prelude.{ℕ, ◌+◌, ◌*◌, ◌^◌, ◌==◌, if◌then◌else◌, List, [], ◌∷◌, drop, Option}
+use Rattle.std.specs.Prelude.{None, Some, true, Bool, ◌&&◌, ◌||◌, not, nat_lt, IsTrue, ⊤, ◌%◌, ◌≡◌}
+use Rattle.std.specs.Prelude.{◌⊎◌, ◌++◌}
 use Rattle.std.specs.Int.{w32, w64, from_le_bytes, to_le_bytes}
 use Rattle.linker_base.specs.Bits.{field}
 use Rattle.linker_base.specs.Rewrite.{Rewrite, replaces}
@@ -9,7 +10,16 @@ use Rattle.linker_base.specs.declared.relaxation.RelocationModifier.{RelocationM
 use Rattle.linker_base.specs.declared.relaxation.RelocationModifier.TheVariants.{Normal}
 use Rattle.linker_base.specs.declared.relaxation.RelocationModifier.TheVariants.{SkipNextRelocation}
 use Rattle.linker_ppc64.specs.declared.rewrites.RelaxationKind.{RelaxationKind}
+use Rattle.linker_elf.specs.Originals.{HasWord}
+use Rattle.linker_elf.specs.Choices.{Condition, bound, fixed_distance, executable, private_base}
+use Rattle.linker_elf.specs.Choices.{changed_toc, in_reach, in_reach_if_known, Entry, entry, choice}
+use Rattle.linker_elf.specs.Choices.{Applies, IsFirst}
+use Rattle.linker_elf.specs.Ppc64Relocations.{ppc64_row}
+use Rattle.linker_elf.specs.declared.elf.choice.Choice.{Choice}
+use Rattle.linker_elf.specs.declared.elf.choice.LinkFacts.{LinkFacts}
+use Rattle.linker_elf.specs.declared.ppc64.relocations.Ppc64Relocation.{Ppc64Relocation}
 use Rattle.linker_ppc64.specs.declared.rewrites.RelaxationKind.TheVariants as kinds
+use Rattle.linker_elf.specs.declared.ppc64.relocations.Ppc64Relocation.TheVariants as r
 
 -- ---- the parts of an instruction
 
@@ -125,3 +135,272 @@ ppc64_rewrites =
     kinds.LdToAddisThread ∷ kinds.AddToAddi ∷ kinds.IndexedToD ∷ kinds.IndexedToDs ∷
     kinds.AddiToAddisThread ∷ kinds.AddiToLd ∷ kinds.CallToAddi ∷ kinds.CallToAdd ∷
     kinds.CallToAddi4096 ∷ kinds.NopToRestoreToc ∷ []
+
+-- The instructions that each rewrite of PowerPC64 is meant for (Power ISA, "Fixed-Point Facility"
+-- and "Floating-Point Facility"; 64-bit ELF V2 ABI for Power, "TLS Linkage Optimizations" and "TOC
+-- Optimizations"). As a base, register 0 is the number 0.
+
+-- ---- instructions by their bits
+
+-- `addis rT,2`
+abbrev pub is_addis_of_toc : ℕ → Bool
+is_addis_of_toc word = opcode_of word == 15 && ra_of word == 2
+
+-- `addi rT,rA`
+abbrev pub is_addi : ℕ → Bool
+is_addi word = opcode_of word == 14 && not (ra_of word == 0)
+
+-- `ld rT,x(rA)`
+abbrev pub is_ld : ℕ → Bool
+is_ld word = opcode_of word == 58 && field word 0 2 == 0 && not (ra_of word == 0)
+
+-- The numbers of the accesses without update: of `lwz`, `lbz`, `stw`, `stb`, `lhz`, `lha`, `sth`,
+-- `lfs`, `lfd`, `stfs` and `stfd` the opcode less 32, and of `lwzx` and so on the same.
+abbrev pub is_access : ℕ → Bool
+is_access n = n % 2 == 0 && nat_lt n 23 && not (n == 14)
+
+-- those of `stw`, `stb` and `sth`
+abbrev pub is_store : ℕ → Bool
+is_store n = n == 4 || n == 6 || n == 12
+
+-- `ldx`, `stdx` and `lwax`
+abbrev pub is_word_access : ℕ → Bool
+is_word_access n = n == 0 || n == 4 || n == 10
+
+-- an instruction stores its source register only if that isn't the base too
+abbrev pub keeps_base : Bool → ℕ → Bool
+keeps_base stores word = not (stores && rt_of word == ra_of word)
+
+-- such an access by a displacement
+abbrev pub is_d_access : ℕ → Bool
+is_d_access word =
+    field word 31 32 == 1 && is_access (field word 26 31)
+    && keeps_base (is_store (field word 26 31)) word
+
+-- `ld` and `lwa`, or `std`
+abbrev pub is_ds_access : ℕ → Bool
+is_ds_access word =
+    opcode_of word == 58 && (field word 0 2 == 0 || field word 0 2 == 2)
+    || opcode_of word == 62 && field word 0 2 == 0 && keeps_base true word
+
+-- an instruction that reads its base register, which isn't 0, as the base alone, and leaves it
+abbrev pub is_over_base : ℕ → Bool
+is_over_base word =
+    not (ra_of word == 0) && (opcode_of word == 14 || is_d_access word || is_ds_access word)
+
+-- The second source register is 13, the thread pointer.
+abbrev pub is_over_thread : ℕ → Bool
+is_over_thread word = opcode_of word == 31 && field word 11 16 == 13 && not (ra_of word == 0)
+
+-- `add rT,rA,13`
+abbrev pub is_add_of_thread : ℕ → Bool
+is_add_of_thread word = is_over_thread word && field word 0 11 == 0x214
+
+-- `lwzx rT,rA,13` and so on
+abbrev pub is_indexed : ℕ → Bool
+is_indexed word =
+    is_over_thread word && field word 0 6 == 0x2e && is_access (access_of word)
+    && keeps_base (is_store (access_of word)) word
+
+-- `ldx rT,rA,13` and so on
+abbrev pub is_indexed_word : ℕ → Bool
+is_indexed_word word =
+    is_over_thread word && field word 0 6 == 0x2a && is_word_access (access_of word)
+    && keeps_base (access_of word == 4) word
+
+-- `pld rT`, relative to the instruction, by its two words
+abbrev pub is_pld : ℕ → ℕ → Bool
+is_pld prefix word = field prefix 18 32 == 0x104 && opcode_of word == 57 && ra_of word == 0
+
+-- `bl`, and `nop` after it
+abbrev pub is_call : ℕ → ℕ → Bool
+is_call word next = opcode_of word == 18 && field word 0 2 == 1 && next == nop
+
+-- ---- where they are
+
+abbrev pub HasTest : (ℕ → Bool) → List ℕ → ℕ → Type 0
+HasTest test section o = HasWord section o (λ word. IsTrue (test word))
+
+-- two words one after the other
+abbrev pub HasTwo : (ℕ → ℕ → Bool) → List ℕ → ℕ → Type 0
+HasTwo test section o =
+    HasWord section o (λ first. HasWord section (o + 4) (λ second. IsTrue (test first second)))
+
+-- What a rewrite is meant for is at an offset of the section.
+abbrev pub ppc64_matches : RelaxationKind → List ℕ → ℕ → Type 0
+ppc64_matches kinds.NoOp = λ section o. ⊤
+ppc64_matches kinds.AddisToNop = HasTest is_addis_of_toc
+ppc64_matches kinds.BaseToToc = HasTest is_over_base
+ppc64_matches kinds.LdToAddi = HasTest is_ld
+ppc64_matches kinds.PldToPaddi = HasTwo is_pld
+ppc64_matches kinds.LdToAddisThread = HasTest (λ word. is_ld word && not (rt_of word == 0))
+ppc64_matches kinds.AddToAddi = HasTest is_add_of_thread
+ppc64_matches kinds.IndexedToD = HasTest is_indexed
+ppc64_matches kinds.IndexedToDs = HasTest is_indexed_word
+ppc64_matches kinds.AddiToAddisThread = HasTest (λ word. is_addi word && rt_of word == 3)
+ppc64_matches kinds.AddiToLd = HasTest (λ word. is_addi word && rt_of word == 3)
+ppc64_matches kinds.CallToAddi = HasTwo is_call
+ppc64_matches kinds.CallToAdd = HasTwo is_call
+ppc64_matches kinds.CallToAddi4096 = HasTwo is_call
+ppc64_matches kinds.NopToRestoreToc = HasTwo is_call
+
+-- Which rewrite of PowerPC64 is chosen (64-bit ELF V2 ABI for Power, "TOC Optimizations", "TLS
+-- Linkage Optimizations" and "The TOC Pointer Register"). No condition depends on the place of a
+-- rewrite that moves it.
+
+abbrev pub Conditions : Type 0
+Conditions = List (Condition Ppc64Relocation)
+
+-- ---- conditions
+
+-- The high part of the distance from the TOC pointer is 0.
+abbrev pub without_high_part : Conditions
+without_high_part = private_base ∷ in_reach r.R_PPC64_TOC16 0 ∷ []
+
+-- the address by its distance from the TOC pointer, and not by its entry
+abbrev pub to_toc_distance : Conditions
+to_toc_distance = bound ∷ fixed_distance ∷ in_reach_if_known r.R_PPC64_TOC16_HA 0 ∷ []
+
+-- the address by its distance from the instruction
+abbrev pub to_distance : Conditions
+to_distance = bound ∷ fixed_distance ∷ in_reach_if_known r.R_PPC64_PCREL34 0 ∷ []
+
+-- the offset from the thread pointer in the instructions
+abbrev pub to_local_exec : Conditions
+to_local_exec = bound ∷ executable ∷ in_reach_if_known r.R_PPC64_TPREL16_HA 0 ∷ []
+
+-- the same of an access of whole words
+abbrev pub to_local_exec_words : Conditions
+to_local_exec_words =
+    bound ∷ executable ∷ in_reach_if_known r.R_PPC64_TPREL16_HA 0
+    ∷ in_reach_if_known r.R_PPC64_TPREL16_LO_DS 0 ∷ []
+
+-- the offset from the thread pointer in the GOT
+abbrev pub to_initial_exec : Conditions
+to_initial_exec = executable ∷ in_reach_if_known r.R_PPC64_GOT_TPREL16_HA 0 ∷ []
+
+-- ---- the table
+
+abbrev pub ppc64_entries : Ppc64Relocation → List (Entry RelaxationKind Ppc64Relocation)
+ppc64_entries r.R_PPC64_TOC16_HA =
+    entry kinds.AddisToNop r.R_PPC64_NONE without_high_part ∷ []
+ppc64_entries r.R_PPC64_TOC16_LO =
+    entry kinds.BaseToToc r.R_PPC64_TOC16 without_high_part ∷ []
+ppc64_entries r.R_PPC64_TOC16_LO_DS =
+    entry kinds.BaseToToc r.R_PPC64_TOC16_DS without_high_part ∷ []
+ppc64_entries r.R_PPC64_GOT16_HA = entry kinds.NoOp r.R_PPC64_TOC16_HA to_toc_distance ∷ []
+ppc64_entries r.R_PPC64_GOT16_LO_DS = entry kinds.LdToAddi r.R_PPC64_TOC16_LO to_toc_distance ∷ []
+ppc64_entries r.R_PPC64_GOT_PCREL34 = entry kinds.PldToPaddi r.R_PPC64_PCREL34 to_distance ∷ []
+ppc64_entries r.R_PPC64_GOT_TPREL16_HA = entry kinds.AddisToNop r.R_PPC64_NONE to_local_exec ∷ []
+ppc64_entries r.R_PPC64_GOT_TPREL16_LO_DS =
+    entry kinds.LdToAddisThread r.R_PPC64_TPREL16_HA to_local_exec ∷ []
+ppc64_entries r.R_PPC64_TLS =
+    entry kinds.AddToAddi r.R_PPC64_TPREL16_LO to_local_exec ∷
+    entry kinds.IndexedToD r.R_PPC64_TPREL16_LO to_local_exec ∷
+    entry kinds.IndexedToDs r.R_PPC64_TPREL16_LO_DS to_local_exec_words ∷ []
+ppc64_entries r.R_PPC64_GOT_TLSGD16_HA =
+    entry kinds.AddisToNop r.R_PPC64_NONE to_local_exec ∷
+    entry kinds.NoOp r.R_PPC64_GOT_TPREL16_HA to_initial_exec ∷ []
+ppc64_entries r.R_PPC64_GOT_TLSGD16_LO =
+    entry kinds.AddiToAddisThread r.R_PPC64_TPREL16_HA to_local_exec ∷
+    entry kinds.AddiToLd r.R_PPC64_GOT_TPREL16_LO_DS to_initial_exec ∷ []
+ppc64_entries r.R_PPC64_TLSGD =
+    entry kinds.CallToAddi r.R_PPC64_TPREL16_LO to_local_exec ∷
+    entry kinds.CallToAdd r.R_PPC64_NONE to_initial_exec ∷ []
+ppc64_entries r.R_PPC64_GOT_TLSLD16_HA =
+    entry kinds.AddisToNop r.R_PPC64_NONE (executable ∷ []) ∷ []
+ppc64_entries r.R_PPC64_GOT_TLSLD16_LO =
+    entry kinds.AddiToAddisThread r.R_PPC64_NONE (executable ∷ []) ∷ []
+ppc64_entries r.R_PPC64_TLSLD =
+    entry kinds.CallToAddi4096 r.R_PPC64_NONE (executable ∷ []) ∷ []
+ppc64_entries r.R_PPC64_REL24 =
+    entry kinds.NopToRestoreToc r.R_PPC64_REL24 (changed_toc ∷ []) ∷ []
+ppc64_entries name = []
+
+-- ---- which entry is chosen
+
+-- what the rewrite is meant for is at the offset, and the conditions hold
+abbrev pub Ppc64Applies : List ℕ → ℕ → LinkFacts → Entry RelaxationKind Ppc64Relocation → Type 0
+Ppc64Applies = Applies ppc64_matches ppc64_row (λ kind o operands. operands)
+
+-- `NoOp` and the same relocation where no entry applies
+abbrev pub IsPpc64Choice : Ppc64Relocation → List ℕ → ℕ → LinkFacts
+    → Choice RelaxationKind Ppc64Relocation → Type 0
+IsPpc64Choice name section o facts chosen =
+    IsFirst (Ppc64Applies section o facts) (ppc64_entries name) (choice kinds.NoOp name) chosen
+
+-- ---- all relocations of a sequence
+
+abbrev pub Ppc64Choice : Type 0
+Ppc64Choice = Choice RelaxationKind Ppc64Relocation
+
+-- the facts of a relocation at another place
+abbrev pub facts_at : ℕ → LinkFacts → LinkFacts
+facts_at place facts =
+    record facts { operands = record facts.operands { place = place } }
+
+-- two choices are those of one line
+abbrev pub IsAmong : Ppc64Choice × Ppc64Choice → List (Ppc64Choice × Ppc64Choice) → Type 0
+IsAmong x [] = ⊥
+IsAmong x (y ∷ ys) = (x ≡ y) ⊎ IsAmong x ys
+
+-- The instructions at two offsets are some that the rewrites of each line are meant for.
+abbrev pub AreMeant : List (Ppc64Choice × Ppc64Choice) → List ℕ → ℕ → ℕ → Type 0
+AreMeant [] section o p = ⊤
+AreMeant (x ∷ xs) section o p =
+    ppc64_matches x.0.kind section o × ppc64_matches x.1.kind section p
+    × AreMeant xs section o p
+
+-- Two relocations of one sequence, wherever its instructions are, with the same facts but for the
+-- place: both choices are those of one line, or both relocations are left.
+abbrev pub AreChosenAlike : Ppc64Relocation → Ppc64Relocation → List (Ppc64Choice × Ppc64Choice)
+    → Type 0
+AreChosenAlike first second lines =
+    (section : List ℕ) (o p place : ℕ) (facts : LinkFacts) (a b : Ppc64Choice)
+    → AreMeant lines section o p
+    → IsPpc64Choice first section o facts a
+    → IsPpc64Choice second section p (facts_at place facts) b
+    → IsAmong (a, b) (lines ++ (choice kinds.NoOp first, choice kinds.NoOp second) ∷ [])
+
+abbrev pub nop : Ppc64Choice
+nop = choice kinds.AddisToNop r.R_PPC64_NONE
+
+abbrev pub TocPairsAreChosenAlike : Type 0
+TocPairsAreChosenAlike =
+    AreChosenAlike r.R_PPC64_TOC16_HA r.R_PPC64_TOC16_LO
+    ((nop, choice kinds.BaseToToc r.R_PPC64_TOC16) ∷ [])
+    × AreChosenAlike r.R_PPC64_TOC16_HA r.R_PPC64_TOC16_LO_DS
+    ((nop, choice kinds.BaseToToc r.R_PPC64_TOC16_DS) ∷ [])
+
+abbrev pub GotPairIsChosenAlike : Type 0
+GotPairIsChosenAlike =
+    AreChosenAlike r.R_PPC64_GOT16_HA r.R_PPC64_GOT16_LO_DS
+    ((choice kinds.NoOp r.R_PPC64_TOC16_HA, choice kinds.LdToAddi r.R_PPC64_TOC16_LO) ∷ [])
+
+-- the two halves of the entry's address
+abbrev pub InitialExecPairIsChosenAlike : Type 0
+InitialExecPairIsChosenAlike =
+    AreChosenAlike r.R_PPC64_GOT_TPREL16_HA r.R_PPC64_GOT_TPREL16_LO_DS
+    ((nop, choice kinds.LdToAddisThread r.R_PPC64_TPREL16_HA) ∷ [])
+
+-- one of the other relocations of general-dynamic TLS with the first one: its choices for
+-- local-exec and for initial-exec
+abbrev pub IsOfGeneralDynamic : Ppc64Relocation → Ppc64Choice → Ppc64Choice → Type 0
+IsOfGeneralDynamic name local initial =
+    AreChosenAlike r.R_PPC64_GOT_TLSGD16_HA name
+    ((nop, local) ∷ (choice kinds.NoOp r.R_PPC64_GOT_TPREL16_HA, initial) ∷ [])
+
+abbrev pub GeneralDynamicIsChosenAlike : Type 0
+GeneralDynamicIsChosenAlike =
+    IsOfGeneralDynamic r.R_PPC64_GOT_TLSGD16_LO
+    (choice kinds.AddiToAddisThread r.R_PPC64_TPREL16_HA)
+    (choice kinds.AddiToLd r.R_PPC64_GOT_TPREL16_LO_DS)
+    × IsOfGeneralDynamic r.R_PPC64_TLSGD (choice kinds.CallToAddi r.R_PPC64_TPREL16_LO)
+    (choice kinds.CallToAdd r.R_PPC64_NONE)
+
+abbrev pub LocalDynamicIsChosenAlike : Type 0
+LocalDynamicIsChosenAlike =
+    AreChosenAlike r.R_PPC64_GOT_TLSLD16_HA r.R_PPC64_GOT_TLSLD16_LO
+    ((nop, choice kinds.AddiToAddisThread r.R_PPC64_NONE) ∷ [])
+    × AreChosenAlike r.R_PPC64_GOT_TLSLD16_HA r.R_PPC64_TLSLD
+    ((nop, choice kinds.CallToAddi4096 r.R_PPC64_NONE) ∷ [])

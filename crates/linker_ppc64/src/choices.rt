@@ -3,12 +3,12 @@
 ghost use Rattle.std.specs.Prelude.{◌≤◌, length};
 ghost use Rattle.linker_base.specs.Rewrite.{CanRewrite};
 ghost use Rattle.linker_elf.specs.Inner.ChoiceTables.{IsTableOf};
-ghost use Rattle.linker_ppc64.specs.Ppc64Choices.{TocPairsAreChosenAlike, GotPairIsChosenAlike};
-ghost use Rattle.linker_ppc64.specs.Ppc64Choices.{InitialExecPairIsChosenAlike};
-ghost use Rattle.linker_ppc64.specs.Ppc64Choices.{GeneralDynamicIsChosenAlike};
-ghost use Rattle.linker_ppc64.specs.Ppc64Choices.{LocalDynamicIsChosenAlike};
-ghost use Rattle.linker_ppc64.specs.Ppc64Choices.{IsPpc64Choice, ppc64_entries};
-ghost use Rattle.linker_ppc64.specs.Ppc64Originals.{ppc64_matches};
+ghost use Rattle.linker_ppc64.specs.Ppc64Rewrites.{TocPairsAreChosenAlike, GotPairIsChosenAlike};
+ghost use Rattle.linker_ppc64.specs.Ppc64Rewrites.{InitialExecPairIsChosenAlike};
+ghost use Rattle.linker_ppc64.specs.Ppc64Rewrites.{GeneralDynamicIsChosenAlike};
+ghost use Rattle.linker_ppc64.specs.Ppc64Rewrites.{LocalDynamicIsChosenAlike};
+ghost use Rattle.linker_ppc64.specs.Ppc64Rewrites.{IsPpc64Choice, ppc64_entries};
+ghost use Rattle.linker_ppc64.specs.Ppc64Rewrites.{ppc64_matches};
 ghost use Rattle.linker_ppc64.specs.Ppc64Rewrites.{ppc64_rewrite};
 
 use super::rewrites::RelaxationKind;

@@ -16,7 +16,7 @@ use Rattle.linker_recognise.specs.Fields.{is_field_bit, is_size_bit, is_value_bi
 use Rattle.linker_recognise.specs.Recognised.{AreLeft}
 use Rattle.linker_recognise.specs.WrittenFields.{WritesField, X86WrittenIsLeft}
 use Rattle.linker_base.specs.Rewrite.{rewritten, offset_after}
-use Rattle.linker_x86_64.specs.X86.{x86_64_rewrite}
+use Rattle.linker_x86_64.specs.X86Rewrites.{x86_64_rewrite}
 use Rattle.linker_elf.specs.declared.elf.RelocationKind.TheVariants.{AbsoluteSetWord6, AbsoluteAdditionWord6, AbsoluteSubtractionWord6}
 use Rattle.linker_recognise.specs.declared.fields.FieldBits.{FieldBits}
 

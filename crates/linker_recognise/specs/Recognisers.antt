@@ -1,7 +1,7 @@
 -- What is recognised of each architecture.
 use Rattle.std.specs.Prelude.{ℕ, ◌-◌, List, None, slice_index}
-use Rattle.linker_aarch64.specs.AArch64Choices.{AArch64Applies, aarch64_entries}
-use Rattle.linker_aarch64.specs.AArch64Originals.{aarch64_matches}
+use Rattle.linker_aarch64.specs.AArch64Rewrites.{AArch64Applies, aarch64_entries}
+use Rattle.linker_aarch64.specs.AArch64Rewrites.{aarch64_matches}
 use Rattle.linker_aarch64.specs.AArch64Rewrites.{aarch64_rewrite}
 use Rattle.linker_aarch64.specs.declared.rewrites.RelaxationKind.TheVariants as of_aarch64
 use Rattle.linker_aarch64.specs.declared.rewrites.RelaxationKind.{RelaxationKind as AArch64Kind}
@@ -16,26 +16,26 @@ use Rattle.linker_elf.specs.declared.loongarch64.relocations.LoongArch64Relocati
 use Rattle.linker_elf.specs.declared.ppc64.relocations.Ppc64Relocation.{Ppc64Relocation}
 use Rattle.linker_elf.specs.declared.riscv64.relocations.RiscVRelocation.{RiscVRelocation}
 use Rattle.linker_elf.specs.declared.x86_64.relocations.X86_64Relocation.{X86_64Relocation}
-use Rattle.linker_loongarch64.specs.LoongArchChoices.{LoongArchApplies, loongarch_entries}
-use Rattle.linker_loongarch64.specs.LoongArchOriginals.{loongarch_matches}
+use Rattle.linker_loongarch64.specs.LoongArchRewrites.{LoongArchApplies, loongarch_entries}
+use Rattle.linker_loongarch64.specs.LoongArchRewrites.{loongarch_matches}
 use Rattle.linker_loongarch64.specs.LoongArchRewrites.{loongarch_rewrite, loongarch_deleted}
 use Rattle.linker_loongarch64.specs.declared.rewrites.RelaxationKind.TheVariants as of_loongarch
 use Rattle.linker_loongarch64.specs.declared.rewrites.RelaxationKind.{RelaxationKind as LoongArchKind}
-use Rattle.linker_ppc64.specs.Ppc64Choices.{Ppc64Applies, ppc64_entries}
-use Rattle.linker_ppc64.specs.Ppc64Originals.{ppc64_matches}
+use Rattle.linker_ppc64.specs.Ppc64Rewrites.{Ppc64Applies, ppc64_entries}
+use Rattle.linker_ppc64.specs.Ppc64Rewrites.{ppc64_matches}
 use Rattle.linker_ppc64.specs.Ppc64Rewrites.{ppc64_rewrite}
 use Rattle.linker_ppc64.specs.declared.rewrites.RelaxationKind.TheVariants as of_ppc64
 use Rattle.linker_ppc64.specs.declared.rewrites.RelaxationKind.{RelaxationKind as Ppc64Kind}
 use Rattle.linker_recognise.specs.Recognised.{Recogniser}
-use Rattle.linker_riscv64.specs.RiscVChoices.{AppliesToRiscV, IsAskedFor, riscv_entries, riscv_row_of}
-use Rattle.linker_riscv64.specs.RiscVOriginals.{riscv_matches}
+use Rattle.linker_riscv64.specs.RiscVRewrites.{AppliesToRiscV, IsAskedFor, riscv_entries, riscv_row_of}
+use Rattle.linker_riscv64.specs.RiscVRewrites.{riscv_matches}
 use Rattle.linker_riscv64.specs.RiscVRewrites.{riscv_rewrite, riscv_deleted}
 use Rattle.linker_riscv64.specs.declared.rewrites.RelaxationKind.TheVariants as of_riscv
 use Rattle.linker_riscv64.specs.declared.rewrites.RelaxationKind.{RelaxationKind as RiscVKind}
 use Rattle.linker_utils.specs.declared.architecture.Relaxation.TheVariants as relaxations
-use Rattle.linker_x86_64.specs.X86.{x86_64_rewrite}
-use Rattle.linker_x86_64.specs.X86Choices.{Table, IsAskedFor as IsAskedForByX86, x86_64_after, x86_64_table}
-use Rattle.linker_x86_64.specs.X86Originals.{x86_64_matches}
+use Rattle.linker_x86_64.specs.X86Rewrites.{x86_64_rewrite}
+use Rattle.linker_x86_64.specs.X86Rewrites.{Table, IsAskedFor as IsAskedForByX86, x86_64_after, x86_64_table}
+use Rattle.linker_x86_64.specs.X86Rewrites.{x86_64_matches}
 use Rattle.linker_x86_64.specs.declared.rewrites.RelaxationKind.TheVariants as of_x86_64
 use Rattle.linker_x86_64.specs.declared.rewrites.RelaxationKind.{RelaxationKind as X86Kind}
 

@@ -9,7 +9,7 @@ use Rattle.linker_elf.specs.declared.x86_64.relocations.X86_64Relocation.{X86_64
 use Rattle.linker_recognise.specs.Fields.{AreSameButFor}
 use Rattle.linker_recognise.specs.Recognised.{IsLeft}
 use Rattle.linker_recognise.specs.declared.fields.FieldBits.{FieldBits}
-use Rattle.linker_x86_64.specs.X86.{x86_64_rewrite}
+use Rattle.linker_x86_64.specs.X86Rewrites.{x86_64_rewrite}
 use Rattle.linker_x86_64.specs.declared.rewrites.RelaxationKind.{RelaxationKind}
 
 -- a write changes bits of the row's field only

@@ -1,7 +1,7 @@
 -- The relocations of a sequence are chosen alike: each by the same conditions.
 use Rattle.std.proofs.Common.{◌≡◌, ◌↔◌, inl, inr, ℕ, List, [], ◌∷◌, ap, ◌∙◌, slice_index_or}
 use Rattle.linker_elf.specs.Choices.{AllHold, IsFirst, entry, choice, facts_on}
-use Rattle.linker_riscv64.specs.RiscVChoices.{RiscVEntry, RiscVChoice, AppliesToRiscV, IsAskedFor, riscv_row_of, riscv_entries, start_of_descriptor, to_local_exec, to_short_local_exec, IsAmong, AreChosenAlike, deleted, nop, from_zero, from_high, from_got, DescriptorIsChosenAlike, GotPairIsChosenAlike, AbsoluteIsChosenAlike, ThreadOffsetIsChosenAlike}
+use Rattle.linker_riscv64.specs.RiscVRewrites.{RiscVEntry, RiscVChoice, AppliesToRiscV, IsAskedFor, riscv_row_of, riscv_entries, start_of_descriptor, to_local_exec, to_short_local_exec, IsAmong, AreChosenAlike, deleted, nop, from_zero, from_high, from_got, DescriptorIsChosenAlike, GotPairIsChosenAlike, AbsoluteIsChosenAlike, ThreadOffsetIsChosenAlike}
 use Rattle.linker_elf.specs.declared.riscv64.relocations.RiscVRelocation.TheVariants as r
 use Rattle.linker_riscv64.specs.declared.rewrites.RelaxationKind.TheVariants as kinds
 use Rattle.linker_elf.specs.declared.elf.choice.LinkFacts.{LinkFacts}

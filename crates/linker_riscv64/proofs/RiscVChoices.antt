@@ -13,8 +13,8 @@ use Rattle.linker_elf.specs.declared.elf.value.Operands.{Operands}
 use Rattle.linker_elf.specs.declared.riscv64.relocations.RiscVRelocation.{RiscVRelocation}
 use Rattle.linker_elf.specs.declared.riscv64.relocations.RiscVRelocation.TheVariants as r
 use Rattle.linker_riscv64.specs.Inner.Choices.{IsThere}
-use Rattle.linker_riscv64.specs.RiscVChoices.{RiscVEntry, RiscVChoice, AppliesToRiscV, IsAskedFor, IsRiscVChoice, riscv_row_of, riscv_entries}
-use Rattle.linker_riscv64.specs.RiscVOriginals.{riscv_matches}
+use Rattle.linker_riscv64.specs.RiscVRewrites.{RiscVEntry, RiscVChoice, AppliesToRiscV, IsAskedFor, IsRiscVChoice, riscv_row_of, riscv_entries}
+use Rattle.linker_riscv64.specs.RiscVRewrites.{riscv_matches}
 use Rattle.linker_riscv64.specs.RiscVRewrites.{riscv_rewrite, FitsClui}
 use Rattle.linker_riscv64.specs.declared.choices.Original.{Original}
 use Rattle.linker_riscv64.specs.declared.rewrites.RelaxationKind.{RelaxationKind}

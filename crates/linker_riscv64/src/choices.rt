@@ -6,10 +6,10 @@ ghost use Rattle.linker_base.specs.Rewrite.{CanRewrite};
 ghost use Rattle.linker_elf.specs.Inner.ChoiceTables.{IsTableOf};
 ghost use Rattle.linker_elf.specs.Value.{sum_64};
 ghost use Rattle.linker_riscv64.specs.Inner.Choices.{IsThere};
-ghost use Rattle.linker_riscv64.specs.RiscVChoices.{DescriptorIsChosenAlike, GotPairIsChosenAlike};
-ghost use Rattle.linker_riscv64.specs.RiscVChoices.{AbsoluteIsChosenAlike, ThreadOffsetIsChosenAlike};
-ghost use Rattle.linker_riscv64.specs.RiscVChoices.{IsAskedFor, IsRiscVChoice, riscv_entries};
-ghost use Rattle.linker_riscv64.specs.RiscVOriginals.{riscv_matches};
+ghost use Rattle.linker_riscv64.specs.RiscVRewrites.{DescriptorIsChosenAlike, GotPairIsChosenAlike};
+ghost use Rattle.linker_riscv64.specs.RiscVRewrites.{AbsoluteIsChosenAlike, ThreadOffsetIsChosenAlike};
+ghost use Rattle.linker_riscv64.specs.RiscVRewrites.{IsAskedFor, IsRiscVChoice, riscv_entries};
+ghost use Rattle.linker_riscv64.specs.RiscVRewrites.{riscv_matches};
 ghost use Rattle.linker_riscv64.specs.RiscVRewrites.{riscv_rewrite, FitsClui};
 
 use super::rewrites::{is_add_tp, is_addi_to_a0, is_auipc, is_ld, is_lui, word_at};

@@ -12,10 +12,10 @@ ghost use Rattle.linker_riscv64.specs.RiscVRewrites.{riscv_rewrite, riscv_modifi
 ghost use Rattle.linker_riscv64.specs.RiscVRewrites.{IsSigned32};
 ghost use Rattle.linker_riscv64.specs.RiscVRewrites.{FitsClui, HoldsHigh, riscv_deleted, with_rs1};
 ghost use Rattle.linker_riscv64.specs.RiscVRewrites.{tp, clui_to_cli};
-ghost use Rattle.linker_riscv64.specs.RiscVOriginals.{opcode_of, funct3_of, adds_low12, IsTailCall};
-ghost use Rattle.linker_riscv64.specs.RiscVOriginals.{IsLui, IsAuipc, IsLd, IsAddTp, IsAddiToA0};
-ghost use Rattle.linker_riscv64.specs.RiscVOriginals.{IsCallOfDescriptor, riscv_matches};
-ghost use Rattle.linker_riscv64.specs.RiscVOriginals.{IsClui};
+ghost use Rattle.linker_riscv64.specs.RiscVRewrites.{opcode_of, funct3_of, adds_low12, IsTailCall};
+ghost use Rattle.linker_riscv64.specs.RiscVRewrites.{IsLui, IsAuipc, IsLd, IsAddTp, IsAddiToA0};
+ghost use Rattle.linker_riscv64.specs.RiscVRewrites.{IsCallOfDescriptor, riscv_matches};
+ghost use Rattle.linker_riscv64.specs.RiscVRewrites.{IsClui};
 ghost use Rattle.linker_elf.specs.Agrees.{RowFits};
 ghost use Rattle.linker_elf.specs.Readings.{RowReadsNoOther};
 ghost use Rattle.linker_elf.specs.RiscVRelocations.{clui_row};

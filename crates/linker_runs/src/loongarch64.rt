@@ -7,7 +7,7 @@ ghost use Rattle.linker_elf.specs.LoongArchRelocations.{loongarch_name};
 ghost use Rattle.linker_relax.specs.declared.relaxation.Item.{Item as items};
 ghost use Rattle.linker_relax.specs.declared.relaxation.Site.{Site as sites};
 ghost use Rattle.linker_relax.specs.declared.relaxation.Alignment.{Alignment as alignments};
-ghost use Rattle.linker_loongarch64.specs.LoongArchOriginals.{IsAddi, IsCall, IsPair};
+ghost use Rattle.linker_loongarch64.specs.LoongArchRewrites.{IsAddi, IsCall, IsPair};
 ghost use Rattle.linker_runs.specs.Relocations.{relocation_at, AreMade, AreWellFormed};
 ghost use Rattle.linker_runs.specs.Relocations.{IsItemsCause};
 ghost use Rattle.linker_runs.specs.LoongArchItems.{HasLoongArchName, AreStated, stated_limit};

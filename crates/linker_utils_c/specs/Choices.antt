@@ -34,6 +34,7 @@ facts_of facts =
       is_label_marked = is_set facts.is_label_marked;
       has_private_base = is_set facts.has_private_base;
       may_change_toc = is_set facts.may_change_toc;
+      group_fits = is_set facts.group_fits;
       has_addresses = is_set facts.has_addresses;
       operands = facts.operands;
     }

@@ -6,7 +6,7 @@ use Rattle.std.proofs.lemmas.List.{get_or-take, get_or-drop, append_assoc, drop_
 use Rattle.std.proofs.lemmas.Nat.Bits.{bit_at-lt, bit_at_and, bit_at_or, and_pow}
 use Rattle.linker_base.specs.Bits.{field}
 use Rattle.linker_base.specs.Rewrite.{rewritten}
-use Rattle.linker_x86_64.specs.X86.{rex, evex_reg_to_rm, evex_high, modrm_reg_to_rm, rex_mov, KeepsRegister}
+use Rattle.linker_x86_64.specs.X86Rewrites.{rex, evex_reg_to_rm, evex_high, modrm_reg_to_rm, rex_mov, KeepsRegister}
 
 -- ---- the EVEX byte, by the code's tests
 

@@ -9,8 +9,8 @@ use Rattle.linker_elf.specs.declared.elf.choice.LinkFacts.{LinkFacts}
 use Rattle.linker_elf.specs.declared.elf.choice_table.ChoiceEntry.{ChoiceEntry}
 use Rattle.linker_elf.specs.declared.x86_64.relocations.X86_64Relocation.{X86_64Relocation}
 use Rattle.linker_x86_64.specs.Inner.X86Tables.{StandAt}
-use Rattle.linker_x86_64.specs.X86Choices.{Table, IsAskedFor, IsByTable, x86_64_after}
-use Rattle.linker_x86_64.specs.X86Originals.{x86_64_matches}
+use Rattle.linker_x86_64.specs.X86Rewrites.{Table, IsAskedFor, IsByTable, x86_64_after}
+use Rattle.linker_x86_64.specs.X86Rewrites.{x86_64_matches}
 use Rattle.linker_x86_64.specs.declared.choices.AskedFor.{AskedFor}
 use Rattle.linker_x86_64.specs.declared.rewrites.RelaxationKind.{RelaxationKind}
 use Rattle.linker_x86_64.specs.declared.rewrites.RelaxationKind.TheVariants as kinds

@@ -6,7 +6,7 @@ use Rattle.std.proofs.Math.Bool.{and-false}
 use Rattle.std.proofs.Math.Seq.{drop-cons}
 use Rattle.std.proofs.Math.ListN.{drop_of_length-le}
 use Rattle.std.proofs.lemmas.List.{length-drop}
-use Rattle.linker_x86_64.specs.X86Originals.{begins, is_at, original}
+use Rattle.linker_x86_64.specs.X86Rewrites.{begins, is_at, original}
 
 -- bytes that are too few
 begins_short : (ps : List (ℕ × ℕ)) (bs : List ℕ) → length bs < length ps → begins ps bs ≡ false

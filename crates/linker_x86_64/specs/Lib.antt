@@ -1,5 +1,3 @@
 pub mod Inner
-pub mod X86
-pub mod X86Choices
-pub mod X86Originals
+pub mod X86Rewrites
 pub mod X86RelocationsAfter

@@ -3,9 +3,9 @@
 ghost use Rattle.std.specs.Prelude.{◌-◌, ◌≡◌, ◌≤◌, length, slice_index};
 ghost use Rattle.linker_elf.specs.Inner.ChoiceTables.{IsTableOf};
 ghost use Rattle.linker_x86_64.specs.Inner.X86Tables.{StandAt};
-ghost use Rattle.linker_x86_64.specs.X86Choices.{IsX86Choice, IsAskedFor, x86_64_after};
-ghost use Rattle.linker_x86_64.specs.X86Choices.{x86_64_table};
-ghost use Rattle.linker_x86_64.specs.X86Originals.{x86_64_matches};
+ghost use Rattle.linker_x86_64.specs.X86Rewrites.{IsX86Choice, IsAskedFor, x86_64_after};
+ghost use Rattle.linker_x86_64.specs.X86Rewrites.{x86_64_table};
+ghost use Rattle.linker_x86_64.specs.X86Rewrites.{x86_64_matches};
 
 use super::rewrites::{is_lea_of_descriptor, is_legacy};
 use super::{RelaxationKind, X86_64Relocation};

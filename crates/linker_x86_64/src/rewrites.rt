@@ -1,18 +1,18 @@
 //! Relaxation rewrites of x86-64.
 
-ghost use Rattle.linker_x86_64.specs.X86.{x86_64_rewrites};
+ghost use Rattle.linker_x86_64.specs.X86Rewrites.{x86_64_rewrites};
 ghost use Rattle.std.proofs.Common.{ap};
 ghost use Rattle.std.specs.Prelude.{slice_get, ◌≡◌, ◌≤◌, ◌↔◌, ◌∷◌, [], IsTrue, Some};
 ghost use Rattle.std.specs.Prelude.{◌<◌, length};
 ghost use Rattle.linker_base.specs.Rewrite.{IsRewritable, CanRewrite, rewritten, offset_after};
 ghost use Rattle.linker_base.specs.Rewrite.{addend_after};
 ghost use Rattle.linker_base.specs.RewriteWindow.{window_of_rewrite};
-ghost use Rattle.linker_x86_64.specs.X86.{rex_reg_to_rm, evex_reg_to_rm, modrm_reg_to_rm, operand};
-ghost use Rattle.linker_x86_64.specs.X86.{prefixed_operand, evex_operand, absolute, by_immediate};
-ghost use Rattle.linker_x86_64.specs.X86.{x86_64_rewrite, x86_64_modifier, KeepsRegister};
-ghost use Rattle.linker_x86_64.specs.X86Originals.{original, is_at, is_one_at, legacy};
-ghost use Rattle.linker_x86_64.specs.X86Originals.{legacy_or_evex, lea_of_descriptor};
-ghost use Rattle.linker_x86_64.specs.X86Originals.{x86_64_originals, x86_64_matches};
+ghost use Rattle.linker_x86_64.specs.X86Rewrites.{rex_reg_to_rm, evex_reg_to_rm, modrm_reg_to_rm, operand};
+ghost use Rattle.linker_x86_64.specs.X86Rewrites.{prefixed_operand, evex_operand, absolute, by_immediate};
+ghost use Rattle.linker_x86_64.specs.X86Rewrites.{x86_64_rewrite, x86_64_modifier, KeepsRegister};
+ghost use Rattle.linker_x86_64.specs.X86Rewrites.{original, is_at, is_one_at, legacy};
+ghost use Rattle.linker_x86_64.specs.X86Rewrites.{legacy_or_evex, lea_of_descriptor};
+ghost use Rattle.linker_x86_64.specs.X86Rewrites.{x86_64_originals, x86_64_matches};
 ghost use Rattle.linker_x86_64.specs.declared.rewrites.RelaxationKind.TheVariants.{NoOp};
 
 use super::X86_64Relocation;

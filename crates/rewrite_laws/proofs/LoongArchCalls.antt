@@ -9,7 +9,7 @@ use Rattle.std.proofs.lemmas.List.Elements.{All-drop}
 use Rattle.linker_base.specs.Bits.{field, signed}
 use Rattle.linker_base.specs.Form.{bits_to}
 use Rattle.linker_elf.specs.LoongArch.{loongarch_form, call36_high, call36_low, reach}
-use Rattle.linker_loongarch64.specs.LoongArchOriginals.{IsCall, adds_low12}
+use Rattle.linker_loongarch64.specs.LoongArchRewrites.{IsCall, adds_low12}
 use Rattle.linker_elf.specs.LoongArchRelocations.{loongarch_row}
 use Rattle.linker_elf.specs.declared.loongarch64.relocations.LoongArch64Relocation.TheVariants as names
 use Rattle.linker_loongarch64.specs.LoongArchRewrites.{rd_of, rj_of}

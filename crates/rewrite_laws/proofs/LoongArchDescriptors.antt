@@ -7,7 +7,7 @@ use Rattle.std.proofs.lemmas.Bool.Decides.{eqb_tells}
 use Rattle.std.proofs.lemmas.Int.{ints}
 use Rattle.linker_base.specs.Bits.{field}
 use Rattle.linker_elf.specs.Choices.{ValueIsWithin}
-use Rattle.linker_loongarch64.specs.LoongArchChoices.{signed_32}
+use Rattle.linker_loongarch64.specs.LoongArchRewrites.{signed_32}
 use Rattle.linker_loongarch64.specs.LoongArchRewrites.{rd_of, rj_of}
 use Rattle.linker_elf.specs.Value.{sum_64}
 use Rattle.linker_elf.specs.declared.elf.value.Operands.{Operands}

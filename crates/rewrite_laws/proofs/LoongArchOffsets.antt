@@ -10,11 +10,11 @@ use Rattle.linker_base.specs.Bits.{field, signed}
 use Rattle.linker_elf.specs.Value.{sum_64, difference_64}
 use Rattle.linker_elf.specs.declared.elf.value.Operands.{Operands}
 use Rattle.linker_elf.specs.Choices.{ValueIsWithin, RowIsWithin}
-use Rattle.linker_loongarch64.specs.LoongArchChoices.{signed_32, signed_12}
+use Rattle.linker_loongarch64.specs.LoongArchRewrites.{signed_32, signed_12}
 use Rattle.linker_elf.specs.LoongArchRelocations.{loongarch_row}
 use Rattle.linker_elf.specs.declared.loongarch64.relocations.LoongArch64Relocation.TheVariants as names
 use Rattle.linker_loongarch64.specs.declared.rewrites.RelaxationKind.TheVariants as kinds
-use Rattle.linker_loongarch64.specs.LoongArchOriginals.{adds_low12}
+use Rattle.linker_loongarch64.specs.LoongArchRewrites.{adds_low12}
 use Rattle.linker_loongarch64.specs.LoongArchRewrites.{rd_of, rj_of}
 use Rattle.relocation_laws.specs.LoongArchLaws as relocation_laws
 use Rattle.relocation_laws.specs.Schemes.{IsAddress, AreAddresses, symbol_address}

@@ -6,7 +6,7 @@ use Rattle.std.proofs.lemmas.Int.{ints, to_z_pos}
 use Rattle.linker_base.specs.Bits.{field, signed}
 use Rattle.linker_elf.specs.Choices.{ValueIsWithin}
 use Rattle.linker_elf.specs.LoongArch.{pcalau12i, loongarch_form}
-use Rattle.linker_loongarch64.specs.LoongArchChoices.{signed_32}
+use Rattle.linker_loongarch64.specs.LoongArchRewrites.{signed_32}
 use Rattle.linker_loongarch64.specs.LoongArchRewrites.{rd_of, rj_of}
 use Rattle.linker_elf.specs.Relocate.{bits_taken, is_jirl, IsWritten, InstructionWritten}
 use Rattle.linker_elf.specs.declared.elf.RelocationInstruction.TheVariants.{LoongArch64}

@@ -7,7 +7,7 @@ use Rattle.std.proofs.lemmas.List.{drop-drop}
 use Rattle.linker_base.specs.Bits.{field}
 use Rattle.linker_riscv64.specs.RiscVRewrites.{call_to_jal, tail_to_jal, tail_to_cj}
 use Rattle.linker_riscv64.specs.RiscVCalls.{word_at, IsCallPair}
-use Rattle.linker_riscv64.specs.RiscVOriginals.{rd_of}
+use Rattle.linker_riscv64.specs.RiscVRewrites.{rd_of}
 use Rattle.linker_elf.specs.Value.{sum_64}
 use Rattle.linker_elf.specs.declared.riscv64.relocations.RiscVRelocation.TheVariants as names
 use Rattle.linker_riscv64.specs.declared.rewrites.RelaxationKind.TheVariants as kinds

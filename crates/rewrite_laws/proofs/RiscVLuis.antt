@@ -8,7 +8,7 @@ use Rattle.linker_base.specs.Form.{place_sum}
 use Rattle.linker_riscv64.specs.RiscVRewrites.{hi20_to_clui, clui_to_cli}
 use Rattle.linker_riscv64.specs.RiscVCalls.{word_at}
 use Rattle.linker_elf.specs.RiscV.{riscv_places}
-use Rattle.linker_riscv64.specs.RiscVOriginals.{rd_of, IsLui, half_at}
+use Rattle.linker_riscv64.specs.RiscVRewrites.{rd_of, IsLui, half_at}
 use Rattle.linker_elf.specs.declared.riscv64.forms.RiscVInstruction.TheVariants.{UType, CluiType}
 use Rattle.linker_riscv64.specs.declared.rewrites.RelaxationKind.TheVariants as kinds
 use Rattle.linker_riscv64.proofs.RiscVRewrites.{half_of_front}

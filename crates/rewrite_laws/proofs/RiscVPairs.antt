@@ -13,7 +13,7 @@ use Rattle.linker_base.specs.Bits.{field}
 use Rattle.linker_base.specs.Rewrite.{replaces, rewritten}
 use Rattle.linker_riscv64.specs.RiscVRewrites.{rs1_to_zero, with_rs1, tp}
 use Rattle.linker_riscv64.specs.RiscVCalls.{word_at}
-use Rattle.linker_riscv64.specs.RiscVOriginals.{opcode_of, funct3_of, rd_of}
+use Rattle.linker_riscv64.specs.RiscVRewrites.{opcode_of, funct3_of, rd_of}
 use Rattle.linker_elf.specs.Value.{sum_64, difference_64}
 use Rattle.linker_riscv64.specs.declared.rewrites.RelaxationKind.TheVariants as kinds
 use Rattle.relocation_laws.specs.RiscVLaws.{even}

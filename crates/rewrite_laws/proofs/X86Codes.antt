@@ -6,9 +6,9 @@ use Rattle.std.proofs.lemmas.Bool.{and_parts, leb-true}
 use Rattle.std.proofs.Math.Bool.{or-false}
 use Rattle.std.proofs.lemmas.List.{length-drop}
 use Rattle.linker_base.specs.Rewrite.{rewritten, replaces}
-use Rattle.linker_x86_64.specs.X86 as x86
-use Rattle.linker_x86_64.specs.X86.{absolute, operand, prefixed_operand, evex_operand, puts}
-use Rattle.linker_x86_64.specs.X86Originals.{Original, is_one_at, is_at, begins}
+use Rattle.linker_x86_64.specs.X86Rewrites as x86
+use Rattle.linker_x86_64.specs.X86Rewrites.{absolute, operand, prefixed_operand, evex_operand, puts}
+use Rattle.linker_x86_64.specs.X86Rewrites.{Original, is_one_at, is_at, begins}
 use Rattle.linker_x86_64.specs.declared.rewrites.RelaxationKind.TheVariants.{JmpIndirectToRelative}
 use Rattle.rewrite_laws.proofs.X86Sections.{original_code, rewritten_code}
 

@@ -5,8 +5,8 @@ use Rattle.std.specs.Prelude.{drop, take, None, ⊤, ◌-◌, Option, Some, IsSo
 use Rattle.std.specs.Int.{w32, from_le_bytes}
 use Rattle.linker_base.specs.Rewrite.{Rewrite, IsRewritable, rewritten}
 use Rattle.linker_aarch64.specs.AArch64Rewrites.{aarch64_rewrite, rd_of, rn_of}
-use Rattle.linker_aarch64.specs.AArch64Choices.{AreOfDescriptor}
-use Rattle.linker_aarch64.specs.AArch64Originals.{IsAdrp, IsAdd64, IsLdr64, AreOfOneRegister}
+use Rattle.linker_aarch64.specs.AArch64Rewrites.{AreOfDescriptor}
+use Rattle.linker_aarch64.specs.AArch64Rewrites.{IsAdrp, IsAdd64, IsLdr64, AreOfOneRegister}
 use Rattle.linker_elf.specs.AArch64Relocations.{aarch64_row}
 use Rattle.linker_elf.specs.Value.{sum_64, difference_64}
 use Rattle.linker_elf.specs.declared.aarch64.relocations.AArch64Relocation.{AArch64Relocation}

@@ -5,11 +5,11 @@ use Rattle.std.specs.Prelude.{IsSomeAnd, IsTrue, ⊤, ◌/◌, ◌^◌, Option, 
 use Rattle.std.specs.Int.{w32, from_le_bytes}
 use Rattle.linker_base.specs.Rewrite.{Rewrite}
 use Rattle.linker_elf.specs.Choices.{RowIsWithin}
-use Rattle.linker_loongarch64.specs.LoongArchChoices.{AreOfDescriptor, signed_32, unsigned_12}
-use Rattle.linker_loongarch64.specs.LoongArchChoices.{signed_12}
-use Rattle.linker_loongarch64.specs.LoongArchOriginals.{IsAddi, IsLd, AreOfOneRegister, IsCall}
-use Rattle.linker_loongarch64.specs.LoongArchOriginals.{IsLu12i}
-use Rattle.linker_loongarch64.specs.LoongArchOriginals.{IsAddTp, adds_low12}
+use Rattle.linker_loongarch64.specs.LoongArchRewrites.{AreOfDescriptor, signed_32, unsigned_12}
+use Rattle.linker_loongarch64.specs.LoongArchRewrites.{signed_12}
+use Rattle.linker_loongarch64.specs.LoongArchRewrites.{IsAddi, IsLd, AreOfOneRegister, IsCall}
+use Rattle.linker_loongarch64.specs.LoongArchRewrites.{IsLu12i}
+use Rattle.linker_loongarch64.specs.LoongArchRewrites.{IsAddTp, adds_low12}
 use Rattle.linker_elf.specs.LoongArchRelocations.{loongarch_row}
 use Rattle.linker_loongarch64.specs.LoongArchRewrites.{loongarch_rewrite, rd_of, rj_of, tp}
 use Rattle.linker_elf.specs.Value.{sum_64, difference_64}

@@ -3,9 +3,9 @@
 use Rattle.std.specs.Prelude.{◌≡◌, ◌≢◌, ◌<◌, ◌∷◌, [], ℕ, Bool, false, ◌==◌, ◌&&◌, ◌||◌, not, List}
 use Rattle.std.specs.Prelude.{take, IsTrue, IsSomeAnd, drop, Option, Some, ◌^◌, if◌then◌else◌}
 use Rattle.std.specs.Int.{w32, w64, from_le_bytes}
-use Rattle.linker_ppc64.specs.Ppc64Originals.{is_addis_of_toc, is_ld, is_add_of_thread, is_call}
-use Rattle.linker_ppc64.specs.Ppc64Originals.{is_indexed, is_store, is_d_access, is_addi}
-use Rattle.linker_ppc64.specs.Ppc64Originals.{is_ds_access, is_indexed_word, is_pld}
+use Rattle.linker_ppc64.specs.Ppc64Rewrites.{is_addis_of_toc, is_ld, is_add_of_thread, is_call}
+use Rattle.linker_ppc64.specs.Ppc64Rewrites.{is_indexed, is_store, is_d_access, is_addi}
+use Rattle.linker_ppc64.specs.Ppc64Rewrites.{is_ds_access, is_indexed_word, is_pld}
 use Rattle.linker_elf.specs.Ppc64Relocations.{ppc64_row}
 use Rattle.linker_ppc64.specs.Ppc64Rewrites.{ppc64_rewrite, opcode_of, rt_of, ra_of, access_of}
 use Rattle.linker_base.specs.Bits.{field}

@@ -13,9 +13,9 @@ use Rattle.linker_elf.specs.Elf.{IsWithin}
 use Rattle.linker_elf.specs.Originals.{HasWord}
 use Rattle.linker_riscv64.specs.RiscVRewrites.{riscv_rewrite, tp, a0}
 use Rattle.linker_riscv64.specs.RiscVCalls.{word_at}
-use Rattle.linker_riscv64.specs.RiscVOriginals.{riscv_matches, opcode_of, funct3_of, rd_of, IsLui}
-use Rattle.linker_riscv64.specs.RiscVOriginals.{IsAddTp, IsAuipc, IsLd, IsAddiToA0}
-use Rattle.linker_riscv64.specs.RiscVOriginals.{IsCallOfDescriptor, half_at}
+use Rattle.linker_riscv64.specs.RiscVRewrites.{riscv_matches, opcode_of, funct3_of, rd_of, IsLui}
+use Rattle.linker_riscv64.specs.RiscVRewrites.{IsAddTp, IsAuipc, IsLd, IsAddiToA0}
+use Rattle.linker_riscv64.specs.RiscVRewrites.{IsCallOfDescriptor, half_at}
 use Rattle.linker_elf.specs.RiscVRelocations.{riscv_row, clui_row, riscv_relocation}
 use Rattle.linker_elf.specs.Value.{sum_64, difference_64}
 use Rattle.linker_elf.specs.declared.elf.RelocationKindInfo.{RelocationKindInfo}

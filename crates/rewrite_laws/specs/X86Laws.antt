@@ -6,9 +6,9 @@ use Rattle.std.specs.List.{All}
 use Rattle.linker_base.specs.Rewrite.{rewritten, offset_after}
 use Rattle.linker_elf.specs.Choices.{operands_after}
 use Rattle.linker_elf.specs.Value.{difference_64}
-use Rattle.linker_x86_64.specs.X86.{x86_64_rewrite}
-use Rattle.linker_x86_64.specs.X86Originals.{Original, is_one_at, legacy, x86_64_matches}
-use Rattle.linker_x86_64.specs.X86Originals.{x86_64_originals}
+use Rattle.linker_x86_64.specs.X86Rewrites.{x86_64_rewrite}
+use Rattle.linker_x86_64.specs.X86Rewrites.{Original, is_one_at, legacy, x86_64_matches}
+use Rattle.linker_x86_64.specs.X86Rewrites.{x86_64_originals}
 use Rattle.linker_elf.specs.X86Relocations.{x86_64_row}
 use Rattle.linker_x86_64.specs.X86RelocationsAfter.{x86_64_relocation_after}
 use Rattle.linker_elf.specs.declared.elf.RelocationKindInfo.{RelocationKindInfo}

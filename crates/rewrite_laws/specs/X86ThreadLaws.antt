@@ -7,9 +7,9 @@ use Rattle.linker_base.specs.Rewrite.{rewritten, offset_after}
 use Rattle.linker_elf.specs.Choices.{operands_after}
 use Rattle.linker_elf.specs.Relocate.{number_of_bytes}
 use Rattle.linker_elf.specs.Value.{sum_64, difference_64}
-use Rattle.linker_x86_64.specs.X86.{x86_64_rewrite}
-use Rattle.linker_x86_64.specs.X86Originals.{x86_64_matches, Original, original, byte, field4}
-use Rattle.linker_x86_64.specs.X86Originals.{is_one_at}
+use Rattle.linker_x86_64.specs.X86Rewrites.{x86_64_rewrite}
+use Rattle.linker_x86_64.specs.X86Rewrites.{x86_64_matches, Original, original, byte, field4}
+use Rattle.linker_x86_64.specs.X86Rewrites.{is_one_at}
 use Rattle.linker_elf.specs.X86Relocations.{x86_64_row}
 use Rattle.linker_x86_64.specs.X86RelocationsAfter.{x86_64_relocation_after}
 use Rattle.std.specs.Prelude.{IsFalse, [], ◌∷◌}

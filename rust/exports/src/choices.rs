@@ -25,6 +25,7 @@ pub struct LinkFactNumbers {
     pub has_private_base: u8,
     pub may_change_toc: u8,
     pub has_addresses: u8,
+    pub group_fits: u8,
     pub operands: Operands,
 }
 
@@ -69,6 +70,7 @@ impl LinkFactNumbers {
             is_label_marked: self.is_label_marked != 0,
             has_private_base: self.has_private_base != 0,
             may_change_toc: self.may_change_toc != 0,
+            group_fits: self.group_fits != 0,
             has_addresses: self.has_addresses != 0,
             operands: self.operands,
         }

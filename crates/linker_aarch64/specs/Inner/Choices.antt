@@ -1,8 +1,8 @@
 -- The instructions that the entries of AArch64's tables of choices are for.
 use Rattle.std.specs.Prelude.{◌+◌, ℕ, List}
 use Rattle.linker_elf.specs.Originals.{HasWord}
-use Rattle.linker_aarch64.specs.AArch64Choices.{IsEntryLoad, IsOfDescriptor, IsBranch, IsCall}
-use Rattle.linker_aarch64.specs.AArch64Originals.{aarch64_matches}
+use Rattle.linker_aarch64.specs.AArch64Rewrites.{IsEntryLoad, IsOfDescriptor, IsBranch, IsCall}
+use Rattle.linker_aarch64.specs.AArch64Rewrites.{aarch64_matches}
 use Rattle.linker_aarch64.specs.declared.choices.Original.{Original}
 use Rattle.linker_aarch64.specs.declared.choices.Original.TheVariants as originals
 use Rattle.linker_aarch64.specs.declared.rewrites.RelaxationKind.{RelaxationKind}

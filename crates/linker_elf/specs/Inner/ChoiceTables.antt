@@ -5,6 +5,7 @@ use Rattle.linker_elf.specs.Choices.{Condition, Entry, entry, choice, Applies, A
 use Rattle.linker_elf.specs.Choices.{bound, weak_zero, fixed_address, fixed_distance, executable}
 use Rattle.linker_elf.specs.Choices.{local_exec_base, compressible, marked, label_marked}
 use Rattle.linker_elf.specs.Choices.{got_high_part, private_base, changed_toc, without_plt}
+use Rattle.linker_elf.specs.Choices.{group_fits}
 use Rattle.linker_elf.specs.Choices.{addend, low_12, in_reach, in_reach_if_known}
 use Rattle.linker_elf.specs.Choices.{within, within_if_known}
 use Rattle.linker_elf.specs.declared.elf.RelocationKindInfo.{RelocationKindInfo}
@@ -36,7 +37,8 @@ fact_conditions mask =
     (with_fact mask 0x200 got_high_part
     (with_fact mask 0x400 private_base
     (with_fact mask 0x800 changed_toc
-    (with_fact mask 0x1000 without_plt []))))))))))))
+    (with_fact mask 0x1000 without_plt
+    (with_fact mask 0x2000 group_fits [])))))))))))))
 
 -- a fact holds, if a mask has its bit
 abbrev pub is_held : ℕ → ℕ → Bool → Bool
@@ -58,6 +60,7 @@ facts_hold mask facts =
     && is_held mask 0x400 facts.has_private_base
     && is_held mask 0x800 facts.may_change_toc
     && is_held mask 0x1000 (facts.operands.plt_entry == facts.operands.symbol)
+    && is_held mask 0x2000 facts.group_fits
 
 -- ---- conditions
 

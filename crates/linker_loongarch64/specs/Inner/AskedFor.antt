@@ -1,9 +1,9 @@
 -- The instructions that an entry of the code's table of choices is for.
 use Rattle.std.specs.Prelude.{ℕ, List}
 use Rattle.linker_elf.specs.Originals.{HasWord}
-use Rattle.linker_loongarch64.specs.LoongArchChoices.{IsBehind, IsDescriptorSequence}
-use Rattle.linker_loongarch64.specs.LoongArchOriginals.{IsAddi, IsLd, IsLu12i, IsAddTp, IsPair}
-use Rattle.linker_loongarch64.specs.LoongArchOriginals.{loongarch_matches}
+use Rattle.linker_loongarch64.specs.LoongArchRewrites.{IsBehind, IsDescriptorSequence}
+use Rattle.linker_loongarch64.specs.LoongArchRewrites.{IsAddi, IsLd, IsLu12i, IsAddTp, IsPair}
+use Rattle.linker_loongarch64.specs.LoongArchRewrites.{loongarch_matches}
 use Rattle.linker_loongarch64.specs.declared.choices.AskedFor.{AskedFor}
 use Rattle.linker_loongarch64.specs.declared.choices.AskedFor.TheVariants as asked
 use Rattle.linker_loongarch64.specs.declared.rewrites.RelaxationKind.{RelaxationKind}

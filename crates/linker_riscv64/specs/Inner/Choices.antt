@@ -1,8 +1,8 @@
 -- The instructions that the entries of RISC-V's tables of choices are for.
 use Rattle.std.specs.Prelude.{ℕ, List}
 use Rattle.linker_elf.specs.Originals.{HasWord}
-use Rattle.linker_riscv64.specs.RiscVOriginals.{riscv_matches, IsLui, IsAuipc, IsLd, IsAddTp}
-use Rattle.linker_riscv64.specs.RiscVOriginals.{IsAddiToA0}
+use Rattle.linker_riscv64.specs.RiscVRewrites.{riscv_matches, IsLui, IsAuipc, IsLd, IsAddTp}
+use Rattle.linker_riscv64.specs.RiscVRewrites.{IsAddiToA0}
 use Rattle.linker_riscv64.specs.declared.choices.Original.{Original}
 use Rattle.linker_riscv64.specs.declared.choices.Original.TheVariants as originals
 use Rattle.linker_riscv64.specs.declared.rewrites.RelaxationKind.{RelaxationKind}

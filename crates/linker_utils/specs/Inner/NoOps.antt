@@ -5,7 +5,7 @@ use Rattle.linker_aarch64.specs.AArch64Rewrites.{aarch64_rewrite, aarch64_modifi
 use Rattle.linker_loongarch64.specs.LoongArchRewrites.{loongarch_rewrite, loongarch_modifier}
 use Rattle.linker_ppc64.specs.Ppc64Rewrites.{ppc64_rewrite, ppc64_modifier}
 use Rattle.linker_riscv64.specs.RiscVRewrites.{riscv_rewrite, riscv_modifier}
-use Rattle.linker_x86_64.specs.X86.{x86_64_rewrite, x86_64_modifier}
+use Rattle.linker_x86_64.specs.X86Rewrites.{x86_64_rewrite, x86_64_modifier}
 use Rattle.linker_utils.specs.Architectures.{relaxation_rewrite, relaxation_modifier}
 use Rattle.linker_utils.specs.Architectures.{relaxation_no_op}
 use Rattle.linker_utils.specs.declared.architecture.Relaxation.{Relaxation}

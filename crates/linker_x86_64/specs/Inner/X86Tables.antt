@@ -1,7 +1,7 @@
 -- x86-64: the instructions that the entries of the code are for.
 use Rattle.std.specs.Prelude.{ℕ, List, [], ◌∷◌}
-use Rattle.linker_x86_64.specs.X86Choices.{IsAskedFor}
-use Rattle.linker_x86_64.specs.X86Originals.{Original, original, legacy, lea_of_descriptor}
+use Rattle.linker_x86_64.specs.X86Rewrites.{IsAskedFor}
+use Rattle.linker_x86_64.specs.X86Rewrites.{Original, original, legacy, lea_of_descriptor}
 use Rattle.linker_x86_64.specs.declared.choices.AskedFor.{AskedFor}
 use Rattle.linker_x86_64.specs.declared.choices.AskedFor.TheVariants as asked
 use Rattle.linker_x86_64.specs.declared.rewrites.RelaxationKind.{RelaxationKind}

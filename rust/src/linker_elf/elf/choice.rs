@@ -43,6 +43,10 @@ pub struct LinkFacts {
     /// since it is called through a PLT entry or its symbol's `st_other` says so ("The st_other
     /// Field Values").
     pub may_change_toc: bool,
+    /// Each relocation of the sequence that this one is part of can be rewritten: `fits` of the
+    /// architecture is true of all of them, with the same facts but for `place`. Where the
+    /// instructions of a sequence may be apart, none of them is rewritten without it.
+    pub group_fits: bool,
     /// The addresses in `operands` are known. Where they are not, a rewrite that depends on a
     /// distance is not chosen; another is, and its value may turn out to be out of reach.
     pub has_addresses: bool,

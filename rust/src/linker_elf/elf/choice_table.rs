@@ -44,6 +44,9 @@ pub const CHANGED_TOC: u32 = 1 << 11;
 /// The symbol has no PLT entry: `plt_entry` is `symbol`.
 pub const WITHOUT_PLT: u32 = 1 << 12;
 
+/// `group_fits`.
+pub const GROUP_FITS: u32 = 1 << 13;
+
 /// What an entry asks of the value of a relocation, so many bytes before the place, or of S + A.
 #[derive(Clone, Copy)]
 pub enum ValueCondition<R> {
@@ -129,6 +132,7 @@ impl LinkFacts {
             & is_held(asked, PRIVATE_BASE, self.has_private_base)
             & is_held(asked, CHANGED_TOC, self.may_change_toc)
             & is_held(asked, WITHOUT_PLT, has_no_plt)
+            & is_held(asked, GROUP_FITS, self.group_fits)
     }
 }
 

@@ -1,5 +1,5 @@
 use Rattle.std.proofs.Common.{◌-◌, slice_index, subst}
-use Rattle.linker_x86_64.specs.X86Choices.{IsByTable, x86_64_table}
+use Rattle.linker_x86_64.specs.X86Rewrites.{IsByTable, x86_64_table}
 use Rattle.linker_x86_64.proofs.X86Choices.{chosen, chosen_matches}
 use Rattle.linker_x86_64.proofs.choices.choice_by.Goals as goal
 

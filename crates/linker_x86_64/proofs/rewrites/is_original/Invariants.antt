@@ -1,5 +1,5 @@
 use Rattle.std.proofs.Common.{◌≡◌, ◌+◌, drop}
-use Rattle.linker_x86_64.specs.X86Originals.{begins}
+use Rattle.linker_x86_64.specs.X86Rewrites.{begins}
 use Rattle.linker_x86_64.proofs.rewrites.is_original.Given as goal
 
 -- what is left to compare

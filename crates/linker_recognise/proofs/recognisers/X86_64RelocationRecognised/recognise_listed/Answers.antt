@@ -1,7 +1,7 @@
 use Rattle.std.proofs.Common.{ℕ, subst}
 use Rattle.linker_elf.specs.Inner.ChoiceTables.{IsTableOf}
 use Rattle.linker_x86_64.specs.Inner.X86Tables.{StandAt}
-use Rattle.linker_x86_64.specs.X86Choices.{IsAskedFor, x86_64_table}
+use Rattle.linker_x86_64.specs.X86Rewrites.{IsAskedFor, x86_64_table}
 use Rattle.linker_recognise.proofs.Found.{found_by_table, placed_by_table}
 use Rattle.linker_recognise.specs.Recognisers.{x86_64}
 use Rattle.linker_recognise.proofs.recognisers.X86_64RelocationRecognised.recognise_listed.Goals as goal

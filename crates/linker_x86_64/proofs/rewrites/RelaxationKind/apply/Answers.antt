@@ -1,6 +1,6 @@
 use Rattle.std.proofs.Common.{◌∙◌, ap, subst}
 use Rattle.linker_base.specs.Rewrite.{CanRewrite, rewritten}
-use Rattle.linker_x86_64.specs.X86.{x86_64_rewrite}
+use Rattle.linker_x86_64.specs.X86Rewrites.{x86_64_rewrite}
 use Rattle.linker_x86_64.proofs.X86Bytes.{keeps_register}
 use Rattle.linker_x86_64.proofs.rewrites.RelaxationKind.apply.Goals as goal
 
