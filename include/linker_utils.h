@@ -858,22 +858,23 @@ static inline uint32_t linker_utils_choose(uint16_t machine, uint32_t r_type,
  *   LD64_GOT_LO12_NC             LDR_TO_ADD           ADD_ABS_LO12_NC              (4)
  *   TLSIE_ADR_GOTTPREL_PAGE21    MOVZ_XN_LSL16        TLSLE_MOVW_TPREL_G1          (5)
  *   TLSIE_LD64_GOTTPREL_LO12_NC  MOVK_XN              TLSLE_MOVW_TPREL_G0_NC       (5)
- *   TLSDESC_ADR_PAGE21           MOVZ_X0_LSL16        TLSLE_MOVW_TPREL_G1          (5)
- *                                ADRP_X0              TLSIE_ADR_GOTTPREL_PAGE21    (6)
- *   TLSDESC_LD64_LO12            MOVK_X0              TLSLE_MOVW_TPREL_G0_NC       (5)
- *                                LDR_X0               TLSIE_LD64_GOTTPREL_LO12_NC  (7)
- *   TLSDESC_ADD_LO12             REPLACE_WITH_NOP     NONE                         (8)
- *   TLSDESC_CALL                 REPLACE_WITH_NOP     NONE                         (9)
+ *   TLSDESC_ADR_PAGE21           MOVZ_X0_LSL16        TLSLE_MOVW_TPREL_G1          (6)
+ *                                ADRP_X0              TLSIE_ADR_GOTTPREL_PAGE21    (7)
+ *   TLSDESC_LD64_LO12            MOVK_X0              TLSLE_MOVW_TPREL_G0_NC       (6)
+ *                                LDR_X0               TLSIE_LD64_GOTTPREL_LO12_NC  (8)
+ *   TLSDESC_ADD_LO12             REPLACE_WITH_NOP     NONE                         (9)
+ *   TLSDESC_CALL                 REPLACE_WITH_NOP     NONE                         (10)
  *   (1) has_fixed_distance, ADR_PREL_LO21 in reach
  *   (2) is_undefined_weak
  *   (3) is_local, not is_ifunc, has_fixed_distance, ADR_PREL_PG_HI21 in reach if known
  *   (4) is_local, not is_ifunc, has_fixed_distance, ADR_PREL_PG_HI21 at -4 in reach if known
- *   (5) is_local, not is_ifunc, is_executable, TLSLE_MOVW_TPREL_G1 in reach if known
- *   (6) is_executable, TLSIE_ADR_GOTTPREL_PAGE21 in reach if known
- *   (7) is_executable, TLSIE_ADR_GOTTPREL_PAGE21 at -4 in reach if known
- *   (8) is_executable, and either is_local and not is_ifunc and TLSLE_MOVW_TPREL_G1 in reach if
- *       known, or TLSIE_ADR_GOTTPREL_PAGE21 at -8 in reach if known
+ *   (5) is_local, not is_ifunc, is_executable, group_fits, TLSLE_MOVW_TPREL_G1 in reach if known
+ *   (6) is_local, not is_ifunc, is_executable, TLSLE_MOVW_TPREL_G1 in reach if known
+ *   (7) is_executable, TLSIE_ADR_GOTTPREL_PAGE21 in reach if known
+ *   (8) is_executable, TLSIE_ADR_GOTTPREL_PAGE21 at -4 in reach if known
  *   (9) is_executable, and either is_local and not is_ifunc and TLSLE_MOVW_TPREL_G1 in reach if
+ *       known, or TLSIE_ADR_GOTTPREL_PAGE21 at -8 in reach if known
+ *   (10) is_executable, and either is_local and not is_ifunc and TLSLE_MOVW_TPREL_G1 in reach if
  *       known, or TLSIE_ADR_GOTTPREL_PAGE21 at -12 in reach if known
  *
  * RISC-V, with the prefixes R_RISCV_ and LINKER_UTILS_RISCV_REWRITE_:

@@ -2,7 +2,7 @@
 -- one if that doesn't hold, of the place of the first.
 use Rattle.std.proofs.Common.{◌≡◌, ◌↔◌, ◌≤◌, inl, inr, ℕ, ◌+◌, ◌-◌, List, [], ◌∷◌, sym, subst, arith}
 use Rattle.std.specs.Prelude.{◌⊎◌}
-use Rattle.linker_aarch64.specs.AArch64Rewrites.{IsDescriptorSequence, IsOfDescriptor, to_address, to_local_exec, to_initial_exec, IsEntryLoad, AArch64Applies, AArch64Choice, AArch64Entry, IsAskedFor, erased, descriptor_entries, GotPairIsChosenAlike, InitialExecPairIsChosenAlike, DescriptorIsChosenAlike}
+use Rattle.linker_aarch64.specs.AArch64Rewrites.{IsDescriptorSequence, IsOfDescriptor, to_address, to_local_exec, halves_to_local_exec, to_initial_exec, IsEntryLoad, AArch64Applies, AArch64Choice, AArch64Entry, IsAskedFor, erased, descriptor_entries, GotPairIsChosenAlike, InitialExecIsChosenAlike, DescriptorIsChosenAlike}
 use Rattle.linker_aarch64.specs.AArch64Rewrites.{aarch64_matches}
 use Rattle.linker_elf.specs.AArch64Relocations.{aarch64_row}
 use Rattle.linker_elf.specs.Choices.{AllHold, IsFirst, entry, choice, RowReaches, facts_on}
@@ -10,7 +10,7 @@ use Rattle.linker_elf.specs.declared.aarch64.relocations.AArch64Relocation.{AArc
 use Rattle.linker_elf.specs.declared.aarch64.relocations.AArch64Relocation.TheVariants as r
 use Rattle.linker_aarch64.specs.declared.rewrites.RelaxationKind.TheVariants.{NoOp, MovzX0Lsl16, MovkX0, MovzXnLsl16, MovkXn, AdrpX0, LdrX0, LdrToAdd}
 use Rattle.linker_elf.specs.declared.elf.choice.LinkFacts.{LinkFacts}
-use Rattle.linker_aarch64.proofs.AArch64Choices.{load_matches_add, load_matches_movk, load_matches_movz, adrp_matches, ldr_matches, nop_matches}
+use Rattle.linker_aarch64.proofs.AArch64Choices.{load_matches_add, adrp_matches, ldr_matches, nop_matches}
 use Rattle.linker_elf.proofs.Choices.{same_reach}
 
 -- a choice by a condition
@@ -116,17 +116,16 @@ got_pair s o facts a b h k =
     (entry LdrToAdd r.R_AARCH64_ADD_ABS_LO12_NC (to_address 4)) P _ b
     (λ x. (x.0.1, on.0 x.1), λ p. ((load_matches_add s (o + 4) p.0, p.0), on.1 p.1)) k)
 
-pub initial_exec_pair : InitialExecPairIsChosenAlike
-initial_exec_pair s o facts a b h k =
-    let P : Type 0 = IsEntryLoad s (o + 4) × AllHold aarch64_row facts.operands facts to_local_exec in
-    let on = local_exec_on 4 facts in
+pub initial_exec_halves : InitialExecIsChosenAlike
+initial_exec_halves s t o p n facts a b high low h k =
+    let P : Type 0 = AllHold aarch64_row facts.operands facts halves_to_local_exec in
     two_alike
     (two_of_first (AArch64Applies r.R_AARCH64_TLSIE_ADR_GOTTPREL_PAGE21 s o facts)
-    (entry MovzXnLsl16 r.R_AARCH64_TLSLE_MOVW_TPREL_G1 to_local_exec) P _ a
-    (λ x. (x.0.1, x.1), λ p. ((load_matches_movz s o p.0, p.0), p.1)) h)
-    (two_of_first (AArch64Applies r.R_AARCH64_TLSIE_LD64_GOTTPREL_LO12_NC s (o + 4) (facts_on 4 facts))
-    (entry MovkXn r.R_AARCH64_TLSLE_MOVW_TPREL_G0_NC to_local_exec) P _ b
-    (λ x. (x.0.1, on.0 x.1), λ p. ((load_matches_movk s (o + 4) p.0, p.0), on.1 p.1)) k)
+    (entry MovzXnLsl16 r.R_AARCH64_TLSLE_MOVW_TPREL_G1 halves_to_local_exec) P _ a
+    (λ x. x.1, λ x. ((high, tt), x)) h)
+    (two_of_first (AArch64Applies r.R_AARCH64_TLSIE_LD64_GOTTPREL_LO12_NC t p (facts_on n facts))
+    (entry MovkXn r.R_AARCH64_TLSLE_MOVW_TPREL_G0_NC halves_to_local_exec) P _ b
+    (λ x. x.1, λ x. ((low, tt), x)) k)
 
 -- ---- the four of a descriptor
 

@@ -44,14 +44,6 @@ same_descriptor {a} {b} {c} {d} {a'} {b'} {c'} {d'} p q r s h =
 pub load_matches_add : (s : List ℕ) (o : ℕ) → IsEntryLoad s o → aarch64_matches LdrToAdd s o
 load_matches_add s o h = (h.1.1.0, (h.1.1.1.0, h.1.1.1.1.into_own_source.not_31))
 
-pub load_matches_movk : (s : List ℕ) (o : ℕ) → IsEntryLoad s o → aarch64_matches MovkXn s o
-load_matches_movk s o h = (h.1.1.0, (h.1.1.1.0, h.1.1.1.1.into_own_source))
-
-pub load_matches_movz : (s : List ℕ) (o : ℕ) → IsEntryLoad s (o + 4) → aarch64_matches MovzXnLsl16 s o
-load_matches_movz s o h =
-    let e : o + 4 - 4 ≡ o = omega arith in
-    subst (λ k. HasWord s k IsAdrp) e (h.1.0, h.1.1.1.1.first)
-
 -- ---- no rewrite moves the place or changes the addend
 
 same_offset : (kind : RelaxationKind) (o : ℕ) → offset_after (aarch64_rewrite kind) o ≡ o

@@ -16,7 +16,7 @@ use Rattle.linker_elf.specs.Originals.{HasWord}
 use Rattle.linker_elf.specs.AArch64Relocations.{aarch64_row}
 use Rattle.linker_elf.specs.Choices.{Condition, bound, weak_zero, fixed_distance, executable}
 use Rattle.linker_elf.specs.Choices.{in_reach, in_reach_if_known, Entry, entry, choice, Applies}
-use Rattle.linker_elf.specs.Choices.{IsFirst, facts_on}
+use Rattle.linker_elf.specs.Choices.{IsFirst, facts_on, group_fits}
 use Rattle.linker_elf.specs.declared.elf.choice.Choice.{Choice}
 use Rattle.linker_elf.specs.declared.elf.choice.LinkFacts.{LinkFacts}
 use Rattle.linker_elf.specs.declared.aarch64.relocations.AArch64Relocation.TheVariants as r
@@ -249,11 +249,10 @@ IsBranch word = word / 2 ^ 26 ≡ 0x05
 abbrev pub IsCall : ℕ → Type 0
 IsCall word = word / 2 ^ 26 ≡ 0x25
 
+-- what is asked for beside what the rewrite is meant for
 abbrev pub IsAskedFor : AArch64Relocation → List ℕ → ℕ → Type 0
 IsAskedFor r.R_AARCH64_ADR_GOT_PAGE section o = IsEntryLoad section (o + 4)
 IsAskedFor r.R_AARCH64_LD64_GOT_LO12_NC section o = IsEntryLoad section o
-IsAskedFor r.R_AARCH64_TLSIE_ADR_GOTTPREL_PAGE21 section o = IsEntryLoad section (o + 4)
-IsAskedFor r.R_AARCH64_TLSIE_LD64_GOTTPREL_LO12_NC section o = IsEntryLoad section o
 IsAskedFor r.R_AARCH64_TLSDESC_ADR_PAGE21 section o = IsOfDescriptor 0 section o
 IsAskedFor r.R_AARCH64_TLSDESC_LD64_LO12 section o = IsOfDescriptor 4 section o
 IsAskedFor r.R_AARCH64_TLSDESC_ADD_LO12 section o = IsOfDescriptor 8 section o
@@ -276,6 +275,11 @@ to_adr = fixed_distance ∷ in_reach r.R_AARCH64_ADR_PREL_LO21 0 ∷ []
 -- the offset from the thread pointer in the instructions
 abbrev pub to_local_exec : List (Condition AArch64Relocation)
 to_local_exec = bound ∷ executable ∷ in_reach_if_known r.R_AARCH64_TLSLE_MOVW_TPREL_G1 0 ∷ []
+
+-- the same by halves that may stand apart
+abbrev pub halves_to_local_exec : List (Condition AArch64Relocation)
+halves_to_local_exec =
+    bound ∷ executable ∷ group_fits ∷ in_reach_if_known r.R_AARCH64_TLSLE_MOVW_TPREL_G1 0 ∷ []
 
 -- the offset from the thread pointer in the GOT: `adrp` is so many bytes before
 abbrev pub to_initial_exec : ℕ → List (Condition AArch64Relocation)
@@ -305,9 +309,9 @@ aarch64_entries r.R_AARCH64_LD64_GOT_LO12_NC =
 aarch64_entries r.R_AARCH64_ADD_ABS_LO12_NC =
     entry kinds.AdrpAddToNopAdr r.R_AARCH64_ADR_PREL_LO21 to_adr ∷ []
 aarch64_entries r.R_AARCH64_TLSIE_ADR_GOTTPREL_PAGE21 =
-    entry kinds.MovzXnLsl16 r.R_AARCH64_TLSLE_MOVW_TPREL_G1 to_local_exec ∷ []
+    entry kinds.MovzXnLsl16 r.R_AARCH64_TLSLE_MOVW_TPREL_G1 halves_to_local_exec ∷ []
 aarch64_entries r.R_AARCH64_TLSIE_LD64_GOTTPREL_LO12_NC =
-    entry kinds.MovkXn r.R_AARCH64_TLSLE_MOVW_TPREL_G0_NC to_local_exec ∷ []
+    entry kinds.MovkXn r.R_AARCH64_TLSLE_MOVW_TPREL_G0_NC halves_to_local_exec ∷ []
 aarch64_entries r.R_AARCH64_TLSDESC_ADR_PAGE21 =
     descriptor_entries 0 (choice kinds.MovzX0Lsl16 r.R_AARCH64_TLSLE_MOVW_TPREL_G1)
     (choice kinds.AdrpX0 r.R_AARCH64_TLSIE_ADR_GOTTPREL_PAGE21)
@@ -355,12 +359,18 @@ GotPairIsChosenAlike =
     (choice kinds.NoOp r.R_AARCH64_ADR_PREL_PG_HI21)
     (choice kinds.LdrToAdd r.R_AARCH64_ADD_ABS_LO12_NC)
 
-abbrev pub InitialExecPairIsChosenAlike : Type 0
-InitialExecPairIsChosenAlike =
-    PairIsChosenAlike r.R_AARCH64_TLSIE_ADR_GOTTPREL_PAGE21
-    r.R_AARCH64_TLSIE_LD64_GOTTPREL_LO12_NC
-    (choice kinds.MovzXnLsl16 r.R_AARCH64_TLSLE_MOVW_TPREL_G1)
-    (choice kinds.MovkXn r.R_AARCH64_TLSLE_MOVW_TPREL_G0_NC)
+-- A high and a low half of initial-exec, wherever both are, with the same facts but for the place:
+-- where each is an instruction that its rewrite is meant for, both are rewritten, or neither is.
+abbrev pub InitialExecIsChosenAlike : Type 0
+InitialExecIsChosenAlike =
+    (section other : List ℕ) (o p n : ℕ) (facts : LinkFacts) (a b : AArch64Choice)
+    → aarch64_matches kinds.MovzXnLsl16 section o → aarch64_matches kinds.MovkXn other p
+    → IsAArch64Choice r.R_AARCH64_TLSIE_ADR_GOTTPREL_PAGE21 section o facts a
+    → IsAArch64Choice r.R_AARCH64_TLSIE_LD64_GOTTPREL_LO12_NC other p (facts_on n facts) b
+    → ((a ≡ choice kinds.MovzXnLsl16 r.R_AARCH64_TLSLE_MOVW_TPREL_G1)
+    × (b ≡ choice kinds.MovkXn r.R_AARCH64_TLSLE_MOVW_TPREL_G0_NC))
+    ⊎ ((a ≡ choice kinds.NoOp r.R_AARCH64_TLSIE_ADR_GOTTPREL_PAGE21)
+    × (b ≡ choice kinds.NoOp r.R_AARCH64_TLSIE_LD64_GOTTPREL_LO12_NC))
 
 -- Of the four relocations of a TLS descriptor all are rewritten for local-exec, or all for
 -- initial-exec, or none is.

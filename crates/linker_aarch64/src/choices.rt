@@ -8,7 +8,7 @@ ghost use Rattle.linker_aarch64.specs.AArch64Rewrites.{IsEntryLoad, IsDescriptor
 ghost use Rattle.linker_aarch64.specs.AArch64Rewrites.{AreOfDescriptor, IsAskedFor};
 ghost use Rattle.linker_aarch64.specs.AArch64Rewrites.{IsAArch64Choice, aarch64_entries};
 ghost use Rattle.linker_aarch64.specs.AArch64Rewrites.{GotPairIsChosenAlike};
-ghost use Rattle.linker_aarch64.specs.AArch64Rewrites.{InitialExecPairIsChosenAlike};
+ghost use Rattle.linker_aarch64.specs.AArch64Rewrites.{InitialExecIsChosenAlike};
 ghost use Rattle.linker_aarch64.specs.AArch64Rewrites.{DescriptorIsChosenAlike};
 ghost use Rattle.linker_aarch64.specs.Inner.Choices.{IsThere};
 ghost use Rattle.linker_elf.specs.Choices.{operands_after};
@@ -20,7 +20,7 @@ use super::rewrites::{
 use linker_base::rewrite::has_window;
 use linker_elf::aarch64::AArch64Relocation;
 use linker_elf::elf::choice_table::{
-    BOUND, ChoiceEntry, ChosenKind, Conditions, EXECUTABLE, FIXED_DISTANCE, Originals,
+    BOUND, ChoiceEntry, ChosenKind, Conditions, EXECUTABLE, FIXED_DISTANCE, GROUP_FITS, Originals,
     ValueCondition, WEAK_ZERO, first_entry,
 };
 use linker_elf::elf::{Choice, LinkFacts, Operands};
@@ -169,6 +169,12 @@ const TO_ADR: Conditions<AArch64Relocation> =
 const TO_LOCAL_EXEC: Conditions<AArch64Relocation> =
     conditions!(BOUND + EXECUTABLE, InReachIfKnown R_AARCH64_TLSLE_MOVW_TPREL_G1 0);
 
+/// The same by halves that may stand apart.
+const HALVES_TO_LOCAL_EXEC: Conditions<AArch64Relocation> = conditions!(
+    BOUND + EXECUTABLE + GROUP_FITS,
+    InReachIfKnown R_AARCH64_TLSLE_MOVW_TPREL_G1 0
+);
+
 /// The address of the symbol is 0.
 const TO_NEXT: Conditions<AArch64Relocation> = conditions!(WEAK_ZERO);
 
@@ -188,11 +194,11 @@ static ADD_ABS_LO12_NC: &[AArch64Entry] = &[
 ];
 
 static TLSIE_ADR_GOTTPREL_PAGE21: &[AArch64Entry] = &[
-    entry!(AdrpOfPair: MovzXnLsl16 => R_AARCH64_TLSLE_MOVW_TPREL_G1, TO_LOCAL_EXEC),
+    entry!(OfRewrite: MovzXnLsl16 => R_AARCH64_TLSLE_MOVW_TPREL_G1, HALVES_TO_LOCAL_EXEC),
 ];
 
 static TLSIE_LD64_GOTTPREL_LO12_NC: &[AArch64Entry] = &[
-    entry!(LdrOfPair: MovkXn => R_AARCH64_TLSLE_MOVW_TPREL_G0_NC, TO_LOCAL_EXEC),
+    entry!(OfRewrite: MovkXn => R_AARCH64_TLSLE_MOVW_TPREL_G0_NC, HALVES_TO_LOCAL_EXEC),
 ];
 
 static TLSDESC_ADR_PAGE21: &[AArch64Entry] = &[
@@ -297,6 +303,14 @@ fn choice_by(
 /// - `AdrpAddToNopAdr` erases the `adrp`, whose relocation has to be of the same symbol and addend.
 /// - Nothing jumps between the instructions.
 ///
+/// The halves of initial-exec, `R_AARCH64_TLSIE_ADR_GOTTPREL_PAGE21` and
+/// `R_AARCH64_TLSIE_LD64_GOTTPREL_LO12_NC`, may stand anywhere, and one may belong to several others.
+/// Each is chosen by its own instruction, and only with `group_fits`: the linker asks `fits` for each
+/// of them with that symbol and addend in the object, and sets `group_fits` for all if all fit. So all
+/// of them are rewritten or none is. A register that has what an `adrp` of them left is read by the
+/// `ldr` of them alone, or copied, and each `ldr` reads such a register on every path to it, as
+/// compilers emit them.
+///
 /// ```
 /// use linker_utils::aarch64::{AArch64Relocation, RelaxationKind, choose};
 /// use linker_utils::elf::LinkFacts;
@@ -327,10 +341,11 @@ pub fn choose(
 }
 
 /// With the same facts, except that each has its own place, both relocations of a load of a GOT
-/// entry are rewritten or neither is, also where it loads an offset for initial-exec; and of the
-/// four of a TLS descriptor all are rewritten for local-exec, all for initial-exec, or none is.
+/// entry are rewritten or neither is; so are a high and a low half of initial-exec, wherever they
+/// are, at instructions that their rewrites are meant for; and of the four of a TLS descriptor all are
+/// rewritten for local-exec, all for initial-exec, or none is.
 pub fn relocations_are_chosen_alike()
     ensures got { GotPairIsChosenAlike }
-    ensures initial_exec { InitialExecPairIsChosenAlike }
+    ensures initial_exec { InitialExecIsChosenAlike }
     ensures descriptor { DescriptorIsChosenAlike }
 {}

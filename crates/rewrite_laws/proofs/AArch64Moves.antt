@@ -28,7 +28,7 @@ use Rattle.rewrite_laws.proofs.AArch64Words.{movnz_after, movk_after}
 -- ---- numbers modulo 2 ^ 64
 
 -- MOVK of a number that is t times 2 ^ 64 below n
-movk_lifted : (v : ℤ) (t n : ℕ) → v +ℤ pos (t * 2 ^ 64) ≡ pos n → (word : ℕ) (b m : ℕ)
+pub movk_lifted : (v : ℤ) (t n : ℕ) → v +ℤ pos (t * 2 ^ 64) ≡ pos n → (word : ℕ) (b m : ℕ)
     → ((aarch64_form Movkz).machine word *ℤ pos (2 ^ 0)) +ℤ pos (b * 2 ^ 64) ≡ pos m
     → in_64_bits (movk 0 v word) ≡ (n - n % 2 ^ 16 + m) % 2 ^ 64
 movk_lifted v t n is word b m im =
@@ -89,7 +89,7 @@ pub record Moves (n x y value : ℕ) (s : State) : Type 0 where
       ≡ Some (set n (with_moved y (set n (moved x) s)) (set n (moved x) s))
   pub value_is : with_moved y (set n (moved x) s) ≡ value
 
-movz_is_no_movk : (word n : ℕ) → n < 32 → word ≡ 0xd2a00000 + n → is_movk word ≡ false
+pub movz_is_no_movk : (word n : ℕ) → n < 32 → word ≡ 0xd2a00000 + n → is_movk word ≡ false
 movz_is_no_movk word n below is =
     let opcode : field word 23 31 ≡ 0xa5 = omega arith in ap (λ o. eqb o 0xe5) opcode
 

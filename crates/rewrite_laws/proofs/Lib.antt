@@ -1,4 +1,5 @@
 pub mod AArch64Descriptors
+pub mod AArch64Halves
 pub mod AArch64Moves
 pub mod AArch64Pairs
 pub mod AArch64Steps

@@ -2,11 +2,14 @@
 -- Architecture, "Relocation optimization", and the sequences of thread-local storage).
 use Rattle.std.specs.Prelude.{◌≡◌, ◌≢◌, ◌<◌, ◌∷◌, [], ℕ, ◌^◌, Bool, true, false, ◌==◌, ◌||◌, List}
 use Rattle.std.specs.Prelude.{drop, take, None, ⊤, ◌-◌, Option, Some, IsSomeAnd, if◌then◌else◌}
+use Rattle.std.specs.Prelude.{not, ◌&&◌, ◌/◌}
 use Rattle.std.specs.Int.{w32, from_le_bytes}
 use Rattle.linker_base.specs.Rewrite.{Rewrite, IsRewritable, rewritten}
 use Rattle.linker_aarch64.specs.AArch64Rewrites.{aarch64_rewrite, rd_of, rn_of}
 use Rattle.linker_aarch64.specs.AArch64Rewrites.{AreOfDescriptor}
 use Rattle.linker_aarch64.specs.AArch64Rewrites.{IsAdrp, IsAdd64, IsLdr64, AreOfOneRegister}
+use Rattle.linker_aarch64.specs.AArch64Rewrites.{IsIntoOwnSource}
+use Rattle.linker_elf.specs.LoongArch.{page}
 use Rattle.linker_elf.specs.AArch64Relocations.{aarch64_row}
 use Rattle.linker_elf.specs.Value.{sum_64, difference_64}
 use Rattle.linker_elf.specs.declared.aarch64.relocations.AArch64Relocation.{AArch64Relocation}
@@ -26,7 +29,7 @@ use Rattle.linker_aarch64.specs.declared.rewrites.RelaxationKind.TheVariants.{Ld
 use Rattle.linker_elf.specs.declared.elf.value.Operands.{Operands}
 use Rattle.relocation_laws.specs.Schemes.{IsApplied, AreAddresses, symbol_address, plt_address}
 use Rattle.rewrite_laws.specs.AArch64Machine.{State, load_64, run, RunAlike, RunAlikeBut}
-use Rattle.rewrite_laws.specs.AArch64Machine.{AreAlikeBut, next_pc, is_b, is_bl}
+use Rattle.rewrite_laws.specs.AArch64Machine.{AreAlikeBut, next_pc, is_b, is_bl, step}
 
 -- ---- instructions as bytes
 
@@ -98,18 +101,59 @@ GotToAddress =
 abbrev pub thread_offset : Operands → ℕ
 thread_offset o = difference_64 (symbol_address o) o.tls_base
 
--- `adrp xN` and `ldr xN, [xN]` of the GOT entry, which the dynamic linker has set to the offset
-abbrev pub InitialExecToLocalExec : Type 0
-InitialExecToLocalExec =
-    (o : Operands) (s : State) (adrp ldr movz movk : List ℕ) → IsPair IsLdr64 o s adrp ldr
-    → load_64 s.memory o.got_entry ≡ thread_offset o
-    → IsRewritten MovzXnLsl16 adrp movz → IsRewritten MovkXn ldr movk
-    → (adrp_of_entry ldr_of_entry movz_of_offset movk_of_offset : List ℕ)
+-- The halves of initial-exec are rewritten each by itself, wherever they are. So two runs are
+-- compared, of the object's code and of the new code, that are alike but for some registers and bytes
+-- of memory: those that have what a high half made. What else runs between the halves is the same
+-- instruction in both.
+pub record AreAlikeApart (differs spilled : ℕ → Bool) (s t : State) : Type 0 where
+  pub registers : (n : ℕ) → differs n ≡ false → s.registers n ≡ t.registers n
+  pub memory : (a : ℕ) → spilled a ≡ false → s.memory a ≡ t.memory a
+  pub pc : s.pc ≡ t.pc
+  pub thread_pointer : s.thread_pointer ≡ t.thread_pointer
+
+-- register n too, or all but register n
+abbrev pub also : ℕ → (ℕ → Bool) → ℕ → Bool
+also n differs m = m == n || differs m
+
+abbrev pub but : ℕ → (ℕ → Bool) → ℕ → Bool
+but n differs m = not (m == n) && differs m
+
+-- Register n has what a high half of the variable makes: in the object's run the page of the GOT
+-- entry, and in the new one a number that has the offset's bits from 16 up.
+pub record HasHigh (n : ℕ) (o : Operands) (s t : State) : Type 0 where
+  pub page_is : s.registers n ≡ page o.got_entry
+  pub bits_are : t.registers n / 2 ^ 16 ≡ thread_offset o / 2 ^ 16
+
+-- Each run executes an instruction, and P holds then.
+abbrev pub StepSo : ℕ → State → ℕ → State → (State → State → Type 0) → Type 0
+StepSo x s y t P = IsSomeAnd (step x s) (λ u. IsSomeAnd (step y t) (λ v. P u v))
+
+-- `adrp xN`
+abbrev pub HighHalfToMovz : Type 0
+HighHalfToMovz =
+    (o : Operands) (s t : State) (differs spilled : ℕ → Bool) (adrp movz : List ℕ)
+    → AreAddresses o → s.pc ≡ o.place → AreAlikeApart differs spilled s t
+    → IsAdrp (word_of adrp) → rd_of (word_of adrp) ≢ 31 → IsRewritten MovzXnLsl16 adrp movz
+    → (adrp_of_entry movz_of_offset : List ℕ)
     → IsRelocated names.R_AARCH64_TLSIE_ADR_GOTTPREL_PAGE21 o adrp adrp_of_entry
-    → IsRelocated names.R_AARCH64_TLSIE_LD64_GOTTPREL_LO12_NC (behind 4 o) ldr ldr_of_entry
     → IsRelocated names.R_AARCH64_TLSLE_MOVW_TPREL_G1 o movz movz_of_offset
-    → IsRelocated names.R_AARCH64_TLSLE_MOVW_TPREL_G0_NC (behind 4 o) movk movk_of_offset
-    → RunAlike (pair adrp_of_entry ldr_of_entry) (pair movz_of_offset movk_of_offset) s
+    → StepSo (word_of adrp_of_entry) s (word_of movz_of_offset) t
+    (λ u v. AreAlikeApart (also (rd_of (word_of adrp)) differs) spilled u v
+    × HasHigh (rd_of (word_of adrp)) o u v)
+
+-- `ldr xN, [xN]` of the GOT entry, which the dynamic linker has set to the offset, where xN has what
+-- a high half makes. Both leave the offset in xN.
+abbrev pub LowHalfToMovk : Type 0
+LowHalfToMovk =
+    (o : Operands) (s t : State) (differs spilled : ℕ → Bool) (ldr movk : List ℕ)
+    → AreAddresses o → IsLdr64 (word_of ldr) → IsIntoOwnSource (word_of ldr)
+    → load_64 s.memory o.got_entry ≡ thread_offset o → HasHigh (rd_of (word_of ldr)) o s t
+    → AreAlikeApart differs spilled s t → IsRewritten MovkXn ldr movk
+    → (ldr_of_entry movk_of_offset : List ℕ)
+    → IsRelocated names.R_AARCH64_TLSIE_LD64_GOTTPREL_LO12_NC o ldr ldr_of_entry
+    → IsRelocated names.R_AARCH64_TLSLE_MOVW_TPREL_G0_NC o movk movk_of_offset
+    → StepSo (word_of ldr_of_entry) s (word_of movk_of_offset) t
+    (AreAlikeApart (but (rd_of (word_of ldr)) differs) spilled)
 
 -- ---- an address by `adr`
 

@@ -22,7 +22,8 @@ ghost use Rattle.rewrite_laws.specs.X86ThreadLaws as x86_thread_laws;
 /// from the instruction on (`sections`). The last two clauses are examples of what the machine does.
 pub fn aarch64()
     ensures got { aarch64_laws.GotToAddress }
-    ensures initial_exec { aarch64_laws.InitialExecToLocalExec }
+    ensures high_half { aarch64_laws.HighHalfToMovz }
+    ensures low_half { aarch64_laws.LowHalfToMovk }
     ensures address { aarch64_laws.AddressToAdr }
     ensures descriptor_to_local_exec { aarch64_laws.DescriptorToLocalExec }
     ensures descriptor_to_initial_exec { aarch64_laws.DescriptorToInitialExec }

@@ -37,14 +37,14 @@ use Rattle.rewrite_laws.specs.AArch64Machine.{execute, step, write_x, next_pc, S
 use Rattle.rewrite_laws.specs.AArch64Machine.{loaded, added}
 use Rattle.rewrite_laws.specs.AArch64Worked.{WorkedSteps, WorkedRuns}
 use Rattle.rewrite_laws.proofs.AArch64Descriptors.{to_local_exec, to_initial_exec}
-use Rattle.rewrite_laws.proofs.AArch64Moves.{offset_moves}
+use Rattle.rewrite_laws.proofs.AArch64Halves.{high_half, low_half}
 use Rattle.rewrite_laws.proofs.AArch64Pairs.{word_is, loads, adds_pair, word_made, pair_made}
 use Rattle.rewrite_laws.proofs.AArch64Pairs.{adr_is, page_added, entry_loaded}
 use Rattle.rewrite_laws.proofs.AArch64Steps.{run_pair, alike_runs, alike_twice, set, step_adr}
 use Rattle.rewrite_laws.proofs.AArch64Steps.{address_is, alike_once, alike_before, alike_itself}
 use Rattle.rewrite_laws.proofs.AArch64Steps.{step_adrp, step_add}
 use Rattle.rewrite_laws.proofs.AArch64Words.{adr_of_register, of_registers, adrp_after, ldr_after}
-use Rattle.rewrite_laws.proofs.AArch64Words.{add_after, ldr_of_register_after, masked_field}
+use Rattle.rewrite_laws.proofs.AArch64Words.{add_after, masked_field}
 use Rattle.rewrite_laws.proofs.AArch64Words.{adr_after, decodes_adr, decodes_b, decodes_bl}
 use Rattle.rewrite_laws.proofs.AArch64Words.{branch_after, adr_of_adrp, adr_of_page, decodes_adrp}
 use Rattle.rewrite_laws.proofs.aarch64.Goals as goal
@@ -87,28 +87,6 @@ got_pair relative entries o s adrp ldr add p holds made adrp1 ldr1 adrp2 add2 a1
     (run_pair (word_of adrp1) (word_of ldr1) s _ _ l.first refl l.second)
     (run_pair (word_of adrp2) (word_of add2) s _ _ d.first refl d.second)
     (alike_twice n _ _ _ _ s (l.value_is ∙ holds ∙ sym d.value_is))
-
-initial_exec : relocation_laws.EntryAddresses → relocation_laws.ThreadMoves
-    → aarch64_laws.InitialExecToLocalExec
-initial_exec entries moves o s adrp ldr movz movk p holds made_movz made_movk adrp1 ldr1 movz2 movk2
-    a1 l1 a2 b2 =
-    let one = p.one_register in
-    let n = rd_of (word_of ldr) in
-    let named = one.into_own_source.not_31 in
-    let l = loads o n n (word_of adrp1) (word_of ldr1) o.got_entry s
-    (adr_of_register one.register (adrp_after _ _ adrp adrp1 a1.written one.first))
-    (of_registers refl one.into_own_source.same
-    (ldr_of_register_after _ _ ldr ldr1 l1.written p.second_is))
-    named named p.at
-    (entries.3 o p.small o.place adrp adrp1 a1 tt (sum_64 o.place 4) ldr ldr1 l1 tt) in
-    let m = offset_moves moves o p.small n (omega arith) named movz movk movz2 movk2
-    (word_made (λ x. 0xd2a00000 + rd_of x) adrp movz (omega arith) made_movz
-    ∙ ap (λ r. 0xd2a00000 + r) one.register)
-    (word_made (λ x. 0xf2800000 + rd_of x) ldr movk (omega arith) made_movk) a2 b2 s in
-    alike_runs _ (pair adrp1 ldr1) (pair movz2 movk2) s _ _
-    (run_pair (word_of adrp1) (word_of ldr1) s _ _ l.first refl l.second)
-    (run_pair (word_of movz2) (word_of movk2) s _ _ m.first refl m.second)
-    (alike_twice n _ _ _ _ s (l.value_is ∙ holds ∙ sym m.value_is))
 
 address : relocation_laws.RelativeAddresses → relocation_laws.Literals → aarch64_laws.AddressToAdr
 address relative literals o s both made p is_made adrp1 add1 adr2 a1 d1 b2 =
@@ -338,7 +316,8 @@ returns c =
     let laws = c.aarch64.ensures in
     record {
       got = got_pair laws.relative laws.entries;
-      initial_exec = initial_exec laws.entries laws.thread_moves;
+      high_half = high_half;
+      low_half = low_half;
       address = address laws.relative laws.literals;
       descriptor_to_local_exec = to_local_exec laws.entries laws.thread_moves;
       descriptor_to_initial_exec = to_initial_exec laws.entries;
