@@ -3,7 +3,7 @@
 use Rattle.std.proofs.Common.{◌≡◌, ◌↔◌, ◌≤◌, inl, inr, ℕ, ◌+◌, ◌-◌, List, [], ◌∷◌, ap, ◌∙◌, sym, subst, slice_index_or, arith}
 use Rattle.linker_elf.specs.Choices.{facts_on}
 use Rattle.linker_elf.specs.Choices.{AllHold, IsFirst, entry, choice, RowReaches, RowIsWithin}
-use Rattle.linker_loongarch64.specs.LoongArchRewrites.{LoongArchEntry, LoongArchChoice, LoongArchApplies, IsBehind, IsAmong, IsDescriptorSequence, by_pcaddi, bound_by_pcaddi, bound_by_pages, to_initial_exec, to_local_exec, to_short_local_exec, signed_32, GotPairIsChosenAlike, AddressPairIsChosenAlike, InitialExecPairIsChosenAlike, DescriptorIsChosenAlike, erased, ThreadOffsetIsChosenAlike, loongarch_entries}
+use Rattle.linker_loongarch64.specs.LoongArchRewrites.{LoongArchEntry, LoongArchChoice, LoongArchApplies, IsBehind, IsAmong, by_pcaddi, bound_by_pcaddi, bound_by_pages, page_to_initial_exec, to_initial_exec, ReachesEntry, to_local_exec, to_short_local_exec, signed_32, GotPairIsChosenAlike, AddressPairIsChosenAlike, InitialExecIsChosenAlike, DescriptorIsChosenAlike, erased, ThreadOffsetIsChosenAlike, loongarch_entries}
 use Rattle.linker_loongarch64.specs.LoongArchRewrites.{IsPair, IsAddi, IsLd}
 use Rattle.linker_elf.specs.LoongArchRelocations.{loongarch_row}
 use Rattle.linker_elf.specs.declared.elf.choice.LinkFacts.{LinkFacts}
@@ -11,7 +11,6 @@ use Rattle.linker_elf.specs.declared.loongarch64.relocations.LoongArch64Relocati
 use Rattle.linker_elf.specs.declared.loongarch64.relocations.LoongArch64Relocation.TheVariants as r
 use Rattle.linker_loongarch64.specs.declared.rewrites.RelaxationKind.TheVariants as kinds
 use Rattle.linker_elf.proofs.Choices.{same_reach}
-use Rattle.linker_loongarch64.proofs.LoongArchChoices.{first_behind}
 
 -- ---- of the same conditions
 
@@ -48,12 +47,6 @@ behind n P s o =
 product : {P Q R S : Type 0} → (P ↔ Q) → (R ↔ S) → (P × R) ↔ (Q × S)
 product f g = (λ h. (f.0 h.0, g.0 h.1), λ h. (f.1 h.0, g.1 h.1))
 
-joined : {P Q R : Type 0} → (P ↔ Q) → (Q ↔ R) → P ↔ R
-joined f g = (λ h. g.0 (f.0 h), λ h. f.1 (g.1 h))
-
-itself : {P : Type 0} → P ↔ P
-itself = (λ h. h, λ h. h)
-
 near : (n : ℕ) (facts : LinkFacts) → n ≤ 12
     → AllHold loongarch_row facts.operands facts (by_pcaddi 0)
     ↔ AllHold loongarch_row (facts_on n facts).operands (facts_on n facts) (by_pcaddi n)
@@ -83,27 +76,6 @@ bound_paged n facts small =
       λ h. (h.0, (h.1.0, (h.1.1.0, (λ known. subst fits e (h.1.1.1.0 known), h.1.1.1.1)))),
     )
 
-initial_exec : (n : ℕ) (facts : LinkFacts) → n ≤ 12
-    → AllHold loongarch_row facts.operands facts (to_initial_exec 0)
-    ↔ AllHold loongarch_row (facts_on n facts).operands (facts_on n facts) (to_initial_exec n)
-initial_exec n facts small =
-    let fits = RowIsWithin (loongarch_row r.R_LARCH_TLS_IE_PC_HI20) signed_32 in
-    let e = same_reach n facts small in (
-      λ h. (h.0, (λ known. subst fits (sym e) (h.1.0 known), h.1.1)),
-      λ h. (h.0, (λ known. subst fits e (h.1.0 known), h.1.1)),
-    )
-
--- an offset from the thread pointer doesn't depend on the place
-local_exec : (n : ℕ) (facts : LinkFacts)
-    → AllHold loongarch_row facts.operands facts to_local_exec
-    ↔ AllHold loongarch_row (facts_on n facts).operands (facts_on n facts) to_local_exec
-local_exec n facts = (λ h. h, λ h. h)
-
-short_local_exec : (n : ℕ) (facts : LinkFacts)
-    → AllHold loongarch_row facts.operands facts to_short_local_exec
-    ↔ AllHold loongarch_row (facts_on n facts).operands (facts_on n facts) to_short_local_exec
-short_local_exec n facts = (λ h. h, λ h. h)
-
 -- ---- pairs
 
 pub got_pair : GotPairIsChosenAlike
@@ -121,39 +93,45 @@ address_pair s o facts a b small h k =
     (entry kinds.PcalaToPcaddi r.R_LARCH_PCREL20_S2 (by_pcaddi 0)) (entry kinds.Delete r.R_LARCH_NONE (by_pcaddi 4))
     _ _ a b (product (behind 4 (IsPair IsAddi) s o) (near 4 facts (omega arith))) h k
 
-pub initial_exec_pair : InitialExecPairIsChosenAlike
-initial_exec_pair s o facts a b small h k =
-    let there = behind 4 (IsPair IsLd) s o in
-    two_alike (LoongArchApplies r.R_LARCH_TLS_IE_PC_HI20 s o facts) (LoongArchApplies r.R_LARCH_TLS_IE_PC_LO12 s (o + 4) (facts_on 4 facts))
+-- ---- of instructions that stand apart
+
+-- conditions that depend on no place, of instructions that are there
+at_both : {P Q R : Type 0} → P → Q → (P × R) ↔ (Q × R)
+at_both p q = (λ h. (q, h.1), λ h. (p, h.1))
+
+pub initial_exec_halves : InitialExecIsChosenAlike
+initial_exec_halves s t o p n facts a b any first second h k =
+    two_alike (LoongArchApplies r.R_LARCH_TLS_IE_PC_HI20 s o facts) (LoongArchApplies r.R_LARCH_TLS_IE_PC_LO12 t p (facts_on n facts))
     (entry kinds.ReplaceWithNop r.R_LARCH_NONE to_short_local_exec) (entry kinds.PcalaToLu12i r.R_LARCH_TLS_LE_HI20 to_local_exec)
     (entry kinds.LowToOriZero r.R_LARCH_TLS_LE_LO12 to_short_local_exec) (entry kinds.LowToOri r.R_LARCH_TLS_LE_LO12 to_local_exec)
-    _ _ a b (product there (short_local_exec 4 facts)) (product there (local_exec 4 facts)) h k
+    _ _ a b (at_both first second) (at_both first second) h k
 
--- ---- the four of a descriptor
+-- The high half reaches the entry, and the others ask for no distance.
+there_in_reach : {P Q : Type 0} (n : ℕ) (facts : LinkFacts) → ReachesEntry facts → P → Q
+    → (P × AllHold loongarch_row facts.operands facts page_to_initial_exec)
+    ↔ (Q × AllHold loongarch_row (facts_on n facts).operands (facts_on n facts) to_initial_exec)
+there_in_reach n facts reaches p q = (λ h. (q, (h.1.0, (h.1.1.0, tt))), λ h. (p, (h.1.0, (h.1.1.0, (reaches, tt)))))
 
-there_on : (n : ℕ) (s : List ℕ) (o : ℕ) → IsBehind 0 IsDescriptorSequence s o ↔ IsBehind n IsDescriptorSequence s (o + n)
-there_on n s o = joined (first_behind IsDescriptorSequence s o) (behind n IsDescriptorSequence s o)
+pub descriptor_low : DescriptorIsChosenAlike r.R_LARCH_TLS_DESC_PC_LO12 (choice kinds.LowToOri r.R_LARCH_TLS_LE_LO12) (choice kinds.AddiToLd r.R_LARCH_TLS_IE_PC_LO12)
+descriptor_low s t o p n facts a b reaches first second h k =
+    two_alike (LoongArchApplies r.R_LARCH_TLS_DESC_PC_HI20 s o facts) (LoongArchApplies r.R_LARCH_TLS_DESC_PC_LO12 t p (facts_on n facts))
+    (entry kinds.PcalaToLu12i r.R_LARCH_TLS_LE_HI20 to_local_exec) (entry kinds.NoOp r.R_LARCH_TLS_IE_PC_HI20 page_to_initial_exec)
+    (entry kinds.LowToOri r.R_LARCH_TLS_LE_LO12 to_local_exec) (entry kinds.AddiToLd r.R_LARCH_TLS_IE_PC_LO12 to_initial_exec)
+    _ _ a b (at_both first second) (there_in_reach n facts reaches first second) h k
 
-pub descriptor_low : DescriptorIsChosenAlike 4 r.R_LARCH_TLS_DESC_PC_LO12 (choice kinds.LowToOri r.R_LARCH_TLS_LE_LO12) (choice kinds.AddiToLd r.R_LARCH_TLS_IE_PC_LO12)
-descriptor_low s o facts a b small h k =
-    two_alike (LoongArchApplies r.R_LARCH_TLS_DESC_PC_HI20 s o facts) (LoongArchApplies r.R_LARCH_TLS_DESC_PC_LO12 s (o + 4) (facts_on 4 facts))
-    (entry kinds.PcalaToLu12i r.R_LARCH_TLS_LE_HI20 to_local_exec) (entry kinds.NoOp r.R_LARCH_TLS_IE_PC_HI20 (to_initial_exec 0))
-    (entry kinds.LowToOri r.R_LARCH_TLS_LE_LO12 to_local_exec) (entry kinds.AddiToLd r.R_LARCH_TLS_IE_PC_LO12 (to_initial_exec 4))
-    _ _ a b (product (there_on 4 s o) (local_exec 4 facts)) (product (there_on 4 s o) (initial_exec 4 facts (omega arith))) h k
+pub descriptor_load : DescriptorIsChosenAlike r.R_LARCH_TLS_DESC_LD erased erased
+descriptor_load s t o p n facts a b reaches first second h k =
+    two_alike (LoongArchApplies r.R_LARCH_TLS_DESC_PC_HI20 s o facts) (LoongArchApplies r.R_LARCH_TLS_DESC_LD t p (facts_on n facts))
+    (entry kinds.PcalaToLu12i r.R_LARCH_TLS_LE_HI20 to_local_exec) (entry kinds.NoOp r.R_LARCH_TLS_IE_PC_HI20 page_to_initial_exec)
+    (entry kinds.ReplaceWithNop r.R_LARCH_NONE to_local_exec) (entry kinds.ReplaceWithNop r.R_LARCH_NONE to_initial_exec)
+    _ _ a b (at_both first second) (there_in_reach n facts reaches first second) h k
 
-pub descriptor_load : DescriptorIsChosenAlike 8 r.R_LARCH_TLS_DESC_LD erased erased
-descriptor_load s o facts a b small h k =
-    two_alike (LoongArchApplies r.R_LARCH_TLS_DESC_PC_HI20 s o facts) (LoongArchApplies r.R_LARCH_TLS_DESC_LD s (o + 8) (facts_on 8 facts))
-    (entry kinds.PcalaToLu12i r.R_LARCH_TLS_LE_HI20 to_local_exec) (entry kinds.NoOp r.R_LARCH_TLS_IE_PC_HI20 (to_initial_exec 0))
-    (entry kinds.ReplaceWithNop r.R_LARCH_NONE to_local_exec) (entry kinds.ReplaceWithNop r.R_LARCH_NONE (to_initial_exec 8))
-    _ _ a b (product (there_on 8 s o) (local_exec 8 facts)) (product (there_on 8 s o) (initial_exec 8 facts (omega arith))) h k
-
-pub descriptor_call : DescriptorIsChosenAlike 12 r.R_LARCH_TLS_DESC_CALL erased erased
-descriptor_call s o facts a b small h k =
-    two_alike (LoongArchApplies r.R_LARCH_TLS_DESC_PC_HI20 s o facts) (LoongArchApplies r.R_LARCH_TLS_DESC_CALL s (o + 12) (facts_on 12 facts))
-    (entry kinds.PcalaToLu12i r.R_LARCH_TLS_LE_HI20 to_local_exec) (entry kinds.NoOp r.R_LARCH_TLS_IE_PC_HI20 (to_initial_exec 0))
-    (entry kinds.ReplaceWithNop r.R_LARCH_NONE to_local_exec) (entry kinds.ReplaceWithNop r.R_LARCH_NONE (to_initial_exec 12))
-    _ _ a b (product (there_on 12 s o) (local_exec 12 facts)) (product (there_on 12 s o) (initial_exec 12 facts (omega arith))) h k
+pub descriptor_call : DescriptorIsChosenAlike r.R_LARCH_TLS_DESC_CALL erased erased
+descriptor_call s t o p n facts a b reaches first second h k =
+    two_alike (LoongArchApplies r.R_LARCH_TLS_DESC_PC_HI20 s o facts) (LoongArchApplies r.R_LARCH_TLS_DESC_CALL t p (facts_on n facts))
+    (entry kinds.PcalaToLu12i r.R_LARCH_TLS_LE_HI20 to_local_exec) (entry kinds.NoOp r.R_LARCH_TLS_IE_PC_HI20 page_to_initial_exec)
+    (entry kinds.ReplaceWithNop r.R_LARCH_NONE to_local_exec) (entry kinds.ReplaceWithNop r.R_LARCH_NONE to_initial_exec)
+    _ _ a b (at_both first second) (there_in_reach n facts reaches first second) h k
 
 -- ---- a `lu12i.w` of an offset from the thread pointer
 

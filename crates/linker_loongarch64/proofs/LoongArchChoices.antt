@@ -1,5 +1,5 @@
 -- What is chosen on LoongArch matches, and can be rewritten.
-use Rattle.std.proofs.Common.{◌≡◌, ◌↔◌, ◌⊎◌, ◌≤◌, ℕ, ◌+◌, ◌-◌, List, [], ◌∷◌, inl, inr, subst, sym, arith, rules}
+use Rattle.std.proofs.Common.{◌≡◌, ◌↔◌, ◌⊎◌, ◌≤◌, ℕ, ◌+◌, ◌-◌, List, [], ◌∷◌, inl, inr, subst, sym, ◌∙◌, arith, rules}
 use Rattle.std.specs.Bool.{⊤}
 use Rattle.linker_base.specs.Rewrite.{CanRewrite}
 use Rattle.linker_elf.specs.Choices.{choice, IsFirst}
@@ -13,8 +13,8 @@ use Rattle.linker_elf.specs.declared.elf.value.Operands.{Operands}
 use Rattle.linker_elf.specs.declared.loongarch64.relocations.LoongArch64Relocation.{LoongArch64Relocation}
 use Rattle.linker_elf.specs.declared.loongarch64.relocations.LoongArch64Relocation.TheVariants as r
 use Rattle.linker_loongarch64.specs.Inner.AskedFor.{is_asked_by}
-use Rattle.linker_loongarch64.specs.LoongArchRewrites.{LoongArchChoice, LoongArchEntry, LoongArchApplies, IsLoongArchChoice, loongarch_entries, IsAskedFor, IsBehind, IsDescriptorSequence}
-use Rattle.linker_loongarch64.specs.LoongArchRewrites.{loongarch_matches, IsPair, IsAddi, IsLd, IsPcalau12i, IsIntoOwnSource, word_at}
+use Rattle.linker_loongarch64.specs.LoongArchRewrites.{LoongArchChoice, LoongArchEntry, LoongArchApplies, IsLoongArchChoice, loongarch_entries, IsAskedFor, IsBehind, IsSingle, IsLowOfDescriptor}
+use Rattle.linker_loongarch64.specs.LoongArchRewrites.{loongarch_matches, IsPair, IsAddi, IsLd, IsIntoOwnSource, word_at}
 use Rattle.linker_loongarch64.specs.LoongArchRewrites.{loongarch_rewrite}
 use Rattle.linker_loongarch64.specs.declared.choices.AskedFor.{AskedFor}
 use Rattle.linker_loongarch64.specs.declared.rewrites.RelaxationKind.{RelaxationKind}
@@ -38,34 +38,20 @@ pair_of_either s o h = record { within = h.within; second = inr h.second; one_re
 address_of_either : (s : List ℕ) (o : ℕ) → IsPair IsAddi s o → IsPair (λ word. IsAddi word ⊎ IsLd word) s o
 address_of_either s o h = record { within = h.within; second = inl h.second; one_register = h.one_register }
 
-pair_begins : (P : ℕ → Type 0) (s : List ℕ) (o : ℕ) → IsPair P s o → HasWord s o IsPcalau12i
-pair_begins P s o h = (omega (arith, h.within), h.one_register.first)
-
 second_of_pair : (P : ℕ → Type 0) (s : List ℕ) (o : ℕ) → IsBehind 4 (IsPair P) s o → HasWord s o (λ word. P word × IsIntoOwnSource word)
 second_of_pair P s o h =
     let e : o - 4 + 4 ≡ o = omega (arith, h.0) in
     (omega (arith, h.0, h.1.within), subst (λ k. P (word_at s k) × IsIntoOwnSource (word_at s k)) e (h.1.second, h.1.one_register.into_own_source))
 
-of_either : (s : List ℕ) (o : ℕ) → HasWord s o (λ word. IsLd word × IsIntoOwnSource word)
-    → HasWord s o (λ word. (IsAddi word ⊎ IsLd word) × IsIntoOwnSource word)
-of_either s o h = (h.0, (inr h.1.0, h.1.1))
+of_ld : (s : List ℕ) (o : ℕ) → IsSingle IsLd s o → HasWord s o (λ word. IsAddi word ⊎ IsLd word)
+of_ld s o h = (h.0, inr h.1)
 
-addi_of_either : (s : List ℕ) (o : ℕ) → HasWord s o (λ word. IsAddi word × IsIntoOwnSource word)
-    → HasWord s o (λ word. (IsAddi word ⊎ IsLd word) × IsIntoOwnSource word)
-addi_of_either s o h = (h.0, (inl h.1.0, h.1.1))
+of_addi : (s : List ℕ) (o : ℕ) → IsSingle IsLowOfDescriptor s o → HasWord s o (λ word. IsAddi word ⊎ IsLd word)
+of_addi s o h = (h.0, inl h.1.0)
 
-descriptor_begins : (s : List ℕ) (o : ℕ) → IsBehind 0 IsDescriptorSequence s o → HasWord s o IsPcalau12i
-descriptor_begins s o h =
-    let there = (first_behind IsDescriptorSequence s o).0 h in
-    (omega (arith, there.within), there.instructions.one_register.first)
-
-second_of_descriptor : (s : List ℕ) (o : ℕ) → IsBehind 4 IsDescriptorSequence s o → HasWord s o (λ word. IsAddi word × IsIntoOwnSource word)
-second_of_descriptor s o h =
-    let e : o - 4 + 4 ≡ o = omega (arith, h.0) in
-    (omega (arith, h.0, h.1.within), subst (λ k. IsAddi (word_at s k) × IsIntoOwnSource (word_at s k)) e (h.1.instructions.low_opcode, h.1.instructions.one_register.into_own_source))
-
-inside_descriptor : (n : ℕ) (s : List ℕ) (o : ℕ) → n ≤ 12 → IsBehind n IsDescriptorSequence s o → HasWord s o (λ _. ⊤)
-inside_descriptor n s o small h = (omega (arith, h.0, h.1.within), tt)
+into_a0 : (s : List ℕ) (o : ℕ) → IsSingle IsLowOfDescriptor s o → HasWord s o (λ word. IsAddi word × IsIntoOwnSource word)
+into_a0 s o h =
+    (h.0, (h.1.0, record { same = h.1.1.1 ∙ sym h.1.1.0; not_zero = λ e. (let differs : 4 ≡ 0 = sym h.1.1.0 ∙ e in omega arith) }))
 
 -- each entry is for instructions that its rewrite is meant for
 abbrev AreMeant : LoongArch64Relocation → List ℕ → ℕ → List LoongArchEntry → Type 0
@@ -78,16 +64,12 @@ meant r.R_LARCH_GOT_PC_LO12 s o = (λ a. ((second_of_pair IsLd s o a).0, tt), (�
 meant r.R_LARCH_PCALA_HI20 s o = (λ a. address_of_either s o a, tt)
 meant r.R_LARCH_PCALA_LO12 s o = (λ a. ((second_of_pair IsAddi s o a).0, tt), tt)
 meant r.R_LARCH_CALL36 s o = (λ a. a, (λ a. a, tt))
-meant r.R_LARCH_TLS_IE_PC_HI20 s o = (λ a. ((pair_begins IsLd s o a).0, tt), (λ a. pair_begins IsLd s o a, tt))
-meant r.R_LARCH_TLS_IE_PC_LO12 s o =
-    (λ a. of_either s o (second_of_pair IsLd s o a), (λ a. of_either s o (second_of_pair IsLd s o a), tt))
-meant r.R_LARCH_TLS_DESC_PC_HI20 s o = (λ a. descriptor_begins s o a, (λ a. tt, tt))
-meant r.R_LARCH_TLS_DESC_PC_LO12 s o =
-    (λ a. addi_of_either s o (second_of_descriptor s o a), (λ a. second_of_descriptor s o a, tt))
-meant r.R_LARCH_TLS_DESC_LD s o =
-    (λ a. inside_descriptor 8 s o (omega arith) a, (λ a. inside_descriptor 8 s o (omega arith) a, tt))
-meant r.R_LARCH_TLS_DESC_CALL s o =
-    (λ a. inside_descriptor 12 s o (omega arith) a, (λ a. inside_descriptor 12 s o (omega arith) a, tt))
+meant r.R_LARCH_TLS_IE_PC_HI20 s o = (λ a. (a.0, tt), (λ a. a, tt))
+meant r.R_LARCH_TLS_IE_PC_LO12 s o = (λ a. of_ld s o a, (λ a. of_ld s o a, tt))
+meant r.R_LARCH_TLS_DESC_PC_HI20 s o = (λ a. (a.0, a.1.0), (λ a. tt, tt))
+meant r.R_LARCH_TLS_DESC_PC_LO12 s o = (λ a. of_addi s o a, (λ a. into_a0 s o a, tt))
+meant r.R_LARCH_TLS_DESC_LD s o = (λ a. (a.0, tt), (λ a. (a.0, tt), tt))
+meant r.R_LARCH_TLS_DESC_CALL s o = (λ a. (a.0, tt), (λ a. (a.0, tt), tt))
 meant r.R_LARCH_TLS_LE_HI20_R s o = (λ a. (a.0, tt), tt)
 meant r.R_LARCH_TLS_LE_ADD_R s o = (λ a. (a.0, tt), tt)
 meant r.R_LARCH_TLS_LE_LO12_R s o = (λ a. a, tt)

@@ -13,7 +13,7 @@ use Rattle.linker_base.specs.declared.rewrite.DeletedBytes.{DeletedBytes}
 use Rattle.linker_elf.specs.Originals.{HasWord}
 use Rattle.linker_elf.specs.Choices.{facts_on, Condition, bound, fixed_distance, executable, marked}
 use Rattle.linker_elf.specs.Choices.{addend, in_reach, within, within_if_known, Entry, entry}
-use Rattle.linker_elf.specs.Choices.{choice, Applies, IsFirst}
+use Rattle.linker_elf.specs.Choices.{choice, Applies, IsFirst, Holds, group_fits}
 use Rattle.linker_elf.specs.LoongArchRelocations.{loongarch_row}
 use Rattle.linker_elf.specs.declared.elf.choice.Choice.{Choice}
 use Rattle.linker_elf.specs.declared.elf.choice.LinkFacts.{LinkFacts}
@@ -170,10 +170,9 @@ loongarch_matches kinds.PcalaToPcaddi section o = IsPair (λ word. IsAddi word �
 loongarch_matches kinds.CallToBl section o = IsCall 1 section o
 loongarch_matches kinds.CallToB section o = IsCall 0 section o
 loongarch_matches kinds.PcalaToLu12i section o = HasWord section o IsPcalau12i
-loongarch_matches kinds.LowToOri section o =
-    HasWord section o (λ word. (IsAddi word ⊎ IsLd word) × IsIntoOwnSource word)
+loongarch_matches kinds.LowToOri section o = HasWord section o (λ word. IsAddi word ⊎ IsLd word)
 loongarch_matches kinds.LowToOriZero section o =
-    HasWord section o (λ word. (IsAddi word ⊎ IsLd word) × IsIntoOwnSource word)
+    HasWord section o (λ word. IsAddi word ⊎ IsLd word)
 loongarch_matches kinds.BaseToTp section o =
     HasWord section o (λ word. IsTrue (adds_low12 (word / 2 ^ 22)))
 loongarch_matches kinds.Delete section o = HasWord section o (λ _. ⊤)
@@ -183,21 +182,23 @@ loongarch_matches kinds.Delete section o = HasWord section o (λ _. ⊤)
 
 -- ---- the instructions that a relocation and a rewrite ask for
 
--- `pcalau12i a0`, `addi.d a0, a0`, `ld.d ra, a0, 0` and `jirl ra, ra, 0`, where `a0` is register 4
--- and `ra` register 1
-pub record AreOfDescriptor (pcala addi ld jirl : ℕ) : Type 0 where
-  pub low_opcode : IsAddi addi
-  pub one_register : AreOfOneRegister pcala addi
-  pub into_a0 : rd_of addi ≡ 4
-  pub loads : ld ≡ 0x28c00081
-  pub calls : jirl ≡ 0x4c000021
+-- Those of a TLS descriptor: `pcalau12i a0`, `addi.d a0, a0`, `ld.d ra, a0, 0` and
+-- `jirl ra, ra, 0`, where `a0` is register 4 and `ra` register 1.
+abbrev pub IsPageOfDescriptor : ℕ → Type 0
+IsPageOfDescriptor word = IsPcalau12i word × (rd_of word ≡ 4)
 
--- the sequence of a TLS descriptor, of which the first instruction is at the offset
-pub record IsDescriptorSequence (section : List ℕ) (o : ℕ) : Type 0 where
-  pub within : o + 16 ≤ length section
-  pub instructions :
-      AreOfDescriptor (word_at section o) (word_at section (o + 4)) (word_at section (o + 8))
-      (word_at section (o + 12))
+abbrev pub IsLowOfDescriptor : ℕ → Type 0
+IsLowOfDescriptor word = IsAddi word × (rd_of word ≡ 4) × (rj_of word ≡ 4)
+
+abbrev pub IsLoadOfDescriptor : ℕ → Type 0
+IsLoadOfDescriptor word = word ≡ 0x28c00081
+
+abbrev pub IsCallOfDescriptor : ℕ → Type 0
+IsCallOfDescriptor word = word ≡ 0x4c000021
+
+-- P holds of the instruction at an offset.
+abbrev pub IsSingle : (ℕ → Type 0) → List ℕ → ℕ → Type 0
+IsSingle P section o = HasWord section o P
 
 -- What P says is at an offset so many bytes before.
 abbrev pub IsBehind : ℕ → (List ℕ → ℕ → Type 0) → List ℕ → ℕ → Type 0
@@ -208,14 +209,14 @@ IsAskedFor r.R_LARCH_GOT_PC_HI20 kind = IsPair IsLd
 IsAskedFor r.R_LARCH_GOT_PC_LO12 kind = IsBehind 4 (IsPair IsLd)
 IsAskedFor r.R_LARCH_PCALA_HI20 kind = IsPair IsAddi
 IsAskedFor r.R_LARCH_PCALA_LO12 kind = IsBehind 4 (IsPair IsAddi)
-IsAskedFor r.R_LARCH_TLS_IE_PC_HI20 kind = IsPair IsLd
-IsAskedFor r.R_LARCH_TLS_IE_PC_LO12 kind = IsBehind 4 (IsPair IsLd)
-IsAskedFor r.R_LARCH_TLS_DESC_PC_HI20 kind = IsBehind 0 IsDescriptorSequence
-IsAskedFor r.R_LARCH_TLS_DESC_PC_LO12 kind = IsBehind 4 IsDescriptorSequence
-IsAskedFor r.R_LARCH_TLS_DESC_LD kind = IsBehind 8 IsDescriptorSequence
-IsAskedFor r.R_LARCH_TLS_DESC_CALL kind = IsBehind 12 IsDescriptorSequence
-IsAskedFor r.R_LARCH_TLS_LE_HI20_R kind = λ section o. HasWord section o IsLu12i
-IsAskedFor r.R_LARCH_TLS_LE_ADD_R kind = λ section o. HasWord section o IsAddTp
+IsAskedFor r.R_LARCH_TLS_IE_PC_HI20 kind = IsSingle IsPcalau12i
+IsAskedFor r.R_LARCH_TLS_IE_PC_LO12 kind = IsSingle IsLd
+IsAskedFor r.R_LARCH_TLS_DESC_PC_HI20 kind = IsSingle IsPageOfDescriptor
+IsAskedFor r.R_LARCH_TLS_DESC_PC_LO12 kind = IsSingle IsLowOfDescriptor
+IsAskedFor r.R_LARCH_TLS_DESC_LD kind = IsSingle IsLoadOfDescriptor
+IsAskedFor r.R_LARCH_TLS_DESC_CALL kind = IsSingle IsCallOfDescriptor
+IsAskedFor r.R_LARCH_TLS_LE_HI20_R kind = IsSingle IsLu12i
+IsAskedFor r.R_LARCH_TLS_LE_ADD_R kind = IsSingle IsAddTp
 -- what the rewrite is meant for
 IsAskedFor name kind = loongarch_matches kind
 
@@ -254,19 +255,25 @@ bound_by_pages back =
 abbrev pub by_branch : Conditions
 by_branch = fixed_distance ∷ marked ∷ in_reach r.R_LARCH_B26 0 ∷ []
 
--- the offset from the thread pointer in the instructions, and by `ori` alone
+-- The instructions of initial-exec and of descriptors may stand apart: all of them fit, or none is
+-- rewritten. The offset from the thread pointer is in the instructions, and by `ori` alone.
 abbrev pub to_local_exec : Conditions
 to_local_exec =
-    bound ∷ executable ∷ addend (pos 0) ∷ within_if_known r.R_LARCH_TLS_LE_HI20 signed_32 0 ∷ []
+    bound ∷ executable ∷ group_fits ∷ addend (pos 0)
+    ∷ within_if_known r.R_LARCH_TLS_LE_HI20 signed_32 0 ∷ []
 
 abbrev pub to_short_local_exec : Conditions
 to_short_local_exec =
-    bound ∷ executable ∷ addend (pos 0) ∷ within r.R_LARCH_TLS_LE_LO12 unsigned_12 0 ∷ []
+    bound ∷ executable ∷ group_fits ∷ addend (pos 0)
+    ∷ within r.R_LARCH_TLS_LE_LO12 unsigned_12 0 ∷ []
 
--- the offset from the thread pointer in the GOT: `pcalau12i` is so many bytes before
-abbrev pub to_initial_exec : ℕ → Conditions
-to_initial_exec back =
-    executable ∷ within_if_known r.R_LARCH_TLS_IE_PC_HI20 signed_32 back ∷ []
+-- The offset is in the GOT: the high half has the distance, and the others depend on no place.
+abbrev pub page_to_initial_exec : Conditions
+page_to_initial_exec =
+    executable ∷ group_fits ∷ within_if_known r.R_LARCH_TLS_IE_PC_HI20 signed_32 0 ∷ []
+
+abbrev pub to_initial_exec : Conditions
+to_initial_exec = executable ∷ group_fits ∷ []
 
 -- the offset from the thread pointer in 12 signed bits
 abbrev pub by_low_part : Conditions
@@ -298,16 +305,16 @@ loongarch_entries r.R_LARCH_TLS_IE_PC_LO12 =
     ∷ entry kinds.LowToOri r.R_LARCH_TLS_LE_LO12 to_local_exec ∷ []
 loongarch_entries r.R_LARCH_TLS_DESC_PC_HI20 =
     entry kinds.PcalaToLu12i r.R_LARCH_TLS_LE_HI20 to_local_exec
-    ∷ entry kinds.NoOp r.R_LARCH_TLS_IE_PC_HI20 (to_initial_exec 0) ∷ []
+    ∷ entry kinds.NoOp r.R_LARCH_TLS_IE_PC_HI20 page_to_initial_exec ∷ []
 loongarch_entries r.R_LARCH_TLS_DESC_PC_LO12 =
     entry kinds.LowToOri r.R_LARCH_TLS_LE_LO12 to_local_exec
-    ∷ entry kinds.AddiToLd r.R_LARCH_TLS_IE_PC_LO12 (to_initial_exec 4) ∷ []
+    ∷ entry kinds.AddiToLd r.R_LARCH_TLS_IE_PC_LO12 to_initial_exec ∷ []
 loongarch_entries r.R_LARCH_TLS_DESC_LD =
     entry kinds.ReplaceWithNop r.R_LARCH_NONE to_local_exec
-    ∷ entry kinds.ReplaceWithNop r.R_LARCH_NONE (to_initial_exec 8) ∷ []
+    ∷ entry kinds.ReplaceWithNop r.R_LARCH_NONE to_initial_exec ∷ []
 loongarch_entries r.R_LARCH_TLS_DESC_CALL =
     entry kinds.ReplaceWithNop r.R_LARCH_NONE to_local_exec
-    ∷ entry kinds.ReplaceWithNop r.R_LARCH_NONE (to_initial_exec 12) ∷ []
+    ∷ entry kinds.ReplaceWithNop r.R_LARCH_NONE to_initial_exec ∷ []
 loongarch_entries r.R_LARCH_TLS_LE_HI20_R = entry kinds.Delete r.R_LARCH_NONE by_low_part ∷ []
 loongarch_entries r.R_LARCH_TLS_LE_ADD_R = entry kinds.Delete r.R_LARCH_NONE by_low_part ∷ []
 loongarch_entries r.R_LARCH_TLS_LE_LO12_R =
@@ -357,9 +364,21 @@ AddressPairIsChosenAlike =
     AreChosenAlike 4 r.R_LARCH_PCALA_HI20 r.R_LARCH_PCALA_LO12
     ((choice kinds.PcalaToPcaddi r.R_LARCH_PCREL20_S2, choice kinds.Delete r.R_LARCH_NONE) ∷ [])
 
-abbrev pub InitialExecPairIsChosenAlike : Type 0
-InitialExecPairIsChosenAlike =
-    AreChosenAlike 4 r.R_LARCH_TLS_IE_PC_HI20 r.R_LARCH_TLS_IE_PC_LO12
+-- Two relocations, wherever both are, by the same facts but for the place, of which P holds: where
+-- each is at an instruction that it asks for, both choices are those of one line, or both
+-- relocations are left.
+abbrev pub AreChosenAlikeApart : (LinkFacts → Type 0) → LoongArch64Relocation
+    → LoongArch64Relocation → List (LoongArchChoice × LoongArchChoice) → Type 0
+AreChosenAlikeApart P first second lines =
+    (section other : List ℕ) (o p n : ℕ) (facts : LinkFacts) (a b : LoongArchChoice) → P facts
+    → IsAskedFor first kinds.NoOp section o → IsAskedFor second kinds.NoOp other p
+    → IsLoongArchChoice first section o facts a
+    → IsLoongArchChoice second other p (facts_on n facts) b
+    → IsAmong (a, b) (lines ++ (choice kinds.NoOp first, choice kinds.NoOp second) ∷ [])
+
+abbrev pub InitialExecIsChosenAlike : Type 0
+InitialExecIsChosenAlike =
+    AreChosenAlikeApart (λ facts. ⊤) r.R_LARCH_TLS_IE_PC_HI20 r.R_LARCH_TLS_IE_PC_LO12
     ((
       choice kinds.ReplaceWithNop r.R_LARCH_NONE,
       choice kinds.LowToOriZero r.R_LARCH_TLS_LE_LO12,
@@ -369,12 +388,18 @@ InitialExecPairIsChosenAlike =
       choice kinds.LowToOri r.R_LARCH_TLS_LE_LO12,
     ) ∷ [])
 
+-- the high half reaches the entry of initial-exec, unless no address is known
+abbrev pub ReachesEntry : LinkFacts → Type 0
+ReachesEntry facts =
+    Holds loongarch_row facts.operands facts
+    (within_if_known r.R_LARCH_TLS_IE_PC_HI20 signed_32 0)
+
 -- one of the other relocations of a TLS descriptor with the first one: its choices for local-exec
 -- and for initial-exec
-abbrev pub DescriptorIsChosenAlike : ℕ → LoongArch64Relocation → LoongArchChoice → LoongArchChoice
+abbrev pub DescriptorIsChosenAlike : LoongArch64Relocation → LoongArchChoice → LoongArchChoice
     → Type 0
-DescriptorIsChosenAlike n name local initial =
-    AreChosenAlike n r.R_LARCH_TLS_DESC_PC_HI20 name
+DescriptorIsChosenAlike name local initial =
+    AreChosenAlikeApart ReachesEntry r.R_LARCH_TLS_DESC_PC_HI20 name
     ((choice kinds.PcalaToLu12i r.R_LARCH_TLS_LE_HI20, local)
     ∷ (choice kinds.NoOp r.R_LARCH_TLS_IE_PC_HI20, initial) ∷ [])
 
@@ -383,11 +408,11 @@ erased = choice kinds.ReplaceWithNop r.R_LARCH_NONE
 
 abbrev pub DescriptorsAreChosenAlike : Type 0
 DescriptorsAreChosenAlike =
-    DescriptorIsChosenAlike 4 r.R_LARCH_TLS_DESC_PC_LO12
+    DescriptorIsChosenAlike r.R_LARCH_TLS_DESC_PC_LO12
     (choice kinds.LowToOri r.R_LARCH_TLS_LE_LO12)
     (choice kinds.AddiToLd r.R_LARCH_TLS_IE_PC_LO12)
-    × DescriptorIsChosenAlike 8 r.R_LARCH_TLS_DESC_LD erased erased
-    × DescriptorIsChosenAlike 12 r.R_LARCH_TLS_DESC_CALL erased erased
+    × DescriptorIsChosenAlike r.R_LARCH_TLS_DESC_LD erased erased
+    × DescriptorIsChosenAlike r.R_LARCH_TLS_DESC_CALL erased erased
 
 -- The `lu12i.w` of an offset from the thread pointer with its `add.d` or a low part, wherever both
 -- are, with the same facts but for the place: where each is an instruction that its relocation asks

@@ -12,8 +12,7 @@ ghost use Rattle.linker_loongarch64.specs.LoongArchRewrites.{loongarch_rewrite};
 ghost use Rattle.linker_loongarch64.specs.LoongArchRewrites.{loongarch_modifier, loongarch_deleted};
 ghost use Rattle.linker_loongarch64.specs.LoongArchRewrites.{rd_of, rj_of};
 ghost use Rattle.linker_loongarch64.specs.LoongArchRewrites.{loongarch_matches, adds_low12};
-ghost use Rattle.linker_loongarch64.specs.LoongArchRewrites.{IsAddi};
-ghost use Rattle.linker_loongarch64.specs.LoongArchRewrites.{IsLd};
+ghost use Rattle.linker_loongarch64.specs.LoongArchRewrites.{IsAddi, IsLd, IsPcalau12i};
 ghost use Rattle.linker_loongarch64.specs.LoongArchRewrites.{IsIntoOwnSource, AreOfOneRegister};
 ghost use Rattle.linker_loongarch64.specs.LoongArchRewrites.{IsCall};
 ghost use Rattle.linker_loongarch64.specs.declared.rewrites.RelaxationKind.TheVariants.{NoOp};
@@ -109,6 +108,14 @@ pub(super) fn source(word: u32) -> u32
     word >> 5 & 0x1f
 }
 
+/// `pcalau12i`.
+#[inline(always)]
+pub(super) fn is_pcalau12i(word: u32) -> bool
+    ensures { IsTrue result ↔ IsPcalau12i word }
+{
+    word >> 25 == 0x0d
+}
+
 /// `addi.d`.
 #[inline(always)]
 pub(super) fn is_addi(word: u32) -> bool
@@ -150,7 +157,7 @@ fn is_into_own_source(word: u32) -> bool
 pub(super) fn are_of_one_register(pcala: u32, word: u32) -> bool
     ensures { IsTrue result ↔ AreOfOneRegister pcala word }
 {
-    pcala >> 25 == 0x0d && is_into_own_source(word) && destination(pcala) == destination(word)
+    is_pcalau12i(pcala) && is_into_own_source(word) && destination(pcala) == destination(word)
 }
 
 /// Whether `pcaddu18i` and a `jirl` from its register, which links another one, are at an offset.
@@ -309,9 +316,9 @@ impl RelaxationKind {
             RelaxationKind::PcalaToPcaddi => is_low_pair(section, offset),
             RelaxationKind::CallToBl => is_call(section, offset, 1),
             RelaxationKind::CallToB => is_call(section, offset, 0),
-            RelaxationKind::PcalaToLu12i => word >> 25 == 0x0d,
+            RelaxationKind::PcalaToLu12i => is_pcalau12i(word),
             RelaxationKind::LowToOri | RelaxationKind::LowToOriZero => {
-                (is_addi(word) || is_ld(word)) && is_into_own_source(word)
+                is_addi(word) || is_ld(word)
             }
             RelaxationKind::BaseToTp => adds_immediate(word),
         }

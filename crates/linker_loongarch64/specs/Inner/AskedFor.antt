@@ -1,8 +1,9 @@
 -- The instructions that an entry of the code's table of choices is for.
 use Rattle.std.specs.Prelude.{ℕ, List}
-use Rattle.linker_elf.specs.Originals.{HasWord}
-use Rattle.linker_loongarch64.specs.LoongArchRewrites.{IsBehind, IsDescriptorSequence}
-use Rattle.linker_loongarch64.specs.LoongArchRewrites.{IsAddi, IsLd, IsLu12i, IsAddTp, IsPair}
+use Rattle.linker_loongarch64.specs.LoongArchRewrites.{IsBehind, IsSingle, IsPageOfDescriptor}
+use Rattle.linker_loongarch64.specs.LoongArchRewrites.{IsLowOfDescriptor, IsLoadOfDescriptor}
+use Rattle.linker_loongarch64.specs.LoongArchRewrites.{IsCallOfDescriptor, IsPcalau12i, IsPair}
+use Rattle.linker_loongarch64.specs.LoongArchRewrites.{IsAddi, IsLd, IsLu12i, IsAddTp}
 use Rattle.linker_loongarch64.specs.LoongArchRewrites.{loongarch_matches}
 use Rattle.linker_loongarch64.specs.declared.choices.AskedFor.{AskedFor}
 use Rattle.linker_loongarch64.specs.declared.choices.AskedFor.TheVariants as asked
@@ -12,6 +13,11 @@ abbrev pub is_asked_by : AskedFor → RelaxationKind → List ℕ → ℕ → Ty
 is_asked_by asked.OfRewrite kind = loongarch_matches kind
 is_asked_by (asked.Load back) kind = IsBehind back (IsPair IsLd)
 is_asked_by (asked.Sum back) kind = IsBehind back (IsPair IsAddi)
-is_asked_by (asked.Descriptor back) kind = IsBehind back IsDescriptorSequence
-is_asked_by asked.Lu12i kind = λ section o. HasWord section o IsLu12i
-is_asked_by asked.AddTp kind = λ section o. HasWord section o IsAddTp
+is_asked_by asked.Pcalau12i kind = IsSingle IsPcalau12i
+is_asked_by asked.Ld kind = IsSingle IsLd
+is_asked_by asked.PageOfDescriptor kind = IsSingle IsPageOfDescriptor
+is_asked_by asked.LowOfDescriptor kind = IsSingle IsLowOfDescriptor
+is_asked_by asked.LoadOfDescriptor kind = IsSingle IsLoadOfDescriptor
+is_asked_by asked.CallOfDescriptor kind = IsSingle IsCallOfDescriptor
+is_asked_by asked.Lu12i kind = IsSingle IsLu12i
+is_asked_by asked.AddTp kind = IsSingle IsAddTp

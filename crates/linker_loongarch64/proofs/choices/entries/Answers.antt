@@ -15,10 +15,3 @@ pub returns-in-R_LARCH_PCALA_HI20-clause-table : goal.returns-in-R_LARCH_PCALA_H
 returns-in-R_LARCH_PCALA_HI20-clause-table c =
     let is = c.in-R_LARCH_PCALA_HI20.is in
     rw is (refl, (first_asked c.args.name r.R_LARCH_PCALA_HI20 kinds.PcalaToPcaddi is, tt))
-
-pub returns-in-R_LARCH_TLS_IE_PC_HI20-clause-table : goal.returns-in-R_LARCH_TLS_IE_PC_HI20-clause-table
-returns-in-R_LARCH_TLS_IE_PC_HI20-clause-table c =
-    let is = c.in-R_LARCH_TLS_IE_PC_HI20.is in
-    let short = first_asked c.args.name r.R_LARCH_TLS_IE_PC_HI20 kinds.ReplaceWithNop is in
-    let long = first_asked c.args.name r.R_LARCH_TLS_IE_PC_HI20 kinds.PcalaToLu12i is in
-    rw is (refl, (short, (refl, (long, tt))))

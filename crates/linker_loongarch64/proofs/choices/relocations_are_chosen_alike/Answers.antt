@@ -1,4 +1,4 @@
-use Rattle.linker_loongarch64.proofs.LoongArchAlike.{got_pair, address_pair, initial_exec_pair, descriptor_low, descriptor_load, descriptor_call, thread_offset}
+use Rattle.linker_loongarch64.proofs.LoongArchAlike.{got_pair, address_pair, initial_exec_halves, descriptor_low, descriptor_load, descriptor_call, thread_offset}
 use Rattle.linker_loongarch64.proofs.choices.relocations_are_chosen_alike.Goals as goal
 
 pub returns-clause-got : goal.returns-clause-got
@@ -8,7 +8,7 @@ pub returns-clause-address : goal.returns-clause-address
 returns-clause-address c = address_pair
 
 pub returns-clause-initial_exec : goal.returns-clause-initial_exec
-returns-clause-initial_exec c = initial_exec_pair
+returns-clause-initial_exec c = initial_exec_halves
 
 pub returns-clause-descriptor : goal.returns-clause-descriptor
 returns-clause-descriptor c = (descriptor_low, descriptor_load, descriptor_call)
