@@ -35,8 +35,9 @@ use Rattle.relocation_laws.proofs.Pages.{offset_reads, IsUnsigned}
 use Rattle.relocation_laws.proofs.Sums.{sum_below, difference_below, page_halves_sum, taken_off}
 use Rattle.relocation_laws.proofs.Sums.{cast_is, euclid, lift, lifted_is}
 use Rattle.rewrite_laws.specs.AArch64Laws.{word_of, thread_offset, IsRelocated, AreAlikeApart, HasHigh}
-use Rattle.rewrite_laws.specs.AArch64Laws.{also, but, StepSo}
+use Rattle.rewrite_laws.specs.AArch64Laws.{StepSo}
 use Rattle.rewrite_laws.specs.AArch64Laws as aarch64_laws
+use Rattle.rewrite_laws.specs.Machine.{also, but}
 use Rattle.rewrite_laws.specs.AArch64Machine.{State, step, in_64_bits, moved, with_moved, read_x}
 use Rattle.rewrite_laws.specs.AArch64Machine.{loaded, load_64, adrp_address}
 use Rattle.rewrite_laws.proofs.AArch64Moves.{movk_lifted, movz_is_no_movk}

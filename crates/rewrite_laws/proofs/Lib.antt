@@ -5,7 +5,7 @@ pub mod AArch64Pairs
 pub mod AArch64Steps
 pub mod AArch64Words
 pub mod LoongArchCalls
-pub mod LoongArchDescriptors
+pub mod LoongArchHalves
 pub mod LoongArchOffsets
 pub mod LoongArchPairs
 pub mod LoongArchSteps

@@ -73,24 +73,6 @@ adds o n x y target s first second named at leads =
       value_is = low_sum o n x y target s second.rj_is named at leads;
     }
 
--- `lu12i.w rd` and `ori rd, rd`
-pub record Makes (n x y value : ℕ) (s : State) : Type 0 where
-  pub first : step x s ≡ Some (set n (high_part x) s)
-  pub second : step y (set n (high_part x) s) ≡ Some (set n (ored y (set n (high_part x) s)) (set n (high_part x) s))
-  pub value_is : ored y (set n (high_part x) s) ≡ value
-
-pub makes : (o : Operands) → AreAddresses o → (n x y : ℕ) (s : State) → IsHigh 0x0a n x → IsLow 0x00e n n y → n ≢ 0
-    → IsAddress (pos o.tls_base +ℤ ((signed 20 (field x 5 25) *ℤ pos 4096) +ℤ pos (field y 10 22))) (symbol_address o) → Makes n x y (thread_offset o) s
-makes o small n x y s first second named leads =
-    let t = set n (high_part x) s in
-    record {
-      first = step_high x n s (decodes_high x first.opcode) first.rd_is named;
-      second = step_or y n t (decodes_or y second.opcode) second.rd_is named;
-      value_is =
-          ored_is x y n s second.rj_is named
-          ∙ distance_is ((signed 20 (field x 5 25) *ℤ pos 4096) +ℤ pos (field y 10 22)) o.tls_base (symbol_address o) small.tls_base (sum_below o.symbol _) leads;
-    }
-
 -- `addi.d` is no `jirl`, and gets the 12 bits
 no_jirl : (word : ℕ) → word / 2 ^ 22 ≡ 0x00b → is_jirl word ≡ false
 no_jirl word op = let opcode : field word 26 32 ≡ 0 = omega arith in ap (λ q. eqb q 19) opcode
@@ -127,70 +109,13 @@ got_to_address relative o s pcala ld addi p holds made pcala1 ld1 pcala2 addi2 o
     (run_pair (word_of pcala2) (word_of addi2) s _ _ d.first refl d.second)
     (record { alike = alike_twice n _ _ _ _ s (l.value_is ∙ holds ∙ sym d.value_is); pc = refl })
 
-pub initial_exec : relocation_laws.RelativeAddresses → relocation_laws.ThreadAddresses → laws.InitialExecToLocalExec
-initial_exec relative thread o s pcala ld lu12i ori p holds made_high made_low pcala1 ld1 lu12i2 ori2 old fits a2 b2 =
-    let one = p.one_register in
-    let n = rd_of (word_of ld) in
-    let named = one.into_own_source.not_zero in
-    let same = one.into_own_source.same in
-    let high = word_made (λ x. 0x14000000 + rd_of x) pcala lu12i (omega arith) made_high in
-    let low = word_made (λ x. 0x03800000 + field x 0 10) ld ori (omega arith) made_low in
-    let high_op : word_of lu12i / 2 ^ 25 ≡ 0x0a = omega arith in
-    let high_rd : rd_of (word_of lu12i) ≡ rd_of (word_of pcala) = omega arith in
-    let low_op : word_of ori / 2 ^ 22 ≡ 0x00e = omega arith in
-    let low_rd : rd_of (word_of ori) ≡ n = omega arith in
-    let low_rj : rj_of (word_of ori) ≡ rj_of (word_of ld) = omega arith in
-    let l = loads o n (word_of pcala1) (word_of ld1) (entry_and_addend o) s
-    (high_after 12 0x0d n _ pcala pcala1 old.first.written one.first one.register)
-    (low_after 0x0a3 n n _ ld ld1 old.second.written p.second_is refl same) named p.at
-    (relative.4 o p.small o.place pcala pcala1 old.first (subst (ValueIsWithin signed_32) old.first.value_is old.fits) (sum_64 o.place 4) ld ld1 old.second tt) in
-    let m = makes o p.small n (word_of lu12i2) (word_of ori2) s
-    (high_after 12 0x0a n _ lu12i lu12i2 a2.written high_op (high_rd ∙ one.register))
-    (low_after 0x00e n n _ ori ori2 b2.written low_op low_rd (low_rj ∙ same)) named
-    (thread.0 o p.small o.place lu12i lu12i2 a2 (subst (ValueIsWithin signed_32) a2.value_is fits) (sum_64 o.place 4) ori ori2 b2 tt) in
-    ends_so (pair pcala1 ld1) (pair lu12i2 ori2) s s _ _ laws.AreAlike
-    (run_pair (word_of pcala1) (word_of ld1) s _ _ l.first refl l.second)
-    (run_pair (word_of lu12i2) (word_of ori2) s _ _ m.first refl m.second)
-    (record { alike = alike_twice n _ _ _ _ s (l.value_is ∙ holds ∙ sym m.value_is); pc = refl })
-
 -- a number that is from 0 up and below 4096 in two's complement too
-small_number : (n : ℕ) → n < 2 ^ 64 → (pos 0 ≤ℤ cast_signed w64 n) × (cast_signed w64 n <ℤ pos (2 ^ 12)) → n < 2 ^ 12
+pub small_number : (n : ℕ) → n < 2 ^ 64 → (pos 0 ≤ℤ cast_signed w64 n) × (cast_signed w64 n <ℤ pos (2 ^ 12)) → n < 2 ^ 12
 small_number n wide h =
     elim (cases_lt n (2 ^ 63)) [
       | inl low ↦ let g = subst (λ z. z <ℤ pos (2 ^ 12)) (to_z_pos w64 n low) h.1 in omega (arith, ints)
       | inr up ↦ let g = subst (λ z. pos 0 ≤ℤ z) (cast_negative n wide up) h.0 in absurd (omega (arith, ints))
     ]
-
-pub short_initial_exec : relocation_laws.RelativeAddresses → laws.InitialExecToShortLocalExec
-short_initial_exec relative o s pcala ld nop ori p holds made_nop made_low pcala1 ld1 ori2 old fits b2 =
-    let one = p.one_register in
-    let n = rd_of (word_of ld) in
-    let named = one.into_own_source.not_zero in
-    let same = one.into_own_source.same in
-    let nop_word = word_made (λ x. 0x03400000) pcala nop (omega arith) made_nop in
-    let low = word_made (λ x. 0x03800000 + rd_of x) ld ori (omega arith) made_low in
-    let low_op : word_of ori / 2 ^ 22 ≡ 0x00e = omega arith in
-    let low_rd : rd_of (word_of ori) ≡ n = omega arith in
-    let low_rj : rj_of (word_of ori) ≡ 0 = omega arith in
-    let l = loads o n (word_of pcala1) (word_of ld1) (entry_and_addend o) s
-    (high_after 12 0x0d n _ pcala pcala1 old.first.written one.first one.register)
-    (low_after 0x0a3 n n _ ld ld1 old.second.written p.second_is refl same) named p.at
-    (relative.4 o p.small o.place pcala pcala1 old.first (subst (ValueIsWithin signed_32) old.first.value_is old.fits) (sum_64 o.place 4) ld ld1 old.second tt) in
-    let y = low_after 0x00e n 0 _ ori ori2 b2.written low_op low_rd low_rj in
-    let d = difference_64 (sum_64 (symbol_address o) 0) o.tls_base in
-    let small : d < 2 ^ 12 = small_number d (omega arith) fits in
-    let taken : bits_taken (record { start = 0; end = 12 }) b2.value ≡ d =
-    taken_bits (record { start = 0; end = 12 }) d b2.value (omega arith) (value_is _ (behind 4 o) ori ori2 b2 (cast_signed w64 d) refl)
-    ∙ (let e : field d 0 12 ≡ d = omega arith in e) in
-    let word : field (word_of ori2) 10 22 ≡ d = low_is _ ori ori2 b2.written ∙ taken in
-    let t = go_on s in
-    let value : ored (word_of ori2) t ≡ thread_offset o =
-    ored_zero (word_of ori2) t y.rj_is ∙ word ∙ (let e : d ≡ thread_offset o = omega arith in e) in
-    ends_so (pair pcala1 ld1) (pair nop ori2) s s _ (set n (ored (word_of ori2) t) t) laws.AreAlike
-    (run_pair (word_of pcala1) (word_of ld1) s _ _ l.first refl l.second)
-    (run_pair (word_of nop) (word_of ori2) s t _ (ap (λ w. step w s) nop_word) refl
-    (step_or (word_of ori2) n t (decodes_or (word_of ori2) y.opcode) y.rd_is named))
-    (record { alike = alike_once n _ _ _ s (l.value_is ∙ holds ∙ sym value); pc = refl })
 
 -- ---- by `pcaddi`
 

@@ -2,7 +2,7 @@
 -- Architecture, "Relocation optimization", and the sequences of thread-local storage).
 use Rattle.std.specs.Prelude.{◌≡◌, ◌≢◌, ◌<◌, ◌∷◌, [], ℕ, ◌^◌, Bool, true, false, ◌==◌, ◌||◌, List}
 use Rattle.std.specs.Prelude.{drop, take, None, ⊤, ◌-◌, Option, Some, IsSomeAnd, if◌then◌else◌}
-use Rattle.std.specs.Prelude.{not, ◌&&◌, ◌/◌}
+use Rattle.std.specs.Prelude.{◌/◌}
 use Rattle.std.specs.Int.{w32, from_le_bytes}
 use Rattle.linker_base.specs.Rewrite.{Rewrite, IsRewritable, rewritten}
 use Rattle.linker_aarch64.specs.AArch64Rewrites.{aarch64_rewrite, rd_of, rn_of}
@@ -28,6 +28,7 @@ use Rattle.linker_aarch64.specs.declared.rewrites.RelaxationKind.TheVariants.{Ad
 use Rattle.linker_aarch64.specs.declared.rewrites.RelaxationKind.TheVariants.{LdrToAdr}
 use Rattle.linker_elf.specs.declared.elf.value.Operands.{Operands}
 use Rattle.relocation_laws.specs.Schemes.{IsApplied, AreAddresses, symbol_address, plt_address}
+use Rattle.rewrite_laws.specs.Machine.{also, but}
 use Rattle.rewrite_laws.specs.AArch64Machine.{State, load_64, run, RunAlike, RunAlikeBut}
 use Rattle.rewrite_laws.specs.AArch64Machine.{AreAlikeBut, next_pc, is_b, is_bl, step}
 
@@ -110,13 +111,6 @@ pub record AreAlikeApart (differs spilled : ℕ → Bool) (s t : State) : Type 0
   pub memory : (a : ℕ) → spilled a ≡ false → s.memory a ≡ t.memory a
   pub pc : s.pc ≡ t.pc
   pub thread_pointer : s.thread_pointer ≡ t.thread_pointer
-
--- register n too, or all but register n
-abbrev pub also : ℕ → (ℕ → Bool) → ℕ → Bool
-also n differs m = m == n || differs m
-
-abbrev pub but : ℕ → (ℕ → Bool) → ℕ → Bool
-but n differs m = not (m == n) && differs m
 
 -- Register n has what a high half of the variable makes: in the object's run the page of the GOT
 -- entry, and in the new one a number that has the offset's bits from 16 up.

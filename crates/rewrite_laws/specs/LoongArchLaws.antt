@@ -5,11 +5,14 @@ use Rattle.std.specs.Prelude.{IsSomeAnd, IsTrue, ⊤, ◌/◌, ◌^◌, Option, 
 use Rattle.std.specs.Int.{w32, from_le_bytes}
 use Rattle.linker_base.specs.Rewrite.{Rewrite}
 use Rattle.linker_elf.specs.Choices.{RowIsWithin}
-use Rattle.linker_loongarch64.specs.LoongArchRewrites.{AreOfDescriptor, signed_32, unsigned_12}
+use Rattle.linker_loongarch64.specs.LoongArchRewrites.{IsLowOfDescriptor, IsLoadOfDescriptor}
+use Rattle.linker_loongarch64.specs.LoongArchRewrites.{IsCallOfDescriptor, IsPcalau12i}
+use Rattle.linker_loongarch64.specs.LoongArchRewrites.{signed_32, unsigned_12}
 use Rattle.linker_loongarch64.specs.LoongArchRewrites.{signed_12}
 use Rattle.linker_loongarch64.specs.LoongArchRewrites.{IsAddi, IsLd, AreOfOneRegister, IsCall}
 use Rattle.linker_loongarch64.specs.LoongArchRewrites.{IsLu12i}
 use Rattle.linker_loongarch64.specs.LoongArchRewrites.{IsAddTp, adds_low12}
+use Rattle.linker_elf.specs.LoongArch.{page}
 use Rattle.linker_elf.specs.LoongArchRelocations.{loongarch_row}
 use Rattle.linker_loongarch64.specs.LoongArchRewrites.{loongarch_rewrite, rd_of, rj_of, tp}
 use Rattle.linker_elf.specs.Value.{sum_64, difference_64}
@@ -20,8 +23,8 @@ use Rattle.linker_loongarch64.specs.declared.rewrites.RelaxationKind.{Relaxation
 use Rattle.linker_loongarch64.specs.declared.rewrites.RelaxationKind.TheVariants as kinds
 use Rattle.relocation_laws.specs.Schemes.{IsApplied, AreAddresses, symbol_address, plt_address}
 use Rattle.relocation_laws.specs.Schemes.{entry_and_addend}
-use Rattle.rewrite_laws.specs.Machine.{loaded, Relocated}
-use Rattle.rewrite_laws.specs.LoongArchMachine.{State, read, run, EndSo, AreAlikeBut, but_written}
+use Rattle.rewrite_laws.specs.Machine.{loaded, Relocated, also, but}
+use Rattle.rewrite_laws.specs.LoongArchMachine.{State, read, step, EndSo, AreAlikeBut, but_written}
 use Rattle.rewrite_laws.specs.LoongArchMachine.{Action, stores, action_of}
 
 -- ---- instructions as bytes
@@ -112,32 +115,89 @@ GotToAddress =
 abbrev pub thread_offset : Operands → ℕ
 thread_offset o = difference_64 (symbol_address o) o.tls_base
 
--- `pcalau12i rd` and `ld.d rd, rd` of the GOT entry, which the dynamic linker has set to the offset
-abbrev pub InitialExecToLocalExec : Type 0
-InitialExecToLocalExec =
-    (o : Operands) (s : State) (pcala ld lu12i ori : List ℕ) → IsPair IsLd o s pcala ld
-    → loaded 8 s.memory (entry_and_addend o) ≡ thread_offset o
-    → IsRewritten kinds.PcalaToLu12i pcala lu12i → IsRewritten kinds.LowToOri ld ori
-    → (pcala_of_entry ld_of_entry lu12i_of_offset ori_of_offset : List ℕ)
-    → LoadsEntry names.R_LARCH_TLS_IE_PC_HI20 names.R_LARCH_TLS_IE_PC_LO12 o pcala ld
-    pcala_of_entry ld_of_entry
-    → Fits32 names.R_LARCH_TLS_LE_HI20 o
-    → IsRelocated names.R_LARCH_TLS_LE_HI20 o lu12i lu12i_of_offset
-    → IsRelocated names.R_LARCH_TLS_LE_LO12 (behind 4 o) ori ori_of_offset
-    → RunAlike (pair pcala_of_entry ld_of_entry) (pair lu12i_of_offset ori_of_offset) s
+-- The instructions of initial-exec and of a descriptor are rewritten each by itself, wherever they
+-- are. So two runs are compared, of the object's code and of the new code, that are alike but for some
+-- registers and bytes of memory: those that have what a high half made, and what a descriptor leaves.
+-- What else runs between them is the same instruction in both.
+pub record AreAlikeApart (differs spilled : ℕ → Bool) (s t : State) : Type 0 where
+  pub registers : (n : ℕ) → differs n ≡ false → read n s ≡ read n t
+  pub floats : s.floats ≡ t.floats
+  pub memory : (a : ℕ) → spilled a ≡ false → s.memory a ≡ t.memory a
+  pub pc : s.pc ≡ t.pc
 
--- The same by `nop` and `ori` from `zero`, where the offset has 12 bits.
-abbrev pub InitialExecToShortLocalExec : Type 0
-InitialExecToShortLocalExec =
-    (o : Operands) (s : State) (pcala ld nop ori : List ℕ) → IsPair IsLd o s pcala ld
-    → loaded 8 s.memory (entry_and_addend o) ≡ thread_offset o
-    → IsRewritten kinds.ReplaceWithNop pcala nop → IsRewritten kinds.LowToOriZero ld ori
-    → (pcala_of_entry ld_of_entry ori_of_offset : List ℕ)
-    → LoadsEntry names.R_LARCH_TLS_IE_PC_HI20 names.R_LARCH_TLS_IE_PC_LO12 o pcala ld
-    pcala_of_entry ld_of_entry
-    → RowIsWithin (loongarch_row names.R_LARCH_TLS_LE_LO12) unsigned_12 (behind 4 o)
-    → IsRelocated names.R_LARCH_TLS_LE_LO12 (behind 4 o) ori ori_of_offset
-    → RunAlike (pair pcala_of_entry ld_of_entry) (pair nop ori_of_offset) s
+-- a register's number in the object's run, and in the new one
+pub record Has (n old new : ℕ) (s t : State) : Type 0 where
+  pub old_is : read n s ≡ old
+  pub new_is : read n t ≡ new
+
+-- Each run executes an instruction, and P holds then.
+abbrev pub StepSo : ℕ → State → ℕ → State → (State → State → Type 0) → Type 0
+StepSo x s y t P = IsSomeAnd (step x s) (λ u. IsSomeAnd (step y t) (λ v. P u v))
+
+-- the page from which a number of 12 bits in two's complement leads to an address
+abbrev pub near_page : ℕ → ℕ
+near_page address = page (sum_64 address 0x800)
+
+-- the offset without its low 12 bits
+abbrev pub high_offset : Operands → ℕ
+high_offset o = page (thread_offset o)
+
+-- a `pcalau12i` with the relocation of a high half applied
+pub record HighHalf (name : LoongArch64Relocation) (o : Operands) (pcala pcala_of : List ℕ)
+    : Type 0 where
+  pub is : IsPcalau12i (word_of pcala)
+  pub fits : Fits32 name o
+  pub applied : IsRelocated name o pcala pcala_of
+
+-- `pcalau12i rd` of initial-exec or of a descriptor, and `lu12i.w rd`
+abbrev pub HighHalfToLu12i : LoongArch64Relocation → Type 0
+HighHalfToLu12i name =
+    (o : Operands) (s t : State) (differs spilled : ℕ → Bool) (pcala lu12i : List ℕ)
+    → AreAddresses o → s.pc ≡ o.place → AreAlikeApart differs spilled s t
+    → IsRewritten kinds.PcalaToLu12i pcala lu12i → (pcala_of lu12i_of : List ℕ)
+    → HighHalf name o pcala pcala_of → Fits32 names.R_LARCH_TLS_LE_HI20 o
+    → IsRelocated names.R_LARCH_TLS_LE_HI20 o lu12i lu12i_of
+    → let n = rd_of (word_of pcala) in
+    StepSo (word_of pcala_of) s (word_of lu12i_of) t
+    (λ u v. AreAlikeApart (also n differs) spilled u v
+    × (n ≢ 0 → Has n (near_page (entry_and_addend o)) (high_offset o) u v))
+
+-- `ld.d rd, rj` of the GOT entry, which the dynamic linker has set to the offset, and `ori rd, rj`,
+-- where rj has what a high half makes. Both leave the offset in rd.
+abbrev pub LowHalfToOri : Type 0
+LowHalfToOri =
+    (o : Operands) (s t : State) (differs spilled : ℕ → Bool) (ld ori : List ℕ)
+    → AreAddresses o → IsLd (word_of ld) → loaded 8 s.memory (entry_and_addend o) ≡ thread_offset o
+    → Has (rj_of (word_of ld)) (near_page (entry_and_addend o)) (high_offset o) s t
+    → AreAlikeApart differs spilled s t → IsRewritten kinds.LowToOri ld ori
+    → (ld_of ori_of : List ℕ) → IsRelocated names.R_LARCH_TLS_IE_PC_LO12 o ld ld_of
+    → IsRelocated names.R_LARCH_TLS_LE_LO12 o ori ori_of
+    → StepSo (word_of ld_of) s (word_of ori_of) t
+    (AreAlikeApart (but (rd_of (word_of ld)) differs) spilled)
+
+-- The same by `nop` and `ori rd, zero`, where the offset has 12 bits.
+abbrev pub HighHalfToNop : Type 0
+HighHalfToNop =
+    (o : Operands) (s t : State) (differs spilled : ℕ → Bool) (pcala nop : List ℕ)
+    → AreAddresses o → s.pc ≡ o.place → AreAlikeApart differs spilled s t
+    → IsRewritten kinds.ReplaceWithNop pcala nop → (pcala_of : List ℕ)
+    → HighHalf names.R_LARCH_TLS_IE_PC_HI20 o pcala pcala_of
+    → let n = rd_of (word_of pcala) in
+    StepSo (word_of pcala_of) s (word_of nop) t
+    (λ u v. AreAlikeApart (also n differs) spilled u v
+    × (n ≢ 0 → read n u ≡ near_page (entry_and_addend o)))
+
+abbrev pub LowHalfToOriZero : Type 0
+LowHalfToOriZero =
+    (o : Operands) (s t : State) (differs spilled : ℕ → Bool) (ld ori : List ℕ)
+    → AreAddresses o → IsLd (word_of ld) → loaded 8 s.memory (entry_and_addend o) ≡ thread_offset o
+    → read (rj_of (word_of ld)) s ≡ near_page (entry_and_addend o)
+    → AreAlikeApart differs spilled s t → IsRewritten kinds.LowToOriZero ld ori
+    → (ld_of ori_of : List ℕ) → IsRelocated names.R_LARCH_TLS_IE_PC_LO12 o ld ld_of
+    → RowIsWithin (loongarch_row names.R_LARCH_TLS_LE_LO12) unsigned_12 o
+    → IsRelocated names.R_LARCH_TLS_LE_LO12 o ori ori_of
+    → StepSo (word_of ld_of) s (word_of ori_of) t
+    (AreAlikeApart (but (rd_of (word_of ld)) differs) spilled)
 
 -- ---- an address by `pcaddi`
 
@@ -250,12 +310,6 @@ ShorterLocalExec =
 
 -- ---- the offset of a variable from the thread pointer, by a TLS descriptor
 
--- The registers that the sequence of a descriptor leaves with no value that code may use: `ra` has the
--- address behind the call, and the function may change others. `a0` isn't one of them: it has the
--- offset.
-abbrev pub is_scratch : (ℕ → Bool) → ℕ → Bool
-is_scratch changed n = if n == 4 then false else (n == 1 || changed n)
-
 -- A descriptor's function, called in state u, returns in v. It leaves the offset in `a0`, and keeps
 -- the memory, the floating-point registers and the other registers, except those that `changed`
 -- names.
@@ -266,73 +320,86 @@ pub record ReturnsOffset (changed : ℕ → Bool) (offset : ℕ) (u v : State) :
   pub back : v.pc ≡ read 1 u
   pub memory : v.memory ≡ u.memory
 
--- `pcalau12i a0`, `addi.d a0, a0`, `ld.d ra, a0, 0` and `jirl ra, ra, 0`, which are executed next.
+-- the operands with another GOT entry
+abbrev pub with_entry : ℕ → Operands → Operands
+with_entry entry o = record o { got_entry = entry }
+
+-- `pcalau12i a0`, of the GOT entry of initial-exec in the new run, which is at another address
+abbrev pub PageOfDescriptor : Type 0
+PageOfDescriptor =
+    (o : Operands) (entry : ℕ) (s t : State) (differs spilled : ℕ → Bool) (pcala : List ℕ)
+    → AreAddresses o → entry < 2 ^ 64 → s.pc ≡ o.place → AreAlikeApart differs spilled s t
+    → rd_of (word_of pcala) ≡ 4 → (pcala_of pcala_of_entry : List ℕ)
+    → HighHalf names.R_LARCH_TLS_DESC_PC_HI20 o pcala pcala_of
+    → HighHalf names.R_LARCH_TLS_IE_PC_HI20 (with_entry entry o) pcala pcala_of_entry
+    → StepSo (word_of pcala_of) s (word_of pcala_of_entry) t
+    (λ u v. AreAlikeApart (also 4 differs) spilled u v
+    × Has 4 (near_page (entry_and_addend o)) (near_page (entry_and_addend (with_entry entry o)))
+    u v)
+
+-- In the object's run `a0` has the address of the descriptor, and in the new one the offset.
+abbrev pub HasDescriptor : Operands → State → State → Type 0
+HasDescriptor o = Has 4 (entry_and_addend o) (thread_offset o)
+
+-- `addi.d a0, a0`, and `ori a0, a0` or the load of that entry
+abbrev pub LowOfDescriptorToOri : Type 0
+LowOfDescriptorToOri =
+    (o : Operands) (s t : State) (differs spilled : ℕ → Bool) (addi ori : List ℕ)
+    → AreAddresses o → IsLowOfDescriptor (word_of addi)
+    → Has 4 (near_page (entry_and_addend o)) (high_offset o) s t
+    → AreAlikeApart differs spilled s t → IsRewritten kinds.LowToOri addi ori
+    → (addi_of ori_of : List ℕ) → IsRelocated names.R_LARCH_TLS_DESC_PC_LO12 o addi addi_of
+    → IsRelocated names.R_LARCH_TLS_LE_LO12 o ori ori_of
+    → StepSo (word_of addi_of) s (word_of ori_of) t
+    (λ u v. AreAlikeApart (also 4 differs) spilled u v × HasDescriptor o u v)
+
+abbrev pub LowOfDescriptorToLoad : Type 0
+LowOfDescriptorToLoad =
+    (o : Operands) (entry : ℕ) (s t : State) (differs spilled : ℕ → Bool) (addi ld : List ℕ)
+    → AreAddresses o → entry < 2 ^ 64 → IsLowOfDescriptor (word_of addi)
+    → loaded 8 t.memory (entry_and_addend (with_entry entry o)) ≡ thread_offset o
+    → Has 4 (near_page (entry_and_addend o)) (near_page (entry_and_addend (with_entry entry o))) s t
+    → AreAlikeApart differs spilled s t → IsRewritten kinds.AddiToLd addi ld
+    → (addi_of ld_of : List ℕ) → IsRelocated names.R_LARCH_TLS_DESC_PC_LO12 o addi addi_of
+    → IsRelocated names.R_LARCH_TLS_IE_PC_LO12 (with_entry entry o) ld ld_of
+    → StepSo (word_of addi_of) s (word_of ld_of) t
+    (λ u v. AreAlikeApart (also 4 differs) spilled u v × HasDescriptor o u v)
+
+-- `ld.d ra, a0, 0`, which loads the function's address, and `nop`
+abbrev pub LoadOfDescriptorToNop : Type 0
+LoadOfDescriptorToNop =
+    (o : Operands) (s t : State) (differs spilled : ℕ → Bool) (ld nop : List ℕ)
+    → AreAddresses o → IsLoadOfDescriptor (word_of ld) → HasDescriptor o s t
+    → AreAlikeApart differs spilled s t → IsRewritten kinds.ReplaceWithNop ld nop
+    → StepSo (word_of ld) s (word_of nop) t
+    (λ u v. AreAlikeApart (also 1 differs) spilled u v × HasDescriptor o u v
+    × (read 1 u ≡ loaded 8 s.memory (entry_and_addend o)))
+
 -- `call` says in which state a called function returns, if it does. The first 8 bytes of the
 -- descriptor have the address of a function that returns the offset whenever `a0` has the
 -- descriptor's address.
 pub record Descriptor (call : State → Option State) (changed : ℕ → Bool) (o : Operands) (s : State)
-    (pcala addi ld jirl : List ℕ) : Type 0 where
+    : Type 0 where
   pub small : AreAddresses o
-  pub at : s.pc ≡ o.place
-  pub instructions : AreOfDescriptor (word_of pcala) (word_of addi) (word_of ld) (word_of jirl)
   pub function : loaded 8 s.memory (entry_and_addend o) < 2 ^ 64
   pub returns : (u v : State) → u.memory ≡ s.memory
       → u.pc ≡ loaded 8 s.memory (entry_and_addend o) → read 4 u ≡ entry_and_addend o
       → call u ≡ Some v → ReturnsOffset changed (thread_offset o) u v
 
-abbrev pub four : List ℕ → List ℕ → List ℕ → List ℕ → List ℕ
-four a b c d = word_of a ∷ word_of b ∷ word_of c ∷ word_of d ∷ []
+-- what differs behind the call: not `a0`, which has the offset, but `ra`, which has the address behind
+-- the call, and what the function may change
+abbrev pub behind_call : (ℕ → Bool) → (ℕ → Bool) → ℕ → Bool
+behind_call changed differs n = if n == 4 then false else (n == 1 || (changed n || differs n))
 
-pub record AreAlikeThere (differing : ℕ → Bool) (s t : State) : Type 0 where
-  pub alike : AreAlikeBut differing s t
-  pub pc : s.pc ≡ t.pc
-
--- The old sequence ends in a call. The new one ends as the called function returns.
-abbrev pub RunAlikeBehindCall : (State → Option State) → (ℕ → Bool) → List ℕ → List ℕ → State
-    → Type 0
-RunAlikeBehindCall call differing old new s =
-    IsSomeAnd (run old s) (λ u.
-    (v : State) → call u ≡ Some v → IsSomeAnd (run new s) (λ w. AreAlikeThere differing v w))
-
--- the sequence with its relocations applied
-pub record DescriptorOf (o : Operands) (pcala addi pcala_of_entry addi_of_entry : List ℕ)
-    : Type 0 where
-  pub fits : Fits32 names.R_LARCH_TLS_DESC_PC_HI20 o
-  pub first : IsRelocated names.R_LARCH_TLS_DESC_PC_HI20 o pcala pcala_of_entry
-  pub second : IsRelocated names.R_LARCH_TLS_DESC_PC_LO12 (behind 4 o) addi addi_of_entry
-
-abbrev pub DescriptorToLocalExec : Type 0
-DescriptorToLocalExec =
-    (call : State → Option State) (changed : ℕ → Bool) (o : Operands) (s : State)
-    (pcala addi ld jirl : List ℕ) → Descriptor call changed o s pcala addi ld jirl
-    → (lu12i ori nop nop_behind : List ℕ)
-    → IsRewritten kinds.PcalaToLu12i pcala lu12i → IsRewritten kinds.LowToOri addi ori
-    → IsRewritten kinds.ReplaceWithNop ld nop → IsRewritten kinds.ReplaceWithNop jirl nop_behind
-    → (pcala_of_entry addi_of_entry lu12i_of_offset ori_of_offset : List ℕ)
-    → DescriptorOf o pcala addi pcala_of_entry addi_of_entry
-    → Fits32 names.R_LARCH_TLS_LE_HI20 o
-    → IsRelocated names.R_LARCH_TLS_LE_HI20 o lu12i lu12i_of_offset
-    → IsRelocated names.R_LARCH_TLS_LE_LO12 (behind 4 o) ori ori_of_offset
-    → RunAlikeBehindCall call (is_scratch changed) (four pcala_of_entry addi_of_entry ld jirl)
-    (four lu12i_of_offset ori_of_offset nop nop_behind) s
-
--- the operands with another GOT entry
-abbrev pub with_entry : ℕ → Operands → Operands
-with_entry entry o = record o { got_entry = entry }
-
--- The GOT entry of initial-exec, at another address, holds the offset.
-abbrev pub DescriptorToInitialExec : Type 0
-DescriptorToInitialExec =
-    (call : State → Option State) (changed : ℕ → Bool) (o : Operands) (s : State)
-    (pcala addi ld jirl : List ℕ) → Descriptor call changed o s pcala addi ld jirl
-    → (entry : ℕ) → entry < 2 ^ 64
-    → loaded 8 s.memory (entry_and_addend (with_entry entry o)) ≡ thread_offset o
-    → (load nop nop_behind : List ℕ) → IsRewritten kinds.AddiToLd addi load
-    → IsRewritten kinds.ReplaceWithNop ld nop → IsRewritten kinds.ReplaceWithNop jirl nop_behind
-    → (pcala_of_descriptor addi_of_descriptor pcala_of_entry load_of_entry : List ℕ)
-    → DescriptorOf o pcala addi pcala_of_descriptor addi_of_descriptor
-    → LoadsEntry names.R_LARCH_TLS_IE_PC_HI20 names.R_LARCH_TLS_IE_PC_LO12 (with_entry entry o)
-    pcala load pcala_of_entry load_of_entry
-    → RunAlikeBehindCall call (is_scratch changed)
-    (four pcala_of_descriptor addi_of_descriptor ld jirl)
-    (four pcala_of_entry load_of_entry nop nop_behind) s
+-- `jirl ra, ra, 0`, where `ra` has the function's address, and `nop`: the new run is as the function
+-- returns.
+abbrev pub CallOfDescriptorToNop : Type 0
+CallOfDescriptorToNop =
+    (call : State → Option State) (changed : ℕ → Bool) (o : Operands) (s t : State)
+    (differs spilled : ℕ → Bool) (jirl nop : List ℕ) → Descriptor call changed o s
+    → IsCallOfDescriptor (word_of jirl) → HasDescriptor o s t
+    → read 1 s ≡ loaded 8 s.memory (entry_and_addend o) → AreAlikeApart differs spilled s t
+    → IsRewritten kinds.ReplaceWithNop jirl nop
+    → IsSomeAnd (step (word_of jirl) s) (λ u.
+    (v : State) → call u ≡ Some v → IsSomeAnd (step (word_of nop) t) (λ w.
+    AreAlikeApart (behind_call changed differs) spilled v w))

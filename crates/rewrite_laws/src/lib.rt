@@ -6,6 +6,7 @@
 //! end in states that are alike.
 #![tactic(auto)]
 
+ghost use Rattle.linker_elf.specs.declared.loongarch64.relocations.LoongArch64Relocation.TheVariants.{R_LARCH_TLS_IE_PC_HI20, R_LARCH_TLS_DESC_PC_HI20};
 ghost use Rattle.rewrite_laws.specs.AArch64Laws as aarch64_laws;
 ghost use Rattle.rewrite_laws.specs.AArch64Worked as aarch64_worked;
 ghost use Rattle.rewrite_laws.specs.LoongArchLaws as loongarch_laws;
@@ -102,14 +103,20 @@ pub fn riscv64()
 /// different addresses, each with its relocations applied.
 pub fn loongarch64()
     ensures got { loongarch_laws.GotToAddress }
-    ensures initial_exec { loongarch_laws.InitialExecToLocalExec }
-    ensures short_initial_exec { loongarch_laws.InitialExecToShortLocalExec }
+    ensures high_half { loongarch_laws.HighHalfToLu12i R_LARCH_TLS_IE_PC_HI20 }
+    ensures low_half { loongarch_laws.LowHalfToOri }
+    ensures short_high_half { loongarch_laws.HighHalfToNop }
+    ensures short_low_half { loongarch_laws.LowHalfToOriZero }
     ensures address { loongarch_laws.AddressToPcaddi }
     ensures near_got { loongarch_laws.GotToPcaddi }
     ensures calls { loongarch_laws.Calls }
     ensures shorter_local_exec { loongarch_laws.ShorterLocalExec }
-    ensures descriptor_to_local_exec { loongarch_laws.DescriptorToLocalExec }
-    ensures descriptor_to_initial_exec { loongarch_laws.DescriptorToInitialExec }
+    ensures descriptor_high_half { loongarch_laws.HighHalfToLu12i R_LARCH_TLS_DESC_PC_HI20 }
+    ensures descriptor_page { loongarch_laws.PageOfDescriptor }
+    ensures descriptor_low_half { loongarch_laws.LowOfDescriptorToOri }
+    ensures descriptor_entry { loongarch_laws.LowOfDescriptorToLoad }
+    ensures descriptor_load { loongarch_laws.LoadOfDescriptorToNop }
+    ensures descriptor_call { loongarch_laws.CallOfDescriptorToNop }
 {
     relocation_laws::loongarch64();
 }
