@@ -3,7 +3,7 @@
 -- Format").
 use Rattle.std.specs.Prelude.{◌≡◌, ℕ, ◌+◌, ◌-◌, ◌/◌, ◌==◌, if◌then◌else◌, true, List, [], ◌∷◌}
 use Rattle.std.specs.Prelude.{slice_index, Option, None, Some, ℤ, pos, bit_and, bit_or, Bool, false}
-use Rattle.std.specs.Prelude.{◌&&◌, ◌||◌, nat_le, IsTrue, ◌++◌, drop, neg_ℤ}
+use Rattle.std.specs.Prelude.{◌&&◌, ◌||◌, nat_le, IsTrue, ◌++◌, drop, neg_ℤ, ⊤}
 use Rattle.std.specs.Int.{bit_at}
 use Rattle.linker_base.specs.Bits.{field}
 use Rattle.linker_base.specs.Rewrite.{Rewrite, replaces, CanRewrite}
@@ -384,6 +384,38 @@ abbrev pub x86_64_matches : RelaxationKind → List ℕ → ℕ → Type 0
 x86_64_matches kind section o =
     CanRewrite (x86_64_rewrite kind) section o
     × IsTrue (is_one_at (x86_64_originals kind) section o)
+
+-- ---- the relocation that is skipped
+
+-- where that of the sequence's call is, from the offset on: the call, or the `movabs` before it, has
+-- its field there
+abbrev pub x86_64_skipped : RelaxationKind → Option ℕ
+x86_64_skipped kinds.TlsGdToLocalExec = Some 8
+x86_64_skipped kinds.TlsGdToLocalExecLarge = Some 6
+x86_64_skipped kinds.TlsLdToLocalExec = Some 5
+x86_64_skipped kinds.TlsLdToLocalExecNoPlt = Some 6
+x86_64_skipped kinds.TlsLdToLocalExec64 = Some 6
+x86_64_skipped kinds.TlsGdToInitialExec = Some 8
+x86_64_skipped kind = None
+
+-- `n` bytes after its first field a sequence has another one, behind the byte of an opcode
+abbrev pub HasFieldAt : ℕ → Original → Type 0
+HasFieldAt n r =
+    (opcode : ℕ) × (rest : List (ℕ × ℕ))
+    × (drop (r.back + n - 1) r.bytes ≡ byte opcode ∷ field4 ++ rest)
+
+abbrev pub HaveFieldAt : ℕ → List Original → Type 0
+HaveFieldAt n [] = ⊤
+HaveFieldAt n (r ∷ rs) = HasFieldAt n r × HaveFieldAt n rs
+
+-- The types that assemblers give the call of `__tls_get_addr`, or the `movabs` of its address.
+abbrev pub x86_64_may_be_skipped : X86_64Relocation → Bool
+x86_64_may_be_skipped r.R_X86_64_PLT32 = true
+x86_64_may_be_skipped r.R_X86_64_PC32 = true
+x86_64_may_be_skipped r.R_X86_64_GOTPCREL = true
+x86_64_may_be_skipped r.R_X86_64_GOTPCRELX = true
+x86_64_may_be_skipped r.R_X86_64_PLTOFF64 = true
+x86_64_may_be_skipped name = false
 
 -- x86-64: the entries by which a rewrite is chosen (x86-64 psABI, "Optimize GOTPCRELX Relocations";
 -- "ELF Handling For Thread-Local Storage", "x86-64").
