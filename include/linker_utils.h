@@ -407,7 +407,9 @@ enum linker_utils_ppc64_rewrite {
     LINKER_UTILS_PPC64_REWRITE_CALL_TO_ADDI4096 = 13,
     /* Turns the `nop` after a call into `ld 2,24(1)`, which restores the TOC pointer. The offset is
      * that of the call, which stays. */
-    LINKER_UTILS_PPC64_REWRITE_NOP_TO_RESTORE_TOC = 14
+    LINKER_UTILS_PPC64_REWRITE_NOP_TO_RESTORE_TOC = 14,
+    /* Leaves `addis rT,2` as it is; only the kind of its relocation changes. */
+    LINKER_UTILS_PPC64_REWRITE_KEEP_ADDIS = 15
 };
 
 /* Where `n` is marked it is the count of the instruction's bytes before the field: 2 without a
@@ -968,36 +970,40 @@ static inline uint32_t linker_utils_choose(uint16_t machine, uint32_t r_type,
  *   (14) is_marked, TLS_LE_LO12_R in -0x800..0x800
  *
  * PowerPC64, with the prefixes R_PPC64_ and LINKER_UTILS_PPC64_REWRITE_:
- *   REL24              NOP_TO_RESTORE_TOC    REL24              (1)
- *   GOT16_HA           NO_OP                 TOC16_HA           (2)
- *   TOC16_LO           BASE_TO_TOC           TOC16              (3)
- *   TOC16_HA           ADDIS_TO_NOP          NONE               (3)
- *   GOT16_LO_DS        LD_TO_ADDI            TOC16_LO           (2)
- *   TOC16_LO_DS        BASE_TO_TOC           TOC16_DS           (3)
- *   TLS                ADD_TO_ADDI           TPREL16_LO         (4)
- *                      INDEXED_TO_D          TPREL16_LO         (4)
- *                      INDEXED_TO_DS         TPREL16_LO_DS      (5)
- *   GOT_TLSGD16_LO     ADDI_TO_ADDIS_THREAD  TPREL16_HA         (4)
- *                      ADDI_TO_LD            GOT_TPREL16_LO_DS  (6)
- *   GOT_TLSGD16_HA     ADDIS_TO_NOP          NONE               (4)
- *                      NO_OP                 GOT_TPREL16_HA     (6)
- *   GOT_TLSLD16_LO     ADDI_TO_ADDIS_THREAD  NONE               (7)
- *   GOT_TLSLD16_HA     ADDIS_TO_NOP          NONE               (7)
- *   GOT_TPREL16_LO_DS  LD_TO_ADDIS_THREAD    TPREL16_HA         (4)
- *   GOT_TPREL16_HA     ADDIS_TO_NOP          NONE               (4)
- *   TLSGD              CALL_TO_ADDI          TPREL16_LO         (4)
- *                      CALL_TO_ADD           NONE               (6)
- *   TLSLD              CALL_TO_ADDI4096      NONE               (7)
- *   GOT_PCREL34        PLD_TO_PADDI          PCREL34            (8)
+ *   REL24                        NOP_TO_RESTORE_TOC    REL24              (1)
+ *   GOT16_HA                     KEEP_ADDIS            TOC16_HA           (2)
+ *   TOC16_LO                     BASE_TO_TOC           TOC16              (3)
+ *   TOC16_HA                     ADDIS_TO_NOP          NONE               (3)
+ *   GOT16_LO_DS                  LD_TO_ADDI            TOC16_LO           (2)
+ *   TOC16_LO_DS                  BASE_TO_TOC           TOC16_DS           (3)
+ *   TLS                          ADD_TO_ADDI           TPREL16_LO         (4)
+ *                                INDEXED_TO_D          TPREL16_LO         (4)
+ *                                INDEXED_TO_DS         TPREL16_LO_DS      (5)
+ *   GOT_TLSGD16                  ADDI_TO_ADDIS_THREAD  TPREL16_HA         (4)
+ *                                ADDI_TO_LD            GOT_TPREL16_DS     (6)
+ *   GOT_TLSGD16_LO               ADDI_TO_ADDIS_THREAD  TPREL16_HA         (4)
+ *                                ADDI_TO_LD            GOT_TPREL16_LO_DS  (7)
+ *   GOT_TLSGD16_HA               ADDIS_TO_NOP          NONE               (4)
+ *                                KEEP_ADDIS            GOT_TPREL16_HA     (7)
+ *   GOT_TLSLD16, GOT_TLSLD16_LO  ADDI_TO_ADDIS_THREAD  NONE               (8)
+ *   GOT_TLSLD16_HA               ADDIS_TO_NOP          NONE               (8)
+ *   GOT_TPREL16_DS, GOT_TPREL16_LO_DS
+ *                                LD_TO_ADDIS_THREAD    TPREL16_HA         (4)
+ *   GOT_TPREL16_HA               ADDIS_TO_NOP          NONE               (4)
+ *   TLSGD                        CALL_TO_ADDI          TPREL16_LO         (4)
+ *                                CALL_TO_ADD           NONE               (7)
+ *   TLSLD                        CALL_TO_ADDI4096      NONE               (8)
+ *   GOT_PCREL34                  PLD_TO_PADDI          PCREL34            (9)
  *   (1) may_change_toc
  *   (2) is_local, not is_ifunc, has_fixed_distance, TOC16_HA in reach if known
  *   (3) has_private_base, TOC16 in reach
- *   (4) is_local, not is_ifunc, is_executable, TPREL16_HA in reach if known
- *   (5) is_local, not is_ifunc, is_executable, TPREL16_HA in reach if known, TPREL16_LO_DS in reach
- *       if known
- *   (6) is_executable, GOT_TPREL16_HA in reach if known
- *   (7) is_executable
- *   (8) is_local, not is_ifunc, has_fixed_distance, PCREL34 in reach if known
+ *   (4) is_local, not is_ifunc, is_executable, group_fits, TPREL16_HA in reach if known
+ *   (5) is_local, not is_ifunc, is_executable, group_fits, TPREL16_HA in reach if known,
+ *       TPREL16_LO_DS in reach if known
+ *   (6) is_executable, group_fits, GOT_TPREL16_DS in reach if known
+ *   (7) is_executable, group_fits, GOT_TPREL16_HA in reach if known
+ *   (8) is_executable, group_fits
+ *   (9) is_local, not is_ifunc, has_fixed_distance, PCREL34 in reach if known
  *
  * x86-64, with the prefixes R_X86_64_ and LINKER_UTILS_X86_64_REWRITE_:
  *   DTPOFF64      NO_OP                          TPOFF64   (1)
