@@ -2,7 +2,7 @@
 -- and "TOC Optimizations"; Power ISA, "Instruction Formats"). Bits are numbered from the lowest, 0.
 use Rattle.std.specs.Prelude.{ℕ, ◌+◌, ◌*◌, ◌^◌, ◌==◌, if◌then◌else◌, List, [], ◌∷◌, drop, Option}
 use Rattle.std.specs.Prelude.{None, Some, true, Bool, ◌&&◌, ◌||◌, not, nat_lt, IsTrue, ⊤, ◌%◌, ◌≡◌}
-use Rattle.std.specs.Prelude.{◌⊎◌, ◌++◌}
+use Rattle.std.specs.Prelude.{◌⊎◌, ◌++◌, false}
 use Rattle.std.specs.Int.{w32, w64, from_le_bytes, to_le_bytes}
 use Rattle.linker_base.specs.Bits.{field}
 use Rattle.linker_base.specs.Rewrite.{Rewrite, replaces}
@@ -432,3 +432,18 @@ LocalDynamicIsChosenAlike =
     × AreChosenAlike r.R_PPC64_GOT_TLSLD16 r.R_PPC64_TLSLD
     ((choice kinds.AddiToAddisThread r.R_PPC64_NONE,
     choice kinds.CallToAddi4096 r.R_PPC64_NONE) ∷ [])
+
+-- ---- the relocation that is skipped
+
+-- where that of the call itself is, from the offset of R_PPC64_TLSGD or R_PPC64_TLSLD on
+abbrev pub ppc64_skipped : RelaxationKind → Option ℕ
+ppc64_skipped kinds.CallToAddi = Some 0
+ppc64_skipped kinds.CallToAdd = Some 0
+ppc64_skipped kinds.CallToAddi4096 = Some 0
+ppc64_skipped kind = None
+
+-- The types of a `bl`.
+abbrev pub ppc64_may_be_skipped : Ppc64Relocation → Bool
+ppc64_may_be_skipped r.R_PPC64_REL24 = true
+ppc64_may_be_skipped r.R_PPC64_REL24_NOTOC = true
+ppc64_may_be_skipped name = false

@@ -2,7 +2,7 @@
 
 ghost use Rattle.std.proofs.Common.{ap};
 ghost use Rattle.std.specs.Prelude.{slice_get, ◌≡◌, ◌≤◌, ◌↔◌, ◌+◌, ◌*◌, ◌^◌, ◌++◌, IsTrue, Some};
-ghost use Rattle.std.specs.Prelude.{length, take, drop};
+ghost use Rattle.std.specs.Prelude.{length, take, drop, IfSome, IfNone};
 ghost use Rattle.std.specs.Int.{from_le_bytes, to_le_bytes, w32};
 ghost use Rattle.linker_base.specs.Bits.{field};
 ghost use Rattle.linker_base.specs.Rewrite.{CanRewrite, rewritten, offset_after, addend_after};
@@ -19,12 +19,16 @@ ghost use Rattle.linker_ppc64.specs.Ppc64Rewrites.{addis_of_thread, li_of, over_
 ghost use Rattle.linker_ppc64.specs.Ppc64Rewrites.{by_displacement};
 ghost use Rattle.linker_ppc64.specs.Ppc64Rewrites.{by_word_displacement, ppc64_rewrite};
 ghost use Rattle.linker_ppc64.specs.Ppc64Rewrites.{ppc64_rewrites, ppc64_modifier, two_words};
+ghost use Rattle.linker_ppc64.specs.Ppc64Rewrites.{ppc64_skipped, ppc64_may_be_skipped};
 ghost use Rattle.linker_ppc64.specs.declared.rewrites.RelaxationKind.TheVariants.{NoOp};
+ghost use Rattle.linker_base.specs.declared.relaxation.RelocationModifier.TheVariants.{Normal};
+ghost use Rattle.linker_base.specs.declared.relaxation.RelocationModifier.TheVariants.{SkipNextRelocation};
 
 use linker_base::relaxation::RelocationModifier;
 use linker_base::rewrite::{RewriteWindow, has_window, overwrite, window_is_in};
 use linker_base::utils::u32_from_slice;
 use linker_elf::elf::InstructionRewrite;
+use linker_elf::ppc64::Ppc64Relocation;
 
 /// A rewrite of an instruction, or of a call and the `nop` after it (64-bit ELF V2 ABI for Power,
 /// "TOC Optimizations" and "TLS Linkage Optimizations"). The window is the instruction's 4 bytes,
@@ -530,6 +534,44 @@ impl RelaxationKind {
             _ => RelocationModifier::Normal,
         }
     }
+
+    /// Where the relocation is that `next_modifier` skips, in bytes from the offset of the rewrite's
+    /// own relocation on: that of the call itself, at the same offset. `None` where none is skipped.
+    ///
+    /// The rewrite needs a relocation there whose type `may_be_skipped` and whose symbol is
+    /// `__tls_get_addr`.
+    ///
+    /// ```
+    /// use linker_utils::ppc64::RelaxationKind;
+    ///
+    /// assert_eq!(RelaxationKind::CallToAddi.skipped_offset(), Some(0));
+    /// assert_eq!(RelaxationKind::NopToRestoreToc.skipped_offset(), None);
+    /// ```
+    #[inline]
+    pub fn skipped_offset(self) -> Option<u64>
+        ensures exactly { result ≡ ppc64_skipped self }
+        ensures skipped { IfSome result (λ _. ppc64_modifier self ≡ SkipNextRelocation) }
+        ensures kept { IfNone result (ppc64_modifier self ≡ Normal) }
+    {
+        match self {
+            RelaxationKind::CallToAddi
+            | RelaxationKind::CallToAdd
+            | RelaxationKind::CallToAddi4096 => Some(0),
+            _ => None,
+        }
+    }
+}
+
+/// Whether a relocation has a type that a `bl` to `__tls_get_addr` has: only such a one may be
+/// skipped after a rewrite, where `skipped_offset` says.
+#[inline]
+pub fn may_be_skipped(name: Ppc64Relocation) -> bool
+    ensures { result ≡ ppc64_may_be_skipped name }
+{
+    matches!(
+        name,
+        Ppc64Relocation::R_PPC64_REL24 | Ppc64Relocation::R_PPC64_REL24_NOTOC
+    )
 }
 
 impl InstructionRewrite for RelaxationKind {
