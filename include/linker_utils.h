@@ -468,8 +468,9 @@ enum linker_utils_x86_64_rewrite {
 };
 
 /* What happens to the next relocation: the entry after the rewritten instruction's own in the order
- * of the section's relocations. For RISC-V that is the R_RISCV_RELAX of the same offset, for x86-64
- * the call of `__tls_get_addr` that belongs to the sequence. */
+ * of the section's relocations. For RISC-V that is the R_RISCV_RELAX of the same offset, for
+ * PowerPC64 and x86-64 the call of `__tls_get_addr` that belongs to the sequence. `skipped_offset` of
+ * `struct linker_utils_choice` says where it has to be: skip the relocation there, and no other. */
 enum linker_utils_modifier {
     LINKER_UTILS_MODIFIER_NORMAL = 0,
     LINKER_UTILS_MODIFIER_SKIP_NEXT_RELOCATION = 1
@@ -668,6 +669,12 @@ bool linker_utils_asks_for_got(uint16_t machine, uint32_t r_type);
  * False for R_X86_64_PC32, which loads have too, and where the machine or the type is unknown. */
 bool linker_utils_may_use_plt(uint16_t machine, uint32_t r_type);
 
+/* Whether the relocation has a type that one skipped after a rewrite has: of a call of
+ * `__tls_get_addr` in a sequence, R_PPC64_REL24 and R_PPC64_REL24_NOTOC, R_X86_64_PLT32,
+ * R_X86_64_PC32, R_X86_64_GOTPCREL, R_X86_64_GOTPCRELX and R_X86_64_PLTOFF64, or R_RISCV_RELAX. False
+ * of all others, and where the machine is unknown. */
+bool linker_utils_may_be_skipped(uint16_t machine, uint32_t r_type);
+
 /* What R_RISCV_HI20 means at a `c.lui`, which LINKER_UTILS_RISCV_REWRITE_HI20_TO_C_LUI leaves. */
 void linker_utils_clui_rel_info(struct linker_utils_relocation_info *info);
 
@@ -810,6 +817,10 @@ struct linker_utils_choice {
     uint32_t other_relocation;
     uint8_t has_other; /* 1 where there is another; else 0. */
     uint8_t n; /* The rewrite's `n`. */
+    /* Where `modifier` says that a relocation is skipped: how many bytes on from the offset it is. On
+     * x86-64 the field of the call is there, or that of the `movabs` of its address; on PowerPC64 and
+     * RISC-V it is at the same offset. Else 0. */
+    uint8_t skipped_offset;
 };
 
 /* The rewrite that a linker may make of the instruction at a relocation by these facts, and the

@@ -51,6 +51,8 @@ pub struct ChoiceNumbers {
     pub has_other: u8,
     /// The rewrite's count of bytes before the field; 0 if it has none.
     pub n: u8,
+    /// Where the relocation is that is skipped, from the offset on; 0 where none is.
+    pub skipped_offset: u8,
 }
 
 impl LinkFactNumbers {
@@ -88,6 +90,10 @@ pub(crate) fn in_numbers(chosen: Choice<Relaxation, u32>) -> ChoiceNumbers {
         Some(other) => (1, other.offset, other.relocation),
         None => (0, 0, 0),
     };
+    let skipped_offset = match chosen.kind.skipped_offset() {
+        Some(offset) => offset as u8,
+        None => 0,
+    };
     ChoiceNumbers {
         rewrite,
         relocation: chosen.relocation,
@@ -98,6 +104,7 @@ pub(crate) fn in_numbers(chosen: Choice<Relaxation, u32>) -> ChoiceNumbers {
         other_relocation,
         has_other,
         n,
+        skipped_offset,
     }
 }
 
@@ -117,6 +124,21 @@ pub fn linker_utils_choose_nonnull(
     let chosen = architecture.choose(r_type, section, offset, &facts.facts());
     *choice = in_numbers(chosen);
     Status::Success.number()
+}
+
+/// Whether the relocation with `r_type` can be rewritten if each other one of its sequence can: with
+/// these facts and `group_fits`. False of a machine that isn't known.
+pub fn linker_utils_fits_nonnull(
+    machine: u16,
+    r_type: u32,
+    section: &[u8],
+    offset: u64,
+    facts: &LinkFactNumbers,
+) -> bool {
+    let Some(architecture) = Architecture::from_machine(machine) else {
+        return false;
+    };
+    architecture.fits(r_type, section, offset, &facts.facts())
 }
 
 /// Whether a choice at the relocation with `r_type` leaves it and its instruction as they are.

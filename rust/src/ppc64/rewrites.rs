@@ -5,6 +5,7 @@ use crate::linker_base::relaxation::RelocationModifier;
 use crate::linker_base::rewrite::{RewriteWindow, has_window, overwrite, window_is_in};
 use crate::linker_base::utils::u32_from_slice;
 use crate::linker_elf::elf::InstructionRewrite;
+use crate::linker_elf::ppc64::Ppc64Relocation;
 
 /// A rewrite of an instruction, or of a call and the `nop` after it (64-bit ELF V2 ABI for Power,
 /// "TOC Optimizations" and "TLS Linkage Optimizations"). The window is the instruction's 4 bytes,
@@ -433,6 +434,40 @@ impl RelaxationKind {
             _ => RelocationModifier::Normal,
         }
     }
+
+    /// Where the relocation is that `next_modifier` skips, in bytes from the offset of the rewrite's
+    /// own relocation on: that of the call itself, at the same offset. `None` where none is skipped.
+    ///
+    /// The rewrite needs a relocation there whose type `may_be_skipped` and whose symbol is
+    /// `__tls_get_addr`.
+    ///
+    /// ```
+    /// use linker_utils::ppc64::RelaxationKind;
+    ///
+    /// assert_eq!(RelaxationKind::CallToAddi.skipped_offset(), Some(0));
+    /// assert_eq!(RelaxationKind::NopToRestoreToc.skipped_offset(), None);
+    /// ```
+    #[must_use]
+    #[inline]
+    pub fn skipped_offset(self) -> Option<u64> {
+        match self {
+            RelaxationKind::CallToAddi
+            | RelaxationKind::CallToAdd
+            | RelaxationKind::CallToAddi4096 => Some(0),
+            _ => None,
+        }
+    }
+}
+
+/// Whether a relocation has a type that a `bl` to `__tls_get_addr` has: only such a one may be
+/// skipped after a rewrite, where `skipped_offset` says.
+#[must_use]
+#[inline]
+pub fn may_be_skipped(name: Ppc64Relocation) -> bool {
+    matches!(
+        name,
+        Ppc64Relocation::R_PPC64_REL24 | Ppc64Relocation::R_PPC64_REL24_NOTOC
+    )
 }
 
 impl InstructionRewrite for RelaxationKind {
