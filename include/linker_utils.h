@@ -1026,52 +1026,53 @@ static inline uint32_t linker_utils_choose(uint16_t machine, uint32_t r_type,
  *                 TLS_LD_TO_LOCAL_EXEC64         NONE      (4)
  *   DTPOFF32      NO_OP                          TPOFF32   (5)
  *   GOTTPOFF (n = 3), CODE_4_GOTTPOFF (n = 4), CODE_5_GOTTPOFF (n = 5), CODE_6_GOTTPOFF (n = 6)
- *                 REX_ADD_INDIRECT_TO_ABSOLUTE   TPOFF32   (2)
- *                 REX_MOV_INDIRECT_TO_ABSOLUTE   TPOFF32   (2)
+ *                 REX_ADD_INDIRECT_TO_ABSOLUTE   TPOFF32   (6)
+ *                 REX_MOV_INDIRECT_TO_ABSOLUTE   TPOFF32   (6)
  *   GOTPC32_TLSDESC (n = 3), CODE_4_GOTPC32_TLSDESC (n = 4), CODE_5_GOTPC32_TLSDESC (n = 5),
  *     CODE_6_GOTPC32_TLSDESC (n = 6)
  *                 TLS_DESC_TO_LOCAL_EXEC         TPOFF32   (2)
  *                 TLS_DESC_TO_INITIAL_EXEC       GOTTPOFF  (3)
  *   TLSDESC_CALL  SKIP_TLS_DESC_CALL             NONE      (4)
- *   GOTPCRELX     REX_ADD_INDIRECT_TO_ABSOLUTE   32        (6)
- *                 REX_OR_INDIRECT_TO_ABSOLUTE    32        (6)
- *                 REX_ADC_INDIRECT_TO_ABSOLUTE   32        (6)
- *                 REX_SBB_INDIRECT_TO_ABSOLUTE   32        (6)
- *                 REX_AND_INDIRECT_TO_ABSOLUTE   32        (6)
- *                 REX_SUB_INDIRECT_TO_ABSOLUTE   32        (6)
- *                 REX_XOR_INDIRECT_TO_ABSOLUTE   32        (6)
- *                 REX_CMP_INDIRECT_TO_ABSOLUTE   32        (6)
- *                 REX_TEST_INDIRECT_TO_ABSOLUTE  32        (6)
- *                 MOV_INDIRECT_TO_ABSOLUTE       32        (7)
- *                 MOV_INDIRECT_TO_LEA            PC32      (8)
- *                 CALL_INDIRECT_TO_RELATIVE      PC32      (8)
- *                 JMP_INDIRECT_TO_RELATIVE       PC32      (8)
+ *   GOTPCRELX     REX_ADD_INDIRECT_TO_ABSOLUTE   32        (7)
+ *                 REX_OR_INDIRECT_TO_ABSOLUTE    32        (7)
+ *                 REX_ADC_INDIRECT_TO_ABSOLUTE   32        (7)
+ *                 REX_SBB_INDIRECT_TO_ABSOLUTE   32        (7)
+ *                 REX_AND_INDIRECT_TO_ABSOLUTE   32        (7)
+ *                 REX_SUB_INDIRECT_TO_ABSOLUTE   32        (7)
+ *                 REX_XOR_INDIRECT_TO_ABSOLUTE   32        (7)
+ *                 REX_CMP_INDIRECT_TO_ABSOLUTE   32        (7)
+ *                 REX_TEST_INDIRECT_TO_ABSOLUTE  32        (7)
+ *                 MOV_INDIRECT_TO_ABSOLUTE       32        (8)
+ *                 MOV_INDIRECT_TO_LEA            PC32      (9)
+ *                 CALL_INDIRECT_TO_RELATIVE      PC32      (9)
+ *                 JMP_INDIRECT_TO_RELATIVE       PC32      (9)
  *   REX_GOTPCRELX (n = 3), CODE_4_GOTPCRELX (n = 4), CODE_5_GOTPCRELX (n = 5), CODE_6_GOTPCRELX
  *     (n = 6)
- *                 REX_ADD_INDIRECT_TO_ABSOLUTE   32S       (9)
- *                 REX_OR_INDIRECT_TO_ABSOLUTE    32S       (9)
- *                 REX_ADC_INDIRECT_TO_ABSOLUTE   32S       (9)
- *                 REX_SBB_INDIRECT_TO_ABSOLUTE   32S       (9)
- *                 REX_AND_INDIRECT_TO_ABSOLUTE   32S       (9)
- *                 REX_SUB_INDIRECT_TO_ABSOLUTE   32S       (9)
- *                 REX_XOR_INDIRECT_TO_ABSOLUTE   32S       (9)
- *                 REX_CMP_INDIRECT_TO_ABSOLUTE   32S       (9)
- *                 REX_TEST_INDIRECT_TO_ABSOLUTE  32S       (9)
- *                 REX_MOV_INDIRECT_TO_ABSOLUTE   32S       (10)
- *                 MOV_INDIRECT_TO_LEA            PC32      (8)
+ *                 REX_ADD_INDIRECT_TO_ABSOLUTE   32S       (10)
+ *                 REX_OR_INDIRECT_TO_ABSOLUTE    32S       (10)
+ *                 REX_ADC_INDIRECT_TO_ABSOLUTE   32S       (10)
+ *                 REX_SBB_INDIRECT_TO_ABSOLUTE   32S       (10)
+ *                 REX_AND_INDIRECT_TO_ABSOLUTE   32S       (10)
+ *                 REX_SUB_INDIRECT_TO_ABSOLUTE   32S       (10)
+ *                 REX_XOR_INDIRECT_TO_ABSOLUTE   32S       (10)
+ *                 REX_CMP_INDIRECT_TO_ABSOLUTE   32S       (10)
+ *                 REX_TEST_INDIRECT_TO_ABSOLUTE  32S       (10)
+ *                 REX_MOV_INDIRECT_TO_ABSOLUTE   32S       (11)
+ *                 MOV_INDIRECT_TO_LEA            PC32      (9)
  *   (1) is_executable, has_local_exec_base, TPOFF64 in reach if known
- *   (2) is_local, not is_ifunc, is_executable, addend -4, TPOFF32 in reach if known
- *   (3) is_executable, addend -4, GOTTPOFF in reach if known
- *   (4) is_executable
+ *   (2) is_local, not is_ifunc, is_executable, group_fits, addend -4, TPOFF32 in reach if known
+ *   (3) is_executable, group_fits, addend -4, GOTTPOFF in reach if known
+ *   (4) is_executable, group_fits
  *   (5) is_executable, has_local_exec_base, TPOFF32 in reach if known
- *   (6) has_fixed_address, addend -4, 32 in reach if known, and either is_local and not is_ifunc,
+ *   (6) is_local, not is_ifunc, is_executable, addend -4, TPOFF32 in reach if known
+ *   (7) has_fixed_address, addend -4, 32 in reach if known, and either is_local and not is_ifunc,
  *       or is_undefined_weak
- *   (7) has_fixed_address, addend -4, 32 in reach, and either is_local and not is_ifunc, or
+ *   (8) has_fixed_address, addend -4, 32 in reach, and either is_local and not is_ifunc, or
  *       is_undefined_weak
- *   (8) is_local, not is_ifunc, has_fixed_distance, addend -4, PC32 in reach if known
- *   (9) has_fixed_address, addend -4, 32S in reach if known, and either is_local and not is_ifunc,
+ *   (9) is_local, not is_ifunc, has_fixed_distance, addend -4, PC32 in reach if known
+ *   (10) has_fixed_address, addend -4, 32S in reach if known, and either is_local and not is_ifunc,
  *       or is_undefined_weak
- *   (10) has_fixed_address, addend -4, 32S in reach, and either is_local and not is_ifunc, or
+ *   (11) has_fixed_address, addend -4, 32S in reach, and either is_local and not is_ifunc, or
  *       is_undefined_weak
  *
  * End of the tables of choices. */

@@ -14,7 +14,7 @@ use Rattle.linker_x86_64.specs.declared.rewrites.RelaxationKind.{RelaxationKind}
 use Rattle.linker_elf.specs.Choices.{Condition, Entry, entry, choice, operands_after, Applies}
 use Rattle.linker_elf.specs.Choices.{IsFirst, bound, weak_zero, fixed_address, fixed_distance}
 use Rattle.linker_elf.specs.Choices.{executable, local_exec_base, addend, in_reach}
-use Rattle.linker_elf.specs.Choices.{in_reach_if_known}
+use Rattle.linker_elf.specs.Choices.{in_reach_if_known, group_fits}
 use Rattle.linker_elf.specs.X86Relocations.{x86_64_row}
 use Rattle.linker_x86_64.specs.X86RelocationsAfter.{immediate_of}
 use Rattle.linker_elf.specs.declared.elf.choice.Choice.{Choice}
@@ -450,14 +450,23 @@ local_exec_by kind =
     entry kind r.R_X86_64_TPOFF32
     (bound ∷ executable ∷ from_end_of_field ∷ in_reach_if_known r.R_X86_64_TPOFF32 0 ∷ [])
 
-abbrev pub initial_exec_by : RelaxationKind → X86Entry
-initial_exec_by kind =
+-- The entries of a sequence also ask that all of it can be rewritten. Of general-dynamic and
+-- local-dynamic TLS: where the rewrite skips a relocation there is that of a call of
+-- `__tls_get_addr`. Of descriptors: each relocation of the symbol's descriptors in the object fits.
+abbrev pub sequence_to_local_exec_by : RelaxationKind → X86Entry
+sequence_to_local_exec_by kind =
+    entry kind r.R_X86_64_TPOFF32
+    (bound ∷ executable ∷ group_fits ∷ from_end_of_field ∷ in_reach_if_known r.R_X86_64_TPOFF32 0
+    ∷ [])
+
+abbrev pub sequence_to_initial_exec_by : RelaxationKind → X86Entry
+sequence_to_initial_exec_by kind =
     entry kind r.R_X86_64_GOTTPOFF
-    (executable ∷ from_end_of_field ∷ in_reach_if_known r.R_X86_64_GOTTPOFF 0 ∷ [])
+    (executable ∷ group_fits ∷ from_end_of_field ∷ in_reach_if_known r.R_X86_64_GOTTPOFF 0 ∷ [])
 
 -- nothing is relocated any more
 abbrev pub unrelocated_by : RelaxationKind → X86Entry
-unrelocated_by kind = entry kind r.R_X86_64_NONE (executable ∷ [])
+unrelocated_by kind = entry kind r.R_X86_64_NONE (executable ∷ group_fits ∷ [])
 
 -- an offset in the module's TLS block becomes one from the thread pointer
 abbrev pub from_thread_pointer : X86_64Relocation → X86Entry
@@ -523,8 +532,9 @@ initial_exec_table n opcode =
 abbrev pub general_dynamic_table : Table
 general_dynamic_table =
     any_entry
-    (local_exec_by kinds.TlsGdToLocalExec ∷ local_exec_by kinds.TlsGdToLocalExecLarge
-    ∷ initial_exec_by kinds.TlsGdToInitialExec ∷ [])
+    (sequence_to_local_exec_by kinds.TlsGdToLocalExec
+    ∷ sequence_to_local_exec_by kinds.TlsGdToLocalExecLarge
+    ∷ sequence_to_initial_exec_by kinds.TlsGdToInitialExec ∷ [])
 
 abbrev pub local_dynamic_table : Table
 local_dynamic_table =
@@ -535,7 +545,8 @@ local_dynamic_table =
 abbrev pub descriptor_table : ℕ → Table
 descriptor_table n =
     table (lea_of_descriptor n)
-    (local_exec_by (kinds.TlsDescToLocalExec n) ∷ initial_exec_by kinds.TlsDescToInitialExec ∷ [])
+    (sequence_to_local_exec_by (kinds.TlsDescToLocalExec n)
+    ∷ sequence_to_initial_exec_by kinds.TlsDescToInitialExec ∷ [])
 
 -- by the relocation's name, and the opcode, which is two bytes before the field
 abbrev pub x86_64_table : X86_64Relocation → ℕ → Table
