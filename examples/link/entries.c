@@ -203,12 +203,14 @@ static struct linker_utils_link_facts early_facts(const struct relocation *r) {
         .may_change_toc = is_ifunc(r->symbol) || toc_of(r->symbol) == 1};
 }
 
-/* PowerPC64: the sequence of thread-local storage that a relocation is part of, by what the entry of
- * the GOT has that it loads or hands to `__tls_get_addr`; else ADDRESS. */
+/* PowerPC64 and x86-64: the sequence of thread-local storage that a relocation is part of, by what the
+ * entry of the GOT has that it loads or hands to `__tls_get_addr`; else ADDRESS. */
 static enum class sequence_of(const struct relocation *r) {
-    if (r->type == R_PPC64_TLS) return THREAD_OFFSET;
-    if (r->type == R_PPC64_TLSGD) return MODULE_OFFSET;
-    return r->type == R_PPC64_TLSLD ? MODULE : class_of(r, row_of(r)->info.kind);
+    uint32_t kind = row_of(r)->info.kind;
+    if (machine == EM_X86_64 && kind >= LINKER_UTILS_KIND_TLS_DESC) return DESCRIPTOR;
+    if (machine == EM_PPC64 && r->type == R_PPC64_TLS) return THREAD_OFFSET;
+    if (machine == EM_PPC64 && r->type == R_PPC64_TLSGD) return MODULE_OFFSET;
+    return machine == EM_PPC64 && r->type == R_PPC64_TLSLD ? MODULE : class_of(r, kind);
 }
 
 /* Whether the sequences of a class and a symbol stay. Those of the module are all one, and those of
@@ -226,8 +228,37 @@ static bool is_unmarked(const struct relocation *r, const Elf64_Rela *elf, size_
             elf[i - 1].r_offset != elf[i].r_offset);
 }
 
-/* PowerPC64: notes which sequences of thread-local storage stay, since one of their instructions can't
- * be rewritten. They are told by their symbols, as their instructions may be anywhere. */
+/* The relocation that a rewrite at another one skips: of a call of `__tls_get_addr`, where the rewrite
+ * says that it is. Null if there is none. */
+static const Elf64_Rela *skipped_by(const struct linker_utils_choice *choice, struct section *s,
+                                    const Elf64_Rela *r, const Elf64_Rela *end) {
+    uint64_t at = r->r_offset + choice->skipped_offset;
+    for (r++; r < end && r->r_offset <= at; r++) {
+        struct relocation call = relocation_of(s, r);
+        if (r->r_offset == at && linker_utils_may_be_skipped(machine, call.type) &&
+            !strcmp(call.symbol->name, "__tls_get_addr"))
+            return r;
+    }
+    return NULL;
+}
+
+/* Whether a relocation can be rewritten, if all of its sequence can. */
+static bool fits(struct section *s, const Elf64_Rela *elf, const Elf64_Rela *end,
+                 const uint8_t *bytes) {
+    struct relocation r = relocation_of(s, elf);
+    struct linker_utils_link_facts facts = early_facts(&r);
+    struct linker_utils_choice choice;
+    facts.group_fits = 1;
+    check(&r, linker_utils_choose(machine, r.type, bytes, s->head->sh_size, elf->r_offset, &facts,
+                                  &choice));
+    return !linker_utils_is_unchanged(machine, r.type, &choice) &&
+           (choice.modifier == LINKER_UTILS_MODIFIER_NORMAL ||
+            skipped_by(&choice, s, elf, end));
+}
+
+/* PowerPC64 and x86-64: notes which sequences of thread-local storage stay, since one of their
+ * instructions can't be rewritten. They are told by their symbols, as their instructions may be
+ * anywhere. */
 void note_sequences(struct object *o) {
     o->stays = take(o->symbols_len + 1, sizeof *o->stays);
     for (struct section *s = o->sections; s < o->sections + o->sections_len; s++) {
@@ -237,11 +268,9 @@ void note_sequences(struct object *o) {
         if (s->output && s->relocations) elf = copy_table(o, s->relocations, sizeof *elf, &len);
         for (size_t i = 0; i < len; i++) {
             struct relocation r = relocation_of(s, &elf[i]);
-            struct linker_utils_link_facts facts = early_facts(&r);
             enum class class = sequence_of(&r);
-            if (is_unmarked(&r, elf, i)) *stays(o, ADDRESS, 0) = true;
-            if (class && !linker_utils_relocation_fits(machine, r.type, bytes, s->head->sh_size,
-                                                       elf[i].r_offset, &facts))
+            if (machine == EM_PPC64 && is_unmarked(&r, elf, i)) *stays(o, ADDRESS, 0) = true;
+            if (class && !fits(s, elf + i, elf + len, bytes))
                 *stays(o, class, ELF64_R_SYM(elf[i].r_info)) = true;
         }
     }
@@ -256,20 +285,24 @@ void read_relocations(struct section *s) {
     Elf64_Rela *elf = copy_table(o, s->relocations, sizeof *elf, &len);
     struct relocation *first = add_relocations(s->output, len), *r = first;
     struct linker_utils_choice *choices = take(len + 1, sizeof *choices);
+    bool *is_skipped = take(len + 1, sizeof *is_skipped);
     bool is_code = s->head->sh_flags & SHF_EXECINSTR && machine != EM_RISCV;
     for (size_t i = 0; i < len; i++, r++) { /* (all are chosen before one is rewritten) */
         *r = relocation_of(s, &elf[i]);
-        if (i && choices[i - 1].modifier == LINKER_UTILS_MODIFIER_SKIP_NEXT_RELOCATION) r->type = 0;
+        if (is_skipped[i]) r->type = 0;
         choices[i] = (struct linker_utils_choice){.rewrite = UINT32_MAX, .relocation = r->type};
         if (!is_code || !r->type || waits(row_of(r), elf + i, i + 1 < len ? elf + i + 1 : NULL))
             continue;
         if (machine == EM_PPC64) note_low_half(r, bytes, size);
         struct linker_utils_link_facts facts = early_facts(r);
-        if (machine == EM_PPC64)
+        if (o->stays)
             facts.group_fits = !*stays(o, ADDRESS, 0) &&
                                !*stays(o, sequence_of(r), ELF64_R_SYM(elf[i].r_info));
         check(r, linker_utils_choose(machine, r->type, bytes, size, elf[i].r_offset, &facts,
                                      &choices[i]));
+        if (choices[i].modifier == LINKER_UTILS_MODIFIER_NORMAL) continue;
+        const Elf64_Rela *call = skipped_by(&choices[i], s, elf + i, elf + len);
+        if (call) is_skipped[call - elf] = true;
     }
     for (size_t i = 0; i < len; i++) first[i].type = choices[i].relocation;
     for (size_t i = 0; i < len; i++) change_other(&first[i], &choices[i]);

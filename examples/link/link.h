@@ -79,7 +79,7 @@ struct object {
     size_t len, sections_len, symbols_len, resolved_len;
     uint32_t flags; /* `e_flags` */
     bool has_other_low_halves; /* PowerPC64: not all can be over the TOC pointer */
-    bool (*stays)[4]; /* PowerPC64: by symbol and class, what of thread-local storage stays */
+    bool (*stays)[5]; /* by symbol and class, what of thread-local storage stays; or null */
 };
 
 struct section {
@@ -115,7 +115,7 @@ struct symbol {
 };
 
 /* What an entry of the GOT has. */
-enum class { ADDRESS, THREAD_OFFSET, MODULE_OFFSET, MODULE };
+enum class { ADDRESS, THREAD_OFFSET, MODULE_OFFSET, MODULE, DESCRIPTOR };
 
 struct entry {
     struct entry *next;
