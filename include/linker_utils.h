@@ -469,8 +469,8 @@ enum linker_utils_x86_64_rewrite {
 
 /* What happens to the next relocation: the entry after the rewritten instruction's own in the order
  * of the section's relocations. For RISC-V that is the R_RISCV_RELAX of the same offset, for
- * PowerPC64 and x86-64 the call of `__tls_get_addr` that belongs to the sequence. `skipped_offset` of
- * `struct linker_utils_choice` says where it has to be: skip the relocation there, and no other. */
+ * PowerPC64 and x86-64 the call of `__tls_get_addr` that belongs to the sequence. `skipped_offset`
+ * of `struct linker_utils_choice` says where that has to be: skip the one there, and no other. */
 enum linker_utils_modifier {
     LINKER_UTILS_MODIFIER_NORMAL = 0,
     LINKER_UTILS_MODIFIER_SKIP_NEXT_RELOCATION = 1
@@ -671,8 +671,8 @@ bool linker_utils_may_use_plt(uint16_t machine, uint32_t r_type);
 
 /* Whether the relocation has a type that one skipped after a rewrite has: of a call of
  * `__tls_get_addr` in a sequence, R_PPC64_REL24 and R_PPC64_REL24_NOTOC, R_X86_64_PLT32,
- * R_X86_64_PC32, R_X86_64_GOTPCREL, R_X86_64_GOTPCRELX and R_X86_64_PLTOFF64, or R_RISCV_RELAX. False
- * of all others, and where the machine is unknown. */
+ * R_X86_64_PC32, R_X86_64_GOTPCREL, R_X86_64_GOTPCRELX and R_X86_64_PLTOFF64, or R_RISCV_RELAX.
+ * False of all others, and where the machine is unknown. */
 bool linker_utils_may_be_skipped(uint16_t machine, uint32_t r_type);
 
 /* What R_RISCV_HI20 means at a `c.lui`, which LINKER_UTILS_RISCV_REWRITE_HI20_TO_C_LUI leaves. */
@@ -792,7 +792,13 @@ struct linker_utils_link_facts {
      * distance is not chosen; another is, and its value may turn out to be out of reach. */
     uint8_t has_addresses;
     /* Each relocation of the sequence that this one is part of can be rewritten. Where the
-     * instructions of a sequence may be apart, none of them is rewritten without it. */
+     * instructions of a sequence may be apart, none of them is rewritten without it.
+     * At R_X86_64_TLSGD and R_X86_64_TLSLD it says that the sequence's call has a relocation:
+     * choose with it, and where `modifier` of the choice skips one, look at the offset plus
+     * `skipped_offset` for a relocation whose type `linker_utils_may_be_skipped` and whose symbol
+     * is `__tls_get_addr`; where there is none, choose without it. At R_X86_64_GOTPC32_TLSDESC, its
+     * CODE_4, CODE_5 and CODE_6, and R_X86_64_TLSDESC_CALL it says that each relocation of these
+     * types in the object that is of the same symbol fits (`linker_utils_relocation_fits`). */
     uint8_t group_fits;
     /* Those of the relocation before the rewrite. The addend is always read. `got_entry` is that of
      * the relocation after it: of a rewrite to initial-exec TLS that of the offset from the thread
@@ -817,9 +823,9 @@ struct linker_utils_choice {
     uint32_t other_relocation;
     uint8_t has_other; /* 1 where there is another; else 0. */
     uint8_t n; /* The rewrite's `n`. */
-    /* Where `modifier` says that a relocation is skipped: how many bytes on from the offset it is. On
-     * x86-64 the field of the call is there, or that of the `movabs` of its address; on PowerPC64 and
-     * RISC-V it is at the same offset. Else 0. */
+    /* Where `modifier` says that a relocation is skipped: how many bytes on from the offset it is.
+     * On x86-64 the field of the call is there, or that of the `movabs` of its address; on
+     * PowerPC64 and RISC-V it is at the same offset. Else 0. */
     uint8_t skipped_offset;
 };
 
@@ -843,9 +849,9 @@ struct linker_utils_choice {
  *
  * Of others the linker has to see itself that all are rewritten or none is: of R_RISCV_HI20 and its
  * low parts; of R_RISCV_TPREL_HI20, R_RISCV_TPREL_ADD and its low parts; of the same of
- * R_LARCH_TLS_LE_HI20_R; of R_PPC64_TLS and the load of its entry; and of the `lea` and the call of
- * a descriptor on x86-64. AArch64's ADRP_ADD_TO_NOP_ADR erases the `adrp` too, whose relocation has
- * to be of the same symbol and addend as the `add`'s. */
+ * R_LARCH_TLS_LE_HI20_R; and by `group_fits` of R_PPC64_TLS and the load of its entry, and of the
+ * `lea` and the call of a descriptor on x86-64. AArch64's ADRP_ADD_TO_NOP_ADR erases the `adrp`
+ * too, whose relocation has to be of the same symbol and addend as the `add`'s. */
 static inline uint32_t linker_utils_choose(uint16_t machine, uint32_t r_type,
                                            const uint8_t *section, size_t section_len,
                                            uint64_t offset,

@@ -203,8 +203,8 @@ static struct linker_utils_link_facts early_facts(const struct relocation *r) {
         .may_change_toc = is_ifunc(r->symbol) || toc_of(r->symbol) == 1};
 }
 
-/* PowerPC64 and x86-64: the sequence of thread-local storage that a relocation is part of, by what the
- * entry of the GOT has that it loads or hands to `__tls_get_addr`; else ADDRESS. */
+/* PowerPC64 and x86-64: the sequence of thread-local storage that a relocation is part of, by what
+ * the entry of the GOT has that it loads or hands to `__tls_get_addr`; else ADDRESS. */
 static enum class sequence_of(const struct relocation *r) {
     uint32_t kind = row_of(r)->info.kind;
     if (machine == EM_X86_64 && kind >= LINKER_UTILS_KIND_TLS_DESC) return DESCRIPTOR;
@@ -228,8 +228,8 @@ static bool is_unmarked(const struct relocation *r, const Elf64_Rela *elf, size_
             elf[i - 1].r_offset != elf[i].r_offset);
 }
 
-/* The relocation that a rewrite at another one skips: of a call of `__tls_get_addr`, where the rewrite
- * says that it is. Null if there is none. */
+/* The relocation that a rewrite at another one skips: of a call of `__tls_get_addr`, where the
+ * rewrite says that it is. Null if there is none. */
 static const Elf64_Rela *skipped_by(const struct linker_utils_choice *choice, struct section *s,
                                     const Elf64_Rela *r, const Elf64_Rela *end) {
     uint64_t at = r->r_offset + choice->skipped_offset;

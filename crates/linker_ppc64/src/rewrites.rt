@@ -535,8 +535,9 @@ impl RelaxationKind {
         }
     }
 
-    /// Where the relocation is that `next_modifier` skips, in bytes from the offset of the rewrite's
-    /// own relocation on: that of the call itself, at the same offset. `None` where none is skipped.
+    /// Where the relocation is that `next_modifier` skips, in bytes from the offset of the
+    /// rewrite's own relocation on: that of the call itself, at the same offset. `None` where none
+    /// is skipped.
     ///
     /// The rewrite needs a relocation there whose type `may_be_skipped` and whose symbol is
     /// `__tls_get_addr`.

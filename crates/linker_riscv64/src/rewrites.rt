@@ -429,8 +429,9 @@ impl RelaxationKind {
         }
     }
 
-    /// Where the relocation is that `next_modifier` skips, in bytes from the offset of the rewrite's
-    /// own relocation on: the `R_RISCV_RELAX` at the same offset. `None` where none is skipped.
+    /// Where the relocation is that `next_modifier` skips, in bytes from the offset of the
+    /// rewrite's own relocation on: the `R_RISCV_RELAX` at the same offset. `None` where none is
+    /// skipped.
     #[inline]
     pub fn skipped_offset(self) -> Option<u64>
         ensures exactly { result ≡ riscv_skipped self }

@@ -112,13 +112,13 @@ impl Relaxation {
 }
 
 impl Relaxation {
-    /// Where the relocation is that `next_modifier` skips, in bytes from the offset of the rewrite's
-    /// own relocation on, as `skipped_offset` of the `RelaxationKind` of `riscv64`, `ppc64` and
-    /// `x86_64` says. `None` where none is skipped, and for all other architectures.
+    /// Where the relocation is that `next_modifier` skips, in bytes from the offset of the
+    /// rewrite's own relocation on, as `skipped_offset` of the `RelaxationKind` of `riscv64`,
+    /// `ppc64` and `x86_64` says. `None` where none is skipped, and for all other architectures.
     ///
-    /// Skip the relocation at that offset, and not whichever is the next. For PowerPC64 and x86-64 it
-    /// is that of a call: the rewrite needs one there whose type `Architecture::may_be_skipped` and
-    /// whose symbol is `__tls_get_addr`, which a linker tests before it sets `group_fits`.
+    /// Skip the relocation at that offset, and not whichever is the next. For PowerPC64 and x86-64
+    /// it is that of a call: the rewrite needs one there whose type `Architecture::may_be_skipped`
+    /// and whose symbol is `__tls_get_addr`, which a linker tests before it sets `group_fits`.
     ///
     /// ```
     /// use linker_utils::elf::{Architecture, LinkFacts, Operands};
@@ -415,8 +415,8 @@ impl Architecture {
     }
 
     /// Whether the relocation with a code has a type that one skipped after a rewrite has, where
-    /// `skipped_offset` says: of a call of `__tls_get_addr`, and of RISC-V `R_RISCV_RELAX`. False of
-    /// architectures whose rewrites skip none.
+    /// `skipped_offset` says: of a call of `__tls_get_addr`, and of RISC-V `R_RISCV_RELAX`. False
+    /// of architectures whose rewrites skip none.
     ///
     /// ```
     /// use linker_utils::elf::Architecture;

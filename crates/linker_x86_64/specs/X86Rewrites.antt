@@ -387,8 +387,8 @@ x86_64_matches kind section o =
 
 -- ---- the relocation that is skipped
 
--- where that of the sequence's call is, from the offset on: the call, or the `movabs` before it, has
--- its field there
+-- where that of the sequence's call is, from the offset on: the call, or the `movabs` before it,
+-- has its field there
 abbrev pub x86_64_skipped : RelaxationKind → Option ℕ
 x86_64_skipped kinds.TlsGdToLocalExec = Some 8
 x86_64_skipped kinds.TlsGdToLocalExecLarge = Some 6

@@ -420,12 +420,12 @@ fn opcode_before(section: &[u8], offset: u64) -> u8
 /// `R_X86_64_TLSLD` it says that a relocation whose type `may_be_skipped`, and whose symbol is
 /// `__tls_get_addr`, is where `skipped_offset` of the rewrite says. A linker chooses with it, looks
 /// there, and where there is none, chooses without it: the relocation stays. At the `lea` and the
-/// call of a TLS descriptor, which have relocations of their own and may be apart, it says that each
-/// relocation of the symbol's descriptors in the object can be rewritten with `group_fits`, by the
-/// same facts but for `place`: then all are, and alike.
+/// call of a TLS descriptor, which have relocations of their own and may be apart, it says that
+/// each relocation of the symbol's descriptors in the object can be rewritten with `group_fits`, by
+/// the same facts but for `place`: then all are, and alike.
 ///
-/// `R_X86_64_DTPOFF32` and `R_X86_64_DTPOFF64` are replaced only with `has_local_exec_base`, since a
-/// linker knows which sequence computed their base.
+/// `R_X86_64_DTPOFF32` and `R_X86_64_DTPOFF64` are replaced only with `has_local_exec_base`, since
+/// a linker knows which sequence computed their base.
 ///
 /// Bytes before the instruction are not tested. So a prefix 0x66, of operands of 16 bits, is not
 /// seen before an instruction of `R_X86_64_GOTPCRELX`; no compiler writes one.

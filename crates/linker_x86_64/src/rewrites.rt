@@ -800,9 +800,9 @@ impl RelaxationKind {
         }
     }
 
-    /// Where the relocation is that `next_modifier` skips, in bytes from the offset of the rewrite's
-    /// own relocation on: that of the sequence's call, whose field of 4 bytes, or of 8 in a `movabs`,
-    /// is there. `None` where none is skipped.
+    /// Where the relocation is that `next_modifier` skips, in bytes from the offset of the
+    /// rewrite's own relocation on: that of the sequence's call, whose field of 4 bytes, or of 8 in
+    /// a `movabs`, is there. `None` where none is skipped.
     ///
     /// The rewrite needs a relocation there whose type `may_be_skipped` and whose symbol is
     /// `__tls_get_addr`. Without it the next relocation may be that of another call.

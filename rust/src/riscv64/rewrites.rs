@@ -354,8 +354,9 @@ impl RelaxationKind {
         }
     }
 
-    /// Where the relocation is that `next_modifier` skips, in bytes from the offset of the rewrite's
-    /// own relocation on: the `R_RISCV_RELAX` at the same offset. `None` where none is skipped.
+    /// Where the relocation is that `next_modifier` skips, in bytes from the offset of the
+    /// rewrite's own relocation on: the `R_RISCV_RELAX` at the same offset. `None` where none is
+    /// skipped.
     #[must_use]
     #[inline]
     pub fn skipped_offset(self) -> Option<u64> {
