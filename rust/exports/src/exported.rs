@@ -152,7 +152,7 @@ unsafe extern "C" fn linker_utils_choose_nonnull(
 }
 
 #[unsafe(no_mangle)]
-unsafe extern "C" fn linker_utils_fits_nonnull(
+unsafe extern "C" fn linker_utils_relocation_fits_nonnull(
     machine: u16,
     r_type: u32,
     section: *const u8,
@@ -162,7 +162,7 @@ unsafe extern "C" fn linker_utils_fits_nonnull(
 ) -> bool {
     // SAFETY: the arguments are as the head of the header says.
     unsafe {
-        crate::choices::linker_utils_fits_nonnull(
+        crate::choices::linker_utils_relocation_fits_nonnull(
             machine,
             r_type,
             from_raw_parts(section, section_len),
