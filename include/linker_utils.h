@@ -407,7 +407,9 @@ enum linker_utils_ppc64_rewrite {
     LINKER_UTILS_PPC64_REWRITE_CALL_TO_ADDI4096 = 13,
     /* Turns the `nop` after a call into `ld 2,24(1)`, which restores the TOC pointer. The offset is
      * that of the call, which stays. */
-    LINKER_UTILS_PPC64_REWRITE_NOP_TO_RESTORE_TOC = 14
+    LINKER_UTILS_PPC64_REWRITE_NOP_TO_RESTORE_TOC = 14,
+    /* Leaves `addis rT,2` as it is; only the kind of its relocation changes. */
+    LINKER_UTILS_PPC64_REWRITE_KEEP_ADDIS = 15
 };
 
 /* Where `n` is marked it is the count of the instruction's bytes before the field: 2 without a
@@ -466,8 +468,9 @@ enum linker_utils_x86_64_rewrite {
 };
 
 /* What happens to the next relocation: the entry after the rewritten instruction's own in the order
- * of the section's relocations. For RISC-V that is the R_RISCV_RELAX of the same offset, for x86-64
- * the call of `__tls_get_addr` that belongs to the sequence. */
+ * of the section's relocations. For RISC-V that is the R_RISCV_RELAX of the same offset, for
+ * PowerPC64 and x86-64 the call of `__tls_get_addr` that belongs to the sequence. `skipped_offset`
+ * of `struct linker_utils_choice` says where that has to be: skip the one there, and no other. */
 enum linker_utils_modifier {
     LINKER_UTILS_MODIFIER_NORMAL = 0,
     LINKER_UTILS_MODIFIER_SKIP_NEXT_RELOCATION = 1
@@ -666,6 +669,12 @@ bool linker_utils_asks_for_got(uint16_t machine, uint32_t r_type);
  * False for R_X86_64_PC32, which loads have too, and where the machine or the type is unknown. */
 bool linker_utils_may_use_plt(uint16_t machine, uint32_t r_type);
 
+/* Whether the relocation has a type that one skipped after a rewrite has: of a call of
+ * `__tls_get_addr` in a sequence, R_PPC64_REL24 and R_PPC64_REL24_NOTOC, R_X86_64_PLT32,
+ * R_X86_64_PC32, R_X86_64_GOTPCREL, R_X86_64_GOTPCRELX and R_X86_64_PLTOFF64, or R_RISCV_RELAX.
+ * False of all others, and where the machine is unknown. */
+bool linker_utils_may_be_skipped(uint16_t machine, uint32_t r_type);
+
 /* What R_RISCV_HI20 means at a `c.lui`, which LINKER_UTILS_RISCV_REWRITE_HI20_TO_C_LUI leaves. */
 void linker_utils_clui_rel_info(struct linker_utils_relocation_info *info);
 
@@ -783,7 +792,13 @@ struct linker_utils_link_facts {
      * distance is not chosen; another is, and its value may turn out to be out of reach. */
     uint8_t has_addresses;
     /* Each relocation of the sequence that this one is part of can be rewritten. Where the
-     * instructions of a sequence may be apart, none of them is rewritten without it. */
+     * instructions of a sequence may be apart, none of them is rewritten without it.
+     * At R_X86_64_TLSGD and R_X86_64_TLSLD it says that the sequence's call has a relocation:
+     * choose with it, and where `modifier` of the choice skips one, look at the offset plus
+     * `skipped_offset` for a relocation whose type `linker_utils_may_be_skipped` and whose symbol
+     * is `__tls_get_addr`; where there is none, choose without it. At R_X86_64_GOTPC32_TLSDESC, its
+     * CODE_4, CODE_5 and CODE_6, and R_X86_64_TLSDESC_CALL it says that each relocation of these
+     * types in the object that is of the same symbol fits (`linker_utils_relocation_fits`). */
     uint8_t group_fits;
     /* Those of the relocation before the rewrite. The addend is always read. `got_entry` is that of
      * the relocation after it: of a rewrite to initial-exec TLS that of the offset from the thread
@@ -808,6 +823,10 @@ struct linker_utils_choice {
     uint32_t other_relocation;
     uint8_t has_other; /* 1 where there is another; else 0. */
     uint8_t n; /* The rewrite's `n`. */
+    /* Where `modifier` says that a relocation is skipped: how many bytes on from the offset it is.
+     * On x86-64 the field of the call is there, or that of the `movabs` of its address; on
+     * PowerPC64 and RISC-V it is at the same offset. Else 0. */
+    uint8_t skipped_offset;
 };
 
 /* The rewrite that a linker may make of the instruction at a relocation by these facts, and the
@@ -830,9 +849,9 @@ struct linker_utils_choice {
  *
  * Of others the linker has to see itself that all are rewritten or none is: of R_RISCV_HI20 and its
  * low parts; of R_RISCV_TPREL_HI20, R_RISCV_TPREL_ADD and its low parts; of the same of
- * R_LARCH_TLS_LE_HI20_R; of R_PPC64_TLS and the load of its entry; and of the `lea` and the call of
- * a descriptor on x86-64. AArch64's ADRP_ADD_TO_NOP_ADR erases the `adrp` too, whose relocation has
- * to be of the same symbol and addend as the `add`'s. */
+ * R_LARCH_TLS_LE_HI20_R; and by `group_fits` of R_PPC64_TLS and the load of its entry, and of the
+ * `lea` and the call of a descriptor on x86-64. AArch64's ADRP_ADD_TO_NOP_ADR erases the `adrp`
+ * too, whose relocation has to be of the same symbol and addend as the `add`'s. */
 static inline uint32_t linker_utils_choose(uint16_t machine, uint32_t r_type,
                                            const uint8_t *section, size_t section_len,
                                            uint64_t offset,
@@ -969,36 +988,40 @@ static inline uint32_t linker_utils_choose(uint16_t machine, uint32_t r_type,
  *   (14) is_marked, TLS_LE_LO12_R in -0x800..0x800
  *
  * PowerPC64, with the prefixes R_PPC64_ and LINKER_UTILS_PPC64_REWRITE_:
- *   REL24              NOP_TO_RESTORE_TOC    REL24              (1)
- *   GOT16_HA           NO_OP                 TOC16_HA           (2)
- *   TOC16_LO           BASE_TO_TOC           TOC16              (3)
- *   TOC16_HA           ADDIS_TO_NOP          NONE               (3)
- *   GOT16_LO_DS        LD_TO_ADDI            TOC16_LO           (2)
- *   TOC16_LO_DS        BASE_TO_TOC           TOC16_DS           (3)
- *   TLS                ADD_TO_ADDI           TPREL16_LO         (4)
- *                      INDEXED_TO_D          TPREL16_LO         (4)
- *                      INDEXED_TO_DS         TPREL16_LO_DS      (5)
- *   GOT_TLSGD16_LO     ADDI_TO_ADDIS_THREAD  TPREL16_HA         (4)
- *                      ADDI_TO_LD            GOT_TPREL16_LO_DS  (6)
- *   GOT_TLSGD16_HA     ADDIS_TO_NOP          NONE               (4)
- *                      NO_OP                 GOT_TPREL16_HA     (6)
- *   GOT_TLSLD16_LO     ADDI_TO_ADDIS_THREAD  NONE               (7)
- *   GOT_TLSLD16_HA     ADDIS_TO_NOP          NONE               (7)
- *   GOT_TPREL16_LO_DS  LD_TO_ADDIS_THREAD    TPREL16_HA         (4)
- *   GOT_TPREL16_HA     ADDIS_TO_NOP          NONE               (4)
- *   TLSGD              CALL_TO_ADDI          TPREL16_LO         (4)
- *                      CALL_TO_ADD           NONE               (6)
- *   TLSLD              CALL_TO_ADDI4096      NONE               (7)
- *   GOT_PCREL34        PLD_TO_PADDI          PCREL34            (8)
+ *   REL24                        NOP_TO_RESTORE_TOC    REL24              (1)
+ *   GOT16_HA                     KEEP_ADDIS            TOC16_HA           (2)
+ *   TOC16_LO                     BASE_TO_TOC           TOC16              (3)
+ *   TOC16_HA                     ADDIS_TO_NOP          NONE               (3)
+ *   GOT16_LO_DS                  LD_TO_ADDI            TOC16_LO           (2)
+ *   TOC16_LO_DS                  BASE_TO_TOC           TOC16_DS           (3)
+ *   TLS                          ADD_TO_ADDI           TPREL16_LO         (4)
+ *                                INDEXED_TO_D          TPREL16_LO         (4)
+ *                                INDEXED_TO_DS         TPREL16_LO_DS      (5)
+ *   GOT_TLSGD16                  ADDI_TO_ADDIS_THREAD  TPREL16_HA         (4)
+ *                                ADDI_TO_LD            GOT_TPREL16_DS     (6)
+ *   GOT_TLSGD16_LO               ADDI_TO_ADDIS_THREAD  TPREL16_HA         (4)
+ *                                ADDI_TO_LD            GOT_TPREL16_LO_DS  (7)
+ *   GOT_TLSGD16_HA               ADDIS_TO_NOP          NONE               (4)
+ *                                KEEP_ADDIS            GOT_TPREL16_HA     (7)
+ *   GOT_TLSLD16, GOT_TLSLD16_LO  ADDI_TO_ADDIS_THREAD  NONE               (8)
+ *   GOT_TLSLD16_HA               ADDIS_TO_NOP          NONE               (8)
+ *   GOT_TPREL16_DS, GOT_TPREL16_LO_DS
+ *                                LD_TO_ADDIS_THREAD    TPREL16_HA         (4)
+ *   GOT_TPREL16_HA               ADDIS_TO_NOP          NONE               (4)
+ *   TLSGD                        CALL_TO_ADDI          TPREL16_LO         (4)
+ *                                CALL_TO_ADD           NONE               (7)
+ *   TLSLD                        CALL_TO_ADDI4096      NONE               (8)
+ *   GOT_PCREL34                  PLD_TO_PADDI          PCREL34            (9)
  *   (1) may_change_toc
  *   (2) is_local, not is_ifunc, has_fixed_distance, TOC16_HA in reach if known
  *   (3) has_private_base, TOC16 in reach
- *   (4) is_local, not is_ifunc, is_executable, TPREL16_HA in reach if known
- *   (5) is_local, not is_ifunc, is_executable, TPREL16_HA in reach if known, TPREL16_LO_DS in reach
- *       if known
- *   (6) is_executable, GOT_TPREL16_HA in reach if known
- *   (7) is_executable
- *   (8) is_local, not is_ifunc, has_fixed_distance, PCREL34 in reach if known
+ *   (4) is_local, not is_ifunc, is_executable, group_fits, TPREL16_HA in reach if known
+ *   (5) is_local, not is_ifunc, is_executable, group_fits, TPREL16_HA in reach if known,
+ *       TPREL16_LO_DS in reach if known
+ *   (6) is_executable, group_fits, GOT_TPREL16_DS in reach if known
+ *   (7) is_executable, group_fits, GOT_TPREL16_HA in reach if known
+ *   (8) is_executable, group_fits
+ *   (9) is_local, not is_ifunc, has_fixed_distance, PCREL34 in reach if known
  *
  * x86-64, with the prefixes R_X86_64_ and LINKER_UTILS_X86_64_REWRITE_:
  *   DTPOFF64      NO_OP                          TPOFF64   (1)
@@ -1010,52 +1033,53 @@ static inline uint32_t linker_utils_choose(uint16_t machine, uint32_t r_type,
  *                 TLS_LD_TO_LOCAL_EXEC64         NONE      (4)
  *   DTPOFF32      NO_OP                          TPOFF32   (5)
  *   GOTTPOFF (n = 3), CODE_4_GOTTPOFF (n = 4), CODE_5_GOTTPOFF (n = 5), CODE_6_GOTTPOFF (n = 6)
- *                 REX_ADD_INDIRECT_TO_ABSOLUTE   TPOFF32   (2)
- *                 REX_MOV_INDIRECT_TO_ABSOLUTE   TPOFF32   (2)
+ *                 REX_ADD_INDIRECT_TO_ABSOLUTE   TPOFF32   (6)
+ *                 REX_MOV_INDIRECT_TO_ABSOLUTE   TPOFF32   (6)
  *   GOTPC32_TLSDESC (n = 3), CODE_4_GOTPC32_TLSDESC (n = 4), CODE_5_GOTPC32_TLSDESC (n = 5),
  *     CODE_6_GOTPC32_TLSDESC (n = 6)
  *                 TLS_DESC_TO_LOCAL_EXEC         TPOFF32   (2)
  *                 TLS_DESC_TO_INITIAL_EXEC       GOTTPOFF  (3)
  *   TLSDESC_CALL  SKIP_TLS_DESC_CALL             NONE      (4)
- *   GOTPCRELX     REX_ADD_INDIRECT_TO_ABSOLUTE   32        (6)
- *                 REX_OR_INDIRECT_TO_ABSOLUTE    32        (6)
- *                 REX_ADC_INDIRECT_TO_ABSOLUTE   32        (6)
- *                 REX_SBB_INDIRECT_TO_ABSOLUTE   32        (6)
- *                 REX_AND_INDIRECT_TO_ABSOLUTE   32        (6)
- *                 REX_SUB_INDIRECT_TO_ABSOLUTE   32        (6)
- *                 REX_XOR_INDIRECT_TO_ABSOLUTE   32        (6)
- *                 REX_CMP_INDIRECT_TO_ABSOLUTE   32        (6)
- *                 REX_TEST_INDIRECT_TO_ABSOLUTE  32        (6)
- *                 MOV_INDIRECT_TO_ABSOLUTE       32        (7)
- *                 MOV_INDIRECT_TO_LEA            PC32      (8)
- *                 CALL_INDIRECT_TO_RELATIVE      PC32      (8)
- *                 JMP_INDIRECT_TO_RELATIVE       PC32      (8)
+ *   GOTPCRELX     REX_ADD_INDIRECT_TO_ABSOLUTE   32        (7)
+ *                 REX_OR_INDIRECT_TO_ABSOLUTE    32        (7)
+ *                 REX_ADC_INDIRECT_TO_ABSOLUTE   32        (7)
+ *                 REX_SBB_INDIRECT_TO_ABSOLUTE   32        (7)
+ *                 REX_AND_INDIRECT_TO_ABSOLUTE   32        (7)
+ *                 REX_SUB_INDIRECT_TO_ABSOLUTE   32        (7)
+ *                 REX_XOR_INDIRECT_TO_ABSOLUTE   32        (7)
+ *                 REX_CMP_INDIRECT_TO_ABSOLUTE   32        (7)
+ *                 REX_TEST_INDIRECT_TO_ABSOLUTE  32        (7)
+ *                 MOV_INDIRECT_TO_ABSOLUTE       32        (8)
+ *                 MOV_INDIRECT_TO_LEA            PC32      (9)
+ *                 CALL_INDIRECT_TO_RELATIVE      PC32      (9)
+ *                 JMP_INDIRECT_TO_RELATIVE       PC32      (9)
  *   REX_GOTPCRELX (n = 3), CODE_4_GOTPCRELX (n = 4), CODE_5_GOTPCRELX (n = 5), CODE_6_GOTPCRELX
  *     (n = 6)
- *                 REX_ADD_INDIRECT_TO_ABSOLUTE   32S       (9)
- *                 REX_OR_INDIRECT_TO_ABSOLUTE    32S       (9)
- *                 REX_ADC_INDIRECT_TO_ABSOLUTE   32S       (9)
- *                 REX_SBB_INDIRECT_TO_ABSOLUTE   32S       (9)
- *                 REX_AND_INDIRECT_TO_ABSOLUTE   32S       (9)
- *                 REX_SUB_INDIRECT_TO_ABSOLUTE   32S       (9)
- *                 REX_XOR_INDIRECT_TO_ABSOLUTE   32S       (9)
- *                 REX_CMP_INDIRECT_TO_ABSOLUTE   32S       (9)
- *                 REX_TEST_INDIRECT_TO_ABSOLUTE  32S       (9)
- *                 REX_MOV_INDIRECT_TO_ABSOLUTE   32S       (10)
- *                 MOV_INDIRECT_TO_LEA            PC32      (8)
+ *                 REX_ADD_INDIRECT_TO_ABSOLUTE   32S       (10)
+ *                 REX_OR_INDIRECT_TO_ABSOLUTE    32S       (10)
+ *                 REX_ADC_INDIRECT_TO_ABSOLUTE   32S       (10)
+ *                 REX_SBB_INDIRECT_TO_ABSOLUTE   32S       (10)
+ *                 REX_AND_INDIRECT_TO_ABSOLUTE   32S       (10)
+ *                 REX_SUB_INDIRECT_TO_ABSOLUTE   32S       (10)
+ *                 REX_XOR_INDIRECT_TO_ABSOLUTE   32S       (10)
+ *                 REX_CMP_INDIRECT_TO_ABSOLUTE   32S       (10)
+ *                 REX_TEST_INDIRECT_TO_ABSOLUTE  32S       (10)
+ *                 REX_MOV_INDIRECT_TO_ABSOLUTE   32S       (11)
+ *                 MOV_INDIRECT_TO_LEA            PC32      (9)
  *   (1) is_executable, has_local_exec_base, TPOFF64 in reach if known
- *   (2) is_local, not is_ifunc, is_executable, addend -4, TPOFF32 in reach if known
- *   (3) is_executable, addend -4, GOTTPOFF in reach if known
- *   (4) is_executable
+ *   (2) is_local, not is_ifunc, is_executable, group_fits, addend -4, TPOFF32 in reach if known
+ *   (3) is_executable, group_fits, addend -4, GOTTPOFF in reach if known
+ *   (4) is_executable, group_fits
  *   (5) is_executable, has_local_exec_base, TPOFF32 in reach if known
- *   (6) has_fixed_address, addend -4, 32 in reach if known, and either is_local and not is_ifunc,
+ *   (6) is_local, not is_ifunc, is_executable, addend -4, TPOFF32 in reach if known
+ *   (7) has_fixed_address, addend -4, 32 in reach if known, and either is_local and not is_ifunc,
  *       or is_undefined_weak
- *   (7) has_fixed_address, addend -4, 32 in reach, and either is_local and not is_ifunc, or
+ *   (8) has_fixed_address, addend -4, 32 in reach, and either is_local and not is_ifunc, or
  *       is_undefined_weak
- *   (8) is_local, not is_ifunc, has_fixed_distance, addend -4, PC32 in reach if known
- *   (9) has_fixed_address, addend -4, 32S in reach if known, and either is_local and not is_ifunc,
+ *   (9) is_local, not is_ifunc, has_fixed_distance, addend -4, PC32 in reach if known
+ *   (10) has_fixed_address, addend -4, 32S in reach if known, and either is_local and not is_ifunc,
  *       or is_undefined_weak
- *   (10) has_fixed_address, addend -4, 32S in reach, and either is_local and not is_ifunc, or
+ *   (11) has_fixed_address, addend -4, 32S in reach, and either is_local and not is_ifunc, or
  *       is_undefined_weak
  *
  * End of the tables of choices. */

@@ -161,6 +161,12 @@ fn relocations(report: &mut Report, random: &mut Random) {
     );
     numbers(
         report,
+        "`linker_utils_may_be_skipped`, at random",
+        &types,
+        |&(machine, r_type)| unsafe { linker_utils_may_be_skipped(machine, r_type).into() },
+    );
+    numbers(
+        report,
         "`linker_utils_uleb128_role`, at random",
         &types,
         |&(machine, r_type)| unsafe { linker_utils_uleb128_role(machine, r_type).into() },

@@ -121,19 +121,24 @@ static unsigned toc_of(const struct symbol *s) {
     return machine == EM_PPC64 && is_defined(s) ? s->elf.st_other >> 5 : 0;
 }
 
+/* What the entry of the GOT has that a relocation asks for. */
+static enum class class_of(const struct relocation *r, uint32_t kind) {
+    bool is_larch = machine == EM_LOONGARCH;
+    if (kind >= LINKER_UTILS_KIND_GOT_TP_OFF && kind <= LINKER_UTILS_KIND_GOT_TP_OFF_LOONG_ARCH64)
+        return THREAD_OFFSET;
+    if (kind >= LINKER_UTILS_KIND_TLS_LD && kind <= LINKER_UTILS_KIND_TLS_LD_GOT_BASE)
+        return is_larch ? MODULE_OFFSET : MODULE;
+    if ((kind >= LINKER_UTILS_KIND_TLS_GD && kind <= LINKER_UTILS_KIND_TLS_GD_GOT_BASE) ||
+        (is_larch && ELF64_ST_TYPE(r->symbol->elf.st_info) == STT_TLS))
+        return MODULE_OFFSET; /* also for the low half of a LoongArch address of such an entry */
+    return ADDRESS;
+}
+
 /* The entry of the GOT that a relocation asks for. */
 static struct entry *entry_of(const struct relocation *r, uint32_t kind) {
     struct entry **at = &r->symbol->entries;
     int64_t addend = machine == EM_AARCH64 || machine == EM_PPC64 ? r->addend : 0;
-    bool is_larch = machine == EM_LOONGARCH;
-    enum class class = ADDRESS;
-    if (kind >= LINKER_UTILS_KIND_GOT_TP_OFF && kind <= LINKER_UTILS_KIND_GOT_TP_OFF_LOONG_ARCH64)
-        class = THREAD_OFFSET;
-    else if (kind >= LINKER_UTILS_KIND_TLS_LD && kind <= LINKER_UTILS_KIND_TLS_LD_GOT_BASE)
-        class = is_larch ? MODULE_OFFSET : MODULE;
-    else if ((kind >= LINKER_UTILS_KIND_TLS_GD && kind <= LINKER_UTILS_KIND_TLS_GD_GOT_BASE) ||
-             (is_larch && ELF64_ST_TYPE(r->symbol->elf.st_info) == STT_TLS))
-        class = MODULE_OFFSET; /* also for the low half of a LoongArch address of such an entry */
+    enum class class = class_of(r, kind);
     if (kind >= LINKER_UTILS_KIND_TLS_DESC || (class == MODULE && machine == EM_X86_64))
         fail("%s is not supported", place_of(r));
     while (*at && ((*at)->class != class || (*at)->addend != addend)) at = &(*at)->next;
@@ -179,11 +184,96 @@ static void note_low_half(const struct relocation *r, const uint8_t *bytes, uint
         toc->words_kept[offset / 8] = 1;
 }
 
-/* PowerPC64: whether a relocation marks a call of `__tls_get_addr` by code that doesn't use the
- * TOC. The instruction before it is prefixed, and stays. */
-static bool is_notoc_mark(const struct relocation *r, const Elf64_Rela *next) {
-    return machine == EM_PPC64 && (r->type == R_PPC64_TLSGD || r->type == R_PPC64_TLSLD) && next &&
-           ELF64_R_TYPE(next->r_info) == PPC64_REL24_NOTOC;
+/* A relocation as its object has it. */
+static struct relocation relocation_of(struct section *s, const Elf64_Rela *elf) {
+    const struct object *o = s->object;
+    if (elf->r_offset > s->head->sh_size || ELF64_R_SYM(elf->r_info) >= o->symbols_len)
+        fail("%s: %s: a relocation is of no byte or no symbol", o->path, s->name);
+    return (struct relocation){.section = s, .symbol = o->symbols[ELF64_R_SYM(elf->r_info)],
+                               .offset = s->offset + elf->r_offset, .addend = elf->r_addend,
+                               .type = ELF64_R_TYPE(elf->r_info)};
+}
+
+/* What is known of a relocation's symbol before addresses are. */
+static struct linker_utils_link_facts early_facts(const struct relocation *r) {
+    bool is_known = is_here(r->symbol);
+    return (struct linker_utils_link_facts){
+        .is_local = is_known, .has_fixed_address = is_known, .has_fixed_distance = is_known,
+        .is_executable = 1, .has_local_exec_base = 1, .operands.addend = r->addend,
+        .may_change_toc = is_ifunc(r->symbol) || toc_of(r->symbol) == 1};
+}
+
+/* PowerPC64 and x86-64: the sequence of thread-local storage that a relocation is part of, by what
+ * the entry of the GOT has that it loads or hands to `__tls_get_addr`; else ADDRESS. */
+static enum class sequence_of(const struct relocation *r) {
+    uint32_t kind = row_of(r)->info.kind;
+    if (machine == EM_X86_64 && kind >= LINKER_UTILS_KIND_TLS_DESC) return DESCRIPTOR;
+    if (machine == EM_PPC64 && r->type == R_PPC64_TLS) return THREAD_OFFSET;
+    if (machine == EM_PPC64 && r->type == R_PPC64_TLSGD) return MODULE_OFFSET;
+    return machine == EM_PPC64 && r->type == R_PPC64_TLSLD ? MODULE : class_of(r, kind);
+}
+
+/* Whether the sequences of a class and a symbol stay. Those of the module are all one, and those of
+ * no class are all. */
+static bool *stays(const struct object *o, enum class class, uint64_t symbol) {
+    return &o->stays[class == MODULE || class == ADDRESS ? 0 : symbol][class];
+}
+
+/* PowerPC64: whether a relocation's symbol is called for the address of a variable though no mark
+ * before it says of which. */
+static bool is_unmarked(const struct relocation *r, const Elf64_Rela *elf, size_t i) {
+    uint64_t mark = i ? ELF64_R_TYPE(elf[i - 1].r_info) : 0;
+    return !strcmp(r->symbol->name, "__tls_get_addr") &&
+           ((mark != R_PPC64_TLSGD && mark != R_PPC64_TLSLD) ||
+            elf[i - 1].r_offset != elf[i].r_offset);
+}
+
+/* The relocation that a rewrite at another one skips: of a call of `__tls_get_addr`, where the
+ * rewrite says that it is. Null if there is none. */
+static const Elf64_Rela *skipped_by(const struct linker_utils_choice *choice, struct section *s,
+                                    const Elf64_Rela *r, const Elf64_Rela *end) {
+    uint64_t at = r->r_offset + choice->skipped_offset;
+    for (r++; r < end && r->r_offset <= at; r++) {
+        struct relocation call = relocation_of(s, r);
+        if (r->r_offset == at && linker_utils_may_be_skipped(machine, call.type) &&
+            !strcmp(call.symbol->name, "__tls_get_addr"))
+            return r;
+    }
+    return NULL;
+}
+
+/* Whether a relocation can be rewritten, if all of its sequence can. */
+static bool fits(struct section *s, const Elf64_Rela *elf, const Elf64_Rela *end,
+                 const uint8_t *bytes) {
+    struct relocation r = relocation_of(s, elf);
+    struct linker_utils_link_facts facts = early_facts(&r);
+    struct linker_utils_choice choice;
+    facts.group_fits = 1;
+    check(&r, linker_utils_choose(machine, r.type, bytes, s->head->sh_size, elf->r_offset, &facts,
+                                  &choice));
+    return !linker_utils_is_unchanged(machine, r.type, &choice) &&
+           (choice.modifier == LINKER_UTILS_MODIFIER_NORMAL ||
+            skipped_by(&choice, s, elf, end));
+}
+
+/* PowerPC64 and x86-64: notes which sequences of thread-local storage stay, since one of their
+ * instructions can't be rewritten. They are told by their symbols, as their instructions may be
+ * anywhere. */
+void note_sequences(struct object *o) {
+    o->stays = take(o->symbols_len + 1, sizeof *o->stays);
+    for (struct section *s = o->sections; s < o->sections + o->sections_len; s++) {
+        size_t len = 0;
+        Elf64_Rela *elf = NULL;
+        const uint8_t *bytes = o->bytes + s->head->sh_offset;
+        if (s->output && s->relocations) elf = copy_table(o, s->relocations, sizeof *elf, &len);
+        for (size_t i = 0; i < len; i++) {
+            struct relocation r = relocation_of(s, &elf[i]);
+            enum class class = sequence_of(&r);
+            if (machine == EM_PPC64 && is_unmarked(&r, elf, i)) *stays(o, ADDRESS, 0) = true;
+            if (class && !fits(s, elf + i, elf + len, bytes))
+                *stays(o, class, ELF64_R_SYM(elf[i].r_info)) = true;
+        }
+    }
 }
 
 /* Reads the relocations of a section, and rewrites instructions where that needs no address. */
@@ -195,27 +285,24 @@ void read_relocations(struct section *s) {
     Elf64_Rela *elf = copy_table(o, s->relocations, sizeof *elf, &len);
     struct relocation *first = add_relocations(s->output, len), *r = first;
     struct linker_utils_choice *choices = take(len + 1, sizeof *choices);
+    bool *is_skipped = take(len + 1, sizeof *is_skipped);
     bool is_code = s->head->sh_flags & SHF_EXECINSTR && machine != EM_RISCV;
     for (size_t i = 0; i < len; i++, r++) { /* (all are chosen before one is rewritten) */
-        if (elf[i].r_offset > size || ELF64_R_SYM(elf[i].r_info) >= o->symbols_len)
-            fail("%s: %s: a relocation is of no byte or no symbol", o->path, s->name);
-        *r = (struct relocation){.section = s, .symbol = o->symbols[ELF64_R_SYM(elf[i].r_info)],
-                                 .offset = s->offset + elf[i].r_offset,
-                                 .addend = elf[i].r_addend, .type = ELF64_R_TYPE(elf[i].r_info)};
-        if (i && choices[i - 1].modifier == LINKER_UTILS_MODIFIER_SKIP_NEXT_RELOCATION) r->type = 0;
+        *r = relocation_of(s, &elf[i]);
+        if (is_skipped[i]) r->type = 0;
         choices[i] = (struct linker_utils_choice){.rewrite = UINT32_MAX, .relocation = r->type};
-        const struct symbol *of = r->symbol;
         if (!is_code || !r->type || waits(row_of(r), elf + i, i + 1 < len ? elf + i + 1 : NULL))
             continue;
         if (machine == EM_PPC64) note_low_half(r, bytes, size);
-        if (is_notoc_mark(r, i + 1 < len ? elf + i + 1 : NULL)) continue;
-        bool is_known = is_here(of);
-        struct linker_utils_link_facts facts = {
-            .is_local = is_known, .has_fixed_address = is_known, .has_fixed_distance = is_known,
-            .is_executable = 1, .has_local_exec_base = 1, .operands.addend = r->addend,
-            .may_change_toc = is_ifunc(of) || toc_of(of) == 1};
+        struct linker_utils_link_facts facts = early_facts(r);
+        if (o->stays)
+            facts.group_fits = !*stays(o, ADDRESS, 0) &&
+                               !*stays(o, sequence_of(r), ELF64_R_SYM(elf[i].r_info));
         check(r, linker_utils_choose(machine, r->type, bytes, size, elf[i].r_offset, &facts,
                                      &choices[i]));
+        if (choices[i].modifier == LINKER_UTILS_MODIFIER_NORMAL) continue;
+        const Elf64_Rela *call = skipped_by(&choices[i], s, elf + i, elf + len);
+        if (call) is_skipped[call - elf] = true;
     }
     for (size_t i = 0; i < len; i++) first[i].type = choices[i].relocation;
     for (size_t i = 0; i < len; i++) change_other(&first[i], &choices[i]);

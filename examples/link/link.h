@@ -79,6 +79,7 @@ struct object {
     size_t len, sections_len, symbols_len, resolved_len;
     uint32_t flags; /* `e_flags` */
     bool has_other_low_halves; /* PowerPC64: not all can be over the TOC pointer */
+    bool (*stays)[5]; /* by symbol and class, what of thread-local storage stays; or null */
 };
 
 struct section {
@@ -114,7 +115,7 @@ struct symbol {
 };
 
 /* What an entry of the GOT has. */
-enum class { ADDRESS, THREAD_OFFSET, MODULE_OFFSET, MODULE };
+enum class { ADDRESS, THREAD_OFFSET, MODULE_OFFSET, MODULE, DESCRIPTOR };
 
 struct entry {
     struct entry *next;
@@ -180,7 +181,7 @@ uint64_t address_of(const struct output *o, uint64_t offset);
 void place_outputs(void), set_addresses(void);
 void add_section(struct section *s), copy_section(struct section *s), sort_outputs(void);
 
-void read_relocations(struct section *s), make_entries(void);
+void note_sequences(struct object *o), read_relocations(struct section *s), make_entries(void);
 struct section *toc_section(const struct relocation *r, uint64_t *offset);
 bool add_thunks(void);
 void rewrite(const struct relocation *r, uint8_t *bytes, uint64_t len, uint64_t *offset,

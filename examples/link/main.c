@@ -96,8 +96,10 @@ int main(int argc, char **argv) {
         s->output->flags |= SHF_WRITE | SHF_ALLOC;
         s->offset = make_room(s->output, s->elf.st_value, s->elf.st_size);
     }
-    for (struct object *o = objects; o; o = o->next)
+    for (struct object *o = objects; o; o = o->next) {
+        if (machine == EM_PPC64 || machine == EM_X86_64) note_sequences(o);
         for (size_t i = 0; i < o->sections_len; i++) copy_section(&o->sections[i]);
+    }
     for (struct symbol *s = symbols; s; s = s->later) place_symbol(s);
     make_entries();
     do place_outputs();

@@ -89,14 +89,15 @@ void list_symbols(void) {
     }
 }
 
-/* A symbol at an offset of a section, if an object asks for it. */
-static void define(const char *name, struct output *output, uint64_t offset) {
+/* A symbol at an offset of a section, if an object asks for it; whether one does. */
+static bool define(const char *name, struct output *output, uint64_t offset) {
     struct symbol *s = *global(name);
-    if (!s || !s->object || s->elf.st_shndx != SHN_UNDEF) return;
+    if (!s || !s->object || s->elf.st_shndx != SHN_UNDEF) return false;
     s->elf.st_shndx = SHN_ABS;
     s->output = output;
     s->offset = offset;
     got->has_bytes |= output == got;
+    return true;
 }
 
 /* The last section up to a rank. */
@@ -118,9 +119,42 @@ static void define_end(struct output *o, bool is_end) {
     define(name, o, is_end ? END : 0);
 }
 
+/* PowerPC64: the functions that save and restore registers up to 31, which every linker has. That
+ * of a register goes on to that of the next, and the last one to the instructions behind it. */
+static const struct saves {
+    const char *name;
+    uint32_t word, end[4]; /* of register 14; the next has a larger offset from register 1 or 12 */
+} saves[] = {
+    {"_savegpr0_", 0xf9c1ff70 /* std */, {0xf8010010 /* std 0,16(1) */, 0x4e800020 /* blr */}},
+    {"_restgpr0_", 0xe9c1ff70 /* ld */,
+     {0xe8010010 /* ld 0,16(1) */, 0x7c0803a6 /* mtlr 0 */, 0x4e800020}},
+    {"_savegpr1_", 0xf9ccff70, {0x4e800020}},
+    {"_restgpr1_", 0xe9ccff70, {0x4e800020}},
+    {"_savefpr_", 0xd9c1ff70 /* stfd */, {0xf8010010, 0x4e800020}},
+    {"_restfpr_", 0xc9c1ff70 /* lfd */, {0xe8010010, 0x7c0803a6, 0x4e800020}}};
+
+static void add_word(uint32_t word) {
+    uint64_t offset = make_room(stubs, sizeof word, sizeof word);
+    memcpy(stubs->bytes + offset, &word, sizeof word);
+}
+
+/* Makes those functions of a kind that objects ask for. */
+static void define_saves(const struct saves *of) {
+    char name[16];
+    bool is_made = false;
+    for (uint32_t i = 0; i < 18; i++) {
+        snprintf(name, sizeof name, "%s%" PRIu32, of->name, 14 + i);
+        is_made |= define(name, stubs, stubs->len);
+        if (is_made) add_word(of->word + i * 0x200008);
+    }
+    for (const uint32_t *word = of->end; is_made && *word; word++) add_word(*word);
+}
+
 void define_symbols(void) {
     output_of(".preinit_array"), output_of(".init_array"), output_of(".fini_array");
     if (*global("__global_pointer$")) output_of(".sdata");
+    for (size_t i = 0; i < sizeof saves / sizeof *saves && machine == EM_PPC64; i++)
+        define_saves(&saves[i]);
     define("__bss_start", output_of(".bss"), 0);
     sort_outputs();
     for (size_t i = 0; i < outputs_len; i++) define_end(outputs[i], false); /* the first counts */

@@ -18,7 +18,6 @@ use linker_utils::choice_table::{
 use linker_utils::elf::{Architecture, Choice, InstructionRewrite, LinkFacts, Operands, Row};
 use linker_utils::loongarch64::{self, LoongArch64Relocation};
 use linker_utils::ppc64::{self, Ppc64Relocation};
-use linker_utils::relaxation::RelocationModifier;
 use linker_utils::riscv64::{self, RiscVRelocation};
 use linker_utils::x86_64::{self, X86_64Relocation};
 use std::collections::BTreeMap;
@@ -203,8 +202,8 @@ fn effects(architecture: Architecture, kind: Relaxation) -> [String; 3] {
         let name = architecture.name(other.relocation).expect("a relocation has a name");
         others.push(format!("that at {} becomes `{name}`", other.offset));
     }
-    if kind.next_modifier() == RelocationModifier::SkipNextRelocation {
-        others.push("the next is skipped".into());
+    if let Some(offset) = kind.skipped_offset() {
+        others.push(format!("the next, at {offset}, is skipped"));
     }
     [written, deleted, others.join(", ")]
 }

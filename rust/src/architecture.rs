@@ -92,6 +92,42 @@ impl Relaxation {
     }
 }
 
+impl Relaxation {
+    /// Where the relocation is that `next_modifier` skips, in bytes from the offset of the
+    /// rewrite's own relocation on, as `skipped_offset` of the `RelaxationKind` of `riscv64`,
+    /// `ppc64` and `x86_64` says. `None` where none is skipped, and for all other architectures.
+    ///
+    /// Skip the relocation at that offset, and not whichever is the next. For PowerPC64 and x86-64
+    /// it is that of a call: the rewrite needs one there whose type `Architecture::may_be_skipped`
+    /// and whose symbol is `__tls_get_addr`, which a linker tests before it sets `group_fits`.
+    ///
+    /// ```
+    /// use linker_utils::elf::{Architecture, LinkFacts, Operands};
+    ///
+    /// // lea x@tlsld(%rip), %rdi; call __tls_get_addr@PLT, with R_X86_64_TLSLD and R_X86_64_PLT32
+    /// let sequence = [0x48, 0x8d, 0x3d, 0, 0, 0, 0, 0xe8, 0, 0, 0, 0];
+    /// let facts = LinkFacts {
+    ///     is_executable: true,
+    ///     group_fits: true,
+    ///     operands: Operands { addend: -4, ..Operands::default() },
+    ///     ..LinkFacts::default()
+    /// };
+    /// let chosen = Architecture::X86_64.choose(20, &sequence, 3, &facts);
+    /// assert_eq!(chosen.kind.skipped_offset(), Some(5));
+    /// assert!(Architecture::X86_64.may_be_skipped(4));
+    /// ```
+    #[must_use]
+    #[inline]
+    pub fn skipped_offset(self) -> Option<u64> {
+        match self {
+            Relaxation::RiscV(kind) => kind.skipped_offset(),
+            Relaxation::Ppc64(kind) => kind.skipped_offset(),
+            Relaxation::X86_64(kind) => kind.skipped_offset(),
+            _ => None,
+        }
+    }
+}
+
 impl InstructionRewrite for Relaxation {
     #[cfg_attr(debug_assertions, track_caller)]
     #[inline(always)]
@@ -333,6 +369,27 @@ impl Architecture {
         match self.row(code) {
             Some(row) => row.may_use_plt(),
             None => false,
+        }
+    }
+
+    /// Whether the relocation with a code has a type that one skipped after a rewrite has, where
+    /// `skipped_offset` says: of a call of `__tls_get_addr`, and of RISC-V `R_RISCV_RELAX`. False
+    /// of architectures whose rewrites skip none.
+    ///
+    /// ```
+    /// use linker_utils::elf::Architecture;
+    ///
+    /// // R_X86_64_PLT32, and R_X86_64_64
+    /// assert!(Architecture::X86_64.may_be_skipped(4));
+    /// assert!(!Architecture::X86_64.may_be_skipped(1));
+    /// ```
+    #[must_use]
+    pub fn may_be_skipped(self, code: u32) -> bool {
+        match self {
+            Architecture::RiscV => riscv64::may_be_skipped(RiscVRelocation::from_elf(code)),
+            Architecture::Ppc64 => ppc64::may_be_skipped(Ppc64Relocation::from_elf(code)),
+            Architecture::X86_64 => x86_64::may_be_skipped(X86_64Relocation::from_elf(code)),
+            _ => false,
         }
     }
 

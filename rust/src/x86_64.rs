@@ -8,4 +8,4 @@ mod rewrites;
 
 pub use choices::{choose, entries};
 pub use crate::linker_elf::x86_64::{X86_64Relocation, relocation_from_raw, row};
-pub use rewrites::RelaxationKind;
+pub use rewrites::{RelaxationKind, may_be_skipped};

@@ -565,6 +565,7 @@ static void call_choose(void) {
         expect(meant == LINKER_UTILS_OK, "a choice that doesn't match");
         expect(choice->modifier <= 1 && choice->deleted_start <= 4 && choice->deleted_len <= 6,
                "no choice's numbers");
+        expect(choice->skipped_offset <= (choice->modifier ? 8 : 0), "no skipped relocation");
         expect(choice->has_other ? choice->has_other == 1 && choice->other_offset == -4
                                  : !choice->other_offset && !choice->other_relocation,
                "no other relocation");
@@ -641,6 +642,9 @@ static void call_relocation(void) {
     finish(true);
     bool may = CALL(may_use_plt, machine, r_type);
     expect(status == LINKER_UTILS_OK ? !(asks && may) : !asks && !may, "a wrong entry");
+    finish(true);
+    bool is_skipped = CALL(may_be_skipped, machine, r_type);
+    expect(status == LINKER_UTILS_OK || !is_skipped, "a type without a meaning");
     finish(true);
 }
 

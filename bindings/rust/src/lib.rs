@@ -176,6 +176,8 @@ pub struct Choice {
     pub relocation: u32,
     /// What becomes of the next one.
     pub modifier: Modifier,
+    /// Where the relocation is that is skipped, from the offset on.
+    pub skipped_offset: Option<u64>,
     /// The bytes that are to be deleted after the rewrite, counted from the offset; empty if none
     /// are.
     pub deleted: Range<u64>,
@@ -586,6 +588,7 @@ fn choice_of(architecture: Architecture, choice: &raw::Choice) -> Choice {
             .expect("a rewrite of the library's"),
         relocation: choice.relocation,
         modifier: Modifier::from_number(choice.modifier).expect("a modifier of the library's"),
+        skipped_offset: (choice.modifier != 0).then_some(choice.skipped_offset.into()),
         deleted: choice.deleted_start..choice.deleted_start + u64::from(choice.deleted_len),
         other: (choice.has_other != 0).then_some(OtherRelocation {
             offset: choice.other_offset,
@@ -811,6 +814,11 @@ pub fn asks_for_got(architecture: Architecture, r_type: u32) -> bool {
 /// Whether a PLT entry may serve as a relocation's target.
 pub fn may_use_plt(architecture: Architecture, r_type: u32) -> bool {
     unsafe { raw::linker_utils_may_use_plt(architecture.machine(), r_type) }
+}
+
+/// Whether a relocation has a type that one skipped after a rewrite has.
+pub fn may_be_skipped(architecture: Architecture, r_type: u32) -> bool {
+    unsafe { raw::linker_utils_may_be_skipped(architecture.machine(), r_type) }
 }
 
 /// What a relocation does with a ULEB128 number; `None` for all others.

@@ -70,6 +70,7 @@ pub struct Choice {
     pub other_relocation: u32,
     pub has_other: u8,
     pub n: u8,
+    pub skipped_offset: u8,
 }
 
 /// `struct linker_utils_recognised`.
@@ -242,6 +243,7 @@ extern "C" {
     pub fn linker_utils_highest_relocation_with_bias(s: u64, pc: u64) -> u64;
     pub fn linker_utils_asks_for_got(machine: u16, r_type: u32) -> bool;
     pub fn linker_utils_may_use_plt(machine: u16, r_type: u32) -> bool;
+    pub fn linker_utils_may_be_skipped(machine: u16, r_type: u32) -> bool;
     pub fn linker_utils_uleb128_role(machine: u16, r_type: u32) -> u32;
     pub fn linker_utils_write_uleb128_nonnull(dest: *mut u8, dest_len: usize, value: u64) -> u32;
     pub fn linker_utils_u32_from_slice_nonnull(

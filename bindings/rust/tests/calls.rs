@@ -459,6 +459,7 @@ fn choices_are_by_what_the_linker_knows() {
         rewrite,
         relocation,
         modifier: Modifier::Normal,
+        skipped_offset: None,
         deleted: 0..0,
         other: None,
     };
@@ -495,6 +496,7 @@ fn choices_are_by_what_the_linker_knows() {
         rewrite: RiscVRewrite::TailToCJ.into(),
         relocation: 45,
         modifier: Modifier::SkipNextRelocation,
+        skipped_offset: Some(0),
         deleted: 2..8,
         other: None,
     };

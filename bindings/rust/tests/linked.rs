@@ -348,6 +348,7 @@ fn a_sequence_that_gnu_ld_rewrote_is_recognised() {
     assert_eq!(choice.rewrite, X86_64Rewrite::TlsGdToLocalExec.into());
     assert_eq!(choice.relocation, 23);
     assert_eq!(choice.modifier, Modifier::SkipNextRelocation);
+    assert_eq!(choice.skipped_offset, Some(8));
     assert_eq!(found[0].offset, 12);
     let value = found[0]
         .value
@@ -357,6 +358,7 @@ fn a_sequence_that_gnu_ld_rewrote_is_recognised() {
     let mut facts = LinkFacts {
         is_local: true,
         is_executable: true,
+        group_fits: true,
         ..LinkFacts::default()
     };
     facts.operands.addend = -4;

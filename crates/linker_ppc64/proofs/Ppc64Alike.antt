@@ -80,4 +80,7 @@ local_dynamic = (
   λ section o p place facts a b meant f g.
       one_alike (applies section o facts) (applies section p (facts_at place facts)) (at 0 r.R_PPC64_GOT_TLSLD16_HA) (at 0 r.R_PPC64_TLSLD) _ _ a b f g
       (λ h. (meant.1, h.1), λ h. (meant.0, h.1)),
+  λ section o p place facts a b meant f g.
+      one_alike (applies section o facts) (applies section p (facts_at place facts)) (at 0 r.R_PPC64_GOT_TLSLD16) (at 0 r.R_PPC64_TLSLD) _ _ a b f g
+      (λ h. (meant.1, h.1), λ h. (meant.0, h.1)),
 )

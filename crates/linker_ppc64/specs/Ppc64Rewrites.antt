@@ -2,7 +2,7 @@
 -- and "TOC Optimizations"; Power ISA, "Instruction Formats"). Bits are numbered from the lowest, 0.
 use Rattle.std.specs.Prelude.{ℕ, ◌+◌, ◌*◌, ◌^◌, ◌==◌, if◌then◌else◌, List, [], ◌∷◌, drop, Option}
 use Rattle.std.specs.Prelude.{None, Some, true, Bool, ◌&&◌, ◌||◌, not, nat_lt, IsTrue, ⊤, ◌%◌, ◌≡◌}
-use Rattle.std.specs.Prelude.{◌⊎◌, ◌++◌}
+use Rattle.std.specs.Prelude.{◌⊎◌, ◌++◌, false}
 use Rattle.std.specs.Int.{w32, w64, from_le_bytes, to_le_bytes}
 use Rattle.linker_base.specs.Bits.{field}
 use Rattle.linker_base.specs.Rewrite.{Rewrite, replaces}
@@ -12,8 +12,8 @@ use Rattle.linker_base.specs.declared.relaxation.RelocationModifier.TheVariants.
 use Rattle.linker_ppc64.specs.declared.rewrites.RelaxationKind.{RelaxationKind}
 use Rattle.linker_elf.specs.Originals.{HasWord}
 use Rattle.linker_elf.specs.Choices.{Condition, bound, fixed_distance, executable, private_base}
-use Rattle.linker_elf.specs.Choices.{changed_toc, in_reach, in_reach_if_known, Entry, entry, choice}
-use Rattle.linker_elf.specs.Choices.{Applies, IsFirst}
+use Rattle.linker_elf.specs.Choices.{changed_toc, group_fits, in_reach, in_reach_if_known}
+use Rattle.linker_elf.specs.Choices.{Entry, entry, choice, Applies, IsFirst}
 use Rattle.linker_elf.specs.Ppc64Relocations.{ppc64_row}
 use Rattle.linker_elf.specs.declared.elf.choice.Choice.{Choice}
 use Rattle.linker_elf.specs.declared.elf.choice.LinkFacts.{LinkFacts}
@@ -120,6 +120,7 @@ ppc64_rewrite kinds.CallToAddi = Some (rewrites_call 0x38630000)
 ppc64_rewrite kinds.CallToAdd = Some (rewrites_call 0x7c636a14)
 ppc64_rewrite kinds.CallToAddi4096 = Some (rewrites_call 0x38631000)
 ppc64_rewrite kinds.NopToRestoreToc = Some (replaces 0 8 restores_toc)
+ppc64_rewrite kinds.KeepAddis = None
 
 -- The relocation of the call itself is skipped where the call is gone.
 abbrev pub ppc64_modifier : RelaxationKind → RelocationModifier
@@ -134,7 +135,7 @@ ppc64_rewrites =
     kinds.NoOp ∷ kinds.AddisToNop ∷ kinds.BaseToToc ∷ kinds.LdToAddi ∷ kinds.PldToPaddi ∷
     kinds.LdToAddisThread ∷ kinds.AddToAddi ∷ kinds.IndexedToD ∷ kinds.IndexedToDs ∷
     kinds.AddiToAddisThread ∷ kinds.AddiToLd ∷ kinds.CallToAddi ∷ kinds.CallToAdd ∷
-    kinds.CallToAddi4096 ∷ kinds.NopToRestoreToc ∷ []
+    kinds.CallToAddi4096 ∷ kinds.NopToRestoreToc ∷ kinds.KeepAddis ∷ []
 
 -- The instructions that each rewrite of PowerPC64 is meant for (Power ISA, "Fixed-Point Facility"
 -- and "Floating-Point Facility"; 64-bit ELF V2 ABI for Power, "TLS Linkage Optimizations" and "TOC
@@ -221,6 +222,10 @@ is_call word next = opcode_of word == 18 && field word 0 2 == 1 && next == nop
 abbrev pub HasTest : (ℕ → Bool) → List ℕ → ℕ → Type 0
 HasTest test section o = HasWord section o (λ word. IsTrue (test word))
 
+-- the same, where instructions stand: prefixed ones have marks between these places
+abbrev pub HasAligned : (ℕ → Bool) → List ℕ → ℕ → Type 0
+HasAligned test section o = (o % 4 ≡ 0) × HasTest test section o
+
 -- two words one after the other
 abbrev pub HasTwo : (ℕ → ℕ → Bool) → List ℕ → ℕ → Type 0
 HasTwo test section o =
@@ -234,15 +239,16 @@ ppc64_matches kinds.BaseToToc = HasTest is_over_base
 ppc64_matches kinds.LdToAddi = HasTest is_ld
 ppc64_matches kinds.PldToPaddi = HasTwo is_pld
 ppc64_matches kinds.LdToAddisThread = HasTest (λ word. is_ld word && not (rt_of word == 0))
-ppc64_matches kinds.AddToAddi = HasTest is_add_of_thread
-ppc64_matches kinds.IndexedToD = HasTest is_indexed
-ppc64_matches kinds.IndexedToDs = HasTest is_indexed_word
-ppc64_matches kinds.AddiToAddisThread = HasTest (λ word. is_addi word && rt_of word == 3)
-ppc64_matches kinds.AddiToLd = HasTest (λ word. is_addi word && rt_of word == 3)
+ppc64_matches kinds.AddToAddi = HasAligned is_add_of_thread
+ppc64_matches kinds.IndexedToD = HasAligned is_indexed
+ppc64_matches kinds.IndexedToDs = HasAligned is_indexed_word
+ppc64_matches kinds.AddiToAddisThread = HasTest is_addi
+ppc64_matches kinds.AddiToLd = HasTest is_addi
 ppc64_matches kinds.CallToAddi = HasTwo is_call
 ppc64_matches kinds.CallToAdd = HasTwo is_call
 ppc64_matches kinds.CallToAddi4096 = HasTwo is_call
 ppc64_matches kinds.NopToRestoreToc = HasTwo is_call
+ppc64_matches kinds.KeepAddis = HasTest is_addis_of_toc
 
 -- Which rewrite of PowerPC64 is chosen (64-bit ELF V2 ABI for Power, "TOC Optimizations", "TLS
 -- Linkage Optimizations" and "The TOC Pointer Register"). No condition depends on the place of a
@@ -267,17 +273,28 @@ to_distance = bound ∷ fixed_distance ∷ in_reach_if_known r.R_PPC64_PCREL34 0
 
 -- the offset from the thread pointer in the instructions
 abbrev pub to_local_exec : Conditions
-to_local_exec = bound ∷ executable ∷ in_reach_if_known r.R_PPC64_TPREL16_HA 0 ∷ []
+to_local_exec =
+    bound ∷ executable ∷ group_fits ∷ in_reach_if_known r.R_PPC64_TPREL16_HA 0 ∷ []
 
 -- the same of an access of whole words
 abbrev pub to_local_exec_words : Conditions
 to_local_exec_words =
-    bound ∷ executable ∷ in_reach_if_known r.R_PPC64_TPREL16_HA 0
+    bound ∷ executable ∷ group_fits ∷ in_reach_if_known r.R_PPC64_TPREL16_HA 0
     ∷ in_reach_if_known r.R_PPC64_TPREL16_LO_DS 0 ∷ []
 
 -- the offset from the thread pointer in the GOT
 abbrev pub to_initial_exec : Conditions
-to_initial_exec = executable ∷ in_reach_if_known r.R_PPC64_GOT_TPREL16_HA 0 ∷ []
+to_initial_exec =
+    executable ∷ group_fits ∷ in_reach_if_known r.R_PPC64_GOT_TPREL16_HA 0 ∷ []
+
+-- the same in an entry near the TOC pointer
+abbrev pub to_near_initial_exec : Conditions
+to_near_initial_exec =
+    executable ∷ group_fits ∷ in_reach_if_known r.R_PPC64_GOT_TPREL16_DS 0 ∷ []
+
+-- the module's block from the thread pointer
+abbrev pub to_module : Conditions
+to_module = executable ∷ group_fits ∷ []
 
 -- ---- the table
 
@@ -288,11 +305,14 @@ ppc64_entries r.R_PPC64_TOC16_LO =
     entry kinds.BaseToToc r.R_PPC64_TOC16 without_high_part ∷ []
 ppc64_entries r.R_PPC64_TOC16_LO_DS =
     entry kinds.BaseToToc r.R_PPC64_TOC16_DS without_high_part ∷ []
-ppc64_entries r.R_PPC64_GOT16_HA = entry kinds.NoOp r.R_PPC64_TOC16_HA to_toc_distance ∷ []
+ppc64_entries r.R_PPC64_GOT16_HA =
+    entry kinds.KeepAddis r.R_PPC64_TOC16_HA to_toc_distance ∷ []
 ppc64_entries r.R_PPC64_GOT16_LO_DS = entry kinds.LdToAddi r.R_PPC64_TOC16_LO to_toc_distance ∷ []
 ppc64_entries r.R_PPC64_GOT_PCREL34 = entry kinds.PldToPaddi r.R_PPC64_PCREL34 to_distance ∷ []
 ppc64_entries r.R_PPC64_GOT_TPREL16_HA = entry kinds.AddisToNop r.R_PPC64_NONE to_local_exec ∷ []
 ppc64_entries r.R_PPC64_GOT_TPREL16_LO_DS =
+    entry kinds.LdToAddisThread r.R_PPC64_TPREL16_HA to_local_exec ∷ []
+ppc64_entries r.R_PPC64_GOT_TPREL16_DS =
     entry kinds.LdToAddisThread r.R_PPC64_TPREL16_HA to_local_exec ∷ []
 ppc64_entries r.R_PPC64_TLS =
     entry kinds.AddToAddi r.R_PPC64_TPREL16_LO to_local_exec ∷
@@ -300,19 +320,24 @@ ppc64_entries r.R_PPC64_TLS =
     entry kinds.IndexedToDs r.R_PPC64_TPREL16_LO_DS to_local_exec_words ∷ []
 ppc64_entries r.R_PPC64_GOT_TLSGD16_HA =
     entry kinds.AddisToNop r.R_PPC64_NONE to_local_exec ∷
-    entry kinds.NoOp r.R_PPC64_GOT_TPREL16_HA to_initial_exec ∷ []
+    entry kinds.KeepAddis r.R_PPC64_GOT_TPREL16_HA to_initial_exec ∷ []
 ppc64_entries r.R_PPC64_GOT_TLSGD16_LO =
     entry kinds.AddiToAddisThread r.R_PPC64_TPREL16_HA to_local_exec ∷
     entry kinds.AddiToLd r.R_PPC64_GOT_TPREL16_LO_DS to_initial_exec ∷ []
+ppc64_entries r.R_PPC64_GOT_TLSGD16 =
+    entry kinds.AddiToAddisThread r.R_PPC64_TPREL16_HA to_local_exec ∷
+    entry kinds.AddiToLd r.R_PPC64_GOT_TPREL16_DS to_near_initial_exec ∷ []
 ppc64_entries r.R_PPC64_TLSGD =
     entry kinds.CallToAddi r.R_PPC64_TPREL16_LO to_local_exec ∷
     entry kinds.CallToAdd r.R_PPC64_NONE to_initial_exec ∷ []
 ppc64_entries r.R_PPC64_GOT_TLSLD16_HA =
-    entry kinds.AddisToNop r.R_PPC64_NONE (executable ∷ []) ∷ []
+    entry kinds.AddisToNop r.R_PPC64_NONE to_module ∷ []
 ppc64_entries r.R_PPC64_GOT_TLSLD16_LO =
-    entry kinds.AddiToAddisThread r.R_PPC64_NONE (executable ∷ []) ∷ []
+    entry kinds.AddiToAddisThread r.R_PPC64_NONE to_module ∷ []
+ppc64_entries r.R_PPC64_GOT_TLSLD16 =
+    entry kinds.AddiToAddisThread r.R_PPC64_NONE to_module ∷ []
 ppc64_entries r.R_PPC64_TLSLD =
-    entry kinds.CallToAddi4096 r.R_PPC64_NONE (executable ∷ []) ∷ []
+    entry kinds.CallToAddi4096 r.R_PPC64_NONE to_module ∷ []
 ppc64_entries r.R_PPC64_REL24 =
     entry kinds.NopToRestoreToc r.R_PPC64_REL24 (changed_toc ∷ []) ∷ []
 ppc64_entries name = []
@@ -362,33 +387,33 @@ AreChosenAlike first second lines =
     → IsPpc64Choice second section p (facts_at place facts) b
     → IsAmong (a, b) (lines ++ (choice kinds.NoOp first, choice kinds.NoOp second) ∷ [])
 
-abbrev pub nop : Ppc64Choice
-nop = choice kinds.AddisToNop r.R_PPC64_NONE
+abbrev pub to_nop : Ppc64Choice
+to_nop = choice kinds.AddisToNop r.R_PPC64_NONE
 
 abbrev pub TocPairsAreChosenAlike : Type 0
 TocPairsAreChosenAlike =
     AreChosenAlike r.R_PPC64_TOC16_HA r.R_PPC64_TOC16_LO
-    ((nop, choice kinds.BaseToToc r.R_PPC64_TOC16) ∷ [])
+    ((to_nop, choice kinds.BaseToToc r.R_PPC64_TOC16) ∷ [])
     × AreChosenAlike r.R_PPC64_TOC16_HA r.R_PPC64_TOC16_LO_DS
-    ((nop, choice kinds.BaseToToc r.R_PPC64_TOC16_DS) ∷ [])
+    ((to_nop, choice kinds.BaseToToc r.R_PPC64_TOC16_DS) ∷ [])
 
 abbrev pub GotPairIsChosenAlike : Type 0
 GotPairIsChosenAlike =
     AreChosenAlike r.R_PPC64_GOT16_HA r.R_PPC64_GOT16_LO_DS
-    ((choice kinds.NoOp r.R_PPC64_TOC16_HA, choice kinds.LdToAddi r.R_PPC64_TOC16_LO) ∷ [])
+    ((choice kinds.KeepAddis r.R_PPC64_TOC16_HA, choice kinds.LdToAddi r.R_PPC64_TOC16_LO) ∷ [])
 
 -- the two halves of the entry's address
 abbrev pub InitialExecPairIsChosenAlike : Type 0
 InitialExecPairIsChosenAlike =
     AreChosenAlike r.R_PPC64_GOT_TPREL16_HA r.R_PPC64_GOT_TPREL16_LO_DS
-    ((nop, choice kinds.LdToAddisThread r.R_PPC64_TPREL16_HA) ∷ [])
+    ((to_nop, choice kinds.LdToAddisThread r.R_PPC64_TPREL16_HA) ∷ [])
 
 -- one of the other relocations of general-dynamic TLS with the first one: its choices for
 -- local-exec and for initial-exec
 abbrev pub IsOfGeneralDynamic : Ppc64Relocation → Ppc64Choice → Ppc64Choice → Type 0
 IsOfGeneralDynamic name local initial =
     AreChosenAlike r.R_PPC64_GOT_TLSGD16_HA name
-    ((nop, local) ∷ (choice kinds.NoOp r.R_PPC64_GOT_TPREL16_HA, initial) ∷ [])
+    ((to_nop, local) ∷ (choice kinds.KeepAddis r.R_PPC64_GOT_TPREL16_HA, initial) ∷ [])
 
 abbrev pub GeneralDynamicIsChosenAlike : Type 0
 GeneralDynamicIsChosenAlike =
@@ -401,6 +426,24 @@ GeneralDynamicIsChosenAlike =
 abbrev pub LocalDynamicIsChosenAlike : Type 0
 LocalDynamicIsChosenAlike =
     AreChosenAlike r.R_PPC64_GOT_TLSLD16_HA r.R_PPC64_GOT_TLSLD16_LO
-    ((nop, choice kinds.AddiToAddisThread r.R_PPC64_NONE) ∷ [])
+    ((to_nop, choice kinds.AddiToAddisThread r.R_PPC64_NONE) ∷ [])
     × AreChosenAlike r.R_PPC64_GOT_TLSLD16_HA r.R_PPC64_TLSLD
-    ((nop, choice kinds.CallToAddi4096 r.R_PPC64_NONE) ∷ [])
+    ((to_nop, choice kinds.CallToAddi4096 r.R_PPC64_NONE) ∷ [])
+    × AreChosenAlike r.R_PPC64_GOT_TLSLD16 r.R_PPC64_TLSLD
+    ((choice kinds.AddiToAddisThread r.R_PPC64_NONE,
+    choice kinds.CallToAddi4096 r.R_PPC64_NONE) ∷ [])
+
+-- ---- the relocation that is skipped
+
+-- where that of the call itself is, from the offset of R_PPC64_TLSGD or R_PPC64_TLSLD on
+abbrev pub ppc64_skipped : RelaxationKind → Option ℕ
+ppc64_skipped kinds.CallToAddi = Some 0
+ppc64_skipped kinds.CallToAdd = Some 0
+ppc64_skipped kinds.CallToAddi4096 = Some 0
+ppc64_skipped kind = None
+
+-- The types of a `bl`.
+abbrev pub ppc64_may_be_skipped : Ppc64Relocation → Bool
+ppc64_may_be_skipped r.R_PPC64_REL24 = true
+ppc64_may_be_skipped r.R_PPC64_REL24_NOTOC = true
+ppc64_may_be_skipped name = false

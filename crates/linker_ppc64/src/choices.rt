@@ -13,8 +13,8 @@ ghost use Rattle.linker_ppc64.specs.Ppc64Rewrites.{ppc64_rewrite};
 
 use super::rewrites::RelaxationKind;
 use linker_elf::elf::choice_table::{
-    BOUND, CHANGED_TOC, ChoiceEntry, ChosenKind, Conditions, EXECUTABLE, FIXED_DISTANCE, Originals,
-    PRIVATE_BASE, ValueCondition, first_entry,
+    BOUND, CHANGED_TOC, ChoiceEntry, ChosenKind, Conditions, EXECUTABLE, FIXED_DISTANCE,
+    GROUP_FITS, Originals, PRIVATE_BASE, ValueCondition, first_entry,
 };
 use linker_elf::elf::{Choice, LinkFacts, Operands};
 use linker_elf::ppc64::Ppc64Relocation;
@@ -78,21 +78,25 @@ const TO_DISTANCE: Conditions<Ppc64Relocation> =
 
 /// The offset from the thread pointer in the instructions.
 const TO_LOCAL_EXEC: Conditions<Ppc64Relocation> =
-    conditions!(BOUND + EXECUTABLE, InReachIfKnown R_PPC64_TPREL16_HA);
+    conditions!(BOUND + EXECUTABLE + GROUP_FITS, InReachIfKnown R_PPC64_TPREL16_HA);
 
 /// The same of an access of whole words.
 const TO_LOCAL_EXEC_WORDS: Conditions<Ppc64Relocation> = conditions!(
-    BOUND + EXECUTABLE,
+    BOUND + EXECUTABLE + GROUP_FITS,
     InReachIfKnown R_PPC64_TPREL16_HA,
     InReachIfKnown R_PPC64_TPREL16_LO_DS
 );
 
 /// The offset from the thread pointer in the GOT.
 const TO_INITIAL_EXEC: Conditions<Ppc64Relocation> =
-    conditions!(EXECUTABLE, InReachIfKnown R_PPC64_GOT_TPREL16_HA);
+    conditions!(EXECUTABLE + GROUP_FITS, InReachIfKnown R_PPC64_GOT_TPREL16_HA);
+
+/// The same in an entry near the TOC pointer.
+const TO_NEAR_INITIAL_EXEC: Conditions<Ppc64Relocation> =
+    conditions!(EXECUTABLE + GROUP_FITS, InReachIfKnown R_PPC64_GOT_TPREL16_DS);
 
 /// The module's block from the thread pointer.
-const TO_MODULE: Conditions<Ppc64Relocation> = conditions!(EXECUTABLE);
+const TO_MODULE: Conditions<Ppc64Relocation> = conditions!(EXECUTABLE + GROUP_FITS);
 
 /// A call may change the TOC pointer.
 const AFTER_CALL: Conditions<Ppc64Relocation> = conditions!(CHANGED_TOC);
@@ -108,7 +112,7 @@ static TOC16_LO: &[Ppc64Entry] = &[entry!(BaseToToc => R_PPC64_TOC16, WITHOUT_HI
 
 static TOC16_LO_DS: &[Ppc64Entry] = &[entry!(BaseToToc => R_PPC64_TOC16_DS, WITHOUT_HIGH_PART)];
 
-static GOT16_HA: &[Ppc64Entry] = &[entry!(NoOp => R_PPC64_TOC16_HA, TO_TOC_DISTANCE)];
+static GOT16_HA: &[Ppc64Entry] = &[entry!(KeepAddis => R_PPC64_TOC16_HA, TO_TOC_DISTANCE)];
 
 static GOT16_LO_DS: &[Ppc64Entry] = &[entry!(LdToAddi => R_PPC64_TOC16_LO, TO_TOC_DISTANCE)];
 
@@ -120,6 +124,10 @@ static GOT_TPREL16_LO_DS: &[Ppc64Entry] = &[
     entry!(LdToAddisThread => R_PPC64_TPREL16_HA, TO_LOCAL_EXEC),
 ];
 
+static GOT_TPREL16_DS: &[Ppc64Entry] = &[
+    entry!(LdToAddisThread => R_PPC64_TPREL16_HA, TO_LOCAL_EXEC),
+];
+
 static TLS: &[Ppc64Entry] = &[
     entry!(AddToAddi => R_PPC64_TPREL16_LO, TO_LOCAL_EXEC),
     entry!(IndexedToD => R_PPC64_TPREL16_LO, TO_LOCAL_EXEC),
@@ -128,12 +136,17 @@ static TLS: &[Ppc64Entry] = &[
 
 static GOT_TLSGD16_HA: &[Ppc64Entry] = &[
     entry!(AddisToNop => R_PPC64_NONE, TO_LOCAL_EXEC),
-    entry!(NoOp => R_PPC64_GOT_TPREL16_HA, TO_INITIAL_EXEC),
+    entry!(KeepAddis => R_PPC64_GOT_TPREL16_HA, TO_INITIAL_EXEC),
 ];
 
 static GOT_TLSGD16_LO: &[Ppc64Entry] = &[
     entry!(AddiToAddisThread => R_PPC64_TPREL16_HA, TO_LOCAL_EXEC),
     entry!(AddiToLd => R_PPC64_GOT_TPREL16_LO_DS, TO_INITIAL_EXEC),
+];
+
+static GOT_TLSGD16: &[Ppc64Entry] = &[
+    entry!(AddiToAddisThread => R_PPC64_TPREL16_HA, TO_LOCAL_EXEC),
+    entry!(AddiToLd => R_PPC64_GOT_TPREL16_DS, TO_NEAR_INITIAL_EXEC),
 ];
 
 static TLSGD: &[Ppc64Entry] = &[
@@ -144,6 +157,8 @@ static TLSGD: &[Ppc64Entry] = &[
 static GOT_TLSLD16_HA: &[Ppc64Entry] = &[entry!(AddisToNop => R_PPC64_NONE, TO_MODULE)];
 
 static GOT_TLSLD16_LO: &[Ppc64Entry] = &[entry!(AddiToAddisThread => R_PPC64_NONE, TO_MODULE)];
+
+static GOT_TLSLD16: &[Ppc64Entry] = &[entry!(AddiToAddisThread => R_PPC64_NONE, TO_MODULE)];
 
 static TLSLD: &[Ppc64Entry] = &[entry!(CallToAddi4096 => R_PPC64_NONE, TO_MODULE)];
 
@@ -163,12 +178,15 @@ macro_rules! by_table {
             Ppc64Relocation::R_PPC64_GOT_PCREL34 => { let $table = GOT_PCREL34; $use }
             Ppc64Relocation::R_PPC64_GOT_TPREL16_HA => { let $table = GOT_TPREL16_HA; $use }
             Ppc64Relocation::R_PPC64_GOT_TPREL16_LO_DS => { let $table = GOT_TPREL16_LO_DS; $use }
+            Ppc64Relocation::R_PPC64_GOT_TPREL16_DS => { let $table = GOT_TPREL16_DS; $use }
             Ppc64Relocation::R_PPC64_TLS => { let $table = TLS; $use }
             Ppc64Relocation::R_PPC64_GOT_TLSGD16_HA => { let $table = GOT_TLSGD16_HA; $use }
             Ppc64Relocation::R_PPC64_GOT_TLSGD16_LO => { let $table = GOT_TLSGD16_LO; $use }
+            Ppc64Relocation::R_PPC64_GOT_TLSGD16 => { let $table = GOT_TLSGD16; $use }
             Ppc64Relocation::R_PPC64_TLSGD => { let $table = TLSGD; $use }
             Ppc64Relocation::R_PPC64_GOT_TLSLD16_HA => { let $table = GOT_TLSLD16_HA; $use }
             Ppc64Relocation::R_PPC64_GOT_TLSLD16_LO => { let $table = GOT_TLSLD16_LO; $use }
+            Ppc64Relocation::R_PPC64_GOT_TLSLD16 => { let $table = GOT_TLSLD16; $use }
             Ppc64Relocation::R_PPC64_TLSLD => { let $table = TLSLD; $use }
             Ppc64Relocation::R_PPC64_REL24 => { let $table = REL24; $use }
             _ => { let $table = OTHERS; $use }

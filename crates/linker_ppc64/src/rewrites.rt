@@ -2,7 +2,7 @@
 
 ghost use Rattle.std.proofs.Common.{ap};
 ghost use Rattle.std.specs.Prelude.{slice_get, ◌≡◌, ◌≤◌, ◌↔◌, ◌+◌, ◌*◌, ◌^◌, ◌++◌, IsTrue, Some};
-ghost use Rattle.std.specs.Prelude.{length, take, drop};
+ghost use Rattle.std.specs.Prelude.{length, take, drop, IfSome, IfNone};
 ghost use Rattle.std.specs.Int.{from_le_bytes, to_le_bytes, w32};
 ghost use Rattle.linker_base.specs.Bits.{field};
 ghost use Rattle.linker_base.specs.Rewrite.{CanRewrite, rewritten, offset_after, addend_after};
@@ -19,12 +19,16 @@ ghost use Rattle.linker_ppc64.specs.Ppc64Rewrites.{addis_of_thread, li_of, over_
 ghost use Rattle.linker_ppc64.specs.Ppc64Rewrites.{by_displacement};
 ghost use Rattle.linker_ppc64.specs.Ppc64Rewrites.{by_word_displacement, ppc64_rewrite};
 ghost use Rattle.linker_ppc64.specs.Ppc64Rewrites.{ppc64_rewrites, ppc64_modifier, two_words};
+ghost use Rattle.linker_ppc64.specs.Ppc64Rewrites.{ppc64_skipped, ppc64_may_be_skipped};
 ghost use Rattle.linker_ppc64.specs.declared.rewrites.RelaxationKind.TheVariants.{NoOp};
+ghost use Rattle.linker_base.specs.declared.relaxation.RelocationModifier.TheVariants.{Normal};
+ghost use Rattle.linker_base.specs.declared.relaxation.RelocationModifier.TheVariants.{SkipNextRelocation};
 
 use linker_base::relaxation::RelocationModifier;
 use linker_base::rewrite::{RewriteWindow, has_window, overwrite, window_is_in};
 use linker_base::utils::u32_from_slice;
 use linker_elf::elf::InstructionRewrite;
+use linker_elf::ppc64::Ppc64Relocation;
 
 /// A rewrite of an instruction, or of a call and the `nop` after it (64-bit ELF V2 ABI for Power,
 /// "TOC Optimizations" and "TLS Linkage Optimizations"). The window is the instruction's 4 bytes,
@@ -78,6 +82,8 @@ pub enum RelaxationKind {
     /// Turns the `nop` after a call into `ld 2,24(1)`, which restores the TOC pointer. The offset
     /// is that of the call, which stays.
     NopToRestoreToc,
+    /// Leaves `addis rT,2` as it is; only the kind of its relocation changes.
+    KeepAddis,
 }
 
 const NOP: u32 = 0x6000_0000;
@@ -374,6 +380,7 @@ impl RelaxationKind {
             12 => RelaxationKind::CallToAdd,
             13 => RelaxationKind::CallToAddi4096,
             14 => RelaxationKind::NopToRestoreToc,
+            15 => RelaxationKind::KeepAddis,
             _ => return None,
         };
         Some(kind)
@@ -402,7 +409,7 @@ impl RelaxationKind {
         let _ = addend;
         let offset = *offset_in_section;
         match self {
-            RelaxationKind::NoOp => {}
+            RelaxationKind::NoOp | RelaxationKind::KeepAddis => {}
             RelaxationKind::AddisToNop => put_word(section_bytes, offset, NOP),
             RelaxationKind::BaseToToc => {
                 let word = word_at(section_bytes, offset);
@@ -461,13 +468,13 @@ impl RelaxationKind {
     }
 
     /// The bytes that `apply` writes, which begin at the offset: the instruction's 4. For a prefixed
-    /// instruction or a call and its `nop` they are 8, and for `NoOp` none.
+    /// instruction or a call and its `nop` they are 8, and for `NoOp` and `KeepAddis` none.
     #[inline]
     pub fn window(self) -> RewriteWindow
         ensures { result ≡ window_of_rewrite (ppc64_rewrite self) }
     {
         let len = match self {
-            RelaxationKind::NoOp => 0,
+            RelaxationKind::NoOp | RelaxationKind::KeepAddis => 0,
             RelaxationKind::PldToPaddi
             | RelaxationKind::CallToAddi
             | RelaxationKind::CallToAdd
@@ -481,7 +488,8 @@ impl RelaxationKind {
     /// Whether the instruction at an offset of a section is one that the rewrite is meant for:
     /// `can_apply`, and the opcodes and registers. `NoOp` is meant for any offset. No instruction
     /// is meant whose base is register 0, which stands for the number 0, nor an access with update,
-    /// which changes its base, nor a store of the base itself.
+    /// which changes its base, nor a store of the base itself. What adds register 13 is meant at a
+    /// multiple of 4: behind the first byte of a prefixed instruction stands another mark.
     #[inline]
     pub fn matches(self, section: &[u8], offset: u64) -> bool
         ensures exactly { IsTrue result ↔ ppc64_matches self section.now offset }
@@ -496,17 +504,15 @@ impl RelaxationKind {
         let word = word_at(section, offset);
         match self {
             RelaxationKind::NoOp => true,
-            RelaxationKind::AddisToNop => is_addis_of_toc(word),
+            RelaxationKind::AddisToNop | RelaxationKind::KeepAddis => is_addis_of_toc(word),
             RelaxationKind::BaseToToc => is_over_base(word),
             RelaxationKind::LdToAddi => is_ld(word),
             RelaxationKind::PldToPaddi => has_pld(section, offset),
             RelaxationKind::LdToAddisThread => is_ld(word) && target(word) != 0,
-            RelaxationKind::AddToAddi => is_add_of_thread(word),
-            RelaxationKind::IndexedToD => is_indexed(word),
-            RelaxationKind::IndexedToDs => is_indexed_word(word),
-            RelaxationKind::AddiToAddisThread | RelaxationKind::AddiToLd => {
-                is_addi(word) && target(word) == 3
-            }
+            RelaxationKind::AddToAddi => offset % 4 == 0 && is_add_of_thread(word),
+            RelaxationKind::IndexedToD => offset % 4 == 0 && is_indexed(word),
+            RelaxationKind::IndexedToDs => offset % 4 == 0 && is_indexed_word(word),
+            RelaxationKind::AddiToAddisThread | RelaxationKind::AddiToLd => is_addi(word),
             RelaxationKind::CallToAddi
             | RelaxationKind::CallToAdd
             | RelaxationKind::CallToAddi4096
@@ -528,6 +534,45 @@ impl RelaxationKind {
             _ => RelocationModifier::Normal,
         }
     }
+
+    /// Where the relocation is that `next_modifier` skips, in bytes from the offset of the
+    /// rewrite's own relocation on: that of the call itself, at the same offset. `None` where none
+    /// is skipped.
+    ///
+    /// The rewrite needs a relocation there whose type `may_be_skipped` and whose symbol is
+    /// `__tls_get_addr`.
+    ///
+    /// ```
+    /// use linker_utils::ppc64::RelaxationKind;
+    ///
+    /// assert_eq!(RelaxationKind::CallToAddi.skipped_offset(), Some(0));
+    /// assert_eq!(RelaxationKind::NopToRestoreToc.skipped_offset(), None);
+    /// ```
+    #[inline]
+    pub fn skipped_offset(self) -> Option<u64>
+        ensures exactly { result ≡ ppc64_skipped self }
+        ensures skipped { IfSome result (λ _. ppc64_modifier self ≡ SkipNextRelocation) }
+        ensures kept { IfNone result (ppc64_modifier self ≡ Normal) }
+    {
+        match self {
+            RelaxationKind::CallToAddi
+            | RelaxationKind::CallToAdd
+            | RelaxationKind::CallToAddi4096 => Some(0),
+            _ => None,
+        }
+    }
+}
+
+/// Whether a relocation has a type that a `bl` to `__tls_get_addr` has: only such a one may be
+/// skipped after a rewrite, where `skipped_offset` says.
+#[inline]
+pub fn may_be_skipped(name: Ppc64Relocation) -> bool
+    ensures { result ≡ ppc64_may_be_skipped name }
+{
+    matches!(
+        name,
+        Ppc64Relocation::R_PPC64_REL24 | Ppc64Relocation::R_PPC64_REL24_NOTOC
+    )
 }
 
 impl InstructionRewrite for RelaxationKind {

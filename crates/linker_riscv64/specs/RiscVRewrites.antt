@@ -2,7 +2,7 @@
 -- Relaxation").
 use Rattle.std.specs.Prelude.{◌≡◌, ℕ, ◌+◌, ◌*◌, List, Option, None, Some, ℤ, pos, negsuc, ◌≤ℤ◌, ◌≢◌}
 use Rattle.std.specs.Prelude.{◌-◌, ◌%◌, ◌^◌, Bool, [], ◌∷◌, ◌<ℤ◌, ◌+ℤ◌, ◌≤◌, length, ◌==◌, ◌&&◌}
-use Rattle.std.specs.Prelude.{◌||◌, nat_lt, IsTrue, ⊤, drop, ◌⊎◌, ◌++◌, true}
+use Rattle.std.specs.Prelude.{◌||◌, nat_lt, IsTrue, ⊤, drop, ◌⊎◌, ◌++◌, true, false}
 use Rattle.std.specs.Int.{w32, from_le_bytes, to_le_bytes, w16, w64, int_div_euclid, cast_signed}
 use Rattle.linker_elf.specs.RiscV.{riscv_form}
 use Rattle.linker_base.specs.Bits.{field, signed}
@@ -109,6 +109,18 @@ riscv_modifier kinds.Lo12Rs1ToZero = Normal
 riscv_modifier kinds.TailToJal = SkipNextRelocation
 riscv_modifier kinds.TailToCJ = SkipNextRelocation
 riscv_modifier kind = Normal
+
+-- where the mark `R_RISCV_RELAX` is that is skipped, from the offset on
+abbrev pub riscv_skipped : RelaxationKind → Option ℕ
+riscv_skipped kinds.CallToJal = Some 0
+riscv_skipped kinds.Hi20Delete = Some 0
+riscv_skipped kinds.TailToJal = Some 0
+riscv_skipped kinds.TailToCJ = Some 0
+riscv_skipped kind = None
+
+abbrev pub riscv_may_be_skipped : RiscVRelocation → Bool
+riscv_may_be_skipped r.R_RISCV_RELAX = true
+riscv_may_be_skipped name = false
 
 abbrev pub deleted_from : ℕ → ℕ → Option DeletedBytes
 deleted_from start count = Some record { start = start; count = count }

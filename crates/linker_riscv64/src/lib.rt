@@ -21,7 +21,7 @@ pub use packing::{
     PackError, RejectedCall, calls_apart, first_not_apart, pack_into, pack_section,
     packed_calls_reach_targets, packed_len,
 };
-pub use rewrites::RelaxationKind;
+pub use rewrites::{RelaxationKind, may_be_skipped};
 pub use shrinking::{
     AsChoice, calls_shrinkable, first_not_shrinkable, shrink_calls, shrink_calls_into,
     shrunk_calls_are_accepted,

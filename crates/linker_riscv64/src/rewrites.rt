@@ -3,7 +3,7 @@
 ghost use Rattle.linker_riscv64.specs.RiscVRewrites.{riscv_rewrites};
 ghost use Rattle.std.proofs.Common.{ap};
 ghost use Rattle.std.specs.Prelude.{slice_get, ◌≡◌, ◌≤◌, ◌↔◌, IsTrue, Some, length, ◌≢◌, ◌+◌, ◌++◌};
-ghost use Rattle.std.specs.Prelude.{take, drop};
+ghost use Rattle.std.specs.Prelude.{take, drop, IfSome, IfNone};
 ghost use Rattle.std.specs.Int.{from_le_bytes, to_le_bytes, w16, w32};
 ghost use Rattle.linker_base.specs.Rewrite.{CanRewrite, rewritten, offset_after, addend_after};
 ghost use Rattle.linker_base.specs.RewriteWindow.{window_of_rewrite};
@@ -19,7 +19,10 @@ ghost use Rattle.linker_riscv64.specs.RiscVRewrites.{IsClui};
 ghost use Rattle.linker_elf.specs.Agrees.{RowFits};
 ghost use Rattle.linker_elf.specs.Readings.{RowReadsNoOther};
 ghost use Rattle.linker_elf.specs.RiscVRelocations.{clui_row};
+ghost use Rattle.linker_riscv64.specs.RiscVRewrites.{riscv_skipped, riscv_may_be_skipped};
 ghost use Rattle.linker_riscv64.specs.declared.rewrites.RelaxationKind.TheVariants.{NoOp};
+ghost use Rattle.linker_base.specs.declared.relaxation.RelocationModifier.TheVariants.{Normal};
+ghost use Rattle.linker_base.specs.declared.relaxation.RelocationModifier.TheVariants.{SkipNextRelocation};
 
 use super::calls::{destination, is_call_pair, is_plain_call};
 use linker_base::bit_misc::BitExtraction;
@@ -27,7 +30,7 @@ use linker_base::relaxation::RelocationModifier;
 use linker_base::rewrite::{DeletedBytes, RewriteWindow, has_window, overwrite, window_is_in};
 use linker_base::utils::u32_from_slice;
 use linker_elf::elf::{InstructionRewrite, RelocationKindInfo, RiscVInstruction};
-use linker_elf::riscv64 as relocations;
+use linker_elf::riscv64::{self as relocations, RiscVRelocation};
 
 /// A rewrite of one instruction, or of a pair whose second instruction is then deleted.
 #[derive(Debug, Clone, Copy, PartialEq, Eq)]
@@ -426,6 +429,24 @@ impl RelaxationKind {
         }
     }
 
+    /// Where the relocation is that `next_modifier` skips, in bytes from the offset of the
+    /// rewrite's own relocation on: the `R_RISCV_RELAX` at the same offset. `None` where none is
+    /// skipped.
+    #[inline]
+    pub fn skipped_offset(self) -> Option<u64>
+        ensures exactly { result ≡ riscv_skipped self }
+        ensures skipped { IfSome result (λ _. riscv_modifier self ≡ SkipNextRelocation) }
+        ensures kept { IfNone result (riscv_modifier self ≡ Normal) }
+    {
+        match self {
+            RelaxationKind::CallToJal
+            | RelaxationKind::Hi20Delete
+            | RelaxationKind::TailToJal
+            | RelaxationKind::TailToCJ => Some(0),
+            _ => None,
+        }
+    }
+
     /// The bytes to be deleted after the rewrite. `None` where there are none: only `CallToJal`,
     /// `TailToJal`, `TailToCJ`, `Hi20ToCLui`, `Hi20Delete` and `Delete` have some.
     ///
@@ -492,6 +513,15 @@ impl RelaxationKind {
     {
         relocations::clui_row().info()
     }
+}
+
+/// Whether a relocation is the mark `R_RISCV_RELAX`: only it is skipped after a rewrite, where
+/// `skipped_offset` says.
+#[inline]
+pub fn may_be_skipped(name: RiscVRelocation) -> bool
+    ensures { result ≡ riscv_may_be_skipped name }
+{
+    matches!(name, RiscVRelocation::R_RISCV_RELAX)
 }
 
 impl InstructionRewrite for RelaxationKind {

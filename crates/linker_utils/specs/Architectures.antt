@@ -1,5 +1,5 @@
 -- What an architecture's codes and numbers name.
-use Rattle.std.specs.Prelude.{◌≡◌, ◌↔◌, ℕ, Bool, IsTrue, List, slice_get, Option, Some, None}
+use Rattle.std.specs.Prelude.{◌≡◌, ◌↔◌, ℕ, Bool, IsTrue, List, slice_get, Option, Some, None, false}
 use Rattle.linker_base.specs.Rewrite.{Rewrite, CanRewrite}
 use Rattle.linker_base.specs.declared.relaxation.RelocationModifier.{RelocationModifier}
 use Rattle.linker_aarch64.specs.AArch64Rewrites.{aarch64_rewrite, aarch64_modifier, aarch64_other}
@@ -20,6 +20,7 @@ use Rattle.linker_loongarch64.specs.LoongArchRewrites.{loongarch_deleted, loonga
 use Rattle.linker_elf.specs.Ppc64.{ppc64_forms}
 use Rattle.linker_ppc64.specs.Ppc64Rewrites.{IsPpc64Choice}
 use Rattle.linker_ppc64.specs.Ppc64Rewrites.{ppc64_matches}
+use Rattle.linker_ppc64.specs.Ppc64Rewrites.{ppc64_skipped, ppc64_may_be_skipped}
 use Rattle.linker_elf.specs.Ppc64Relocations.{ppc64_name, ppc64_row}
 use Rattle.linker_ppc64.specs.Ppc64Rewrites.{ppc64_rewrites, ppc64_rewrite, ppc64_modifier}
 use Rattle.linker_elf.specs.RiscV.{riscv_forms}
@@ -27,10 +28,12 @@ use Rattle.linker_riscv64.specs.RiscVRewrites.{riscv_rewrites, riscv_rewrite, ri
 use Rattle.linker_riscv64.specs.RiscVRewrites.{riscv_deleted}
 use Rattle.linker_riscv64.specs.RiscVRewrites.{IsRiscVChoice}
 use Rattle.linker_riscv64.specs.RiscVRewrites.{riscv_matches}
+use Rattle.linker_riscv64.specs.RiscVRewrites.{riscv_skipped, riscv_may_be_skipped}
 use Rattle.linker_elf.specs.RiscVRelocations.{riscv_relocation, riscv_name, riscv_uleb128_role}
 use Rattle.linker_x86_64.specs.X86Rewrites.{x86_64_rewrites, x86_64_rewrite, x86_64_modifier}
 use Rattle.linker_x86_64.specs.X86Rewrites.{IsX86Choice}
 use Rattle.linker_x86_64.specs.X86Rewrites.{x86_64_matches}
+use Rattle.linker_x86_64.specs.X86Rewrites.{x86_64_skipped, x86_64_may_be_skipped}
 use Rattle.linker_elf.specs.X86Relocations.{x86_64_name, x86_64_row}
 use Rattle.linker_aarch64.specs.declared.rewrites.RelaxationKind.TheVariants as aarch64
 use Rattle.linker_loongarch64.specs.declared.rewrites.RelaxationKind.TheVariants as loongarch64
@@ -83,6 +86,13 @@ IsRole RiscV = IsOf riscv_name riscv_uleb128_role
 IsRole LoongArch64 = IsOf loongarch_name loongarch_uleb128_role
 IsRole architecture = λ code role. role ≡ None
 
+-- whether it may be skipped after a rewrite
+abbrev pub IsSkippable : Architecture → ℕ → Bool → Type 0
+IsSkippable RiscV = IsOf riscv_name riscv_may_be_skipped
+IsSkippable Ppc64 = IsOf ppc64_name ppc64_may_be_skipped
+IsSkippable X86_64 = IsOf x86_64_name x86_64_may_be_skipped
+IsSkippable architecture = λ code answer. answer ≡ false
+
 -- ---- forms and rewrites, by their numbers
 
 abbrev pub of_some : {A B : Type 0} → (A → B) → Option A → Option B
@@ -129,6 +139,13 @@ relaxation_modifier (relaxations.RiscV kind) = riscv_modifier kind
 relaxation_modifier (relaxations.LoongArch64 kind) = loongarch_modifier kind
 relaxation_modifier (relaxations.Ppc64 kind) = ppc64_modifier kind
 relaxation_modifier (relaxations.X86_64 kind) = x86_64_modifier kind
+
+-- where the relocation is that is skipped, from the offset on
+abbrev pub relaxation_skipped : Relaxation → Option ℕ
+relaxation_skipped (relaxations.RiscV kind) = riscv_skipped kind
+relaxation_skipped (relaxations.Ppc64 kind) = ppc64_skipped kind
+relaxation_skipped (relaxations.X86_64 kind) = x86_64_skipped kind
+relaxation_skipped kind = None
 
 -- it leaves the instruction as it is
 abbrev pub relaxation_no_op : Relaxation → Type 0

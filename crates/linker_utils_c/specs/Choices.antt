@@ -3,6 +3,7 @@ use Rattle.std.specs.Prelude.{◌≡◌, ℕ, ◌==◌, not, Option, None, Some,
 use Rattle.linker_utils.specs.Architectures.{rewrite_of_number, relaxation_modifier}
 use Rattle.linker_utils.specs.Architectures.{relaxation_no_op}
 use Rattle.linker_utils.specs.Architectures.{relaxation_deleted, relaxation_other}
+use Rattle.linker_utils.specs.Architectures.{relaxation_skipped}
 use Rattle.linker_utils.specs.declared.architecture.Relaxation.{Relaxation}
 use Rattle.linker_utils.specs.declared.elf.Architecture.{Architecture}
 use Rattle.linker_elf.specs.declared.elf.choice.Choice.{Choice}
@@ -53,12 +54,18 @@ IsOther (Some other) numbers =
     (numbers.has_other ≡ 1) × (numbers.other_offset ≡ other.offset)
     × (numbers.other_relocation ≡ other.relocation)
 
+-- where the relocation is that is skipped; 0 where none is
+abbrev pub IsSkippedAt : Option ℕ → ChoiceNumbers → Type 0
+IsSkippedAt None numbers = numbers.skipped_offset ≡ 0
+IsSkippedAt (Some offset) numbers = numbers.skipped_offset ≡ offset
+
 -- a choice for an architecture, in numbers
 pub record IsChoiceInNumbers (architecture : Architecture) (chosen : Choice Relaxation ℕ)
     (numbers : ChoiceNumbers) : Type 0 where
   pub rewrite : rewrite_of_number architecture numbers.rewrite numbers.n ≡ Some chosen.kind
   pub relocation : numbers.relocation ≡ chosen.relocation
   pub modifier : numbers.modifier ≡ modifier_number (relaxation_modifier chosen.kind)
+  pub skipped : IsSkippedAt (relaxation_skipped chosen.kind) numbers
   pub deleted : IsDeleted (relaxation_deleted chosen.kind) numbers
   pub other : IsOther (relaxation_other chosen.kind) numbers
 

@@ -3,7 +3,7 @@
 ghost use Rattle.std.specs.Prelude.{◌≡◌, ◌≢◌, ◌≤◌, Option, IfSome, IfNone, length, false};
 ghost use Rattle.linker_elf.specs.Entries.{IsAnswerOf, IsGotAnswer, IsPltAnswer};
 ghost use Rattle.linker_elf.specs.declared.elf.RelocationKindInfo.{RelocationKindInfo};
-ghost use Rattle.linker_utils.specs.Architectures.{IsRow, IsElfName};
+ghost use Rattle.linker_utils.specs.Architectures.{IsRow, IsElfName, IsSkippable};
 ghost use Rattle.linker_utils.specs.Machines.{architecture_of};
 ghost use Rattle.linker_elf.specs.ElfNames.{ElfName};
 ghost use Rattle.linker_elf.specs.RiscVRelocations.{clui_row};
@@ -74,6 +74,20 @@ pub extern "C" fn linker_utils_may_use_plt(machine: u16, r_type: u32) -> bool
 {
     match Architecture::from_machine(machine) {
         Some(architecture) => architecture.may_use_plt(r_type),
+        None => false,
+    }
+}
+
+/// Whether the relocation with `r_type` has a type that one skipped after a rewrite has in files with
+/// `e_machine` `machine`. False where either is unknown.
+#[unsafe(no_mangle)]
+pub extern "C" fn linker_utils_may_be_skipped(machine: u16, r_type: u32) -> bool
+    ensures known { IfSome (architecture_of machine)
+        (λ architecture. IsSkippable architecture r_type result) }
+    ensures unknown { IfNone (architecture_of machine) (result ≡ false) }
+{
+    match Architecture::from_machine(machine) {
+        Some(architecture) => architecture.may_be_skipped(r_type),
         None => false,
     }
 }

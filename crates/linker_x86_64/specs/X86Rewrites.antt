@@ -3,7 +3,7 @@
 -- Format").
 use Rattle.std.specs.Prelude.{◌≡◌, ℕ, ◌+◌, ◌-◌, ◌/◌, ◌==◌, if◌then◌else◌, true, List, [], ◌∷◌}
 use Rattle.std.specs.Prelude.{slice_index, Option, None, Some, ℤ, pos, bit_and, bit_or, Bool, false}
-use Rattle.std.specs.Prelude.{◌&&◌, ◌||◌, nat_le, IsTrue, ◌++◌, drop, neg_ℤ}
+use Rattle.std.specs.Prelude.{◌&&◌, ◌||◌, nat_le, IsTrue, ◌++◌, drop, neg_ℤ, ⊤}
 use Rattle.std.specs.Int.{bit_at}
 use Rattle.linker_base.specs.Bits.{field}
 use Rattle.linker_base.specs.Rewrite.{Rewrite, replaces, CanRewrite}
@@ -14,7 +14,7 @@ use Rattle.linker_x86_64.specs.declared.rewrites.RelaxationKind.{RelaxationKind}
 use Rattle.linker_elf.specs.Choices.{Condition, Entry, entry, choice, operands_after, Applies}
 use Rattle.linker_elf.specs.Choices.{IsFirst, bound, weak_zero, fixed_address, fixed_distance}
 use Rattle.linker_elf.specs.Choices.{executable, local_exec_base, addend, in_reach}
-use Rattle.linker_elf.specs.Choices.{in_reach_if_known}
+use Rattle.linker_elf.specs.Choices.{in_reach_if_known, group_fits}
 use Rattle.linker_elf.specs.X86Relocations.{x86_64_row}
 use Rattle.linker_x86_64.specs.X86RelocationsAfter.{immediate_of}
 use Rattle.linker_elf.specs.declared.elf.choice.Choice.{Choice}
@@ -25,16 +25,17 @@ use Rattle.linker_x86_64.specs.declared.rewrites.RelaxationKind.TheVariants as k
 use Rattle.linker_elf.specs.declared.x86_64.relocations.X86_64Relocation.TheVariants as r
 
 -- R (bit 2) of a REX byte moves to B (bit 0)
-abbrev pub rex : ℕ → ℕ
-rex r = bit_or (bit_and r 0xfb) (bit_and r 0x04 / 4)
+abbrev pub rex_r_to_b : ℕ → ℕ
+rex_r_to_b r = bit_or (bit_and r 0xfb) (bit_and r 0x04 / 4)
 
 -- R4 and R3 (bits 6 and 2) of a REX2 byte move to B4 and B3 (bits 4 and 0)
-abbrev pub rex2 : ℕ → ℕ
-rex2 r = bit_or (bit_and r 0xbb) (bit_and r 0x44 / 4)
+abbrev pub rex2_r_to_b : ℕ → ℕ
+rex2_r_to_b r = bit_or (bit_and r 0xbb) (bit_and r 0x44 / 4)
 
 -- the prefix byte of an instruction whose relocated field follows n bytes
 abbrev pub rex_reg_to_rm : ℕ → ℕ → ℕ
-rex_reg_to_rm n r = if n == 3 then rex r else (if n == 4 then rex2 r else r)
+rex_reg_to_rm n r =
+    if n == 3 then rex_r_to_b r else (if n == 4 then rex2_r_to_b r else r)
 
 -- In an EVEX byte a clear bit 7 is set, and bit 5 is then cleared; then where bit 4 is clear, bits
 -- 4 and 3 are set.
@@ -75,14 +76,14 @@ absolute back bytes =
 
 -- these bytes are put, and the offset moves
 abbrev pub puts : ℕ → ℕ → List ℕ → (ℕ → ℕ) → (ℤ → ℤ) → Rewrite
-puts back len bytes offset addend =
+puts back len bytes offset new_addend =
     record {
       back = back;
       len = len;
       admits = λ _. true;
       bytes = λ _. bytes;
       offset = offset;
-      addend = addend;
+      addend = new_addend;
     }
 
 -- `mov` of an absolute value
@@ -385,6 +386,38 @@ x86_64_matches kind section o =
     CanRewrite (x86_64_rewrite kind) section o
     × IsTrue (is_one_at (x86_64_originals kind) section o)
 
+-- ---- the relocation that is skipped
+
+-- where that of the sequence's call is, from the offset on: the call, or the `movabs` before it,
+-- has its field there
+abbrev pub x86_64_skipped : RelaxationKind → Option ℕ
+x86_64_skipped kinds.TlsGdToLocalExec = Some 8
+x86_64_skipped kinds.TlsGdToLocalExecLarge = Some 6
+x86_64_skipped kinds.TlsLdToLocalExec = Some 5
+x86_64_skipped kinds.TlsLdToLocalExecNoPlt = Some 6
+x86_64_skipped kinds.TlsLdToLocalExec64 = Some 6
+x86_64_skipped kinds.TlsGdToInitialExec = Some 8
+x86_64_skipped kind = None
+
+-- `n` bytes after its first field a sequence has another one, behind the byte of an opcode
+abbrev pub HasFieldAt : ℕ → Original → Type 0
+HasFieldAt n r =
+    (opcode : ℕ) × (rest : List (ℕ × ℕ))
+    × (drop (r.back + n - 1) r.bytes ≡ byte opcode ∷ field4 ++ rest)
+
+abbrev pub HaveFieldAt : ℕ → List Original → Type 0
+HaveFieldAt n [] = ⊤
+HaveFieldAt n (r ∷ rs) = HasFieldAt n r × HaveFieldAt n rs
+
+-- The types that assemblers give the call of `__tls_get_addr`, or the `movabs` of its address.
+abbrev pub x86_64_may_be_skipped : X86_64Relocation → Bool
+x86_64_may_be_skipped r.R_X86_64_PLT32 = true
+x86_64_may_be_skipped r.R_X86_64_PC32 = true
+x86_64_may_be_skipped r.R_X86_64_GOTPCREL = true
+x86_64_may_be_skipped r.R_X86_64_GOTPCRELX = true
+x86_64_may_be_skipped r.R_X86_64_PLTOFF64 = true
+x86_64_may_be_skipped name = false
+
 -- x86-64: the entries by which a rewrite is chosen (x86-64 psABI, "Optimize GOTPCRELX Relocations";
 -- "ELF Handling For Thread-Local Storage", "x86-64").
 
@@ -418,14 +451,23 @@ local_exec_by kind =
     entry kind r.R_X86_64_TPOFF32
     (bound ∷ executable ∷ from_end_of_field ∷ in_reach_if_known r.R_X86_64_TPOFF32 0 ∷ [])
 
-abbrev pub initial_exec_by : RelaxationKind → X86Entry
-initial_exec_by kind =
+-- The entries of a sequence also ask that all of it can be rewritten. Of general-dynamic and
+-- local-dynamic TLS: where the rewrite skips a relocation there is that of a call of
+-- `__tls_get_addr`. Of descriptors: each relocation of the symbol's descriptors in the object fits.
+abbrev pub sequence_to_local_exec_by : RelaxationKind → X86Entry
+sequence_to_local_exec_by kind =
+    entry kind r.R_X86_64_TPOFF32
+    (bound ∷ executable ∷ group_fits ∷ from_end_of_field ∷ in_reach_if_known r.R_X86_64_TPOFF32 0
+    ∷ [])
+
+abbrev pub sequence_to_initial_exec_by : RelaxationKind → X86Entry
+sequence_to_initial_exec_by kind =
     entry kind r.R_X86_64_GOTTPOFF
-    (executable ∷ from_end_of_field ∷ in_reach_if_known r.R_X86_64_GOTTPOFF 0 ∷ [])
+    (executable ∷ group_fits ∷ from_end_of_field ∷ in_reach_if_known r.R_X86_64_GOTTPOFF 0 ∷ [])
 
 -- nothing is relocated any more
 abbrev pub unrelocated_by : RelaxationKind → X86Entry
-unrelocated_by kind = entry kind r.R_X86_64_NONE (executable ∷ [])
+unrelocated_by kind = entry kind r.R_X86_64_NONE (executable ∷ group_fits ∷ [])
 
 -- an offset in the module's TLS block becomes one from the thread pointer
 abbrev pub from_thread_pointer : X86_64Relocation → X86Entry
@@ -491,8 +533,9 @@ initial_exec_table n opcode =
 abbrev pub general_dynamic_table : Table
 general_dynamic_table =
     any_entry
-    (local_exec_by kinds.TlsGdToLocalExec ∷ local_exec_by kinds.TlsGdToLocalExecLarge
-    ∷ initial_exec_by kinds.TlsGdToInitialExec ∷ [])
+    (sequence_to_local_exec_by kinds.TlsGdToLocalExec
+    ∷ sequence_to_local_exec_by kinds.TlsGdToLocalExecLarge
+    ∷ sequence_to_initial_exec_by kinds.TlsGdToInitialExec ∷ [])
 
 abbrev pub local_dynamic_table : Table
 local_dynamic_table =
@@ -503,7 +546,8 @@ local_dynamic_table =
 abbrev pub descriptor_table : ℕ → Table
 descriptor_table n =
     table (lea_of_descriptor n)
-    (local_exec_by (kinds.TlsDescToLocalExec n) ∷ initial_exec_by kinds.TlsDescToInitialExec ∷ [])
+    (sequence_to_local_exec_by (kinds.TlsDescToLocalExec n)
+    ∷ sequence_to_initial_exec_by kinds.TlsDescToInitialExec ∷ [])
 
 -- by the relocation's name, and the opcode, which is two bytes before the field
 abbrev pub x86_64_table : X86_64Relocation → ℕ → Table

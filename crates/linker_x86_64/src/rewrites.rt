@@ -3,7 +3,7 @@
 ghost use Rattle.linker_x86_64.specs.X86Rewrites.{x86_64_rewrites};
 ghost use Rattle.std.proofs.Common.{ap};
 ghost use Rattle.std.specs.Prelude.{slice_get, ◌≡◌, ◌≤◌, ◌↔◌, ◌∷◌, [], IsTrue, Some};
-ghost use Rattle.std.specs.Prelude.{◌<◌, length};
+ghost use Rattle.std.specs.Prelude.{◌<◌, length, IfSome, IfNone};
 ghost use Rattle.linker_base.specs.Rewrite.{IsRewritable, CanRewrite, rewritten, offset_after};
 ghost use Rattle.linker_base.specs.Rewrite.{addend_after};
 ghost use Rattle.linker_base.specs.RewriteWindow.{window_of_rewrite};
@@ -13,6 +13,9 @@ ghost use Rattle.linker_x86_64.specs.X86Rewrites.{x86_64_rewrite, x86_64_modifie
 ghost use Rattle.linker_x86_64.specs.X86Rewrites.{original, is_at, is_one_at, legacy};
 ghost use Rattle.linker_x86_64.specs.X86Rewrites.{legacy_or_evex, lea_of_descriptor};
 ghost use Rattle.linker_x86_64.specs.X86Rewrites.{x86_64_originals, x86_64_matches};
+ghost use Rattle.linker_x86_64.specs.X86Rewrites.{x86_64_skipped, HaveFieldAt, x86_64_may_be_skipped};
+ghost use Rattle.linker_base.specs.declared.relaxation.RelocationModifier.TheVariants.{Normal};
+ghost use Rattle.linker_base.specs.declared.relaxation.RelocationModifier.TheVariants.{SkipNextRelocation};
 ghost use Rattle.linker_x86_64.specs.declared.rewrites.RelaxationKind.TheVariants.{NoOp};
 
 use super::X86_64Relocation;
@@ -796,6 +799,55 @@ impl RelaxationKind {
             | RelaxationKind::RexTestIndirectToAbsolute(_) => RelocationModifier::Normal,
         }
     }
+
+    /// Where the relocation is that `next_modifier` skips, in bytes from the offset of the
+    /// rewrite's own relocation on: that of the sequence's call, whose field of 4 bytes, or of 8 in
+    /// a `movabs`, is there. `None` where none is skipped.
+    ///
+    /// The rewrite needs a relocation there whose type `may_be_skipped` and whose symbol is
+    /// `__tls_get_addr`. Without it the next relocation may be that of another call.
+    ///
+    /// ```
+    /// use linker_utils::x86_64::RelaxationKind;
+    ///
+    /// // lea x@tlsld(%rip), %rdi; call __tls_get_addr@PLT
+    /// let sequence = [0x48, 0x8d, 0x3d, 0, 0, 0, 0, 0xe8, 0, 0, 0, 0];
+    /// assert!(RelaxationKind::TlsLdToLocalExec.matches(&sequence, 3));
+    /// assert_eq!(RelaxationKind::TlsLdToLocalExec.skipped_offset(), Some(5));
+    /// ```
+    #[inline]
+    pub fn skipped_offset(self) -> Option<u64>
+        ensures exactly { result ≡ x86_64_skipped self }
+        ensures skipped { IfSome result (λ _. x86_64_modifier self ≡ SkipNextRelocation) }
+        ensures kept { IfNone result (x86_64_modifier self ≡ Normal) }
+        ensures field { IfSome result (λ n. HaveFieldAt n (x86_64_originals self)) }
+    {
+        match self {
+            RelaxationKind::TlsGdToLocalExec | RelaxationKind::TlsGdToInitialExec => Some(8),
+            RelaxationKind::TlsLdToLocalExec => Some(5),
+            RelaxationKind::TlsGdToLocalExecLarge
+            | RelaxationKind::TlsLdToLocalExecNoPlt
+            | RelaxationKind::TlsLdToLocalExec64 => Some(6),
+            _ => None,
+        }
+    }
+}
+
+/// Whether a relocation has a type that the call of `__tls_get_addr` has in a sequence of
+/// general-dynamic or local-dynamic TLS: only such a one may be skipped after a rewrite, where
+/// `skipped_offset` says.
+#[inline]
+pub fn may_be_skipped(name: X86_64Relocation) -> bool
+    ensures { result ≡ x86_64_may_be_skipped name }
+{
+    matches!(
+        name,
+        X86_64Relocation::R_X86_64_PLT32
+            | X86_64Relocation::R_X86_64_PC32
+            | X86_64Relocation::R_X86_64_GOTPCREL
+            | X86_64Relocation::R_X86_64_GOTPCRELX
+            | X86_64Relocation::R_X86_64_PLTOFF64
+    )
 }
 
 impl InstructionRewrite for RelaxationKind {

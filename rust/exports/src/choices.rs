@@ -51,6 +51,8 @@ pub struct ChoiceNumbers {
     pub has_other: u8,
     /// The rewrite's count of bytes before the field; 0 if it has none.
     pub n: u8,
+    /// Where the relocation is that is skipped, from the offset on; 0 where none is.
+    pub skipped_offset: u8,
 }
 
 impl LinkFactNumbers {
@@ -88,6 +90,10 @@ pub(crate) fn in_numbers(chosen: Choice<Relaxation, u32>) -> ChoiceNumbers {
         Some(other) => (1, other.offset, other.relocation),
         None => (0, 0, 0),
     };
+    let skipped_offset = match chosen.kind.skipped_offset() {
+        Some(offset) => offset as u8,
+        None => 0,
+    };
     ChoiceNumbers {
         rewrite,
         relocation: chosen.relocation,
@@ -98,6 +104,7 @@ pub(crate) fn in_numbers(chosen: Choice<Relaxation, u32>) -> ChoiceNumbers {
         other_relocation,
         has_other,
         n,
+        skipped_offset,
     }
 }
 

@@ -1038,6 +1038,17 @@ extern "C" fn linker_utils_may_use_plt(
 }
 
 #[unsafe(no_mangle)]
+extern "C" fn linker_utils_may_be_skipped(
+    machine: u16,
+    r_type: u32,
+) -> bool {
+    crate::relocations::linker_utils_may_be_skipped(
+        machine,
+        r_type,
+    )
+}
+
+#[unsafe(no_mangle)]
 unsafe extern "C" fn linker_utils_relocation_name_nonnull(
     machine: u16,
     r_type: u32,

@@ -47,6 +47,15 @@ pub fn linker_utils_may_use_plt(machine: u16, r_type: u32) -> bool {
     }
 }
 
+/// Whether the relocation with `r_type` has a type that one skipped after a rewrite has in files with
+/// `e_machine` `machine`. False where either is unknown.
+pub fn linker_utils_may_be_skipped(machine: u16, r_type: u32) -> bool {
+    match Architecture::from_machine(machine) {
+        Some(architecture) => architecture.may_be_skipped(r_type),
+        None => false,
+    }
+}
+
 /// Writes the ELF name of a relocation, as "R_AARCH64_CALL26", to the beginning of `name`, without
 /// a NUL after it, and its length to `name_used`. No name is longer than 64 bytes.
 /// `UnknownArchitecture`; `UnknownRelocation` of a code without a name; `TooShort` where `name` has

@@ -7,7 +7,7 @@ use crate::linker_base::relaxation::RelocationModifier;
 use crate::linker_base::rewrite::{DeletedBytes, RewriteWindow, has_window, overwrite, window_is_in};
 use crate::linker_base::utils::u32_from_slice;
 use crate::linker_elf::elf::{InstructionRewrite, RelocationKindInfo, RiscVInstruction};
-use crate::linker_elf::riscv64 as relocations;
+use crate::linker_elf::riscv64::{self as relocations, RiscVRelocation};
 
 /// A rewrite of one instruction, or of a pair whose second instruction is then deleted.
 #[derive(Debug, Clone, Copy, PartialEq, Eq, Hash, PartialOrd, Ord)]
@@ -354,6 +354,21 @@ impl RelaxationKind {
         }
     }
 
+    /// Where the relocation is that `next_modifier` skips, in bytes from the offset of the
+    /// rewrite's own relocation on: the `R_RISCV_RELAX` at the same offset. `None` where none is
+    /// skipped.
+    #[must_use]
+    #[inline]
+    pub fn skipped_offset(self) -> Option<u64> {
+        match self {
+            RelaxationKind::CallToJal
+            | RelaxationKind::Hi20Delete
+            | RelaxationKind::TailToJal
+            | RelaxationKind::TailToCJ => Some(0),
+            _ => None,
+        }
+    }
+
     /// The bytes to be deleted after the rewrite. `None` where there are none: only `CallToJal`,
     /// `TailToJal`, `TailToCJ`, `Hi20ToCLui`, `Hi20Delete` and `Delete` have some.
     ///
@@ -410,6 +425,14 @@ impl RelaxationKind {
     pub fn clui_rel_info() -> RelocationKindInfo {
         relocations::clui_row().info()
     }
+}
+
+/// Whether a relocation is the mark `R_RISCV_RELAX`: only it is skipped after a rewrite, where
+/// `skipped_offset` says.
+#[must_use]
+#[inline]
+pub fn may_be_skipped(name: RiscVRelocation) -> bool {
+    matches!(name, RiscVRelocation::R_RISCV_RELAX)
 }
 
 impl InstructionRewrite for RelaxationKind {

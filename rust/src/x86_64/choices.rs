@@ -5,7 +5,7 @@ use super::rewrites::{is_lea_of_descriptor, is_legacy};
 use super::{RelaxationKind, X86_64Relocation};
 use crate::linker_elf::elf::choice_table::{
     BOUND, ChoiceEntry, ChosenKind, Conditions, EXECUTABLE, FIXED_ADDRESS, FIXED_DISTANCE,
-    LOCAL_EXEC_BASE, Originals, ValueCondition, WEAK_ZERO, first_entry,
+    GROUP_FITS, LOCAL_EXEC_BASE, Originals, ValueCondition, WEAK_ZERO, first_entry,
 };
 use crate::linker_elf::elf::{Choice, LinkFacts, Operands};
 
@@ -141,11 +141,21 @@ const DISTANCE: Conditions<X86_64Relocation> =
 const LOCAL_EXEC: Conditions<X86_64Relocation> =
     conditions!(BOUND + EXECUTABLE, FROM_END_OF_FIELD, InReachIfKnown R_X86_64_TPOFF32);
 
-const INITIAL_EXEC: Conditions<X86_64Relocation> =
-    conditions!(EXECUTABLE, FROM_END_OF_FIELD, InReachIfKnown R_X86_64_GOTTPOFF);
+/// The entries of a sequence also ask that all of it can be rewritten.
+const SEQUENCE_TO_LOCAL_EXEC: Conditions<X86_64Relocation> = conditions!(
+    BOUND + EXECUTABLE + GROUP_FITS,
+    FROM_END_OF_FIELD,
+    InReachIfKnown R_X86_64_TPOFF32
+);
+
+const SEQUENCE_TO_INITIAL_EXEC: Conditions<X86_64Relocation> = conditions!(
+    EXECUTABLE + GROUP_FITS,
+    FROM_END_OF_FIELD,
+    InReachIfKnown R_X86_64_GOTTPOFF
+);
 
 /// Nothing is relocated any more.
-const UNRELOCATED: Conditions<X86_64Relocation> = conditions!(EXECUTABLE, None);
+const UNRELOCATED: Conditions<X86_64Relocation> = conditions!(EXECUTABLE + GROUP_FITS, None);
 
 /// An offset in the module's TLS block becomes one from the thread pointer.
 const FROM_THREAD_POINTER_32: Conditions<X86_64Relocation> =
@@ -165,9 +175,9 @@ static BRANCH: &[X86Entry] = &[
 ];
 
 static TLSGD: &[X86Entry] = &[
-    entry!(TlsGdToLocalExec => R_X86_64_TPOFF32, LOCAL_EXEC),
-    entry!(TlsGdToLocalExecLarge => R_X86_64_TPOFF32, LOCAL_EXEC),
-    entry!(TlsGdToInitialExec => R_X86_64_GOTTPOFF, INITIAL_EXEC),
+    entry!(TlsGdToLocalExec => R_X86_64_TPOFF32, SEQUENCE_TO_LOCAL_EXEC),
+    entry!(TlsGdToLocalExecLarge => R_X86_64_TPOFF32, SEQUENCE_TO_LOCAL_EXEC),
+    entry!(TlsGdToInitialExec => R_X86_64_GOTTPOFF, SEQUENCE_TO_INITIAL_EXEC),
 ];
 
 static TLSLD: &[X86Entry] = &[
@@ -189,10 +199,12 @@ macro_rules! descriptor {
     ($n:literal) => {
         &[
             entry!(
-                TlsDescToLocalExec($n) => R_X86_64_TPOFF32, LOCAL_EXEC, LeaOfDescriptor($n)
+                TlsDescToLocalExec($n) => R_X86_64_TPOFF32, SEQUENCE_TO_LOCAL_EXEC,
+                LeaOfDescriptor($n)
             ),
             entry!(
-                TlsDescToInitialExec => R_X86_64_GOTTPOFF, INITIAL_EXEC, LeaOfDescriptor($n)
+                TlsDescToInitialExec => R_X86_64_GOTTPOFF, SEQUENCE_TO_INITIAL_EXEC,
+                LeaOfDescriptor($n)
             ),
         ]
     };
@@ -384,11 +396,16 @@ fn opcode_before(section: &[u8], offset: u64) -> u8 {
 /// are read where `has_addresses` says that they are known. So a `mov` takes an address as its
 /// immediate only where it is known, and otherwise becomes a `lea`.
 ///
-/// The `lea` and the call of a TLS descriptor have relocations of their own, and are chosen one by
-/// one, by the same facts. The call is rewritten in every executable. The `lea` is not, where it is
-/// another instruction or its value is out of reach. The linker has to see that both are rewritten,
-/// or neither. `R_X86_64_DTPOFF32` and `R_X86_64_DTPOFF64` are replaced only with
-/// `has_local_exec_base`, since a linker knows which sequence computed their base.
+/// What takes more than one relocation is rewritten only with `group_fits`. At `R_X86_64_TLSGD` and
+/// `R_X86_64_TLSLD` it says that a relocation whose type `may_be_skipped`, and whose symbol is
+/// `__tls_get_addr`, is where `skipped_offset` of the rewrite says. A linker chooses with it, looks
+/// there, and where there is none, chooses without it: the relocation stays. At the `lea` and the
+/// call of a TLS descriptor, which have relocations of their own and may be apart, it says that
+/// each relocation of the symbol's descriptors in the object can be rewritten with `group_fits`, by
+/// the same facts but for `place`: then all are, and alike.
+///
+/// `R_X86_64_DTPOFF32` and `R_X86_64_DTPOFF64` are replaced only with `has_local_exec_base`, since
+/// a linker knows which sequence computed their base.
 ///
 /// Bytes before the instruction are not tested. So a prefix 0x66, of operands of 16 bits, is not
 /// seen before an instruction of `R_X86_64_GOTPCRELX`; no compiler writes one.

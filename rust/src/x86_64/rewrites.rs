@@ -719,6 +719,50 @@ impl RelaxationKind {
             | RelaxationKind::RexTestIndirectToAbsolute(_) => RelocationModifier::Normal,
         }
     }
+
+    /// Where the relocation is that `next_modifier` skips, in bytes from the offset of the
+    /// rewrite's own relocation on: that of the sequence's call, whose field of 4 bytes, or of 8 in
+    /// a `movabs`, is there. `None` where none is skipped.
+    ///
+    /// The rewrite needs a relocation there whose type `may_be_skipped` and whose symbol is
+    /// `__tls_get_addr`. Without it the next relocation may be that of another call.
+    ///
+    /// ```
+    /// use linker_utils::x86_64::RelaxationKind;
+    ///
+    /// // lea x@tlsld(%rip), %rdi; call __tls_get_addr@PLT
+    /// let sequence = [0x48, 0x8d, 0x3d, 0, 0, 0, 0, 0xe8, 0, 0, 0, 0];
+    /// assert!(RelaxationKind::TlsLdToLocalExec.matches(&sequence, 3));
+    /// assert_eq!(RelaxationKind::TlsLdToLocalExec.skipped_offset(), Some(5));
+    /// ```
+    #[must_use]
+    #[inline]
+    pub fn skipped_offset(self) -> Option<u64> {
+        match self {
+            RelaxationKind::TlsGdToLocalExec | RelaxationKind::TlsGdToInitialExec => Some(8),
+            RelaxationKind::TlsLdToLocalExec => Some(5),
+            RelaxationKind::TlsGdToLocalExecLarge
+            | RelaxationKind::TlsLdToLocalExecNoPlt
+            | RelaxationKind::TlsLdToLocalExec64 => Some(6),
+            _ => None,
+        }
+    }
+}
+
+/// Whether a relocation has a type that the call of `__tls_get_addr` has in a sequence of
+/// general-dynamic or local-dynamic TLS: only such a one may be skipped after a rewrite, where
+/// `skipped_offset` says.
+#[must_use]
+#[inline]
+pub fn may_be_skipped(name: X86_64Relocation) -> bool {
+    matches!(
+        name,
+        X86_64Relocation::R_X86_64_PLT32
+            | X86_64Relocation::R_X86_64_PC32
+            | X86_64Relocation::R_X86_64_GOTPCREL
+            | X86_64Relocation::R_X86_64_GOTPCRELX
+            | X86_64Relocation::R_X86_64_PLTOFF64
+    )
 }
 
 impl InstructionRewrite for RelaxationKind {

@@ -7,11 +7,24 @@ use linker_utils::x86_64::{RelaxationKind, X86_64Relocation, choose, row};
 /// The address of a field before the rewrite.
 const PLACE: u64 = 0x401000;
 
+/// Whether other relocations have to fit too.
+fn is_of_sequence(name: X86_64Relocation) -> bool {
+    matches!(
+        name,
+        X86_64Relocation::R_X86_64_TLSGD
+            | X86_64Relocation::R_X86_64_TLSLD
+            | X86_64Relocation::R_X86_64_GOTPC32_TLSDESC
+            | X86_64Relocation::R_X86_64_CODE_4_GOTPC32_TLSDESC
+            | X86_64Relocation::R_X86_64_TLSDESC_CALL
+    )
+}
+
 /// What a linker knows that makes a rewrite of a field, after which it writes a number there.
 fn facts_of(name: X86_64Relocation, kind: RelaxationKind, number: u32) -> LinkFacts {
     let number = i64::from(number.cast_signed()).cast_unsigned();
     let operands = Operands { addend: -4, place: PLACE, tls_base: 0x8000, ..Operands::default() };
-    let facts = LinkFacts { has_addresses: true, ..LinkFacts::default() };
+    let group_fits = is_of_sequence(name);
+    let facts = LinkFacts { has_addresses: true, group_fits, ..LinkFacts::default() };
     match kind {
         RelaxationKind::MovIndirectToLea => LinkFacts {
             is_local: true,
@@ -111,6 +124,25 @@ fn choices_for_tls_sequences_are_those_of_linkers() {
         let kind = link(sequence.name, &mut section, sequence.offset, &facts);
         assert_eq!(kind, sequence.kind, "{:?}", sequence.kind);
         assert_eq!(section, sequence.after, "{:?}", sequence.kind);
+    }
+}
+
+/// Without the fact that all of it fits, nothing of a sequence is rewritten.
+#[test]
+fn sequences_that_do_not_fit_stay() {
+    let stays = |name, kind, number, section: &[u8], offset| {
+        let fitting = facts_of(name, kind, number);
+        let facts = LinkFacts { group_fits: false, ..fitting };
+        let unchanged = Choice { kind: RelaxationKind::NoOp, relocation: name };
+        let chosen = choose(name, section, offset, &facts);
+        assert_eq!(chosen == unchanged, is_of_sequence(name), "{name:?} {kind:?}");
+        assert_ne!(choose(name, section, offset, &fitting), unchanged, "{name:?} {kind:?}");
+    };
+    for it in &SEQUENCES {
+        stays(it.name, it.kind, it.field.map_or(0, |field| field.1), &it.before, it.offset);
+    }
+    for it in &REWRITES {
+        stays(it.name, it.kind, it.field.unwrap_or(0), &it.before, it.offset);
     }
 }
 
@@ -226,6 +258,7 @@ fn other_instructions_are_not_rewritten() {
         has_fixed_distance: true,
         is_executable: true,
         has_local_exec_base: true,
+        group_fits: true,
         has_addresses: true,
         operands: Operands { addend: -4, ..Operands::default() },
         ..LinkFacts::default()
