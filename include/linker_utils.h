@@ -960,11 +960,11 @@ static inline uint32_t linker_utils_choose(uint16_t machine, uint32_t r_type,
  *                     NO_OP             TLS_IE_PC_HI20  (10)
  *   TLS_DESC_PC_LO12  LOW_TO_ORI        TLS_LE_LO12     (8)
  *                     ADDI_TO_LD        TLS_IE_PC_LO12  (11)
- *   TLS_DESC_LD       REPLACE_WITH_NOP  NONE            (12)
- *   TLS_DESC_CALL     REPLACE_WITH_NOP  NONE            (13)
- *   TLS_LE_HI20_R     DELETE            NONE            (14)
- *   TLS_LE_ADD_R      DELETE            NONE            (14)
- *   TLS_LE_LO12_R     BASE_TO_TP        TLS_LE_LO12_R   (14)
+ *   TLS_DESC_LD       REPLACE_WITH_NOP  NONE            (11)
+ *   TLS_DESC_CALL     REPLACE_WITH_NOP  NONE            (11)
+ *   TLS_LE_HI20_R     DELETE            NONE            (12)
+ *   TLS_LE_ADD_R      DELETE            NONE            (12)
+ *   TLS_LE_LO12_R     BASE_TO_TP        TLS_LE_LO12_R   (12)
  *   (1) has_fixed_distance, is_marked, PCREL20_S2 in reach
  *   (2) has_fixed_distance, is_marked, PCREL20_S2 at -4 in reach
  *   (3) is_local, not is_ifunc, has_fixed_distance, is_marked, addend 0, PCREL20_S2 in reach
@@ -973,19 +973,13 @@ static inline uint32_t linker_utils_choose(uint16_t machine, uint32_t r_type,
  *   (5) is_local, not is_ifunc, has_fixed_distance, is_marked, addend 0, PCREL20_S2 at -4 in reach
  *   (6) is_local, not is_ifunc, has_fixed_distance, addend 0, PCALA_HI20 at -4 in
  *       -0x80000000..0x80000000 if known
- *   (7) is_local, not is_ifunc, is_executable, addend 0, TLS_LE_LO12 in 0x0..0x1000
- *   (8) is_local, not is_ifunc, is_executable, addend 0, TLS_LE_HI20 in -0x80000000..0x80000000 if
- *       known
+ *   (7) is_local, not is_ifunc, is_executable, group_fits, addend 0, TLS_LE_LO12 in 0x0..0x1000
+ *   (8) is_local, not is_ifunc, is_executable, group_fits, addend 0, TLS_LE_HI20 in
+ *       -0x80000000..0x80000000 if known
  *   (9) has_fixed_distance, is_marked, B26 in reach
- *   (10) is_executable, TLS_IE_PC_HI20 in -0x80000000..0x80000000 if known
- *   (11) is_executable, TLS_IE_PC_HI20 at -4 in -0x80000000..0x80000000 if known
- *   (12) is_executable, and either is_local and not is_ifunc and addend 0 and TLS_LE_HI20 in
- *       -0x80000000..0x80000000 if known, or TLS_IE_PC_HI20 at -8 in -0x80000000..0x80000000 if
- *       known
- *   (13) is_executable, and either is_local and not is_ifunc and addend 0 and TLS_LE_HI20 in
- *       -0x80000000..0x80000000 if known, or TLS_IE_PC_HI20 at -12 in -0x80000000..0x80000000 if
- *       known
- *   (14) is_marked, TLS_LE_LO12_R in -0x800..0x800
+ *   (10) is_executable, group_fits, TLS_IE_PC_HI20 in -0x80000000..0x80000000 if known
+ *   (11) is_executable, group_fits
+ *   (12) is_marked, TLS_LE_LO12_R in -0x800..0x800
  *
  * PowerPC64, with the prefixes R_PPC64_ and LINKER_UTILS_PPC64_REWRITE_:
  *   REL24                        NOP_TO_RESTORE_TOC    REL24              (1)

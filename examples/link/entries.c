@@ -203,11 +203,11 @@ static struct linker_utils_link_facts early_facts(const struct relocation *r) {
         .may_change_toc = is_ifunc(r->symbol) || toc_of(r->symbol) == 1};
 }
 
-/* PowerPC64 and x86-64: the sequence of thread-local storage that a relocation is part of, by what
- * the entry of the GOT has that it loads or hands to `__tls_get_addr`; else ADDRESS. */
+/* The sequence of thread-local storage that a relocation is part of, by what the entry of the GOT has
+ * that it loads or hands to `__tls_get_addr`; else ADDRESS. */
 static enum class sequence_of(const struct relocation *r) {
     uint32_t kind = row_of(r)->info.kind;
-    if (machine == EM_X86_64 && kind >= LINKER_UTILS_KIND_TLS_DESC) return DESCRIPTOR;
+    if (kind >= LINKER_UTILS_KIND_TLS_DESC) return DESCRIPTOR;
     if (machine == EM_PPC64 && r->type == R_PPC64_TLS) return THREAD_OFFSET;
     if (machine == EM_PPC64 && r->type == R_PPC64_TLSGD) return MODULE_OFFSET;
     return machine == EM_PPC64 && r->type == R_PPC64_TLSLD ? MODULE : class_of(r, kind);
@@ -256,9 +256,9 @@ static bool fits(struct section *s, const Elf64_Rela *elf, const Elf64_Rela *end
             skipped_by(&choice, s, elf, end));
 }
 
-/* PowerPC64 and x86-64: notes which sequences of thread-local storage stay, since one of their
- * instructions can't be rewritten. They are told by their symbols, as their instructions may be
- * anywhere. */
+/* Notes which sequences of thread-local storage stay, since one of their instructions can't be
+ * rewritten. They are told by their symbols, as their instructions may be anywhere. (All addends of
+ * a symbol are taken together.) */
 void note_sequences(struct object *o) {
     o->stays = take(o->symbols_len + 1, sizeof *o->stays);
     for (struct section *s = o->sections; s < o->sections + o->sections_len; s++) {

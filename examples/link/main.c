@@ -97,7 +97,7 @@ int main(int argc, char **argv) {
         s->offset = make_room(s->output, s->elf.st_value, s->elf.st_size);
     }
     for (struct object *o = objects; o; o = o->next) {
-        if (machine == EM_PPC64 || machine == EM_X86_64) note_sequences(o);
+        if (machine != EM_RISCV) note_sequences(o);
         for (size_t i = 0; i < o->sections_len; i++) copy_section(&o->sections[i]);
     }
     for (struct symbol *s = symbols; s; s = s->later) place_symbol(s);

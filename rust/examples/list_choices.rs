@@ -148,15 +148,12 @@ fn instructions(architecture: Architecture, originals: &str) -> String {
         .split([',', ')'])
         .filter_map(|number| number.trim().parse().ok())
         .collect();
-    let of_descriptor = |names: [&str; 4], at: usize| {
-        format!("`{}` of a TLS descriptor's sequence", names[at / 4])
-    };
     match (architecture, name, &numbers[..]) {
         (_, "OfRewrite", []) => String::new(),
         (Architecture::AArch64, "AdrpOfPair", []) => "`adrp xN` before `ldr xN, [xN]`".into(),
         (Architecture::AArch64, "LdrOfPair", []) => "`ldr xN, [xN]` behind `adrp xN`".into(),
         (Architecture::AArch64, "OfDescriptor", [at]) => {
-            of_descriptor(["adrp", "ldr", "add", "blr"], *at)
+            format!("`{}` of a TLS descriptor's sequence", ["adrp", "ldr", "add", "blr"][at / 4])
         }
         (Architecture::AArch64, "Bl", []) => "`bl`".into(),
         (Architecture::AArch64, "B", []) => "`b`".into(),
@@ -169,9 +166,12 @@ fn instructions(architecture: Architecture, originals: &str) -> String {
         (Architecture::LoongArch64, "Load", [4]) => "`ld.d rd, rd` behind `pcalau12i rd`".into(),
         (Architecture::LoongArch64, "Sum", [0]) => "`pcalau12i rd` before `addi.d rd, rd`".into(),
         (Architecture::LoongArch64, "Sum", [4]) => "`addi.d rd, rd` behind `pcalau12i rd`".into(),
-        (Architecture::LoongArch64, "Descriptor", [at]) => {
-            of_descriptor(["pcalau12i", "addi.d", "ld.d", "jirl"], *at)
-        }
+        (Architecture::LoongArch64, "Pcalau12i", []) => "`pcalau12i`".into(),
+        (Architecture::LoongArch64, "Ld", []) => "`ld.d`".into(),
+        (Architecture::LoongArch64, "PageOfDescriptor", []) => "`pcalau12i a0`".into(),
+        (Architecture::LoongArch64, "LowOfDescriptor", []) => "`addi.d a0, a0`".into(),
+        (Architecture::LoongArch64, "LoadOfDescriptor", []) => "`ld.d ra, a0, 0`".into(),
+        (Architecture::LoongArch64, "CallOfDescriptor", []) => "`jirl ra, ra, 0`".into(),
         (Architecture::LoongArch64, "Lu12i", []) => "`lu12i.w`".into(),
         (Architecture::LoongArch64, "AddTp", []) => "`add.d rd, rj, tp`".into(),
         // the opcode has a column of its own

@@ -224,9 +224,11 @@ entry_of_page : (o : Operands) → AreAddresses o → (ldr after : List ℕ)
     → in_64_bits (pos (page o.got_entry) +ℤ ((aarch64_form LdSt).machine (word_of after) *ℤ pos 8))
     ≡ o.got_entry
 entry_of_page o small ldr after a =
-    let t = sum_64 o.got_entry 0 in
-    let same : t ≡ o.got_entry = unbiased o.got_entry small.got_entry in
-    let l = offset_reads LdrRegister ldr_is _ 3 _ _ _ _ _ o ldr after a t (sum_below o.got_entry 0)
+    let t = sum_64 (sum_64 o.got_entry 0) 0 in
+    let same : t ≡ o.got_entry =
+    unbiased (sum_64 o.got_entry 0) (sum_below o.got_entry 0)
+    ∙ unbiased o.got_entry small.got_entry in
+    let l = offset_reads LdrRegister ldr_is _ 3 _ _ _ _ _ o ldr after a t (sum_below _ 0)
     (omega arith) refl in
     let z = pos (page o.got_entry) +ℤ pos (t % 2 ^ 12) in
     ap (λ k. in_64_bits (pos (page o.got_entry) +ℤ k)) l

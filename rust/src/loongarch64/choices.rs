@@ -1,11 +1,13 @@
 // Made by tools/erase of crates/linker_loongarch64/src/choices.rt.
 //! LoongArch: which rewrite a linker chooses for a relocation.
 
-use super::rewrites::{RelaxationKind, are_of_one_register, destination, is_addi, is_ld, word_at};
+use super::rewrites::{
+    RelaxationKind, are_of_one_register, destination, is_addi, is_ld, is_pcalau12i, source, word_at,
+};
 use crate::linker_base::rewrite::has_window;
 use crate::linker_elf::elf::choice_table::{
-    BOUND, ChoiceEntry, ChosenKind, Conditions, EXECUTABLE, FIXED_DISTANCE, MARKED, Originals,
-    ValueCondition, first_entry,
+    BOUND, ChoiceEntry, ChosenKind, Conditions, EXECUTABLE, FIXED_DISTANCE, GROUP_FITS, MARKED,
+    Originals, ValueCondition, first_entry,
 };
 use crate::linker_elf::elf::{Choice, LinkFacts, Operands};
 use crate::linker_elf::loongarch64::LoongArch64Relocation;
@@ -35,40 +37,16 @@ fn is_sum(section: &[u8], offset: u64) -> bool {
     is_addi(addi) && are_of_one_register(word_at(section, offset), addi)
 }
 
-#[inline]
-fn are_of_descriptor(pcala: u32, addi: u32, ld: u32, jirl: u32) -> bool {
-    is_addi(addi)
-        && are_of_one_register(pcala, addi)
-        && destination(addi) == 4
-        && ld == LOAD_OF_DESCRIPTOR
-        && jirl == CALL_OF_DESCRIPTOR
-}
-
-/// Whether the sequence of a TLS descriptor is at an offset of the section: `pcalau12i a0`,
-/// `addi.d a0, a0, #imm`, `ld.d ra, a0, 0` and `jirl ra, ra, 0` (LoongArch ELF psABI, the sequences
-/// of thread-local storage). Where other instructions stand between them none of it is rewritten.
-#[must_use]
-#[inline]
-pub fn is_tls_descriptor_sequence(section: &[u8], offset: u64) -> bool {
-    has_window(section, offset, 0, 16)
-        && are_of_descriptor(
-            word_at(section, offset),
-            word_at(section, offset + 4),
-            word_at(section, offset + 8),
-            word_at(section, offset + 12),
-        )
-}
-
-/// `lu12i.w`.
+/// `pcalau12i a0` of a TLS descriptor.
 #[inline(always)]
-fn is_lu12i(section: &[u8], offset: u64) -> bool {
-    has_window(section, offset, 0, 4) && word_at(section, offset) >> 25 == 0x0a
+fn is_page_of_descriptor(word: u32) -> bool {
+    is_pcalau12i(word) && destination(word) == 4
 }
 
-/// `add.d rd, rj, tp`.
+/// `addi.d a0, a0` of a TLS descriptor.
 #[inline(always)]
-fn is_add_tp(section: &[u8], offset: u64) -> bool {
-    has_window(section, offset, 0, 4) && word_at(section, offset) >> 10 == 0x422
+fn is_low_of_descriptor(word: u32) -> bool {
+    is_addi(word) && destination(word) == 4 && source(word) == 4
 }
 
 /// The instructions that an entry is for, of which the first is so many bytes before the offset.
@@ -80,8 +58,18 @@ pub enum AskedFor {
     Load(u64),
     /// `pcalau12i rd` and `addi.d rd, rd`.
     Sum(u64),
-    /// The sequence of a TLS descriptor.
-    Descriptor(u64),
+    /// `pcalau12i`.
+    Pcalau12i,
+    /// `ld.d`.
+    Ld,
+    /// `pcalau12i a0` of a TLS descriptor.
+    PageOfDescriptor,
+    /// `addi.d a0, a0` of a TLS descriptor.
+    LowOfDescriptor,
+    /// `ld.d ra, a0, 0` of a TLS descriptor.
+    LoadOfDescriptor,
+    /// `jirl ra, ra, 0` of a TLS descriptor.
+    CallOfDescriptor,
     /// `lu12i.w`.
     Lu12i,
     /// `add.d rd, rj, tp`.
@@ -95,11 +83,15 @@ impl Originals<RelaxationKind> for AskedFor {
             AskedFor::OfRewrite => kind.matches(section, offset),
             AskedFor::Load(back) => back <= offset && is_load(section, offset - back),
             AskedFor::Sum(back) => back <= offset && is_sum(section, offset - back),
-            AskedFor::Descriptor(back) => {
-                back <= offset && is_tls_descriptor_sequence(section, offset - back)
-            }
-            AskedFor::Lu12i => is_lu12i(section, offset),
-            AskedFor::AddTp => is_add_tp(section, offset),
+            _ if !has_window(section, offset, 0, 4) => false,
+            AskedFor::Pcalau12i => is_pcalau12i(word_at(section, offset)),
+            AskedFor::Ld => is_ld(word_at(section, offset)),
+            AskedFor::PageOfDescriptor => is_page_of_descriptor(word_at(section, offset)),
+            AskedFor::LowOfDescriptor => is_low_of_descriptor(word_at(section, offset)),
+            AskedFor::LoadOfDescriptor => word_at(section, offset) == LOAD_OF_DESCRIPTOR,
+            AskedFor::CallOfDescriptor => word_at(section, offset) == CALL_OF_DESCRIPTOR,
+            AskedFor::Lu12i => word_at(section, offset) >> 25 == 0x0a,
+            AskedFor::AddTp => word_at(section, offset) >> 10 == 0x422,
         }
     }
 }
@@ -123,13 +115,13 @@ macro_rules! entry {
     };
 }
 
-/// Conditions: facts, the addend and a value.
+/// Conditions: facts, the addend and a value, if any.
 macro_rules! conditions {
-    ($facts:expr, $addend:expr, $value:ident $relocation:ident $($bound:expr),+) => {
+    ($facts:expr, $addend:expr $(, $value:ident $relocation:ident $($bound:expr),+)?) => {
         Conditions {
             facts: $facts,
             addend: $addend,
-            values: &[ValueCondition::$value(LoongArch64Relocation::$relocation, $($bound),+)],
+            values: &[$(ValueCondition::$value(LoongArch64Relocation::$relocation, $($bound),+))?],
         }
     };
 }
@@ -163,13 +155,6 @@ macro_rules! bound_by_pages {
     };
 }
 
-/// The offset from the thread pointer in the GOT: `pcalau12i` is so many bytes before.
-macro_rules! to_initial_exec {
-    ($back:expr) => {
-        conditions!(EXECUTABLE, None, WithinIfKnown R_LARCH_TLS_IE_PC_HI20 SIGNED_32, $back)
-    };
-}
-
 /// The numbers of 32 bits in two's complement, the immediates of `ori`, and those of `addi.d`.
 const SIGNED_32: (i64, i64) = (-0x8000_0000, 0x8000_0000);
 
@@ -181,12 +166,28 @@ const SIGNED_12: (i64, i64) = (-0x800, 0x800);
 const BY_BRANCH: Conditions<LoongArch64Relocation> =
     conditions!(FIXED_DISTANCE + MARKED, None, InReach R_LARCH_B26 0);
 
-/// The offset from the thread pointer in the instructions, and by `ori` alone.
-const TO_LOCAL_EXEC: Conditions<LoongArch64Relocation> =
-    conditions!(BOUND + EXECUTABLE, Some(0), WithinIfKnown R_LARCH_TLS_LE_HI20 SIGNED_32, 0);
+/// The offset from the thread pointer in the instructions, which may stand apart, and by `ori` alone.
+const TO_LOCAL_EXEC: Conditions<LoongArch64Relocation> = conditions!(
+    BOUND + EXECUTABLE + GROUP_FITS,
+    Some(0),
+    WithinIfKnown R_LARCH_TLS_LE_HI20 SIGNED_32, 0
+);
 
-const TO_SHORT_LOCAL_EXEC: Conditions<LoongArch64Relocation> =
-    conditions!(BOUND + EXECUTABLE, Some(0), Within R_LARCH_TLS_LE_LO12 UNSIGNED_12, 0);
+const TO_SHORT_LOCAL_EXEC: Conditions<LoongArch64Relocation> = conditions!(
+    BOUND + EXECUTABLE + GROUP_FITS,
+    Some(0),
+    Within R_LARCH_TLS_LE_LO12 UNSIGNED_12, 0
+);
+
+/// The offset in the GOT: of the high half, which has the distance, and of the others.
+const PAGE_TO_INITIAL_EXEC: Conditions<LoongArch64Relocation> = conditions!(
+    EXECUTABLE + GROUP_FITS,
+    None,
+    WithinIfKnown R_LARCH_TLS_IE_PC_HI20 SIGNED_32, 0
+);
+
+const TO_INITIAL_EXEC: Conditions<LoongArch64Relocation> =
+    conditions!(EXECUTABLE + GROUP_FITS, None);
 
 /// The offset from the thread pointer in 12 signed bits.
 const BY_LOW_PART: Conditions<LoongArch64Relocation> =
@@ -217,33 +218,33 @@ static CALL36: &[LoongArchEntry] = &[
 ];
 
 static TLS_IE_PC_HI20: &[LoongArchEntry] = &[
-    entry!(ReplaceWithNop => R_LARCH_NONE, Load(0), TO_SHORT_LOCAL_EXEC),
-    entry!(PcalaToLu12i => R_LARCH_TLS_LE_HI20, Load(0), TO_LOCAL_EXEC),
+    entry!(ReplaceWithNop => R_LARCH_NONE, Pcalau12i, TO_SHORT_LOCAL_EXEC),
+    entry!(PcalaToLu12i => R_LARCH_TLS_LE_HI20, Pcalau12i, TO_LOCAL_EXEC),
 ];
 
 static TLS_IE_PC_LO12: &[LoongArchEntry] = &[
-    entry!(LowToOriZero => R_LARCH_TLS_LE_LO12, Load(4), TO_SHORT_LOCAL_EXEC),
-    entry!(LowToOri => R_LARCH_TLS_LE_LO12, Load(4), TO_LOCAL_EXEC),
+    entry!(LowToOriZero => R_LARCH_TLS_LE_LO12, Ld, TO_SHORT_LOCAL_EXEC),
+    entry!(LowToOri => R_LARCH_TLS_LE_LO12, Ld, TO_LOCAL_EXEC),
 ];
 
 static TLS_DESC_PC_HI20: &[LoongArchEntry] = &[
-    entry!(PcalaToLu12i => R_LARCH_TLS_LE_HI20, Descriptor(0), TO_LOCAL_EXEC),
-    entry!(NoOp => R_LARCH_TLS_IE_PC_HI20, Descriptor(0), to_initial_exec!(0)),
+    entry!(PcalaToLu12i => R_LARCH_TLS_LE_HI20, PageOfDescriptor, TO_LOCAL_EXEC),
+    entry!(NoOp => R_LARCH_TLS_IE_PC_HI20, PageOfDescriptor, PAGE_TO_INITIAL_EXEC),
 ];
 
 static TLS_DESC_PC_LO12: &[LoongArchEntry] = &[
-    entry!(LowToOri => R_LARCH_TLS_LE_LO12, Descriptor(4), TO_LOCAL_EXEC),
-    entry!(AddiToLd => R_LARCH_TLS_IE_PC_LO12, Descriptor(4), to_initial_exec!(4)),
+    entry!(LowToOri => R_LARCH_TLS_LE_LO12, LowOfDescriptor, TO_LOCAL_EXEC),
+    entry!(AddiToLd => R_LARCH_TLS_IE_PC_LO12, LowOfDescriptor, TO_INITIAL_EXEC),
 ];
 
 static TLS_DESC_LD: &[LoongArchEntry] = &[
-    entry!(ReplaceWithNop => R_LARCH_NONE, Descriptor(8), TO_LOCAL_EXEC),
-    entry!(ReplaceWithNop => R_LARCH_NONE, Descriptor(8), to_initial_exec!(8)),
+    entry!(ReplaceWithNop => R_LARCH_NONE, LoadOfDescriptor, TO_LOCAL_EXEC),
+    entry!(ReplaceWithNop => R_LARCH_NONE, LoadOfDescriptor, TO_INITIAL_EXEC),
 ];
 
 static TLS_DESC_CALL: &[LoongArchEntry] = &[
-    entry!(ReplaceWithNop => R_LARCH_NONE, Descriptor(12), TO_LOCAL_EXEC),
-    entry!(ReplaceWithNop => R_LARCH_NONE, Descriptor(12), to_initial_exec!(12)),
+    entry!(ReplaceWithNop => R_LARCH_NONE, CallOfDescriptor, TO_LOCAL_EXEC),
+    entry!(ReplaceWithNop => R_LARCH_NONE, CallOfDescriptor, TO_INITIAL_EXEC),
 ];
 
 static TLS_LE_HI20_R: &[LoongArchEntry] = &[entry!(Delete => R_LARCH_NONE, Lu12i, BY_LOW_PART)];
@@ -310,24 +311,33 @@ fn choice_by(
 /// for any name that isn't listed and for an offset that isn't in the section.
 ///
 /// `apply` may be called at the offset with the rewrite. It leaves offset and addend as they are.
-/// The sequence of a TLS descriptor is that of `is_tls_descriptor_sequence`. Where it becomes
-/// initial-exec, `got_entry` has to be the address of the entry for initial-exec.
+/// Where a TLS descriptor becomes initial-exec, `got_entry` has to be the address of the entry for
+/// initial-exec.
 ///
-/// Both halves of a pair, and all four relocations of a descriptor, are chosen alike
-/// (`relocations_are_chosen_alike`). The linker sees to the rest:
+/// Both halves of a pair are chosen alike (`relocations_are_chosen_alike`). The linker sees to the
+/// rest:
 ///
-/// - The relocations of one pair or sequence are all there, with the same symbol and addend, and
-///   the facts are the same for all of them, except for `place`, which is that of each. Where one
-///   is marked all are.
+/// - The relocations of one pair are all there, with the same symbol and addend, and the facts are
+///   the same for all of them, except for `place`, which is that of each. Where one is marked all
+///   are.
 /// - All of them are chosen before any is rewritten: what was rewritten isn't what the others are
 ///   chosen by.
-/// - Nothing jumps between the instructions.
+/// - Nothing jumps between the instructions of a pair.
 /// - It deletes the bytes that `RelaxationKind::deleted` names.
 /// - Once a `lu12i.w` of local-exec is deleted, its `add.d` has to be deleted and each low part of
 ///   it rewritten. They are chosen alike (`relocations_are_chosen_alike`), wherever they are, with
 ///   the same facts except for `place`, where a `lu12i.w` and an `add.d` of `tp` are there and each
 ///   low part is an instruction that `BaseToTp` is meant for. So all of them have to have the same
 ///   symbol and addend, and to be marked if one of them is.
+/// - The halves of initial-exec, `R_LARCH_TLS_IE_PC_HI20` and `R_LARCH_TLS_IE_PC_LO12`, may stand
+///   anywhere, and so may the four of a TLS descriptor. Each is chosen by its own instruction, and
+///   only with `group_fits`: the linker asks `fits` for each of them with that symbol and addend in
+///   the object, of initial-exec or of descriptors, and sets `group_fits` for all if all fit. So all
+///   of them are rewritten or none is, by the same facts except for `place`.
+/// - What a `pcalau12i` of them left in a register is read by the low halves alone, or copied, and
+///   each low half reads such a register on every path to it. Between the instructions of a
+///   descriptor nothing else reads or writes `a0` and `ra`, and nothing reads `ra` behind them. So
+///   compilers emit them.
 /// - The distance is that of the addresses in `facts`. Deleted bytes make it smaller, but the
 ///   padding of an alignment between may grow. `write` then returns an error if the distance is out
 ///   of reach.
@@ -361,9 +371,10 @@ pub fn choose(
 }
 
 /// With the same facts, except that each has its own place, both relocations of a pair are
-/// rewritten alike or neither is: of a load of a GOT entry, also where it loads an offset for
-/// initial-exec, and of an address. And so are the four of a TLS descriptor: all for local-exec,
-/// all for initial-exec, or none. And so are the `lu12i.w` of an offset from the thread pointer, its
-/// `add.d` and its low parts, wherever they are, where each is at an instruction that it asks for.
+/// rewritten alike or neither is: of a load of a GOT entry and of an address. And so are, wherever
+/// they are, where each is at an instruction that it asks for, a high and a low half of initial-exec;
+/// the four of a TLS descriptor, all for local-exec, all for initial-exec, or none, if the high half
+/// reaches the entry of initial-exec; and the `lu12i.w` of an offset from the thread pointer, its
+/// `add.d` and its low parts.
 #[doc(hidden)]
 pub fn relocations_are_chosen_alike() {}

@@ -78,6 +78,12 @@ pub(super) fn source(word: u32) -> u32 {
     word >> 5 & 0x1f
 }
 
+/// `pcalau12i`.
+#[inline(always)]
+pub(super) fn is_pcalau12i(word: u32) -> bool {
+    word >> 25 == 0x0d
+}
+
 /// `addi.d`.
 #[inline(always)]
 pub(super) fn is_addi(word: u32) -> bool {
@@ -109,7 +115,7 @@ fn is_into_own_source(word: u32) -> bool {
 /// Whether the words are `pcalau12i rd` and an instruction from rd into rd.
 #[inline(always)]
 pub(super) fn are_of_one_register(pcala: u32, word: u32) -> bool {
-    pcala >> 25 == 0x0d && is_into_own_source(word) && destination(pcala) == destination(word)
+    is_pcalau12i(pcala) && is_into_own_source(word) && destination(pcala) == destination(word)
 }
 
 /// Whether `pcaddu18i` and a `jirl` from its register, which links another one, are at an offset.
@@ -257,9 +263,9 @@ impl RelaxationKind {
             RelaxationKind::PcalaToPcaddi => is_low_pair(section, offset),
             RelaxationKind::CallToBl => is_call(section, offset, 1),
             RelaxationKind::CallToB => is_call(section, offset, 0),
-            RelaxationKind::PcalaToLu12i => word >> 25 == 0x0d,
+            RelaxationKind::PcalaToLu12i => is_pcalau12i(word),
             RelaxationKind::LowToOri | RelaxationKind::LowToOriZero => {
-                (is_addi(word) || is_ld(word)) && is_into_own_source(word)
+                is_addi(word) || is_ld(word)
             }
             RelaxationKind::BaseToTp => adds_immediate(word),
         }

@@ -4,7 +4,8 @@ use super::{ADRP_TO_ADD, NOP_ADR, TO_MOVES};
 use linker_utils::aarch64::{
     AArch64Relocation, RelaxationKind, choose, is_tls_descriptor_sequence, row,
 };
-use linker_utils::elf::{Choice, LinkFacts, Operands};
+use linker_utils::elf::{Architecture, Choice, LinkFacts, Operands};
+use linker_utils::utils::u32_from_slice;
 
 /// The bits beside the immediates of `adrp`, and of `add` and `ldr`.
 const ADRP: u32 = 0x9f00_001f;
@@ -245,14 +246,17 @@ fn entry_loads_become_moves_as_by_linkers() {
             tls_base: 0x2000,
             ..Operands::default()
         });
+        let facts = LinkFacts { group_fits: true, ..facts };
         let library = LinkFacts { is_executable: false, ..facts };
+        let others = LinkFacts { group_fits: false, ..facts };
         let mut section = before;
-        for (name, at) in [(page_name, 0u64), (low_name, 4)] {
+        for (name, at, masks) in [(page_name, 0u64, [ADRP & !0x1f, 0]), (low_name, 4, [0, LOW12])] {
             assert!(
-                is_chosen_by_each_bit(&mut section, &[ADRP, LOW12], name, at, &facts),
+                is_chosen_by_each_bit(&mut section, &masks, name, at, &facts),
                 "{high} and {low}"
             );
             assert_eq!(choose(name, &section, at, &library), unchanged(name), "{high:?}");
+            assert_eq!(choose(name, &section, at, &others), unchanged(name), "{high:?}");
         }
         let first = choose(page_name, &section, 0, &facts);
         let second = choose(low_name, &section, 4, &facts);
@@ -260,6 +264,62 @@ fn entry_loads_become_moves_as_by_linkers() {
         assert!(is_made(&mut section, 4, second, &facts), "{high} and {low}");
         assert_eq!(section, after, "{high:?}, {low:?}");
     }
+}
+
+/// The halves of initial-exec, by their offsets in code, as a linker rewrites them: whether each fits,
+/// and what becomes of the words.
+fn halves_made<const N: usize>(mut words: [u32; N], halves: &[(u64, bool)]) -> (bool, [u32; N]) {
+    let mut section = [0u8; 64];
+    for (bytes, word) in section.chunks_mut(4).zip(words) {
+        bytes.copy_from_slice(&word.to_le_bytes());
+    }
+    // the variable is 0x12350 bytes behind the thread pointer
+    let facts = own(Operands { symbol: 0x1_4350, tls_base: 0x2000, ..Operands::default() });
+    let named = |is_high: bool| match is_high {
+        true => AArch64Relocation::R_AARCH64_TLSIE_ADR_GOTTPREL_PAGE21,
+        false => AArch64Relocation::R_AARCH64_TLSIE_LD64_GOTTPREL_LO12_NC,
+    };
+    let group_fits = halves.iter().all(|&(at, is_high)| {
+        let code = named(is_high).elf_code();
+        Architecture::AArch64.fits(code, &section, at, &facts)
+    });
+    let facts = LinkFacts { group_fits, ..facts };
+    let chosen: Vec<_> = halves
+        .iter()
+        .map(|&(at, is_high)| (at, choose(named(is_high), &section, at, &facts)))
+        .collect();
+    for (at, choice) in chosen {
+        if choice.kind != RelaxationKind::NoOp {
+            assert!(is_made(&mut section, at, choice, &facts), "{at:?}");
+        }
+    }
+    for (bytes, word) in section.chunks(4).zip(&mut words) {
+        *word = u32_from_slice(bytes);
+    }
+    (group_fits, words)
+}
+
+/// `adrp x0`; `b` over two instructions to `ldr x0, [x0]`; `add`; `adrp x0`; `add`; that `ldr`: it has
+/// what either `adrp` leaves, and stands behind none. The words are what ld.lld 19 and GNU ld 2.40
+/// make of it.
+#[test]
+fn halves_are_rewritten_where_they_are() {
+    let code =
+        [0x9000_0000u32, 0x1400_0004, 0x9100_0421, 0x9000_0000, 0x9100_0442, 0xf940_0000];
+    let linked =
+        [0xd2a0_0020u32, 0x1400_0004, 0x9100_0421, 0xd2a0_0020, 0x9100_0442, 0xf284_6a00];
+    assert_eq!(halves_made(code, &[(0, true), (12, true), (20, false)]), (true, linked));
+}
+
+/// `adrp x1`, `ldr x0, [x1]` and `ldr x3, [x1]`: `movk` of another register than `movz` has no high
+/// half, which both linkers write nevertheless.
+#[test]
+fn halves_of_other_registers_stay() {
+    let code = [0x9000_0001u32, 0xf940_0020, 0xf940_0023];
+    assert_eq!(halves_made(code, &[(0, true), (4, false), (8, false)]), (false, code));
+    // one of them is enough
+    let mixed = [0x9000_0001u32, 0xf940_0020, 0xf940_0021];
+    assert_eq!(halves_made(mixed, &[(0, true), (4, false), (8, false)]), (false, mixed));
 }
 
 /// What becomes of a descriptor's sequence by the choices for its four relocations.

@@ -2,7 +2,7 @@
 //! Manual, volume 1, and as GNU ld writes them.
 
 use super::relaxed::{ENTRY, IMAGE, SITES};
-use linker_utils::elf::{LinkFacts, Operands};
+use linker_utils::elf::{Architecture, LinkFacts, Operands};
 use linker_utils::loongarch64::{
     LoongArch64Relocation as Name, RelaxationKind as Kind, choose, row,
 };
@@ -65,6 +65,7 @@ fn facts_of(symbol: u64, tls_base: u64, is_marked: bool) -> LinkFacts {
         is_executable: true,
         is_marked,
         has_addresses: true,
+        group_fits: true,
         operands: Operands {
             symbol,
             plt_entry: symbol,
@@ -132,6 +133,114 @@ fn other_offsets_go_by_the_got() {
     for (name, at, kind, want) in table {
         assert_eq!(rewritten(name, DESCRIPTOR, at, &facts), (kind, want), "{want:?}");
     }
+}
+
+/// `pcalau12i t0`, `ld.d t1, t0` and `addi.d t1, zero`.
+const PCALA_T0: u32 = 0x1a00_000c;
+
+const LD_T1_T0: u32 = 0x28c0_018d;
+
+const ADDI_T1_ZERO: u32 = 0x02c0_000d;
+
+/// The relocations of one variable, by their offsets in code, as a linker rewrites them: whether each
+/// fits, and what becomes of the words.
+fn group_made<const N: usize>(
+    mut words: [u32; N],
+    group: &[(u64, Name)],
+    facts: &LinkFacts,
+) -> (bool, [u32; N]) {
+    let mut section = [0u8; 64];
+    for (bytes, word) in section.chunks_mut(4).zip(words) {
+        bytes.copy_from_slice(&word.to_le_bytes());
+    }
+    let at_place = |at: u64, group_fits: bool| {
+        let place = facts.operands.place.wrapping_add(at);
+        LinkFacts { group_fits, operands: Operands { place, ..facts.operands }, ..*facts }
+    };
+    let group_fits = group.iter().all(|&(at, name)| {
+        Architecture::LoongArch64.fits(name.elf_code(), &section, at, &at_place(at, false))
+    });
+    let chosen: Vec<_> = group
+        .iter()
+        .map(|&(at, name)| {
+            let here = at_place(at, group_fits);
+            (at, here, choose(name, &section, at, &here))
+        })
+        .collect();
+    for (at, here, choice) in chosen {
+        let (mut offset, mut addend) = (at, 0);
+        choice.kind.apply(&mut section, &mut offset, &mut addend);
+        let row = row(choice.relocation).expect("a row");
+        if let (true, Some(value)) = (group_fits, row.value(&here.operands)) {
+            assert!(row.write(value, &mut section[at as usize..]).is_ok());
+        }
+    }
+    for (bytes, word) in section.chunks(4).zip(&mut words) {
+        *word = u32_from_slice(bytes);
+    }
+    (group_fits, words)
+}
+
+/// `pcalau12i t0`; `b` to the `ld.d`; `pcalau12i t0`; `ori t2, t2, 1`; `ld.d t1, t0`: the load has what
+/// either `pcalau12i` leaves, and its registers differ. GNU ld makes `lu12i.w t0` and `ori t1, t0` of such
+/// halves (`examples/compare/tests/gnu/loongarch64/instructions`).
+#[test]
+fn halves_are_rewritten_where_they_are() {
+    let code = [PCALA_T0, 0x5000_0c00, PCALA_T0, 0x0380_05ce, LD_T1_T0];
+    let halves = [
+        (0, Name::R_LARCH_TLS_IE_PC_HI20),
+        (8, Name::R_LARCH_TLS_IE_PC_HI20),
+        (16, Name::R_LARCH_TLS_IE_PC_LO12),
+    ];
+    let long = facts_of(0x1_2003_2345, 0x1_2002_0000, false);
+    let by_two = [0x1400_024c, 0x5000_0c00, 0x1400_024c, 0x0380_05ce, 0x038d_158d];
+    assert_eq!(group_made(code, &halves, &long), (true, by_two));
+    let short = facts_of(0x1_2002_0345, 0x1_2002_0000, false);
+    let by_one = [NOP, 0x5000_0c00, NOP, 0x0380_05ce, 0x038d_140d];
+    assert_eq!(group_made(code, &halves, &short), (true, by_one));
+}
+
+/// Of the extreme code model: `pcalau12i t0` and `addi.d t1, zero`, of which no `ori` is made.
+#[test]
+fn halves_of_other_instructions_stay() {
+    let code = [PCALA_T0, ADDI_T1_ZERO, PCALA_T0, LD_T1_T0];
+    let halves = [
+        (0, Name::R_LARCH_TLS_IE_PC_HI20),
+        (4, Name::R_LARCH_TLS_IE_PC_LO12),
+        (8, Name::R_LARCH_TLS_IE_PC_HI20),
+        (12, Name::R_LARCH_TLS_IE_PC_LO12),
+    ];
+    let facts = facts_of(0x1_2003_2345, 0x1_2002_0000, false);
+    assert_eq!(group_made(code, &halves, &facts), (false, code));
+    assert!(group_made(code, &halves[2..], &facts).0);
+}
+
+/// A descriptor with an `ori t2, t2, 1` between any two of its instructions, for local-exec and for
+/// initial-exec; and one of another register, which stays.
+#[test]
+fn parted_descriptors_are_rewritten() {
+    const ORI: u32 = 0x0380_05ce;
+    let [pcala, addi, ld, jirl] = DESCRIPTOR;
+    let code = [pcala, ORI, addi, ORI, ld, ORI, jirl];
+    let group = [
+        (0, Name::R_LARCH_TLS_DESC_PC_HI20),
+        (8, Name::R_LARCH_TLS_DESC_PC_LO12),
+        (16, Name::R_LARCH_TLS_DESC_LD),
+        (24, Name::R_LARCH_TLS_DESC_CALL),
+    ];
+    let facts = facts_of(0x1_2003_2345, 0x1_2002_0000, false);
+    let local = [0x1400_0244, ORI, 0x038d_1484, ORI, NOP, ORI, NOP];
+    assert_eq!(group_made(code, &group, &facts), (true, local));
+    let imported = LinkFacts { is_local: false, ..facts };
+    let initial = [0x1a00_0204, ORI, 0x28c0_8084, ORI, NOP, ORI, NOP];
+    assert_eq!(group_made(code, &group, &imported), (true, initial));
+    // the entry of initial-exec is more than 2 GiB away
+    let got_entry = facts.operands.got_entry + (1 << 32);
+    let far = LinkFacts { operands: Operands { got_entry, ..facts.operands }, ..imported };
+    assert_eq!(group_made(code, &group, &far), (false, code));
+    // `pcalau12i a1`
+    let other = [pcala + 1, ORI, addi, ORI, ld, ORI, jirl];
+    assert_eq!(group_made(other, &group, &facts), (false, other));
 }
 
 /// Where `choose` leaves a `nop`, GNU ld deletes the instruction.
