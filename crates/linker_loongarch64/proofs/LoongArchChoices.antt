@@ -51,7 +51,7 @@ of_addi s o h = (h.0, inl h.1.0)
 
 into_a0 : (s : List ℕ) (o : ℕ) → IsSingle IsLowOfDescriptor s o → HasWord s o (λ word. IsAddi word × IsIntoOwnSource word)
 into_a0 s o h =
-    (h.0, (h.1.0, record { same = h.1.1.1 ∙ sym h.1.1.0; not_zero = λ e. (let differs : 4 ≡ 0 = sym h.1.1.0 ∙ e in omega arith) }))
+    (h.0, (h.1.0, record { same = h.1.2 ∙ sym h.1.1; not_zero = λ e. (let differs : 4 ≡ 0 = sym h.1.1 ∙ e in omega arith) }))
 
 -- each entry is for instructions that its rewrite is meant for
 abbrev AreMeant : LoongArch64Relocation → List ℕ → ℕ → List LoongArchEntry → Type 0

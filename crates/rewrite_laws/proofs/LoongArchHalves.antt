@@ -421,7 +421,7 @@ initial_exec_short_low o s t differs spilled ld ori small is holds page_is alike
 
 -- ---- descriptors
 
-four_is_named : 4 ≢ 0
+four_is_named : ◌≢◌ {A = ℕ} 4 0
 four_is_named e = omega arith
 
 small_entry : (entry : ℕ) (o : Operands) → entry < 2 ^ 64 → AreAddresses o → AreAddresses (with_entry entry o)
@@ -464,7 +464,7 @@ descriptor_low : (o : Operands) (s : State) (addi addi1 : List ℕ) → IsLowOfD
     → step (word_of addi1) s ≡ Some (put 4 (entry_and_addend o) s)
 descriptor_low o s addi addi1 is page_is a =
     sum_step 4 4 (word_of addi1) (entry_and_addend o) s
-    (low_after 0x00b 4 4 _ addi addi1 a.written is.0 is.1.0 is.1.1)
+    (low_after 0x00b 4 4 _ addi addi1 a.written is.0 is.1 is.2)
     (reached (entry_and_addend o) (field (word_of addi1) 10 22) (read 4 s) (sum_below o.got_entry _) (addi_bits o addi addi1 a) page_is)
 
 pub descriptor_to_ori : laws.LowOfDescriptorToOri
@@ -477,7 +477,7 @@ descriptor_to_ori o s t differs spilled addi ori small is had alike made addi1 o
     steps_so (word_of addi1) (word_of ori1) s t (put 4 e s) (put 4 (thread_offset o) t) _
     (descriptor_low o s addi addi1 is had.old_is a)
     (or_step 4 4 (word_of ori1) (thread_offset o) t
-    (low_after 0x00e 4 4 _ ori ori1 b.written op (rd ∙ is.1.0) (rj ∙ is.1.1))
+    (low_after 0x00e 4 4 _ ori ori1 b.written op (rd ∙ is.1) (rj ∙ is.2))
     (or_value o 4 (word_of ori1) t had.new_is (ori_bits o ori ori1 b)))
     (alike_also 4 e (thread_offset o) differs spilled s t alike, has 4 e (thread_offset o) s t four_is_named)
 
@@ -492,7 +492,7 @@ descriptor_to_load o entry s t differs spilled addi ld small below is holds had 
     let rj : rj_of (word_of ld) ≡ rj_of (word_of addi) = omega arith in
     steps_so (word_of addi1) (word_of ld1) s t (put 4 e s) (put 4 (thread_offset o) t) _
     (descriptor_low o s addi addi1 is had.old_is a)
-    (load_step 4 4 (word_of ld1) f t (low_after 0x0a3 4 4 _ ld ld1 b.written op (rd ∙ is.1.0) (rj ∙ is.1.1))
+    (load_step 4 4 (word_of ld1) f t (low_after 0x0a3 4 4 _ ld ld1 b.written op (rd ∙ is.1) (rj ∙ is.2))
     (reached f (field (word_of ld1) 10 22) (read 4 t) (sum_below entry _) (load_bits o2 ld ld1 b) had.new_is)
     ∙ ap (λ v. Some (put 4 v t)) holds)
     (alike_also 4 e (thread_offset o) differs spilled s t alike, has 4 e (thread_offset o) s t four_is_named)
@@ -510,10 +510,8 @@ descriptor_load o s t differs spilled ld nop small is had alike made =
     (nop_step (word_of nop) t word)
     (
       alike_first 1 f differs spilled s t alike,
-      (
-        record { old_is = unwritten 4 1 f s refl ∙ had.old_is; new_is = had.new_is },
-        written_there 1 f s (λ z. omega arith),
-      ),
+      record { old_is = unwritten 4 1 f s refl ∙ had.old_is; new_is = had.new_is },
+      written_there 1 f s (λ z. omega arith),
     )
 
 pub descriptor_call : laws.CallOfDescriptorToNop
