@@ -1,15 +1,14 @@
 -- The halves of initial-exec, each by itself.
-use Rattle.std.proofs.Common.{◌≡◌, ◌≢◌, ℕ, ◌+◌, ◌-◌, ◌*◌, ◌/◌, ◌%◌, ◌^◌, ◌<◌, Bool, false, refl, sym}
-use Rattle.std.proofs.Common.{◌∙◌, ap, subst, arith, List, eqb, cond, ℤ, pos, ◌+ℤ◌, ◌*ℤ◌, Some, inl}
+use Rattle.std.proofs.Common.{◌≡◌, ℕ, ◌+◌, ◌-◌, ◌*◌, ◌/◌, ◌%◌, ◌^◌, ◌<◌, Bool, refl, sym}
+use Rattle.std.proofs.Common.{◌∙◌, ap, subst, arith, List, eqb, ℤ, pos, ◌+ℤ◌, ◌*ℤ◌, Some, inl}
 use Rattle.std.proofs.Common.{inr}
 use Rattle.std.specs.Prelude.{IsSomeAnd, not, ◌&&◌, nat_lt}
-use Rattle.std.specs.Int.{w64, cast_signed, bit_at, int_rem_euclid, from_le_bytes, w32}
+use Rattle.std.specs.Int.{w64, cast_signed, bit_at, int_rem_euclid}
 use Rattle.std.proofs.lemmas.Bool.{eq-eqb, ne_eqb, cond-true, cond-false, or_parts}
 use Rattle.std.proofs.lemmas.Bool.Decides.{eqb_tells}
 use Rattle.std.proofs.lemmas.Int.{ints, int_rem_euclid_is}
 use Rattle.linker_base.specs.Bits.{field}
-use Rattle.linker_base.specs.Form.{window_of}
-use Rattle.linker_aarch64.specs.AArch64Rewrites.{rd_of, rn_of, IsLdr64, IsIntoOwnSource}
+use Rattle.linker_aarch64.specs.AArch64Rewrites.{rd_of}
 use Rattle.linker_elf.specs.AArch64.{aarch64_form, shift_of}
 use Rattle.linker_elf.specs.Agrees.{bits_from}
 use Rattle.linker_elf.specs.Elf.{bit_bounds}
@@ -27,8 +26,8 @@ use Rattle.linker_elf.specs.declared.elf.value.Operands.{Operands}
 use Rattle.linker_elf.proofs.Relocated.{plain_written}
 use Rattle.linker_elf.proofs.RowsAgree.{aarch64_rows}
 use Rattle.relocation_laws.specs.AArch64Laws.{movk, movn_or_movz}
-use Rattle.relocation_laws.specs.Schemes.{IsAddress, AreAddresses, symbol_address, tls_base}
-use Rattle.relocation_laws.proofs.Instructions.{entry_sum_small, reads_bits, field_sum, relative}
+use Rattle.relocation_laws.specs.Schemes.{AreAddresses, symbol_address, tls_base}
+use Rattle.relocation_laws.proofs.Instructions.{reads_bits, field_sum, relative}
 use Rattle.relocation_laws.proofs.Instructions.{symbol_from_tls, unbiased}
 use Rattle.relocation_laws.proofs.Moves.{movn_first}
 use Rattle.relocation_laws.proofs.Pages.{offset_reads, IsUnsigned}
@@ -180,8 +179,7 @@ high_half o s t differs spilled adrp movz small at alike is named made adrp1 mov
     let w = cast_signed w64 (relative symbol_address tls_base o) in
     steps_so x y s t (set n (adrp_address x s) s) (set n (moved y) t) _
     (step_adrp x n s (decodes_adrp x first.opcode first.top) first.rd_is named)
-    (step_move y n t second.decodes rd named)
-    (
+    (step_move y n t second.decodes rd named) (
       alike_also n (adrp_address x s) (moved y) differs spilled s t alike,
       record {
         page_is = cond-true (eqb n n) (adrp_address x s) (s.registers n) (eq-eqb n n refl)

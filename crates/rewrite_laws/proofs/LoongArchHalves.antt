@@ -1,22 +1,20 @@
 -- Initial-exec and descriptors of LoongArch, each instruction by itself.
-use Rattle.std.proofs.Common.{◌≡◌, ◌≢◌, ℕ, ◌+◌, ◌-◌, ◌*◌, ◌/◌, ◌%◌, ◌^◌, ◌<◌, Bool, true, false, refl, sym, ◌∙◌, ap, subst, arith}
+use Rattle.std.proofs.Common.{◌≡◌, ◌≢◌, ℕ, ◌+◌, ◌*◌, ◌/◌, ◌%◌, ◌^◌, ◌<◌, Bool, true, false, refl, sym, ◌∙◌, ap, subst, arith}
 use Rattle.std.proofs.Common.{List, eqb, cond, ℤ, pos, ◌+ℤ◌, ◌-ℤ◌, ◌*ℤ◌, Option, Some, inl, inr, if◌then◌else◌}
 use Rattle.std.specs.Prelude.{IsSomeAnd, not, ◌&&◌, ◌||◌}
 use Rattle.std.specs.Int.{w64, cast_signed, int_rem_euclid}
 use Rattle.std.specs.Int.RustNames.{bit_or}
-use Rattle.std.proofs.lemmas.Bool.{eq-eqb, ne_eqb, cond-true, cond-false, or_parts}
+use Rattle.std.proofs.lemmas.Bool.{ne_eqb, cond-true, cond-false, or_parts}
 use Rattle.std.proofs.lemmas.Bool.Decides.{eqb_tells}
 use Rattle.std.proofs.lemmas.Int.{ints}
 use Rattle.std.proofs.lemmas.Nat.{or_shifted}
 use Rattle.linker_base.specs.Bits.{field, signed}
-use Rattle.linker_base.specs.Form.{window_of, place_sum, replaced}
+use Rattle.linker_base.specs.Form.{place_sum, replaced}
 use Rattle.linker_base.proofs.ConsecutiveBits.{consecutive_bits_sum}
 use Rattle.linker_elf.specs.Agrees.{bits_from}
 use Rattle.linker_elf.specs.Choices.{ValueIsWithin}
 use Rattle.linker_elf.specs.Elf.{IsWithin, bit_bounds}
-use Rattle.linker_elf.specs.LoongArch.{loongarch_form, page, pcalau12i}
-use Rattle.linker_elf.specs.LoongArchRelocations.{loongarch_row}
-use Rattle.linker_elf.specs.Relocate.{bits_taken}
+use Rattle.linker_elf.specs.LoongArch.{page, pcalau12i}
 use Rattle.linker_elf.specs.Value.{value_of, sum_64, difference_64}
 use Rattle.linker_elf.specs.declared.elf.AllowedRange.{AllowedRange}
 use Rattle.linker_elf.specs.declared.elf.PageMask.{PageMask}
@@ -29,7 +27,7 @@ use Rattle.linker_elf.specs.declared.loongarch64.relocations.LoongArch64Relocati
 use Rattle.linker_elf.proofs.LoongArch.{shift5_places}
 use Rattle.linker_elf.proofs.LoongArchAddresses.{page_and_distance}
 use Rattle.linker_loongarch64.specs.declared.rewrites.RelaxationKind.TheVariants as kinds
-use Rattle.linker_loongarch64.specs.LoongArchRewrites.{rd_of, rj_of, signed_32, IsLd, IsLowOfDescriptor}
+use Rattle.linker_loongarch64.specs.LoongArchRewrites.{rd_of, rj_of, signed_32, IsLowOfDescriptor}
 use Rattle.relocation_laws.specs.Schemes.{IsApplied, IsAddress, AreAddresses, symbol_address, entry_and_addend, tls_base}
 use Rattle.relocation_laws.proofs.Applied.{value_is, taken_bits}
 use Rattle.relocation_laws.proofs.Instructions.{row_of, reads_bits, relative, unbiased}
@@ -42,7 +40,7 @@ use Rattle.rewrite_laws.specs.Machine.{wrapped, loaded, also, but}
 use Rattle.rewrite_laws.proofs.AArch64Pairs.{word_made}
 use Rattle.rewrite_laws.proofs.AArch64Steps.{address_is}
 use Rattle.rewrite_laws.proofs.LoongArchPairs.{small_number}
-use Rattle.rewrite_laws.proofs.LoongArchSteps.{loaded_of, read_back, ored_zero}
+use Rattle.rewrite_laws.proofs.LoongArchSteps.{loaded_of, read_back}
 use Rattle.rewrite_laws.proofs.LoongArchWords.{IsHigh, IsLow, decodes_page, decodes_high, decodes_sum, decodes_load, decodes_or, high_after, low_after, low_is}
 
 -- ---- states that are alike apart from some registers and bytes
@@ -507,8 +505,7 @@ descriptor_load o s t differs spilled ld nop small is had alike made =
     ∙ ap (loaded 8 s.memory) (whole e (sum_below o.got_entry _)) in
     steps_so (word_of ld) (word_of nop) s t (put 1 f s) (go_on t) _
     (ap (λ w. step w s) is ∙ ap (λ v. Some (put 1 v s)) there)
-    (nop_step (word_of nop) t word)
-    (
+    (nop_step (word_of nop) t word) (
       alike_first 1 f differs spilled s t alike,
       record { old_is = unwritten 4 1 f s refl ∙ had.old_is; new_is = had.new_is },
       written_there 1 f s (λ z. omega arith),

@@ -8,28 +8,25 @@ use Rattle.linker_elf.specs.Choices.{ValueIsWithin}
 use Rattle.linker_elf.specs.LoongArch.{pcalau12i, loongarch_form}
 use Rattle.linker_loongarch64.specs.LoongArchRewrites.{signed_32}
 use Rattle.linker_loongarch64.specs.LoongArchRewrites.{rd_of, rj_of}
-use Rattle.linker_elf.specs.Relocate.{bits_taken, is_jirl, IsWritten, InstructionWritten}
+use Rattle.linker_elf.specs.Relocate.{is_jirl, IsWritten, InstructionWritten}
 use Rattle.linker_elf.specs.declared.elf.RelocationInstruction.TheVariants.{LoongArch64}
 use Rattle.linker_elf.specs.declared.elf.RelocationKind.TheVariants.{AbsoluteLowPart}
 use Rattle.linker_elf.specs.declared.elf.RelocationSize.TheVariants.{BitMasking}
 use Rattle.linker_elf.proofs.Relocated.{plain_written}
-use Rattle.linker_elf.specs.Value.{sum_64, difference_64}
+use Rattle.linker_elf.specs.Value.{sum_64}
 use Rattle.linker_elf.specs.declared.elf.value.Operands.{Operands}
 use Rattle.linker_elf.specs.declared.loongarch64.forms.LoongArch64Instruction.TheVariants.{Shift5, Shift10}
 use Rattle.linker_base.proofs.Bits.{cast_negative}
 use Rattle.relocation_laws.specs.LoongArchLaws as relocation_laws
-use Rattle.relocation_laws.specs.Schemes.{IsAddress, AreAddresses, symbol_address, entry_and_addend}
-use Rattle.relocation_laws.proofs.Applied.{value_is, taken_bits}
-use Rattle.relocation_laws.proofs.Sums.{sum_below}
+use Rattle.relocation_laws.specs.Schemes.{IsAddress, symbol_address, entry_and_addend}
 use Rattle.rewrite_laws.specs.LoongArchLaws.{word_of, pair, behind, thread_offset}
 use Rattle.rewrite_laws.specs.LoongArchLaws as laws
-use Rattle.rewrite_laws.specs.LoongArchMachine.{State, AreAlikeBut, step, run, page_address, near_address, high_part, sum_of, ored, go_on}
+use Rattle.rewrite_laws.specs.LoongArchMachine.{State, AreAlikeBut, step, run, page_address, near_address, sum_of}
 use Rattle.rewrite_laws.specs.Machine.{wrapped, loaded}
-use Rattle.rewrite_laws.proofs.AArch64Moves.{distance_is}
 use Rattle.rewrite_laws.proofs.AArch64Pairs.{word_made}
 use Rattle.rewrite_laws.proofs.AArch64Steps.{address_is}
-use Rattle.rewrite_laws.proofs.LoongArchSteps.{set, step_page, step_near, step_high, step_sum, step_load, step_or, loaded_of, read_back, run_pair, ends_so, alike_twice, alike_once, alike_others, sum_is, ored_is, ored_zero}
-use Rattle.rewrite_laws.proofs.LoongArchWords.{decodes_page, decodes_near, decodes_high, decodes_sum, decodes_load, decodes_or, IsHigh, IsLow, high_after, low_after, low_is}
+use Rattle.rewrite_laws.proofs.LoongArchSteps.{set, step_page, step_near, step_sum, step_load, loaded_of, read_back, run_pair, ends_so, alike_twice, alike_others, sum_is}
+use Rattle.rewrite_laws.proofs.LoongArchWords.{decodes_page, decodes_near, decodes_sum, decodes_load, IsHigh, IsLow, high_after, low_after}
 
 -- ---- `pcalau12i` and what adds the low part
 
