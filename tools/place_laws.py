@@ -150,7 +150,6 @@ SEQUENCES = {
     183: [
         sequence("GotToAddress", "ADR_GOT_PAGE LD64_GOT_LO12_NC"),
         sequence("AddressToAdr", "ADR_PREL_PG_HI21 ADD_ABS_LO12_NC"),
-        sequence("InitialExecToLocalExec", "TLSIE_ADR_GOTTPREL_PAGE21 TLSIE_LD64_GOTTPREL_LO12_NC"),
         sequence("DescriptorToLocalExec DescriptorToInitialExec",
                  "TLSDESC_ADR_PAGE21 TLSDESC_LD64_LO12 TLSDESC_ADD_LO12 TLSDESC_CALL"),
     ],
@@ -167,10 +166,6 @@ SEQUENCES = {
     258: [
         sequence("GotToAddress GotToPcaddi", "GOT_PC_HI20 GOT_PC_LO12"),
         sequence("AddressToPcaddi", "PCALA_HI20 PCALA_LO12"),
-        sequence("InitialExecToLocalExec InitialExecToShortLocalExec",
-                 "TLS_IE_PC_HI20 TLS_IE_PC_LO12"),
-        sequence("DescriptorToLocalExec DescriptorToInitialExec",
-                 "TLS_DESC_PC_HI20 TLS_DESC_PC_LO12 TLS_DESC_LD TLS_DESC_CALL"),
         sequence("ShorterLocalExec", "TLS_LE_HI20_R TLS_LE_ADD_R TLS_LE_LO12_R",
                  is_local_exec_of_loongarch),
     ],
@@ -190,7 +185,11 @@ UNCHOSEN = {"ADR_PREL_PG_HI21"}
 # of one instruction, or of a window that the choice has tested: the laws, relocations, and what the
 # laws ask of the word
 ALONE = {
-    183: [("WeakBranches", "CALL26 JUMP26", None)],
+    183: [
+        ("WeakBranches", "CALL26 JUMP26", None),
+        ("HighHalfToMovz", "TLSIE_ADR_GOTTPREL_PAGE21", lambda words: bits(words[0], 0, 5) != 31),
+        ("LowHalfToMovk", "TLSIE_LD64_GOTTPREL_LO12_NC", None),
+    ],
     243: [
         ("Calls TailCalls ShortTailCalls", "CALL CALL_PLT", None),
         ("LuiIsDeleted LuiBecomesClui", "HI20", None),
@@ -200,7 +199,15 @@ ALONE = {
         ("SumIsDeleted", "TPREL_ADD", None),
         ("LowPartFromThreadPointer", "TPREL_LO12_I TPREL_LO12_S", keeps_base_of_riscv),
     ],
-    258: [("Calls", "CALL36", None)],
+    258: [
+        ("Calls", "CALL36", None),
+        ("HighHalfToLu12i HighHalfToNop", "TLS_IE_PC_HI20", None),
+        ("LowHalfToOri LowHalfToOriZero", "TLS_IE_PC_LO12", None),
+        ("HighHalfToLu12i PageOfDescriptor", "TLS_DESC_PC_HI20", None),
+        ("LowOfDescriptorToOri LowOfDescriptorToLoad", "TLS_DESC_PC_LO12", None),
+        ("LoadOfDescriptorToNop", "TLS_DESC_LD", None),
+        ("CallOfDescriptorToNop", "TLS_DESC_CALL", None),
+    ],
     21: [("PldToPaddi", "GOT_PCREL34", None), ("RestoresToc", "REL24", None)],
 }
 # of x86-64, by relocations
