@@ -835,9 +835,15 @@ struct linker_utils_choice {
  * no entry applies, or the bytes are not the instruction that the relocation's name asks for, it is
  * NO_OP and the same relocation. NO_OP and another relocation are possible: the `adrp` of a pair.
  * The bytes are those of the object file: on AArch64 and LoongArch the two relocations of a load
- * from the GOT, those of LoongArch's `pcalau12i` and `addi.d`, and the four of a TLS descriptor
- * test the whole pair or sequence, so that all are chosen alike where the symbol is the same and
- * the facts are, but for `place`. So they have to be chosen before one of them is rewritten. On
+ * from the GOT, those of LoongArch's `pcalau12i` and `addi.d`, and the four of a TLS descriptor of
+ * AArch64 test the whole pair or sequence, so that all are chosen alike where the symbol is the
+ * same and the facts are, but for `place`. So they have to be chosen before one of them is
+ * rewritten. The halves of initial-exec of AArch64 and LoongArch, and the four of a TLS descriptor
+ * of LoongArch, may stand anywhere, and one may belong to several others: each is chosen by its own
+ * instruction, and only with `group_fits`, which has to be the same for all of that symbol and
+ * addend in the object, as the other facts but `place`. Between the instructions of a descriptor
+ * nothing else reads or writes `a0` and `ra`, and nothing reads `ra` behind them; what a high half
+ * left is read by low halves of that symbol and addend alone, or copied. So compilers emit them. On
  * RISC-V the instructions of a descriptor, and the `auipc` and `ld` of a GOT entry, may be apart:
  * each is chosen by the facts of the high part that its label names, `is_marked` of a descriptor's
  * R_RISCV_TLSDESC_HI20 among them; the `auipc` and `ld` by `is_label_marked`, and not by
