@@ -186,8 +186,10 @@ const PAGE_TO_INITIAL_EXEC: Conditions<LoongArch64Relocation> = conditions!(
     WithinIfKnown R_LARCH_TLS_IE_PC_HI20 SIGNED_32, 0
 );
 
-const TO_INITIAL_EXEC: Conditions<LoongArch64Relocation> =
-    conditions!(EXECUTABLE + GROUP_FITS, None);
+const TO_INITIAL_EXEC: Conditions<LoongArch64Relocation> = conditions!(
+    EXECUTABLE + GROUP_FITS,
+    None
+);
 
 /// The offset from the thread pointer in 12 signed bits.
 const BY_LOW_PART: Conditions<LoongArch64Relocation> =
