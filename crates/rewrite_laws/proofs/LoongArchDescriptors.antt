@@ -1,5 +1,5 @@
 -- The sequence of a TLS descriptor, and what takes its place.
-use Rattle.std.proofs.Common.{◌≡◌, ℕ, ◌+◌, ◌/◌, ◌%◌, ◌^◌, ◌<◌, Bool, false, refl, sym, ◌∙◌, ap, subst, arith}
+use Rattle.std.proofs.Common.{◌≡◌, ℕ, ◌+◌, ◌/◌, ◌%◌, ◌^◌, ◌<◌, false, refl, sym, ◌∙◌, ap, subst, arith}
 use Rattle.std.proofs.Common.{List, [], ◌∷◌, eqb, cond, pos, ◌+ℤ◌, Some, None, Option, inl, inr}
 use Rattle.std.specs.Prelude.{IsSomeAnd}
 use Rattle.std.proofs.lemmas.Bool.{eq-eqb, cond-true, cond-false, or_parts}
@@ -14,7 +14,7 @@ use Rattle.linker_elf.specs.declared.elf.value.Operands.{Operands}
 use Rattle.relocation_laws.specs.LoongArchLaws as relocation_laws
 use Rattle.relocation_laws.specs.Schemes.{AreAddresses, entry_and_addend}
 use Rattle.relocation_laws.proofs.Sums.{lifted_is}
-use Rattle.rewrite_laws.specs.LoongArchLaws.{word_of, four, Descriptor, DescriptorOf, is_scratch, thread_offset, RunAlikeBehindCall, AreAlikeThere, with_entry}
+use Rattle.rewrite_laws.specs.LoongArchLaws.{word_of, four, Descriptor, DescriptorOf, scratch, thread_offset, RunAlikeBehindCall, AgreeBut, Changes, with_entry}
 use Rattle.rewrite_laws.specs.LoongArchLaws as laws
 use Rattle.rewrite_laws.specs.LoongArchMachine.{State, step, run, read, next_pc, go_on, go_to, continue, page_address, sum_of, with_register}
 use Rattle.rewrite_laws.specs.Machine.{wrapped, loaded}
@@ -57,11 +57,11 @@ untouched n a b c d r not_4 not_1 =
     ap (cond (eqb n 0) 0)
     (cond-false (eqb n 1) _ _ not_1 ∙ cond-false (eqb n 1) _ _ not_1 ∙ cond-false (eqb n 4) _ _ not_4 ∙ cond-false (eqb n 4) _ _ not_4)
 
-pub calls : relocation_laws.RelativeAddresses → (call : State → Option State) (changed : ℕ → Bool)
+pub calls : relocation_laws.RelativeAddresses → (call : State → Option State) (changes : Changes)
     (o : Operands) (s : State) (pcala addi ld jirl pcala1 addi1 : List ℕ)
-    → Descriptor call changed o s pcala addi ld jirl → DescriptorOf o pcala addi pcala1 addi1
+    → Descriptor call changes o s pcala addi ld jirl → DescriptorOf o pcala addi pcala1 addi1
     → Calls (four pcala1 addi1 ld jirl) (loaded 8 s.memory (entry_and_addend o)) (entry_and_addend o) s
-calls relative call changed o s pcala addi ld jirl pcala1 addi1 d is =
+calls relative call changes o s pcala addi ld jirl pcala1 addi1 d is =
     let i = d.instructions in
     let x = word_of pcala1 in
     let y = word_of addi1 in
@@ -111,43 +111,42 @@ twice_other : (n u v r : ℕ) → eqb n 4 ≡ false → cond (eqb n 0) 0 (cond (
 twice_other n u v r h = ap (cond (eqb n 0) 0) (cond-false (eqb n 4) v (cond (eqb n 4) u r) h ∙ cond-false (eqb n 4) u r h)
 
 -- Behind the call the states are alike.
-behind_call : (call : State → Option State) (changed : ℕ → Bool) (o : Operands) (s : State)
+behind_call : (call : State → Option State) (changes : Changes) (o : Operands) (s : State)
     (pcala addi ld jirl : List ℕ) (old : List ℕ) (a b nop nop2 : ℕ) (u v : ℕ)
-    → Descriptor call changed o s pcala addi ld jirl
+    → Descriptor call changes o s pcala addi ld jirl
     → Calls old (loaded 8 s.memory (entry_and_addend o)) (entry_and_addend o) s
     → step a s ≡ Some (set 4 u s) → step b (set 4 u s) ≡ Some (set 4 v (set 4 u s))
     → v ≡ thread_offset o → nop ≡ 0x03400000 → nop2 ≡ 0x03400000
-    → RunAlikeBehindCall call (is_scratch changed) old (a ∷ b ∷ nop ∷ nop2 ∷ []) s
-behind_call call changed o s pcala addi ld jirl old a b nop nop2 u v d c first second value third fourth =
-    let differing = is_scratch changed in
+    → RunAlikeBehindCall call (scratch changes) old (a ∷ b ∷ nop ∷ nop2 ∷ []) s
+behind_call call changes o s pcala addi ld jirl old a b nop nop2 u v d c first second value third fourth =
+    let differing = scratch changes in
     let new = a ∷ b ∷ nop ∷ nop2 ∷ [] in
     let end = go_on (go_on (set 4 v (set 4 u s))) in
     subst (λ r. IsSomeAnd r (λ q. (z : State) → call q ≡ Some z
-    → IsSomeAnd (run new s) (λ k. AreAlikeThere differing z k))) (sym c.runs)
+    → IsSomeAnd (run new s) (λ k. AgreeBut differing z k))) (sym c.runs)
     (λ z returned.
     let r = d.returns c.state z c.memory c.at c.argument returned in
-    subst (λ k. IsSomeAnd k (λ k. AreAlikeThere differing z k))
+    subst (λ k. IsSomeAnd k (λ k. AgreeBut differing z k))
     (sym (leaves a b nop nop2 s u v first second third fourth))
     (record {
-      alike = record {
-        registers = λ n other. elim (eqb_tells n 4) [
-          | inl is ↦ ap (λ m. read m z) is.1 ∙ r.offset_is ∙ sym value ∙ ap (λ m. read m end) (sym is.1)
-          | inr differs ↦
-              let kept = sym (cond-false (eqb n 4) false _ differs.0) ∙ other in
-              let parts = or_parts (eqb n 1) (changed n) kept in
-              r.others n differs.1 parts.1 ∙ c.others n differs.0 parts.0
-              ∙ sym (twice_other n u v (s.registers n) differs.0)
-        ];
-        floats = r.floats ∙ c.floats;
-        memory = r.memory ∙ c.memory;
-      };
+      registers = λ n other. elim (eqb_tells n 4) [
+        | inl is ↦ ap (λ m. read m z) is.1 ∙ r.offset_is ∙ sym value ∙ ap (λ m. read m end) (sym is.1)
+        | inr differs ↦
+            let kept = sym (cond-false (eqb n 4) false _ differs.0) ∙ other in
+            let parts = or_parts (eqb n 1) (changes.registers n) kept in
+            r.others n differs.1 parts.1 ∙ c.others n differs.0 parts.0
+            ∙ sym (twice_other n u v (s.registers n) differs.0)
+      ];
+      floats = λ n kept. r.floats n kept ∙ ap (λ f. f.numbers n) c.floats;
+      widened = r.widened ∙ ap (λ f. f.widened) c.floats;
+      memory = λ a kept. r.memory a kept ∙ ap (λ m. m a) c.memory;
       pc = r.back ∙ c.link;
     }))
 
 -- ---- the laws
 
 pub to_local_exec : relocation_laws.RelativeAddresses → relocation_laws.ThreadAddresses → laws.DescriptorToLocalExec
-to_local_exec relative thread call changed o s pcala addi ld jirl d lu12i ori nop nop2 made_high made_low made_nop made_nop2 pcala1 addi1 lu12i1 ori1 is fits a b =
+to_local_exec relative thread call changes o s pcala addi ld jirl d lu12i ori nop nop2 made_high made_low made_nop made_nop2 pcala1 addi1 lu12i1 ori1 is fits a b =
     let i = d.instructions in
     let one = i.one_register in
     let high = word_made (λ x. 0x14000000 + rd_of x) pcala lu12i (omega arith) made_high in
@@ -161,8 +160,8 @@ to_local_exec relative thread call changed o s pcala addi ld jirl d lu12i ori no
     (high_after 12 0x0a 4 _ lu12i lu12i1 a.written high_op (high_rd ∙ one.register ∙ i.into_a0))
     (low_after 0x00e 4 4 _ ori ori1 b.written low_op (low_rd ∙ i.into_a0) (low_rj ∙ one.into_own_source.same ∙ i.into_a0)) (λ z. omega arith)
     (thread.0 o d.small o.place lu12i lu12i1 a (subst (ValueIsWithin signed_32) a.value_is fits) (sum_64 o.place 4) ori ori1 b tt) in
-    behind_call call changed o s pcala addi ld jirl (four pcala1 addi1 ld jirl) (word_of lu12i1) (word_of ori1) (word_of nop) (word_of nop2) _ _ d
-    (calls relative call changed o s pcala addi ld jirl pcala1 addi1 d is) m.first m.second m.value_is
+    behind_call call changes o s pcala addi ld jirl (four pcala1 addi1 ld jirl) (word_of lu12i1) (word_of ori1) (word_of nop) (word_of nop2) _ _ d
+    (calls relative call changes o s pcala addi ld jirl pcala1 addi1 d is) m.first m.second m.value_is
     (word_made (λ _. 0x03400000) ld nop (omega arith) made_nop) (word_made (λ _. 0x03400000) jirl nop2 (omega arith) made_nop2)
 
 small_entry : (entry : ℕ) (o : Operands) → entry < 2 ^ 64 → AreAddresses o → AreAddresses (with_entry entry o)
@@ -177,7 +176,7 @@ small_entry entry o below small =
     }
 
 pub to_initial_exec : relocation_laws.RelativeAddresses → laws.DescriptorToInitialExec
-to_initial_exec relative call changed o s pcala addi ld jirl d entry below holds load nop nop2 made_low made_nop made_nop2 pcala1 addi1 pcala2 load2 is old =
+to_initial_exec relative call changes o s pcala addi ld jirl d entry below holds load nop nop2 made_low made_nop made_nop2 pcala1 addi1 pcala2 load2 is old =
     let i = d.instructions in
     let one = i.one_register in
     let e = with_entry entry o in
@@ -189,6 +188,6 @@ to_initial_exec relative call changed o s pcala addi ld jirl d entry below holds
     (high_after 12 0x0d 4 _ pcala pcala2 old.first.written one.first (one.register ∙ i.into_a0))
     (low_after 0x0a3 4 4 _ load load2 old.second.written low_op (low_rd ∙ i.into_a0) (low_rj ∙ one.into_own_source.same ∙ i.into_a0)) (λ z. omega arith) d.at
     (relative.4 e (small_entry entry o below d.small) o.place pcala pcala2 old.first (subst (ValueIsWithin signed_32) old.first.value_is old.fits) (sum_64 o.place 4) load load2 old.second tt) in
-    behind_call call changed o s pcala addi ld jirl (four pcala1 addi1 ld jirl) (word_of pcala2) (word_of load2) (word_of nop) (word_of nop2) _ _ d
-    (calls relative call changed o s pcala addi ld jirl pcala1 addi1 d is) l.first l.second (l.value_is ∙ holds)
+    behind_call call changes o s pcala addi ld jirl (four pcala1 addi1 ld jirl) (word_of pcala2) (word_of load2) (word_of nop) (word_of nop2) _ _ d
+    (calls relative call changes o s pcala addi ld jirl pcala1 addi1 d is) l.first l.second (l.value_is ∙ holds)
     (word_made (λ _. 0x03400000) ld nop (omega arith) made_nop) (word_made (λ _. 0x03400000) jirl nop2 (omega arith) made_nop2)

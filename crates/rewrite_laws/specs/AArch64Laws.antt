@@ -26,7 +26,7 @@ use Rattle.linker_aarch64.specs.declared.rewrites.RelaxationKind.TheVariants.{Ld
 use Rattle.linker_elf.specs.declared.elf.value.Operands.{Operands}
 use Rattle.relocation_laws.specs.Schemes.{IsApplied, AreAddresses, symbol_address, plt_address}
 use Rattle.rewrite_laws.specs.AArch64Machine.{State, load_64, run, RunAlike, RunAlikeBut}
-use Rattle.rewrite_laws.specs.AArch64Machine.{AreAlikeBut, next_pc, is_b, is_bl}
+use Rattle.rewrite_laws.specs.AArch64Machine.{next_pc, is_b, is_bl}
 
 -- ---- instructions as bytes
 
@@ -173,42 +173,60 @@ LdrMadeAdr =
 
 -- ---- the offset of a variable from the thread pointer, by a TLS descriptor
 
+-- What a descriptor's function may change: registers, and bytes of memory by their addresses. The
+-- laws hold for any. By the ABI it changes no register but X0, which has the offset, X30 and the
+-- flags (XT is the sequence's own). It saves others below the stack pointer, and every function may
+-- write there. Where the thread has no block yet, the function makes one: it writes that block, and
+-- what the dynamic linker and the allocator keep for themselves.
+pub record Changes : Type 0 where
+  pub registers : ℕ → Bool
+  pub memory : ℕ → Bool
+
+-- The states differ in no more than these.
+pub record AgreeBut (c : Changes) (s t : State) : Type 0 where
+  pub registers : (n : ℕ) → c.registers n ≡ false → s.registers n ≡ t.registers n
+  pub memory : (a : ℕ) → c.memory a ≡ false → s.memory a ≡ t.memory a
+  pub pc : s.pc ≡ t.pc
+  pub thread_pointer : s.thread_pointer ≡ t.thread_pointer
+
 -- The registers that the sequence of a descriptor leaves with no value that code may use: XT has
 -- the function's address, X30 that of the instruction behind the call, and the function may change
 -- others. X0 isn't one of them: it has the offset.
 abbrev pub is_scratch : ℕ → (ℕ → Bool) → ℕ → Bool
 is_scratch t changed n = if n == 0 then false else (n == t || (n == 30 || changed n))
 
+abbrev pub scratch : ℕ → Changes → Changes
+scratch t c = record c { registers = is_scratch t c.registers }
+
 -- A descriptor's function, called in state u, returns in v. It leaves the offset in X0, and keeps
--- the memory and the other registers, except those that `changed` names.
-pub record ReturnsOffset (changed : ℕ → Bool) (offset : ℕ) (u v : State) : Type 0 where
+-- the other registers and the memory, except what c names.
+pub record ReturnsOffset (c : Changes) (offset : ℕ) (u v : State) : Type 0 where
   pub offset_is : v.registers 0 ≡ offset
-  pub others : (n : ℕ) → n ≢ 0 → changed n ≡ false → v.registers n ≡ u.registers n
+  pub others : (n : ℕ) → n ≢ 0 → c.registers n ≡ false → v.registers n ≡ u.registers n
   pub back : v.pc ≡ u.registers 30
-  pub memory : v.memory ≡ u.memory
+  pub memory : (a : ℕ) → c.memory a ≡ false → v.memory a ≡ u.memory a
   pub thread_pointer : v.thread_pointer ≡ u.thread_pointer
 
 -- `adrp x0`, `ldr xT, [x0]`, `add x0, x0` and `blr xT`, which are executed next. `call` says in
 -- which state a called function returns, if it does. The first 8 bytes of the descriptor have the
 -- address of a function that returns the offset whenever X0 has the descriptor's address.
-pub record Descriptor (call : State → Option State) (changed : ℕ → Bool) (o : Operands) (s : State)
+pub record Descriptor (call : State → Option State) (c : Changes) (o : Operands) (s : State)
     (adrp ldr add blr : List ℕ) : Type 0 where
   pub small : AreAddresses o
   pub at : s.pc ≡ o.place
   pub instructions : AreOfDescriptor (word_of adrp) (word_of ldr) (word_of add) (word_of blr)
   pub returns : (u v : State) → u.memory ≡ s.memory → u.thread_pointer ≡ s.thread_pointer
       → u.pc ≡ load_64 s.memory o.got_entry → u.registers 0 ≡ o.got_entry → call u ≡ Some v
-      → ReturnsOffset changed (thread_offset o) u v
+      → ReturnsOffset c (thread_offset o) u v
 
 abbrev pub four : List ℕ → List ℕ → List ℕ → List ℕ → List ℕ
 four a b c d = word_of a ∷ word_of b ∷ word_of c ∷ word_of d ∷ []
 
 -- The old sequence ends in a call. The new one ends as the called function returns.
-abbrev pub RunAlikeBehindCall : (State → Option State) → (ℕ → Bool) → List ℕ → List ℕ → State
-    → Type 0
-RunAlikeBehindCall call differing old new s =
+abbrev pub RunAlikeBehindCall : (State → Option State) → Changes → List ℕ → List ℕ → State → Type 0
+RunAlikeBehindCall call c old new s =
     IsSomeAnd (run old s) (λ u.
-    (v : State) → call u ≡ Some v → IsSomeAnd (run new s) (λ w. AreAlikeBut differing v w))
+    (v : State) → call u ≡ Some v → IsSomeAnd (run new s) (λ w. AgreeBut c v w))
 
 -- the sequence with its relocations applied
 pub record DescriptorOf (o : Operands)
@@ -219,8 +237,8 @@ pub record DescriptorOf (o : Operands)
 
 abbrev pub DescriptorToLocalExec : Type 0
 DescriptorToLocalExec =
-    (call : State → Option State) (changed : ℕ → Bool) (o : Operands) (s : State)
-    (adrp ldr add blr : List ℕ) → Descriptor call changed o s adrp ldr add blr
+    (call : State → Option State) (c : Changes) (o : Operands) (s : State)
+    (adrp ldr add blr : List ℕ) → Descriptor call c o s adrp ldr add blr
     → (movz movk nop nop_behind : List ℕ)
     → IsRewritten MovzX0Lsl16 adrp movz → IsRewritten MovkX0 ldr movk
     → IsRewritten ReplaceWithNop add nop → IsRewritten ReplaceWithNop blr nop_behind
@@ -228,15 +246,15 @@ DescriptorToLocalExec =
     → DescriptorOf o adrp ldr add adrp_of_entry ldr_of_entry add_of_entry
     → IsRelocated names.R_AARCH64_TLSLE_MOVW_TPREL_G1 o movz movz_of_offset
     → IsRelocated names.R_AARCH64_TLSLE_MOVW_TPREL_G0_NC (behind 4 o) movk movk_of_offset
-    → RunAlikeBehindCall call (is_scratch (rd_of (word_of ldr)) changed)
+    → RunAlikeBehindCall call (scratch (rd_of (word_of ldr)) c)
     (four adrp_of_entry ldr_of_entry add_of_entry blr)
     (four movz_of_offset movk_of_offset nop nop_behind) s
 
 -- The GOT entry of initial-exec, at another address, holds the offset.
 abbrev pub DescriptorToInitialExec : Type 0
 DescriptorToInitialExec =
-    (call : State → Option State) (changed : ℕ → Bool) (o : Operands) (s : State)
-    (adrp ldr add blr : List ℕ) → Descriptor call changed o s adrp ldr add blr
+    (call : State → Option State) (c : Changes) (o : Operands) (s : State)
+    (adrp ldr add blr : List ℕ) → Descriptor call c o s adrp ldr add blr
     → (entry : ℕ) → entry < 2 ^ 64 → load_64 s.memory entry ≡ thread_offset o
     → (adrp_x0 ldr_x0 nop nop_behind : List ℕ)
     → IsRewritten AdrpX0 adrp adrp_x0 → IsRewritten LdrX0 ldr ldr_x0
@@ -247,7 +265,7 @@ DescriptorToInitialExec =
     adrp_of_entry
     → IsRelocated names.R_AARCH64_TLSIE_LD64_GOTTPREL_LO12_NC (behind 4 (with_entry entry o)) ldr_x0
     ldr_of_entry
-    → RunAlikeBehindCall call (is_scratch (rd_of (word_of ldr)) changed)
+    → RunAlikeBehindCall call (scratch (rd_of (word_of ldr)) c)
     (four adrp_of_descriptor ldr_of_descriptor add_of_descriptor blr)
     (four adrp_of_entry ldr_of_entry nop nop_behind) s
 

@@ -250,27 +250,49 @@ ShorterLocalExec =
 
 -- ---- the offset of a variable from the thread pointer, by a TLS descriptor
 
+-- What a descriptor's function may change: registers, floating-point registers, and bytes of memory by
+-- their addresses. The laws hold for any. By the psABI ("TLS Descriptors") it changes no register but
+-- `a0`, which has the offset, and returns by `ra`. It saves others below the stack pointer, and every
+-- function may write there. Where the thread has no block yet, the function makes one: it writes that
+-- block, and what the dynamic linker and the allocator keep for themselves.
+pub record Changes : Type 0 where
+  pub registers : ℕ → Bool
+  pub floats : ℕ → Bool
+  pub memory : ℕ → Bool
+
+-- The states differ in no more than these. What loads of 4 bytes leave above them in a
+-- floating-point register is the same.
+pub record AgreeBut (c : Changes) (s t : State) : Type 0 where
+  pub registers : (n : ℕ) → c.registers n ≡ false → read n s ≡ read n t
+  pub floats : (n : ℕ) → c.floats n ≡ false → s.floats.numbers n ≡ t.floats.numbers n
+  pub widened : s.floats.widened ≡ t.floats.widened
+  pub memory : (a : ℕ) → c.memory a ≡ false → s.memory a ≡ t.memory a
+  pub pc : s.pc ≡ t.pc
+
 -- The registers that the sequence of a descriptor leaves with no value that code may use: `ra` has the
 -- address behind the call, and the function may change others. `a0` isn't one of them: it has the
 -- offset.
 abbrev pub is_scratch : (ℕ → Bool) → ℕ → Bool
 is_scratch changed n = if n == 4 then false else (n == 1 || changed n)
 
+abbrev pub scratch : Changes → Changes
+scratch c = record c { registers = is_scratch c.registers }
+
 -- A descriptor's function, called in state u, returns in v. It leaves the offset in `a0`, and keeps
--- the memory, the floating-point registers and the other registers, except those that `changed`
--- names.
-pub record ReturnsOffset (changed : ℕ → Bool) (offset : ℕ) (u v : State) : Type 0 where
+-- all else, except what c names.
+pub record ReturnsOffset (c : Changes) (offset : ℕ) (u v : State) : Type 0 where
   pub offset_is : read 4 v ≡ offset
-  pub others : (n : ℕ) → n ≢ 4 → changed n ≡ false → read n v ≡ read n u
-  pub floats : v.floats ≡ u.floats
+  pub others : (n : ℕ) → n ≢ 4 → c.registers n ≡ false → read n v ≡ read n u
+  pub floats : (n : ℕ) → c.floats n ≡ false → v.floats.numbers n ≡ u.floats.numbers n
+  pub widened : v.floats.widened ≡ u.floats.widened
   pub back : v.pc ≡ read 1 u
-  pub memory : v.memory ≡ u.memory
+  pub memory : (a : ℕ) → c.memory a ≡ false → v.memory a ≡ u.memory a
 
 -- `pcalau12i a0`, `addi.d a0, a0`, `ld.d ra, a0, 0` and `jirl ra, ra, 0`, which are executed next.
 -- `call` says in which state a called function returns, if it does. The first 8 bytes of the
 -- descriptor have the address of a function that returns the offset whenever `a0` has the
 -- descriptor's address.
-pub record Descriptor (call : State → Option State) (changed : ℕ → Bool) (o : Operands) (s : State)
+pub record Descriptor (call : State → Option State) (c : Changes) (o : Operands) (s : State)
     (pcala addi ld jirl : List ℕ) : Type 0 where
   pub small : AreAddresses o
   pub at : s.pc ≡ o.place
@@ -278,21 +300,16 @@ pub record Descriptor (call : State → Option State) (changed : ℕ → Bool) (
   pub function : loaded 8 s.memory (entry_and_addend o) < 2 ^ 64
   pub returns : (u v : State) → u.memory ≡ s.memory
       → u.pc ≡ loaded 8 s.memory (entry_and_addend o) → read 4 u ≡ entry_and_addend o
-      → call u ≡ Some v → ReturnsOffset changed (thread_offset o) u v
+      → call u ≡ Some v → ReturnsOffset c (thread_offset o) u v
 
 abbrev pub four : List ℕ → List ℕ → List ℕ → List ℕ → List ℕ
 four a b c d = word_of a ∷ word_of b ∷ word_of c ∷ word_of d ∷ []
 
-pub record AreAlikeThere (differing : ℕ → Bool) (s t : State) : Type 0 where
-  pub alike : AreAlikeBut differing s t
-  pub pc : s.pc ≡ t.pc
-
 -- The old sequence ends in a call. The new one ends as the called function returns.
-abbrev pub RunAlikeBehindCall : (State → Option State) → (ℕ → Bool) → List ℕ → List ℕ → State
-    → Type 0
-RunAlikeBehindCall call differing old new s =
+abbrev pub RunAlikeBehindCall : (State → Option State) → Changes → List ℕ → List ℕ → State → Type 0
+RunAlikeBehindCall call c old new s =
     IsSomeAnd (run old s) (λ u.
-    (v : State) → call u ≡ Some v → IsSomeAnd (run new s) (λ w. AreAlikeThere differing v w))
+    (v : State) → call u ≡ Some v → IsSomeAnd (run new s) (λ w. AgreeBut c v w))
 
 -- the sequence with its relocations applied
 pub record DescriptorOf (o : Operands) (pcala addi pcala_of_entry addi_of_entry : List ℕ)
@@ -303,8 +320,8 @@ pub record DescriptorOf (o : Operands) (pcala addi pcala_of_entry addi_of_entry 
 
 abbrev pub DescriptorToLocalExec : Type 0
 DescriptorToLocalExec =
-    (call : State → Option State) (changed : ℕ → Bool) (o : Operands) (s : State)
-    (pcala addi ld jirl : List ℕ) → Descriptor call changed o s pcala addi ld jirl
+    (call : State → Option State) (c : Changes) (o : Operands) (s : State)
+    (pcala addi ld jirl : List ℕ) → Descriptor call c o s pcala addi ld jirl
     → (lu12i ori nop nop_behind : List ℕ)
     → IsRewritten kinds.PcalaToLu12i pcala lu12i → IsRewritten kinds.LowToOri addi ori
     → IsRewritten kinds.ReplaceWithNop ld nop → IsRewritten kinds.ReplaceWithNop jirl nop_behind
@@ -313,7 +330,7 @@ DescriptorToLocalExec =
     → Fits32 names.R_LARCH_TLS_LE_HI20 o
     → IsRelocated names.R_LARCH_TLS_LE_HI20 o lu12i lu12i_of_offset
     → IsRelocated names.R_LARCH_TLS_LE_LO12 (behind 4 o) ori ori_of_offset
-    → RunAlikeBehindCall call (is_scratch changed) (four pcala_of_entry addi_of_entry ld jirl)
+    → RunAlikeBehindCall call (scratch c) (four pcala_of_entry addi_of_entry ld jirl)
     (four lu12i_of_offset ori_of_offset nop nop_behind) s
 
 -- the operands with another GOT entry
@@ -323,8 +340,8 @@ with_entry entry o = record o { got_entry = entry }
 -- The GOT entry of initial-exec, at another address, holds the offset.
 abbrev pub DescriptorToInitialExec : Type 0
 DescriptorToInitialExec =
-    (call : State → Option State) (changed : ℕ → Bool) (o : Operands) (s : State)
-    (pcala addi ld jirl : List ℕ) → Descriptor call changed o s pcala addi ld jirl
+    (call : State → Option State) (c : Changes) (o : Operands) (s : State)
+    (pcala addi ld jirl : List ℕ) → Descriptor call c o s pcala addi ld jirl
     → (entry : ℕ) → entry < 2 ^ 64
     → loaded 8 s.memory (entry_and_addend (with_entry entry o)) ≡ thread_offset o
     → (load nop nop_behind : List ℕ) → IsRewritten kinds.AddiToLd addi load
@@ -333,6 +350,6 @@ DescriptorToInitialExec =
     → DescriptorOf o pcala addi pcala_of_descriptor addi_of_descriptor
     → LoadsEntry names.R_LARCH_TLS_IE_PC_HI20 names.R_LARCH_TLS_IE_PC_LO12 (with_entry entry o)
     pcala load pcala_of_entry load_of_entry
-    → RunAlikeBehindCall call (is_scratch changed)
+    → RunAlikeBehindCall call (scratch c)
     (four pcala_of_descriptor addi_of_descriptor ld jirl)
     (four pcala_of_entry load_of_entry nop nop_behind) s
