@@ -115,15 +115,20 @@ InitialExecToLocalExec =
 
 -- `adrp xN` and `add xN, xN`: the rewrite takes the bytes from the `adrp` on, of which the `add`
 -- has those from the fifth on. `adr` has the place of the `add`.
-abbrev pub AddressToAdr : Type 0
-AddressToAdr =
+abbrev pub PairToAdr : AArch64Relocation → Type 0
+PairToAdr of_page =
     (o : Operands) (s : State) (both made : List ℕ) → IsPair IsAdd64 o s both (drop 4 both)
     → IsRewritten AdrpAddToNopAdr both made
     → (adrp_of_symbol add_of_symbol adr_of_symbol : List ℕ)
-    → IsRelocated names.R_AARCH64_ADR_PREL_PG_HI21 o both adrp_of_symbol
+    → IsRelocated of_page o both adrp_of_symbol
     → IsRelocated names.R_AARCH64_ADD_ABS_LO12_NC (behind 4 o) (drop 4 both) add_of_symbol
     → IsRelocated names.R_AARCH64_ADR_PREL_LO21 (behind 4 o) (drop 4 made) adr_of_symbol
     → RunAlike (pair adrp_of_symbol add_of_symbol) (pair made adr_of_symbol) s
+
+-- The value of the second page isn't checked, but `adr` reaches the symbol.
+abbrev pub AddressToAdr : Type 0
+AddressToAdr =
+    PairToAdr names.R_AARCH64_ADR_PREL_PG_HI21 × PairToAdr names.R_AARCH64_ADR_PREL_PG_HI21_NC
 
 -- ---- `adr` in place of one instruction
 
