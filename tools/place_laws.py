@@ -149,7 +149,7 @@ def sequence(laws, names, test=lambda words: True):
 SEQUENCES = {
     183: [
         sequence("GotToAddress", "ADR_GOT_PAGE LD64_GOT_LO12_NC"),
-        sequence("AddressToAdr", "ADR_PREL_PG_HI21 ADD_ABS_LO12_NC"),
+        sequence("AddressToAdr", "ADR_PREL_PG_HI21|ADR_PREL_PG_HI21_NC ADD_ABS_LO12_NC"),
         sequence("DescriptorToLocalExec DescriptorToInitialExec",
                  "TLSDESC_ADR_PAGE21 TLSDESC_LD64_LO12 TLSDESC_ADD_LO12 TLSDESC_CALL"),
     ],
@@ -181,7 +181,7 @@ SEQUENCES = {
     ],
 }
 # of a sequence's relocations those that no rewrite is chosen for
-UNCHOSEN = {"ADR_PREL_PG_HI21"}
+UNCHOSEN = {"ADR_PREL_PG_HI21", "ADR_PREL_PG_HI21_NC"}
 # of one instruction, or of a window that the choice has tested: the laws, relocations, and what the
 # laws ask of the word
 ALONE = {

@@ -6,10 +6,11 @@
 //! section.
 
 use linker_utils::relaxation::{
-    RelaxDelta, SectionRelaxDeltas, calls_shrinkable, pack_into, packed_len, shrink_calls,
-    shrink_calls_into,
+    AsChoice, Call, RelaxDelta, SectionRelaxDeltas, calls_shrinkable, pack_into, packed_len,
+    shrink_calls, shrink_calls_into,
 };
 use linker_utils::riscv64::LinkRegister;
+use std::cell::Cell;
 
 struct Section<'a> {
     name: &'a str,
@@ -131,4 +132,52 @@ fn packed_jumps_are_those_of_lld() {
         count += 1;
     }
     assert!(count > 0);
+}
+
+thread_local! {
+    static READS: Cell<usize> = const { Cell::new(0) };
+}
+
+/// Whether a call is chosen. It counts how often that is read: each test of a call reads it.
+#[derive(Clone, Copy)]
+struct Counted(bool);
+
+impl AsChoice for Counted {
+    fn as_choice(self) -> bool {
+        READS.set(READS.get() + 1);
+        self.0
+    }
+
+    fn from_choice(chosen: bool) -> Counted {
+        Counted(chosen)
+    }
+}
+
+/// How often choices are read until none of the calls is left.
+fn reads(calls: &[Call]) -> usize {
+    let mut chosen = vec![Counted(false); calls.len()];
+    READS.set(0);
+    shrink_calls_into(&[] as &[RelaxDelta], calls, &mut chosen);
+    assert!(chosen.iter().all(|chosen| !chosen.0));
+    READS.get()
+}
+
+/// A call is tested again once enough others are dropped, so that two sweeps do: by sweeps alone, or
+/// where other calls are tested again, each sweep over the first of these chains drops one call.
+#[test]
+fn calls_that_depend_on_each_other_take_two_sweeps() {
+    const REACH: u64 = 1 << 20;
+    const COUNT: u64 = 2000;
+    let site = |k| 2 * REACH + 8 * k;
+    // in reach once so many calls from this one on have given up their bytes
+    let ahead = |k, needed| Call { site: site(k), target: site(k) + REACH - 2 + 4 * needed };
+    let of_next: Vec<Call> = (0..COUNT).map(|k| ahead(k, 2)).collect();
+    // 1201 and the number of calls have no common factor, so that the turns are all different
+    let turn = |k| 1201 * k % COUNT;
+    let left = |k| (k..COUNT).filter(|other| turn(*other) >= turn(k)).count() as u64;
+    let in_any_order: Vec<Call> = (0..COUNT).map(|k| ahead(k, left(k) + 1)).collect();
+    for calls in [of_next, in_any_order] {
+        let reads = reads(&calls);
+        assert!(reads < 24 * calls.len(), "{reads}");
+    }
 }

@@ -4,6 +4,8 @@ use Rattle.std.proofs.Common.{Bool, true, false, Option, Some, None, ℤ, ◌↔
 use Rattle.std.specs.Int.{w64, cast_signed, cast_unsigned}
 use Rattle.std.proofs.lemmas.Int.{of_z-to_z}
 use Rattle.std.proofs.lemmas.Nat.{mod_below}
+use Rattle.std.proofs.lemmas.Bool.{le-ltb}
+use Rattle.std.specs.Prelude.{not, ◌&&◌, nat_lt}
 use Rattle.linker_base.specs.Bits.{field}
 use Rattle.linker_elf.specs.Value.{sum_64, difference_64, page_if, bias_number, formula, value_of}
 use Rattle.linker_elf.specs.Value.{read_signed, masks_place, masks_got}
@@ -222,3 +224,8 @@ solves row f operands t s h above is = λ o v same e.
     ∙ ap (λ y. field (sum_64 y f.rounding) start end) (sym (value_number row o t v h e)) in
     let q = is a in
     ((λ x. sym fields ∙ q.0 x), (λ x. q.1 (fields ∙ x)))
+
+-- bits of a page, from bit 12 up
+pub known_above : (p : Bool) (n : ℕ) → 12 ≤ n → not (p && nat_lt n 12) ≡ true
+known_above true n above = ap not (le-ltb n 12 above)
+known_above false n above = refl

@@ -1,9 +1,10 @@
 -- The address that a relocation's value comes from: the inverse of the formulas of values.
-use Rattle.std.specs.Prelude.{◌≡◌, ◌↔◌, ℕ, ◌==◌, Bool, false, not, ◌&&◌, nat_lt, if◌then◌else◌}
+use Rattle.std.specs.Prelude.{◌≡◌, ◌↔◌, ℕ, ◌==◌, Bool, true, false, not, ◌&&◌, nat_lt}
+use Rattle.std.specs.Prelude.{if◌then◌else◌}
 use Rattle.std.specs.Prelude.{Option, Some, None, ℤ}
 use Rattle.std.specs.Int.{w64, cast_unsigned}
-use Rattle.linker_elf.specs.Value.{sum_64, entry_addend, masks_symbol, masks_entry, place_term}
-use Rattle.linker_elf.specs.Value.{got_term, value_of}
+use Rattle.linker_elf.specs.Value.{sum_64, difference_64, entry_addend, bias_number, page_if}
+use Rattle.linker_elf.specs.Value.{masks_symbol, masks_entry, place_term, got_term, value_of}
 use Rattle.linker_elf.specs.declared.elf.PageMask.{PageMask}
 use Rattle.linker_elf.specs.declared.elf.RelocationKind.{RelocationKind}
 use Rattle.linker_elf.specs.declared.elf.RelocationKind.TheVariants as kinds
@@ -107,11 +108,27 @@ Solves t row f operands s =
 abbrev pub is_solvable : Terms → RelocationKindInfo → FieldValue → Bool
 is_solvable t row f = not (is_paged t.reference row.mask && nat_lt f.known.start 12)
 
+-- What is added to the address before its bits are taken. It is nothing where bit 0 is known, and
+-- else the bias, and the value's rounding less the base, of which a row of pages takes the page.
+abbrev pub rounding_solved : Terms → RelocationKindInfo → FieldValue → Operands → ℕ
+rounding_solved t row f o =
+    if f.known.start == 0 then 0
+    else sum_64 (bias_number row.bias)
+    (page_if (is_paged t.reference row.mask) (difference_64 f.rounding (base t.origin row o)))
+
+-- s is known of the address, by the same bits as of the value.
+pub record IsSolution (t : Terms) (row : RelocationKindInfo) (f : FieldValue) (o : Operands)
+    (s : FieldValue) : Type 0 where
+  pub solvable : is_solvable t row f ≡ true
+  pub known : s.known ≡ f.known
+  pub rounding : s.rounding ≡ rounding_solved t row f o
+  pub solves : Solves t row f o s
+
 abbrev pub IsSolvedBy : Option Terms → RelocationKindInfo → FieldValue → Operands
     → Option FieldValue → Type 0
 IsSolvedBy None row f o solution = solution ≡ None
 IsSolvedBy (Some t) row f o None = is_solvable t row f ≡ false
-IsSolvedBy (Some t) row f o (Some s) = Solves t row f o s
+IsSolvedBy (Some t) row f o (Some s) = IsSolution t row f o s
 
 abbrev pub IsSolved : RelocationKindInfo → FieldValue → Operands → Option FieldValue → Type 0
 IsSolved row f o solution = IsSolvedBy (terms_of row.kind row.size) row f o solution
@@ -123,7 +140,15 @@ abbrev pub are_halves : FieldValue → FieldValue → Bool
 are_halves high low =
     low.known.start == 0 && (low.rounding == 0 && low.known.end == high.known.start)
 
--- A number has the bits of both exactly where it has those of the whole.
+-- Of the whole all bits from bit 0 up are known, without rounding. A number has them exactly where
+-- it has those of both halves.
+pub record IsWholeOf (high low whole : FieldValue) : Type 0 where
+  pub halves : are_halves high low ≡ true
+  pub start : whole.known.start ≡ 0
+  pub end : whole.known.end ≡ high.known.end
+  pub rounding : whole.rounding ≡ 0
+  pub both : (n : ℕ) → IsOf whole n ↔ (IsOf high n × IsOf low n)
+
 abbrev pub IsJoined : FieldValue → FieldValue → Option FieldValue → Type 0
 IsJoined high low None = are_halves high low ≡ false
-IsJoined high low (Some whole) = (n : ℕ) → IsOf whole n ↔ (IsOf high n × IsOf low n)
+IsJoined high low (Some whole) = IsWholeOf high low whole

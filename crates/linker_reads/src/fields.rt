@@ -64,7 +64,7 @@ impl FieldValue {
         bits_of(sum, self.known.start, self.known.end) == self.bits
     }
 
-    /// The number, if all of its bits are known.
+    /// The number, if all of its bits are known. `None` where some are not, or none is.
     pub fn number(&self) -> Option<u64>
         ensures value { result ≡ whole_number self.now }
         ensures known { (n : ℕ) → n < 2 ^ 64 → IsOf self.now n → IfSome result (λ m. m ≡ n) }

@@ -1,6 +1,6 @@
 //! The address that a relocation's value comes from, and that of a pair of instructions.
 
-ghost use Rattle.std.specs.Prelude.{◌≡◌, ◌↔◌, ℕ, IfSome};
+ghost use Rattle.std.specs.Prelude.{◌≡◌, ◌↔◌, ◌==◌, if◌then◌else◌, ℕ, IfSome};
 ghost use Rattle.linker_elf.specs.Value.{bias_number, page_if};
 ghost use Rattle.linker_reads.specs.Fields.{IsProper, IsOf};
 ghost use Rattle.linker_reads.specs.Solving.{terms, terms_of_kind, terms_of, is_paged};
@@ -161,6 +161,8 @@ fn bias_or_zero(bias: Option<Bias>) -> u64
 fn without_rounding(field: FieldValue) -> FieldValue
     requires { IsProper field }
     ensures same { (n : ℕ) → IsOf result n ↔ IsOf field n }
+    ensures known { result.known ≡ field.known }
+    ensures rounding { result.rounding ≡ (if field.known.start == 0 then 0 else field.rounding) }
     ensures proper { IsProper result }
 {
     if field.known.start != 0 {
@@ -179,9 +181,10 @@ fn without_rounding(field: FieldValue) -> FieldValue
 /// of TLS are read, whichever the formula takes off.
 ///
 /// With these, an address has the bits of the result exactly if its value has those of `field`. The
-/// row's bias is taken off. Where bit 0 is known the rounding is 0. Of a row that takes the page of
-/// the address, bits 12 and up are known, and the rounding is the bias less the page of the place
-/// or of the GOT.
+/// same bits are known of both. Where bit 0 is known the rounding is 0, and else it is the row's bias
+/// and what is left of the rounding of `field` less what the formula takes off. Of a row that takes the
+/// page of the address, bits 12 and up are known, and the page of that rest counts: of what `read`
+/// returns, the rounding is the bias less the page of the place or of the GOT.
 ///
 /// `None` of rows without an inverse, as `terms_of` says; and of a row of pages if `field` begins
 /// below bit 12.
@@ -215,8 +218,9 @@ pub fn solve(
 
 /// What is known of an address from both halves of a pair, as `solve` returns them: `adrp` and
 /// `add`, `auipc` and `addi`, `addis` and `addi`, `pcalau12i` and `addi.d`. A number has the bits
-/// of the result exactly if it has those of both. If the high half's bits are known up to bit 63,
-/// as `reach` makes them, `number` of the result is the address.
+/// of the result exactly if it has those of both. The bits are known from bit 0 up to the last of the
+/// high half, without rounding. If that is bit 63, as `reach` makes it, `number` of the result is the
+/// address.
 ///
 /// `None` unless the low half has all bits below the high half's, from bit 0 up, without rounding.
 pub fn join(high: &FieldValue, low: &FieldValue) -> Option<FieldValue>

@@ -13,10 +13,10 @@ use Rattle.linker_elf.specs.declared.elf.value.Operands.{Operands}
 use Rattle.relocation_laws.specs.AArch64Laws as relocation_laws
 use Rattle.relocation_laws.specs.Schemes.{AreAddresses}
 use Rattle.rewrite_laws.specs.AArch64Laws.{word_of, four, Descriptor, DescriptorOf}
-use Rattle.rewrite_laws.specs.AArch64Laws.{is_scratch, thread_offset, RunAlikeBehindCall}
-use Rattle.rewrite_laws.specs.AArch64Laws.{with_entry}
+use Rattle.rewrite_laws.specs.AArch64Laws.{scratch, thread_offset, RunAlikeBehindCall}
+use Rattle.rewrite_laws.specs.AArch64Laws.{with_entry, AgreeBut, Changes}
 use Rattle.rewrite_laws.specs.AArch64Laws as aarch64_laws
-use Rattle.rewrite_laws.specs.AArch64Machine.{State, step, run, next_pc, go_on, go_to, AreAlikeBut}
+use Rattle.rewrite_laws.specs.AArch64Machine.{State, step, run, next_pc, go_on, go_to}
 use Rattle.rewrite_laws.specs.AArch64Machine.{load_64, adrp_address, added, in_64_bits}
 use Rattle.rewrite_laws.specs.AArch64Machine.{write_x_or_sp, loaded}
 use Rattle.rewrite_laws.proofs.AArch64Moves.{offset_moves}
@@ -49,13 +49,13 @@ untouched n t a l b f r some not_t not_30 =
     ∙ cond-false (eqb n t) _ _ not_t
     ∙ cond-false (eqb n 0) _ _ (ne_eqb n 0 some)
 
-pub calls : relocation_laws.EntryAddresses → (call : State → Option State) (changed : ℕ → Bool)
+pub calls : relocation_laws.EntryAddresses → (call : State → Option State) (changes : Changes)
     (o : Operands) (s : State) (adrp ldr add blr adrp1 ldr1 add1 : List ℕ)
-    → Descriptor call changed o s adrp ldr add blr
+    → Descriptor call changes o s adrp ldr add blr
     → DescriptorOf o adrp ldr add adrp1 ldr1 add1
     → Calls (rd_of (word_of ldr)) (four adrp1 ldr1 add1 blr) (load_64 s.memory o.got_entry)
     o.got_entry s
-calls entries call changed o s adrp ldr add blr adrp1 ldr1 add1 d is =
+calls entries call changes o s adrp ldr add blr adrp1 ldr1 add1 d is =
     let i = d.instructions in
     let x = word_of adrp1 in
     let y = word_of ldr1 in
@@ -115,22 +115,22 @@ twice_other : (b : Bool) (u v r : ℕ) → b ≡ false → cond b v (cond b u r)
 twice_other b u v r h = cond-false b v (cond b u r) h ∙ cond-false b u r h
 
 -- Behind the call the states are alike.
-pub behind_call : (call : State → Option State) (changed : ℕ → Bool) (o : Operands) (s : State)
+pub behind_call : (call : State → Option State) (changes : Changes) (o : Operands) (s : State)
     (adrp ldr add blr : List ℕ) (t : ℕ) (old : List ℕ) (a b nop nop2 : ℕ) (u v : ℕ)
-    → Descriptor call changed o s adrp ldr add blr
+    → Descriptor call changes o s adrp ldr add blr
     → Calls t old (load_64 s.memory o.got_entry) o.got_entry s
     → step a s ≡ Some (set 0 u s) → step b (set 0 u s) ≡ Some (set 0 v (set 0 u s))
     → v ≡ thread_offset o → nop ≡ 0xd503201f → nop2 ≡ 0xd503201f
-    → RunAlikeBehindCall call (is_scratch t changed) old (a ∷ b ∷ nop ∷ nop2 ∷ []) s
-behind_call call changed o s adrp ldr add blr t old a b nop nop2 u v d c first second value third
+    → RunAlikeBehindCall call (scratch t changes) old (a ∷ b ∷ nop ∷ nop2 ∷ []) s
+behind_call call changes o s adrp ldr add blr t old a b nop nop2 u v d c first second value third
     fourth =
-    let differing = is_scratch t changed in
+    let differing = scratch t changes in
     let new = a ∷ b ∷ nop ∷ nop2 ∷ [] in
     subst (λ r. IsSomeAnd r (λ q. (z : State) → call q ≡ Some z
-    → IsSomeAnd (run new s) (λ k. AreAlikeBut differing z k))) (sym c.runs)
+    → IsSomeAnd (run new s) (λ k. AgreeBut differing z k))) (sym c.runs)
     (λ z returned.
     let r = d.returns c.state z c.memory c.thread_pointer c.at c.argument returned in
-    subst (λ k. IsSomeAnd k (λ k. AreAlikeBut differing z k))
+    subst (λ k. IsSomeAnd k (λ k. AgreeBut differing z k))
     (sym (leaves a b nop nop2 s u v first second third fourth))
     (record {
       registers = λ n other. elim (eqb_tells n 0) [
@@ -138,13 +138,13 @@ behind_call call changed o s adrp ldr add blr t old a b nop nop2 u v d c first s
             ∙ sym (cond-true (eqb n 0) v (cond (eqb n 0) u (s.registers n)) is.0)
         | inr differs ↦
             let kept = sym (cond-false (eqb n 0) false _ differs.0) ∙ other in
-            let parts = or_parts (eqb n t) (eqb n 30 || changed n) kept in
-            let more = or_parts (eqb n 30) (changed n) parts.1 in
+            let parts = or_parts (eqb n t) (eqb n 30 || changes.registers n) kept in
+            let more = or_parts (eqb n 30) (changes.registers n) parts.1 in
             r.others n differs.1 more.1 ∙ c.others n differs.1 parts.0 more.0
             ∙ sym (twice_other (eqb n 0) u v (s.registers n) differs.0)
       ];
       pc = r.back ∙ c.link;
-      memory = r.memory ∙ c.memory;
+      memory = λ a other. r.memory a other ∙ ap (λ m. m a) c.memory;
       thread_pointer = r.thread_pointer ∙ c.thread_pointer;
     }))
 
@@ -152,14 +152,14 @@ behind_call call changed o s adrp ldr add blr t old a b nop nop2 u v d c first s
 
 pub to_local_exec : relocation_laws.EntryAddresses → relocation_laws.ThreadMoves
     → aarch64_laws.DescriptorToLocalExec
-to_local_exec entries moves call changed o s adrp ldr add blr d movz movk nop nop2 made_movz
+to_local_exec entries moves call changes o s adrp ldr add blr d movz movk nop nop2 made_movz
     made_movk made_nop made_nop2 adrp1 ldr1 add1 movz1 movk1 is a b =
     let m = offset_moves moves o d.small 0 (omega arith) (λ e. omega arith) movz movk movz1 movk1
     (word_is 0xd2a00000 movz (omega arith) made_movz)
     (word_is 0xf2800000 movk (omega arith) made_movk) a b s in
-    behind_call call changed o s adrp ldr add blr (rd_of (word_of ldr)) (four adrp1 ldr1 add1 blr)
+    behind_call call changes o s adrp ldr add blr (rd_of (word_of ldr)) (four adrp1 ldr1 add1 blr)
     (word_of movz1) (word_of movk1) (word_of nop) (word_of nop2) _ _ d
-    (calls entries call changed o s adrp ldr add blr adrp1 ldr1 add1 d is) m.first m.second
+    (calls entries call changes o s adrp ldr add blr adrp1 ldr1 add1 d is) m.first m.second
     m.value_is (word_is 0xd503201f nop (omega arith) made_nop)
     (word_is 0xd503201f nop2 (omega arith) made_nop2)
 
@@ -176,7 +176,7 @@ small_entry entry o below small =
     }
 
 pub to_initial_exec : relocation_laws.EntryAddresses → aarch64_laws.DescriptorToInitialExec
-to_initial_exec entries call changed o s adrp ldr add blr d entry below holds adrp0 ldr0 nop
+to_initial_exec entries call changes o s adrp ldr add blr d entry below holds adrp0 ldr0 nop
     nop2 made_adrp made_ldr made_nop made_nop2 adrp1 ldr1 add1 adrp2 ldr2 is a b =
     let e = with_entry entry o in
     let x = word_is 0x90000000 adrp0 (omega arith) made_adrp in
@@ -189,8 +189,8 @@ to_initial_exec entries call changed o s adrp ldr add blr d entry below holds ad
     (λ e. omega arith) (λ e. omega arith) d.at
     (entries.3 e (small_entry entry o below d.small) o.place adrp0 adrp2 a tt (sum_64 o.place 4)
     ldr0 ldr2 b tt) in
-    behind_call call changed o s adrp ldr add blr (rd_of (word_of ldr)) (four adrp1 ldr1 add1 blr)
+    behind_call call changes o s adrp ldr add blr (rd_of (word_of ldr)) (four adrp1 ldr1 add1 blr)
     (word_of adrp2) (word_of ldr2) (word_of nop) (word_of nop2) _ _ d
-    (calls entries call changed o s adrp ldr add blr adrp1 ldr1 add1 d is) l.first l.second
+    (calls entries call changes o s adrp ldr add blr adrp1 ldr1 add1 d is) l.first l.second
     (l.value_is ∙ holds) (word_is 0xd503201f nop (omega arith) made_nop)
     (word_is 0xd503201f nop2 (omega arith) made_nop2)

@@ -1,5 +1,5 @@
 -- The halves of initial-exec, each by itself.
-use Rattle.std.proofs.Common.{◌≡◌, ℕ, ◌+◌, ◌-◌, ◌*◌, ◌/◌, ◌%◌, ◌^◌, ◌<◌, Bool, refl, sym}
+use Rattle.std.proofs.Common.{◌≡◌, ℕ, ◌+◌, ◌-◌, ◌*◌, ◌/◌, ◌%◌, ◌^◌, ◌<◌, refl, sym}
 use Rattle.std.proofs.Common.{◌∙◌, ap, subst, arith, List, eqb, ℤ, pos, ◌+ℤ◌, ◌*ℤ◌, Some, inl}
 use Rattle.std.proofs.Common.{inr}
 use Rattle.std.specs.Prelude.{IsSomeAnd, not, ◌&&◌, nat_lt}
@@ -33,10 +33,9 @@ use Rattle.relocation_laws.proofs.Moves.{movn_first}
 use Rattle.relocation_laws.proofs.Pages.{offset_reads, IsUnsigned}
 use Rattle.relocation_laws.proofs.Sums.{sum_below, difference_below, page_halves_sum, taken_off}
 use Rattle.relocation_laws.proofs.Sums.{cast_is, euclid, lift, lifted_is}
-use Rattle.rewrite_laws.specs.AArch64Laws.{word_of, thread_offset, IsRelocated, AreAlikeApart, HasHigh}
-use Rattle.rewrite_laws.specs.AArch64Laws.{StepSo}
+use Rattle.rewrite_laws.specs.AArch64Laws.{word_of, thread_offset, IsRelocated, AgreeBut, Changes, HasHigh}
+use Rattle.rewrite_laws.specs.AArch64Laws.{StepSo, with_register, without_register}
 use Rattle.rewrite_laws.specs.AArch64Laws as aarch64_laws
-use Rattle.rewrite_laws.specs.Machine.{also, but}
 use Rattle.rewrite_laws.specs.AArch64Machine.{State, step, in_64_bits, moved, with_moved, read_x}
 use Rattle.rewrite_laws.specs.AArch64Machine.{loaded, load_64, adrp_address}
 use Rattle.rewrite_laws.proofs.AArch64Moves.{movk_lifted, movz_is_no_movk}
@@ -55,12 +54,12 @@ steps_so x y s t u v P first second holds =
     (subst (λ r. IsSomeAnd r (λ v. P u v)) (sym second) holds)
 
 -- One register is written in both, and may differ then.
-alike_also : (n v w : ℕ) (differs spilled : ℕ → Bool) (s t : State) → AreAlikeApart differs spilled s t
-    → AreAlikeApart (also n differs) spilled (set n v s) (set n w t)
-alike_also n v w differs spilled s t alike =
+alike_also : (n v w : ℕ) (c : Changes) (s t : State) → AgreeBut c s t
+    → AgreeBut (with_register n c) (set n v s) (set n w t)
+alike_also n v w c s t alike =
     record {
       registers = λ m kept.
-          let parts = or_parts (eqb m n) (differs m) kept in
+          let parts = or_parts (eqb m n) (c.registers m) kept in
           cond-false (eqb m n) v (s.registers m) parts.0
           ∙ alike.registers m parts.1
           ∙ sym (cond-false (eqb m n) w (t.registers m) parts.0);
@@ -70,16 +69,16 @@ alike_also n v w differs spilled s t alike =
     }
 
 -- One register gets the same number in both.
-alike_but : (n v w : ℕ) (differs spilled : ℕ → Bool) (s t : State) → v ≡ w
-    → AreAlikeApart differs spilled s t
-    → AreAlikeApart (but n differs) spilled (set n v s) (set n w t)
-alike_but n v w differs spilled s t same alike =
+alike_but : (n v w : ℕ) (c : Changes) (s t : State) → v ≡ w
+    → AgreeBut c s t
+    → AgreeBut (without_register n c) (set n v s) (set n w t)
+alike_but n v w c s t same alike =
     record {
       registers = λ m kept. elim (eqb_tells m n) [
         | inl is ↦ cond-true (eqb m n) v (s.registers m) is.0 ∙ same
             ∙ sym (cond-true (eqb m n) w (t.registers m) is.0)
         | inr other ↦
-            let alone = sym (ap (λ b. not b && differs m) other.0) ∙ kept in
+            let alone = sym (ap (λ b. not b && c.registers m) other.0) ∙ kept in
             cond-false (eqb m n) v (s.registers m) other.0 ∙ alike.registers m alone
             ∙ sym (cond-false (eqb m n) w (t.registers m) other.0)
       ];
@@ -157,7 +156,7 @@ same_bits v w same =
     ∙ scaled (bits_from 16 v) l.number b.number l.times l.is b.below)
 
 pub high_half : aarch64_laws.HighHalfToMovz
-high_half o s t differs spilled adrp movz small at alike is named made adrp1 movz1 a b =
+high_half o s t c adrp movz small at alike is named made adrp1 movz1 a b =
     let n = rd_of (word_of adrp) in
     let x = word_of adrp1 in
     let y = word_of movz1 in
@@ -180,7 +179,7 @@ high_half o s t differs spilled adrp movz small at alike is named made adrp1 mov
     steps_so x y s t (set n (adrp_address x s) s) (set n (moved y) t) _
     (step_adrp x n s (decodes_adrp x first.opcode first.top) first.rd_is named)
     (step_move y n t second.decodes rd named) (
-      alike_also n (adrp_address x s) (moved y) differs spilled s t alike,
+      alike_also n (adrp_address x s) (moved y) c s t alike,
       record {
         page_is = cond-true (eqb n n) (adrp_address x s) (s.registers n) (eq-eqb n n refl)
             ∙ ap (λ p. in_64_bits (pos (page p) +ℤ ((aarch64_form Adr).machine x *ℤ pos 4096))) at
@@ -237,7 +236,7 @@ entry_of_page o small ldr after a =
     whole g t small same = omega arith
 
 pub low_half : aarch64_laws.LowHalfToMovk
-low_half o s t differs spilled ldr movk_bytes small is own holds high alike made ldr1 movk1 a b =
+low_half o s t c ldr movk_bytes small is own holds high alike made ldr1 movk1 a b =
     let n = rd_of (word_of ldr) in
     let named = own.not_31 in
     let x = word_of ldr1 in
@@ -248,7 +247,7 @@ low_half o s t differs spilled ldr movk_bytes small is own holds high alike made
     let rd : rd_of y ≡ n =
     second.rd_is ∙ (let e : rd_of (word_of movk_bytes) ≡ n = omega arith in e) in
     let d = relative symbol_address tls_base o in
-    let c = t.registers n in
+    let held = t.registers n in
     let offset : d ≡ thread_offset o =
     ap (λ a. difference_64 a o.tls_base) (unbiased (symbol_address o) (sum_below o.symbol _)) in
     let old : loaded x s ≡ thread_offset o =
@@ -257,17 +256,17 @@ low_half o s t differs spilled ldr movk_bytes small is own holds high alike made
     ∙ ap (λ p. load_64 s.memory (in_64_bits (pos p +ℤ ((aarch64_form LdSt).machine x *ℤ pos 8))))
     high.page_is
     ∙ ap (load_64 s.memory) (entry_of_page o small ldr ldr1 a) ∙ holds in
-    let read : read_x (rd_of y) t ≡ c =
-    ap (λ r. read_x r t) rd ∙ cond-false (eqb n 31) 0 c (ne_eqb n 31 named) in
+    let read : read_x (rd_of y) t ≡ held =
+    ap (λ r. read_x r t) rd ∙ cond-false (eqb n 31) 0 held (ne_eqb n 31 named) in
     let low = low_bits o movk_bytes movk1 b in
     let new : with_moved y t ≡ thread_offset o =
     ap (λ k. in_64_bits (movk k (pos (read_x (rd_of y) t)) y)) second.shift_is
     ∙ ap (λ r. in_64_bits (movk 0 (pos r) y)) read
-    ∙ movk_lifted (pos c) 0 c (omega (arith, ints)) y 0 (field d 0 16)
+    ∙ movk_lifted (pos held) 0 held (omega (arith, ints)) y 0 (field d 0 16)
     (ap (λ k. (k *ℤ pos (2 ^ 0)) +ℤ pos (0 * 2 ^ 64)) low ∙ omega (arith, ints))
-    ∙ joined c d (difference_below _ _) (high.bits_are ∙ ap (λ k. k / 2 ^ 16) (sym offset))
+    ∙ joined held d (difference_below _ _) (high.bits_are ∙ ap (λ k. k / 2 ^ 16) (sym offset))
     ∙ offset in
     steps_so x y s t (set n (loaded x s) s) (set n (with_moved y t) t) _
     (step_ldr x n s first.decodes first.rd_is named)
     (step_movk y n t second.decodes rd named)
-    (alike_but n (loaded x s) (with_moved y t) differs spilled s t (old ∙ sym new) alike)
+    (alike_but n (loaded x s) (with_moved y t) c s t (old ∙ sym new) alike)

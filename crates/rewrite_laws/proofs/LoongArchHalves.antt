@@ -33,7 +33,7 @@ use Rattle.relocation_laws.proofs.Applied.{value_is, taken_bits}
 use Rattle.relocation_laws.proofs.Instructions.{row_of, reads_bits, relative, unbiased}
 use Rattle.relocation_laws.proofs.PartsOfAddresses.{page_distance}
 use Rattle.relocation_laws.proofs.Sums.{sum_below, difference_below, page_halves_sum, taken_off, plus, cast_is, cast_low, euclid, lifted_is, signed_12}
-use Rattle.rewrite_laws.specs.LoongArchLaws.{word_of, thread_offset, high_offset, near_page, Has, HasDescriptor, AreAlikeApart, StepSo, HighHalf, IsRelocated, behind_call, with_entry}
+use Rattle.rewrite_laws.specs.LoongArchLaws.{word_of, thread_offset, high_offset, near_page, Has, HasDescriptor, AgreeBut, Changes, StepSo, HighHalf, IsRelocated, behind_call, with_entry}
 use Rattle.rewrite_laws.specs.LoongArchLaws as laws
 use Rattle.rewrite_laws.specs.LoongArchMachine.{State, step, execute, read, write, with_register, go_on, go_to, next_pc, page_address, high_part, sum_of, ored}
 use Rattle.rewrite_laws.specs.Machine.{wrapped, loaded, also, but}
@@ -78,60 +78,62 @@ same_there n v w s t same =
 
 -- All but registers stays.
 record Stays (s u : State) : Type 0 where
-  pub floats : u.floats ≡ s.floats
+  pub floats : (n : ℕ) → u.floats.numbers n ≡ s.floats.numbers n
+  pub widened : u.floats.widened ≡ s.floats.widened
   pub memory : (a : ℕ) → u.memory a ≡ s.memory a
   pub pc : u.pc ≡ sum_64 s.pc 4
 
 stays_by : (b : Bool) (n v : ℕ) (s : State) → Stays s (go_on (if b then s else with_register n v s))
-stays_by true n v s = record { floats = refl; memory = λ a. refl; pc = refl }
-stays_by false n v s = record { floats = refl; memory = λ a. refl; pc = refl }
+stays_by true n v s = record { floats = λ m. refl; widened = refl; memory = λ a. refl; pc = refl }
+stays_by false n v s = record { floats = λ m. refl; widened = refl; memory = λ a. refl; pc = refl }
 
 stays : (n v : ℕ) (s : State) → Stays s (put n v s)
 stays n v s = stays_by (eqb n 0) n v s
 
 -- The registers are given.
-alike_after : (differs after spilled : ℕ → Bool) (s t u v : State) → AreAlikeApart differs spilled s t
+alike_after : (c : Changes) (after : ℕ → Bool) (s t u v : State) → AgreeBut c s t
     → Stays s u → Stays t v → ((m : ℕ) → after m ≡ false → read m u ≡ read m v)
-    → AreAlikeApart after spilled u v
-alike_after differs after spilled s t u v alike first second registers =
+    → AgreeBut (record c { registers = after }) u v
+alike_after c after s t u v alike first second registers =
     record {
       registers = registers;
-      floats = first.floats ∙ alike.floats ∙ sym second.floats;
+      floats = λ n kept. first.floats n ∙ alike.floats n kept ∙ sym (second.floats n);
+      widened = first.widened ∙ alike.widened ∙ sym second.widened;
       memory = λ a kept. first.memory a ∙ alike.memory a kept ∙ sym (second.memory a);
       pc = first.pc ∙ ap (λ p. sum_64 p 4) alike.pc ∙ sym second.pc;
     }
 
 goes_on : (s : State) → Stays s (go_on s)
-goes_on s = record { floats = refl; memory = λ a. refl; pc = refl }
+goes_on s = record { floats = λ m. refl; widened = refl; memory = λ a. refl; pc = refl }
 
 -- One register is written in both, or in the first alone, and may differ then.
-alike_also : (n v w : ℕ) (differs spilled : ℕ → Bool) (s t : State) → AreAlikeApart differs spilled s t
-    → AreAlikeApart (also n differs) spilled (put n v s) (put n w t)
-alike_also n v w differs spilled s t alike =
-    alike_after differs (also n differs) spilled s t (put n v s) (put n w t) alike (stays n v s) (stays n w t)
+alike_also : (n v w : ℕ) (c : Changes) (s t : State) → AgreeBut c s t
+    → AgreeBut (laws.with_register n c) (put n v s) (put n w t)
+alike_also n v w c s t alike =
+    alike_after c (also n c.registers) s t (put n v s) (put n w t) alike (stays n v s) (stays n w t)
     (λ m kept.
-    let parts = or_parts (eqb m n) (differs m) kept in
+    let parts = or_parts (eqb m n) (c.registers m) kept in
     unwritten m n v s parts.0 ∙ alike.registers m parts.1 ∙ sym (unwritten m n w t parts.0))
 
-alike_first : (n v : ℕ) (differs spilled : ℕ → Bool) (s t : State) → AreAlikeApart differs spilled s t
-    → AreAlikeApart (also n differs) spilled (put n v s) (go_on t)
-alike_first n v differs spilled s t alike =
-    alike_after differs (also n differs) spilled s t (put n v s) (go_on t) alike (stays n v s) (goes_on t)
+alike_first : (n v : ℕ) (c : Changes) (s t : State) → AgreeBut c s t
+    → AgreeBut (laws.with_register n c) (put n v s) (go_on t)
+alike_first n v c s t alike =
+    alike_after c (also n c.registers) s t (put n v s) (go_on t) alike (stays n v s) (goes_on t)
     (λ m kept.
-    let parts = or_parts (eqb m n) (differs m) kept in
+    let parts = or_parts (eqb m n) (c.registers m) kept in
     unwritten m n v s parts.0 ∙ alike.registers m parts.1)
 
 -- One register gets the same number in both.
-alike_but : (n v w : ℕ) (differs spilled : ℕ → Bool) (s t : State) → v ≡ w
-    → AreAlikeApart differs spilled s t
-    → AreAlikeApart (but n differs) spilled (put n v s) (put n w t)
-alike_but n v w differs spilled s t same alike =
-    alike_after differs (but n differs) spilled s t (put n v s) (put n w t) alike (stays n v s) (stays n w t)
+alike_but : (n v w : ℕ) (c : Changes) (s t : State) → v ≡ w
+    → AgreeBut c s t
+    → AgreeBut (laws.without_register n c) (put n v s) (put n w t)
+alike_but n v w c s t same alike =
+    alike_after c (but n c.registers) s t (put n v s) (put n w t) alike (stays n v s) (stays n w t)
     (λ m kept. elim (eqb_tells m n) [
       | inl is ↦ ap (λ r. read r (put n v s)) is.1 ∙ same_there n v w s t same
           ∙ sym (ap (λ r. read r (put n w t)) is.1)
       | inr other ↦
-          let alone = sym (ap (λ b. not b && differs m) other.0) ∙ kept in
+          let alone = sym (ap (λ b. not b && c.registers m) other.0) ∙ kept in
           unwritten m n v s other.0 ∙ alike.registers m alone ∙ sym (unwritten m n w t other.0)
     ])
 
@@ -306,16 +308,16 @@ has : (n u v : ℕ) (s t : State) → n ≢ 0 → Has n u v (put n u s) (put n v
 has n u v s t named = record { old_is = written_there n u s named; new_is = written_there n v t named }
 
 -- with a `pcalau12i` whose page is made
-to_lu12i : (o : Operands) (s t : State) (differs spilled : ℕ → Bool) (pcala lu12i pcala1 lu12i1 : List ℕ)
-    → AreAddresses o → s.pc ≡ o.place → AreAlikeApart differs spilled s t
+to_lu12i : (o : Operands) (s t : State) (c : Changes) (pcala lu12i pcala1 lu12i1 : List ℕ)
+    → AreAddresses o → s.pc ≡ o.place → AgreeBut c s t
     → laws.IsRewritten kinds.PcalaToLu12i pcala lu12i → laws.Fits32 names.R_LARCH_TLS_LE_HI20 o
     → IsRelocated names.R_LARCH_TLS_LE_HI20 o lu12i lu12i1
     → IsHigh 0x0d (rd_of (word_of pcala)) (word_of pcala1)
     → wrapped (pcalau12i o.place (word_of pcala1)) ≡ near_page (entry_and_addend o)
     → StepSo (word_of pcala1) s (word_of lu12i1) t
-    (λ u v. AreAlikeApart (also (rd_of (word_of pcala)) differs) spilled u v
+    (λ u v. AgreeBut (laws.with_register (rd_of (word_of pcala)) c) u v
     × (rd_of (word_of pcala) ≢ 0 → Has (rd_of (word_of pcala)) (near_page (entry_and_addend o)) (high_offset o) u v))
-to_lu12i o s t differs spilled pcala lu12i pcala1 lu12i1 small at alike made fits b is page =
+to_lu12i o s t c pcala lu12i pcala1 lu12i1 small at alike made fits b is page =
     let n = rd_of (word_of pcala) in
     let e = near_page (entry_and_addend o) in
     let h = high_offset o in
@@ -326,22 +328,22 @@ to_lu12i o s t differs spilled pcala lu12i pcala1 lu12i1 small at alike made fit
     steps_so (word_of pcala1) (word_of lu12i1) s t (put n e s) (put n h t) _
     (page_step o n (word_of pcala1) e s is at page)
     (high_step n (word_of lu12i1) h t new (high_made o lu12i lu12i1 b (subst (ValueIsWithin signed_32) b.value_is fits)))
-    (alike_also n e h differs spilled s t alike, has n e h s t)
+    (alike_also n e h c s t alike, has n e h s t)
 
 pub initial_exec_high : laws.HighHalfToLu12i names.R_LARCH_TLS_IE_PC_HI20
-initial_exec_high o s t differs spilled pcala lu12i small at alike made pcala1 lu12i1 high fits b =
-    to_lu12i o s t differs spilled pcala lu12i pcala1 lu12i1 small at alike made fits b
+initial_exec_high o s t c pcala lu12i small at alike made pcala1 lu12i1 high fits b =
+    to_lu12i o s t c pcala lu12i pcala1 lu12i1 small at alike made fits b
     (high_after 12 0x0d (rd_of (word_of pcala)) _ pcala pcala1 high.applied.written high.is refl)
     (page_made o small refl pcala pcala1 high.applied (subst (ValueIsWithin signed_32) high.applied.value_is high.fits))
 
 pub descriptor_high : laws.HighHalfToLu12i names.R_LARCH_TLS_DESC_PC_HI20
-descriptor_high o s t differs spilled pcala lu12i small at alike made pcala1 lu12i1 high fits b =
-    to_lu12i o s t differs spilled pcala lu12i pcala1 lu12i1 small at alike made fits b
+descriptor_high o s t c pcala lu12i small at alike made pcala1 lu12i1 high fits b =
+    to_lu12i o s t c pcala lu12i pcala1 lu12i1 small at alike made fits b
     (high_after 12 0x0d (rd_of (word_of pcala)) _ pcala pcala1 high.applied.written high.is refl)
     (page_made o small refl pcala pcala1 high.applied (subst (ValueIsWithin signed_32) high.applied.value_is high.fits))
 
 pub initial_exec_short_high : laws.HighHalfToNop
-initial_exec_short_high o s t differs spilled pcala nop small at alike made pcala1 high =
+initial_exec_short_high o s t c pcala nop small at alike made pcala1 high =
     let n = rd_of (word_of pcala) in
     let e = near_page (entry_and_addend o) in
     let word = word_made (λ _. 0x03400000) pcala nop (omega arith) made in
@@ -350,7 +352,7 @@ initial_exec_short_high o s t differs spilled pcala nop small at alike made pcal
     (high_after 12 0x0d n _ pcala pcala1 high.applied.written high.is refl) at
     (page_made o small refl pcala pcala1 high.applied (subst (ValueIsWithin signed_32) high.applied.value_is high.fits)))
     (nop_step (word_of nop) t word)
-    (alike_first n e differs spilled s t alike, λ named. written_there n e s named)
+    (alike_first n e c s t alike, λ named. written_there n e s named)
 
 -- the bits of the offset in `ori`
 ori_bits : (o : Operands) (before after : List ℕ) → IsRelocated names.R_LARCH_TLS_LE_LO12 o before after
@@ -381,7 +383,7 @@ or_value o j y t high low =
     ∙ or_low (thread_offset o)
 
 pub initial_exec_low : laws.LowHalfToOri
-initial_exec_low o s t differs spilled ld ori small is holds has alike made ld1 ori1 a b =
+initial_exec_low o s t c ld ori small is holds has alike made ld1 ori1 a b =
     let d = rd_of (word_of ld) in
     let j = rj_of (word_of ld) in
     let e = entry_and_addend o in
@@ -394,10 +396,10 @@ initial_exec_low o s t differs spilled ld ori small is holds has alike made ld1 
     (reached e (field (word_of ld1) 10 22) (read j s) (sum_below o.got_entry _) (load_bits o ld ld1 a) has.old_is))
     (or_step d j (word_of ori1) (thread_offset o) t (low_after 0x00e d j _ ori ori1 b.written op rd rj)
     (or_value o j (word_of ori1) t has.new_is (ori_bits o ori ori1 b)))
-    (alike_but d (loaded 8 s.memory e) (thread_offset o) differs spilled s t holds alike)
+    (alike_but d (loaded 8 s.memory e) (thread_offset o) c s t holds alike)
 
 pub initial_exec_short_low : laws.LowHalfToOriZero
-initial_exec_short_low o s t differs spilled ld ori small is holds page_is alike made ld1 ori1 a fits b =
+initial_exec_short_low o s t c ld ori small is holds page_is alike made ld1 ori1 a fits b =
     let d = rd_of (word_of ld) in
     let j = rj_of (word_of ld) in
     let e = entry_and_addend o in
@@ -415,7 +417,7 @@ initial_exec_short_low o s t differs spilled ld ori small is holds page_is alike
     (load_step d j (word_of ld1) e s (low_after 0x0a3 d j _ ld ld1 a.written is refl refl)
     (reached e (field (word_of ld1) 10 22) (read j s) (sum_below o.got_entry _) (load_bits o ld ld1 a) page_is))
     (or_step d 0 (word_of ori1) (thread_offset o) t (low_after 0x00e d 0 _ ori ori1 b.written op rd rj) value)
-    (alike_but d (loaded 8 s.memory e) (thread_offset o) differs spilled s t holds alike)
+    (alike_but d (loaded 8 s.memory e) (thread_offset o) c s t holds alike)
 
 -- ---- descriptors
 
@@ -434,7 +436,7 @@ small_entry entry o below small =
     }
 
 pub descriptor_page : laws.PageOfDescriptor
-descriptor_page o entry s t differs spilled pcala small below at alike rd pcala1 pcala2 old new =
+descriptor_page o entry s t c pcala small below at alike rd pcala1 pcala2 old new =
     let e = near_page (entry_and_addend o) in
     let o2 = with_entry entry o in
     let f = near_page (entry_and_addend o2) in
@@ -444,7 +446,7 @@ descriptor_page o entry s t differs spilled pcala small below at alike rd pcala1
     (page_step o2 4 (word_of pcala2) f t (high_after 12 0x0d 4 _ pcala pcala2 new.applied.written new.is rd) (sym alike.pc ∙ at)
     (page_made o2 (small_entry entry o below small) refl pcala pcala2 new.applied
     (subst (ValueIsWithin signed_32) new.applied.value_is new.fits)))
-    (alike_also 4 e f differs spilled s t alike, has 4 e f s t four_is_named)
+    (alike_also 4 e f c s t alike, has 4 e f s t four_is_named)
 
 -- the bits of the descriptor's address in `addi.d`
 addi_bits : (o : Operands) (before after : List ℕ) → IsRelocated names.R_LARCH_TLS_DESC_PC_LO12 o before after
@@ -466,7 +468,7 @@ descriptor_low o s addi addi1 is page_is a =
     (reached (entry_and_addend o) (field (word_of addi1) 10 22) (read 4 s) (sum_below o.got_entry _) (addi_bits o addi addi1 a) page_is)
 
 pub descriptor_to_ori : laws.LowOfDescriptorToOri
-descriptor_to_ori o s t differs spilled addi ori small is had alike made addi1 ori1 a b =
+descriptor_to_ori o s t c addi ori small is had alike made addi1 ori1 a b =
     let e = entry_and_addend o in
     let word = word_made (λ x. 0x03800000 + field x 0 10) addi ori (omega arith) made in
     let op : word_of ori / 2 ^ 22 ≡ 0x00e = omega arith in
@@ -477,10 +479,10 @@ descriptor_to_ori o s t differs spilled addi ori small is had alike made addi1 o
     (or_step 4 4 (word_of ori1) (thread_offset o) t
     (low_after 0x00e 4 4 _ ori ori1 b.written op (rd ∙ is.1) (rj ∙ is.2))
     (or_value o 4 (word_of ori1) t had.new_is (ori_bits o ori ori1 b)))
-    (alike_also 4 e (thread_offset o) differs spilled s t alike, has 4 e (thread_offset o) s t four_is_named)
+    (alike_also 4 e (thread_offset o) c s t alike, has 4 e (thread_offset o) s t four_is_named)
 
 pub descriptor_to_load : laws.LowOfDescriptorToLoad
-descriptor_to_load o entry s t differs spilled addi ld small below is holds had alike made addi1 ld1 a b =
+descriptor_to_load o entry s t c addi ld small below is holds had alike made addi1 ld1 a b =
     let e = entry_and_addend o in
     let o2 = with_entry entry o in
     let f = entry_and_addend o2 in
@@ -493,10 +495,10 @@ descriptor_to_load o entry s t differs spilled addi ld small below is holds had 
     (load_step 4 4 (word_of ld1) f t (low_after 0x0a3 4 4 _ ld ld1 b.written op (rd ∙ is.1) (rj ∙ is.2))
     (reached f (field (word_of ld1) 10 22) (read 4 t) (sum_below entry _) (load_bits o2 ld ld1 b) had.new_is)
     ∙ ap (λ v. Some (put 4 v t)) holds)
-    (alike_also 4 e (thread_offset o) differs spilled s t alike, has 4 e (thread_offset o) s t four_is_named)
+    (alike_also 4 e (thread_offset o) c s t alike, has 4 e (thread_offset o) s t four_is_named)
 
 pub descriptor_load : laws.LoadOfDescriptorToNop
-descriptor_load o s t differs spilled ld nop small is had alike made =
+descriptor_load o s t c ld nop small is had alike made =
     let e = entry_and_addend o in
     let f = loaded 8 s.memory e in
     let word = word_made (λ _. 0x03400000) ld nop (omega arith) made in
@@ -506,34 +508,37 @@ descriptor_load o s t differs spilled ld nop small is had alike made =
     steps_so (word_of ld) (word_of nop) s t (put 1 f s) (go_on t) _
     (ap (λ w. step w s) is ∙ ap (λ v. Some (put 1 v s)) there)
     (nop_step (word_of nop) t word) (
-      alike_first 1 f differs spilled s t alike,
+      alike_first 1 f c s t alike,
       record { old_is = unwritten 4 1 f s refl ∙ had.old_is; new_is = had.new_is },
       written_there 1 f s (λ z. omega arith),
     )
 
 pub descriptor_call : laws.CallOfDescriptorToNop
-descriptor_call call changed o s t differs spilled jirl nop d is had function alike made =
+descriptor_call call c o s t d jirl nop premises is had function alike made =
     let f = loaded 8 s.memory (entry_and_addend o) in
-    let after = behind_call changed differs in
+    let after = behind_call c d in
     let word = word_made (λ _. 0x03400000) jirl nop (omega arith) made in
     let at = wrapped (pos (read 1 s) +ℤ pos 0) in
     let u = go_to at (write 1 (next_pc s) s) in
-    let there : at ≡ f = ap (λ n. wrapped (pos n +ℤ pos 0)) function ∙ whole f d.function in
-    subst (λ r. IsSomeAnd r (λ u. (v : State) → call u ≡ Some v → IsSomeAnd (step (word_of nop) t) (λ w.
-    AreAlikeApart after spilled v w))) (sym (ap (λ w. step w s) is))
+    let there : at ≡ f = ap (λ n. wrapped (pos n +ℤ pos 0)) function ∙ whole f premises.function in
+    subst (λ r. IsSomeAnd r (λ u. (v : State) → call u ≡ Some v
+    → IsSomeAnd (step (word_of nop) t) (AgreeBut after v))) (sym (ap (λ w. step w s) is))
     (λ v returned.
-    let r = d.returns u v refl there had.old_is returned in
-    subst (λ k. IsSomeAnd k (λ w. AreAlikeApart after spilled v w)) (sym (nop_step (word_of nop) t word))
+    let r = premises.returns u v refl there had.old_is returned in
+    subst (λ k. IsSomeAnd k (AgreeBut after v)) (sym (nop_step (word_of nop) t word))
     (record {
       registers = λ n kept. elim (eqb_tells n 4) [
         | inl is_a0 ↦ ap (λ m. read m v) is_a0.1 ∙ r.offset_is ∙ sym had.new_is ∙ sym (ap (λ m. read m (go_on t)) is_a0.1)
         | inr other ↦
             let rest = sym (cond-false (eqb n 4) false _ other.0) ∙ kept in
-            let parts = or_parts (eqb n 1) (changed n || differs n) rest in
-            let more = or_parts (changed n) (differs n) parts.1 in
+            let parts = or_parts (eqb n 1) (c.registers n || d.registers n) rest in
+            let more = or_parts (c.registers n) (d.registers n) parts.1 in
             r.others n other.1 more.0 ∙ unwritten n 1 (next_pc s) s parts.0 ∙ alike.registers n more.1
       ];
-      floats = r.floats ∙ alike.floats;
-      memory = λ a kept. ap (λ m. m a) r.memory ∙ alike.memory a kept;
+      floats = λ n kept.
+          let parts = or_parts (c.floats n) (d.floats n) kept in r.floats n parts.0 ∙ alike.floats n parts.1;
+      widened = r.widened ∙ alike.widened;
+      memory = λ a kept.
+          let parts = or_parts (c.memory a) (d.memory a) kept in r.memory a parts.0 ∙ alike.memory a parts.1;
       pc = r.back ∙ ap (λ p. sum_64 p 4) alike.pc;
     }))

@@ -157,28 +157,28 @@ pub record Leaves (offset at : ℕ) (k w : Hart) : Type 0 where
   pub memory : w.memory ≡ k.memory
   pub next : w.pc ≡ at
 
-module _ (changed : ℕ → Bool) (X Y offset at : ℕ) (h k u v w : Hart) (back : laws.ReturnsOffset changed offset u v) (new : Leaves offset at k w)
+module _ (changes : laws.Changes) (X Y offset at : ℕ) (h k u v w : Hart) (back : laws.ReturnsOffset changes offset u v) (new : Leaves offset at k w)
     (others : (r : ℕ) → (r == 5) ≡ false → (r == 10) ≡ false → (r == Y) ≡ false → (r == X) ≡ false → register u r ≡ register h r)
     (floats : u.floats ≡ h.floats) (memory : u.memory ≡ h.memory) (t0 : register u 5 ≡ sum_64 h.pc 16) (alike : AreAlike no_register h k) where
-  same_register : (r : ℕ) → is_scratch X Y changed r ≡ false → register v r ≡ register w r
+  same_register : (r : ℕ) → is_scratch X Y changes.registers r ≡ false → register v r ≡ register w r
   same_register r e = cases (r == 10) refl e
     where
-      cases : (b : Bool) → (r == 10) ≡ b → (if b then false else (r == 5 || r == X || r == Y || changed r)) ≡ false → register v r ≡ register w r
+      cases : (b : Bool) → (r == 10) ≡ b → (if b then false else (r == 5 || r == X || r == Y || changes.registers r)) ≡ false → register v r ≡ register w r
       cases true is e =
           let a0 : r ≡ 10 = eqb-true r 10 is in
           ap (register v) a0 ∙ back.offset_is ∙ sym new.has_offset ∙ ap (register w) (sym a0)
       cases false is e =
-          let four = four_parts (r == 5) (r == X) (r == Y) (changed r) e in
+          let four = four_parts (r == 5) (r == X) (r == Y) (changes.registers r) e in
           back.others r (λ a0. let c : true ≡ false = sym (eq-eqb r 10 a0) ∙ is in cc) four.3
           ∙ others r four.0 is four.2 four.1 ∙ alike.integers r refl ∙ sym (new.others r is)
 
-  pub ends_alike : laws.HaveReturned (is_scratch X Y changed) (sum_64 h.pc 16) at v w
+  pub ends_alike : laws.HaveReturned (record changes { registers = is_scratch X Y changes.registers }) (sum_64 h.pc 16) at v w
   ends_alike =
       record {
         alike = record {
           integers = same_register;
-          floats = λ r. back.floats r ∙ ap (λ f. f r) floats ∙ alike.floats r ∙ ap (λ f. f r) (sym new.floats);
-          memory = λ a. back.memory a ∙ ap (λ m. m a) memory ∙ alike.memory a ∙ ap (λ m. m a) (sym new.memory);
+          floats = λ r kept. back.floats r kept ∙ ap (λ f. f r) floats ∙ alike.floats r ∙ ap (λ f. f r) (sym new.floats);
+          memory = λ a kept. back.memory a kept ∙ ap (λ m. m a) memory ∙ alike.memory a ∙ ap (λ m. m a) (sym new.memory);
         };
         next = back.back ∙ t0;
         new_next = new.next;
@@ -401,8 +401,8 @@ pub record Called (x : Operands) (X Y : ℕ) (h u : Hart) : Type 0 where
   pub memory : u.memory ≡ h.memory
   pub floats : u.floats ≡ h.floats
 
-module _ (descriptors : DescriptorAddresses) (call : Hart → Option Hart) (changed : ℕ → Bool) (x : Operands) (h : Hart)
-    (auipc_bytes ld addi jalr : List ℕ) (d : laws.Descriptor call changed x h auipc_bytes ld addi jalr)
+module _ (descriptors : DescriptorAddresses) (call : Hart → Option Hart) (changes : laws.Changes) (x : Operands) (h : Hart)
+    (auipc_bytes ld addi jalr : List ℕ) (d : laws.Descriptor call changes x h auipc_bytes ld addi jalr)
     (A B C : List ℕ) (of : laws.DescriptorOf x auipc_bytes ld addi A B C) where
   pub old_run : (u : Hart) × Runs 4 (A ++ B ++ C ++ jalr) h.pc h u × Called x (rd_of (word_of auipc_bytes)) (rd_of (word_of ld)) h u
   old_run =
@@ -459,7 +459,7 @@ module _ (descriptors : DescriptorAddresses) (call : Hart → Option Hart) (chan
 
   -- with the new code
   pub together : (k w : Hart) (n : ℕ) (new : List ℕ) → Runs n new k.pc k w → Leaves (thread_offset x) (sum_64 k.pc (4 * n)) k w → AreAlike no_register h k
-      → laws.EndAsReturned call (laws.scratch_of auipc_bytes ld changed) (A ++ B ++ C ++ jalr) h n new k
+      → laws.EndAsReturned call (laws.scratch_of auipc_bytes ld changes) (A ++ B ++ C ++ jalr) h n new k
   together k w n new runs leaves alike =
       let old = old_run in
       let u = old.0 in
@@ -470,12 +470,12 @@ module _ (descriptors : DescriptorAddresses) (call : Hart → Option Hart) (chan
         runs = old.1;
         new_runs = runs;
         so = λ v returned.
-            ends_alike changed (rd_of (word_of auipc_bytes)) (rd_of (word_of ld)) (thread_offset x) (sum_64 k.pc (4 * n)) h k u v w
+            ends_alike changes (rd_of (word_of auipc_bytes)) (rd_of (word_of ld)) (thread_offset x) (sum_64 k.pc (4 * n)) h k u v w
             (d.returns u v c.memory c.pc c.passes returned) leaves c.others c.floats c.memory c.t0 alike;
       }
 
 pub to_local_exec : DescriptorAddresses → ThreadAddresses → laws.DescriptorToLocalExec
-to_local_exec descriptors thread call changed x y h k auipc_bytes ld addi jalr d A B C of sy one small alike high low high_code low_code =
+to_local_exec descriptors thread call changes x y h k auipc_bytes ld addi jalr d A B C of sy one small alike high low high_code low_code =
     let u = (riscv_form UType).machine (word_of high) in
     let l = (riscv_form IType).machine (word_of low) in
     let before = laws.after_rewrite kinds.AddiToLui addi 0 in
@@ -488,7 +488,7 @@ to_local_exec descriptors thread call changed x y h k auipc_bytes ld addi jalr d
     in_two_steps u l
     ∙ distance_is (u +ℤ l) y.tls_base (symbol_address y) sy.tls_base (sum_below y.symbol _) (thread.0 y sy y.place before high a1 tt y.place before' low a2 tt)
     ∙ sym one in
-    together descriptors call changed x h auipc_bytes ld addi jalr d A B C of k _ 2 (high ++ low)
+    together descriptors call changes x h auipc_bytes ld addi jalr d A B C of k _ 2 (high ++ low)
     (two_run high low (lui 10 u) (sums adds 10 10 0 l) k small (high_code.len ∙ made_len (λ _. 0x537) addi d.lengths.2) (low_code.len ∙ made_len (λ _. 0x50513) jalr d.lengths.3)
     (upper_long TpOff y before high a1 0x37 refl (ap opcode_of w1)) (low_long TpOff y before' low a2 0x13 refl (ap opcode_of w2))
     (lui_word TpOff y before high a1 10 (ap opcode_of w1) (ap rd_of w1))
@@ -497,7 +497,7 @@ to_local_exec descriptors thread call changed x y h k auipc_bytes ld addi jalr d
     (in_two k u l (thread_offset x) value) alike
 
 pub to_short_local_exec : DescriptorAddresses → laws.DescriptorToShortLocalExec
-to_short_local_exec descriptors call changed x y h k auipc_bytes ld addi jalr d A B C of one is_low small alike low low_code =
+to_short_local_exec descriptors call changes x y h k auipc_bytes ld addi jalr d A B C of one is_low small alike low low_code =
     let l = (riscv_form IType).machine (word_of low) in
     let before' = laws.after_rewrite kinds.CallToAddiZero jalr 0 in
     let a2 = low_code.applied in
@@ -508,7 +508,7 @@ to_short_local_exec descriptors call changed x y h k auipc_bytes ld addi jalr d 
     ap (λ p. moved 0 (signed 12 p)) (i_stands TpOff y n before' low a2 wide (of_offset.0 IType y))
     ∙ low_sum 0 n (n % 2 ^ 32 % 4096) wide (low_12_number n wide is_low) refl
     ∙ (let e : sum_64 0 n ≡ n = omega (arith, wide) in e) ∙ sym one in
-    together descriptors call changed x h auipc_bytes ld addi jalr d A B C of k _ 1 low (
+    together descriptors call changes x h auipc_bytes ld addi jalr d A B C of k _ 1 low (
       executed 4 (sums adds 10 0 0 l) k,
       steps_last low k.pc 0 low (sums adds 10 0 0 l) k (at_start k.pc small) refl (low_code.len ∙ made_len (λ _. 0x513) jalr d.lengths.3)
           (low_long TpOff y before' low a2 0x13 refl (ap opcode_of w2))
@@ -518,7 +518,7 @@ to_short_local_exec descriptors call changed x y h k auipc_bytes ld addi jalr d 
     (in_one k l (thread_offset x) value) alike
 
 pub to_initial_exec : DescriptorAddresses → EntryAddresses → laws.DescriptorToInitialExec
-to_initial_exec descriptors entries call changed x y h k auipc_bytes ld addi jalr d A B C of sy holds at alike high low high_code low_code =
+to_initial_exec descriptors entries call changes x y h k auipc_bytes ld addi jalr d A B C of sy holds at alike high low high_code low_code =
     let u = (riscv_form UType).machine (word_of high) in
     let l = (riscv_form IType).machine (word_of low) in
     let before = laws.after_rewrite kinds.AddiToAuipc addi 0 in
@@ -531,7 +531,7 @@ to_initial_exec descriptors entries call changed x y h k auipc_bytes ld addi jal
     let value : moved (moved k.pc u) l ≡ entry_and_addend y =
     moved_twice k.pc u l ∙ ap (λ p. wrapped (pos p +ℤ (u +ℤ l))) at
     ∙ address_is _ _ (entries.1.0 y sy y.place before high a1 tt y.place before' low a2 tt) in
-    together descriptors call changed x h auipc_bytes ld addi jalr d A B C of k _ 2 (high ++ low)
+    together descriptors call changes x h auipc_bytes ld addi jalr d A B C of k _ 2 (high ++ low)
     (two_run high low (auipc 10 u) (sums (loads 3) 10 10 0 l) k small (high_code.len ∙ made_len (λ _. 0x517) addi d.lengths.2) (low_code.len ∙ made_len (λ _. 0x53503) jalr d.lengths.3)
     (upper_long GotTpOff y before high a1 0x17 refl (ap opcode_of w1)) (low_long RelativeRiscVLow12 (laws.of_entry y) before' low a2 0x03 refl (ap opcode_of w2))
     (upper_word GotTpOff y before high a1 10 (ap opcode_of w1) (ap rd_of w1))

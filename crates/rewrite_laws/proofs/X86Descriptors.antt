@@ -1,6 +1,6 @@
 -- Descriptors of TLS, and offsets from the thread pointer.
 use Rattle.std.proofs.Common.{◌≡◌, ℕ, ◌+◌, ◌-◌, ◌%◌, ◌^◌, ◌<◌, ◌≤◌, List, [], ◌∷◌, ◌++◌, take, drop}
-use Rattle.std.proofs.Common.{sym}
+use Rattle.std.proofs.Common.{sym, Bool}
 use Rattle.std.proofs.Common.{◌∙◌, ap, arith, subst, refl, pos, eqb, inl, inr, IsSomeAnd}
 use Rattle.std.proofs.Common.{append_assoc, length-take, length, min}
 use Rattle.std.specs.Int.{w64, cast_unsigned}
@@ -22,6 +22,7 @@ use Rattle.rewrite_laws.specs.X86Machine.{State, load, extended, with_register, 
 use Rattle.rewrite_laws.specs.X86Machine.{nop, operate, MOV, register, relative, immediate}
 use Rattle.rewrite_laws.specs.X86ThreadLaws.{DescriptorToLocalExec, DescriptorToInitialExec}
 use Rattle.rewrite_laws.specs.X86ThreadLaws.{IsDescriptorCall, AgreeInRegisters, lea_rax}
+use Rattle.rewrite_laws.specs.X86ThreadLaws.{WritesNothing}
 use Rattle.rewrite_laws.specs.X86ThreadLaws.{rex2_lea_rax}
 use Rattle.rewrite_laws.proofs.X86Codes.{inside, pattern_there}
 use Rattle.rewrite_laws.proofs.X86Fields.{descriptor_field, descriptor_row, thread_field}
@@ -31,22 +32,23 @@ use Rattle.rewrite_laws.proofs.X86Loads.{from_next, at_place, same_place}
 use Rattle.rewrite_laws.proofs.X86Sections.{original_code, rewritten_code}
 use Rattle.rewrite_laws.proofs.X86Threads.{begin_with, itself}
 
-abbrev Agree : List ℕ → List ℕ → List ℕ → State → (ℕ → ℕ) → Type 0
-Agree a b c s returned =
+abbrev Agree : List ℕ → List ℕ → List ℕ → State → (ℕ → Bool) → (ℕ → ℕ) → Type 0
+Agree a b c s changed returned =
     IsSomeAnd (step a s) (λ before.
     IsSomeAnd (step b s) (λ middle.
     IsSomeAnd (step c middle) (λ after.
-    (t : State) → IsDescriptorCall 2 returned before t → AgreeInRegisters t after)))
+    WritesNothing s after
+    × ((t : State) → IsDescriptorCall 2 changed returned before t → AgreeInRegisters changed t after))))
 
 -- `middle` is the state after the `mov`
-agree : (s t middle : State) (returned : ℕ → ℕ) (next entry f value : ℕ) → entry < 2 ^ 64
+agree : (s t middle : State) (changed : ℕ → Bool) (returned : ℕ → ℕ) (next entry f value : ℕ) → entry < 2 ^ 64
     → sum_64 next (extended f) ≡ entry → returned entry ≡ value
     → middle.ip ≡ next
     → ((r : ℕ) → middle.register r ≡ with_register 0 value s.register r)
     → ((a : ℕ) → middle.memory a ≡ s.memory a)
-    → IsDescriptorCall 2 returned (execute (lea 64 0 f) next s) t
-    → AgreeInRegisters t (execute nop (sum_64 middle.ip 2) middle)
-agree s t middle returned next entry f value small argument returns ip registers memory called =
+    → IsDescriptorCall 2 changed returned (execute (lea 64 0 f) next s) t
+    → AgreeInRegisters changed t (execute nop (sum_64 middle.ip 2) middle)
+agree s t middle changed returned next entry f value small argument returns ip registers memory called =
     record {
       ip = called.ip ∙ ap (λ i. sum_64 i 2) (sym ip);
       registers = λ r. elim (cases_Bool (eqb r 0)) [
@@ -59,8 +61,8 @@ agree s t middle returned next entry f value small argument returns ip registers
             ∙ cond-false (eqb r 0) (sum_64 next (extended f) % 2 ^ 64) (s.register r) other
             ∙ sym (registers r ∙ cond-false (eqb r 0) value (s.register r) other)
       ];
-      memory = λ a above.
-          called.memory a (subst (λ top. top ≤ a) (called.kept 4 refl) above) ∙ sym (memory a);
+      memory = λ a above other.
+          called.memory a (subst (λ top. top ≤ a) (called.kept 4 refl) above) other ∙ sym (memory a);
     }
 
 -- what is left of the call
@@ -75,12 +77,12 @@ nop_code calls at matches =
     ∙ drop_at (take at calls) (0x66 ∷ 0x90 ∷ drop (at + 2) calls) at
     (length-take at calls ∙ (let e : min at (length calls) ≡ at = omega arith in e))
 
-by_codes : (a b c a' b' c' : List ℕ) (s : State) (returned : ℕ → ℕ) → a ≡ a' → b ≡ b' → c ≡ c'
-    → Agree a' b' c' s returned → Agree a b c s returned
-by_codes a b c a' b' c' s returned e f g h =
-    subst (λ x. Agree x b c s returned) (sym e)
-    (subst (λ x. Agree a' x c s returned) (sym f)
-    (subst (λ x. Agree a' b' x s returned) (sym g) h))
+by_codes : (a b c a' b' c' : List ℕ) (s : State) (changed : ℕ → Bool) (returned : ℕ → ℕ) → a ≡ a' → b ≡ b' → c ≡ c'
+    → Agree a' b' c' s changed returned → Agree a b c s changed returned
+by_codes a b c a' b' c' s changed returned e f g h =
+    subst (λ x. Agree x b c s changed returned) (sym e)
+    (subst (λ x. Agree a' x c s changed returned) (sym f)
+    (subst (λ x. Agree a' b' x s changed returned) (sym g) h))
 
 module _ (n : ℕ) (few : n < 8) (section : List ℕ) (o : ℕ) (operands : Operands) (s : State)
     (before : IsBefore n section o operands s) where
@@ -131,7 +133,7 @@ module _ (n : ℕ) (few : n < 8) (section : List ℕ) (o : ℕ) (operands : Oper
       ∙ ap (λ a. sum_64 entry (cast_unsigned w64 a)) before.addend)
 
 pub local_exec : DescriptorToLocalExec lea_rax names.R_X86_64_GOTPC32_TLSDESC
-local_exec section old new o operands s returned before there matches returns any was is calls at
+local_exec section old new o operands s changed returned before there matches returns any was is calls at
     called =
     let shape = pattern_there lea_rax section o there in
     let d = begin_with (0x48 ∷ 0x8d ∷ 0x05 ∷ []) field4 (drop (o - 3) section)
@@ -148,7 +150,7 @@ local_exec section old new o operands s returned before there matches returns an
     by_codes (drop (o - 3) old) (drop (o - 3) new)
     (drop at (rewritten (x86_64_rewrite kinds.SkipTlsDescCall) calls at))
     (0x48 ∷ 0x8d ∷ 0x05 ∷ was.rest) (0x48 ∷ 0xc7 ∷ 0xc0 ∷ is.rest)
-    (0x66 ∷ 0x90 ∷ drop (at + 2) calls) s returned
+    (0x66 ∷ 0x90 ∷ drop (at + 2) calls) s changed returned
     (ap (drop (o - 3)) was.whole ∙ original_code section was.rest o 3 3 room long (omega arith)
     ∙ ap (λ xs. drop (3 - 3) (take 3 xs ++ was.rest)) d.1)
     (ap (drop (o - 3)) is.whole
@@ -157,14 +159,16 @@ local_exec section old new o operands s returned before there matches returns an
     ∙ ap (λ d. drop (3 - 3) (take 3 (take (3 - 3) d
     ++ prefixed_operand 3 0xc7 0xc0 (take 3 (drop (3 - 3) d)) ++ drop (3 - 3 + 3) d)
     ++ is.rest)) d.1)
-    (nop_code calls at called)
-    (λ t c. agree s t (execute (operate MOV 64 (register 0) (immediate f')) next s) returned next
-    operands.got_entry f (extended f' % 2 ^ 64) before.addresses.got_entry
-    (argument 3 (omega arith) section o operands s before (drop o section) was.rest was.applied)
-    (returns ∙ sym leads) refl (λ r. refl) (λ a. refl) c)
+    (nop_code calls at called) (
+      (λ a. refl),
+      λ t c. agree s t (execute (operate MOV 64 (register 0) (immediate f')) next s) changed returned next
+          operands.got_entry f (extended f' % 2 ^ 64) before.addresses.got_entry
+          (argument 3 (omega arith) section o operands s before (drop o section) was.rest was.applied)
+          (returns ∙ sym leads) refl (λ r. refl) (λ a. refl) c,
+    )
 
 pub initial_exec : DescriptorToInitialExec lea_rax names.R_X86_64_GOTPC32_TLSDESC
-initial_exec entry small section old new o operands s returned before there matches returns
+initial_exec entry small section old new o operands s changed returned before there matches returns
     holds was is calls at called =
     let shape = pattern_there lea_rax section o there in
     let d = begin_with (0x48 ∷ 0x8d ∷ 0x05 ∷ []) field4 (drop (o - 3) section)
@@ -181,7 +185,7 @@ initial_exec entry small section old new o operands s returned before there matc
     by_codes (drop (o - 3) old) (drop (o - 3) new)
     (drop at (rewritten (x86_64_rewrite kinds.SkipTlsDescCall) calls at))
     (0x48 ∷ 0x8d ∷ 0x05 ∷ was.rest) (0x48 ∷ 0x8b ∷ 0x05 ∷ is.rest)
-    (0x66 ∷ 0x90 ∷ drop (at + 2) calls) s returned
+    (0x66 ∷ 0x90 ∷ drop (at + 2) calls) s changed returned
     (ap (drop (o - 3)) was.whole ∙ original_code section was.rest o 3 3 room long (omega arith)
     ∙ ap (λ xs. drop (3 - 3) (take 3 xs ++ was.rest)) d.1)
     (ap (drop (o - 3)) is.whole
@@ -189,14 +193,16 @@ initial_exec entry small section old new o operands s returned before there matc
     (replaces 2 1 (λ _. 0x8b ∷ [])) o 3 (omega arith) (omega arith)
     ∙ ap (λ d. drop (3 - 3) (take 3 (take (3 - 2) d ++ (0x8b ∷ []) ++ drop (3 - 2 + 1) d)
     ++ is.rest)) d.1)
-    (nop_code calls at called)
-    (λ t c. agree s t (execute (operate MOV 64 (register 0) (relative f')) next s) returned next
-    operands.got_entry f (load 8 s (sum_64 next (extended f'))) before.addresses.got_entry
-    (argument 3 (omega arith) section o operands s before (drop o section) was.rest was.applied)
-    (returns ∙ sym (ap (load 8 s) leads ∙ holds)) refl (λ r. refl) (λ a. refl) c)
+    (nop_code calls at called) (
+      (λ a. refl),
+      λ t c. agree s t (execute (operate MOV 64 (register 0) (relative f')) next s) changed returned next
+          operands.got_entry f (load 8 s (sum_64 next (extended f'))) before.addresses.got_entry
+          (argument 3 (omega arith) section o operands s before (drop o section) was.rest was.applied)
+          (returns ∙ sym (ap (load 8 s) leads ∙ holds)) refl (λ r. refl) (λ a. refl) c,
+    )
 
 pub rex2_local_exec : DescriptorToLocalExec rex2_lea_rax names.R_X86_64_CODE_4_GOTPC32_TLSDESC
-rex2_local_exec section old new o operands s returned before there matches returns any was is calls
+rex2_local_exec section old new o operands s changed returned before there matches returns any was is calls
     at called =
     let shape = pattern_there rex2_lea_rax section o there in
     let d = begin_with (0xd5 ∷ 0x08 ∷ 0x8d ∷ 0x05 ∷ []) field4 (drop (o - 4) section)
@@ -213,7 +219,7 @@ rex2_local_exec section old new o operands s returned before there matches retur
     by_codes (drop (o - 4) old) (drop (o - 4) new)
     (drop at (rewritten (x86_64_rewrite kinds.SkipTlsDescCall) calls at))
     (0xd5 ∷ 0x08 ∷ 0x8d ∷ 0x05 ∷ was.rest) (0xd5 ∷ 0x08 ∷ 0xc7 ∷ 0xc0 ∷ is.rest)
-    (0x66 ∷ 0x90 ∷ drop (at + 2) calls) s returned
+    (0x66 ∷ 0x90 ∷ drop (at + 2) calls) s changed returned
     (ap (drop (o - 4)) was.whole ∙ original_code section was.rest o 4 4 room long (omega arith)
     ∙ ap (λ xs. drop (4 - 4) (take 4 xs ++ was.rest)) d.1)
     (ap (drop (o - 4)) is.whole
@@ -222,14 +228,16 @@ rex2_local_exec section old new o operands s returned before there matches retur
     ∙ ap (λ d. drop (4 - 4) (take 4 (take (4 - 3) d
     ++ prefixed_operand 4 0xc7 0xc0 (take 3 (drop (4 - 3) d)) ++ drop (4 - 3 + 3) d)
     ++ is.rest)) d.1)
-    (nop_code calls at called)
-    (λ t c. agree s t (execute (operate MOV 64 (register 0) (immediate f')) next s) returned next
-    operands.got_entry f (extended f' % 2 ^ 64) before.addresses.got_entry
-    (argument 4 (omega arith) section o operands s before (drop o section) was.rest was.applied)
-    (returns ∙ sym leads) refl (λ r. refl) (λ a. refl) c)
+    (nop_code calls at called) (
+      (λ a. refl),
+      λ t c. agree s t (execute (operate MOV 64 (register 0) (immediate f')) next s) changed returned next
+          operands.got_entry f (extended f' % 2 ^ 64) before.addresses.got_entry
+          (argument 4 (omega arith) section o operands s before (drop o section) was.rest was.applied)
+          (returns ∙ sym leads) refl (λ r. refl) (λ a. refl) c,
+    )
 
 pub rex2_initial_exec : DescriptorToInitialExec rex2_lea_rax names.R_X86_64_CODE_4_GOTPC32_TLSDESC
-rex2_initial_exec entry small section old new o operands s returned before there matches returns
+rex2_initial_exec entry small section old new o operands s changed returned before there matches returns
     holds was is calls at called =
     let shape = pattern_there rex2_lea_rax section o there in
     let d = begin_with (0xd5 ∷ 0x08 ∷ 0x8d ∷ 0x05 ∷ []) field4 (drop (o - 4) section)
@@ -246,7 +254,7 @@ rex2_initial_exec entry small section old new o operands s returned before there
     by_codes (drop (o - 4) old) (drop (o - 4) new)
     (drop at (rewritten (x86_64_rewrite kinds.SkipTlsDescCall) calls at))
     (0xd5 ∷ 0x08 ∷ 0x8d ∷ 0x05 ∷ was.rest) (0xd5 ∷ 0x08 ∷ 0x8b ∷ 0x05 ∷ is.rest)
-    (0x66 ∷ 0x90 ∷ drop (at + 2) calls) s returned
+    (0x66 ∷ 0x90 ∷ drop (at + 2) calls) s changed returned
     (ap (drop (o - 4)) was.whole ∙ original_code section was.rest o 4 4 room long (omega arith)
     ∙ ap (λ xs. drop (4 - 4) (take 4 xs ++ was.rest)) d.1)
     (ap (drop (o - 4)) is.whole
@@ -254,8 +262,10 @@ rex2_initial_exec entry small section old new o operands s returned before there
     (replaces 2 1 (λ _. 0x8b ∷ [])) o 4 (omega arith) (omega arith)
     ∙ ap (λ d. drop (4 - 4) (take 4 (take (4 - 2) d ++ (0x8b ∷ []) ++ drop (4 - 2 + 1) d)
     ++ is.rest)) d.1)
-    (nop_code calls at called)
-    (λ t c. agree s t (execute (operate MOV 64 (register 0) (relative f')) next s) returned next
-    operands.got_entry f (load 8 s (sum_64 next (extended f'))) before.addresses.got_entry
-    (argument 4 (omega arith) section o operands s before (drop o section) was.rest was.applied)
-    (returns ∙ sym (ap (load 8 s) leads ∙ holds)) refl (λ r. refl) (λ a. refl) c)
+    (nop_code calls at called) (
+      (λ a. refl),
+      λ t c. agree s t (execute (operate MOV 64 (register 0) (relative f')) next s) changed returned next
+          operands.got_entry f (load 8 s (sum_64 next (extended f'))) before.addresses.got_entry
+          (argument 4 (omega arith) section o operands s before (drop o section) was.rest was.applied)
+          (returns ∙ sym (ap (load 8 s) leads ∙ holds)) refl (λ r. refl) (λ a. refl) c,
+    )

@@ -65,7 +65,7 @@ behind section d o room is =
     (puts 3 22 put_bytes (λ o. o + 9) (λ _. pos 0)) (omega arith))
 
 pub local_exec : LocalExecLarge
-local_exec section old new o operands s returned before matches thread returns any was is =
+local_exec section old new o operands s changed returned before matches thread returns any was is =
     let shape = begins_with_lea section o before.bytes matches.1 in
     let d = shape.1.0 in
     let room = shape.0 in
@@ -86,7 +86,7 @@ local_exec section old new o operands s returned before matches thread returns a
     let number = sum_64 ((after_load s).register 0) (extended f') % 2 ^ 64 in
     let next = sum_64 (sum_64 s.ip 9) 7 in
     by_codes 15 3 (o - 3) old new (plain_lea_bytes ++ was.rest) (load_bytes 0x8d 0x80 ++ rest') s
-    returned AgreeAfterCall
+    changed returned (AgreeAfterCall changed)
     (record {
       first =
           ap (drop (o - 3)) was.whole ∙ original_code section was.rest o 3 3 room long (omega arith)
@@ -96,15 +96,17 @@ local_exec section old new o operands s returned before matches thread returns a
           ∙ rewritten_code section is.rest o 3 3 room long (omega arith)
           (puts 3 22 put_bytes (λ o. o + 9) (λ _. pos 0)) (o + 9) 12 (omega arith) (omega arith)
           ∙ ap (λ xs. load_bytes 0x8d 0x80 ++ xs) splits;
-    })
-    (λ t called.
-    let ends = agree s t
-    (execute nop (sum_64 next 6) (execute (lea_from 64 0 0 f') next (after_load s))) returned 7 15
-    operands.got_entry f before.addresses.got_entry
-    (argument 3 (omega arith) section o operands s (drop o section) was.rest before was.applied)
-    called (twenty_two s.ip) (kept_after s number) (λ a. refl) in (
-      ends.0,
-      ends.1 ∙ returns
-          ∙ sym (ap (λ a. sum_64 a (extended f') % 2 ^ 64) (pointer s thread)
-          ∙ offset_from s.fs (extended f') (thread_offset operands) leads),
-    ))
+    }) (
+      (λ a. refl),
+      λ t called.
+          let ends = agree s t
+          (execute nop (sum_64 next 6) (execute (lea_from 64 0 0 f') next (after_load s))) changed returned 7 15
+          operands.got_entry f before.addresses.got_entry
+          (argument 3 (omega arith) section o operands s (drop o section) was.rest before was.applied)
+          called (twenty_two s.ip) (kept_after s number) (λ a. refl) in (
+            ends.0,
+            ends.1 ∙ returns
+                ∙ sym (ap (λ a. sum_64 a (extended f') % 2 ^ 64) (pointer s thread)
+                ∙ offset_from s.fs (extended f') (thread_offset operands) leads),
+          ),
+    )

@@ -1,6 +1,6 @@
 -- Local-dynamic and local-exec TLS.
 use Rattle.std.proofs.Common.{◌≡◌, ℕ, ◌+◌, ◌-◌, ◌^◌, ◌<◌, ◌≤◌, List, [], ◌∷◌, ◌++◌, take, drop}
-use Rattle.std.proofs.Common.{sym, ◌∙◌, ap, arith, refl, subst, Some, IsSomeAnd}
+use Rattle.std.proofs.Common.{sym, ◌∙◌, ap, arith, refl, subst, Some, IsSomeAnd, Bool}
 use Rattle.std.specs.Int.{w64, cast_unsigned}
 use Rattle.std.proofs.Math.Bool.{or-false}
 use Rattle.linker_base.specs.Rewrite.{rewritten}
@@ -15,6 +15,7 @@ use Rattle.relocation_laws.specs.Schemes.{AreAddresses, IsApplied, symbol_addres
 use Rattle.rewrite_laws.specs.X86Laws.{IsBefore, IsRelocatedBy}
 use Rattle.rewrite_laws.specs.X86Machine.{State, load, extended, execute, load_thread, run, lea}
 use Rattle.rewrite_laws.specs.X86ThreadLaws.{AddToTheSame, EndAlike, HasThreadPointer, IsTlsCall}
+use Rattle.rewrite_laws.specs.X86ThreadLaws.{WritesNothing}
 use Rattle.rewrite_laws.specs.X86ThreadLaws.{ReachTheSame, ReplacesModuleCall}
 use Rattle.rewrite_laws.proofs.X86Codes.{inside}
 use Rattle.rewrite_laws.proofs.X86Fields.{tls_module_field, tls_module_row, block_field}
@@ -85,7 +86,8 @@ argument section o operands s bytes rest before applied =
 
 -- the rewrite puts some bytes, which are the instructions
 module _ (len size count : ℕ) (put : List ℕ) (offset : ℕ → ℕ) (section old : List ℕ) (o : ℕ)
-    (operands : Operands) (image pointed : ℕ) (s : State) (returned : ℕ → ℕ) (next : ℕ) where
+    (operands : Operands) (image pointed : ℕ) (s : State) (changed : ℕ → Bool)
+    (returned : ℕ → ℕ) (next : ℕ) where
   reaches : IsBefore 3 section o operands s
       → (3 ≤ o) × ((rest : List ℕ) × (drop (o - 3) section ≡ plain_lea_bytes ++ rest))
       → HasThreadPointer s → image < 2 ^ 64 → pointed < 2 ^ 64
@@ -94,8 +96,8 @@ module _ (len size count : ℕ) (put : List ℕ) (offset : ℕ → ℕ) (section
       → ((rest : List ℕ) → run count (put ++ rest) s ≡ Some (loaded next s))
       → sum_64 (sum_64 s.ip 7) size ≡ next
       → EndAlike size count (drop (o - 3) old)
-      (drop (o - 3) (rewritten (Some (puts 3 len put offset (λ a. a))) section o)) s returned
-      (ReachTheSame image pointed)
+      (drop (o - 3) (rewritten (Some (puts 3 len put offset (λ a. a))) section o)) s changed
+      returned (ReachTheSame changed image pointed)
   reaches before shape thread small small' returns was runs ends =
       let d = shape.1.0 in
       let room = shape.0 in
@@ -105,7 +107,8 @@ module _ (len size count : ℕ) (put : List ℕ) (offset : ℕ → ℕ) (section
       let f = number_of_bytes 4 was.rest in
       by_codes size count (o - 3) old
       (rewritten (Some (puts 3 len put offset (λ a. a))) section o)
-      (plain_lea_bytes ++ was.rest) (put ++ behind) s returned (ReachTheSame image pointed)
+      (plain_lea_bytes ++ was.rest) (put ++ behind) s changed returned
+      (ReachTheSame changed image pointed)
       (record {
         first =
             ap (drop (o - 3)) was.whole
@@ -115,27 +118,29 @@ module _ (len size count : ℕ) (put : List ℕ) (offset : ℕ → ℕ) (section
             code_after section [] o 3 3 room long (omega arith) (puts 3 len put offset (λ a. a))
             (omega arith);
       })
-      (subst (λ result. IsSomeAnd result (λ after.
-      (t : State) → IsTlsCall size returned (execute (lea 64 7 f) (sum_64 s.ip 7) s) t
-      → ReachTheSame image pointed t after)) (sym (runs behind))
-      (λ t called.
-      let alike = agree s t (loaded next s) returned 7 size operands.got_entry f
-      before.addresses.got_entry
-      (argument section o operands s (drop o section) was.rest before was.applied) called ends
-      (λ r k. kept_other 0 r (load 8 s (sum_64 s.fs (extended 0))) s.register refl k)
-      (λ a. refl) in
-      let block = alike.1 ∙ returns in
-      record {
-        alike = alike.0;
-        block = block;
-        pointer = pointer s thread;
-        offsets =
-            offsets s.fs image pointed (t.register 0) ((loaded next s).register 0) small small'
-            block (pointer s thread);
-        long_offsets =
-            long_offsets s.fs image pointed (t.register 0) ((loaded next s).register 0) small
-            small' block (pointer s thread);
-      }))
+      (subst (λ result. IsSomeAnd result (λ after. WritesNothing s after
+      × ((t : State) → IsTlsCall size changed returned (execute (lea 64 7 f) (sum_64 s.ip 7) s) t
+      → ReachTheSame changed image pointed t after))) (sym (runs behind)) (
+        (λ a. refl),
+        λ t called.
+            let alike = agree s t (loaded next s) changed returned 7 size operands.got_entry f
+            before.addresses.got_entry
+            (argument section o operands s (drop o section) was.rest before was.applied) called ends
+            (λ r k. kept_other 0 r (load 8 s (sum_64 s.fs (extended 0))) s.register refl k)
+            (λ a. refl) in
+            let block = alike.1 ∙ returns in
+            record {
+              alike = alike.0;
+              block = block;
+              pointer = pointer s thread;
+              offsets =
+                  offsets s.fs image pointed (t.register 0) ((loaded next s).register 0) small small'
+                  block (pointer s thread);
+              long_offsets =
+                  long_offsets s.fs image pointed (t.register 0) ((loaded next s).register 0) small
+                  small' block (pointer s thread);
+            },
+      ))
 
 abbrev load_bytes : List ℕ
 load_bytes = 0x64 ∷ 0x48 ∷ 0x8b ∷ 0x04 ∷ 0x25 ∷ 0 ∷ 0 ∷ 0 ∷ 0 ∷ []
@@ -152,10 +157,10 @@ twenty_two ip = omega arith
 pub by_plt : ReplacesModuleCall 5 1 kinds.TlsLdToLocalExec
 by_plt = (
   refl,
-  λ section old o operands image pointed s returned before matches thread small small' returns was.
+  λ section old o operands image pointed s changed returned before matches thread small small' returns was.
       let pattern = original 3 (lea_rdi ++ byte 0xe8 ∷ field4) in
       reaches 12 5 1 (0x66 ∷ 0x66 ∷ 0x66 ∷ load_bytes) (λ o. o + 5) section old o operands image
-      pointed s returned (sum_64 s.ip 12) before
+      pointed s changed returned (sum_64 s.ip 12) before
       (starts_with 3 plain_lea_bytes (field4 ++ byte 0xe8 ∷ field4) section o before.bytes
       (sym (or-false (is_at pattern section o)) ∙ matches.1))
       thread small small' returns was (λ rest. refl) (twelve s.ip),
@@ -164,10 +169,10 @@ by_plt = (
 pub by_got : ReplacesModuleCall 6 1 kinds.TlsLdToLocalExecNoPlt
 by_got = (
   refl,
-  λ section old o operands image pointed s returned before matches thread small small' returns was.
+  λ section old o operands image pointed s changed returned before matches thread small small' returns was.
       let pattern = original 3 (lea_rdi ++ byte 0xff ∷ byte 0x15 ∷ field4) in
       reaches 13 6 1 (0x66 ∷ 0x66 ∷ 0x66 ∷ 0x66 ∷ load_bytes) (λ o. o + 5) section old o operands
-      image pointed s returned (sum_64 s.ip 13) before
+      image pointed s changed returned (sum_64 s.ip 13) before
       (starts_with 3 plain_lea_bytes (field4 ++ byte 0xff ∷ byte 0x15 ∷ field4) section o
       before.bytes (sym (or-false (is_at pattern section o)) ∙ matches.1))
       thread small small' returns was (λ rest. refl) (thirteen s.ip),
@@ -181,9 +186,9 @@ nop_bytes =
 pub in_large_model : ReplacesModuleCall 15 2 kinds.TlsLdToLocalExec64
 in_large_model = (
   refl,
-  λ section old o operands image pointed s returned before matches thread small small' returns was.
+  λ section old o operands image pointed s changed returned before matches thread small small' returns was.
       reaches 22 15 2 (nop_bytes ++ load_bytes) (λ o. o + 15) section old o operands image pointed s
-      returned (sum_64 (sum_64 s.ip 13) 9) before
+      changed returned (sum_64 (sum_64 s.ip 13) 9) before
       (begins_with_lea section o before.bytes matches.1) thread small small' returns was
       (λ rest. refl) (twenty_two s.ip),
 )

@@ -3,7 +3,7 @@ use Rattle.std.proofs.Common.{◌≡◌, ℕ, ◌+◌, ◌-◌, ◌%◌, ◌^◌
 use Rattle.std.proofs.Common.{drop, sym}
 use Rattle.std.proofs.Common.{◌∙◌, ap, arith, subst, refl, pos, true, false, eqb, bit_and, IsTrue}
 use Rattle.std.proofs.Common.{inl, inr, leb, ◌&&◌, ◌||◌}
-use Rattle.std.proofs.Common.{ℤ, Some}
+use Rattle.std.proofs.Common.{ℤ, Some, Bool}
 use Rattle.relocation_laws.specs.Schemes.{IsApplied, AreAddresses}
 use Rattle.rewrite_laws.specs.X86Machine.{operate, ADD, register, relative, sum_of}
 use Rattle.rewrite_laws.specs.X86ThreadLaws.{LocalExec, InitialExec, EndAlike, AgreeForCaller}
@@ -130,22 +130,23 @@ kept_after s number r k =
     ∙ kept_other 0 r (load 8 s (sum_64 s.fs (extended 0))) s.register refl k
 
 -- after a `lea` of n bytes and a call
-pub agree : (s t after : State) (returned : ℕ → ℕ) (n size entry f : ℕ) → entry < 2 ^ 64
+pub agree : (s t after : State) (changed : ℕ → Bool) (returned : ℕ → ℕ) (n size entry f : ℕ)
+    → entry < 2 ^ 64
     → sum_64 (sum_64 s.ip n) (extended f) ≡ entry
-    → IsTlsCall size returned (execute (lea 64 7 f) (sum_64 s.ip n) s) t
+    → IsTlsCall size changed returned (execute (lea 64 7 f) (sum_64 s.ip n) s) t
     → sum_64 (sum_64 s.ip n) size ≡ after.ip
     → ((r : ℕ) → IsTrue (is_kept r) → after.register r ≡ s.register r)
     → ((a : ℕ) → s.memory a ≡ after.memory a)
-    → AgreeForCaller t after × (t.register 0 ≡ returned entry)
-agree s t after returned n size entry f small argument called ip kept memory = (
+    → AgreeForCaller changed t after × (t.register 0 ≡ returned entry)
+agree s t after changed returned n size entry f small argument called ip kept memory = (
   record {
     ip = called.ip ∙ ip;
     kept = λ r k.
         called.kept r k
         ∙ kept_other 7 r (sum_64 (sum_64 s.ip n) (extended f) % 2 ^ 64) s.register refl k
         ∙ sym (kept r k);
-    memory = λ a above.
-        called.memory a (subst (λ top. top ≤ a) (called.kept 4 refl) above) ∙ memory a;
+    memory = λ a above other.
+        called.memory a (subst (λ top. top ≤ a) (called.kept 4 refl) above) other ∙ memory a;
   },
   called.result ∙ ap returned (ap (λ a. a % 2 ^ 64) argument ∙ itself entry small),
 )
@@ -177,13 +178,13 @@ codes section old new rest rest' o opcode modrm addend bytes matches was is =
           (omega arith);
     }
 
-pub by_codes : (size count at : ℕ) (old new lead bytes : List ℕ) (s : State) (returned : ℕ → ℕ)
-    (Alike : State → State → Type 0) → Codes old new at lead bytes
-    → EndAlike size count lead bytes s returned Alike
-    → EndAlike size count (drop at old) (drop at new) s returned Alike
-by_codes size count at old new lead bytes s returned Alike c h =
-    subst (λ a. EndAlike size count a (drop at new) s returned Alike) (sym c.first)
-    (subst (λ b. EndAlike size count lead b s returned Alike) (sym c.second) h)
+pub by_codes : (size count at : ℕ) (old new lead bytes : List ℕ) (s : State)
+    (changed : ℕ → Bool) (returned : ℕ → ℕ) (Alike : State → State → Type 0) → Codes old new at lead bytes
+    → EndAlike size count lead bytes s changed returned Alike
+    → EndAlike size count (drop at old) (drop at new) s changed returned Alike
+by_codes size count at old new lead bytes s changed returned Alike c h =
+    subst (λ a. EndAlike size count a (drop at new) s changed returned Alike) (sym c.first)
+    (subst (λ b. EndAlike size count lead b s changed returned Alike) (sym c.second) h)
 
 -- the argument of the call
 pub argument : (n : ℕ) → n < 8 → (section : List ℕ) (o : ℕ) (operands : Operands) (s : State)
@@ -209,7 +210,7 @@ offset_field n section o p operands s bytes rest before small applied =
     ∙ sum_zero operands.symbol before.addresses.symbol)
 
 pub local_exec : LocalExec
-local_exec section old new o operands s returned before matches thread returns any was is =
+local_exec section old new o operands s changed returned before matches thread returns any was is =
     let f = number_of_bytes 4 was.rest in
     let f' = number_of_bytes 4 is.rest in
     let leads = offset_field 4 section o (difference_64 (sum_64 operands.place (o + 8)) o) operands
@@ -217,19 +218,21 @@ local_exec section old new o operands s returned before matches thread returns a
     (difference_below (sum_64 operands.place (o + 8)) o) is.applied in
     let number = sum_64 ((after_load s).register 0) (extended f') % 2 ^ 64 in
     by_codes 8 2 (o - 4) old new (lea_bytes ++ was.rest) (load_bytes 0x8d 0x80 ++ is.rest) s
-    returned AgreeAfterCall
+    changed returned (AgreeAfterCall changed)
     (codes section old new was.rest is.rest o 0x8d 0x80 (λ _. pos 0) before.bytes matches.1
-    was.whole is.whole)
-    (λ t called.
-    let ends = agree s t (execute (lea_from 64 0 0 f') (sum_64 (sum_64 s.ip 9) 7) (after_load s))
-    returned 8 8 operands.got_entry f before.addresses.got_entry
-    (argument 4 (omega arith) section o operands s (drop o section) was.rest before was.applied)
-    called (sixteen s.ip) (kept_after s number) (λ a. refl) in (
-      ends.0,
-      ends.1 ∙ returns
-          ∙ sym (ap (λ a. sum_64 a (extended f') % 2 ^ 64) (pointer s thread)
-          ∙ offset_from s.fs (extended f') (thread_offset operands) leads),
-    ))
+    was.whole is.whole) (
+      (λ a. refl),
+      λ t called.
+          let ends = agree s t (execute (lea_from 64 0 0 f') (sum_64 (sum_64 s.ip 9) 7) (after_load s))
+          changed returned 8 8 operands.got_entry f before.addresses.got_entry
+          (argument 4 (omega arith) section o operands s (drop o section) was.rest before was.applied)
+          called (sixteen s.ip) (kept_after s number) (λ a. refl) in (
+            ends.0,
+            ends.1 ∙ returns
+                ∙ sym (ap (λ a. sum_64 a (extended f') % 2 ^ 64) (pointer s thread)
+                ∙ offset_from s.fs (extended f') (thread_offset operands) leads),
+          ),
+    )
 
 -- from the place of a field 8 bytes on, of the second instruction
 from_second : (ip place o e t : ℕ) → 4 ≤ o → o < 2 ^ 64 → place < 2 ^ 64 → t < 2 ^ 64
@@ -243,7 +246,7 @@ added : (a b fs offset : ℕ) → fs < 2 ^ 64 → a ≡ fs → b ≡ offset
 added a b fs offset small first second = omega arith
 
 pub initial_exec : InitialExec
-initial_exec entry small section old new o operands s returned before matches thread returns holds
+initial_exec entry small section old new o operands s changed returned before matches thread returns holds
     was is =
     let f = number_of_bytes 4 was.rest in
     let f' = number_of_bytes 4 is.rest in
@@ -270,17 +273,19 @@ initial_exec entry small section old new o operands s returned before matches th
     let number = sum_of 64 0 ((after_load s).register 0 % 2 ^ 64)
     (load 8 s (sum_64 next (extended f'))) in
     by_codes 8 2 (o - 4) old new (lea_bytes ++ was.rest) (load_bytes 0x03 0x05 ++ is.rest) s
-    returned AgreeAfterCall
+    changed returned (AgreeAfterCall changed)
     (codes section old new was.rest is.rest o 0x03 0x05 (λ a. a) before.bytes matches.1 was.whole
-    is.whole)
-    (λ t called.
-    let ends = agree s t
-    (execute (operate ADD 64 (register 0) (relative f')) next (after_load s)) returned 8 8
-    operands.got_entry f before.addresses.got_entry
-    (argument 4 (omega arith) section o operands s (drop o section) was.rest before was.applied)
-    called (sixteen s.ip) (kept_after s number) (λ a. refl) in (
-      ends.0,
-      ends.1 ∙ returns
-          ∙ sym (added ((after_load s).register 0) (load 8 s (sum_64 next (extended f'))) s.fs
-          (thread_offset operands) thread.small (pointer s thread) loaded),
-    ))
+    is.whole) (
+      (λ a. refl),
+      λ t called.
+          let ends = agree s t
+          (execute (operate ADD 64 (register 0) (relative f')) next (after_load s)) changed returned 8 8
+          operands.got_entry f before.addresses.got_entry
+          (argument 4 (omega arith) section o operands s (drop o section) was.rest before was.applied)
+          called (sixteen s.ip) (kept_after s number) (λ a. refl) in (
+            ends.0,
+            ends.1 ∙ returns
+                ∙ sym (added ((after_load s).register 0) (load 8 s (sum_64 next (extended f'))) s.fs
+                (thread_offset operands) thread.small (pointer s thread) loaded),
+          ),
+    )

@@ -30,7 +30,7 @@ use Rattle.linker_elf.specs.declared.elf.value.Operands.{Operands}
 use Rattle.relocation_laws.specs.Schemes.{IsApplied, AreAddresses, symbol_address, plt_address}
 use Rattle.rewrite_laws.specs.Machine.{also, but}
 use Rattle.rewrite_laws.specs.AArch64Machine.{State, load_64, run, RunAlike, RunAlikeBut}
-use Rattle.rewrite_laws.specs.AArch64Machine.{AreAlikeBut, next_pc, is_b, is_bl, step}
+use Rattle.rewrite_laws.specs.AArch64Machine.{next_pc, is_b, is_bl, step}
 
 -- ---- instructions as bytes
 
@@ -102,15 +102,28 @@ GotToAddress =
 abbrev pub thread_offset : Operands → ℕ
 thread_offset o = difference_64 (symbol_address o) o.tls_base
 
--- The halves of initial-exec are rewritten each by itself, wherever they are. So two runs are
--- compared, of the object's code and of the new code, that are alike but for some registers and bytes
--- of memory: those that have what a high half made. What else runs between the halves is the same
--- instruction in both.
-pub record AreAlikeApart (differs spilled : ℕ → Bool) (s t : State) : Type 0 where
-  pub registers : (n : ℕ) → differs n ≡ false → s.registers n ≡ t.registers n
-  pub memory : (a : ℕ) → spilled a ≡ false → s.memory a ≡ t.memory a
+-- registers, and bytes of memory by their addresses, that may differ
+pub record Changes : Type 0 where
+  pub registers : ℕ → Bool
+  pub memory : ℕ → Bool
+
+-- The states differ in no more than these.
+pub record AgreeBut (c : Changes) (s t : State) : Type 0 where
+  pub registers : (n : ℕ) → c.registers n ≡ false → s.registers n ≡ t.registers n
+  pub memory : (a : ℕ) → c.memory a ≡ false → s.memory a ≡ t.memory a
   pub pc : s.pc ≡ t.pc
   pub thread_pointer : s.thread_pointer ≡ t.thread_pointer
+
+-- with register n too, and without it
+abbrev pub with_register : ℕ → Changes → Changes
+with_register n c = record c { registers = also n c.registers }
+
+abbrev pub without_register : ℕ → Changes → Changes
+without_register n c = record c { registers = but n c.registers }
+
+-- The halves of initial-exec are rewritten each by itself, wherever they are. So two runs are
+-- compared, of the object's code and of the new code, that agree but for what has a value that a high
+-- half made. What else runs between the halves is the same instruction in both.
 
 -- Register n has what a high half of the variable makes: in the object's run the page of the GOT
 -- entry, and in the new one a number that has the offset's bits from 16 up.
@@ -125,43 +138,48 @@ StepSo x s y t P = IsSomeAnd (step x s) (λ u. IsSomeAnd (step y t) (λ v. P u v
 -- `adrp xN`
 abbrev pub HighHalfToMovz : Type 0
 HighHalfToMovz =
-    (o : Operands) (s t : State) (differs spilled : ℕ → Bool) (adrp movz : List ℕ)
-    → AreAddresses o → s.pc ≡ o.place → AreAlikeApart differs spilled s t
+    (o : Operands) (s t : State) (c : Changes) (adrp movz : List ℕ)
+    → AreAddresses o → s.pc ≡ o.place → AgreeBut c s t
     → IsAdrp (word_of adrp) → rd_of (word_of adrp) ≢ 31 → IsRewritten MovzXnLsl16 adrp movz
     → (adrp_of_entry movz_of_offset : List ℕ)
     → IsRelocated names.R_AARCH64_TLSIE_ADR_GOTTPREL_PAGE21 o adrp adrp_of_entry
     → IsRelocated names.R_AARCH64_TLSLE_MOVW_TPREL_G1 o movz movz_of_offset
     → StepSo (word_of adrp_of_entry) s (word_of movz_of_offset) t
-    (λ u v. AreAlikeApart (also (rd_of (word_of adrp)) differs) spilled u v
+    (λ u v. AgreeBut (with_register (rd_of (word_of adrp)) c) u v
     × HasHigh (rd_of (word_of adrp)) o u v)
 
 -- `ldr xN, [xN]` of the GOT entry, which the dynamic linker has set to the offset, where xN has what
 -- a high half makes. Both leave the offset in xN.
 abbrev pub LowHalfToMovk : Type 0
 LowHalfToMovk =
-    (o : Operands) (s t : State) (differs spilled : ℕ → Bool) (ldr movk : List ℕ)
+    (o : Operands) (s t : State) (c : Changes) (ldr movk : List ℕ)
     → AreAddresses o → IsLdr64 (word_of ldr) → IsIntoOwnSource (word_of ldr)
     → load_64 s.memory o.got_entry ≡ thread_offset o → HasHigh (rd_of (word_of ldr)) o s t
-    → AreAlikeApart differs spilled s t → IsRewritten MovkXn ldr movk
+    → AgreeBut c s t → IsRewritten MovkXn ldr movk
     → (ldr_of_entry movk_of_offset : List ℕ)
     → IsRelocated names.R_AARCH64_TLSIE_LD64_GOTTPREL_LO12_NC o ldr ldr_of_entry
     → IsRelocated names.R_AARCH64_TLSLE_MOVW_TPREL_G0_NC o movk movk_of_offset
     → StepSo (word_of ldr_of_entry) s (word_of movk_of_offset) t
-    (AreAlikeApart (but (rd_of (word_of ldr)) differs) spilled)
+    (AgreeBut (without_register (rd_of (word_of ldr)) c))
 
 -- ---- an address by `adr`
 
 -- `adrp xN` and `add xN, xN`: the rewrite takes the bytes from the `adrp` on, of which the `add`
 -- has those from the fifth on. `adr` has the place of the `add`.
-abbrev pub AddressToAdr : Type 0
-AddressToAdr =
+abbrev pub PairToAdr : AArch64Relocation → Type 0
+PairToAdr of_page =
     (o : Operands) (s : State) (both made : List ℕ) → IsPair IsAdd64 o s both (drop 4 both)
     → IsRewritten AdrpAddToNopAdr both made
     → (adrp_of_symbol add_of_symbol adr_of_symbol : List ℕ)
-    → IsRelocated names.R_AARCH64_ADR_PREL_PG_HI21 o both adrp_of_symbol
+    → IsRelocated of_page o both adrp_of_symbol
     → IsRelocated names.R_AARCH64_ADD_ABS_LO12_NC (behind 4 o) (drop 4 both) add_of_symbol
     → IsRelocated names.R_AARCH64_ADR_PREL_LO21 (behind 4 o) (drop 4 made) adr_of_symbol
     → RunAlike (pair adrp_of_symbol add_of_symbol) (pair made adr_of_symbol) s
+
+-- The value of the second page isn't checked, but `adr` reaches the symbol.
+abbrev pub AddressToAdr : Type 0
+AddressToAdr =
+    PairToAdr names.R_AARCH64_ADR_PREL_PG_HI21 × PairToAdr names.R_AARCH64_ADR_PREL_PG_HI21_NC
 
 -- ---- `adr` in place of one instruction
 
@@ -211,42 +229,50 @@ LdrMadeAdr =
 
 -- ---- the offset of a variable from the thread pointer, by a TLS descriptor
 
+-- What a descriptor's function may change is a parameter of the laws, which hold for any. By the ABI it
+-- changes no register but X0, which has the offset, X30 and the flags (XT is the sequence's own). It
+-- saves others below the stack pointer, and every function may write there. Where the thread has no
+-- block yet, the function makes one: it writes that block, and what the dynamic linker and the
+-- allocator keep for themselves.
+
 -- The registers that the sequence of a descriptor leaves with no value that code may use: XT has
 -- the function's address, X30 that of the instruction behind the call, and the function may change
 -- others. X0 isn't one of them: it has the offset.
 abbrev pub is_scratch : ℕ → (ℕ → Bool) → ℕ → Bool
 is_scratch t changed n = if n == 0 then false else (n == t || (n == 30 || changed n))
 
+abbrev pub scratch : ℕ → Changes → Changes
+scratch t c = record c { registers = is_scratch t c.registers }
+
 -- A descriptor's function, called in state u, returns in v. It leaves the offset in X0, and keeps
--- the memory and the other registers, except those that `changed` names.
-pub record ReturnsOffset (changed : ℕ → Bool) (offset : ℕ) (u v : State) : Type 0 where
+-- the other registers and the memory, except what c names.
+pub record ReturnsOffset (c : Changes) (offset : ℕ) (u v : State) : Type 0 where
   pub offset_is : v.registers 0 ≡ offset
-  pub others : (n : ℕ) → n ≢ 0 → changed n ≡ false → v.registers n ≡ u.registers n
+  pub others : (n : ℕ) → n ≢ 0 → c.registers n ≡ false → v.registers n ≡ u.registers n
   pub back : v.pc ≡ u.registers 30
-  pub memory : v.memory ≡ u.memory
+  pub memory : (a : ℕ) → c.memory a ≡ false → v.memory a ≡ u.memory a
   pub thread_pointer : v.thread_pointer ≡ u.thread_pointer
 
 -- `adrp x0`, `ldr xT, [x0]`, `add x0, x0` and `blr xT`, which are executed next. `call` says in
 -- which state a called function returns, if it does. The first 8 bytes of the descriptor have the
 -- address of a function that returns the offset whenever X0 has the descriptor's address.
-pub record Descriptor (call : State → Option State) (changed : ℕ → Bool) (o : Operands) (s : State)
+pub record Descriptor (call : State → Option State) (c : Changes) (o : Operands) (s : State)
     (adrp ldr add blr : List ℕ) : Type 0 where
   pub small : AreAddresses o
   pub at : s.pc ≡ o.place
   pub instructions : AreOfDescriptor (word_of adrp) (word_of ldr) (word_of add) (word_of blr)
   pub returns : (u v : State) → u.memory ≡ s.memory → u.thread_pointer ≡ s.thread_pointer
       → u.pc ≡ load_64 s.memory o.got_entry → u.registers 0 ≡ o.got_entry → call u ≡ Some v
-      → ReturnsOffset changed (thread_offset o) u v
+      → ReturnsOffset c (thread_offset o) u v
 
 abbrev pub four : List ℕ → List ℕ → List ℕ → List ℕ → List ℕ
 four a b c d = word_of a ∷ word_of b ∷ word_of c ∷ word_of d ∷ []
 
 -- The old sequence ends in a call. The new one ends as the called function returns.
-abbrev pub RunAlikeBehindCall : (State → Option State) → (ℕ → Bool) → List ℕ → List ℕ → State
-    → Type 0
-RunAlikeBehindCall call differing old new s =
+abbrev pub RunAlikeBehindCall : (State → Option State) → Changes → List ℕ → List ℕ → State → Type 0
+RunAlikeBehindCall call c old new s =
     IsSomeAnd (run old s) (λ u.
-    (v : State) → call u ≡ Some v → IsSomeAnd (run new s) (λ w. AreAlikeBut differing v w))
+    (v : State) → call u ≡ Some v → IsSomeAnd (run new s) (λ w. AgreeBut c v w))
 
 -- the sequence with its relocations applied
 pub record DescriptorOf (o : Operands)
@@ -257,8 +283,8 @@ pub record DescriptorOf (o : Operands)
 
 abbrev pub DescriptorToLocalExec : Type 0
 DescriptorToLocalExec =
-    (call : State → Option State) (changed : ℕ → Bool) (o : Operands) (s : State)
-    (adrp ldr add blr : List ℕ) → Descriptor call changed o s adrp ldr add blr
+    (call : State → Option State) (c : Changes) (o : Operands) (s : State)
+    (adrp ldr add blr : List ℕ) → Descriptor call c o s adrp ldr add blr
     → (movz movk nop nop_behind : List ℕ)
     → IsRewritten MovzX0Lsl16 adrp movz → IsRewritten MovkX0 ldr movk
     → IsRewritten ReplaceWithNop add nop → IsRewritten ReplaceWithNop blr nop_behind
@@ -266,15 +292,15 @@ DescriptorToLocalExec =
     → DescriptorOf o adrp ldr add adrp_of_entry ldr_of_entry add_of_entry
     → IsRelocated names.R_AARCH64_TLSLE_MOVW_TPREL_G1 o movz movz_of_offset
     → IsRelocated names.R_AARCH64_TLSLE_MOVW_TPREL_G0_NC (behind 4 o) movk movk_of_offset
-    → RunAlikeBehindCall call (is_scratch (rd_of (word_of ldr)) changed)
+    → RunAlikeBehindCall call (scratch (rd_of (word_of ldr)) c)
     (four adrp_of_entry ldr_of_entry add_of_entry blr)
     (four movz_of_offset movk_of_offset nop nop_behind) s
 
 -- The GOT entry of initial-exec, at another address, holds the offset.
 abbrev pub DescriptorToInitialExec : Type 0
 DescriptorToInitialExec =
-    (call : State → Option State) (changed : ℕ → Bool) (o : Operands) (s : State)
-    (adrp ldr add blr : List ℕ) → Descriptor call changed o s adrp ldr add blr
+    (call : State → Option State) (c : Changes) (o : Operands) (s : State)
+    (adrp ldr add blr : List ℕ) → Descriptor call c o s adrp ldr add blr
     → (entry : ℕ) → entry < 2 ^ 64 → load_64 s.memory entry ≡ thread_offset o
     → (adrp_x0 ldr_x0 nop nop_behind : List ℕ)
     → IsRewritten AdrpX0 adrp adrp_x0 → IsRewritten LdrX0 ldr ldr_x0
@@ -285,7 +311,7 @@ DescriptorToInitialExec =
     adrp_of_entry
     → IsRelocated names.R_AARCH64_TLSIE_LD64_GOTTPREL_LO12_NC (behind 4 (with_entry entry o)) ldr_x0
     ldr_of_entry
-    → RunAlikeBehindCall call (is_scratch (rd_of (word_of ldr)) changed)
+    → RunAlikeBehindCall call (scratch (rd_of (word_of ldr)) c)
     (four adrp_of_descriptor ldr_of_descriptor add_of_descriptor blr)
     (four adrp_of_entry ldr_of_entry nop nop_behind) s
 

@@ -115,15 +115,32 @@ GotToAddress =
 abbrev pub thread_offset : Operands → ℕ
 thread_offset o = difference_64 (symbol_address o) o.tls_base
 
--- The instructions of initial-exec and of a descriptor are rewritten each by itself, wherever they
--- are. So two runs are compared, of the object's code and of the new code, that are alike but for some
--- registers and bytes of memory: those that have what a high half made, and what a descriptor leaves.
--- What else runs between them is the same instruction in both.
-pub record AreAlikeApart (differs spilled : ℕ → Bool) (s t : State) : Type 0 where
-  pub registers : (n : ℕ) → differs n ≡ false → read n s ≡ read n t
-  pub floats : s.floats ≡ t.floats
-  pub memory : (a : ℕ) → spilled a ≡ false → s.memory a ≡ t.memory a
+-- registers, floating-point registers, and bytes of memory by their addresses, that may differ
+pub record Changes : Type 0 where
+  pub registers : ℕ → Bool
+  pub floats : ℕ → Bool
+  pub memory : ℕ → Bool
+
+-- The states differ in no more than these. What loads of 4 bytes leave above them in a
+-- floating-point register is the same.
+pub record AgreeBut (c : Changes) (s t : State) : Type 0 where
+  pub registers : (n : ℕ) → c.registers n ≡ false → read n s ≡ read n t
+  pub floats : (n : ℕ) → c.floats n ≡ false → s.floats.numbers n ≡ t.floats.numbers n
+  pub widened : s.floats.widened ≡ t.floats.widened
+  pub memory : (a : ℕ) → c.memory a ≡ false → s.memory a ≡ t.memory a
   pub pc : s.pc ≡ t.pc
+
+-- with register n too, and without it
+abbrev pub with_register : ℕ → Changes → Changes
+with_register n c = record c { registers = also n c.registers }
+
+abbrev pub without_register : ℕ → Changes → Changes
+without_register n c = record c { registers = but n c.registers }
+
+-- The instructions of initial-exec and of a descriptor are rewritten each by itself, wherever they
+-- are. So two runs are compared, of the object's code and of the new code, that agree but for what has
+-- a value that a high half made, and what a descriptor leaves. What else runs between them is the same
+-- instruction in both.
 
 -- a register's number in the object's run, and in the new one
 pub record Has (n old new : ℕ) (s t : State) : Type 0 where
@@ -152,52 +169,52 @@ pub record HighHalf (name : LoongArch64Relocation) (o : Operands) (pcala pcala_o
 -- `pcalau12i rd` of initial-exec or of a descriptor, and `lu12i.w rd`
 abbrev pub HighHalfToLu12i : LoongArch64Relocation → Type 0
 HighHalfToLu12i name =
-    (o : Operands) (s t : State) (differs spilled : ℕ → Bool) (pcala lu12i : List ℕ)
-    → AreAddresses o → s.pc ≡ o.place → AreAlikeApart differs spilled s t
+    (o : Operands) (s t : State) (c : Changes) (pcala lu12i : List ℕ)
+    → AreAddresses o → s.pc ≡ o.place → AgreeBut c s t
     → IsRewritten kinds.PcalaToLu12i pcala lu12i → (pcala_of lu12i_of : List ℕ)
     → HighHalf name o pcala pcala_of → Fits32 names.R_LARCH_TLS_LE_HI20 o
     → IsRelocated names.R_LARCH_TLS_LE_HI20 o lu12i lu12i_of
     → let n = rd_of (word_of pcala) in
     StepSo (word_of pcala_of) s (word_of lu12i_of) t
-    (λ u v. AreAlikeApart (also n differs) spilled u v
+    (λ u v. AgreeBut (with_register n c) u v
     × (n ≢ 0 → Has n (near_page (entry_and_addend o)) (high_offset o) u v))
 
 -- `ld.d rd, rj` of the GOT entry, which the dynamic linker has set to the offset, and `ori rd, rj`,
 -- where rj has what a high half makes. Both leave the offset in rd.
 abbrev pub LowHalfToOri : Type 0
 LowHalfToOri =
-    (o : Operands) (s t : State) (differs spilled : ℕ → Bool) (ld ori : List ℕ)
+    (o : Operands) (s t : State) (c : Changes) (ld ori : List ℕ)
     → AreAddresses o → IsLd (word_of ld) → loaded 8 s.memory (entry_and_addend o) ≡ thread_offset o
     → Has (rj_of (word_of ld)) (near_page (entry_and_addend o)) (high_offset o) s t
-    → AreAlikeApart differs spilled s t → IsRewritten kinds.LowToOri ld ori
+    → AgreeBut c s t → IsRewritten kinds.LowToOri ld ori
     → (ld_of ori_of : List ℕ) → IsRelocated names.R_LARCH_TLS_IE_PC_LO12 o ld ld_of
     → IsRelocated names.R_LARCH_TLS_LE_LO12 o ori ori_of
     → StepSo (word_of ld_of) s (word_of ori_of) t
-    (AreAlikeApart (but (rd_of (word_of ld)) differs) spilled)
+    (AgreeBut (without_register (rd_of (word_of ld)) c))
 
 -- The same by `nop` and `ori rd, zero`, where the offset has 12 bits.
 abbrev pub HighHalfToNop : Type 0
 HighHalfToNop =
-    (o : Operands) (s t : State) (differs spilled : ℕ → Bool) (pcala nop : List ℕ)
-    → AreAddresses o → s.pc ≡ o.place → AreAlikeApart differs spilled s t
+    (o : Operands) (s t : State) (c : Changes) (pcala nop : List ℕ)
+    → AreAddresses o → s.pc ≡ o.place → AgreeBut c s t
     → IsRewritten kinds.ReplaceWithNop pcala nop → (pcala_of : List ℕ)
     → HighHalf names.R_LARCH_TLS_IE_PC_HI20 o pcala pcala_of
     → let n = rd_of (word_of pcala) in
     StepSo (word_of pcala_of) s (word_of nop) t
-    (λ u v. AreAlikeApart (also n differs) spilled u v
+    (λ u v. AgreeBut (with_register n c) u v
     × (n ≢ 0 → read n u ≡ near_page (entry_and_addend o)))
 
 abbrev pub LowHalfToOriZero : Type 0
 LowHalfToOriZero =
-    (o : Operands) (s t : State) (differs spilled : ℕ → Bool) (ld ori : List ℕ)
+    (o : Operands) (s t : State) (c : Changes) (ld ori : List ℕ)
     → AreAddresses o → IsLd (word_of ld) → loaded 8 s.memory (entry_and_addend o) ≡ thread_offset o
     → read (rj_of (word_of ld)) s ≡ near_page (entry_and_addend o)
-    → AreAlikeApart differs spilled s t → IsRewritten kinds.LowToOriZero ld ori
+    → AgreeBut c s t → IsRewritten kinds.LowToOriZero ld ori
     → (ld_of ori_of : List ℕ) → IsRelocated names.R_LARCH_TLS_IE_PC_LO12 o ld ld_of
     → RowIsWithin (loongarch_row names.R_LARCH_TLS_LE_LO12) unsigned_12 o
     → IsRelocated names.R_LARCH_TLS_LE_LO12 o ori ori_of
     → StepSo (word_of ld_of) s (word_of ori_of) t
-    (AreAlikeApart (but (rd_of (word_of ld)) differs) spilled)
+    (AgreeBut (without_register (rd_of (word_of ld)) c))
 
 -- ---- an address by `pcaddi`
 
@@ -311,14 +328,14 @@ ShorterLocalExec =
 -- ---- the offset of a variable from the thread pointer, by a TLS descriptor
 
 -- A descriptor's function, called in state u, returns in v. It leaves the offset in `a0`, and keeps
--- the memory, the floating-point registers and the other registers, except those that `changed`
--- names.
-pub record ReturnsOffset (changed : ℕ → Bool) (offset : ℕ) (u v : State) : Type 0 where
+-- all else, except what c names.
+pub record ReturnsOffset (c : Changes) (offset : ℕ) (u v : State) : Type 0 where
   pub offset_is : read 4 v ≡ offset
-  pub others : (n : ℕ) → n ≢ 4 → changed n ≡ false → read n v ≡ read n u
-  pub floats : v.floats ≡ u.floats
+  pub others : (n : ℕ) → n ≢ 4 → c.registers n ≡ false → read n v ≡ read n u
+  pub floats : (n : ℕ) → c.floats n ≡ false → v.floats.numbers n ≡ u.floats.numbers n
+  pub widened : v.floats.widened ≡ u.floats.widened
   pub back : v.pc ≡ read 1 u
-  pub memory : v.memory ≡ u.memory
+  pub memory : (a : ℕ) → c.memory a ≡ false → v.memory a ≡ u.memory a
 
 -- the operands with another GOT entry
 abbrev pub with_entry : ℕ → Operands → Operands
@@ -327,13 +344,13 @@ with_entry entry o = record o { got_entry = entry }
 -- `pcalau12i a0`, of the GOT entry of initial-exec in the new run, which is at another address
 abbrev pub PageOfDescriptor : Type 0
 PageOfDescriptor =
-    (o : Operands) (entry : ℕ) (s t : State) (differs spilled : ℕ → Bool) (pcala : List ℕ)
-    → AreAddresses o → entry < 2 ^ 64 → s.pc ≡ o.place → AreAlikeApart differs spilled s t
+    (o : Operands) (entry : ℕ) (s t : State) (c : Changes) (pcala : List ℕ)
+    → AreAddresses o → entry < 2 ^ 64 → s.pc ≡ o.place → AgreeBut c s t
     → rd_of (word_of pcala) ≡ 4 → (pcala_of pcala_of_entry : List ℕ)
     → HighHalf names.R_LARCH_TLS_DESC_PC_HI20 o pcala pcala_of
     → HighHalf names.R_LARCH_TLS_IE_PC_HI20 (with_entry entry o) pcala pcala_of_entry
     → StepSo (word_of pcala_of) s (word_of pcala_of_entry) t
-    (λ u v. AreAlikeApart (also 4 differs) spilled u v
+    (λ u v. AgreeBut (with_register 4 c) u v
     × Has 4 (near_page (entry_and_addend o)) (near_page (entry_and_addend (with_entry entry o)))
     u v)
 
@@ -344,62 +361,72 @@ HasDescriptor o = Has 4 (entry_and_addend o) (thread_offset o)
 -- `addi.d a0, a0`, and `ori a0, a0` or the load of that entry
 abbrev pub LowOfDescriptorToOri : Type 0
 LowOfDescriptorToOri =
-    (o : Operands) (s t : State) (differs spilled : ℕ → Bool) (addi ori : List ℕ)
+    (o : Operands) (s t : State) (c : Changes) (addi ori : List ℕ)
     → AreAddresses o → IsLowOfDescriptor (word_of addi)
     → Has 4 (near_page (entry_and_addend o)) (high_offset o) s t
-    → AreAlikeApart differs spilled s t → IsRewritten kinds.LowToOri addi ori
+    → AgreeBut c s t → IsRewritten kinds.LowToOri addi ori
     → (addi_of ori_of : List ℕ) → IsRelocated names.R_LARCH_TLS_DESC_PC_LO12 o addi addi_of
     → IsRelocated names.R_LARCH_TLS_LE_LO12 o ori ori_of
     → StepSo (word_of addi_of) s (word_of ori_of) t
-    (λ u v. AreAlikeApart (also 4 differs) spilled u v × HasDescriptor o u v)
+    (λ u v. AgreeBut (with_register 4 c) u v × HasDescriptor o u v)
 
 abbrev pub LowOfDescriptorToLoad : Type 0
 LowOfDescriptorToLoad =
-    (o : Operands) (entry : ℕ) (s t : State) (differs spilled : ℕ → Bool) (addi ld : List ℕ)
+    (o : Operands) (entry : ℕ) (s t : State) (c : Changes) (addi ld : List ℕ)
     → AreAddresses o → entry < 2 ^ 64 → IsLowOfDescriptor (word_of addi)
     → loaded 8 t.memory (entry_and_addend (with_entry entry o)) ≡ thread_offset o
     → Has 4 (near_page (entry_and_addend o)) (near_page (entry_and_addend (with_entry entry o))) s t
-    → AreAlikeApart differs spilled s t → IsRewritten kinds.AddiToLd addi ld
+    → AgreeBut c s t → IsRewritten kinds.AddiToLd addi ld
     → (addi_of ld_of : List ℕ) → IsRelocated names.R_LARCH_TLS_DESC_PC_LO12 o addi addi_of
     → IsRelocated names.R_LARCH_TLS_IE_PC_LO12 (with_entry entry o) ld ld_of
     → StepSo (word_of addi_of) s (word_of ld_of) t
-    (λ u v. AreAlikeApart (also 4 differs) spilled u v × HasDescriptor o u v)
+    (λ u v. AgreeBut (with_register 4 c) u v × HasDescriptor o u v)
 
 -- `ld.d ra, a0, 0`, which loads the function's address, and `nop`
 abbrev pub LoadOfDescriptorToNop : Type 0
 LoadOfDescriptorToNop =
-    (o : Operands) (s t : State) (differs spilled : ℕ → Bool) (ld nop : List ℕ)
+    (o : Operands) (s t : State) (c : Changes) (ld nop : List ℕ)
     → AreAddresses o → IsLoadOfDescriptor (word_of ld) → HasDescriptor o s t
-    → AreAlikeApart differs spilled s t → IsRewritten kinds.ReplaceWithNop ld nop
+    → AgreeBut c s t → IsRewritten kinds.ReplaceWithNop ld nop
     → StepSo (word_of ld) s (word_of nop) t
-    (λ u v. AreAlikeApart (also 1 differs) spilled u v × HasDescriptor o u v
+    (λ u v. AgreeBut (with_register 1 c) u v × HasDescriptor o u v
     × (read 1 u ≡ loaded 8 s.memory (entry_and_addend o)))
 
 -- `call` says in which state a called function returns, if it does. The first 8 bytes of the
 -- descriptor have the address of a function that returns the offset whenever `a0` has the
 -- descriptor's address.
-pub record Descriptor (call : State → Option State) (changed : ℕ → Bool) (o : Operands) (s : State)
+pub record Descriptor (call : State → Option State) (c : Changes) (o : Operands) (s : State)
     : Type 0 where
   pub small : AreAddresses o
   pub function : loaded 8 s.memory (entry_and_addend o) < 2 ^ 64
   pub returns : (u v : State) → u.memory ≡ s.memory
       → u.pc ≡ loaded 8 s.memory (entry_and_addend o) → read 4 u ≡ entry_and_addend o
-      → call u ≡ Some v → ReturnsOffset changed (thread_offset o) u v
+      → call u ≡ Some v → ReturnsOffset c (thread_offset o) u v
 
--- what differs behind the call: not `a0`, which has the offset, but `ra`, which has the address behind
--- the call, and what the function may change
-abbrev pub behind_call : (ℕ → Bool) → (ℕ → Bool) → ℕ → Bool
-behind_call changed differs n = if n == 4 then false else (n == 1 || (changed n || differs n))
+-- What differs behind the call of a function that may change c, where d differed before it: not `a0`,
+-- which has the offset, but `ra`, which has the address behind the call.
+abbrev pub is_scratch : Changes → Changes → ℕ → Bool
+is_scratch c d n =
+    if n == 4 then false else (n == 1 || (c.registers n || d.registers n))
+
+abbrev pub behind_call : Changes → Changes → Changes
+behind_call c d =
+    record {
+      registers = is_scratch c d;
+      floats = λ n. c.floats n || d.floats n;
+      memory = λ a. c.memory a || d.memory a;
+    }
 
 -- `jirl ra, ra, 0`, where `ra` has the function's address, and `nop`: the new run is as the function
--- returns.
+-- returns. By the psABI ("TLS Descriptors") the function changes no register but `a0`, and returns by
+-- `ra`. It saves others below the stack pointer, and every function may write there. Where the thread
+-- has no block yet, it makes one: it writes that block, and what the dynamic linker and the allocator
+-- keep for themselves.
 abbrev pub CallOfDescriptorToNop : Type 0
 CallOfDescriptorToNop =
-    (call : State → Option State) (changed : ℕ → Bool) (o : Operands) (s t : State)
-    (differs spilled : ℕ → Bool) (jirl nop : List ℕ) → Descriptor call changed o s
-    → IsCallOfDescriptor (word_of jirl) → HasDescriptor o s t
-    → read 1 s ≡ loaded 8 s.memory (entry_and_addend o) → AreAlikeApart differs spilled s t
+    (call : State → Option State) (c : Changes) (o : Operands) (s t : State) (d : Changes)
+    (jirl nop : List ℕ) → Descriptor call c o s → IsCallOfDescriptor (word_of jirl)
+    → HasDescriptor o s t → read 1 s ≡ loaded 8 s.memory (entry_and_addend o) → AgreeBut d s t
     → IsRewritten kinds.ReplaceWithNop jirl nop
     → IsSomeAnd (step (word_of jirl) s) (λ u.
-    (v : State) → call u ≡ Some v → IsSomeAnd (step (word_of nop) t) (λ w.
-    AreAlikeApart (behind_call changed differs) spilled v w))
+    (v : State) → call u ≡ Some v → IsSomeAnd (step (word_of nop) t) (AgreeBut (behind_call c d) v))

@@ -403,19 +403,35 @@ pub record AreOfDescriptor (auipc ld addi jalr : ℕ) : Type 0 where
   pub apart : rd_of ld ≢ rd_of auipc
   pub function_not_a0 : rd_of ld ≢ a0
 
--- A descriptor's function, called in hart u, returns as v. It leaves the offset in `a0`, and keeps the
--- memory, the floating-point registers and the other registers, except those that `changed` names.
-pub record ReturnsOffset (changed : ℕ → Bool) (offset : ℕ) (u v : Hart) : Type 0 where
+-- What a descriptor's function may change: registers, floating-point registers, and bytes of memory by
+-- their addresses. The laws hold for any. By the psABI ("TLS Descriptors") it changes no register but
+-- `a0`, which has the offset, and returns by `t0`. It saves others below the stack pointer, and every
+-- function may write there. Where the thread has no block yet, the function makes one: it writes that
+-- block, and what the dynamic linker and the allocator keep for themselves.
+pub record Changes : Type 0 where
+  pub registers : ℕ → Bool
+  pub floats : ℕ → Bool
+  pub memory : ℕ → Bool
+
+-- The harts differ in no more than these and their pc.
+pub record AgreeBut (c : Changes) (a b : Hart) : Type 0 where
+  pub integers : (r : ℕ) → c.registers r ≡ false → register a r ≡ register b r
+  pub floats : (r : ℕ) → c.floats r ≡ false → a.floats r ≡ b.floats r
+  pub memory : (address : ℕ) → c.memory address ≡ false → a.memory address ≡ b.memory address
+
+-- A descriptor's function, called in hart u, returns as v. It leaves the offset in `a0`, and keeps all
+-- else, except what c names.
+pub record ReturnsOffset (c : Changes) (offset : ℕ) (u v : Hart) : Type 0 where
   pub offset_is : register v a0 ≡ offset
-  pub others : (r : ℕ) → r ≢ a0 → changed r ≡ false → register v r ≡ register u r
-  pub floats : (r : ℕ) → v.floats r ≡ u.floats r
-  pub memory : (address : ℕ) → v.memory address ≡ u.memory address
+  pub others : (r : ℕ) → r ≢ a0 → c.registers r ≡ false → register v r ≡ register u r
+  pub floats : (r : ℕ) → c.floats r ≡ false → v.floats r ≡ u.floats r
+  pub memory : (address : ℕ) → c.memory address ≡ false → v.memory address ≡ u.memory address
   pub back : v.pc ≡ register u t0
 
 -- The four instructions are executed next. `call` says as which hart a called function returns, if it
 -- does. The first 8 bytes of the descriptor have the address of a function that returns the offset
 -- whenever `a0` has the descriptor's address.
-pub record Descriptor (call : Hart → Option Hart) (changed : ℕ → Bool) (x : Operands) (h : Hart)
+pub record Descriptor (call : Hart → Option Hart) (c : Changes) (x : Operands) (h : Hart)
     (auipc ld addi jalr : List ℕ) : Type 0 where
   pub small : AreAddresses x
   pub at : h.pc ≡ x.place
@@ -426,7 +442,7 @@ pub record Descriptor (call : Hart → Option Hart) (changed : ℕ → Bool) (x 
   pub even_function : loaded 8 h.memory (entry_and_addend x) % 2 ≡ 0
   pub returns : (u v : Hart) → u.memory ≡ h.memory
       → u.pc ≡ loaded 8 h.memory (entry_and_addend x) → register u a0 ≡ entry_and_addend x
-      → call u ≡ Some v → ReturnsOffset changed (thread_offset x) u v
+      → call u ≡ Some v → ReturnsOffset c (thread_offset x) u v
 
 -- Its relocations are applied.
 pub record DescriptorOf (x : Operands) (auipc ld addi auipc_of ld_of addi_of : List ℕ)
@@ -444,47 +460,48 @@ abbrev pub is_scratch : ℕ → ℕ → (ℕ → Bool) → ℕ → Bool
 is_scratch x y changed r = if r == a0 then false else (r == t0 || r == x || r == y || changed r)
 
 -- Both go on behind their instructions.
-pub record HaveReturned (differs : ℕ → Bool) (at new_at : ℕ) (a b : Hart) : Type 0 where
-  pub alike : AreAlike differs a b
+pub record HaveReturned (c : Changes) (at new_at : ℕ) (a b : Hart) : Type 0 where
+  pub alike : AgreeBut c a b
   pub next : a.pc ≡ at
   pub new_next : b.pc ≡ new_at
 
 -- The old code ends in a call. The n instructions of the new code end as the function returns.
-abbrev pub EndAsReturned : (Hart → Option Hart) → (ℕ → Bool) → List ℕ → Hart → ℕ → List ℕ → Hart
+abbrev pub EndAsReturned : (Hart → Option Hart) → Changes → List ℕ → Hart → ℕ → List ℕ → Hart
     → Type 0
-EndAsReturned call differs original h n new k =
+EndAsReturned call c original h n new k =
     EndSo 4 original h n new k
     (λ u w. (v : Hart) → call u ≡ Some v
-    → HaveReturned differs (sum_64 h.pc 16) (sum_64 k.pc (4 * n)) v w)
+    → HaveReturned c (sum_64 h.pc 16) (sum_64 k.pc (4 * n)) v w)
 
--- the scratch registers of a sequence
-abbrev pub scratch_of : List ℕ → List ℕ → (ℕ → Bool) → ℕ → Bool
-scratch_of auipc ld changed = is_scratch (rd_of (word_of auipc)) (rd_of (word_of ld)) changed
+-- what may differ behind a sequence
+abbrev pub scratch_of : List ℕ → List ℕ → Changes → Changes
+scratch_of auipc ld c =
+    record c { registers = is_scratch (rd_of (word_of auipc)) (rd_of (word_of ld)) c.registers }
 
 -- `lui a0` and `addi a0, a0` in place of the `addi` and the `jalr`, once the others are deleted
 abbrev pub DescriptorToLocalExec : Type 0
 DescriptorToLocalExec =
-    (call : Hart → Option Hart) (changed : ℕ → Bool) (x y : Operands) (h k : Hart)
-    (auipc ld addi jalr : List ℕ) → Descriptor call changed x h auipc ld addi jalr
+    (call : Hart → Option Hart) (c : Changes) (x y : Operands) (h k : Hart)
+    (auipc ld addi jalr : List ℕ) → Descriptor call c x h auipc ld addi jalr
     → (auipc_of ld_of addi_of : List ℕ) → DescriptorOf x auipc ld addi auipc_of ld_of addi_of
     → AreAddresses y → HaveOneOffset x y → k.pc < 2 ^ 64 → AreAlike no_register h k
     → (lui low : List ℕ)
     → Relocated (riscv_row names.R_RISCV_TPREL_HI20) y (after_rewrite kinds.AddiToLui addi 0) lui
     → Relocated (riscv_row names.R_RISCV_TPREL_LO12_I) y (after_rewrite kinds.CallToAddi jalr 0) low
-    → EndAsReturned call (scratch_of auipc ld changed) (auipc_of ++ ld_of ++ addi_of ++ jalr) h 2
+    → EndAsReturned call (scratch_of auipc ld c) (auipc_of ++ ld_of ++ addi_of ++ jalr) h 2
     (lui ++ low) k
 
 -- `addi a0, x0` alone, where the offset has 12 bits
 abbrev pub DescriptorToShortLocalExec : Type 0
 DescriptorToShortLocalExec =
-    (call : Hart → Option Hart) (changed : ℕ → Bool) (x y : Operands) (h k : Hart)
-    (auipc ld addi jalr : List ℕ) → Descriptor call changed x h auipc ld addi jalr
+    (call : Hart → Option Hart) (c : Changes) (x y : Operands) (h k : Hart)
+    (auipc ld addi jalr : List ℕ) → Descriptor call c x h auipc ld addi jalr
     → (auipc_of ld_of addi_of : List ℕ) → DescriptorOf x auipc ld addi auipc_of ld_of addi_of
     → HaveOneOffset x y → IsLowOffset y → k.pc < 2 ^ 64 → AreAlike no_register h k
     → (low : List ℕ)
     → Relocated (riscv_row names.R_RISCV_TPREL_LO12_I) y (after_rewrite kinds.CallToAddiZero jalr 0)
     low
-    → EndAsReturned call (scratch_of auipc ld changed) (auipc_of ++ ld_of ++ addi_of ++ jalr) h 1
+    → EndAsReturned call (scratch_of auipc ld c) (auipc_of ++ ld_of ++ addi_of ++ jalr) h 1
     low k
 
 -- the operands of a low part whose high part asks for a GOT entry
@@ -494,8 +511,8 @@ of_entry y = record y { symbol = y.got_entry }
 -- `auipc a0` and `ld a0` of a GOT entry that holds the offset
 abbrev pub DescriptorToInitialExec : Type 0
 DescriptorToInitialExec =
-    (call : Hart → Option Hart) (changed : ℕ → Bool) (x y : Operands) (h k : Hart)
-    (auipc ld addi jalr : List ℕ) → Descriptor call changed x h auipc ld addi jalr
+    (call : Hart → Option Hart) (c : Changes) (x y : Operands) (h k : Hart)
+    (auipc ld addi jalr : List ℕ) → Descriptor call c x h auipc ld addi jalr
     → (auipc_of ld_of addi_of : List ℕ) → DescriptorOf x auipc ld addi auipc_of ld_of addi_of
     → AreAddresses y → loaded 8 k.memory (entry_and_addend y) ≡ thread_offset x
     → k.pc ≡ y.place → AreAlike no_register h k → (high low : List ℕ)
@@ -503,7 +520,7 @@ DescriptorToInitialExec =
     high
     → Relocated (riscv_row names.R_RISCV_PCREL_LO12_I) (of_entry y)
     (after_rewrite kinds.CallToLd jalr 0) low
-    → EndAsReturned call (scratch_of auipc ld changed) (auipc_of ++ ld_of ++ addi_of ++ jalr) h 2
+    → EndAsReturned call (scratch_of auipc ld c) (auipc_of ++ ld_of ++ addi_of ++ jalr) h 2
     (high ++ low) k
 
 -- ---- the address of a symbol, by its GOT entry or by the distance to it (psABI, linker relaxation)

@@ -54,7 +54,7 @@ impl FieldValue {
         bits_of(sum, self.known.start, self.known.end) == self.bits
     }
 
-    /// The number, if all of its bits are known.
+    /// The number, if all of its bits are known. `None` where some are not, or none is.
     #[must_use]
     pub fn number(&self) -> Option<u64> {
         if self.known.start == 0 && self.known.end == 64 {

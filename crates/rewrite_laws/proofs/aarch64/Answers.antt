@@ -47,6 +47,12 @@ use Rattle.rewrite_laws.proofs.AArch64Words.{adr_of_register, of_registers, adrp
 use Rattle.rewrite_laws.proofs.AArch64Words.{add_after, masked_field}
 use Rattle.rewrite_laws.proofs.AArch64Words.{adr_after, decodes_adr, decodes_b, decodes_bl}
 use Rattle.rewrite_laws.proofs.AArch64Words.{branch_after, adr_of_adrp, adr_of_page, decodes_adrp}
+use Rattle.linker_aarch64.specs.AArch64Rewrites.{IsAdd64}
+use Rattle.linker_elf.specs.declared.aarch64.forms.AArch64Instruction.TheVariants.{Add}
+use Rattle.linker_elf.specs.declared.aarch64.relocations.AArch64Relocation.TheVariants as names
+use Rattle.rewrite_laws.specs.AArch64Machine.{RunAlike}
+use Rattle.rewrite_laws.proofs.AArch64Near.{near}
+use Rattle.rewrite_laws.proofs.AArch64Words.{IsAdrOf}
 use Rattle.rewrite_laws.proofs.aarch64.Goals as goal
 
 small_behind : (n : ℕ) (o : Operands) → AreAddresses o → AreAddresses (behind n o)
@@ -88,18 +94,27 @@ got_pair relative entries o s adrp ldr add p holds made adrp1 ldr1 adrp2 add2 a1
     (run_pair (word_of adrp2) (word_of add2) s _ _ d.first refl d.second)
     (alike_twice n _ _ _ _ s (l.value_is ∙ holds ∙ sym d.value_is))
 
-address : relocation_laws.RelativeAddresses → relocation_laws.Literals → aarch64_laws.AddressToAdr
-address relative literals o s both made p is_made adrp1 add1 adr2 a1 d1 b2 =
+-- by the words of the pair
+address_by : relocation_laws.Literals → (o : Operands) (s : State) (both made : List ℕ)
+    → aarch64_laws.IsPair IsAdd64 o s both (drop 4 both)
+    → aarch64_laws.IsRewritten AdrpAddToNopAdr both made
+    → (adrp1 add1 adr2 : List ℕ)
+    → IsAdrOf 1 (rd_of (word_of (drop 4 both))) (word_of adrp1)
+    → aarch64_laws.IsRelocated names.R_AARCH64_ADD_ABS_LO12_NC (behind 4 o) (drop 4 both) add1
+    → IsAddress (relocation_laws.page_and_offset Add 1 o (word_of adrp1) (word_of add1))
+    (symbol_address o)
+    → aarch64_laws.IsRelocated names.R_AARCH64_ADR_PREL_LO21 (behind 4 o) (drop 4 made) adr2
+    → RunAlike (pair adrp1 add1) (pair made adr2) s
+address_by literals o s both made p is_made adrp1 add1 adr2 first d1 leads b2 =
     let one = p.one_register in
     let add0 = drop 4 both in
     let n = rd_of (word_of add0) in
     let named = one.into_own_source.not_31 in
     let r = 0x10000000 + rd_of (word_of both) in
-    let d = adds_pair o n (word_of adrp1) (word_of add1) _ s
-    (adr_of_register one.register (adrp_after _ _ both adrp1 a1.written one.first))
+    let d = adds_pair o n (word_of adrp1) (word_of add1) _ s first
     (of_registers refl one.into_own_source.same (add_after _ _ add0 add1 d1.written
     (masked_field (word_of add0) 0xffc00000 0x91000000 22 32 p.second_is refl))) named p.at
-    (relative.0.0 o p.small o.place both adrp1 a1 tt (sum_64 o.place 4) add0 add1 d1 tt) in
+    leads in
     let words = pair_made (λ x. 0x10000000 + rd_of x) both made (omega arith) is_made in
     let word2 : word_of (drop 4 made) ≡ r = words.second in
     let y = word_of adr2 in
@@ -119,6 +134,25 @@ address relative literals o s both made p is_made adrp1 add1 adr2 a1 d1 b2 =
     (run_pair (word_of made) y s t _ (ap (λ w. step w s) words.first) refl
     (step_adr y n t (decodes_adr y adr.opcode adr.top) rd named))
     (alike_once n _ _ (adr_address y t) s (d.value_is ∙ sym value))
+
+address : relocation_laws.RelativeAddresses → relocation_laws.Literals → aarch64_laws.AddressToAdr
+address relative literals = (
+  λ o s both made p is_made adrp1 add1 adr2 a1 d1 b2.
+      let one = p.one_register in
+      address_by literals o s both made p is_made adrp1 add1 adr2
+      (adr_of_register one.register (adrp_after _ _ both adrp1 a1.written one.first)) d1
+      (relative.0.0 o p.small o.place both adrp1 a1 tt (sum_64 o.place 4) (drop 4 both) add1 d1 tt)
+      b2,
+  λ o s both made p is_made adrp1 add1 adr2 a1 d1 b2.
+      let one = p.one_register in
+      let t = sum_64 (symbol_address o) 0 in
+      let fits = near t o.place (sum_below (symbol_address o) 0) p.small.place a1.value b2.value
+      a1.value_is b2.value_is b2.accepted.reached.0 in
+      address_by literals o s both made p is_made adrp1 add1 adr2
+      (adr_of_register one.register (adrp_after _ _ both adrp1 a1.written one.first)) d1
+      (relative.1.0 o p.small o.place both adrp1 a1 fits (sum_64 o.place 4) (drop 4 both) add1 d1
+      tt) b2,
+)
 
 -- ---- `adr` in place of one instruction
 

@@ -1,4 +1,7 @@
-use Rattle.std.proofs.Common.{◌≡◌, ◌<◌, ◌^◌, ◌-◌, ◌*◌, ◌+◌, ◌%◌, arith, rules, subst}
+use Rattle.std.proofs.Common.{◌≡◌, ℕ, ◌<◌, ◌^◌, ◌-◌, ◌*◌, ◌+◌, ◌%◌, arith, rules, subst, true}
+use Rattle.std.proofs.Common.{ap, ◌∙◌}
+use Rattle.std.specs.Prelude.{◌==◌, ◌&&◌}
+use Rattle.std.proofs.lemmas.Bool.{eq-eqb}
 use Rattle.std.proofs.lemmas.Nat.{mod_below, pow_pos}
 use Rattle.linker_base.proofs.Immediates.{subst_below}
 use Rattle.linker_reads.proofs.Ranges.{moved_fits}
@@ -44,13 +47,28 @@ without_rounding-requires c =
           (bits_below high low c.requires.high c.requires.low c.if-low-ne0.false c.if-low-high.false w small);
     })
 
+-- where the tests find no fault
+halves : (start rounding end above : ℕ) → start ≡ 0 → rounding ≡ 0 → end ≡ above
+    → (start == 0 && (rounding == 0 && end == above)) ≡ true
+halves start rounding end above a b c =
+    ap (λ x. x && (rounding == 0 && end == above)) (eq-eqb start 0 a)
+    ∙ ap (λ x. x && end == above) (eq-eqb rounding 0 b) ∙ eq-eqb end above c
+
 pub returns-clause-joined : goal.returns-clause-joined
-returns-clause-joined c = λ n.
+returns-clause-joined c =
     let high = c.args.high.now in
     let low = c.args.low.now in
     let unit : c.power_of_two-unit.result ≡ 2 ^ low.known.end = c.power_of_two-unit.ensures in
     let rounding : high.rounding < 2 ^ 64 = search rules in
-    let p = joined_halves high low c.requires.high c.requires.low c.if-low-ne0.false
-    c.if-low-high.false (omega arith) c.if-low-ne0-2.false n in
-    let q = rw unit at (c.without_rounding.ensures.same n) in
-    ((λ h. p.0 (q.0 h)), (λ h. q.1 (p.1 h)))
+    record {
+      halves = halves low.known.start low.rounding low.known.end high.known.start
+          c.if-low-ne0.false c.if-low-ne0-2.false c.if-low-high.false;
+      start = ap (λ k. k.start) c.without_rounding.ensures.known;
+      end = ap (λ k. k.end) c.without_rounding.ensures.known;
+      rounding = c.without_rounding.ensures.rounding;
+      both = λ n.
+          let p = joined_halves high low c.requires.high c.requires.low c.if-low-ne0.false
+          c.if-low-high.false (omega arith) c.if-low-ne0-2.false n in
+          let q = rw unit at (c.without_rounding.ensures.same n) in
+          ((λ h. p.0 (q.0 h)), (λ h. q.1 (p.1 h)));
+    }
