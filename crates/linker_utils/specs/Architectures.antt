@@ -1,6 +1,6 @@
 -- What an architecture's codes and numbers name.
 use Rattle.std.specs.Prelude.{◌≡◌, ◌↔◌, ℕ, Bool, IsTrue, List, slice_get, Option, Some, None, false}
-use Rattle.linker_base.specs.Rewrite.{Rewrite, CanRewrite}
+use Rattle.linker_base.specs.Rewrite.{Rewrite}
 use Rattle.linker_base.specs.declared.relaxation.RelocationModifier.{RelocationModifier}
 use Rattle.linker_aarch64.specs.AArch64Rewrites.{aarch64_rewrite, aarch64_modifier, aarch64_other}
 use Rattle.linker_elf.specs.AArch64.{aarch64_forms}
@@ -8,7 +8,7 @@ use Rattle.linker_aarch64.specs.AArch64Rewrites.{aarch64_rewrites}
 use Rattle.linker_aarch64.specs.AArch64Rewrites.{IsAArch64Choice}
 use Rattle.linker_aarch64.specs.AArch64Rewrites.{aarch64_matches}
 use Rattle.linker_elf.specs.AArch64Relocations.{aarch64_name, aarch64_row}
-use Rattle.linker_elf.specs.Choices.{choice, with_group}
+use Rattle.linker_elf.specs.Choices.{with_group}
 use Rattle.linker_elf.specs.ElfNames.{ElfName, IsNameOf, code_of}
 use Rattle.linker_elf.specs.LoongArch.{loongarch64_forms}
 use Rattle.linker_loongarch64.specs.LoongArchRewrites.{IsLoongArchChoice}
