@@ -12,6 +12,7 @@ pub mod LoongArchWords
 pub mod Ppc64Accesses
 pub mod Ppc64Addresses
 pub mod Ppc64Calls
+pub mod Ppc64Copies
 pub mod Ppc64Direct
 pub mod Ppc64IndexedWords
 pub mod Ppc64Prefixed
