@@ -1059,6 +1059,15 @@ static inline uint32_t linker_utils_choose(uint16_t machine, uint32_t r_type,
  *
  * End of the tables of choices. */
 
+/* Whether the relocation of type `r_type` can be rewritten if each other one of its sequence can:
+ * whether `linker_utils_choose` changes something by these facts and `group_fits`. A linker asks it
+ * for each relocation of the sequence before it chooses, with the facts that it chooses by, and sets
+ * `group_fits` for all of them if all fit. False for a machine that isn't known. */
+static inline bool linker_utils_relocation_fits(uint16_t machine, uint32_t r_type,
+                                                const uint8_t *section, size_t section_len,
+                                                uint64_t offset,
+                                                const struct linker_utils_link_facts *facts);
+
 /* Whether a choice at the relocation of type `r_type` leaves both as they are: the rewrite is
  * NO_OP, and the relocation after it has the same type. The choice of another instruction may still
  * change this relocation, as `has_other` there says. False where the rewrite is none of the

@@ -78,6 +78,18 @@ static inline uint32_t linker_utils_choose(uint16_t machine, uint32_t r_type,
                                        section_len, offset, facts, choice);
 }
 
+bool linker_utils_relocation_fits_nonnull(uint16_t machine, uint32_t r_type, const uint8_t *section,
+                                          size_t section_len, uint64_t offset,
+                                          const struct linker_utils_link_facts *facts);
+static inline bool linker_utils_relocation_fits(uint16_t machine, uint32_t r_type,
+                                                const uint8_t *section, size_t section_len,
+                                                uint64_t offset,
+                                                const struct linker_utils_link_facts *facts) {
+    return linker_utils_relocation_fits_nonnull(machine, r_type,
+                                                LINKER_UTILS_SLICE(const uint8_t, section),
+                                                section_len, offset, facts);
+}
+
 uint32_t linker_utils_apply_nonnull(uint16_t machine, uint32_t rewrite, uint8_t n, uint8_t *section,
                                     size_t section_len, uint64_t *offset, int64_t *addend);
 static inline uint32_t linker_utils_apply(uint16_t machine, uint32_t rewrite, uint8_t n,

@@ -328,6 +328,26 @@ fn reading(report: &mut Report) {
             },
         );
 
+        numbers(
+            report,
+            &format!("`linker_utils_relocation_fits`, {name}"),
+            &chosen,
+            |(site, facts)| {
+                let (at, len, r_type) = (original.as_ptr(), original.len(), site.r_type);
+                unsafe {
+                    linker_utils_relocation_fits_nonnull(
+                        machine,
+                        r_type,
+                        at,
+                        len,
+                        site.offset,
+                        *facts,
+                    )
+                    .into()
+                }
+            },
+        );
+
         // the other instruction of the window is another relocation's
         let others: Vec<Vec<FieldBits>> = sites
             .iter()

@@ -225,6 +225,32 @@ impl Architecture {
         }
     }
 
+    /// Whether the relocation with a code, `r_type` in ELF files, can be rewritten if each other one
+    /// of its sequence can: whether `choose` changes something with `group_fits`. A linker asks it
+    /// for each relocation of the sequence before it chooses, with the facts that it chooses by, and
+    /// sets `group_fits` for all of them if all fit, as `fits` of `aarch64`, `riscv64`, `loongarch64`,
+    /// `ppc64` and `x86_64` says.
+    ///
+    /// ```
+    /// use linker_utils::elf::{Architecture, LinkFacts};
+    ///
+    /// // ld 9,x@got@tprel@l(9), with R_PPC64_GOT_TPREL16_LO_DS, in an executable that defines x
+    /// let facts = LinkFacts { is_local: true, is_executable: true, ..LinkFacts::default() };
+    /// assert!(Architecture::Ppc64.fits(88, &0xe929_0000_u32.to_le_bytes(), 0, &facts));
+    /// // lwz 9,x@got@tprel@l(9), which is none of its instructions
+    /// assert!(!Architecture::Ppc64.fits(88, &0x8129_0000_u32.to_le_bytes(), 0, &facts));
+    /// ```
+    #[must_use]
+    pub fn fits(self, code: u32, section: &[u8], offset: u64, facts: &LinkFacts) -> bool {
+        let facts = LinkFacts {
+            group_fits: true,
+            ..*facts
+        };
+        !self
+            .choose(code, section, offset, &facts)
+            .is_unchanged(code)
+    }
+
     /// What the relocation with a code, `r_type` in ELF files, means. None of a code without a
     /// name, and of names without a row.
     ///

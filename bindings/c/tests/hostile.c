@@ -543,7 +543,7 @@ static struct buffer *any_facts(void) {
     struct linker_utils_link_facts *facts = filled(given);
     uint64_t *operand = &facts->operands.symbol;
     for (size_t i = 0; i < sizeof facts->operands / sizeof *operand; i++) operand[i] = any_number();
-    for (uint8_t *fact = &facts->is_local; fact <= &facts->has_addresses; fact++)
+    for (uint8_t *fact = &facts->is_local; fact <= &facts->group_fits; fact++)
         *fact = (uint8_t)(once_in(8) ? any() : below(2));
     if (once_in(2)) facts->operands.addend = -4;
     return given;
@@ -570,6 +570,25 @@ static void call_choose(void) {
                "no other relocation");
     }
     finish_with(status, 0 OR(UNKNOWN_ARCHITECTURE));
+}
+
+/* A relocation fits if it is rewritten once the others of its sequence fit. */
+static void call_relocation_fits(void) {
+    uint16_t machine = any_machine();
+    uint32_t r_type = any_relocation_type();
+    struct buffer *section = bytes(READ, any_section_len());
+    uint64_t offset = any_offset(section->len);
+    struct buffer *given = any_facts();
+    struct linker_utils_link_facts facts = *(struct linker_utils_link_facts *)given->given;
+    struct linker_utils_choice choice;
+    bool fits = CALL(relocation_fits, machine, r_type, section->given, section->len, offset,
+                     given->given);
+    facts.group_fits = 1;
+    bool is_known = linker_utils_choose(machine, r_type, section->given, section->len, offset,
+                                        &facts, &choice) == LINKER_UTILS_OK;
+    expect(fits == (is_known && !linker_utils_is_unchanged(machine, r_type, &choice)),
+           "not what fits");
+    finish(true);
 }
 
 /* No rewrite writes more than 5 bytes before the offset, nor 19 from it on. */
@@ -1459,7 +1478,7 @@ static void call_recognise_chosen(void) {
 
 static void (*const all[])(void) = {
     call_status_text, call_version, call_window, call_write, call_read, call_apply, call_matches,
-    call_choose, call_is_unchanged, call_rewrite_window,
+    call_choose, call_relocation_fits, call_is_unchanged, call_rewrite_window,
     call_next_modifier, call_relocation, call_relocation_name, call_value, call_reach, call_relocate,
     call_relocate_all,
     call_clui_rel_info, call_jal_site, call_jal_site_with, call_relax_call,

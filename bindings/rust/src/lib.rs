@@ -565,6 +565,20 @@ pub fn choose(
     Ok(choice_of(architecture, &choice))
 }
 
+/// Whether a relocation can be rewritten if each other one of its sequence can: whether `choose`
+/// changes something by these facts and `group_fits`.
+pub fn relocation_fits(
+    architecture: Architecture,
+    r_type: u32,
+    section: &[u8],
+    offset: u64,
+    facts: &LinkFacts,
+) -> bool {
+    let (at, len) = (section.as_ptr(), section.len());
+    let (machine, facts) = (architecture.machine(), raw::LinkFacts::from(facts));
+    unsafe { raw::linker_utils_relocation_fits_nonnull(machine, r_type, at, len, offset, &facts) }
+}
+
 /// A choice for an architecture.
 fn choice_of(architecture: Architecture, choice: &raw::Choice) -> Choice {
     Choice {

@@ -165,6 +165,14 @@ extern "C" {
         facts: *const LinkFacts,
         choice: *mut Choice,
     ) -> u32;
+    pub fn linker_utils_relocation_fits_nonnull(
+        machine: u16,
+        r_type: u32,
+        section: *const u8,
+        section_len: usize,
+        offset: u64,
+        facts: *const LinkFacts,
+    ) -> bool;
     pub fn linker_utils_is_unchanged(machine: u16, r_type: u32, choice: *const Choice) -> bool;
     pub fn linker_utils_reach(machine: u16, r_type: u32, reach: *mut Reach) -> u32;
     pub fn linker_utils_relocate_nonnull(

@@ -533,6 +533,23 @@ fn choices_are_by_what_the_linker_knows() {
 }
 
 #[test]
+fn a_relocation_fits_where_its_instruction_can_be_rewritten() {
+    let facts = LinkFacts {
+        is_local: true,
+        is_executable: true,
+        ..LinkFacts::default()
+    };
+    // R_PPC64_GOT_TPREL16_LO_DS at `ld 9,0(9)`, which becomes `addis 9,13,0`, and at `lwz 9,0(9)`
+    let fits = |word: u32, facts| {
+        relocation_fits(Architecture::Ppc64, 88, &word.to_le_bytes(), 0, facts)
+    };
+    assert!(fits(0xe929_0000, &facts));
+    assert!(!fits(0x8129_0000, &facts));
+    // in a shared library it has to stay
+    assert!(!fits(0xe929_0000, &LinkFacts::default()));
+}
+
+#[test]
 fn tells_the_bytes_that_a_rewrite_writes() {
     let lens: [(Rewrite, u64, u64); 20] = [
         // `data16 lea x@tlsgd(%rip), %rdi; data16 data16 rex.W call __tls_get_addr`: the field is 4

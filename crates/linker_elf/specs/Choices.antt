@@ -99,6 +99,10 @@ facts_on n facts =
       operands = record facts.operands { place = sum_64 facts.operands.place n };
     }
 
+-- the same facts, where each relocation of the sequence can be rewritten
+abbrev pub with_group : LinkFacts → LinkFacts
+with_group facts = record facts { group_fits = true }
+
 -- ---- which entry is chosen
 
 -- the definition in this output is what is used at run time

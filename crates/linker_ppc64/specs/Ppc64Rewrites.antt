@@ -362,15 +362,15 @@ AreChosenAlike first second lines =
     → IsPpc64Choice second section p (facts_at place facts) b
     → IsAmong (a, b) (lines ++ (choice kinds.NoOp first, choice kinds.NoOp second) ∷ [])
 
-abbrev pub nop : Ppc64Choice
-nop = choice kinds.AddisToNop r.R_PPC64_NONE
+abbrev pub to_nop : Ppc64Choice
+to_nop = choice kinds.AddisToNop r.R_PPC64_NONE
 
 abbrev pub TocPairsAreChosenAlike : Type 0
 TocPairsAreChosenAlike =
     AreChosenAlike r.R_PPC64_TOC16_HA r.R_PPC64_TOC16_LO
-    ((nop, choice kinds.BaseToToc r.R_PPC64_TOC16) ∷ [])
+    ((to_nop, choice kinds.BaseToToc r.R_PPC64_TOC16) ∷ [])
     × AreChosenAlike r.R_PPC64_TOC16_HA r.R_PPC64_TOC16_LO_DS
-    ((nop, choice kinds.BaseToToc r.R_PPC64_TOC16_DS) ∷ [])
+    ((to_nop, choice kinds.BaseToToc r.R_PPC64_TOC16_DS) ∷ [])
 
 abbrev pub GotPairIsChosenAlike : Type 0
 GotPairIsChosenAlike =
@@ -381,14 +381,14 @@ GotPairIsChosenAlike =
 abbrev pub InitialExecPairIsChosenAlike : Type 0
 InitialExecPairIsChosenAlike =
     AreChosenAlike r.R_PPC64_GOT_TPREL16_HA r.R_PPC64_GOT_TPREL16_LO_DS
-    ((nop, choice kinds.LdToAddisThread r.R_PPC64_TPREL16_HA) ∷ [])
+    ((to_nop, choice kinds.LdToAddisThread r.R_PPC64_TPREL16_HA) ∷ [])
 
 -- one of the other relocations of general-dynamic TLS with the first one: its choices for
 -- local-exec and for initial-exec
 abbrev pub IsOfGeneralDynamic : Ppc64Relocation → Ppc64Choice → Ppc64Choice → Type 0
 IsOfGeneralDynamic name local initial =
     AreChosenAlike r.R_PPC64_GOT_TLSGD16_HA name
-    ((nop, local) ∷ (choice kinds.NoOp r.R_PPC64_GOT_TPREL16_HA, initial) ∷ [])
+    ((to_nop, local) ∷ (choice kinds.NoOp r.R_PPC64_GOT_TPREL16_HA, initial) ∷ [])
 
 abbrev pub GeneralDynamicIsChosenAlike : Type 0
 GeneralDynamicIsChosenAlike =
@@ -401,6 +401,6 @@ GeneralDynamicIsChosenAlike =
 abbrev pub LocalDynamicIsChosenAlike : Type 0
 LocalDynamicIsChosenAlike =
     AreChosenAlike r.R_PPC64_GOT_TLSLD16_HA r.R_PPC64_GOT_TLSLD16_LO
-    ((nop, choice kinds.AddiToAddisThread r.R_PPC64_NONE) ∷ [])
+    ((to_nop, choice kinds.AddiToAddisThread r.R_PPC64_NONE) ∷ [])
     × AreChosenAlike r.R_PPC64_GOT_TLSLD16_HA r.R_PPC64_TLSLD
-    ((nop, choice kinds.CallToAddi4096 r.R_PPC64_NONE) ∷ [])
+    ((to_nop, choice kinds.CallToAddi4096 r.R_PPC64_NONE) ∷ [])

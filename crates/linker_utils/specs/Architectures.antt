@@ -1,5 +1,5 @@
 -- What an architecture's codes and numbers name.
-use Rattle.std.specs.Prelude.{◌≡◌, ℕ, List, slice_get, Option, Some, None}
+use Rattle.std.specs.Prelude.{◌≡◌, ◌↔◌, ℕ, Bool, IsTrue, List, slice_get, Option, Some, None}
 use Rattle.linker_base.specs.Rewrite.{Rewrite, CanRewrite}
 use Rattle.linker_base.specs.declared.relaxation.RelocationModifier.{RelocationModifier}
 use Rattle.linker_aarch64.specs.AArch64Rewrites.{aarch64_rewrite, aarch64_modifier, aarch64_other}
@@ -8,7 +8,7 @@ use Rattle.linker_aarch64.specs.AArch64Rewrites.{aarch64_rewrites}
 use Rattle.linker_aarch64.specs.AArch64Rewrites.{IsAArch64Choice}
 use Rattle.linker_aarch64.specs.AArch64Rewrites.{aarch64_matches}
 use Rattle.linker_elf.specs.AArch64Relocations.{aarch64_name, aarch64_row}
-use Rattle.linker_elf.specs.Choices.{choice}
+use Rattle.linker_elf.specs.Choices.{choice, with_group}
 use Rattle.linker_elf.specs.ElfNames.{ElfName, IsNameOf, code_of}
 use Rattle.linker_elf.specs.LoongArch.{loongarch64_forms}
 use Rattle.linker_loongarch64.specs.LoongArchRewrites.{IsLoongArchChoice}
@@ -175,6 +175,10 @@ pub record IsChosenBy {Kind Name : Type 0} (elf : Name → ElfName) (relaxation 
   pub kind_is : chosen.kind ≡ relaxation named.kind
   pub code_is : chosen.relocation ≡ code_of (elf named.relocation)
 
+-- a choice leaves a relocation and its instruction as they are
+abbrev pub IsUnchanged : ℕ → Choice Relaxation ℕ → Type 0
+IsUnchanged code chosen = relaxation_no_op chosen.kind × (chosen.relocation ≡ code)
+
 -- of an architecture
 abbrev pub IsArchitectureChoice : Architecture → ℕ → List ℕ → ℕ → LinkFacts → Choice Relaxation ℕ
     → Type 0
@@ -189,3 +193,10 @@ IsArchitectureChoice Ppc64 code section o facts =
     IsChosenBy ppc64_name relaxations.Ppc64 (λ name. IsPpc64Choice name section o facts) code
 IsArchitectureChoice X86_64 code section o facts =
     IsChosenBy x86_64_name relaxations.X86_64 (λ name. IsX86Choice name section o facts) code
+
+-- whether a relocation can be rewritten, if each other one of its sequence can
+abbrev pub IsFit : Architecture → ℕ → List ℕ → ℕ → LinkFacts → Bool → Type 0
+IsFit architecture code section o facts fits =
+    (chosen : Choice Relaxation ℕ)
+    × IsArchitectureChoice architecture code section o (with_group facts) chosen
+    × (IsTrue fits ↔ ¬ IsUnchanged code chosen)

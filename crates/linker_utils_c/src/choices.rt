@@ -1,7 +1,8 @@
 //! Which rewrite a linker chooses, by `e_machine` and `r_type` of ELF files.
 
-ghost use Rattle.std.specs.Prelude.{◌≡◌, ℕ, ◌↔◌, IfSome, IfNone, IsTrue, Some};
-ghost use Rattle.linker_utils.specs.Architectures.{IsArchitectureChoice, relaxation_architecture};
+ghost use Rattle.std.specs.Prelude.{◌≡◌, ℕ, ◌↔◌, IfSome, IfNone, IsTrue, Some, false};
+ghost use Rattle.linker_utils.specs.Architectures.{IsArchitectureChoice, IsFit};
+ghost use Rattle.linker_utils.specs.Architectures.{relaxation_architecture};
 ghost use Rattle.linker_utils.specs.Machines.{architecture_of};
 ghost use Rattle.linker_utils.specs.declared.architecture.Relaxation.{Relaxation};
 ghost use Rattle.linker_elf.specs.declared.elf.choice.Choice.{Choice};
@@ -136,6 +137,26 @@ pub extern "C" fn linker_utils_choose_nonnull(
     let chosen = architecture.choose(r_type, section, offset, &facts.facts());
     *choice = in_numbers(chosen);
     Status::Success.number()
+}
+
+/// Whether the relocation with `r_type` can be rewritten if each other one of its sequence can: with
+/// these facts and `group_fits`. False of a machine that isn't known.
+#[unsafe(no_mangle)]
+pub extern "C" fn linker_utils_relocation_fits_nonnull(
+    machine: u16,
+    r_type: u32,
+    section: &[u8],
+    offset: u64,
+    facts: &LinkFactNumbers,
+) -> bool
+    ensures known { IfSome (architecture_of machine) (λ architecture.
+        IsFit architecture r_type section.now offset (facts_of facts.now) result) }
+    ensures unknown { IfNone (architecture_of machine) (result ≡ false) }
+{
+    let Some(architecture) = Architecture::from_machine(machine) else {
+        return false;
+    };
+    architecture.fits(r_type, section, offset, &facts.facts())
 }
 
 /// Whether a choice at the relocation with `r_type` leaves it and its instruction as they are.

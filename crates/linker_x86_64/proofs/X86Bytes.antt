@@ -6,7 +6,7 @@ use Rattle.std.proofs.lemmas.List.{get_or-take, get_or-drop, append_assoc, drop_
 use Rattle.std.proofs.lemmas.Nat.Bits.{bit_at-lt, bit_at_and, bit_at_or, and_pow}
 use Rattle.linker_base.specs.Bits.{field}
 use Rattle.linker_base.specs.Rewrite.{rewritten}
-use Rattle.linker_x86_64.specs.X86Rewrites.{rex, evex_reg_to_rm, evex_high, modrm_reg_to_rm, rex_mov, KeepsRegister}
+use Rattle.linker_x86_64.specs.X86Rewrites.{rex_r_to_b, evex_reg_to_rm, evex_high, modrm_reg_to_rm, rex_mov, KeepsRegister}
 
 -- ---- the EVEX byte, by the code's tests
 
@@ -24,7 +24,7 @@ low_else b h z e = e ∙ rw (ne_eqb (bit_at b 4) 0 (λ clear. z (and_pow b 4 ∙
 
 -- ---- the register of a `mov`
 
-rex_moves : (r : ℕ) → bit_at r 0 ≡ 0 → bit_at (rex r) 0 ≡ bit_at r 2
+rex_moves : (r : ℕ) → bit_at r 0 ≡ 0 → bit_at (rex_r_to_b r) 0 ≡ bit_at r 2
 rex_moves r clear =
     let moved : bit_and r 4 / 4 ≡ bit_at r 2 = ap (λ n. n / 4) (and_pow r 2) ∙ omega arith in
     let kept : bit_at (bit_and r 251) 0 ≡ 0 = bit_at_and r 251 0 ∙ ap (λ n. min n (bit_at 251 0)) clear in
@@ -37,12 +37,12 @@ modrm_moves m = omega arith
 pub keeps_register : (s after : List ℕ) (o : ℕ) → 3 ≤ o → o - 3 + 3 ≤ length s → after ≡ rewritten (Some (rex_mov 3)) s o → KeepsRegister s after o
 keeps_register s after o low inside made clear =
     let window = take 3 (drop (o - 3) s) in
-    let bytes = rex (get_or window 0 0) ∷ 199 ∷ modrm_reg_to_rm 192 (get_or window 2 0) ∷ [] in
+    let bytes = rex_r_to_b (get_or window 0 0) ∷ 199 ∷ modrm_reg_to_rm 192 (get_or window 2 0) ∷ [] in
     let rest = drop (o - 3 + 3) s in
     let front : length (take (o - 3) s) ≡ o - 3 = length-take (o - 3) s ∙ omega arith in
     let there : drop (o - 3) after ≡ bytes ++ rest =
     ap (drop (o - 3)) (made ∙ append_assoc (take (o - 3) s) bytes rest) ∙ drop_at (take (o - 3) s) (bytes ++ rest) (o - 3) front in
-    let prefix_byte : get_or after (o - 3) 0 ≡ rex (get_or window 0 0) =
+    let prefix_byte : get_or after (o - 3) 0 ≡ rex_r_to_b (get_or window 0 0) =
     ap (λ k. get_or after k 0) (omega arith) ∙ sym (get_or-drop (o - 3) after 0 0) ∙ ap (λ xs. get_or xs 0 0) there in
     let modrm_byte : get_or after (o - 1) 0 ≡ modrm_reg_to_rm 192 (get_or window 2 0) =
     ap (λ k. get_or after k 0) (let e : o - 1 ≡ o - 3 + 2 = omega arith in e) ∙ sym (get_or-drop (o - 3) after 2 0) ∙ ap (λ xs. get_or xs 2 0) there in
@@ -51,6 +51,6 @@ keeps_register s after o low inside made clear =
     let old_modrm : get_or window 2 0 ≡ get_or s (o - 1) 0 =
     get_or-take 3 (drop (o - 3) s) 2 0 (omega arith) ∙ get_or-drop (o - 3) s 2 0 ∙ ap (λ k. get_or s k 0) (let e : o - 3 + 2 ≡ o - 1 = omega arith in e) in
     record {
-      extension = ap (λ n. bit_at n 0) (prefix_byte ∙ ap rex old_prefix) ∙ rex_moves (get_or s (o - 3) 0) clear;
+      extension = ap (λ n. bit_at n 0) (prefix_byte ∙ ap rex_r_to_b old_prefix) ∙ rex_moves (get_or s (o - 3) 0) clear;
       register = ap (λ n. field n 0 3) (modrm_byte ∙ ap (modrm_reg_to_rm 192) old_modrm) ∙ modrm_moves (get_or s (o - 1) 0);
     }

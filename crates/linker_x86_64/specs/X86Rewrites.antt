@@ -25,16 +25,17 @@ use Rattle.linker_x86_64.specs.declared.rewrites.RelaxationKind.TheVariants as k
 use Rattle.linker_elf.specs.declared.x86_64.relocations.X86_64Relocation.TheVariants as r
 
 -- R (bit 2) of a REX byte moves to B (bit 0)
-abbrev pub rex : ℕ → ℕ
-rex r = bit_or (bit_and r 0xfb) (bit_and r 0x04 / 4)
+abbrev pub rex_r_to_b : ℕ → ℕ
+rex_r_to_b r = bit_or (bit_and r 0xfb) (bit_and r 0x04 / 4)
 
 -- R4 and R3 (bits 6 and 2) of a REX2 byte move to B4 and B3 (bits 4 and 0)
-abbrev pub rex2 : ℕ → ℕ
-rex2 r = bit_or (bit_and r 0xbb) (bit_and r 0x44 / 4)
+abbrev pub rex2_r_to_b : ℕ → ℕ
+rex2_r_to_b r = bit_or (bit_and r 0xbb) (bit_and r 0x44 / 4)
 
 -- the prefix byte of an instruction whose relocated field follows n bytes
 abbrev pub rex_reg_to_rm : ℕ → ℕ → ℕ
-rex_reg_to_rm n r = if n == 3 then rex r else (if n == 4 then rex2 r else r)
+rex_reg_to_rm n r =
+    if n == 3 then rex_r_to_b r else (if n == 4 then rex2_r_to_b r else r)
 
 -- In an EVEX byte a clear bit 7 is set, and bit 5 is then cleared; then where bit 4 is clear, bits
 -- 4 and 3 are set.
@@ -75,14 +76,14 @@ absolute back bytes =
 
 -- these bytes are put, and the offset moves
 abbrev pub puts : ℕ → ℕ → List ℕ → (ℕ → ℕ) → (ℤ → ℤ) → Rewrite
-puts back len bytes offset addend =
+puts back len bytes offset new_addend =
     record {
       back = back;
       len = len;
       admits = λ _. true;
       bytes = λ _. bytes;
       offset = offset;
-      addend = addend;
+      addend = new_addend;
     }
 
 -- `mov` of an absolute value

@@ -46,62 +46,62 @@ relative_byte m small h =
 -- What a REX byte says, and what it says after the rewrite.
 pub record IsRex (p : ℕ) : Type 0 where
   pub is : is_rex p ≡ true
-  pub after : is_rex (x86.rex p) ≡ true
-  pub wide : bit_at (x86.rex p) 3 ≡ bit_at p 3
-  pub moved : bit_at (x86.rex p) 0 ≡ bit_at p 2
+  pub after : is_rex (x86.rex_r_to_b p) ≡ true
+  pub wide : bit_at (x86.rex_r_to_b p) 3 ≡ bit_at p 3
+  pub moved : bit_at (x86.rex_r_to_b p) 0 ≡ bit_at p 2
 
 rex_byte : (p : ℕ) → p < 2 ^ 8 → eqb (bit_and p 0xf3) 0x40 ≡ true → IsRex p
 rex_byte p small h =
-    let all = below 256 (λ p. not (eqb (bit_and p 0xf3) 0x40) || (is_rex p && (is_rex (x86.rex p)
-    && (eqb (bit_at (x86.rex p) 3) (bit_at p 3) && eqb (bit_at (x86.rex p) 0) (bit_at p 2)))))
+    let all = below 256 (λ p. not (eqb (bit_and p 0xf3) 0x40) || (is_rex p && (is_rex (x86.rex_r_to_b p)
+    && (eqb (bit_at (x86.rex_r_to_b p) 3) (bit_at p 3) && eqb (bit_at (x86.rex_r_to_b p) 0) (bit_at p 2)))))
     refl p small in
-    let a = and_parts (is_rex p) (is_rex (x86.rex p)
-    && (eqb (bit_at (x86.rex p) 3) (bit_at p 3) && eqb (bit_at (x86.rex p) 0) (bit_at p 2)))
-    (implied (eqb (bit_and p 0xf3) 0x40) (is_rex p && (is_rex (x86.rex p)
-    && (eqb (bit_at (x86.rex p) 3) (bit_at p 3) && eqb (bit_at (x86.rex p) 0) (bit_at p 2)))) all h) in
-    let b = and_parts (is_rex (x86.rex p))
-    (eqb (bit_at (x86.rex p) 3) (bit_at p 3) && eqb (bit_at (x86.rex p) 0) (bit_at p 2)) a.1 in
-    let c = and_parts (eqb (bit_at (x86.rex p) 3) (bit_at p 3))
-    (eqb (bit_at (x86.rex p) 0) (bit_at p 2)) b.1 in
+    let a = and_parts (is_rex p) (is_rex (x86.rex_r_to_b p)
+    && (eqb (bit_at (x86.rex_r_to_b p) 3) (bit_at p 3) && eqb (bit_at (x86.rex_r_to_b p) 0) (bit_at p 2)))
+    (implied (eqb (bit_and p 0xf3) 0x40) (is_rex p && (is_rex (x86.rex_r_to_b p)
+    && (eqb (bit_at (x86.rex_r_to_b p) 3) (bit_at p 3) && eqb (bit_at (x86.rex_r_to_b p) 0) (bit_at p 2)))) all h) in
+    let b = and_parts (is_rex (x86.rex_r_to_b p))
+    (eqb (bit_at (x86.rex_r_to_b p) 3) (bit_at p 3) && eqb (bit_at (x86.rex_r_to_b p) 0) (bit_at p 2)) a.1 in
+    let c = and_parts (eqb (bit_at (x86.rex_r_to_b p) 3) (bit_at p 3))
+    (eqb (bit_at (x86.rex_r_to_b p) 0) (bit_at p 2)) b.1 in
     record {
       is = a.0;
       after = b.0;
-      wide = eqb-true (bit_at (x86.rex p) 3) (bit_at p 3) c.0;
-      moved = eqb-true (bit_at (x86.rex p) 0) (bit_at p 2) c.1;
+      wide = eqb-true (bit_at (x86.rex_r_to_b p) 3) (bit_at p 3) c.0;
+      moved = eqb-true (bit_at (x86.rex_r_to_b p) 0) (bit_at p 2) c.1;
     }
 
 -- What the byte after d5 says, and what it says after the rewrite.
 pub record IsRex2 (p : ℕ) : Type 0 where
   pub is : eqb (bit_at p 7) 0 ≡ true
-  pub after : eqb (bit_at (x86.rex2 p) 7) 0 ≡ true
-  pub wide : bit_at (x86.rex2 p) 3 ≡ bit_at p 3
-  pub moved : 8 * bit_at (x86.rex2 p) 0 + 16 * bit_at (x86.rex2 p) 4
+  pub after : eqb (bit_at (x86.rex2_r_to_b p) 7) 0 ≡ true
+  pub wide : bit_at (x86.rex2_r_to_b p) 3 ≡ bit_at p 3
+  pub moved : 8 * bit_at (x86.rex2_r_to_b p) 0 + 16 * bit_at (x86.rex2_r_to_b p) 4
       ≡ 8 * bit_at p 2 + 16 * bit_at p 6
 
 abbrev rex2_moves : ℕ → Bool
 rex2_moves p =
-    eqb (bit_at (x86.rex2 p) 3) (bit_at p 3)
-    && eqb (8 * bit_at (x86.rex2 p) 0 + 16 * bit_at (x86.rex2 p) 4)
+    eqb (bit_at (x86.rex2_r_to_b p) 3) (bit_at p 3)
+    && eqb (8 * bit_at (x86.rex2_r_to_b p) 0 + 16 * bit_at (x86.rex2_r_to_b p) 4)
     (8 * bit_at p 2 + 16 * bit_at p 6)
 
 abbrev rex2_says : ℕ → Bool
 rex2_says p =
-    eqb (bit_at p 7) 0 && (eqb (bit_at (x86.rex2 p) 7) 0 && rex2_moves p)
+    eqb (bit_at p 7) 0 && (eqb (bit_at (x86.rex2_r_to_b p) 7) 0 && rex2_moves p)
 
 rex2_byte : (p : ℕ) → p < 2 ^ 8 → eqb (bit_and p 0xb3) 0 ≡ true → IsRex2 p
 rex2_byte p small h =
-    let a = and_parts (eqb (bit_at p 7) 0) (eqb (bit_at (x86.rex2 p) 7) 0 && rex2_moves p)
+    let a = and_parts (eqb (bit_at p 7) 0) (eqb (bit_at (x86.rex2_r_to_b p) 7) 0 && rex2_moves p)
     (implied (eqb (bit_and p 0xb3) 0) (rex2_says p)
     (below 256 (λ p. not (eqb (bit_and p 0xb3) 0) || rex2_says p) refl p small) h) in
-    let b = and_parts (eqb (bit_at (x86.rex2 p) 7) 0) (rex2_moves p) a.1 in
-    let c = and_parts (eqb (bit_at (x86.rex2 p) 3) (bit_at p 3))
-    (eqb (8 * bit_at (x86.rex2 p) 0 + 16 * bit_at (x86.rex2 p) 4)
+    let b = and_parts (eqb (bit_at (x86.rex2_r_to_b p) 7) 0) (rex2_moves p) a.1 in
+    let c = and_parts (eqb (bit_at (x86.rex2_r_to_b p) 3) (bit_at p 3))
+    (eqb (8 * bit_at (x86.rex2_r_to_b p) 0 + 16 * bit_at (x86.rex2_r_to_b p) 4)
     (8 * bit_at p 2 + 16 * bit_at p 6)) b.1 in
     record {
       is = a.0;
       after = b.0;
-      wide = eqb-true (bit_at (x86.rex2 p) 3) (bit_at p 3) c.0;
-      moved = eqb-true (8 * bit_at (x86.rex2 p) 0 + 16 * bit_at (x86.rex2 p) 4)
+      wide = eqb-true (bit_at (x86.rex2_r_to_b p) 3) (bit_at p 3) c.0;
+      moved = eqb-true (8 * bit_at (x86.rex2_r_to_b p) 0 + 16 * bit_at (x86.rex2_r_to_b p) 4)
           (8 * bit_at p 2 + 16 * bit_at p 6) c.1;
     }
 

@@ -104,7 +104,7 @@ module _ (section original relaxed rest rest' : List ℕ) (o : ℕ)
       → relaxed ≡ take o (rewritten (Some (absolute 3 (prefixed_operand 3 opcode' k))) section o)
       ++ rest'
       → (drop (o - 3) original ≡ p ∷ opcode ∷ m ∷ rest)
-      × (drop (o - 3) relaxed ≡ x86.rex p ∷ opcode' ∷ x86.modrm_reg_to_rm k m ∷ rest')
+      × (drop (o - 3) relaxed ≡ x86.rex_r_to_b p ∷ opcode' ∷ x86.modrm_reg_to_rm k m ∷ rest')
   rex_immediate_codes p opcode m opcode' k d room is whole' =
       let long = inside section (p ∷ opcode ∷ m ∷ d) o 3 (omega arith) room is (omega arith) in (
         ap (drop (o - 3)) whole ∙ original_code section rest o 3 3 room long (omega arith)
@@ -140,7 +140,7 @@ module _ (section original relaxed rest rest' : List ℕ) (o : ℕ)
       → relaxed ≡ take o (rewritten (Some (absolute 3 (prefixed_operand 4 opcode' k))) section o)
       ++ rest'
       → (drop (o - 4) original ≡ 0xd5 ∷ p ∷ opcode ∷ m ∷ rest)
-      × (drop (o - 4) relaxed ≡ 0xd5 ∷ x86.rex2 p ∷ opcode' ∷ x86.modrm_reg_to_rm k m ∷ rest')
+      × (drop (o - 4) relaxed ≡ 0xd5 ∷ x86.rex2_r_to_b p ∷ opcode' ∷ x86.modrm_reg_to_rm k m ∷ rest')
   rex2_immediate_codes p opcode m opcode' k d room is whole' =
       let long = inside section (0xd5 ∷ p ∷ opcode ∷ m ∷ d) o 4 (omega arith) room is
       (omega arith) in (

@@ -376,7 +376,7 @@ module _ {opcode opcode' k number : ℕ} {op : Operation}
       let m = code.after.modrm in
       let codes = rex_immediate_codes section old new rest rest' o whole p opcode m opcode' k
       code.after.rest shape.0 (code.is ∙ ap (λ xs. p ∷ xs) code.after.is) whole' in
-      let p' = x86.rex p in
+      let p' = x86.rex_r_to_b p in
       both replaced 3 (omega arith) section o operands s before held small holds (drop (o - 3) old)
       (drop (o - 3) new) rest rest' m code.after.relative (rex_prefix p) (rex_prefix p')
       (ap (λ w. cond (eqb w 1) 64 32) code.is_rex.wide) (ap (λ r. 8 * r) code.is_rex.moved) refl refl
@@ -437,7 +437,7 @@ module _ {opcode opcode' k number : ℕ} {op : Operation}
       let m = code.after.modrm in
       let codes = rex2_immediate_codes section old new rest rest' o whole p opcode m opcode' k
       code.after.rest shape.0 (code.is ∙ ap (λ xs. 0xd5 ∷ p ∷ xs) code.after.is) whole' in
-      let p' = x86.rex2 p in
+      let p' = x86.rex2_r_to_b p in
       both replaced 4 (omega arith) section o operands s before held small holds (drop (o - 4) old)
       (drop (o - 4) new) rest rest' m code.after.relative (rex2_prefix p) (rex2_prefix p')
       (ap (λ w. cond (eqb w 1) 64 32) code.is_rex2.wide) code.is_rex2.moved refl refl

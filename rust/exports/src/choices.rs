@@ -119,6 +119,21 @@ pub fn linker_utils_choose_nonnull(
     Status::Success.number()
 }
 
+/// Whether the relocation with `r_type` can be rewritten if each other one of its sequence can: with
+/// these facts and `group_fits`. False of a machine that isn't known.
+pub fn linker_utils_relocation_fits_nonnull(
+    machine: u16,
+    r_type: u32,
+    section: &[u8],
+    offset: u64,
+    facts: &LinkFactNumbers,
+) -> bool {
+    let Some(architecture) = Architecture::from_machine(machine) else {
+        return false;
+    };
+    architecture.fits(r_type, section, offset, &facts.facts())
+}
+
 /// Whether a choice at the relocation with `r_type` leaves it and its instruction as they are.
 /// False of a choice whose rewrite is none of the machine's.
 pub fn linker_utils_is_unchanged(

@@ -152,6 +152,27 @@ unsafe extern "C" fn linker_utils_choose_nonnull(
 }
 
 #[unsafe(no_mangle)]
+unsafe extern "C" fn linker_utils_relocation_fits_nonnull(
+    machine: u16,
+    r_type: u32,
+    section: *const u8,
+    section_len: usize,
+    offset: u64,
+    facts: *const LinkFactNumbers,
+) -> bool {
+    // SAFETY: the arguments are as the head of the header says.
+    unsafe {
+        crate::choices::linker_utils_relocation_fits_nonnull(
+            machine,
+            r_type,
+            from_raw_parts(section, section_len),
+            offset,
+            &*facts,
+        )
+    }
+}
+
+#[unsafe(no_mangle)]
 unsafe extern "C" fn linker_utils_is_unchanged(
     machine: u16,
     r_type: u32,
