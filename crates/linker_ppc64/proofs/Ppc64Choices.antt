@@ -13,7 +13,7 @@ use Rattle.linker_elf.specs.declared.ppc64.relocations.Ppc64Relocation.{Ppc64Rel
 use Rattle.linker_ppc64.specs.Ppc64Rewrites.{ppc64_entries, Ppc64Applies, IsPpc64Choice}
 use Rattle.linker_ppc64.specs.Ppc64Rewrites.{ppc64_matches}
 use Rattle.linker_ppc64.specs.Ppc64Rewrites.{ppc64_rewrite}
-use Rattle.linker_ppc64.specs.declared.choices.OfRewrite.{OfRewrite}
+use Rattle.linker_ppc64.specs.declared.choices.AskedFor.{AskedFor}
 use Rattle.linker_ppc64.specs.declared.rewrites.RelaxationKind.{RelaxationKind}
 use Rattle.linker_ppc64.specs.declared.rewrites.RelaxationKind.TheVariants as kinds
 
@@ -23,12 +23,12 @@ can_rewrite kinds.NoOp section o matches = tt
 can_rewrite kind section o matches = search rules
 
 pub chosen : (name : Ppc64Relocation) (section : List ℕ) (o : ℕ) (facts : LinkFacts)
-    → (es : List (ChoiceEntry OfRewrite RelaxationKind Ppc64Relocation)) (c : Choice RelaxationKind Ppc64Relocation)
-    → IsTableOf (λ (originals : OfRewrite). ppc64_matches) ppc64_matches es (ppc64_entries name)
-    → IsFirstOf (EntryApplies (λ (originals : OfRewrite). ppc64_matches) ppc64_row (λ (kind : RelaxationKind) (o : ℕ) (operands : Operands). operands) section o facts) es (choice kinds.NoOp name) c
+    → (es : List (ChoiceEntry AskedFor RelaxationKind Ppc64Relocation)) (c : Choice RelaxationKind Ppc64Relocation)
+    → IsTableOf (λ (originals : AskedFor). ppc64_matches) ppc64_matches es (ppc64_entries name)
+    → IsFirstOf (EntryApplies (λ (originals : AskedFor). ppc64_matches) ppc64_row (λ (kind : RelaxationKind) (o : ℕ) (operands : Operands). operands) section o facts) es (choice kinds.NoOp name) c
     → IsPpc64Choice name section o facts c
 chosen name section o facts es c =
-    first_of_table (λ (originals : OfRewrite). ppc64_matches) ppc64_matches ppc64_row
+    first_of_table (λ (originals : AskedFor). ppc64_matches) ppc64_matches ppc64_row
     (λ (kind : RelaxationKind) (o : ℕ) (operands : Operands). operands) section o facts es (ppc64_entries name) (choice kinds.NoOp name) c
 
 pub chosen_matches : (name : Ppc64Relocation) (section : List ℕ) (o : ℕ) (facts : LinkFacts) (c : Choice RelaxationKind Ppc64Relocation)
