@@ -17,6 +17,7 @@ pub mod Ppc64Direct
 pub mod Ppc64IndexedWords
 pub mod Ppc64Prefixed
 pub mod Ppc64Threads
+pub mod Ppc64Vectors
 pub mod Ppc64WholeWords
 pub mod Ppc64Words
 pub mod RiscVCalls

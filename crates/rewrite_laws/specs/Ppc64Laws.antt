@@ -6,6 +6,7 @@ use Rattle.std.specs.Int.{w32, w64, from_le_bytes}
 use Rattle.linker_ppc64.specs.Ppc64Rewrites.{is_addis_of_toc, is_ld, is_add_of_thread, is_call}
 use Rattle.linker_ppc64.specs.Ppc64Rewrites.{is_indexed, is_store, is_d_access, is_addi}
 use Rattle.linker_ppc64.specs.Ppc64Rewrites.{is_ds_access, is_indexed_word, is_pld}
+use Rattle.linker_ppc64.specs.Ppc64Rewrites.{is_vector_access}
 use Rattle.linker_elf.specs.Ppc64Relocations.{ppc64_row}
 use Rattle.linker_elf.specs.Relocate.{ppc64_reads}
 use Rattle.linker_ppc64.specs.Ppc64Rewrites.{ppc64_rewrite, opcode_of, rt_of, ra_of, access_of}
@@ -19,7 +20,7 @@ use Rattle.linker_ppc64.specs.declared.rewrites.RelaxationKind.{RelaxationKind}
 use Rattle.linker_ppc64.specs.declared.rewrites.RelaxationKind.TheVariants as kinds
 use Rattle.relocation_laws.specs.Schemes.{IsApplied, AreAddresses, symbol_address}
 use Rattle.rewrite_laws.specs.Machine.{loaded, moved}
-use Rattle.rewrite_laws.specs.Ppc64Machine.{State, Formats, step, run, RunAlikeBut}
+use Rattle.rewrite_laws.specs.Ppc64Machine.{State, Formats, base, step, run, RunAlikeBut}
 use Rattle.rewrite_laws.specs.Ppc64Machine.{step_prefixed, AreAlikeBut}
 use Rattle.rewrite_laws.specs.Ppc64Machine.{write, go_on, gone_on, but_loaded, access_with, Access}
 use Rattle.rewrite_laws.specs.Ppc64Machine.{loads, loads_signed, stores, word_access_with}
@@ -212,6 +213,34 @@ AddiNearToc =
     → IsRelocated names.R_PPC64_TOC16 o over over_of_symbol
     → RunAlikeBut f (is_only (rt_of (word_of addis)) (rt_of (word_of insn)))
     (two addis_of_symbol insn_of_symbol) (two blank over_of_symbol) s
+
+abbrev pub is_vector_over_base : ℕ → Bool
+is_vector_over_base word = is_vector_access word && not (ra_of word == 0)
+
+-- the base and the displacement
+abbrev pub address_read : ℕ → State → ℕ
+address_read word s = moved (base (ra_of word) s) (ppc64_reads Ds word)
+
+-- Words have the same opcode and the same register to load or store.
+pub record HaveSameAccess (x y : ℕ) : Type 0 where
+  pub opcode : opcode_of x ≡ opcode_of y
+  pub register : rt_of x ≡ rt_of y
+
+-- `lq` and accesses of vector registers, of which the machine has none: `addis rX,2` and one over rX,
+-- and `nop` and the same over register 2, access one address.
+abbrev pub VectorAccessNearToc : Type 0
+VectorAccessNearToc =
+    (f : Formats) (o : Operands) (s : State) (addis insn blank over : List ℕ)
+    → IsTocPair is_vector_over_base o s addis insn
+    → IsRewritten kinds.AddisToNop addis blank → IsRewritten kinds.BaseToToc insn over
+    → (at : ℕ) (addis_of_symbol insn_of_symbol over_of_symbol : List ℕ)
+    → IsRelocated names.R_PPC64_TOC16_HA o addis addis_of_symbol
+    → IsRelocated names.R_PPC64_TOC16_LO_DS (at_place at o) insn insn_of_symbol
+    → IsRelocated names.R_PPC64_TOC16_DS o over over_of_symbol
+    → IsSomeAnd (step f (word_of addis_of_symbol) s) (λ t.
+    IsSomeAnd (step f (word_of blank) s) (λ u.
+    address_read (word_of insn_of_symbol) t ≡ address_read (word_of over_of_symbol) u))
+    × HaveSameAccess (word_of insn_of_symbol) (word_of over_of_symbol)
 
 -- ---- relative to the instruction
 

@@ -61,6 +61,7 @@ pub fn ppc64()
     ensures near_toc { ppc64_laws.AddiNearToc }
     ensures access_near_toc { ppc64_laws.AccessNearToc }
     ensures word_access_near_toc { ppc64_laws.WordAccessNearToc }
+    ensures vector_access_near_toc { ppc64_laws.VectorAccessNearToc }
     ensures toc { ppc64_laws.RestoresToc }
 {
     relocation_laws::ppc64();

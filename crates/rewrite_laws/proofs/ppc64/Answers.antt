@@ -9,6 +9,7 @@ use Rattle.rewrite_laws.proofs.Ppc64WholeWords.{word_access_near_toc}
 use Rattle.rewrite_laws.proofs.Ppc64IndexedWords.{word_access_to_local_exec}
 use Rattle.rewrite_laws.proofs.Ppc64Threads.{general_to_local, general_to_initial, local_dynamic}
 use Rattle.rewrite_laws.proofs.Ppc64Prefixed.{pld_to_paddi}
+use Rattle.rewrite_laws.proofs.Ppc64Vectors.{vector_access_near_toc}
 use Rattle.rewrite_laws.proofs.ppc64.Goals as goal
 
 pub returns : goal.returns
@@ -32,5 +33,6 @@ returns c =
       argument_to_module = argument_to_module;
       prefixed = pld_to_paddi laws.prefixed;
       near_toc = addi_near_toc laws.toc laws.displacements;
+      vector_access_near_toc = vector_access_near_toc laws.toc laws.displacements;
       toc = restores_toc;
     }

@@ -246,6 +246,38 @@ fn own_symbols_need_no_entry() {
     }
 }
 
+/// `lxsd 0,0(9)`, `lxssp 0,0(9)`, `stxsd 0,0(9)` and `stxssp 0,0(9)`; of a multiple of 16 bytes `lxv`
+/// and `stxv` of registers 0 and 32, and `lq 4,0(9)`.
+#[test]
+fn vectors_are_near_the_toc() {
+    let name = Ppc64Relocation::R_PPC64_TOC16_LO_DS;
+    let chosen =
+        Choice { kind: RelaxationKind::BaseToToc, relocation: Ppc64Relocation::R_PPC64_TOC16_DS };
+    let mut facts = own();
+    for (before, after) in [
+        (0xe409_0002, 0xe402_801a),
+        (0xe409_0003, 0xe402_801b),
+        (0xf409_0002, 0xf402_801a),
+        (0xf409_0003, 0xf402_801b),
+    ] {
+        assert_eq!(linked(name, [before, 0], &facts), (chosen, [after, 0]));
+    }
+    facts.operands.symbol = 0x1001_0020;
+    for (before, after) in [
+        (0xf409_0001, 0xf402_8021),
+        (0xf409_0009, 0xf402_8029),
+        (0xf409_0005, 0xf402_8025),
+        (0xf409_000d, 0xf402_802d),
+        (0xe089_0000, 0xe082_8020),
+    ] {
+        assert_eq!(linked(name, [before, 0], &facts), (chosen, [after, 0]));
+    }
+    // `lfdp 0,0(9)`, `stfdp 0,0(9)` and `stq 4,0(9)`
+    for word in [0xe409_0000, 0xf409_0000, 0xf889_0002] {
+        assert!(chosen_for(name, [word, 0], &facts).is_unchanged(name));
+    }
+}
+
 #[test]
 fn other_variables_of_an_executable_have_an_entry() {
     let table: [Rewritten; 5] = [
