@@ -172,4 +172,4 @@ IsFirst Applies (e ∷ es) otherwise chosen =
 -- The relocation fits: if all others of its sequence can be rewritten, it is too.
 abbrev pub Fits : {K R : Type 0} → (LinkFacts → Choice K R → Type 0) → Choice K R → LinkFacts
     → Type 0
-Fits IsChosen unchanged facts = ¬ IsChosen (record facts { group_fits = true }) unchanged
+Fits IsChosen unchanged facts = ¬ IsChosen (with_group facts) unchanged

@@ -1,10 +1,12 @@
 -- What is chosen on PowerPC64 matches, and can be rewritten.
-use Rattle.std.proofs.Common.{ℕ, List, ◌≡◌, ◌↔◌, rules}
+use Rattle.std.proofs.Common.{ℕ, List, Bool, IsTrue, not, ◌≡◌, ◌↔◌, ◌==◌, rules}
 use Rattle.linker_base.specs.Rewrite.{CanRewrite}
-use Rattle.linker_elf.specs.Choices.{Entry, choice}
+use Rattle.linker_elf.specs.Choices.{Entry, choice, Fits, with_group}
 use Rattle.linker_elf.specs.Inner.ChoiceTables.{IsTableOf, IsFirstOf, EntryApplies}
-use Rattle.linker_elf.proofs.ChoiceTables.{first_of_table, holds_of_first}
+use Rattle.linker_elf.proofs.ChoiceTables.{first_of_table, holds_of_first, isnt_last}
+use Rattle.linker_elf.proofs.SameNames.{AreSame, unchanged_is, exact_code}
 use Rattle.linker_elf.specs.Ppc64Relocations.{ppc64_row}
+use Rattle.linker_elf.specs.contracts.ppc64.relocations.Ppc64Relocation.{enum as names}
 use Rattle.linker_elf.specs.declared.elf.choice.Choice.{Choice}
 use Rattle.linker_elf.specs.declared.elf.choice.LinkFacts.{LinkFacts}
 use Rattle.linker_elf.specs.declared.elf.choice_table.ChoiceEntry.{ChoiceEntry}
@@ -40,3 +42,11 @@ chosen_matches name section o facts c =
 pub chosen_rewritable : (name : Ppc64Relocation) (section : List ℕ) (o : ℕ) (facts : LinkFacts) (c : Choice RelaxationKind Ppc64Relocation)
     → IsPpc64Choice name section o facts c → CanRewrite (ppc64_rewrite c.kind) section o
 chosen_rewritable name section o facts c is = can_rewrite c.kind section o (chosen_matches name section o facts c is)
+
+pub chosen_fits : (name : Ppc64Relocation) (section : List ℕ) (o : ℕ) (facts : LinkFacts) (c : Choice RelaxationKind Ppc64Relocation) (is : Bool)
+    → IsPpc64Choice name section o (with_group facts) c
+    → (IsTrue is ↔ ((c.kind ≡ kinds.NoOp) × AreSame names (λ x y. x.0 == y.0, tt) c.relocation name))
+    → IsTrue (not is) ↔ Fits (IsPpc64Choice name section o) (choice kinds.NoOp name) facts
+chosen_fits name section o facts c is first known =
+    isnt_last (Ppc64Applies section o (with_group facts)) (ppc64_entries name) (choice kinds.NoOp name) c is first
+    (unchanged_is names (λ x y. x.0 == y.0, tt) (exact_code, tt) kinds.NoOp name c is known)

@@ -46,20 +46,32 @@ impl ChosenKind for RelaxationKind {
 }
 
 /// The high part of the distance from the TOC pointer is 0.
-const WITHOUT_HIGH_PART: Conditions<Names> =
-    conditions!(PRIVATE_BASE, None, InReach(R_PPC64_TOC16, 0));
+const WITHOUT_HIGH_PART: Conditions<Names> = conditions!(
+    PRIVATE_BASE,
+    None,
+    InReach(R_PPC64_TOC16, 0)
+);
 
 /// The address by its distance from the TOC pointer.
-const TO_TOC_DISTANCE: Conditions<Names> =
-    conditions!(BOUND + FIXED_DISTANCE, None, InReachIfKnown(R_PPC64_TOC16_HA, 0));
+const TO_TOC_DISTANCE: Conditions<Names> = conditions!(
+    BOUND + FIXED_DISTANCE,
+    None,
+    InReachIfKnown(R_PPC64_TOC16_HA, 0)
+);
 
 /// The address by its distance from the instruction.
-const TO_DISTANCE: Conditions<Names> =
-    conditions!(BOUND + FIXED_DISTANCE, None, InReachIfKnown(R_PPC64_PCREL34, 0));
+const TO_DISTANCE: Conditions<Names> = conditions!(
+    BOUND + FIXED_DISTANCE,
+    None,
+    InReachIfKnown(R_PPC64_PCREL34, 0)
+);
 
 /// The offset from the thread pointer in the instructions.
-const TO_LOCAL_EXEC: Conditions<Names> =
-    conditions!(BOUND + EXECUTABLE + GROUP_FITS, None, InReachIfKnown(R_PPC64_TPREL16_HA, 0));
+const TO_LOCAL_EXEC: Conditions<Names> = conditions!(
+    BOUND + EXECUTABLE + GROUP_FITS,
+    None,
+    InReachIfKnown(R_PPC64_TPREL16_HA, 0)
+);
 
 /// The same of an access of whole words.
 const TO_LOCAL_EXEC_WORDS: Conditions<Names> = conditions!(
@@ -70,12 +82,18 @@ const TO_LOCAL_EXEC_WORDS: Conditions<Names> = conditions!(
 );
 
 /// The offset from the thread pointer in the GOT.
-const TO_INITIAL_EXEC: Conditions<Names> =
-    conditions!(EXECUTABLE + GROUP_FITS, None, InReachIfKnown(R_PPC64_GOT_TPREL16_HA, 0));
+const TO_INITIAL_EXEC: Conditions<Names> = conditions!(
+    EXECUTABLE + GROUP_FITS,
+    None,
+    InReachIfKnown(R_PPC64_GOT_TPREL16_HA, 0)
+);
 
 /// The same in an entry near the TOC pointer.
-const TO_NEAR_INITIAL_EXEC: Conditions<Names> =
-    conditions!(EXECUTABLE + GROUP_FITS, None, InReachIfKnown(R_PPC64_GOT_TPREL16_DS, 0));
+const TO_NEAR_INITIAL_EXEC: Conditions<Names> = conditions!(
+    EXECUTABLE + GROUP_FITS,
+    None,
+    InReachIfKnown(R_PPC64_GOT_TPREL16_DS, 0)
+);
 
 /// The module's block from the thread pointer.
 const TO_MODULE: Conditions<Names> = conditions!(EXECUTABLE + GROUP_FITS, None);
