@@ -207,7 +207,8 @@ static struct linker_utils_link_facts early_facts(const struct relocation *r) {
  * that it loads or hands to `__tls_get_addr`; else ADDRESS. */
 static enum class sequence_of(const struct relocation *r) {
     uint32_t kind = row_of(r)->info.kind;
-    if (kind >= LINKER_UTILS_KIND_TLS_DESC) return DESCRIPTOR;
+    bool is_load = machine == EM_LOONGARCH && r->type == LARCH_TLS_DESC_LD; /* without a value */
+    if (kind >= LINKER_UTILS_KIND_TLS_DESC || is_load) return DESCRIPTOR;
     if (machine == EM_PPC64 && r->type == R_PPC64_TLS) return THREAD_OFFSET;
     if (machine == EM_PPC64 && r->type == R_PPC64_TLSGD) return MODULE_OFFSET;
     return machine == EM_PPC64 && r->type == R_PPC64_TLSLD ? MODULE : class_of(r, kind);

@@ -32,7 +32,7 @@
 
 /* relocation types that older versions of <elf.h> lack */
 enum { LARCH_PCALA_HI20 = 71, LARCH_PCALA_LO12 = 72, LARCH_RELAX = 100, LARCH_ALIGN = 102 };
-enum { LARCH_CALL36 = 110, PPC64_REL24_NOTOC = 116 };
+enum { LARCH_CALL36 = 110, LARCH_TLS_DESC_LD = 119, PPC64_REL24_NOTOC = 116 };
 enum { RISCV_TLSDESC_HI20 = 62, RISCV_TLSDESC_CALL = 65, AARCH64_PLT32 = 314 };
 
 /* the order of the sections of the linked file; there are three kinds of arrays */

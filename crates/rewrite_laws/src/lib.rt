@@ -19,8 +19,10 @@ ghost use Rattle.rewrite_laws.specs.X86ThreadLaws as x86_thread_laws;
 
 /// AArch64: the address of a symbol without its GOT entry, or by `adr`; the offset of a variable
 /// from the thread pointer by moves, or by its GOT entry in place of a descriptor's function; `nop`
-/// in place of a branch to an undefined weak symbol. The bytes of instructions may be a section's,
-/// from the instruction on (`sections`). The last two clauses are examples of what the machine does.
+/// in place of a branch to an undefined weak symbol. The halves of initial-exec have a law each
+/// (`high_half`, `low_half`), of two runs, whatever stands between them. The bytes of instructions may
+/// be a section's, from the instruction on (`sections`). The last two clauses are examples of what the
+/// machine does.
 pub fn aarch64()
     ensures got { aarch64_laws.GotToAddress }
     ensures high_half { aarch64_laws.HighHalfToMovz }
@@ -108,7 +110,8 @@ pub fn riscv64()
 /// LoongArch: the address of a symbol without its GOT entry, or by `pcaddi`; the offset of a
 /// variable from the thread pointer in the instructions, in one of them, or by its GOT entry in
 /// place of a descriptor's function; loads, stores and additions over the thread pointer; a call by
-/// `b` or `bl`. Where an instruction is deleted, the code before and after the rewrite may stand at
+/// `b` or `bl`. Each instruction of initial-exec and of a descriptor has a law of its own, of two runs,
+/// whatever stands between them. Where an instruction is deleted, the code before and after the rewrite may stand at
 /// different addresses, each with its relocations applied.
 pub fn loongarch64()
     ensures got { loongarch_laws.GotToAddress }
