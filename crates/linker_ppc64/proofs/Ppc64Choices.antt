@@ -1,7 +1,7 @@
 -- What is chosen on PowerPC64 matches, and can be rewritten.
 use Rattle.std.proofs.Common.{ℕ, List, Bool, IsTrue, not, ◌≡◌, ◌↔◌, ◌==◌, rules}
 use Rattle.linker_base.specs.Rewrite.{CanRewrite}
-use Rattle.linker_elf.specs.Choices.{Entry, choice, Fits, with_group}
+use Rattle.linker_elf.specs.Choices.{choice, Fits, with_group}
 use Rattle.linker_elf.specs.Inner.ChoiceTables.{IsTableOf, IsFirstOf, EntryApplies}
 use Rattle.linker_elf.proofs.ChoiceTables.{first_of_table, holds_of_first, isnt_last}
 use Rattle.linker_elf.proofs.SameNames.{AreSame, unchanged_is, exact_code}
