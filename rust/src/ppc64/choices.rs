@@ -119,7 +119,7 @@ macro_rules! choices {
 
 type Table = &'static [ChoiceEntry<AskedFor, RelaxationKind, Names>];
 
-static TABLES: &[Table] = choices!(all_tables());
+const TABLES: &[Table] = choices!(all_tables());
 
 /// The entries of a relocation.
 #[doc(hidden)]
@@ -165,23 +165,6 @@ fn choose_listed(
 /// for any name that isn't listed and for an offset that isn't in the section. Where TLS becomes
 /// initial-exec, `got_entry` has to be the address of the entry for initial-exec.
 ///
-/// A doubleword of the TOC that holds the address of a symbol is a GOT entry of that symbol: for
-/// `TOC16_HA` and `TOC16_LO_DS` of it, ask for `GOT16_HA` and `GOT16_LO_DS`, with the symbol's
-/// facts and the doubleword's address as `got_entry`. What is then computed from the TOC pointer
-/// may be near it: ask once more, for `TOC16_HA` and `TOC16_LO` of the symbol, after the rewrite.
-///
-/// The linker sees to the rest:
-///
-/// - The instructions of one sequence are not next to each other, and each is chosen alone. The
-///   facts are the same for all of them, except for `place`. If one of them keeps its relocation,
-///   all have to; where each is the instruction that its rewrites are meant for, those of a pair
-///   and of `__tls_get_addr` are chosen alike (`relocations_are_chosen_alike`).
-/// - The register that an `addis` before a `nop` has set, and for TLS also the one that the `ld`
-///   has set, are read by the instructions of the sequence only, as the ABI asks of compilers.
-/// - `tls_base` is the thread pointer, 0x7000 above the first byte of the TLS segment. After
-///   `CallToAddi4096` register 3 is 0x1000 above it, which the `DTPREL` relocations are relative
-///   to.
-///
 /// ```
 /// use linker_utils::elf::LinkFacts;
 /// use linker_utils::ppc64::{Ppc64Relocation, RelaxationKind, choose};
@@ -199,6 +182,7 @@ fn choose_listed(
 /// ```
 #[must_use]
 #[inline]
+#[doc = include_str!("../../doc/ppc64/choose.linker.md")]
 #[doc = include_str!("../../doc/ppc64/choose.md")]
 pub fn choose(
     name: Ppc64Relocation,
