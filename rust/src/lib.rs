@@ -59,7 +59,7 @@ pub mod recognise {
     };
     pub use crate::linker_recognise::architecture;
     pub use crate::linker_recognise::{
-        CANDIDATES, MAX_WINDOW, Made, Recognised, Rewritten, recognise, recognise_chosen,
+        CANDIDATES, MAX_WINDOW, Made, Recognised, recognise, recognise_chosen,
         written_choices_are_left,
     };
 }

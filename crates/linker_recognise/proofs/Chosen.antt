@@ -20,12 +20,12 @@ first_is_same Applies (e ∷ es) otherwise c d (inl one) (inr other) = absurd (o
 first_is_same Applies (e ∷ es) otherwise c d (inr one) (inl other) = absurd (one.0 other.0)
 first_is_same Applies (e ∷ es) otherwise c d (inr one) (inr other) = first_is_same Applies es otherwise c d one.1 other.1
 
--- what was made of a choice is what was made of the one that is chosen
-pub chosen_made : {K R : Type 0} (IsChoice : Choice K R → Type 0) (P : Made K R → Type 0) (chosen : Choice K R) (found : Option (Made K R))
-    → IsChoice chosen → ((d : Choice K R) → IsChoice d → chosen ≡ d)
-    → ((m : Made K R) → (found ≡ Some m) ↔ ((m.choice ≡ chosen) × P m))
+-- what was made of a choice that is meant is what was made of the one that is chosen
+pub chosen_made : {K R : Type 0} (IsChoice : Choice K R → Type 0) (Matches : Choice K R → Type 0) (P : Made K R → Type 0) (chosen : Choice K R) (found : Option (Made K R))
+    → IsChoice chosen → ((d : Choice K R) → IsChoice d → chosen ≡ d) → ((d : Choice K R) → IsChoice d → Matches d)
+    → ((m : Made K R) → (found ≡ Some m) ↔ ((m.choice ≡ chosen) × (Matches m.choice × P m)))
     → (m : Made K R) → (found ≡ Some m) ↔ (IsChoice m.choice × P m)
-chosen_made IsChoice P chosen found is unique test m = (
-  (λ e. let both = (test m).0 e in (subst IsChoice (sym both.0) is, both.1)),
-  (λ both. (test m).1 (sym (unique m.choice both.0), both.1)),
+chosen_made IsChoice Matches P chosen found is unique matches test m = (
+  (λ e. let both = (test m).0 e in (subst IsChoice (sym both.0) is, both.1.1)),
+  (λ both. (test m).1 (sym (unique m.choice both.0), (matches m.choice both.0, both.1))),
 )

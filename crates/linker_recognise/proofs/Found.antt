@@ -4,19 +4,18 @@ use Rattle.std.proofs.lemmas.Bool.{cases_lt, cases_eq}
 use Rattle.std.proofs.lemmas.List.{get_or-set_same, get_or-set_other, length-set}
 use Rattle.linker_elf.specs.Choices.{choice}
 use Rattle.linker_elf.specs.declared.elf.choice.Choice.{Choice}
+use Rattle.linker_recognise.proofs.Tables.{behind}
+use Rattle.linker_recognise.specs.Inner.Found.{IsMeant, AreFoundOfFirst, IsBefore}
+use Rattle.linker_recognise.specs.Recognised.{Recogniser, choices_at, IsChosen, IsMade, IsFound, IsOneOf, AreThose, ArePlaced, IsFirstPlace, AreDistinct}
 use Rattle.linker_elf.specs.declared.elf.choice.LinkFacts.{LinkFacts}
-use Rattle.linker_elf.specs.Inner.ChoiceTables.{IsTableOf}
-use Rattle.linker_elf.specs.declared.elf.choice_table.ChoiceEntry.{ChoiceEntry}
 use Rattle.linker_recognise.proofs.Chosen.{first_is_listed}
-use Rattle.linker_recognise.proofs.Tables.{same_choices, behind}
-use Rattle.linker_recognise.specs.Inner.Found.{IsMeant, AreFoundOfFirst, AreFoundOf, choices_in}
-use Rattle.linker_recognise.specs.Recognised.{Recogniser, choices_at, IsChosen, IsMade, IsFound, IsOneOf, AreThose, ArePlaced}
-use Rattle.linker_recognise.specs.declared.engine.Made.{Made}
+use Rattle.linker_recognise.specs.Inner.Laws.{ChosenMatches}
 use Rattle.linker_recognise.specs.declared.fields.FieldBits.{FieldBits}
+use Rattle.linker_recognise.specs.declared.engine.Made.{Made}
 
 -- ---- places in lists
 
-some_same : {A : Type 0} (a b : A) → Some a ≡ Some b → a ≡ b
+pub some_same : {A : Type 0} (a b : A) → Some a ≡ Some b → a ≡ b
 some_same a b e = cc
 
 pub not_none : {A : Type 0} (x : Option A) (a : A) → x ≡ None → x ≡ Some a → ⊥
@@ -43,7 +42,7 @@ one_of a [] i e = absurd (not_none None a refl e)
 one_of a (x ∷ xs) zero e = inl (some_same x a e)
 one_of a (x ∷ xs) (suc i) e = inr (one_of a xs i e)
 
-inside : {A : Type 0} (a : A) (xs : List (Option A)) (i : ℕ) → get_or xs i None ≡ Some a → i < length xs
+pub inside : {A : Type 0} (a : A) (xs : List (Option A)) (i : ℕ) → get_or xs i None ≡ Some a → i < length xs
 inside a [] i e = absurd (not_none None a refl e)
 inside a (x ∷ xs) zero e = omega arith
 inside a (x ∷ xs) (suc i) e = let h = inside a xs i e in omega arith
@@ -88,10 +87,10 @@ module _ {A B : Type 0} (of : B → A) (IsSo : B → Type 0) (choices : List A) 
       }
 
   -- the same choice is listed before
-  pub same_again : (found : List (Option B)) (n j : ℕ) (c : A) → AreFoundOfFirst of IsSo choices found n → slice_get choices n ≡ Some c
-      → j < n → slice_get choices j ≡ Some c → AreFoundOfFirst of IsSo choices found (n + 1)
-  same_again found n j c were at before again =
-      found_before found n c were at (λ b e is. were.all j b before (again ∙ ap Some (sym e)) is)
+  pub same_again : (found : List (Option B)) (n : ℕ) (c : A) → AreFoundOfFirst of IsSo choices found n → slice_get choices n ≡ Some c
+      → IsBefore c choices n → AreFoundOfFirst of IsSo choices found (n + 1)
+  same_again found n c were at before =
+      found_before found n c were at (λ b e is. were.all before.0 b before.1 (before.2 ∙ ap Some (sym e)) is)
 
   -- it isn't so
   pub not_so : (found : List (Option B)) (n : ℕ) (c : A) → AreFoundOfFirst of IsSo choices found n → slice_get choices n ≡ Some c
@@ -100,13 +99,14 @@ module _ {A B : Type 0} (of : B → A) (IsSo : B → Type 0) (choices : List A) 
 
   -- what is so of the next choice, if anything is
   pub one_more : (found : List (Option B)) (n : ℕ) (c : A) (y : Option B) → AreFoundOfFirst of IsSo choices found n → slice_get choices n ≡ Some c
+      → (IsBefore c choices n → ⊥)
       → n < 6 → ((b : B) → (y ≡ Some b) ↔ ((of b ≡ c) × IsSo b)) → AreFoundOfFirst of IsSo choices (set found n y) (n + 1)
-  one_more found n c y were at room test =
+  one_more found n c y were at apart room test =
       record {
         lengths = length-set found n y ∙ were.lengths;
         first = λ i b e. either i b e (i < n + 1) (λ same is. omega (arith, same)) (λ other was. let h = were.first i b was in omega arith);
-        placed = λ i b e. either i b e (slice_get choices i ≡ Some (of b))
-            (λ same is. ap (slice_get choices) same ∙ at ∙ ap Some (sym ((test b).0 is).0)) (λ other was. were.placed i b was);
+        placed = λ i b e. either i b e (IsFirstPlace (of b) choices i)
+            (λ same is. first_here i b same is) (λ other was. were.placed i b was);
         so = λ i b e. either i b e (IsSo b) (λ same is. ((test b).0 is).1) (λ other was. were.so i b was);
         all = λ i b h e is. ⊎_elim
             (λ below. let had = were.all i b below e is in (had.0, get_or-set_other found n had.0 y None (let less = were.first had.0 b had.1 in λ s. omega (arith, less, s)) ∙ had.1))
@@ -123,57 +123,55 @@ module _ {A B : Type 0} (of : B → A) (IsSo : B → Type 0) (choices : List A) 
           ⊎_elim (λ h. same h (sym (get_or-set_same found n y None (omega (arith, were.lengths, room))) ∙ ap (λ k. get_or (set found n y) k None) (sym h) ∙ e))
           (λ h. other h (sym (get_or-set_other found n i y None h) ∙ e)) (cases_eq i n)
 
+      first_here : (i : ℕ) (b : B) → i ≡ n → y ≡ Some b → IsFirstPlace (of b) choices i
+      first_here i b same is = record {
+        here = ap (slice_get choices) same ∙ at ∙ ap Some (sym ((test b).0 is).0);
+        not_before = λ j below there. apart (j, omega (arith, below, same), there ∙ ap Some ((test b).0 is).0);
+      }
+
   -- ---- all of them
 
-  those_found : (found : List (Option B)) → AreFoundOf of IsSo choices found → AreThose (λ b. IsOneOf (of b) choices × IsSo b) found
-  those_found found were =
+  pub those_found : (found : List (Option B)) (n : ℕ) → AreFoundOfFirst of IsSo choices found n → length choices ≤ n → AreThose (λ b. IsOneOf (of b) choices × IsSo b) found
+  those_found found n were end =
       record {
-        only = λ b h. let at = place_of b found h in (one_of (of b) choices at.0 (were.placed at.0 b at.1), were.so at.0 b at.1);
+        only = λ b h. let at = place_of b found h in (one_of (of b) choices at.0 (were.placed at.0 b at.1).here, were.so at.0 b at.1);
         all = λ b is.
             let at = place_in (of b) choices is.0 in
-            let had = were.all at.0 b (behind (of b) choices at.0 at.1) at.1 is.1 in
+            let had = were.all at.0 b (let h = behind (of b) choices at.0 at.1 in omega (arith, h, end)) at.1 is.1 in
             at_place b found had.0 had.1;
       }
 
-  -- where no choice is left
-  pub none_left : (found : List (Option B)) (n : ℕ) → AreFoundOfFirst of IsSo choices found n → length choices ≤ n → AreFoundOf of IsSo choices found
-  none_left found n were end =
-      record {
-        lengths = were.lengths;
-        first = λ i b e. behind (of b) choices i (were.placed i b e);
-        placed = were.placed;
-        so = were.so;
-        all = λ i b h e is. were.all i b (omega (arith, h, end)) e is;
-      }
+-- ---- of a table
 
--- ---- by the table of the definition
+-- no two have the same choice
+pub are_distinct : {K R : Type 0} (choices : List (Choice K R)) (found : List (Option (Made K R))) → ArePlaced choices found → AreDistinct found
+are_distinct choices found placed i j m n e f same =
+    ⊎_elim
+    (λ before. absurd ((placed j n f).not_before i before ((placed i m e).here ∙ ap Some same)))
+    (λ from. ⊎_elim
+    (λ after. absurd ((placed i m e).not_before j after ((placed j n f).here ∙ ap Some (sym same))))
+    (λ upto. omega (arith, from, upto))
+    (cases_lt j i))
+    (cases_lt i j)
 
-module _ {O K R : Type 0} (it : Recogniser K R) (name : R) (original : List ℕ) (o : ℕ) (others : List FieldBits) (linked : List ℕ)
-    (are_at : O → K → List ℕ → ℕ → Type 0) (Asked : K → List ℕ → ℕ → Type 0) (es : List (ChoiceEntry O K R)) (found : List (Option (Made K R)))
-    (table : IsTableOf are_at Asked es (it.entries name original o))
-    (were : AreFoundOf (λ (m : Made K R). m.choice) (IsMeant it original o others linked) (choices_in es (choice it.no_op name)) found) where
-  same : choices_in es (choice it.no_op name) ≡ choices_at it name original o
-  same = same_choices are_at Asked es (it.entries name original o) (choice it.no_op name) table
-
-  pub found_by_table : AreThose (IsFound it name original o others linked) found
-  found_by_table =
-      let those = those_found (λ (m : Made K R). m.choice) (IsMeant it original o others linked) (choices_in es (choice it.no_op name)) found were in
-      record {
-        only = λ m h. let is = those.only m h in record { listed = subst (IsOneOf m.choice) same is.0; matches = is.1.0; made = is.1.1 };
-        all = λ m is. those.all m (subst (IsOneOf m.choice) (sym same) is.listed, (is.matches, is.made));
-      }
-
-  pub placed_by_table : ArePlaced (choices_at it name original o) found
-  placed_by_table i m e = subst (λ cs. slice_get cs i ≡ Some m.choice) same (were.placed i m e)
+pub found_in_table : {K R : Type 0} (it : Recogniser K R) (name : R) (original : List ℕ) (o : ℕ) (others : List FieldBits) (linked : List ℕ) (found : List (Option (Made K R))) (n : ℕ)
+    → AreFoundOfFirst (λ (m : Made K R). m.choice) (IsMeant it original o others linked) (choices_at it name original o) found n
+    → length (choices_at it name original o) ≤ n → AreThose (IsFound it name original o others linked) found
+found_in_table {K} {R} it name original o others linked found n were end =
+    let those = those_found (λ (m : Made K R). m.choice) (IsMeant it original o others linked) (choices_at it name original o) found n were end in
+    record {
+      only = λ m h. let is = those.only m h in record { listed = is.0; matches = is.1.0; made = is.1.1 };
+      all = λ m is. those.all m (is.listed, (is.matches, is.made));
+    }
 
 -- what is chosen is one of those that were found
 pub chosen_found : {K R : Type 0} (it : Recogniser K R) (name : R) (original : List ℕ) (o : ℕ) (others : List FieldBits) (linked : List ℕ) (found : List (Option (Made K R)))
-    → ((s : List ℕ) (o : ℕ) (facts : LinkFacts) (c : Choice K R) → IsChosen it name s o facts c → it.matches c.kind s o)
+    → ChosenMatches it
     → AreThose (IsFound it name original o others linked) found
     → (facts : LinkFacts) (m : Made K R) → IsChosen it name original o facts m.choice → IsMade it original o others linked m → IsOneOf (Some m) found
 chosen_found it name original o others linked found chosen_matches those facts m is made =
     those.all m (record {
       listed = first_is_listed (it.applies name original o facts) (it.entries name original o) (choice it.no_op name) m.choice is;
-      matches = chosen_matches original o facts m.choice is;
+      matches = chosen_matches name original o facts m.choice is;
       made = made;
     })

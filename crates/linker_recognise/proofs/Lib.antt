@@ -1,6 +1,7 @@
 pub mod Chosen
 pub mod FieldBits
 pub mod Found
+pub mod Masked
 pub mod Read
 pub mod Same
 pub mod Tables

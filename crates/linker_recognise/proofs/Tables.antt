@@ -1,12 +1,12 @@
 -- The choices of the code's entries are those of the definition's.
-use Rattle.std.proofs.Common.{◌≡◌, ◌≤◌, ◌<◌, ◌+◌, ℕ, zero, suc, List, [], ◌∷◌, Some, None, length, map, take, get_or, slice_get, refl, inl, inr, ap, ◌∙◌, arith}
+use Rattle.std.proofs.Common.{◌≡◌, ◌≤◌, ◌<◌, ◌+◌, ℕ, zero, suc, List, [], ◌∷◌, Option, Some, None, length, get_or, slice_get, refl, ap, subst, ◌∙◌, arith}
 use Rattle.std.proofs.lemmas.Option.{none-some}
 use Rattle.linker_elf.specs.Choices.{Entry, choice}
 use Rattle.linker_elf.specs.Inner.ChoiceTables.{IsTableOf}
 use Rattle.linker_elf.specs.declared.elf.choice.Choice.{Choice}
 use Rattle.linker_elf.specs.declared.elf.choice_table.ChoiceEntry.{ChoiceEntry}
-use Rattle.linker_recognise.specs.Inner.Found.{choice_in, choices_in}
-use Rattle.linker_recognise.specs.Recognised.{IsOneOf, choices_of}
+use Rattle.linker_recognise.specs.Inner.Found.{choices_in}
+use Rattle.linker_recognise.specs.Recognised.{Recogniser, choices_of, choices_at}
 
 pub one_more : {O K R : Type 0} → (es : List (ChoiceEntry O K R)) (otherwise : Choice K R)
     → length (choices_in es otherwise) ≡ length es + 1
@@ -23,11 +23,11 @@ same_choices are_at Asked (e ∷ es) (d ∷ ds) otherwise table =
     ap (λ x. choice x.kind x.relocation ∷ choices_in es otherwise) table.0
     ∙ ap (λ l. choice d.kind d.relocation ∷ l) (same_choices are_at Asked es ds otherwise table.1.1)
 
-pub at_entry : {O K R : Type 0} → (es : List (ChoiceEntry O K R)) (otherwise : Choice K R) (i : ℕ) (e : ChoiceEntry O K R)
-    → i < length es → e ≡ get_or es i e → Some (choice e.kind e.relocation) ≡ slice_get (choices_in es otherwise) i
-at_entry [] otherwise i e within is = absurd (omega (arith, within))
-at_entry (d ∷ es) otherwise zero e within is = ap (λ x. Some (choice x.kind x.relocation)) is
-at_entry (d ∷ es) otherwise (suc i) e within is = at_entry es otherwise i e (omega (arith, within)) is
+pub at_entry : {O K R : Type 0} → (es : List (ChoiceEntry O K R)) (otherwise : Choice K R) (i : ℕ) (d e : ChoiceEntry O K R)
+    → i < length es → Some (choice (get_or es i d).kind (get_or es i e).relocation) ≡ slice_get (choices_in es otherwise) i
+at_entry [] otherwise i d e within = absurd (omega (arith, within))
+at_entry (x ∷ es) otherwise zero d e within = refl
+at_entry (x ∷ es) otherwise (suc i) d e within = at_entry es otherwise i d e (omega (arith, within))
 
 pub at_end : {O K R : Type 0} → (es : List (ChoiceEntry O K R)) (otherwise : Choice K R) (i : ℕ)
     → i ≡ length es → Some otherwise ≡ slice_get (choices_in es otherwise) i
@@ -48,24 +48,14 @@ behind a [] i e = absurd (none-some a e)
 behind a (x ∷ xs) zero e = omega arith
 behind a (x ∷ xs) (suc i) e = let h = behind a xs i e in omega arith
 
--- one of the first entries' choices has its place
-pub listed_before : {O K R : Type 0} → (es : List (ChoiceEntry O K R)) (otherwise : Choice K R) (n : ℕ) (c : Choice K R)
-    → IsOneOf c (map choice_in (take n es)) → (j : ℕ) × ((j < n) × (slice_get (choices_in es otherwise) j ≡ Some c))
-listed_before es otherwise zero c h = absurd h
-listed_before [] otherwise (suc n) c h = absurd h
-listed_before (e ∷ es) otherwise (suc n) c (inl is) = (0, (omega arith, ap Some is))
-listed_before (e ∷ es) otherwise (suc n) c (inr h) =
-    let rest = listed_before es otherwise n c h in (suc rest.0, (omega (arith, rest.1.0), rest.1.1))
+-- the choices of the code's entries by the table of the definition
+module _ {O K R : Type 0} (it : Recogniser K R) (name : R) (section : List ℕ) (at : ℕ) (are_at : O → K → List ℕ → ℕ → Type 0)
+    (Asked : K → List ℕ → ℕ → Type 0) (es : List (ChoiceEntry O K R)) (table : IsTableOf are_at Asked es (it.entries name section at)) where
+  same : choices_in es (choice it.no_op name) ≡ choices_at it name section at
+  same = same_choices are_at Asked es (it.entries name section at) (choice it.no_op name) table
 
--- what has a place is an entry's choice or the last one
-pub within_entries : {O K R : Type 0} → (es : List (ChoiceEntry O K R)) (otherwise : Choice K R) (i : ℕ) (c : Choice K R)
-    → slice_get (choices_in es otherwise) i ≡ Some c → i ≤ length es
-within_entries es otherwise i c at =
-    let h = behind c (choices_in es otherwise) i at in omega (arith, h, one_more es otherwise)
+  pub listed_at : (i : ℕ) (c : Option (Choice K R)) → c ≡ slice_get (choices_in es (choice it.no_op name)) i → c ≡ slice_get (choices_at it name section at) i
+  listed_at i c is = is ∙ ap (λ cs. slice_get cs i) same
 
--- the choice of an entry by its index
-pub one_entry : {O K R : Type 0} → (es : List (ChoiceEntry O K R)) (i : ℕ) (d : ChoiceEntry O K R) (c : Choice K R)
-    → i < length es → choice_in (get_or es i d) ≡ c → IsOneOf c (map choice_in es)
-one_entry [] i d c h e = absurd (omega (arith, h))
-one_entry (x ∷ es) zero d c h e = inl e
-one_entry (x ∷ es) (suc i) d c h e = inr (one_entry es i d c (omega (arith, h)) e)
+  pub few_listed : length es ≤ 5 → length (choices_at it name section at) ≤ 6
+  few_listed few = subst (λ cs. length cs ≤ 6) same (omega (arith, few, one_more es (choice it.no_op name)))

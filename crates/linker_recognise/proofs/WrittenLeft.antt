@@ -6,6 +6,7 @@ use Rattle.std.proofs.lemmas.Bool.{cases_lt, lt-ltb, le-ltb}
 use Rattle.std.proofs.lemmas.List.{get_or_append_left, get_or-append_right, get_or-take, get_or-drop, length-take-le}
 use Rattle.linker_base.specs.Rewrite.{rewritten, offset_after}
 use Rattle.linker_elf.specs.declared.elf.RelocationKindInfo.{RelocationKindInfo}
+use Rattle.linker_utils.specs.Architectures.{relaxation_rewrite, relaxation_deleted}
 use Rattle.linker_recognise.specs.Fields.{is_in_field, is_in_one, kept_index, AreSameBut}
 use Rattle.linker_recognise.specs.Recognised.{Recogniser, AreLeft, deleted_start, deleted_count}
 use Rattle.linker_recognise.specs.WrittenRows.{WrittenIsLeft, without_deleted}
@@ -64,11 +65,12 @@ left_without row deleted section whole at o others inside left =
 
 pub written_choice_is_left : {K R : Type 0} (it : Recogniser K R) → WrittenIsLeft it
 written_choice_is_left it c row original o v written others e can inside room bytes writes =
-    let section = rewritten (it.rewrite c.kind) original o in
-    let at = offset_after (it.rewrite c.kind) o in
+    let section = rewritten (relaxation_rewrite (it.relaxation c.kind)) original o in
+    let at = offset_after (relaxation_rewrite (it.relaxation c.kind)) o in
+    let deleted = relaxation_deleted (it.relaxation c.kind) in
     let left = written_is_left row section written at o others inside (row_changes_field row v (drop at section) written bytes writes) in
     record {
       rewritable = can;
-      left = subst (λ (found : Option RelocationKindInfo). AreLeft section at found (it.deleted c.kind) o others (without_deleted (it.deleted c.kind) o (take at section ++ written))) (sym e)
-          (left_without (Some row) (it.deleted c.kind) section (take at section ++ written) at o others room left);
+      left = subst (λ (found : Option RelocationKindInfo). AreLeft section at found deleted o others (without_deleted deleted o (take at section ++ written))) (sym e)
+          (left_without (Some row) deleted section (take at section ++ written) at o others room left);
     }

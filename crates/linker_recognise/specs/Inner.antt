@@ -1,2 +1,4 @@
+pub mod Equality
 pub mod Found
+pub mod Laws
 pub mod Masks

@@ -1,7 +1,7 @@
 -- What a linker made of a relocation: the choices of a rewrite that leave the linked bytes.
-use Rattle.std.specs.Prelude.{◌≡◌, ◌⊎◌, ◌≤◌, ◌+◌, ◌-◌, ℕ, List, [], ◌∷◌, length, drop, min}
-use Rattle.std.specs.Prelude.{Option, Some, None, ⊤, slice_get, slice_index_or}
-use Rattle.linker_base.specs.Rewrite.{Rewrite, CanRewrite, rewritten, offset_after}
+use Rattle.std.specs.Prelude.{◌≡◌, ◌≢◌, ◌⊎◌, ◌≤◌, ◌<◌, ◌+◌, ◌-◌, ℕ, List, [], ◌∷◌, length}
+use Rattle.std.specs.Prelude.{Option, Some, None, ⊤, drop, min, slice_get, slice_index_or}
+use Rattle.linker_base.specs.Rewrite.{CanRewrite, rewritten, offset_after}
 use Rattle.linker_elf.specs.Relocate.{window_len}
 use Rattle.linker_elf.specs.declared.elf.RelocationKindInfo.{RelocationKindInfo}
 use Rattle.linker_reads.specs.Reading.{value_read}
@@ -13,6 +13,8 @@ use Rattle.linker_elf.specs.Choices.{Entry, IsFirst, choice}
 use Rattle.linker_elf.specs.ElfNames.{ElfName}
 use Rattle.linker_elf.specs.declared.elf.choice.Choice.{Choice}
 use Rattle.linker_elf.specs.declared.elf.choice.LinkFacts.{LinkFacts}
+use Rattle.linker_utils.specs.Architectures.{relaxation_rewrite, relaxation_deleted}
+use Rattle.linker_utils.specs.Architectures.{relaxation_matches}
 use Rattle.linker_utils.specs.declared.architecture.Relaxation.{Relaxation}
 use Rattle.linker_base.specs.declared.rewrite.DeletedBytes.{DeletedBytes}
 
@@ -45,12 +47,12 @@ pub record AreLeft (after : List ℕ) (at : ℕ) (row : Option RelocationKindInf
       after linked
 
 -- They do so from what a rewrite makes of the original. The row is that of the relocation after it.
-pub record IsLeft (rewrite : Option Rewrite) (row : Option RelocationKindInfo)
-    (deleted : Option DeletedBytes) (original : List ℕ) (o : ℕ) (others : List FieldBits)
-    (linked : List ℕ) : Type 0 where
-  pub rewritable : CanRewrite rewrite original o
+pub record IsLeft (kind : Relaxation) (row : Option RelocationKindInfo) (original : List ℕ)
+    (o : ℕ) (others : List FieldBits) (linked : List ℕ) : Type 0 where
+  pub rewritable : CanRewrite (relaxation_rewrite kind) original o
   pub left :
-      AreLeft (rewritten rewrite original o) (offset_after rewrite o) row deleted o others linked
+      AreLeft (rewritten (relaxation_rewrite kind) original o)
+      (offset_after (relaxation_rewrite kind) o) row (relaxation_deleted kind) o others linked
 
 -- ---- what stands in the field
 
@@ -65,16 +67,16 @@ value_at (Some row) at linked = value_read row (drop at linked)
 
 -- The field of the relocation after a rewrite at an offset: where it is in the linked bytes, and
 -- what is known of the value from it.
-pub record IsRead (rewrite : Option Rewrite) (row : Option RelocationKindInfo)
-    (deleted : Option DeletedBytes) (o : ℕ) (linked : List ℕ) (at : ℕ) (value : Option FieldValue)
-    : Type 0 where
-  pub at_is : at ≡ linked_offset deleted o (offset_after rewrite o)
+pub record IsRead (kind : Relaxation) (row : Option RelocationKindInfo) (o : ℕ)
+    (linked : List ℕ) (at : ℕ) (value : Option FieldValue) : Type 0 where
+  pub at_is :
+      at ≡ linked_offset (relaxation_deleted kind) o (offset_after (relaxation_rewrite kind) o)
   pub value_is : value ≡ value_at row at linked
 
 -- ---- what an architecture brings
 
--- What is recognised of an architecture: its tables, rewrites and relocations. K are its rewrites, R
--- the names of its relocations.
+-- What is recognised of an architecture: its tables and relocations. K are its rewrites, R the names
+-- of its relocations.
 pub record Recogniser (K R : Type 0) : Type 1 where
   -- the entries of the table at a relocation at an offset of bytes, and whether one of them applies
   -- by what a linker knows
@@ -82,11 +84,6 @@ pub record Recogniser (K R : Type 0) : Type 1 where
   pub applies : R → List ℕ → ℕ → LinkFacts → Entry K R → Type 0
   -- the rewrite that changes nothing
   pub no_op : K
-  -- a rewrite is meant for what is at an offset
-  pub matches : K → List ℕ → ℕ → Type 0
-  pub rewrite : K → Option Rewrite
-  -- the bytes that are deleted after a rewrite
-  pub deleted : K → Option DeletedBytes
   pub row : R → Option RelocationKindInfo
   -- how ELF names a relocation
   pub elf_name : R → ElfName
@@ -123,17 +120,15 @@ IsChosen it name original o facts c =
 pub record IsMade {K R : Type 0} (it : Recogniser K R) (original : List ℕ) (o : ℕ)
     (others : List FieldBits) (linked : List ℕ) (m : Made K R) : Type 0 where
   pub leaves :
-      IsLeft (it.rewrite m.choice.kind) (it.row m.choice.relocation) (it.deleted m.choice.kind)
-      original o others linked
+      IsLeft (it.relaxation m.choice.kind) (it.row m.choice.relocation) original o others linked
   pub reads :
-      IsRead (it.rewrite m.choice.kind) (it.row m.choice.relocation) (it.deleted m.choice.kind) o
-      linked m.offset m.value
+      IsRead (it.relaxation m.choice.kind) (it.row m.choice.relocation) o linked m.offset m.value
 
 -- It is one of the choices at a relocation, its rewrite is meant for what is there, and it was made.
 pub record IsFound {K R : Type 0} (it : Recogniser K R) (name : R) (original : List ℕ) (o : ℕ)
     (others : List FieldBits) (linked : List ℕ) (m : Made K R) : Type 0 where
   pub listed : IsOneOf m.choice (choices_at it name original o)
-  pub matches : it.matches m.choice.kind original o
+  pub matches : relaxation_matches (it.relaxation m.choice.kind) original o
   pub made : IsMade it original o others linked m
 
 -- Those that were found are those that are so.
@@ -141,8 +136,18 @@ pub record AreThose {A : Type 0} (IsSo : A → Type 0) (found : List (Option A))
   pub only : (a : A) → IsOneOf (Some a) found → IsSo a
   pub all : (a : A) → IsSo a → IsOneOf (Some a) found
 
--- Each of those that were found has the place of its choice.
+-- the first place of something in a list
+pub record IsFirstPlace {A : Type 0} (a : A) (list : List A) (i : ℕ) : Type 0 where
+  pub here : slice_get list i ≡ Some a
+  pub not_before : (j : ℕ) → j < i → slice_get list j ≢ Some a
+
+-- Each of those that were found has the first place of its choice.
 abbrev pub ArePlaced : {K R : Type 0} → List (Choice K R) → List (Option (Made K R)) → Type 0
 ArePlaced {K} {R} choices found =
-    (i : ℕ) (m : Made K R) → slice_index_or found i None ≡ Some m
-    → slice_get choices i ≡ Some m.choice
+    (i : ℕ) (m : Made K R) → slice_index_or found i None ≡ Some m → IsFirstPlace m.choice choices i
+
+-- No two of those that were found have the same choice.
+abbrev pub AreDistinct : {K R : Type 0} → List (Option (Made K R)) → Type 0
+AreDistinct {K} {R} found =
+    (i j : ℕ) (m n : Made K R) → slice_index_or found i None ≡ Some m
+    → slice_index_or found j None ≡ Some n → m.choice ≡ n.choice → i ≡ j

@@ -1,8 +1,6 @@
 -- What is recognised of each architecture.
-use Rattle.std.specs.Prelude.{ℕ, ◌-◌, List, None, slice_index}
+use Rattle.std.specs.Prelude.{ℕ, ◌-◌, List, slice_index}
 use Rattle.linker_aarch64.specs.AArch64Rewrites.{AArch64Applies, aarch64_entries}
-use Rattle.linker_aarch64.specs.AArch64Rewrites.{aarch64_matches}
-use Rattle.linker_aarch64.specs.AArch64Rewrites.{aarch64_rewrite}
 use Rattle.linker_aarch64.specs.declared.rewrites.RelaxationKind.TheVariants as of_aarch64
 use Rattle.linker_aarch64.specs.declared.rewrites.RelaxationKind.{RelaxationKind as AArch64Kind}
 use Rattle.linker_elf.specs.AArch64Relocations.{aarch64_name, aarch64_row}
@@ -17,25 +15,17 @@ use Rattle.linker_elf.specs.declared.ppc64.relocations.Ppc64Relocation.{Ppc64Rel
 use Rattle.linker_elf.specs.declared.riscv64.relocations.RiscVRelocation.{RiscVRelocation}
 use Rattle.linker_elf.specs.declared.x86_64.relocations.X86_64Relocation.{X86_64Relocation}
 use Rattle.linker_loongarch64.specs.LoongArchRewrites.{LoongArchApplies, loongarch_entries}
-use Rattle.linker_loongarch64.specs.LoongArchRewrites.{loongarch_matches}
-use Rattle.linker_loongarch64.specs.LoongArchRewrites.{loongarch_rewrite, loongarch_deleted}
 use Rattle.linker_loongarch64.specs.declared.rewrites.RelaxationKind.TheVariants as of_loongarch
 use Rattle.linker_loongarch64.specs.declared.rewrites.RelaxationKind.{RelaxationKind as LoongArchKind}
 use Rattle.linker_ppc64.specs.Ppc64Rewrites.{Ppc64Applies, ppc64_entries}
-use Rattle.linker_ppc64.specs.Ppc64Rewrites.{ppc64_matches}
-use Rattle.linker_ppc64.specs.Ppc64Rewrites.{ppc64_rewrite}
 use Rattle.linker_ppc64.specs.declared.rewrites.RelaxationKind.TheVariants as of_ppc64
 use Rattle.linker_ppc64.specs.declared.rewrites.RelaxationKind.{RelaxationKind as Ppc64Kind}
 use Rattle.linker_recognise.specs.Recognised.{Recogniser}
 use Rattle.linker_riscv64.specs.RiscVRewrites.{AppliesToRiscV, IsAskedFor, riscv_entries, riscv_row_of}
-use Rattle.linker_riscv64.specs.RiscVRewrites.{riscv_matches}
-use Rattle.linker_riscv64.specs.RiscVRewrites.{riscv_rewrite, riscv_deleted}
 use Rattle.linker_riscv64.specs.declared.rewrites.RelaxationKind.TheVariants as of_riscv
 use Rattle.linker_riscv64.specs.declared.rewrites.RelaxationKind.{RelaxationKind as RiscVKind}
 use Rattle.linker_utils.specs.declared.architecture.Relaxation.TheVariants as relaxations
-use Rattle.linker_x86_64.specs.X86Rewrites.{x86_64_rewrite}
 use Rattle.linker_x86_64.specs.X86Rewrites.{Table, IsAskedFor as IsAskedForByX86, x86_64_after, x86_64_table}
-use Rattle.linker_x86_64.specs.X86Rewrites.{x86_64_matches}
 use Rattle.linker_x86_64.specs.declared.rewrites.RelaxationKind.TheVariants as of_x86_64
 use Rattle.linker_x86_64.specs.declared.rewrites.RelaxationKind.{RelaxationKind as X86Kind}
 
@@ -45,9 +35,6 @@ aarch64 =
       entries = λ name original o. aarch64_entries name;
       applies = AArch64Applies;
       no_op = of_aarch64.NoOp;
-      matches = aarch64_matches;
-      rewrite = aarch64_rewrite;
-      deleted = λ kind. None;
       row = aarch64_row;
       elf_name = aarch64_name;
       relaxation = relaxations.AArch64;
@@ -59,9 +46,6 @@ riscv =
       entries = λ name original o. riscv_entries name;
       applies = λ name. AppliesToRiscV (IsAskedFor name);
       no_op = of_riscv.NoOp;
-      matches = riscv_matches;
-      rewrite = riscv_rewrite;
-      deleted = riscv_deleted;
       row = riscv_row_of;
       elf_name = riscv_name;
       relaxation = relaxations.RiscV;
@@ -73,9 +57,6 @@ loongarch =
       entries = λ name original o. loongarch_entries name;
       applies = LoongArchApplies;
       no_op = of_loongarch.NoOp;
-      matches = loongarch_matches;
-      rewrite = loongarch_rewrite;
-      deleted = loongarch_deleted;
       row = loongarch_row;
       elf_name = loongarch_name;
       relaxation = relaxations.LoongArch64;
@@ -87,9 +68,6 @@ ppc64 =
       entries = λ name original o. ppc64_entries name;
       applies = λ name. Ppc64Applies;
       no_op = of_ppc64.NoOp;
-      matches = ppc64_matches;
-      rewrite = ppc64_rewrite;
-      deleted = λ kind. None;
       row = ppc64_row;
       elf_name = ppc64_name;
       relaxation = relaxations.Ppc64;
@@ -107,9 +85,6 @@ x86_64 =
           Applies (IsAskedForByX86 (x86_64_table_at name original o).instructions) x86_64_row
           x86_64_after original o;
       no_op = of_x86_64.NoOp;
-      matches = x86_64_matches;
-      rewrite = x86_64_rewrite;
-      deleted = λ kind. None;
       row = x86_64_row;
       elf_name = x86_64_name;
       relaxation = relaxations.X86_64;

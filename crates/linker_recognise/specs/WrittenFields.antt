@@ -1,5 +1,5 @@
 -- What a write of a relocation's value leaves is what is recognised.
-use Rattle.std.specs.Prelude.{◌≡◌, ◌≤◌, ℕ, List, ◌++◌, length, take, drop, ℤ, None, Some}
+use Rattle.std.specs.Prelude.{◌≡◌, ◌≤◌, ℕ, List, ◌++◌, length, take, drop, ℤ, Some}
 use Rattle.linker_base.specs.Rewrite.{CanRewrite, rewritten, offset_after}
 use Rattle.linker_elf.specs.Relocate.{WritesRow}
 use Rattle.linker_elf.specs.X86Relocations.{x86_64_row}
@@ -9,6 +9,7 @@ use Rattle.linker_elf.specs.declared.x86_64.relocations.X86_64Relocation.{X86_64
 use Rattle.linker_recognise.specs.Fields.{AreSameButFor}
 use Rattle.linker_recognise.specs.Recognised.{IsLeft}
 use Rattle.linker_recognise.specs.declared.fields.FieldBits.{FieldBits}
+use Rattle.linker_utils.specs.declared.architecture.Relaxation.TheVariants.{X86_64}
 use Rattle.linker_x86_64.specs.X86Rewrites.{x86_64_rewrite}
 use Rattle.linker_x86_64.specs.declared.rewrites.RelaxationKind.{RelaxationKind}
 
@@ -29,6 +30,6 @@ X86WrittenIsLeft =
     → WritesRow row v
     (drop (offset_after (x86_64_rewrite c.kind) o) (rewritten (x86_64_rewrite c.kind) original o))
     written
-    → IsLeft (x86_64_rewrite c.kind) (x86_64_row c.relocation) None original o others
+    → IsLeft (X86_64 c.kind) (x86_64_row c.relocation) original o others
     (take (offset_after (x86_64_rewrite c.kind) o) (rewritten (x86_64_rewrite c.kind) original o)
     ++ written)

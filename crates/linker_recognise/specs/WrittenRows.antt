@@ -8,6 +8,7 @@ use Rattle.linker_recognise.specs.Fields.{AreSameButFor}
 use Rattle.linker_recognise.specs.Recognised.{Recogniser, IsLeft, deleted_start, deleted_count}
 use Rattle.linker_recognise.specs.declared.fields.FieldBits.{FieldBits}
 use Rattle.linker_elf.specs.declared.elf.choice.Choice.{Choice}
+use Rattle.linker_utils.specs.Architectures.{relaxation_rewrite, relaxation_deleted}
 use Rattle.linker_base.specs.declared.rewrite.DeletedBytes.{DeletedBytes}
 
 -- both are bytes, and as many
@@ -35,15 +36,15 @@ abbrev pub WrittenIsLeft : {K R : Type 0} → Recogniser K R → Type 0
 WrittenIsLeft {K} {R} it =
     (c : Choice K R) (row : RelocationKindInfo) (original : List ℕ) (o : ℕ) (v : ℤ)
     (written : List ℕ) (others : List FieldBits)
-    → it.row c.relocation ≡ Some row
-    → CanRewrite (it.rewrite c.kind) original o
-    → offset_after (it.rewrite c.kind) o ≤ length (rewritten (it.rewrite c.kind) original o)
-    → deleted_start (it.deleted c.kind) o + deleted_count (it.deleted c.kind)
-    ≤ length (rewritten (it.rewrite c.kind) original o)
-    → AreBytes (drop (offset_after (it.rewrite c.kind) o) (rewritten (it.rewrite c.kind) original o))
-    written
-    → WritesRow row v
-    (drop (offset_after (it.rewrite c.kind) o) (rewritten (it.rewrite c.kind) original o)) written
-    → IsLeft (it.rewrite c.kind) (it.row c.relocation) (it.deleted c.kind) original o others
-    (without_deleted (it.deleted c.kind) o
-    (take (offset_after (it.rewrite c.kind) o) (rewritten (it.rewrite c.kind) original o) ++ written))
+    → let rewrite = relaxation_rewrite (it.relaxation c.kind) in
+    let deleted = relaxation_deleted (it.relaxation c.kind) in
+    let section = rewritten rewrite original o in
+    let at = offset_after rewrite o in
+    it.row c.relocation ≡ Some row
+    → CanRewrite rewrite original o
+    → at ≤ length section
+    → deleted_start deleted o + deleted_count deleted ≤ length section
+    → AreBytes (drop at section) written
+    → WritesRow row v (drop at section) written
+    → IsLeft (it.relaxation c.kind) (it.row c.relocation) original o others
+    (without_deleted deleted o (take at section ++ written))

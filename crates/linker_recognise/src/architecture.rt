@@ -4,7 +4,7 @@ ghost use Rattle.std.specs.Prelude.{◌≡◌, ◌≤◌, length, map};
 ghost use Rattle.linker_recognise.specs.FoundByCode.{by_code, AreFound, IsFoundChosen};
 ghost use Rattle.linker_utils.specs.Architectures.{of_some};
 
-use crate::engine::{self, CANDIDATES, Made, Rewritten};
+use crate::engine::{self, CANDIDATES, Made, Recognised};
 use crate::fields::FieldBits;
 use linker_utils::aarch64::AArch64Relocation;
 use linker_utils::architecture::Relaxation;
@@ -28,7 +28,7 @@ macro_rules! of_name {
 }
 
 /// The same with the rewrite as one of all architectures', and the relocation's code.
-fn by_code<N: Rewritten>(found: Option<Made<N::Kind, N>>) -> Option<Made<Relaxation, u32>>
+fn by_code<N: Recognised>(found: Option<Made<N::Kind, N>>) -> Option<Made<Relaxation, u32>>
     ensures { result ≡ of_some (by_code N.how) found }
 {
     match found {
@@ -45,7 +45,7 @@ fn by_code<N: Rewritten>(found: Option<Made<N::Kind, N>>) -> Option<Made<Relaxat
 }
 
 /// The same of each.
-fn all_by_code<N: Rewritten>(
+fn all_by_code<N: Recognised>(
     found: [Option<Made<N::Kind, N>>; CANDIDATES],
 ) -> [Option<Made<Relaxation, u32>>; CANDIDATES]
     requires { length found ≡ 6 }

@@ -1,18 +1,20 @@
 //! Which choices of a table leave the linked bytes, and what then stands in the field.
 
 ghost use Rattle.std.specs.Prelude.{◌≡◌, ℕ, ◌-◌, ◌^◌, ◌≤◌, ◌↔◌, IsTrue, IfSome, IfNone};
-ghost use Rattle.std.specs.Prelude.{length, map, min, List, Option, Some, slice_get};
+ghost use Rattle.std.specs.Prelude.{length, min, slice_get, Option, Some};
 ghost use Rattle.linker_base.specs.declared.rewrite.DeletedBytes.{DeletedBytes};
 ghost use Rattle.linker_elf.specs.Choices.{choice};
 ghost use Rattle.linker_elf.specs.ElfNames.{code_of};
 ghost use Rattle.linker_elf.specs.declared.elf.choice.Choice.{Choice};
 ghost use Rattle.linker_elf.specs.declared.elf.choice.LinkFacts.{LinkFacts};
 ghost use Rattle.linker_recognise.specs.Fields.{is_in, is_in_field};
-ghost use Rattle.linker_recognise.specs.Inner.Found.{AreFoundOf, IsMeant, choice_in, choices_in};
+ghost use Rattle.linker_recognise.specs.Inner.Found.{IsMeant, IsBefore, choices_in};
+ghost use Rattle.linker_recognise.specs.Inner.Laws.{AreLawsOf};
 ghost use Rattle.linker_recognise.specs.Recognised.{HasField, AreLeft, deleted_start, deleted_count};
 ghost use Rattle.linker_recognise.specs.Recognised.{linked_offset, value_at, Recogniser};
-ghost use Rattle.linker_recognise.specs.Recognised.{choices_at, IsChosen, IsMade, IsFound};
-ghost use Rattle.linker_recognise.specs.Recognised.{IsOneOf, AreThose, ArePlaced};
+ghost use Rattle.linker_recognise.specs.Recognised.{choices_at, IsChosen, IsMade};
+ghost use Rattle.linker_recognise.specs.Recognised.{IsFound, IsOneOf, AreThose, ArePlaced};
+ghost use Rattle.linker_recognise.specs.Recognised.{AreDistinct};
 
 use crate::fields::{FieldBits, are_same_but};
 use linker_elf::elf::choice_table::{ChoiceEntry, RelocationName};
@@ -118,12 +120,12 @@ fn value_at(row: &Option<Row>, at: u64, linked: &[u8]) -> Option<FieldValue>
     }
 }
 
-/// A relocation's name, with the rewrites of its architecture.
-pub trait Rewritten: RelocationName {
+/// A relocation's name, with the table of its choices.
+pub trait Recognised: RelocationName + PartialEq {
     /// The rewrites.
-    type Kind: InstructionRewrite;
+    type Kind: Copy + PartialEq;
 
-    // the tables, rewrites and relocations
+    // the tables and relocations
     ghost how: { Recogniser Self.Kind Self };
 
     /// The code, `r_type` in ELF files.
@@ -134,53 +136,49 @@ pub trait Rewritten: RelocationName {
     fn relaxation(kind: Self::Kind) -> Relaxation
         ensures { result ≡ how.relaxation kind };
 
-    /// Whether a rewrite is meant for what is at an offset of a section.
-    fn matches(kind: Self::Kind, section: &[u8], offset: u64) -> bool
-        ensures { IsTrue result ↔ how.matches kind section.now offset };
-
-    /// The bytes that are deleted after a rewrite.
-    fn deleted(kind: Self::Kind) -> Option<DeletedBytes>
-        ensures { result ≡ how.deleted kind };
-
-    /// Whether both are the same one of the choices that a table lists twice.
-    fn are_same(a: &Choice<Self::Kind, Self>, b: &Choice<Self::Kind, Self>) -> bool
-        ensures { IsTrue result → a.now ≡ b.now };
-
-    ghost rewrites: { Self.Kind.rewrite ≡ how.rewrite };
-
-    ghost rows: { Self.row_of ≡ how.row };
-}
-
-/// A relocation's name, with the table of its choices.
-pub trait Recognised: Rewritten {
     /// The choice by what a linker knows.
     fn choose(self, original: &[u8], offset: u64, facts: &LinkFacts) -> Choice<Self::Kind, Self>
         ensures { IsChosen Self.how self original.now offset facts.now result };
 
-    /// Those choices of the table that are meant for what is at the offset and leave the linked
-    /// bytes, as `recognise` says.
-    fn recognise_listed(
-        self,
-        original: &[u8],
-        offset: u64,
-        others: &[FieldBits],
-        linked: &[u8],
-    ) -> [Option<Made<Self::Kind, Self>>; CANDIDATES]
-        requires { length original.now ≤ 64 }
-        ensures found { AreThose (IsFound Self.how self original.now offset others.now linked.now)
-            result }
-        ensures placed { ArePlaced (choices_at Self.how self original.now offset) result };
+    /// The choice with an index in its table, behind which is the one that changes nothing.
+    fn listed(self, section: &[u8], at: u64, index: usize) -> Option<Choice<Self::Kind, Self>>
+        ensures choice { result ≡ slice_get (choices_at Self.how self section.now at) index }
+        ensures few { length (choices_at Self.how self section.now at) ≤ 6 };
 
-    // what is chosen is meant for what is there
-    ghost chosen_matches: { (name : Self) (s : List ℕ) (o : ℕ) (facts : LinkFacts)
-        (c : Choice Self.Kind Self) → IsChosen Self.how name s o facts c
-        → Self.how.matches c.kind s o };
+    ghost laws: { AreLawsOf Self.how Self.row_of Self.Kind.eq Self.eq };
 }
 
-/// A choice with what stands in its field, if it leaves the linked bytes: if these differ from what
-/// its rewrite makes of the original ones only in the field of the relocation after it and in some
-/// other bits.
-fn recognise_one<N: Rewritten>(
+/// The choice with an index: that of an entry, and behind these the one that changes nothing.
+#[inline(always)]
+pub(crate) fn choice_at<O, K: Copy, R: Copy>(
+    entries: &'static [ChoiceEntry<O, K, R>],
+    no_op: K,
+    name: R,
+    index: usize,
+) -> Option<Choice<K, R>>
+    ensures { result ≡ slice_get (choices_in entries.now (choice no_op name)) index }
+{
+    if index < entries.len() {
+        let ChoiceEntry {
+            kind,
+            relocation,
+            ..
+        } = entries[index];
+        Some(Choice { kind, relocation })
+    } else if index == entries.len() {
+        Some(Choice {
+            kind: no_op,
+            relocation: name,
+        })
+    } else {
+        None
+    }
+}
+
+/// A choice with what stands in its field, if its rewrite is meant for what is at the offset and it
+/// leaves the linked bytes: if these differ from what the rewrite makes of the original ones only in
+/// the field of the relocation after it and in some other bits.
+fn recognise_one<N: Recognised>(
     choice: Choice<N::Kind, N>,
     original: &[u8],
     offset: u64,
@@ -189,18 +187,19 @@ fn recognise_one<N: Rewritten>(
 ) -> Option<Made<N::Kind, N>>
     requires { length original.now ≤ 64 }
     ensures { (m : Made N.Kind N) → (result ≡ Some m)
-        ↔ ((m.choice ≡ choice) × IsMade N.how original.now offset others.now linked.now m) }
+        ↔ ((m.choice ≡ choice) × IsMeant N.how original.now offset others.now linked.now m) }
 {
-    if !choice.kind.can_apply(original, offset) {
+    let kind = N::relaxation(choice.kind);
+    if !kind.matches(original, offset) {
         return None;
     }
     let mut buffer = [0u8; MAX_WINDOW];
     let after = &mut buffer[..original.len()];
     after.copy_from_slice(original);
     let (mut at, mut addend) = (offset, 0);
-    choice.kind.apply(after, &mut at, &mut addend);
+    kind.apply(after, &mut at, &mut addend);
     let row = choice.relocation.find_row();
-    let deleted = N::deleted(choice.kind);
+    let deleted = kind.deleted();
     if !are_left(after, at, &row, deleted, offset, others, linked) {
         return None;
     }
@@ -212,85 +211,29 @@ fn recognise_one<N: Rewritten>(
     })
 }
 
-/// The choice of an entry.
-#[inline(always)]
-fn choice_of<O, K: Copy, R: Copy>(entry: &'static ChoiceEntry<O, K, R>) -> Choice<K, R>
-    ensures { result ≡ choice entry.now.kind entry.now.relocation }
-{
-    Choice {
-        kind: entry.kind,
-        relocation: entry.relocation,
-    }
-}
-
-/// The choice with an index: that of an entry, and behind these the one that changes nothing.
-#[inline(always)]
-fn choice_at<O, K: Copy, R: Copy>(
-    entries: &'static [ChoiceEntry<O, K, R>],
-    kind: K,
-    relocation: R,
-    index: usize,
-) -> Option<Choice<K, R>>
-    ensures { result ≡ slice_get (choices_in entries.now (choice kind relocation)) index }
-{
-    if index < entries.len() {
-        Some(choice_of(&entries[index]))
-    } else if index == entries.len() {
-        Some(Choice { kind, relocation })
-    } else {
-        None
-    }
-}
-
-/// Whether a choice is found to be that of one of some entries.
-fn is_among<O, N: Rewritten>(
+/// Whether a choice is listed before an index.
+fn is_listed_before<N: Recognised>(
     choice: &Choice<N::Kind, N>,
-    earlier: &'static [ChoiceEntry<O, N::Kind, N>],
+    index: usize,
+    name: N,
+    section: &[u8],
+    at: u64,
 ) -> bool
-    ensures { IsTrue result → IsOneOf choice.now (map choice_in earlier.now) }
+    ensures { IsTrue result ↔ IsBefore choice.now (choices_at N.how name section.now at) index }
 {
-    for entry in earlier {
-        if N::are_same(&choice_of(entry), choice) {
+    for earlier in 0..index {
+        if name.listed(section, at, earlier) == Some(*choice) {
             return true;
         }
     }
     false
 }
 
-/// Those choices of a table's entries, and of the one that changes nothing, that are meant for what
-/// is at an offset and leave the linked bytes.
-pub(crate) fn recognise_in<O, N: Rewritten>(
-    entries: &'static [ChoiceEntry<O, N::Kind, N>],
-    no_op: N::Kind,
-    name: N,
-    original: &[u8],
-    offset: u64,
-    others: &[FieldBits],
-    linked: &[u8],
-) -> [Option<Made<N::Kind, N>>; CANDIDATES]
-    requires few { length entries.now ≤ 5 }
-    requires short { length original.now ≤ 64 }
-    ensures { AreFoundOf (λ (m : Made N.Kind N). m.choice)
-        (IsMeant N.how original.now offset others.now linked.now)
-        (choices_in entries.now (choice no_op name)) result }
-{
-    let mut found = [None; CANDIDATES];
-    for index in 0..CANDIDATES {
-        let Some(choice) = choice_at(entries, no_op, name, index) else {
-            break;
-        };
-        if !is_among(&choice, &entries[..index]) && N::matches(choice.kind, original, offset) {
-            found[index] = recognise_one(choice, original, offset, others, linked);
-        }
-    }
-    found
-}
-
 /// Which rewrites, and relocations after them, a linker may have made at the relocation with a
 /// name, whose offset in the original bytes is given: those after which the original bytes differ
 /// from the linked ones only in the field of the relocation after it and in `others`. They have
-/// their places in the table of `choose`, behind which is `NoOp` and the same name. No choice is
-/// returned twice.
+/// their places in the table of `choose`, behind which is `NoOp` and the same name. A choice that is
+/// listed twice has the first one, so that none is returned twice.
 ///
 /// - Both windows may begin before the relocation, at the same place. The original one has at most
 ///   `MAX_WINDOW` bytes. After a rewrite that deletes bytes the linked window is shorter by these, and
@@ -343,8 +286,19 @@ pub fn recognise<N: Recognised>(
         → IsChosen N.how name original.now offset facts m.choice
         → IsMade N.how original.now offset others.now linked.now m → IsOneOf (Some m) result }
     ensures placed { ArePlaced (choices_at N.how name original.now offset) result }
+    ensures once { AreDistinct result }
 {
-    name.recognise_listed(original, offset, others, linked)
+    let mut found = [None; CANDIDATES];
+    for index in 0..CANDIDATES {
+        let Some(choice) = name.listed(original, offset, index) else {
+            break;
+        };
+        let made = recognise_one(choice, original, offset, others, linked);
+        if made.is_some() && !is_listed_before(&choice, index, name, original, offset) {
+            found[index] = made;
+        }
+    }
+    found
 }
 
 /// The choice that `choose` makes by what the linker knows, if it leaves the linked bytes, as

@@ -1,18 +1,15 @@
 //! The bits of a relocation's field, and bytes that differ in such bits only.
 
-ghost use Rattle.std.specs.Prelude.{◌≡◌, ℕ, ◌+◌, ◌-◌, ◌*◌, ◌<◌, ◌≤◌, ◌==◌, ◌↔◌, IsTrue, length};
-ghost use Rattle.std.specs.Prelude.{IfSome, IfNone};
-ghost use Rattle.std.specs.Prelude.{◌^◌, ◌||◌};
+ghost use Rattle.std.specs.Prelude.{◌≡◌, ◌<◌, ◌≤◌, ◌+◌, ◌^◌, ◌==◌, ◌||◌, ◌↔◌, ℕ, IsTrue, IfSome};
+ghost use Rattle.std.specs.Prelude.{IfNone, length};
 ghost use Rattle.std.specs.Int.{bit_at};
 ghost use Rattle.linker_elf.specs.Relocate.{window_len};
 ghost use Rattle.linker_elf.specs.declared.elf.RelocationKindInfo.{RelocationKindInfo};
-ghost use Rattle.linker_recognise.specs.Fields.{is_field_bit, is_in, is_in_one};
-ghost use Rattle.linker_recognise.specs.Fields.{IsSameBut, AreSameButFor};
-ghost use Rattle.linker_recognise.specs.Fields.{AreSameBut, kept_index, is_in_row};
+ghost use Rattle.linker_recognise.specs.Fields.{is_field_bit, is_in, is_in_one, is_in_row, IsSameBut};
+ghost use Rattle.linker_recognise.specs.Fields.{AreSameBut, AreSameButFor, kept_index};
 ghost use Rattle.linker_recognise.specs.Inner.Masks.{bytes_mask, number_mask, field_mask};
 ghost use Rattle.linker_recognise.specs.WrittenRows.{ChangesField};
 
-use linker_base::bit_misc::BitExtraction;
 use linker_elf::elf::{RelocationKind, RelocationSize, Row};
 
 /// Some of the bits of the eight bytes from an offset of a window on.
@@ -118,26 +115,17 @@ impl FieldBits {
         })
     }
 
-    /// Whether a bit of a byte of the window is one of these. The byte counts from the window's
-    /// first one, and bit 0 is its lowest.
+    /// Which bits of a byte of the window are these, as the lowest eight bits. The byte counts from
+    /// the window's first one.
     #[inline(always)]
-    fn contains(&self, byte: u64, bit: u32) -> bool
-        ensures { result ≡ is_in self.now byte bit }
+    fn of_byte(&self, byte: u64) -> u64
+        ensures { (j : ℕ) → j < 8 → (bit_at result j == 1) ≡ is_in self.now byte j }
     {
         if byte < self.offset || byte - self.offset >= 8 {
-            return false;
+            return 0;
         }
-        let position = 8 * (byte - self.offset) + u64::from(bit);
-        position < 64 && self.bits.extract_bit(position as u32) == 1
+        self.bits >> (8 * (byte - self.offset))
     }
-}
-
-/// Whether a bit of a byte of the window is one of some bits.
-#[inline(always)]
-fn is_in_one(fields: &[FieldBits], byte: u64, bit: u32) -> bool
-    ensures { result ≡ is_in_one fields.now byte bit }
-{
-    fields.iter().any(|field| field.contains(byte, bit))
 }
 
 /// Whether two bytes that are at the same place of a window differ in some bits only.
@@ -146,18 +134,11 @@ fn is_same_but(field: &FieldBits, others: &[FieldBits], byte: u64, a: u8, b: u8)
     ensures { IsTrue result
         ↔ IsSameBut (λ j. is_in field.now byte j || is_in_one others.now byte j) a b }
 {
-    if a == b {
-        return true;
+    let mut ignored = field.of_byte(byte);
+    for other in others {
+        ignored |= other.of_byte(byte);
     }
-    for bit in 0..8 {
-        if u64::from(a).extract_bit(bit) != u64::from(b).extract_bit(bit)
-            && !field.contains(byte, bit)
-            && !is_in_one(others, byte, bit)
-        {
-            return false;
-        }
-    }
-    true
+    u64::from(a ^ b) & !ignored == 0
 }
 
 /// The index of a byte before `count` bytes from `start` on were deleted.

@@ -7,7 +7,5 @@ mod engine;
 pub mod fields;
 mod recognisers;
 
-pub use engine::{
-    CANDIDATES, MAX_WINDOW, Made, Recognised, Rewritten, recognise, recognise_chosen,
-};
+pub use engine::{CANDIDATES, MAX_WINDOW, Made, Recognised, recognise, recognise_chosen};
 pub use recognisers::written_choices_are_left;

@@ -396,7 +396,7 @@ fn choice_by(
 
 /// The byte two before an offset, which is the opcode of an instruction whose field is there.
 #[inline(always)]
-fn opcode_before(section: &[u8], offset: u64) -> u8
+pub fn opcode_before(section: &[u8], offset: u64) -> u8
     ensures { result ≡ slice_index section.now (offset - 2) }
 {
     section

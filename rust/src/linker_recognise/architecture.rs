@@ -1,7 +1,7 @@
 // Made by tools/erase of crates/linker_recognise/src/architecture.rt.
 //! What a linker made of a relocation, by its architecture and its code.
 
-use crate::linker_recognise::engine::{self, CANDIDATES, Made, Rewritten};
+use crate::linker_recognise::engine::{self, CANDIDATES, Made, Recognised};
 use crate::linker_recognise::fields::FieldBits;
 use crate::aarch64::AArch64Relocation;
 use crate::architecture::Relaxation;
@@ -25,7 +25,7 @@ macro_rules! of_name {
 }
 
 /// The same with the rewrite as one of all architectures', and the relocation's code.
-fn by_code<N: Rewritten>(found: Option<Made<N::Kind, N>>) -> Option<Made<Relaxation, u32>> {
+fn by_code<N: Recognised>(found: Option<Made<N::Kind, N>>) -> Option<Made<Relaxation, u32>> {
     match found {
         Some(made) => Some(Made {
             choice: Choice {
@@ -40,7 +40,7 @@ fn by_code<N: Rewritten>(found: Option<Made<N::Kind, N>>) -> Option<Made<Relaxat
 }
 
 /// The same of each.
-fn all_by_code<N: Rewritten>(
+fn all_by_code<N: Recognised>(
     found: [Option<Made<N::Kind, N>>; CANDIDATES],
 ) -> [Option<Made<Relaxation, u32>>; CANDIDATES] {
     let [a, b, c, d, e, f] = found;

@@ -91,10 +91,10 @@ fn value_at(row: &Option<Row>, at: u64, linked: &[u8]) -> Option<FieldValue> {
     }
 }
 
-/// A relocation's name, with the rewrites of its architecture.
-pub trait Rewritten: RelocationName {
+/// A relocation's name, with the table of its choices.
+pub trait Recognised: RelocationName + PartialEq {
     /// The rewrites.
-    type Kind: InstructionRewrite;
+    type Kind: Copy + PartialEq;
 
     /// The code, `r_type` in ELF files.
     #[must_use]
@@ -104,61 +104,61 @@ pub trait Rewritten: RelocationName {
     #[must_use]
     fn relaxation(kind: Self::Kind) -> Relaxation;
 
-    /// Whether a rewrite is meant for what is at an offset of a section.
-    #[must_use]
-    fn matches(kind: Self::Kind, section: &[u8], offset: u64) -> bool;
-
-    /// The bytes that are deleted after a rewrite.
-    #[must_use]
-    fn deleted(kind: Self::Kind) -> Option<DeletedBytes>;
-
-    /// Whether both are the same one of the choices that a table lists twice.
-    #[must_use]
-    fn are_same(a: &Choice<Self::Kind, Self>, b: &Choice<Self::Kind, Self>) -> bool;
-}
-
-/// A relocation's name, with the table of its choices.
-pub trait Recognised: Rewritten {
     /// The choice by what a linker knows.
     #[must_use]
     fn choose(self, original: &[u8], offset: u64, facts: &LinkFacts) -> Choice<Self::Kind, Self>;
 
-    /// Those choices of the table that are meant for what is at the offset and leave the linked
-    /// bytes, as `recognise` says.
-    ///
-    /// # Requires
-    ///
-    /// - `original.len() <= 64`
+    /// The choice with an index in its table, behind which is the one that changes nothing.
     #[must_use]
-    fn recognise_listed(
-        self,
-        original: &[u8],
-        offset: u64,
-        others: &[FieldBits],
-        linked: &[u8],
-    ) -> [Option<Made<Self::Kind, Self>>; CANDIDATES];
+    fn listed(self, section: &[u8], at: u64, index: usize) -> Option<Choice<Self::Kind, Self>>;
 }
 
-/// A choice with what stands in its field, if it leaves the linked bytes: if these differ from what
-/// its rewrite makes of the original ones only in the field of the relocation after it and in some
-/// other bits.
-fn recognise_one<N: Rewritten>(
+/// The choice with an index: that of an entry, and behind these the one that changes nothing.
+#[cfg_attr(not(debug_assertions), inline(always))]
+pub(crate) fn choice_at<O, K: Copy, R: Copy>(
+    entries: &'static [ChoiceEntry<O, K, R>],
+    no_op: K,
+    name: R,
+    index: usize,
+) -> Option<Choice<K, R>> {
+    if index < entries.len() {
+        let ChoiceEntry {
+            kind,
+            relocation,
+            ..
+        } = entries[index];
+        Some(Choice { kind, relocation })
+    } else if index == entries.len() {
+        Some(Choice {
+            kind: no_op,
+            relocation: name,
+        })
+    } else {
+        None
+    }
+}
+
+/// A choice with what stands in its field, if its rewrite is meant for what is at the offset and it
+/// leaves the linked bytes: if these differ from what the rewrite makes of the original ones only in
+/// the field of the relocation after it and in some other bits.
+fn recognise_one<N: Recognised>(
     choice: Choice<N::Kind, N>,
     original: &[u8],
     offset: u64,
     others: &[FieldBits],
     linked: &[u8],
 ) -> Option<Made<N::Kind, N>> {
-    if !choice.kind.can_apply(original, offset) {
+    let kind = N::relaxation(choice.kind);
+    if !kind.matches(original, offset) {
         return None;
     }
     let mut buffer = [0u8; MAX_WINDOW];
     let after = &mut buffer[..original.len()];
     after.copy_from_slice(original);
     let (mut at, mut addend) = (offset, 0);
-    choice.kind.apply(after, &mut at, &mut addend);
+    kind.apply(after, &mut at, &mut addend);
     let row = choice.relocation.find_row();
-    let deleted = N::deleted(choice.kind);
+    let deleted = kind.deleted();
     if !are_left(after, at, &row, deleted, offset, others, linked) {
         return None;
     }
@@ -170,73 +170,27 @@ fn recognise_one<N: Rewritten>(
     })
 }
 
-/// The choice of an entry.
-#[inline(always)]
-fn choice_of<O, K: Copy, R: Copy>(entry: &'static ChoiceEntry<O, K, R>) -> Choice<K, R> {
-    Choice {
-        kind: entry.kind,
-        relocation: entry.relocation,
-    }
-}
-
-/// The choice with an index: that of an entry, and behind these the one that changes nothing.
-#[cfg_attr(not(debug_assertions), inline(always))]
-fn choice_at<O, K: Copy, R: Copy>(
-    entries: &'static [ChoiceEntry<O, K, R>],
-    kind: K,
-    relocation: R,
-    index: usize,
-) -> Option<Choice<K, R>> {
-    if index < entries.len() {
-        Some(choice_of(&entries[index]))
-    } else if index == entries.len() {
-        Some(Choice { kind, relocation })
-    } else {
-        None
-    }
-}
-
-/// Whether a choice is found to be that of one of some entries.
-fn is_among<O, N: Rewritten>(
+/// Whether a choice is listed before an index.
+fn is_listed_before<N: Recognised>(
     choice: &Choice<N::Kind, N>,
-    earlier: &'static [ChoiceEntry<O, N::Kind, N>],
+    index: usize,
+    name: N,
+    section: &[u8],
+    at: u64,
 ) -> bool {
-    for entry in earlier {
-        if N::are_same(&choice_of(entry), choice) {
+    for earlier in 0..index {
+        if name.listed(section, at, earlier) == Some(*choice) {
             return true;
         }
     }
     false
 }
 
-/// Those choices of a table's entries, and of the one that changes nothing, that are meant for what
-/// is at an offset and leave the linked bytes.
-pub(crate) fn recognise_in<O, N: Rewritten>(
-    entries: &'static [ChoiceEntry<O, N::Kind, N>],
-    no_op: N::Kind,
-    name: N,
-    original: &[u8],
-    offset: u64,
-    others: &[FieldBits],
-    linked: &[u8],
-) -> [Option<Made<N::Kind, N>>; CANDIDATES] {
-    let mut found = [None; CANDIDATES];
-    for index in 0..CANDIDATES {
-        let Some(choice) = choice_at(entries, no_op, name, index) else {
-            break;
-        };
-        if !is_among(&choice, &entries[..index]) && N::matches(choice.kind, original, offset) {
-            found[index] = recognise_one(choice, original, offset, others, linked);
-        }
-    }
-    found
-}
-
 /// Which rewrites, and relocations after them, a linker may have made at the relocation with a
 /// name, whose offset in the original bytes is given: those after which the original bytes differ
 /// from the linked ones only in the field of the relocation after it and in `others`. They have
-/// their places in the table of `choose`, behind which is `NoOp` and the same name. No choice is
-/// returned twice.
+/// their places in the table of `choose`, behind which is `NoOp` and the same name. A choice that is
+/// listed twice has the first one, so that none is returned twice.
 ///
 /// - Both windows may begin before the relocation, at the same place. The original one has at most
 ///   `MAX_WINDOW` bytes. After a rewrite that deletes bytes the linked window is shorter by these, and
@@ -289,7 +243,17 @@ pub fn recognise<N: Recognised>(
     linked: &[u8],
 ) -> [Option<Made<N::Kind, N>>; CANDIDATES] {
     debug_assert!(original.len() <= 64);
-    name.recognise_listed(original, offset, others, linked)
+    let mut found = [None; CANDIDATES];
+    for index in 0..CANDIDATES {
+        let Some(choice) = name.listed(original, offset, index) else {
+            break;
+        };
+        let made = recognise_one(choice, original, offset, others, linked);
+        if made.is_some() && !is_listed_before(&choice, index, name, original, offset) {
+            found[index] = made;
+        }
+    }
+    found
 }
 
 /// The choice that `choose` makes by what the linker knows, if it leaves the linked bytes, as

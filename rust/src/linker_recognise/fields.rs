@@ -1,7 +1,6 @@
 // Made by tools/erase of crates/linker_recognise/src/fields.rt.
 //! The bits of a relocation's field, and bytes that differ in such bits only.
 
-use crate::linker_base::bit_misc::BitExtraction;
 use crate::linker_elf::elf::{RelocationKind, RelocationSize, Row};
 
 /// Some of the bits of the eight bytes from an offset of a window on.
@@ -99,39 +98,25 @@ impl FieldBits {
         })
     }
 
-    /// Whether a bit of a byte of the window is one of these. The byte counts from the window's
-    /// first one, and bit 0 is its lowest.
+    /// Which bits of a byte of the window are these, as the lowest eight bits. The byte counts from
+    /// the window's first one.
     #[inline(always)]
-    fn contains(&self, byte: u64, bit: u32) -> bool {
+    fn of_byte(&self, byte: u64) -> u64 {
         if byte < self.offset || byte - self.offset >= 8 {
-            return false;
+            return 0;
         }
-        let position = 8 * (byte - self.offset) + u64::from(bit);
-        position < 64 && self.bits.extract_bit(position as u32) == 1
+        self.bits >> (8 * (byte - self.offset))
     }
-}
-
-/// Whether a bit of a byte of the window is one of some bits.
-#[inline(always)]
-fn is_in_one(fields: &[FieldBits], byte: u64, bit: u32) -> bool {
-    fields.iter().any(|field| field.contains(byte, bit))
 }
 
 /// Whether two bytes that are at the same place of a window differ in some bits only.
 #[inline(always)]
 fn is_same_but(field: &FieldBits, others: &[FieldBits], byte: u64, a: u8, b: u8) -> bool {
-    if a == b {
-        return true;
+    let mut ignored = field.of_byte(byte);
+    for other in others {
+        ignored |= other.of_byte(byte);
     }
-    for bit in 0..8 {
-        if u64::from(a).extract_bit(bit) != u64::from(b).extract_bit(bit)
-            && !field.contains(byte, bit)
-            && !is_in_one(others, byte, bit)
-        {
-            return false;
-        }
-    }
-    true
+    u64::from(a ^ b) & !ignored == 0
 }
 
 /// The index of a byte before `count` bytes from `start` on were deleted.

@@ -377,8 +377,10 @@ fn choice_by(
 }
 
 /// The byte two before an offset, which is the opcode of an instruction whose field is there.
+#[doc(hidden)]
+#[must_use]
 #[inline(always)]
-fn opcode_before(section: &[u8], offset: u64) -> u8 {
+pub fn opcode_before(section: &[u8], offset: u64) -> u8 {
     section
         .get(offset.saturating_sub(2) as usize)
         .copied()
