@@ -53,10 +53,10 @@ AreSame N tests a b = IsTrue (by false false N.parts (each_by N.parts tests) (N.
 same_value : (N : Record) (tests : Tests N.parts) → AreExact N.parts tests → (a b : N.D)
     → AreSame N tests a b ↔ (a ≡ b)
 same_value N tests exact a b = (
-      λ h. values_one N a b (same_choice N.parts tests exact (N.as_values a) (N.as_values b) h),
-      λ e. subst (λ x. IsTrue (by false false N.parts (each_by N.parts tests) (N.as_values a) (N.as_values x))) e
+  λ h. values_one N a b (same_choice N.parts tests exact (N.as_values a) (N.as_values b) h),
+  λ e. subst (λ x. IsTrue (by false false N.parts (each_by N.parts tests) (N.as_values a) (N.as_values x))) e
       (itself N.parts tests exact (N.as_values a)),
-    )
+)
 
 -- the code of a name without one is compared by `==`
 pub exact_code : (x y : ℕ × Unit {0}) → IsTrue (x.0 == y.0) ↔ (x ≡ y)

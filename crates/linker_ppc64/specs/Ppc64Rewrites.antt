@@ -437,5 +437,7 @@ LocalDynamicIsChosenAlike =
     × AreChosenAlike r.R_PPC64_GOT_TLSLD16_HA r.R_PPC64_TLSLD
     ((to_nop, choice kinds.CallToAddi4096 r.R_PPC64_NONE) ∷ [])
     × AreChosenAlike r.R_PPC64_GOT_TLSLD16 r.R_PPC64_TLSLD
-    ((choice kinds.AddiToAddisThread r.R_PPC64_NONE,
-    choice kinds.CallToAddi4096 r.R_PPC64_NONE) ∷ [])
+    ((
+      choice kinds.AddiToAddisThread r.R_PPC64_NONE,
+      choice kinds.CallToAddi4096 r.R_PPC64_NONE,
+    ) ∷ [])

@@ -217,10 +217,7 @@ fn is_vector_access(word: u32) -> bool {
 #[inline]
 fn is_over_base(word: u32) -> bool {
     base(word) != 0
-        && (opcode(word) == 14
-            || is_d_access(word)
-            || is_ds_access(word)
-            || is_vector_access(word))
+        && (opcode(word) == 14 || is_d_access(word) || is_ds_access(word) || is_vector_access(word))
 }
 
 /// Whether the second source register is 13, the thread pointer.
