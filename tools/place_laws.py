@@ -100,6 +100,11 @@ def is_thread_access(words):
             and not (is_indexed and is_store and rt(third) == rt(addis)))
 
 
+def is_over_toc(words):
+    """IsOverToc."""
+    return ra(words[0]) == 2
+
+
 def is_tls_call(words):
     """IsTlsCall."""
     return is_toc_pair(words) and rt(words[0]) != 13
@@ -208,7 +213,12 @@ ALONE = {
         ("LoadOfDescriptorToNop", "TLS_DESC_LD", None),
         ("CallOfDescriptorToNop", "TLS_DESC_CALL", None),
     ],
-    21: [("PldToPaddi", "GOT_PCREL34", None), ("RestoresToc", "REL24", None)],
+    21: [
+        ("PldToPaddi", "GOT_PCREL34", None), ("RestoresToc", "REL24", None),
+        ("NearInitialExecToLocalExec", "GOT_TPREL16_DS", is_over_toc),
+        ("Arguments ArgumentToLocalExec NearArgumentToInitialExec", "GOT_TLSGD16", is_over_toc),
+        ("Arguments ArgumentToModule", "GOT_TLSLD16", is_over_toc),
+    ],
 }
 # of x86-64, by relocations
 OF_X86 = {
