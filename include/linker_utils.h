@@ -1725,9 +1725,9 @@ enum linker_utils_reference {
  * R_RISCV_PCREL_LO12_* the place is that of the high part.
  *
  * With these operands an address has the bits of `address` exactly where its value has those of
- * `value`. The bias of the relocation is taken off. Where bit 0 is known the rounding is 0. Where
- * the formula takes the page of the address, bits 12 and up are known, and the rounding is the bias
- * less the page of the place or of the GOT.
+ * `value`, and the same bits are known. The bias of the relocation is taken off. Where bit 0 is known
+ * the rounding is 0. Where the formula takes the page of the address, bits 12 and up are known, and
+ * the rounding is the bias less the page of the place or of the GOT.
  *
  * LINKER_UTILS_BAD_FIELD_VALUE where `value` isn't one that the library returns: no bits are known,
  * or some above bit 63, or `bits` has others. LINKER_UTILS_NO_ADDRESS of a relocation without a
@@ -1741,7 +1741,8 @@ uint32_t linker_utils_solve(uint16_t machine, uint32_t r_type,
 
 /* What is known of an address from both halves of a pair, as `linker_utils_solve` returns them:
  * adrp and add, auipc and addi, addis and addi, pcalau12i and addi.d. A number has the bits of
- * `whole` exactly where it has those of both.
+ * `whole` exactly where it has those of both. They are bit 0 up to the last of the high half, and the
+ * rounding is 0.
  *
  * LINKER_UTILS_BAD_FIELD_VALUE of either half, as in `linker_utils_solve`. LINKER_UTILS_NOT_HALVES
  * unless the low half has bits 0 up to the first of the high half, and no rounding. */
