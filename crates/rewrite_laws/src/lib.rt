@@ -6,7 +6,7 @@
 //! end in states that are alike.
 #![tactic(auto)]
 
-ghost use Rattle.linker_elf.specs.declared.loongarch64.relocations.LoongArch64Relocation.TheVariants.{R_LARCH_TLS_IE_PC_HI20, R_LARCH_TLS_DESC_PC_HI20};
+ghost use Rattle.linker_elf.specs.declared.loongarch64.relocations.LoongArch64Relocation.TheVariants as larch_names;
 ghost use Rattle.rewrite_laws.specs.AArch64Laws as aarch64_laws;
 ghost use Rattle.rewrite_laws.specs.AArch64Worked as aarch64_worked;
 ghost use Rattle.rewrite_laws.specs.LoongArchLaws as loongarch_laws;
@@ -115,7 +115,7 @@ pub fn riscv64()
 /// different addresses, each with its relocations applied.
 pub fn loongarch64()
     ensures got { loongarch_laws.GotToAddress }
-    ensures high_half { loongarch_laws.HighHalfToLu12i R_LARCH_TLS_IE_PC_HI20 }
+    ensures high_half { loongarch_laws.HighHalfToLu12i larch_names.R_LARCH_TLS_IE_PC_HI20 }
     ensures low_half { loongarch_laws.LowHalfToOri }
     ensures short_high_half { loongarch_laws.HighHalfToNop }
     ensures short_low_half { loongarch_laws.LowHalfToOriZero }
@@ -123,7 +123,7 @@ pub fn loongarch64()
     ensures near_got { loongarch_laws.GotToPcaddi }
     ensures calls { loongarch_laws.Calls }
     ensures shorter_local_exec { loongarch_laws.ShorterLocalExec }
-    ensures descriptor_high_half { loongarch_laws.HighHalfToLu12i R_LARCH_TLS_DESC_PC_HI20 }
+    ensures descriptor_high_half { loongarch_laws.HighHalfToLu12i larch_names.R_LARCH_TLS_DESC_PC_HI20 }
     ensures descriptor_page { loongarch_laws.PageOfDescriptor }
     ensures descriptor_low_half { loongarch_laws.LowOfDescriptorToOri }
     ensures descriptor_entry { loongarch_laws.LowOfDescriptorToLoad }
