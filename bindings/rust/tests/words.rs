@@ -366,6 +366,7 @@ fn choices_of_powerpc64_match_linkers() {
         let mut facts = facts_with(flags == 1, operands);
         facts.may_change_toc = flags == 2;
         facts.has_private_base = true;
+        facts.group_fits = true;
         let mut section = before.to_le_bytes();
         link(Architecture::Ppc64, r_type, &mut section, 0, &facts);
         assert_eq!(u64::from_le_bytes(section), after, "{r_type}, {place:x}");

@@ -247,3 +247,20 @@ holds_of_first A P [] otherwise chosen each last first = subst P (sym first) las
 holds_of_first A P (e ∷ es) otherwise chosen each last (inl h) = subst P (sym h.1) (each e h.0)
 holds_of_first A P (e ∷ es) otherwise chosen each last (inr h) =
     holds_of_first A P es otherwise chosen each last h.1
+
+-- only one choice is chosen
+only_one : {K R : Type 0} → (A : Entry K R → Type 0) (es : List (Entry K R)) (otherwise a b : Choice K R)
+    → IsFirst A es otherwise a → IsFirst A es otherwise b → a ≡ b
+only_one A [] otherwise a b first other = first ∙ sym other
+only_one A (e ∷ es) otherwise a b (inl h) (inl g) = h.1 ∙ sym g.1
+only_one A (e ∷ es) otherwise a b (inl h) (inr g) = absurd (g.0 h.0)
+only_one A (e ∷ es) otherwise a b (inr h) (inl g) = absurd (h.0 g.0)
+only_one A (e ∷ es) otherwise a b (inr h) (inr g) = only_one A es otherwise a b h.1 g.1
+
+-- whether it isn't the last one
+pub isnt_last : {K R : Type 0} → (A : Entry K R → Type 0) (es : List (Entry K R)) (otherwise chosen : Choice K R) (is : Bool)
+    → IsFirst A es otherwise chosen → (IsTrue is ↔ (chosen ≡ otherwise)) → IsTrue (not is) ↔ ¬ IsFirst A es otherwise otherwise
+isnt_last A es otherwise chosen true first known =
+    (λ h. absurd (true≢false (sym h)), λ fits. absurd (fits (subst (IsFirst A es otherwise) (known.0 refl) first)))
+isnt_last A es otherwise chosen false first known =
+    (λ h. λ last. true≢false (sym (known.1 (only_one A es otherwise chosen otherwise first last))), λ fits. refl)

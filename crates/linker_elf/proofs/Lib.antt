@@ -23,6 +23,7 @@ pub mod RowTables
 pub mod RowsAgree
 pub mod RowsFit
 pub mod Runs
+pub mod SameNames
 pub mod Taken
 pub mod WrittenNumbers
 pub mod WrittenRows

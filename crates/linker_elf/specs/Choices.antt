@@ -168,3 +168,8 @@ IsFirst Applies [] otherwise chosen = chosen ≡ otherwise
 IsFirst Applies (e ∷ es) otherwise chosen =
     (Applies e × (chosen ≡ choice e.kind e.relocation))
     ⊎ (¬ Applies e × IsFirst Applies es otherwise chosen)
+
+-- The relocation fits: if all others of its sequence can be rewritten, it is too.
+abbrev pub Fits : {K R : Type 0} → (LinkFacts → Choice K R → Type 0) → Choice K R → LinkFacts
+    → Type 0
+Fits IsChosen unchanged facts = ¬ IsChosen (with_group facts) unchanged

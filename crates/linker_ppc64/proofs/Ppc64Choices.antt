@@ -1,10 +1,12 @@
 -- What is chosen on PowerPC64 matches, and can be rewritten.
-use Rattle.std.proofs.Common.{ℕ, List, ◌≡◌, ◌↔◌, rules}
+use Rattle.std.proofs.Common.{ℕ, List, Bool, IsTrue, not, ◌≡◌, ◌↔◌, ◌==◌, rules}
 use Rattle.linker_base.specs.Rewrite.{CanRewrite}
-use Rattle.linker_elf.specs.Choices.{Entry, choice}
+use Rattle.linker_elf.specs.Choices.{choice, Fits, with_group}
 use Rattle.linker_elf.specs.Inner.ChoiceTables.{IsTableOf, IsFirstOf, EntryApplies}
-use Rattle.linker_elf.proofs.ChoiceTables.{first_of_table, holds_of_first}
+use Rattle.linker_elf.proofs.ChoiceTables.{first_of_table, holds_of_first, isnt_last}
+use Rattle.linker_elf.proofs.SameNames.{AreSame, unchanged_is, exact_code}
 use Rattle.linker_elf.specs.Ppc64Relocations.{ppc64_row}
+use Rattle.linker_elf.specs.contracts.ppc64.relocations.Ppc64Relocation.{enum as names}
 use Rattle.linker_elf.specs.declared.elf.choice.Choice.{Choice}
 use Rattle.linker_elf.specs.declared.elf.choice.LinkFacts.{LinkFacts}
 use Rattle.linker_elf.specs.declared.elf.choice_table.ChoiceEntry.{ChoiceEntry}
@@ -13,7 +15,7 @@ use Rattle.linker_elf.specs.declared.ppc64.relocations.Ppc64Relocation.{Ppc64Rel
 use Rattle.linker_ppc64.specs.Ppc64Rewrites.{ppc64_entries, Ppc64Applies, IsPpc64Choice}
 use Rattle.linker_ppc64.specs.Ppc64Rewrites.{ppc64_matches}
 use Rattle.linker_ppc64.specs.Ppc64Rewrites.{ppc64_rewrite}
-use Rattle.linker_ppc64.specs.declared.choices.OfRewrite.{OfRewrite}
+use Rattle.linker_ppc64.specs.declared.choices.AskedFor.{AskedFor}
 use Rattle.linker_ppc64.specs.declared.rewrites.RelaxationKind.{RelaxationKind}
 use Rattle.linker_ppc64.specs.declared.rewrites.RelaxationKind.TheVariants as kinds
 
@@ -23,12 +25,12 @@ can_rewrite kinds.NoOp section o matches = tt
 can_rewrite kind section o matches = search rules
 
 pub chosen : (name : Ppc64Relocation) (section : List ℕ) (o : ℕ) (facts : LinkFacts)
-    → (es : List (ChoiceEntry OfRewrite RelaxationKind Ppc64Relocation)) (c : Choice RelaxationKind Ppc64Relocation)
-    → IsTableOf (λ (originals : OfRewrite). ppc64_matches) ppc64_matches es (ppc64_entries name)
-    → IsFirstOf (EntryApplies (λ (originals : OfRewrite). ppc64_matches) ppc64_row (λ (kind : RelaxationKind) (o : ℕ) (operands : Operands). operands) section o facts) es (choice kinds.NoOp name) c
+    → (es : List (ChoiceEntry AskedFor RelaxationKind Ppc64Relocation)) (c : Choice RelaxationKind Ppc64Relocation)
+    → IsTableOf (λ (originals : AskedFor). ppc64_matches) ppc64_matches es (ppc64_entries name)
+    → IsFirstOf (EntryApplies (λ (originals : AskedFor). ppc64_matches) ppc64_row (λ (kind : RelaxationKind) (o : ℕ) (operands : Operands). operands) section o facts) es (choice kinds.NoOp name) c
     → IsPpc64Choice name section o facts c
 chosen name section o facts es c =
-    first_of_table (λ (originals : OfRewrite). ppc64_matches) ppc64_matches ppc64_row
+    first_of_table (λ (originals : AskedFor). ppc64_matches) ppc64_matches ppc64_row
     (λ (kind : RelaxationKind) (o : ℕ) (operands : Operands). operands) section o facts es (ppc64_entries name) (choice kinds.NoOp name) c
 
 pub chosen_matches : (name : Ppc64Relocation) (section : List ℕ) (o : ℕ) (facts : LinkFacts) (c : Choice RelaxationKind Ppc64Relocation)
@@ -40,3 +42,11 @@ chosen_matches name section o facts c =
 pub chosen_rewritable : (name : Ppc64Relocation) (section : List ℕ) (o : ℕ) (facts : LinkFacts) (c : Choice RelaxationKind Ppc64Relocation)
     → IsPpc64Choice name section o facts c → CanRewrite (ppc64_rewrite c.kind) section o
 chosen_rewritable name section o facts c is = can_rewrite c.kind section o (chosen_matches name section o facts c is)
+
+pub chosen_fits : (name : Ppc64Relocation) (section : List ℕ) (o : ℕ) (facts : LinkFacts) (c : Choice RelaxationKind Ppc64Relocation) (is : Bool)
+    → IsPpc64Choice name section o (with_group facts) c
+    → (IsTrue is ↔ ((c.kind ≡ kinds.NoOp) × AreSame names (λ x y. x.0 == y.0, tt) c.relocation name))
+    → IsTrue (not is) ↔ Fits (IsPpc64Choice name section o) (choice kinds.NoOp name) facts
+chosen_fits name section o facts c is first known =
+    isnt_last (Ppc64Applies section o (with_group facts)) (ppc64_entries name) (choice kinds.NoOp name) c is first
+    (unchanged_is names (λ x y. x.0 == y.0, tt) (exact_code, tt) kinds.NoOp name c is known)

@@ -184,10 +184,17 @@ is_ds_access word =
     opcode_of word == 58 && (field word 0 2 == 0 || field word 0 2 == 2)
     || opcode_of word == 62 && field word 0 2 == 0 && keeps_base true word
 
+-- `lq`; `lxsd` and `lxssp`; `lxv`, `stxv`, `stxsd` and `stxssp`
+abbrev pub is_vector_access : ℕ → Bool
+is_vector_access word =
+    opcode_of word == 56 || opcode_of word == 57 && nat_lt 1 (field word 0 2)
+    || opcode_of word == 61 && not (field word 0 2 == 0)
+
 -- an instruction that reads its base register, which isn't 0, as the base alone, and leaves it
 abbrev pub is_over_base : ℕ → Bool
 is_over_base word =
-    not (ra_of word == 0) && (opcode_of word == 14 || is_d_access word || is_ds_access word)
+    not (ra_of word == 0)
+    && (opcode_of word == 14 || is_d_access word || is_ds_access word || is_vector_access word)
 
 -- The second source register is 13, the thread pointer.
 abbrev pub is_over_thread : ℕ → Bool

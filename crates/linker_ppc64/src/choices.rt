@@ -1,28 +1,32 @@
 //! PowerPC64: which rewrite a linker chooses for a relocation.
 
-ghost use Rattle.std.specs.Prelude.{◌≤◌, length};
+ghost use Rattle.std.specs.Prelude.{◌≤◌, ◌↔◌, IsTrue, length};
 ghost use Rattle.linker_base.specs.Rewrite.{CanRewrite};
+ghost use Rattle.linker_elf.specs.Choices.{Fits, choice};
 ghost use Rattle.linker_elf.specs.Inner.ChoiceTables.{IsTableOf};
 ghost use Rattle.linker_ppc64.specs.Ppc64Rewrites.{TocPairsAreChosenAlike, GotPairIsChosenAlike};
 ghost use Rattle.linker_ppc64.specs.Ppc64Rewrites.{InitialExecPairIsChosenAlike};
 ghost use Rattle.linker_ppc64.specs.Ppc64Rewrites.{GeneralDynamicIsChosenAlike};
 ghost use Rattle.linker_ppc64.specs.Ppc64Rewrites.{LocalDynamicIsChosenAlike};
 ghost use Rattle.linker_ppc64.specs.Ppc64Rewrites.{IsPpc64Choice, ppc64_entries};
-ghost use Rattle.linker_ppc64.specs.Ppc64Rewrites.{ppc64_matches};
-ghost use Rattle.linker_ppc64.specs.Ppc64Rewrites.{ppc64_rewrite};
+ghost use Rattle.linker_ppc64.specs.Ppc64Rewrites.{ppc64_matches, ppc64_rewrite};
+ghost use Rattle.linker_ppc64.specs.declared.rewrites.RelaxationKind.TheVariants as kinds;
 
 use super::rewrites::RelaxationKind;
 use linker_elf::elf::choice_table::{
     BOUND, CHANGED_TOC, ChoiceEntry, ChosenKind, Conditions, EXECUTABLE, FIXED_DISTANCE,
-    GROUP_FITS, Originals, PRIVATE_BASE, ValueCondition, first_entry,
+    GROUP_FITS, Originals, PRIVATE_BASE, all_tables, by_table, conditions, first_entry,
 };
 use linker_elf::elf::{Choice, LinkFacts, Operands};
-use linker_elf::ppc64::Ppc64Relocation;
+use linker_elf::ppc64::{Ppc64Relocation, Ppc64Relocation as Names};
 
-/// The instructions that an entry's rewrite is meant for.
-pub struct OfRewrite;
+/// The instructions that an entry is for.
+pub enum AskedFor {
+    /// Those that its rewrite is meant for.
+    OfRewrite,
+}
 
-impl Originals<RelaxationKind> for OfRewrite {
+impl Originals<RelaxationKind> for AskedFor {
     ghost are_at = { λ originals. ppc64_matches };
 
     #[inline(always)]
@@ -41,190 +45,154 @@ impl ChosenKind for RelaxationKind {
     }
 }
 
-/// An entry: a rewrite, the relocation after it and the conditions.
-macro_rules! entry {
-    ($kind:ident => $relocation:ident, $conditions:expr) => {
-        ChoiceEntry {
-            originals: OfRewrite,
-            kind: RelaxationKind::$kind,
-            relocation: Ppc64Relocation::$relocation,
-            conditions: $conditions,
-        }
-    };
-}
-
-/// Conditions: facts, and the values in reach.
-macro_rules! conditions {
-    ($facts:expr $(, $value:ident $relocation:ident)*) => {
-        Conditions {
-            facts: $facts,
-            addend: None,
-            values: &[$(ValueCondition::$value(Ppc64Relocation::$relocation, 0),)*],
-        }
-    };
-}
-
 /// The high part of the distance from the TOC pointer is 0.
-const WITHOUT_HIGH_PART: Conditions<Ppc64Relocation> =
-    conditions!(PRIVATE_BASE, InReach R_PPC64_TOC16);
+const WITHOUT_HIGH_PART: Conditions<Names> = conditions!(
+    PRIVATE_BASE,
+    None,
+    InReach(R_PPC64_TOC16, 0)
+);
 
 /// The address by its distance from the TOC pointer.
-const TO_TOC_DISTANCE: Conditions<Ppc64Relocation> =
-    conditions!(BOUND + FIXED_DISTANCE, InReachIfKnown R_PPC64_TOC16_HA);
+const TO_TOC_DISTANCE: Conditions<Names> = conditions!(
+    BOUND + FIXED_DISTANCE,
+    None,
+    InReachIfKnown(R_PPC64_TOC16_HA, 0)
+);
 
 /// The address by its distance from the instruction.
-const TO_DISTANCE: Conditions<Ppc64Relocation> =
-    conditions!(BOUND + FIXED_DISTANCE, InReachIfKnown R_PPC64_PCREL34);
+const TO_DISTANCE: Conditions<Names> = conditions!(
+    BOUND + FIXED_DISTANCE,
+    None,
+    InReachIfKnown(R_PPC64_PCREL34, 0)
+);
 
 /// The offset from the thread pointer in the instructions.
-const TO_LOCAL_EXEC: Conditions<Ppc64Relocation> =
-    conditions!(BOUND + EXECUTABLE + GROUP_FITS, InReachIfKnown R_PPC64_TPREL16_HA);
+const TO_LOCAL_EXEC: Conditions<Names> = conditions!(
+    BOUND + EXECUTABLE + GROUP_FITS,
+    None,
+    InReachIfKnown(R_PPC64_TPREL16_HA, 0)
+);
 
 /// The same of an access of whole words.
-const TO_LOCAL_EXEC_WORDS: Conditions<Ppc64Relocation> = conditions!(
+const TO_LOCAL_EXEC_WORDS: Conditions<Names> = conditions!(
     BOUND + EXECUTABLE + GROUP_FITS,
-    InReachIfKnown R_PPC64_TPREL16_HA,
-    InReachIfKnown R_PPC64_TPREL16_LO_DS
+    None,
+    InReachIfKnown(R_PPC64_TPREL16_HA, 0),
+    InReachIfKnown(R_PPC64_TPREL16_LO_DS, 0)
 );
 
 /// The offset from the thread pointer in the GOT.
-const TO_INITIAL_EXEC: Conditions<Ppc64Relocation> =
-    conditions!(EXECUTABLE + GROUP_FITS, InReachIfKnown R_PPC64_GOT_TPREL16_HA);
+const TO_INITIAL_EXEC: Conditions<Names> = conditions!(
+    EXECUTABLE + GROUP_FITS,
+    None,
+    InReachIfKnown(R_PPC64_GOT_TPREL16_HA, 0)
+);
 
 /// The same in an entry near the TOC pointer.
-const TO_NEAR_INITIAL_EXEC: Conditions<Ppc64Relocation> =
-    conditions!(EXECUTABLE + GROUP_FITS, InReachIfKnown R_PPC64_GOT_TPREL16_DS);
+const TO_NEAR_INITIAL_EXEC: Conditions<Names> = conditions!(
+    EXECUTABLE + GROUP_FITS,
+    None,
+    InReachIfKnown(R_PPC64_GOT_TPREL16_DS, 0)
+);
 
 /// The module's block from the thread pointer.
-const TO_MODULE: Conditions<Ppc64Relocation> = conditions!(EXECUTABLE + GROUP_FITS);
+const TO_MODULE: Conditions<Names> = conditions!(EXECUTABLE + GROUP_FITS, None);
 
 /// A call may change the TOC pointer.
-const AFTER_CALL: Conditions<Ppc64Relocation> = conditions!(CHANGED_TOC);
+const AFTER_CALL: Conditions<Names> = conditions!(CHANGED_TOC, None);
 
-/// An entry of the table.
-pub type Ppc64Entry = ChoiceEntry<OfRewrite, RelaxationKind, Ppc64Relocation>;
-
-type Ppc64Choice = Choice<RelaxationKind, Ppc64Relocation>;
-
-static TOC16_HA: &[Ppc64Entry] = &[entry!(AddisToNop => R_PPC64_NONE, WITHOUT_HIGH_PART)];
-
-static TOC16_LO: &[Ppc64Entry] = &[entry!(BaseToToc => R_PPC64_TOC16, WITHOUT_HIGH_PART)];
-
-static TOC16_LO_DS: &[Ppc64Entry] = &[entry!(BaseToToc => R_PPC64_TOC16_DS, WITHOUT_HIGH_PART)];
-
-static GOT16_HA: &[Ppc64Entry] = &[entry!(KeepAddis => R_PPC64_TOC16_HA, TO_TOC_DISTANCE)];
-
-static GOT16_LO_DS: &[Ppc64Entry] = &[entry!(LdToAddi => R_PPC64_TOC16_LO, TO_TOC_DISTANCE)];
-
-static GOT_PCREL34: &[Ppc64Entry] = &[entry!(PldToPaddi => R_PPC64_PCREL34, TO_DISTANCE)];
-
-static GOT_TPREL16_HA: &[Ppc64Entry] = &[entry!(AddisToNop => R_PPC64_NONE, TO_LOCAL_EXEC)];
-
-static GOT_TPREL16_LO_DS: &[Ppc64Entry] = &[
-    entry!(LdToAddisThread => R_PPC64_TPREL16_HA, TO_LOCAL_EXEC),
-];
-
-static GOT_TPREL16_DS: &[Ppc64Entry] = &[
-    entry!(LdToAddisThread => R_PPC64_TPREL16_HA, TO_LOCAL_EXEC),
-];
-
-static TLS: &[Ppc64Entry] = &[
-    entry!(AddToAddi => R_PPC64_TPREL16_LO, TO_LOCAL_EXEC),
-    entry!(IndexedToD => R_PPC64_TPREL16_LO, TO_LOCAL_EXEC),
-    entry!(IndexedToDs => R_PPC64_TPREL16_LO_DS, TO_LOCAL_EXEC_WORDS),
-];
-
-static GOT_TLSGD16_HA: &[Ppc64Entry] = &[
-    entry!(AddisToNop => R_PPC64_NONE, TO_LOCAL_EXEC),
-    entry!(KeepAddis => R_PPC64_GOT_TPREL16_HA, TO_INITIAL_EXEC),
-];
-
-static GOT_TLSGD16_LO: &[Ppc64Entry] = &[
-    entry!(AddiToAddisThread => R_PPC64_TPREL16_HA, TO_LOCAL_EXEC),
-    entry!(AddiToLd => R_PPC64_GOT_TPREL16_LO_DS, TO_INITIAL_EXEC),
-];
-
-static GOT_TLSGD16: &[Ppc64Entry] = &[
-    entry!(AddiToAddisThread => R_PPC64_TPREL16_HA, TO_LOCAL_EXEC),
-    entry!(AddiToLd => R_PPC64_GOT_TPREL16_DS, TO_NEAR_INITIAL_EXEC),
-];
-
-static TLSGD: &[Ppc64Entry] = &[
-    entry!(CallToAddi => R_PPC64_TPREL16_LO, TO_LOCAL_EXEC),
-    entry!(CallToAdd => R_PPC64_NONE, TO_INITIAL_EXEC),
-];
-
-static GOT_TLSLD16_HA: &[Ppc64Entry] = &[entry!(AddisToNop => R_PPC64_NONE, TO_MODULE)];
-
-static GOT_TLSLD16_LO: &[Ppc64Entry] = &[entry!(AddiToAddisThread => R_PPC64_NONE, TO_MODULE)];
-
-static GOT_TLSLD16: &[Ppc64Entry] = &[entry!(AddiToAddisThread => R_PPC64_NONE, TO_MODULE)];
-
-static TLSLD: &[Ppc64Entry] = &[entry!(CallToAddi4096 => R_PPC64_NONE, TO_MODULE)];
-
-static REL24: &[Ppc64Entry] = &[entry!(NopToRestoreToc => R_PPC64_REL24, AFTER_CALL)];
-
-static OTHERS: &[Ppc64Entry] = &[];
-
-/// What a name's table is used for.
-macro_rules! by_table {
-    ($name:expr, $table:ident => $use:expr) => {
-        match $name {
-            Ppc64Relocation::R_PPC64_TOC16_HA => { let $table = TOC16_HA; $use }
-            Ppc64Relocation::R_PPC64_TOC16_LO => { let $table = TOC16_LO; $use }
-            Ppc64Relocation::R_PPC64_TOC16_LO_DS => { let $table = TOC16_LO_DS; $use }
-            Ppc64Relocation::R_PPC64_GOT16_HA => { let $table = GOT16_HA; $use }
-            Ppc64Relocation::R_PPC64_GOT16_LO_DS => { let $table = GOT16_LO_DS; $use }
-            Ppc64Relocation::R_PPC64_GOT_PCREL34 => { let $table = GOT_PCREL34; $use }
-            Ppc64Relocation::R_PPC64_GOT_TPREL16_HA => { let $table = GOT_TPREL16_HA; $use }
-            Ppc64Relocation::R_PPC64_GOT_TPREL16_LO_DS => { let $table = GOT_TPREL16_LO_DS; $use }
-            Ppc64Relocation::R_PPC64_GOT_TPREL16_DS => { let $table = GOT_TPREL16_DS; $use }
-            Ppc64Relocation::R_PPC64_TLS => { let $table = TLS; $use }
-            Ppc64Relocation::R_PPC64_GOT_TLSGD16_HA => { let $table = GOT_TLSGD16_HA; $use }
-            Ppc64Relocation::R_PPC64_GOT_TLSGD16_LO => { let $table = GOT_TLSGD16_LO; $use }
-            Ppc64Relocation::R_PPC64_GOT_TLSGD16 => { let $table = GOT_TLSGD16; $use }
-            Ppc64Relocation::R_PPC64_TLSGD => { let $table = TLSGD; $use }
-            Ppc64Relocation::R_PPC64_GOT_TLSLD16_HA => { let $table = GOT_TLSLD16_HA; $use }
-            Ppc64Relocation::R_PPC64_GOT_TLSLD16_LO => { let $table = GOT_TLSLD16_LO; $use }
-            Ppc64Relocation::R_PPC64_GOT_TLSLD16 => { let $table = GOT_TLSLD16; $use }
-            Ppc64Relocation::R_PPC64_TLSLD => { let $table = TLSLD; $use }
-            Ppc64Relocation::R_PPC64_REL24 => { let $table = REL24; $use }
-            _ => { let $table = OTHERS; $use }
+/// The entries of each relocation.
+macro_rules! choices {
+    ($make:ident $arguments:tt) => {
+        $make! {
+            $arguments
+            R_PPC64_TOC16_HA: [AddisToNop => R_PPC64_NONE, WITHOUT_HIGH_PART]
+            R_PPC64_TOC16_LO: [BaseToToc => R_PPC64_TOC16, WITHOUT_HIGH_PART]
+            R_PPC64_TOC16_LO_DS: [BaseToToc => R_PPC64_TOC16_DS, WITHOUT_HIGH_PART]
+            R_PPC64_GOT16_HA: [KeepAddis => R_PPC64_TOC16_HA, TO_TOC_DISTANCE]
+            R_PPC64_GOT16_LO_DS: [LdToAddi => R_PPC64_TOC16_LO, TO_TOC_DISTANCE]
+            R_PPC64_GOT_PCREL34: [PldToPaddi => R_PPC64_PCREL34, TO_DISTANCE]
+            R_PPC64_GOT_TPREL16_HA: [AddisToNop => R_PPC64_NONE, TO_LOCAL_EXEC]
+            R_PPC64_GOT_TPREL16_LO_DS: [LdToAddisThread => R_PPC64_TPREL16_HA, TO_LOCAL_EXEC]
+            R_PPC64_GOT_TPREL16_DS: [LdToAddisThread => R_PPC64_TPREL16_HA, TO_LOCAL_EXEC]
+            R_PPC64_TLS: [
+                AddToAddi => R_PPC64_TPREL16_LO, TO_LOCAL_EXEC;
+                IndexedToD => R_PPC64_TPREL16_LO, TO_LOCAL_EXEC;
+                IndexedToDs => R_PPC64_TPREL16_LO_DS, TO_LOCAL_EXEC_WORDS;
+            ]
+            R_PPC64_GOT_TLSGD16_HA: [
+                AddisToNop => R_PPC64_NONE, TO_LOCAL_EXEC;
+                KeepAddis => R_PPC64_GOT_TPREL16_HA, TO_INITIAL_EXEC;
+            ]
+            R_PPC64_GOT_TLSGD16_LO: [
+                AddiToAddisThread => R_PPC64_TPREL16_HA, TO_LOCAL_EXEC;
+                AddiToLd => R_PPC64_GOT_TPREL16_LO_DS, TO_INITIAL_EXEC;
+            ]
+            R_PPC64_GOT_TLSGD16: [
+                AddiToAddisThread => R_PPC64_TPREL16_HA, TO_LOCAL_EXEC;
+                AddiToLd => R_PPC64_GOT_TPREL16_DS, TO_NEAR_INITIAL_EXEC;
+            ]
+            R_PPC64_TLSGD: [
+                CallToAddi => R_PPC64_TPREL16_LO, TO_LOCAL_EXEC;
+                CallToAdd => R_PPC64_NONE, TO_INITIAL_EXEC;
+            ]
+            R_PPC64_GOT_TLSLD16_HA: [AddisToNop => R_PPC64_NONE, TO_MODULE]
+            R_PPC64_GOT_TLSLD16_LO: [AddiToAddisThread => R_PPC64_NONE, TO_MODULE]
+            R_PPC64_GOT_TLSLD16: [AddiToAddisThread => R_PPC64_NONE, TO_MODULE]
+            R_PPC64_TLSLD: [CallToAddi4096 => R_PPC64_NONE, TO_MODULE]
+            R_PPC64_REL24: [NopToRestoreToc => R_PPC64_REL24, AFTER_CALL]
         }
     };
 }
 
+type Table = &'static [ChoiceEntry<AskedFor, RelaxationKind, Names>];
+
+static TABLES: &[Table] = choices!(all_tables());
+
 /// The entries of a relocation.
 #[inline(always)]
-pub fn entries(name: Ppc64Relocation) -> &'static [Ppc64Entry]
-    ensures table { IsTableOf (λ (originals : OfRewrite). ppc64_matches) ppc64_matches result.now
+pub fn entries(
+    name: Ppc64Relocation,
+) -> &'static [ChoiceEntry<AskedFor, RelaxationKind, Ppc64Relocation>]
+    ensures table { IsTableOf (λ (originals : AskedFor). ppc64_matches) ppc64_matches result.now
         (ppc64_entries name) }
     ensures few { length result.now ≤ 5 }
 {
-    by_table!(name, table => table)
+    choices!(by_table(TABLES, name, table => table))
 }
 
 /// The choice by a table of a name.
 #[inline(always)]
 fn choice_by(
-    table: &'static [Ppc64Entry],
+    table: Table,
     name: Ppc64Relocation,
     section: &[u8],
     offset: u64,
     facts: &LinkFacts,
-) -> Ppc64Choice
-    requires table { IsTableOf (λ (originals : OfRewrite). ppc64_matches) ppc64_matches table.now
+) -> Choice<RelaxationKind, Ppc64Relocation>
+    requires table { IsTableOf (λ (originals : AskedFor). ppc64_matches) ppc64_matches table.now
         (ppc64_entries name) }
     requires few { length table.now ≤ 5 }
-    ensures chosen { IsPpc64Choice name section.now offset facts.now result }
-    ensures matches { ppc64_matches result.kind section.now offset }
-    ensures rewritable { CanRewrite (ppc64_rewrite result.kind) section.now offset }
+    ensures { IsPpc64Choice name section.now offset facts.now result }
 {
     let unchanged = Choice {
         kind: RelaxationKind::NoOp,
         relocation: name,
     };
     first_entry(table, section, offset, facts, unchanged)
+}
+
+/// The choice for a relocation that is listed.
+#[inline(never)]
+fn choose_listed(
+    name: Ppc64Relocation,
+    section: &[u8],
+    offset: u64,
+    facts: &LinkFacts,
+) -> Choice<RelaxationKind, Ppc64Relocation>
+    ensures { IsPpc64Choice name section.now offset facts.now result }
+{
+    choices!(by_table(TABLES, name, table => choice_by(table, name, section, offset, facts)))
 }
 
 /// Which rewrite a linker may make of the instruction at a relocation's offset, and the relocation
@@ -245,8 +213,17 @@ fn choice_by(
 ///   facts are the same for all of them, except for `place`. If one of them keeps its relocation,
 ///   all have to; where each is the instruction that its rewrites are meant for, those of a pair
 ///   and of `__tls_get_addr` are chosen alike (`relocations_are_chosen_alike`).
-/// - The register that an `addis` before a `nop` has set, and for TLS also the one that the `ld`
-///   has set, are read by the instructions of the sequence only, as the ABI asks of compilers.
+/// - Of thread-local storage nothing is rewritten without `group_fits`. The linker asks `fits` of all
+///   relocations of a sequence before it chooses for one. They are told by their names, since the
+///   instructions may be anywhere in an object: of initial-exec all `GOT_TPREL16_*`,
+///   `GOT_TPREL_PCREL34` and `TLS` of one symbol and addend; of general-dynamic all `GOT_TLSGD16_*`,
+///   `GOT_TLSGD_PCREL34` and `TLSGD` of these; and of local-dynamic all `GOT_TLSLD16_*`,
+///   `GOT_TLSLD_PCREL34` and `TLSLD` of the object. If it has a call of `__tls_get_addr` without
+///   `TLSGD` or `TLSLD` at its place, then nothing fits.
+/// - The register that an `addis` before a `nop` has set, and for TLS also the one that the `ld` or
+///   the `addi` has set, are read by the instructions of the sequence only, as the ABI asks of
+///   compilers. The number that the `addi` leaves may be copied to other registers, and what its
+///   calls take in register 3 are such copies.
 /// - `tls_base` is the thread pointer, 0x7000 above the first byte of the TLS segment. After
 ///   `CallToAddi4096` register 3 is 0x1000 above it, which the `DTPREL` relocations are relative
 ///   to.
@@ -257,7 +234,12 @@ fn choice_by(
 ///
 /// // addis 9,2,x@got@tprel@ha; ld 9,x@got@tprel@l(9); lwzx 3,9,13, in an executable that defines x
 /// let words = [0x3d22_0000u32, 0xe929_0000, 0x7c69_682e];
-/// let facts = LinkFacts { is_local: true, is_executable: true, ..LinkFacts::default() };
+/// let facts = LinkFacts {
+///     is_local: true,
+///     is_executable: true,
+///     group_fits: true,
+///     ..LinkFacts::default()
+/// };
 /// let chosen = |name, word: u32| choose(name, &word.to_le_bytes(), 0, &facts);
 /// let high = chosen(Ppc64Relocation::R_PPC64_GOT_TPREL16_HA, words[0]);
 /// assert_eq!(high.kind, RelaxationKind::AddisToNop);
@@ -266,6 +248,7 @@ fn choice_by(
 /// let load = chosen(Ppc64Relocation::R_PPC64_TLS, words[2]);
 /// assert_eq!(load.kind, RelaxationKind::IndexedToD);
 /// ```
+#[inline]
 pub fn choose(
     name: Ppc64Relocation,
     section: &[u8],
@@ -276,15 +259,51 @@ pub fn choose(
     ensures matches { ppc64_matches result.kind section.now offset }
     ensures rewritable { CanRewrite (ppc64_rewrite result.kind) section.now offset }
 {
-    by_table!(name, table => choice_by(table, name, section, offset, facts))
+    if let [] = entries(name) {
+        return Choice {
+            kind: RelaxationKind::NoOp,
+            relocation: name,
+        };
+    }
+    choose_listed(name, section, offset, facts)
+}
+
+/// Whether a relocation can be rewritten, if all others of its sequence can: whether `choose` with
+/// `group_fits` changes it. A linker asks this for each relocation of a sequence before it chooses
+/// for any of them, with the facts of each, and sets `group_fits` only if it is true of all.
+///
+/// ```
+/// use linker_utils::elf::LinkFacts;
+/// use linker_utils::ppc64::{Ppc64Relocation, fits};
+///
+/// // addis 9,2,x@got@tprel@ha; ld 9,x@got@tprel@l(9); lwaux 3,9,13, which has no form by an offset
+/// let facts = LinkFacts { is_local: true, is_executable: true, ..LinkFacts::default() };
+/// let sequence = [
+///     (Ppc64Relocation::R_PPC64_GOT_TPREL16_HA, 0x3d22_0000u32),
+///     (Ppc64Relocation::R_PPC64_GOT_TPREL16_LO_DS, 0xe929_0000),
+///     (Ppc64Relocation::R_PPC64_TLS, 0x7c69_6aea),
+/// ];
+/// let fit = sequence.map(|(name, word)| fits(name, &word.to_le_bytes(), 0, &facts));
+/// assert_eq!(fit, [true, true, false]);
+/// ```
+pub fn fits(name: Ppc64Relocation, section: &[u8], offset: u64, facts: &LinkFacts) -> bool
+    ensures { IsTrue result
+        ↔ Fits (IsPpc64Choice name section.now offset) (choice kinds.NoOp name) facts.now }
+{
+    let facts = LinkFacts {
+        group_fits: true,
+        ..*facts
+    };
+    !choose(name, section, offset, &facts).is_unchanged(name)
 }
 
 /// With the same facts, except that each has its own place, and each at an instruction that its
 /// rewrites are meant for, both relocations of a pair are rewritten alike or neither is: of an
 /// address near the TOC, of a GOT entry, and of the entry for initial-exec. And so are those of
 /// general-dynamic TLS, all for local-exec, all for initial-exec or none, and those of
-/// local-dynamic TLS. Nothing is said of `R_PPC64_TLS`: an indexed access of whole words is left
-/// where the offset isn't a multiple of 4.
+/// local-dynamic TLS, also of the small code model. Nothing is said of `R_PPC64_TLS`: an indexed
+/// access of whole words is left where the offset isn't a multiple of 4. And nothing of
+/// `R_PPC64_GOT_TLSGD16`, which is left where the entry of initial-exec isn't near the TOC pointer.
 pub fn relocations_are_chosen_alike()
     ensures toc { TocPairsAreChosenAlike }
     ensures got { GotPairIsChosenAlike }

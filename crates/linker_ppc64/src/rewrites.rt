@@ -9,7 +9,8 @@ ghost use Rattle.linker_base.specs.Rewrite.{CanRewrite, rewritten, offset_after,
 ghost use Rattle.linker_base.specs.RewriteWindow.{window_of_rewrite};
 ghost use Rattle.linker_ppc64.specs.Ppc64Rewrites.{is_addis_of_toc, is_addi, is_ld, is_access};
 ghost use Rattle.linker_ppc64.specs.Ppc64Rewrites.{is_store, is_word_access, keeps_base};
-ghost use Rattle.linker_ppc64.specs.Ppc64Rewrites.{is_d_access, is_ds_access, is_over_base};
+ghost use Rattle.linker_ppc64.specs.Ppc64Rewrites.{is_d_access, is_ds_access, is_vector_access};
+ghost use Rattle.linker_ppc64.specs.Ppc64Rewrites.{is_over_base};
 ghost use Rattle.linker_ppc64.specs.Ppc64Rewrites.{is_over_thread, is_add_of_thread, is_indexed};
 ghost use Rattle.linker_ppc64.specs.Ppc64Rewrites.{is_indexed_word, is_pld, is_call, HasTwo};
 ghost use Rattle.linker_ppc64.specs.Ppc64Rewrites.{ppc64_matches};
@@ -277,12 +278,29 @@ fn is_ds_access(word: u32) -> bool
     }
 }
 
+/// `lq`; `lxsd` and `lxssp`; `lxv`, `stxv`, `stxsd` and `stxssp`.
+#[inline(always)]
+fn is_vector_access(word: u32) -> bool
+    ensures { result ≡ is_vector_access word }
+{
+    match opcode(word) {
+        56 => true,
+        57 => low_2(word) > 1,
+        61 => low_2(word) != 0,
+        _ => false,
+    }
+}
+
 /// Whether an instruction reads its base register as the base alone.
 #[inline]
 fn is_over_base(word: u32) -> bool
     ensures { result ≡ is_over_base word }
 {
-    base(word) != 0 && (opcode(word) == 14 || is_d_access(word) || is_ds_access(word))
+    base(word) != 0
+        && (opcode(word) == 14
+            || is_d_access(word)
+            || is_ds_access(word)
+            || is_vector_access(word))
 }
 
 /// Whether the second source register is 13, the thread pointer.

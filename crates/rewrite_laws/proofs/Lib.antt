@@ -14,10 +14,12 @@ pub mod LoongArchWords
 pub mod Ppc64Accesses
 pub mod Ppc64Addresses
 pub mod Ppc64Calls
+pub mod Ppc64Copies
 pub mod Ppc64Direct
 pub mod Ppc64IndexedWords
 pub mod Ppc64Prefixed
 pub mod Ppc64Threads
+pub mod Ppc64Vectors
 pub mod Ppc64WholeWords
 pub mod Ppc64Words
 pub mod RiscVCalls

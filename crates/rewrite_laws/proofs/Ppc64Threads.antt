@@ -176,7 +176,7 @@ general_to_local entries thread f call c o s addis addi bl p blank addis_13 made
 
 -- ---- general-dynamic to initial-exec
 
-entry_small : (entry : ℕ) (o : Operands) → entry < 2 ^ 64 → AreAddresses o
+pub entry_small : (entry : ℕ) (o : Operands) → entry < 2 ^ 64 → AreAddresses o
     → AreAddresses (with_entry entry o)
 entry_small entry o below small =
     record {
@@ -252,7 +252,7 @@ general_to_initial entries f call c o s addis addi bl p entry below holds ld mad
 
 -- ---- local-dynamic to local-exec
 
-module_base : (t : ℕ) → moved (moved t ((ppc64_form D).machine 0x3c6d0000 *ℤ pos (2 ^ 16)))
+pub module_base : (t : ℕ) → moved (moved t ((ppc64_form D).machine 0x3c6d0000 *ℤ pos (2 ^ 16)))
     ((ppc64_form D).machine 0x38631000) ≡ sum_64 t 0x1000
 unfolding place_sum
 module_base t =

@@ -6,20 +6,23 @@ use Rattle.std.specs.Int.{w32, w64, from_le_bytes}
 use Rattle.linker_ppc64.specs.Ppc64Rewrites.{is_addis_of_toc, is_ld, is_add_of_thread, is_call}
 use Rattle.linker_ppc64.specs.Ppc64Rewrites.{is_indexed, is_store, is_d_access, is_addi}
 use Rattle.linker_ppc64.specs.Ppc64Rewrites.{is_ds_access, is_indexed_word, is_pld}
+use Rattle.linker_ppc64.specs.Ppc64Rewrites.{is_vector_access}
 use Rattle.linker_elf.specs.Ppc64Relocations.{ppc64_row}
+use Rattle.linker_elf.specs.Relocate.{ppc64_reads}
 use Rattle.linker_ppc64.specs.Ppc64Rewrites.{ppc64_rewrite, opcode_of, rt_of, ra_of, access_of}
 use Rattle.linker_base.specs.Bits.{field}
 use Rattle.linker_elf.specs.Value.{sum_64, difference_64}
 use Rattle.linker_elf.specs.declared.elf.value.Operands.{Operands}
+use Rattle.linker_elf.specs.declared.ppc64.forms.Ppc64Instruction.TheVariants.{D, Ds}
 use Rattle.linker_elf.specs.declared.ppc64.relocations.Ppc64Relocation.{Ppc64Relocation}
 use Rattle.linker_elf.specs.declared.ppc64.relocations.Ppc64Relocation.TheVariants as names
 use Rattle.linker_ppc64.specs.declared.rewrites.RelaxationKind.{RelaxationKind}
 use Rattle.linker_ppc64.specs.declared.rewrites.RelaxationKind.TheVariants as kinds
 use Rattle.relocation_laws.specs.Schemes.{IsApplied, AreAddresses, symbol_address}
-use Rattle.rewrite_laws.specs.Machine.{loaded}
-use Rattle.rewrite_laws.specs.Ppc64Machine.{State, Formats, step, run, RunAlikeBut}
+use Rattle.rewrite_laws.specs.Machine.{loaded, moved}
+use Rattle.rewrite_laws.specs.Ppc64Machine.{State, Formats, base, step, run, RunAlikeBut}
 use Rattle.rewrite_laws.specs.Ppc64Machine.{step_prefixed, AreAlikeBut}
-use Rattle.rewrite_laws.specs.Ppc64Machine.{write, go_on, but_loaded, access_with, Access}
+use Rattle.rewrite_laws.specs.Ppc64Machine.{write, go_on, gone_on, but_loaded, access_with, Access}
 use Rattle.rewrite_laws.specs.Ppc64Machine.{loads, loads_signed, stores, word_access_with}
 
 -- ---- instructions as bytes
@@ -211,6 +214,34 @@ AddiNearToc =
     → RunAlikeBut f (is_only (rt_of (word_of addis)) (rt_of (word_of insn)))
     (two addis_of_symbol insn_of_symbol) (two blank over_of_symbol) s
 
+abbrev pub is_vector_over_base : ℕ → Bool
+is_vector_over_base word = is_vector_access word && not (ra_of word == 0)
+
+-- the base and the displacement
+abbrev pub address_read : ℕ → State → ℕ
+address_read word s = moved (base (ra_of word) s) (ppc64_reads Ds word)
+
+-- Words have the same opcode and the same register to load or store.
+pub record HaveSameAccess (x y : ℕ) : Type 0 where
+  pub opcode : opcode_of x ≡ opcode_of y
+  pub register : rt_of x ≡ rt_of y
+
+-- `lq` and accesses of vector registers, of which the machine has none: `addis rX,2` and one over rX,
+-- and `nop` and the same over register 2, access one address.
+abbrev pub VectorAccessNearToc : Type 0
+VectorAccessNearToc =
+    (f : Formats) (o : Operands) (s : State) (addis insn blank over : List ℕ)
+    → IsTocPair is_vector_over_base o s addis insn
+    → IsRewritten kinds.AddisToNop addis blank → IsRewritten kinds.BaseToToc insn over
+    → (at : ℕ) (addis_of_symbol insn_of_symbol over_of_symbol : List ℕ)
+    → IsRelocated names.R_PPC64_TOC16_HA o addis addis_of_symbol
+    → IsRelocated names.R_PPC64_TOC16_LO_DS (at_place at o) insn insn_of_symbol
+    → IsRelocated names.R_PPC64_TOC16_DS o over over_of_symbol
+    → IsSomeAnd (step f (word_of addis_of_symbol) s) (λ t.
+    IsSomeAnd (step f (word_of blank) s) (λ u.
+    address_read (word_of insn_of_symbol) t ≡ address_read (word_of over_of_symbol) u))
+    × HaveSameAccess (word_of insn_of_symbol) (word_of over_of_symbol)
+
 -- ---- relative to the instruction
 
 -- the number of the 8 bytes of a prefixed instruction
@@ -340,6 +371,133 @@ LocalDynamicToLocalExec =
     → RunAlikeBehindCall f call (and_register (rt_of (word_of addis)) c)
     (three addis_of_entry addi_of_entry bl) (word_of (drop 4 bl))
     (four blank addis_13 made (drop 4 made)) s
+
+-- ---- one instruction of a sequence whose instructions are apart
+
+-- Words change no more than some registers and go on, and one register then has such a number.
+abbrev pub Leaves : Formats → (ℕ → Bool) → List ℕ → State → ℕ → (ℕ → Type 0) → Type 0
+Leaves f changed words s r Is =
+    IsSomeAnd (run f words s) (λ t. Is (t.registers r) × AreAlikeBut changed (gone_on words s) t)
+
+abbrev pub only : ℕ → ℕ → Bool
+only r n = n == r
+
+abbrev pub one : List ℕ → List ℕ
+one insn = word_of insn ∷ []
+
+-- An instruction over register 2, the TOC pointer.
+pub record IsOverToc (test : ℕ → Bool) (o : Operands) (s : State) (insn : List ℕ) : Type 0 where
+  pub small : AreAddresses o
+  pub toc : s.registers 2 ≡ o.got_base
+  pub insn_is : IsTrue (test (word_of insn))
+  pub base : ra_of (word_of insn) ≡ 2
+
+-- The low half of a variable's address from a number in a register: in `addi`, `lwz` and so on, and in
+-- `ld`, `std` and `lwa`.
+abbrev pub LowHalfLeads : Operands → ℕ → ℕ → Type 0
+LowHalfLeads o number target =
+    (there : ℕ) (insn over : List ℕ)
+    → (IsRelocated names.R_PPC64_TPREL16_LO (at_place there o) insn over
+    → moved number (ppc64_reads D (word_of over)) ≡ target)
+    × (IsRelocated names.R_PPC64_TPREL16_LO_DS (at_place there o) insn over
+    → moved number (ppc64_reads Ds (word_of over)) ≡ target)
+
+-- `ld rT,x(2)` of the GOT entry leaves the offset of the variable in rT. After `addis rT,13` the low
+-- half leads to what the sum of that offset and of the thread pointer is.
+abbrev pub NearInitialExecToLocalExec : Type 0
+NearInitialExecToLocalExec =
+    (f : Formats) (o : Operands) (s : State) (ld addis_13 : List ℕ) → IsOverToc is_ld o s ld
+    → loaded 8 s.memory o.got_entry ≡ thread_offset o
+    → IsRewritten kinds.LdToAddisThread ld addis_13
+    → (ld_of_entry addis_of_symbol : List ℕ)
+    → IsRelocated names.R_PPC64_GOT_TPREL16_DS o ld ld_of_entry
+    → IsRelocated names.R_PPC64_TPREL16_HA o addis_13 addis_of_symbol
+    → Leaves f (only (rt_of (word_of ld))) (one ld_of_entry) s (rt_of (word_of ld))
+    (λ n. n ≡ thread_offset o)
+    × Leaves f (only (rt_of (word_of ld))) (one addis_of_symbol) s (rt_of (word_of ld))
+    (λ n. LowHalfLeads o n (sum_64 (thread_offset o) (s.registers 13)))
+
+-- ---- an argument of `__tls_get_addr` in any register, from which it is copied to register 3
+
+-- `addi rT,2` leaves the address of the GOT entry in rT.
+abbrev pub NearArgument : Ppc64Relocation → Type 0
+NearArgument name =
+    (f : Formats) (o : Operands) (s : State) (addi addi_of_entry : List ℕ)
+    → IsOverToc is_addi o s addi → IsRelocated name o addi addi_of_entry
+    → Leaves f (only (rt_of (word_of addi))) (one addi_of_entry) s (rt_of (word_of addi))
+    (λ n. n ≡ o.got_entry)
+
+-- So do `addis rX,2` and `addi rT,rX`.
+abbrev pub PairArgument : Ppc64Relocation → Ppc64Relocation → Type 0
+PairArgument high low =
+    (f : Formats) (o : Operands) (s : State) (addis addi : List ℕ) → IsTocPair is_addi o s addis addi
+    → (at : ℕ) (addis_of_entry addi_of_entry : List ℕ) → IsRelocated high o addis addis_of_entry
+    → IsRelocated low (at_place at o) addi addi_of_entry
+    → Leaves f (λ n. n == rt_of (word_of addi) || n == rt_of (word_of addis))
+    (two addis_of_entry addi_of_entry) s (rt_of (word_of addi)) (λ n. n ≡ o.got_entry)
+
+abbrev pub Arguments : Type 0
+Arguments =
+    NearArgument names.R_PPC64_GOT_TLSGD16 × NearArgument names.R_PPC64_GOT_TLSLD16
+    × PairArgument names.R_PPC64_GOT_TLSGD16_HA names.R_PPC64_GOT_TLSGD16_LO
+    × PairArgument names.R_PPC64_GOT_TLSLD16_HA names.R_PPC64_GOT_TLSLD16_LO
+
+-- What takes the place of a call, where register 3 has a number, leaves another one there.
+abbrev pub CallLeaves : Formats → List ℕ → ℕ → ℕ → Type 0
+CallLeaves f made number result =
+    (t : State) → t.registers 3 ≡ number → Leaves f (only 3) made t 3 (λ n. n ≡ result)
+
+-- `addis rT,13`, in place of the `addi`, and `nop` and `addi 3,3` in place of the call: the address of
+-- the variable.
+abbrev pub ArgumentToLocalExec : Type 0
+ArgumentToLocalExec =
+    (f : Formats) (o : Operands) (s : State) (addi bl addis_13 made : List ℕ) → AreAddresses o
+    → IsRewritten kinds.AddiToAddisThread addi addis_13 → IsRewritten kinds.CallToAddi bl made
+    → (there : ℕ) (addis_of_symbol addi_of_symbol : List ℕ)
+    → IsRelocated names.R_PPC64_TPREL16_HA o addis_13 addis_of_symbol
+    → IsRelocated names.R_PPC64_TPREL16_LO (at_place there o) (drop 4 made) addi_of_symbol
+    → Leaves f (only (rt_of (word_of addi))) (one addis_of_symbol) s (rt_of (word_of addi))
+    (λ n. CallLeaves f (two made addi_of_symbol) n (sum_64 (thread_offset o) (s.registers 13)))
+
+-- A number in register 3 to which `nop` and `add 3,3,13`, in place of the call, add the thread pointer.
+abbrev pub CallAddsThread : Formats → Operands → List ℕ → State → ℕ → Type 0
+CallAddsThread f o made s number =
+    (t : State) → t.registers 3 ≡ number → t.registers 13 ≡ s.registers 13
+    → Leaves f (only 3) (two made (drop 4 made)) t 3
+    (λ n. n ≡ sum_64 (thread_offset o) (s.registers 13))
+
+-- `ld rT,x(2)` of the GOT entry of initial-exec in place of `addi rT,2`.
+abbrev pub NearArgumentToInitialExec : Type 0
+NearArgumentToInitialExec =
+    (f : Formats) (o : Operands) (s : State) (addi bl ld made : List ℕ) → IsOverToc is_addi o s addi
+    → (entry : ℕ) → entry < 2 ^ 64 → loaded 8 s.memory entry ≡ thread_offset o
+    → IsRewritten kinds.AddiToLd addi ld → IsRewritten kinds.CallToAdd bl made
+    → (ld_of_entry : List ℕ)
+    → IsRelocated names.R_PPC64_GOT_TPREL16_DS (with_entry entry o) ld ld_of_entry
+    → Leaves f (only (rt_of (word_of addi))) (one ld_of_entry) s (rt_of (word_of addi))
+    (CallAddsThread f o made s)
+
+-- `ld rT,rX` of it in place of `addi rT,rX`, behind `addis rX,2`.
+abbrev pub ArgumentToInitialExec : Type 0
+ArgumentToInitialExec =
+    (f : Formats) (o : Operands) (s : State) (addis addi bl ld made : List ℕ)
+    → IsTocPair is_addi o s addis addi
+    → (entry : ℕ) → entry < 2 ^ 64 → loaded 8 s.memory entry ≡ thread_offset o
+    → IsRewritten kinds.AddiToLd addi ld → IsRewritten kinds.CallToAdd bl made
+    → (at : ℕ) (addis_of_entry ld_of_entry : List ℕ)
+    → IsRelocated names.R_PPC64_GOT_TPREL16_HA (with_entry entry o) addis addis_of_entry
+    → IsRelocated names.R_PPC64_GOT_TPREL16_LO_DS (at_place at (with_entry entry o)) ld ld_of_entry
+    → Leaves f (λ n. n == rt_of (word_of addi) || n == rt_of (word_of addis))
+    (two addis_of_entry ld_of_entry) s (rt_of (word_of addi)) (CallAddsThread f o made s)
+
+-- `addis rT,13,0` in place of the `addi`, and `nop` and `addi 3,3,4096` in place of the call: 0x1000
+-- above the thread pointer.
+abbrev pub ArgumentToModule : Type 0
+ArgumentToModule =
+    (f : Formats) (s : State) (addi bl addis_13 made : List ℕ)
+    → IsRewritten kinds.AddiToAddisThread addi addis_13 → IsRewritten kinds.CallToAddi4096 bl made
+    → Leaves f (only (rt_of (word_of addi))) (one addis_13) s (rt_of (word_of addi))
+    (λ n. CallLeaves f (two made (drop 4 made)) n (sum_64 (s.registers 13) 0x1000))
 
 -- ---- the TOC pointer after a call
 

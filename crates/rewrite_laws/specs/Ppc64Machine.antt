@@ -206,6 +206,11 @@ step_prefixed f both s =
 
 -- ---- sequences
 
+-- on behind some instructions
+abbrev pub gone_on : List ℕ → State → State
+gone_on [] s = s
+gone_on (word ∷ words) s = gone_on words (go_on s)
+
 -- what a run is after its first instruction, if that goes on to the next
 abbrev pub continue : ℕ → (State → Option State) → Option State → Option State
 continue next rest None = None

@@ -44,7 +44,9 @@ pub fn aarch64()
 /// PowerPC64: the address of a symbol by its distance from the TOC pointer or from the instruction and
 /// not by its GOT entry, and by one instruction where the distance from the TOC pointer has no high part;
 /// the address of a variable, and loads and stores of it, by its offset from the thread pointer and not
-/// by a GOT entry or a call of `__tls_get_addr`; the TOC pointer restored behind a call.
+/// by a GOT entry or a call of `__tls_get_addr`; what is left in a register by one instruction of such a
+/// sequence, in the small code model and where the argument of `__tls_get_addr` is copied; the TOC
+/// pointer restored behind a call.
 pub fn ppc64()
     ensures got { ppc64_laws.GotToAddress }
     ensures initial_exec { ppc64_laws.InitialExecToLocalExec }
@@ -54,9 +56,16 @@ pub fn ppc64()
     ensures general_to_local { ppc64_laws.GeneralDynamicToLocalExec }
     ensures general_to_initial { ppc64_laws.GeneralDynamicToInitialExec }
     ensures local_dynamic { ppc64_laws.LocalDynamicToLocalExec }
+    ensures near_initial_exec { ppc64_laws.NearInitialExecToLocalExec }
+    ensures arguments { ppc64_laws.Arguments }
+    ensures argument_to_local { ppc64_laws.ArgumentToLocalExec }
+    ensures argument_to_initial { ppc64_laws.ArgumentToInitialExec }
+    ensures near_argument_to_initial { ppc64_laws.NearArgumentToInitialExec }
+    ensures argument_to_module { ppc64_laws.ArgumentToModule }
     ensures near_toc { ppc64_laws.AddiNearToc }
     ensures access_near_toc { ppc64_laws.AccessNearToc }
     ensures word_access_near_toc { ppc64_laws.WordAccessNearToc }
+    ensures vector_access_near_toc { ppc64_laws.VectorAccessNearToc }
     ensures toc { ppc64_laws.RestoresToc }
 {
     relocation_laws::ppc64();

@@ -5,6 +5,7 @@ use crate::elf::{Relocation, Section};
 use crate::forms::{self, Addend, Base, Form};
 use linker_utils::architecture::Relaxation;
 use linker_utils::elf::{Architecture, InstructionRewrite, Operands, Row};
+use linker_utils::ppc64;
 use linker_utils::reading::{FieldValue, read, solve};
 use linker_utils::recognise::{self, FieldBits};
 use linker_utils::relaxation::RelocationModifier;
@@ -28,12 +29,14 @@ impl Chosen {
     /// Whether it changes instructions.
     pub fn is_rewrite(&self) -> bool {
         match self.kind {
+            // of these only the relocation changes
+            Kind::Library(Relaxation::Ppc64(ppc64::RelaxationKind::KeepAddis)) => false,
             Kind::Library(kind) => !kind.is_no_op(),
             Kind::Own(form) => !form.name.is_empty(),
         }
     }
 
-    /// The rewrite's name, and nothing for `NoOp`.
+    /// The rewrite's name, and nothing where only the relocation changes.
     pub fn name(&self) -> Option<String> {
         self.is_rewrite().then(|| match self.kind {
             Kind::Own(form) => form.name.to_string(),

@@ -203,10 +203,25 @@ fn is_ds_access(word: u32) -> bool {
     }
 }
 
+/// `lq`; `lxsd` and `lxssp`; `lxv`, `stxv`, `stxsd` and `stxssp`.
+#[inline(always)]
+fn is_vector_access(word: u32) -> bool {
+    match opcode(word) {
+        56 => true,
+        57 => low_2(word) > 1,
+        61 => low_2(word) != 0,
+        _ => false,
+    }
+}
+
 /// Whether an instruction reads its base register as the base alone.
 #[inline]
 fn is_over_base(word: u32) -> bool {
-    base(word) != 0 && (opcode(word) == 14 || is_d_access(word) || is_ds_access(word))
+    base(word) != 0
+        && (opcode(word) == 14
+            || is_d_access(word)
+            || is_ds_access(word)
+            || is_vector_access(word))
 }
 
 /// Whether the second source register is 13, the thread pointer.

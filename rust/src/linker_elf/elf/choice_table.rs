@@ -270,3 +270,91 @@ pub fn first_entry<O: Originals<K>, K: ChosenKind, R: RelocationName>(
     }
     otherwise
 }
+
+// The macros below make an architecture's tables of its `choices!`, which lists for each relocation,
+// or for several with `|` between, its entries in brackets. The module that calls them has the enums
+// `RelaxationKind`, `AskedFor` and, by the name `Names`, that of the relocations.
+
+/// Conditions: facts, the addend, and what holds of values, each as a `ValueCondition` with the name
+/// of a relocation.
+macro_rules! conditions {
+    ($facts:expr, $addend:expr $(, $value:ident $(($name:ident $(, $argument:expr)*))?)*) => {
+        $crate::linker_elf::elf::choice_table::Conditions {
+            facts: $facts,
+            addend: $addend,
+            values: &[
+                $($crate::linker_elf::elf::choice_table::ValueCondition::$value
+                    $((Names::$name $(, $argument)*))?,)*
+            ],
+        }
+    };
+}
+
+/// The instructions that an entry is for: those of its rewrite, if no others are named.
+macro_rules! originals {
+    () => { AskedFor::OfRewrite };
+    ($originals:ident $(($($argument:expr),*))?) => {
+        AskedFor::$originals $(($($argument),*))?
+    };
+}
+
+/// A table: of each entry the rewrite, the instructions behind `at`, the relocation after it, and the
+/// conditions.
+macro_rules! table_of {
+    ([$(
+        $kind:ident $(($n:expr))? $(at $originals:ident $(($($argument:expr),*))?)?
+            => $name:ident, $conditions:expr
+    );* $(;)?]) => {
+        &[
+            $($crate::linker_elf::elf::choice_table::ChoiceEntry {
+                originals: $crate::linker_elf::elf::choice_table::originals!(
+                    $($originals $(($($argument),*))?)?
+                ),
+                kind: RelaxationKind::$kind $(($n))?,
+                relocation: Names::$name,
+                conditions: $conditions,
+            },)*
+        ]
+    };
+}
+
+/// All tables in their order, and behind them that of relocations that aren't listed, which is empty.
+macro_rules! all_tables {
+    (() $($($name:ident)|+: $entries:tt)*) => {
+        &[$($crate::linker_elf::elf::choice_table::table_of!($entries),)* &[]]
+    };
+}
+
+/// What the table of a name is used for. Each use is one of a constant table.
+macro_rules! by_table {
+    ($arguments:tt $($($name:ident)|+: $entries:tt)*) => {
+        $crate::linker_elf::elf::choice_table::by_table!(
+            @ $arguments [$([$($name)|+])*] []
+            0 1 2 3 4 5 6 7 8 9 10 11 12 13 14 15 16 17 18 19 20 21 22 23 24 25 26 27 28 29 30 31
+            32 33 34 35 36 37 38 39 40 41 42 43 44 45 46 47 48 49 50 51 52 53 54 55 56 57 58 59 60
+        )
+    };
+    (
+        @ $arguments:tt [$names:tt $($rest:tt)*] [$($arms:tt)*]
+        $index:literal $($further:literal)*
+    ) => {
+        $crate::linker_elf::elf::choice_table::by_table!(
+            @ $arguments [$($rest)*] [$($arms)* $names $index] $($further)*
+        )
+    };
+    (
+        @ ($tables:ident, $value:expr, $table:ident => $use:expr)
+        [] [$([$($name:ident)|+] $index:literal)*] $last:literal $($further:literal)*
+    ) => {
+        match $value {
+            $($(Names::$name)|+ => { let $table = $tables[$index]; $use })*
+            _ => { let $table = $tables[$last]; $use }
+        }
+    };
+}
+
+pub(crate) use all_tables;
+pub(crate) use by_table;
+pub(crate) use conditions;
+pub(crate) use originals;
+pub(crate) use table_of;

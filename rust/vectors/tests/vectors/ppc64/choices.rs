@@ -14,6 +14,7 @@ fn own() -> LinkFacts {
         is_executable: true,
         has_private_base: true,
         may_change_toc: true,
+        group_fits: true,
         has_addresses: true,
         operands: Operands {
             symbol: 0x1001_0018,
@@ -26,6 +27,17 @@ fn own() -> LinkFacts {
         },
         ..LinkFacts::default()
     }
+}
+
+/// What is chosen for two words.
+fn chosen_for(
+    name: Ppc64Relocation,
+    words: [u32; 2],
+    facts: &LinkFacts,
+) -> Choice<RelaxationKind, Ppc64Relocation> {
+    let [a, b, c, d] = words[0].to_le_bytes();
+    let [e, f, g, h] = words[1].to_le_bytes();
+    choose(name, &[a, b, c, d, e, f, g, h], 0, facts)
 }
 
 /// Rewrites two words, writes the value, and returns the choice and the words.
@@ -57,7 +69,7 @@ const CALL: [u32; 2] = [0x4800_0001, 0x6000_0000];
 
 #[test]
 fn own_symbols_need_no_entry() {
-    let table: [Rewritten; 19] = [
+    let table: [Rewritten; 24] = [
         (
             Ppc64Relocation::R_PPC64_TOC16_HA,
             [0x3d22_0000, 0],
@@ -82,7 +94,7 @@ fn own_symbols_need_no_entry() {
         (
             Ppc64Relocation::R_PPC64_GOT16_HA,
             [0x3d22_0000, 0],
-            RelaxationKind::NoOp,
+            RelaxationKind::KeepAddis,
             Ppc64Relocation::R_PPC64_TOC16_HA,
             [0x3d22_0000, 0],
         ),
@@ -110,6 +122,13 @@ fn own_symbols_need_no_entry() {
         (
             Ppc64Relocation::R_PPC64_GOT_TPREL16_LO_DS,
             [0xe929_0000, 0],
+            RelaxationKind::LdToAddisThread,
+            Ppc64Relocation::R_PPC64_TPREL16_HA,
+            [0x3d2d_0000, 0],
+        ),
+        (
+            Ppc64Relocation::R_PPC64_GOT_TPREL16_DS,
+            [0xe922_0000, 0],
             RelaxationKind::LdToAddisThread,
             Ppc64Relocation::R_PPC64_TPREL16_HA,
             [0x3d2d_0000, 0],
@@ -164,6 +183,20 @@ fn own_symbols_need_no_entry() {
             [0x3c6d_0000, 0],
         ),
         (
+            Ppc64Relocation::R_PPC64_GOT_TLSGD16_LO,
+            [0x3bff_0000, 0],
+            RelaxationKind::AddiToAddisThread,
+            Ppc64Relocation::R_PPC64_TPREL16_HA,
+            [0x3fed_0000, 0],
+        ),
+        (
+            Ppc64Relocation::R_PPC64_GOT_TLSGD16,
+            [0x3862_0000, 0],
+            RelaxationKind::AddiToAddisThread,
+            Ppc64Relocation::R_PPC64_TPREL16_HA,
+            [0x3c6d_0000, 0],
+        ),
+        (
             Ppc64Relocation::R_PPC64_TLSGD,
             CALL,
             RelaxationKind::CallToAddi,
@@ -173,6 +206,20 @@ fn own_symbols_need_no_entry() {
         (
             Ppc64Relocation::R_PPC64_GOT_TLSLD16_LO,
             [0x3869_0000, 0],
+            RelaxationKind::AddiToAddisThread,
+            Ppc64Relocation::R_PPC64_NONE,
+            [0x3c6d_0000, 0],
+        ),
+        (
+            Ppc64Relocation::R_PPC64_GOT_TLSLD16_LO,
+            [0x3bff_0000, 0],
+            RelaxationKind::AddiToAddisThread,
+            Ppc64Relocation::R_PPC64_NONE,
+            [0x3fed_0000, 0],
+        ),
+        (
+            Ppc64Relocation::R_PPC64_GOT_TLSLD16,
+            [0x3862_0000, 0],
             RelaxationKind::AddiToAddisThread,
             Ppc64Relocation::R_PPC64_NONE,
             [0x3c6d_0000, 0],
@@ -199,13 +246,45 @@ fn own_symbols_need_no_entry() {
     }
 }
 
+/// `lxsd 0,0(9)`, `lxssp 0,0(9)`, `stxsd 0,0(9)` and `stxssp 0,0(9)`; of a multiple of 16 bytes `lxv`
+/// and `stxv` of registers 0 and 32, and `lq 4,0(9)`.
+#[test]
+fn vectors_are_near_the_toc() {
+    let name = Ppc64Relocation::R_PPC64_TOC16_LO_DS;
+    let chosen =
+        Choice { kind: RelaxationKind::BaseToToc, relocation: Ppc64Relocation::R_PPC64_TOC16_DS };
+    let mut facts = own();
+    for (before, after) in [
+        (0xe409_0002, 0xe402_801a),
+        (0xe409_0003, 0xe402_801b),
+        (0xf409_0002, 0xf402_801a),
+        (0xf409_0003, 0xf402_801b),
+    ] {
+        assert_eq!(linked(name, [before, 0], &facts), (chosen, [after, 0]));
+    }
+    facts.operands.symbol = 0x1001_0020;
+    for (before, after) in [
+        (0xf409_0001, 0xf402_8021),
+        (0xf409_0009, 0xf402_8029),
+        (0xf409_0005, 0xf402_8025),
+        (0xf409_000d, 0xf402_802d),
+        (0xe089_0000, 0xe082_8020),
+    ] {
+        assert_eq!(linked(name, [before, 0], &facts), (chosen, [after, 0]));
+    }
+    // `lfdp 0,0(9)`, `stfdp 0,0(9)` and `stq 4,0(9)`
+    for word in [0xe409_0000, 0xf409_0000, 0xf889_0002] {
+        assert!(chosen_for(name, [word, 0], &facts).is_unchanged(name));
+    }
+}
+
 #[test]
 fn other_variables_of_an_executable_have_an_entry() {
-    let table: [Rewritten; 3] = [
+    let table: [Rewritten; 5] = [
         (
             Ppc64Relocation::R_PPC64_GOT_TLSGD16_HA,
             [0x3d22_0000, 0],
-            RelaxationKind::NoOp,
+            RelaxationKind::KeepAddis,
             Ppc64Relocation::R_PPC64_GOT_TPREL16_HA,
             [0x3d22_0000, 0],
         ),
@@ -215,6 +294,20 @@ fn other_variables_of_an_executable_have_an_entry() {
             RelaxationKind::AddiToLd,
             Ppc64Relocation::R_PPC64_GOT_TPREL16_LO_DS,
             [0xe869_8100, 0],
+        ),
+        (
+            Ppc64Relocation::R_PPC64_GOT_TLSGD16_LO,
+            [0x3bff_0000, 0],
+            RelaxationKind::AddiToLd,
+            Ppc64Relocation::R_PPC64_GOT_TPREL16_LO_DS,
+            [0xebff_8100, 0],
+        ),
+        (
+            Ppc64Relocation::R_PPC64_GOT_TLSGD16,
+            [0x3862_0000, 0],
+            RelaxationKind::AddiToLd,
+            Ppc64Relocation::R_PPC64_GOT_TPREL16_DS,
+            [0xe862_8100, 0],
         ),
         (
             Ppc64Relocation::R_PPC64_TLSGD,
@@ -234,28 +327,78 @@ fn other_variables_of_an_executable_have_an_entry() {
 
 #[test]
 fn other_instructions_stay() {
-    // `addis 9,3`; `lwzu 3,0(9)`; `std 9,0(9)`; `ld 3,0(0)`; `add 3,9,12`; `lwzux 3,9,13`; `stwx
-    // 9,9,13`; `bl` without `nop`; `addi 4,9,0`
-    let table: [(Ppc64Relocation, [u32; 2]); 9] = [
+    // `addis 9,3`; `lwzu 3,0(9)`; `std 9,0(9)`; `addis 9,3` twice; `ld 3,0(0)`; `add 3,9,12`; `lwzux
+    // 3,9,13`; `stwx 9,9,13`; `lwaux 3,9,13`; `bl` without `nop`; `li 4,0`; and of calls by their
+    // address `mtctr 12` and `bctrl`
+    let table: [(Ppc64Relocation, [u32; 2]); 14] = [
         (Ppc64Relocation::R_PPC64_TOC16_HA, [0x3d23_0000, 0]),
         (Ppc64Relocation::R_PPC64_TOC16_LO, [0x8469_0000, 0]),
         (Ppc64Relocation::R_PPC64_TOC16_LO_DS, [0xf929_0000, 0]),
+        (Ppc64Relocation::R_PPC64_GOT16_HA, [0x3d23_0000, 0]),
+        (Ppc64Relocation::R_PPC64_GOT_TLSGD16_HA, [0x3d23_0000, 0]),
         (Ppc64Relocation::R_PPC64_GOT16_LO_DS, [0xe860_0000, 0]),
         (Ppc64Relocation::R_PPC64_TLS, [0x7c69_6214, 0]),
         (Ppc64Relocation::R_PPC64_TLS, [0x7c69_686e, 0]),
         (Ppc64Relocation::R_PPC64_TLS, [0x7d29_692e, 0]),
+        (Ppc64Relocation::R_PPC64_TLS, [0x7c69_6aea, 0]),
         (Ppc64Relocation::R_PPC64_TLSGD, [0x4800_0001, 0x4800_0001]),
-        (Ppc64Relocation::R_PPC64_GOT_TLSGD16_LO, [0x3889_0000, 0]),
+        (Ppc64Relocation::R_PPC64_GOT_TLSGD16_LO, [0x3880_0000, 0]),
+        (Ppc64Relocation::R_PPC64_TLSGD, [0x7d89_03a6, 0x4e80_0421]),
+        (Ppc64Relocation::R_PPC64_TLSLD, [0x4e80_0421, 0x6000_0000]),
     ];
     for (name, before) in table {
-        let chosen = {
-            let [a, b, c, d] = before[0].to_le_bytes();
-            let [e, f, g, h] = before[1].to_le_bytes();
-            choose(name, &[a, b, c, d, e, f, g, h], 0, &own())
-        };
+        let chosen = chosen_for(name, before, &own());
         let unchanged = Choice { kind: RelaxationKind::NoOp, relocation: name };
         assert_eq!(chosen, unchanged, "{before:?}");
     }
+}
+
+/// The relocations of thread-local sequences, each with two words where it is rewritten.
+const OF_SEQUENCES: [(Ppc64Relocation, [u32; 2]); 12] = [
+    (Ppc64Relocation::R_PPC64_GOT_TPREL16_HA, [0x3d22_0000, 0]),
+    (Ppc64Relocation::R_PPC64_GOT_TPREL16_LO_DS, [0xe929_0000, 0]),
+    (Ppc64Relocation::R_PPC64_GOT_TPREL16_DS, [0xe922_0000, 0]),
+    (Ppc64Relocation::R_PPC64_TLS, [0x7c69_6a14, 0]),
+    (Ppc64Relocation::R_PPC64_GOT_TLSGD16_HA, [0x3d22_0000, 0]),
+    (Ppc64Relocation::R_PPC64_GOT_TLSGD16_LO, [0x3869_0000, 0]),
+    (Ppc64Relocation::R_PPC64_GOT_TLSGD16, [0x3862_0000, 0]),
+    (Ppc64Relocation::R_PPC64_TLSGD, CALL),
+    (Ppc64Relocation::R_PPC64_GOT_TLSLD16_HA, [0x3d22_0000, 0]),
+    (Ppc64Relocation::R_PPC64_GOT_TLSLD16_LO, [0x3869_0000, 0]),
+    (Ppc64Relocation::R_PPC64_GOT_TLSLD16, [0x3862_0000, 0]),
+    (Ppc64Relocation::R_PPC64_TLSLD, CALL),
+];
+
+#[test]
+fn sequences_are_rewritten_whole() {
+    let apart = LinkFacts { group_fits: false, ..own() };
+    for (name, words) in OF_SEQUENCES {
+        for is_local in [false, true] {
+            let chosen = chosen_for(name, words, &LinkFacts { is_local, ..apart });
+            assert!(chosen.is_unchanged(name), "{name:?}");
+        }
+        assert!(!chosen_for(name, words, &own()).is_unchanged(name), "{name:?}");
+    }
+    // those of prefixed instructions, and the high halves without `@ha`, have no rewrites
+    for name in [
+        Ppc64Relocation::R_PPC64_GOT_TPREL_PCREL34,
+        Ppc64Relocation::R_PPC64_GOT_TLSGD_PCREL34,
+        Ppc64Relocation::R_PPC64_GOT_TLSLD_PCREL34,
+        Ppc64Relocation::R_PPC64_GOT_TPREL16_HI,
+    ] {
+        assert!(chosen_for(name, [0x0410_0000, 0xe460_0000], &own()).is_unchanged(name));
+    }
+}
+
+/// Behind a `pld` the mark of `add 3,9,13` is at its second byte, even where `add 3,9,13` can be read
+/// there too.
+#[test]
+fn marks_of_prefixed_sequences_stay() {
+    let name = Ppc64Relocation::R_PPC64_TLS;
+    let [a, b, c, d] = 0x7c69_6a14u32.to_le_bytes();
+    let section = [a, b, c, d, 0, a, b, c, d];
+    assert!(!choose(name, &section, 0, &own()).is_unchanged(name));
+    assert!(choose(name, &section, 5, &own()).is_unchanged(name));
 }
 
 /// The two words of eight bytes.
@@ -279,6 +422,7 @@ fn words_match_linkers() {
             has_fixed_distance: true,
             is_executable: true,
             has_private_base: true,
+            group_fits: true,
             has_addresses: true,
             operands: Operands {
                 symbol,
