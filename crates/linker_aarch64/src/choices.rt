@@ -22,8 +22,7 @@ use linker_base::rewrite::has_window;
 use linker_elf::aarch64::{AArch64Relocation, AArch64Relocation as Names};
 use linker_elf::elf::choice_table::{
     BOUND, ChoiceEntry, ChosenKind, Conditions, EXECUTABLE, FIXED_DISTANCE, GROUP_FITS, Originals,
-    WEAK_ZERO,
-    all_tables, by_table, conditions, first_entry,
+    WEAK_ZERO, all_tables, by_table, conditions, first_entry,
 };
 use linker_elf::elf::{Choice, LinkFacts, Operands};
 

@@ -24,8 +24,7 @@ use super::rewrites::{
 use linker_base::rewrite::has_window;
 use linker_elf::elf::choice_table::{
     BOUND, ChoiceEntry, ChosenKind, Conditions, EXECUTABLE, FIXED_DISTANCE, GROUP_FITS, MARKED,
-    Originals,
-    all_tables, by_table, conditions, first_entry,
+    Originals, all_tables, by_table, conditions, first_entry,
 };
 use linker_elf::elf::{Choice, LinkFacts, Operands};
 use linker_elf::loongarch64::{LoongArch64Relocation, LoongArch64Relocation as Names};

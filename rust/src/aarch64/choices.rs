@@ -8,8 +8,7 @@ use crate::linker_base::rewrite::has_window;
 use crate::linker_elf::aarch64::{AArch64Relocation, AArch64Relocation as Names};
 use crate::linker_elf::elf::choice_table::{
     BOUND, ChoiceEntry, ChosenKind, Conditions, EXECUTABLE, FIXED_DISTANCE, GROUP_FITS, Originals,
-    WEAK_ZERO,
-    all_tables, by_table, conditions, first_entry,
+    WEAK_ZERO, all_tables, by_table, conditions, first_entry,
 };
 use crate::linker_elf::elf::{Choice, LinkFacts, Operands};
 
