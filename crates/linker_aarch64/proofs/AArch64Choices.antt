@@ -1,6 +1,6 @@
 -- Which rewrite of AArch64 is chosen: words at offsets, operands after a rewrite, and what follows from
 -- a choice.
-use Rattle.std.proofs.Common.{◌≡◌, ◌<◌, ◌≤◌, ℕ, ℤ, ◌+◌, ◌-◌, ◌%◌, ◌^◌, List, [], ◌∷◌, take, ap, ◌∙◌, refl, subst, arith, rules}
+use Rattle.std.proofs.Common.{◌≡◌, ◌<◌, ◌≤◌, ℕ, ℤ, ◌+◌, ◌-◌, ◌%◌, ◌^◌, List, [], ◌∷◌, take, ap, ◌∙◌, refl, subst, arith, rules, Bool, IsTrue, not, ◌↔◌, ◌==◌}
 use Rattle.std.specs.Prelude.{⊤}
 use Rattle.std.specs.Int.{w32, from_le_bytes}
 use Rattle.linker_base.specs.Rewrite.{CanRewrite, offset_after, addend_after}
@@ -9,16 +9,18 @@ use Rattle.linker_aarch64.specs.AArch64Rewrites.{AreOfDescriptor, IsOfDescriptor
 use Rattle.linker_aarch64.specs.Inner.Choices.{IsThere}
 use Rattle.linker_aarch64.specs.AArch64Rewrites.{IsAdrp, IsLdr64, aarch64_matches}
 use Rattle.linker_elf.specs.AArch64Relocations.{aarch64_row}
-use Rattle.linker_elf.specs.Choices.{choice, operands_after}
+use Rattle.linker_elf.specs.Choices.{choice, operands_after, Fits, with_group}
 use Rattle.linker_elf.specs.Inner.ChoiceTables.{IsTableOf, IsFirstOf, EntryApplies}
 use Rattle.linker_elf.specs.Originals.{HasWord}
 use Rattle.linker_elf.specs.Value.{sum_64, difference_64}
-use Rattle.linker_elf.proofs.ChoiceTables.{first_of_table, holds_of_first}
+use Rattle.linker_elf.proofs.ChoiceTables.{first_of_table, holds_of_first, isnt_last}
+use Rattle.linker_elf.proofs.SameNames.{AreSame, unchanged_is, exact_code}
+use Rattle.linker_elf.specs.contracts.aarch64.relocations.AArch64Relocation.{enum as names}
 use Rattle.linker_elf.specs.declared.aarch64.relocations.AArch64Relocation.{AArch64Relocation}
 use Rattle.linker_elf.specs.declared.elf.choice.LinkFacts.{LinkFacts}
 use Rattle.linker_elf.specs.declared.elf.choice_table.ChoiceEntry.{ChoiceEntry}
 use Rattle.linker_elf.specs.declared.elf.value.Operands.{Operands}
-use Rattle.linker_aarch64.specs.declared.choices.Original.{Original}
+use Rattle.linker_aarch64.specs.declared.choices.AskedFor.{AskedFor}
 use Rattle.linker_aarch64.specs.declared.rewrites.RelaxationKind.{RelaxationKind}
 use Rattle.linker_aarch64.specs.declared.rewrites.RelaxationKind.TheVariants.{NoOp, ReplaceWithNop, MovzX0Lsl16, MovkX0, MovzXnLsl16, MovkXn, AdrpToAdr, AdrpX0, LdrX0, AddToAdr, LdrToAdr, LdrToAdd, AdrpAddToNopAdr}
 
@@ -124,7 +126,7 @@ nop_matches back s o small h =
 -- ---- what is chosen
 
 pub chosen : (name : AArch64Relocation) (section : List ℕ) (o : ℕ) (facts : LinkFacts)
-    → (es : List (ChoiceEntry Original RelaxationKind AArch64Relocation)) (c : AArch64Choice)
+    → (es : List (ChoiceEntry AskedFor RelaxationKind AArch64Relocation)) (c : AArch64Choice)
     → IsTableOf IsThere (λ kind section o. aarch64_matches kind section o × IsAskedFor name section o) es (aarch64_entries name)
     → IsFirstOf (EntryApplies IsThere aarch64_row (λ (kind : RelaxationKind) (o : ℕ) (operands : Operands). operands) section o facts) es (choice NoOp name) c
     → IsAArch64Choice name section o facts c
@@ -146,3 +148,11 @@ can_rewrite kind section o matches = search rules
 pub chosen_rewritable : (name : AArch64Relocation) (section : List ℕ) (o : ℕ) (facts : LinkFacts) (c : AArch64Choice)
     → IsAArch64Choice name section o facts c → CanRewrite (aarch64_rewrite c.kind) section o
 chosen_rewritable name section o facts c is = can_rewrite c.kind section o (chosen_matches name section o facts c is)
+
+pub chosen_fits : (name : AArch64Relocation) (section : List ℕ) (o : ℕ) (facts : LinkFacts) (c : AArch64Choice) (is : Bool)
+    → IsAArch64Choice name section o (with_group facts) c
+    → (IsTrue is ↔ ((c.kind ≡ NoOp) × AreSame names (λ x y. x.0 == y.0, tt) c.relocation name))
+    → IsTrue (not is) ↔ Fits (IsAArch64Choice name section o) (choice NoOp name) facts
+chosen_fits name section o facts c is first known =
+    isnt_last (AArch64Applies name section o (with_group facts)) (aarch64_entries name) (choice NoOp name) c is first
+    (unchanged_is names (λ x y. x.0 == y.0, tt) (exact_code, tt) NoOp name c is known)

@@ -1,12 +1,14 @@
 -- What is chosen on LoongArch matches, and can be rewritten.
-use Rattle.std.proofs.Common.{◌≡◌, ◌↔◌, ◌⊎◌, ◌≤◌, ℕ, ◌+◌, ◌-◌, List, [], ◌∷◌, inl, inr, subst, sym, arith, rules}
+use Rattle.std.proofs.Common.{◌≡◌, ◌↔◌, ◌⊎◌, ◌≤◌, ℕ, ◌+◌, ◌-◌, List, [], ◌∷◌, inl, inr, subst, sym, arith, rules, Bool, IsTrue, not, ◌==◌}
 use Rattle.std.specs.Bool.{⊤}
 use Rattle.linker_base.specs.Rewrite.{CanRewrite}
-use Rattle.linker_elf.specs.Choices.{choice, IsFirst}
+use Rattle.linker_elf.specs.Choices.{choice, IsFirst, Fits, with_group}
 use Rattle.linker_elf.specs.Inner.ChoiceTables.{IsTableOf, IsFirstOf, EntryApplies}
 use Rattle.linker_elf.specs.LoongArchRelocations.{loongarch_row}
 use Rattle.linker_elf.specs.Originals.{HasWord}
-use Rattle.linker_elf.proofs.ChoiceTables.{first_of_table}
+use Rattle.linker_elf.proofs.ChoiceTables.{first_of_table, isnt_last}
+use Rattle.linker_elf.proofs.SameNames.{AreSame, unchanged_is, exact_code}
+use Rattle.linker_elf.specs.contracts.loongarch64.relocations.LoongArch64Relocation.{enum as names}
 use Rattle.linker_elf.specs.declared.elf.choice.LinkFacts.{LinkFacts}
 use Rattle.linker_elf.specs.declared.elf.choice_table.ChoiceEntry.{ChoiceEntry}
 use Rattle.linker_elf.specs.declared.elf.value.Operands.{Operands}
@@ -123,3 +125,11 @@ chosen_matches name s o facts c =
 pub chosen_rewritable : (name : LoongArch64Relocation) (s : List ℕ) (o : ℕ) (facts : LinkFacts) (c : LoongArchChoice)
     → IsLoongArchChoice name s o facts c → CanRewrite (loongarch_rewrite c.kind) s o
 chosen_rewritable name s o facts c is = can_rewrite c.kind s o (chosen_matches name s o facts c is)
+
+pub chosen_fits : (name : LoongArch64Relocation) (section : List ℕ) (o : ℕ) (facts : LinkFacts) (c : LoongArchChoice) (is : Bool)
+    → IsLoongArchChoice name section o (with_group facts) c
+    → (IsTrue is ↔ ((c.kind ≡ kinds.NoOp) × AreSame names (λ x y. x.0 == y.0, tt) c.relocation name))
+    → IsTrue (not is) ↔ Fits (IsLoongArchChoice name section o) (choice kinds.NoOp name) facts
+chosen_fits name section o facts c is first known =
+    isnt_last (LoongArchApplies name section o (with_group facts)) (loongarch_entries name) (choice kinds.NoOp name) c is first
+    (unchanged_is names (λ x y. x.0 == y.0, tt) (exact_code, tt) kinds.NoOp name c is known)

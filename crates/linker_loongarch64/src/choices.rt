@@ -2,6 +2,7 @@
 
 ghost use Rattle.std.specs.Prelude.{◌↔◌, ◌≤◌, IsTrue, length};
 ghost use Rattle.linker_base.specs.Rewrite.{CanRewrite};
+ghost use Rattle.linker_elf.specs.Choices.{Fits, choice};
 ghost use Rattle.linker_elf.specs.Inner.ChoiceTables.{IsTableOf};
 ghost use Rattle.linker_elf.specs.Originals.{HasWord};
 ghost use Rattle.linker_loongarch64.specs.Inner.AskedFor.{is_asked_by};
@@ -16,15 +17,16 @@ ghost use Rattle.linker_loongarch64.specs.LoongArchRewrites.{ThreadOffsetIsChose
 ghost use Rattle.linker_loongarch64.specs.LoongArchRewrites.{IsAddi, IsLd, IsLu12i, IsAddTp};
 ghost use Rattle.linker_loongarch64.specs.LoongArchRewrites.{IsPair, loongarch_matches};
 ghost use Rattle.linker_loongarch64.specs.LoongArchRewrites.{loongarch_rewrite};
+ghost use Rattle.linker_loongarch64.specs.declared.rewrites.RelaxationKind.TheVariants as kinds;
 
 use super::rewrites::{RelaxationKind, are_of_one_register, destination, is_addi, is_ld, word_at};
 use linker_base::rewrite::has_window;
 use linker_elf::elf::choice_table::{
     BOUND, ChoiceEntry, ChosenKind, Conditions, EXECUTABLE, FIXED_DISTANCE, MARKED, Originals,
-    ValueCondition, first_entry,
+    all_tables, by_table, conditions, first_entry,
 };
 use linker_elf::elf::{Choice, LinkFacts, Operands};
-use linker_elf::loongarch64::LoongArch64Relocation;
+use linker_elf::loongarch64::{LoongArch64Relocation, LoongArch64Relocation as Names};
 
 /// `ld.d ra, a0, 0` and `jirl ra, ra, 0`.
 const LOAD_OF_DESCRIPTOR: u32 = 0x28c0_0081;
@@ -142,33 +144,10 @@ impl ChosenKind for RelaxationKind {
     }
 }
 
-/// An entry: a rewrite, the relocation after it, what it asks for and the conditions.
-macro_rules! entry {
-    ($kind:ident => $relocation:ident, $asked:ident$(($back:expr))?, $conditions:expr) => {
-        ChoiceEntry {
-            originals: AskedFor::$asked$(($back))?,
-            kind: RelaxationKind::$kind,
-            relocation: LoongArch64Relocation::$relocation,
-            conditions: $conditions,
-        }
-    };
-}
-
-/// Conditions: facts, the addend and a value.
-macro_rules! conditions {
-    ($facts:expr, $addend:expr, $value:ident $relocation:ident $($bound:expr),+) => {
-        Conditions {
-            facts: $facts,
-            addend: $addend,
-            values: &[ValueCondition::$value(LoongArch64Relocation::$relocation, $($bound),+)],
-        }
-    };
-}
-
 /// By `pcaddi` alone, which is so many bytes before.
 macro_rules! by_pcaddi {
     ($back:expr) => {
-        conditions!(FIXED_DISTANCE + MARKED, None, InReach R_LARCH_PCREL20_S2 $back)
+        conditions!(FIXED_DISTANCE + MARKED, None, InReach(R_LARCH_PCREL20_S2, $back))
     };
 }
 
@@ -178,7 +157,7 @@ macro_rules! bound_by_pcaddi {
         conditions!(
             BOUND + FIXED_DISTANCE + MARKED,
             Some(0),
-            InReach R_LARCH_PCREL20_S2 $back
+            InReach(R_LARCH_PCREL20_S2, $back)
         )
     };
 }
@@ -189,7 +168,7 @@ macro_rules! bound_by_pages {
         conditions!(
             BOUND + FIXED_DISTANCE,
             Some(0),
-            WithinIfKnown R_LARCH_PCALA_HI20 SIGNED_32, $back
+            WithinIfKnown(R_LARCH_PCALA_HI20, SIGNED_32, $back)
         )
     };
 }
@@ -197,7 +176,7 @@ macro_rules! bound_by_pages {
 /// The offset from the thread pointer in the GOT: `pcalau12i` is so many bytes before.
 macro_rules! to_initial_exec {
     ($back:expr) => {
-        conditions!(EXECUTABLE, None, WithinIfKnown R_LARCH_TLS_IE_PC_HI20 SIGNED_32, $back)
+        conditions!(EXECUTABLE, None, WithinIfKnown(R_LARCH_TLS_IE_PC_HI20, SIGNED_32, $back))
     };
 }
 
@@ -209,120 +188,99 @@ const UNSIGNED_12: (i64, i64) = (0, 0x1000);
 const SIGNED_12: (i64, i64) = (-0x800, 0x800);
 
 /// By `b` or `bl`.
-const BY_BRANCH: Conditions<LoongArch64Relocation> =
-    conditions!(FIXED_DISTANCE + MARKED, None, InReach R_LARCH_B26 0);
+const BY_BRANCH: Conditions<Names> = conditions!(
+    FIXED_DISTANCE + MARKED,
+    None,
+    InReach(R_LARCH_B26, 0)
+);
 
 /// The offset from the thread pointer in the instructions, and by `ori` alone.
-const TO_LOCAL_EXEC: Conditions<LoongArch64Relocation> =
-    conditions!(BOUND + EXECUTABLE, Some(0), WithinIfKnown R_LARCH_TLS_LE_HI20 SIGNED_32, 0);
+const TO_LOCAL_EXEC: Conditions<Names> = conditions!(
+    BOUND + EXECUTABLE,
+    Some(0),
+    WithinIfKnown(R_LARCH_TLS_LE_HI20, SIGNED_32, 0)
+);
 
-const TO_SHORT_LOCAL_EXEC: Conditions<LoongArch64Relocation> =
-    conditions!(BOUND + EXECUTABLE, Some(0), Within R_LARCH_TLS_LE_LO12 UNSIGNED_12, 0);
+const TO_SHORT_LOCAL_EXEC: Conditions<Names> = conditions!(
+    BOUND + EXECUTABLE,
+    Some(0),
+    Within(R_LARCH_TLS_LE_LO12, UNSIGNED_12, 0)
+);
 
 /// The offset from the thread pointer in 12 signed bits.
-const BY_LOW_PART: Conditions<LoongArch64Relocation> =
-    conditions!(MARKED, None, Within R_LARCH_TLS_LE_LO12_R SIGNED_12, 0);
+const BY_LOW_PART: Conditions<Names> = conditions!(
+    MARKED,
+    None,
+    Within(R_LARCH_TLS_LE_LO12_R, SIGNED_12, 0)
+);
 
-/// An entry of the table.
-pub type LoongArchEntry = ChoiceEntry<AskedFor, RelaxationKind, LoongArch64Relocation>;
-
-static GOT_PC_HI20: &[LoongArchEntry] = &[
-    entry!(PcalaToPcaddi => R_LARCH_PCREL20_S2, Load(0), bound_by_pcaddi!(0)),
-    entry!(NoOp => R_LARCH_PCALA_HI20, Load(0), bound_by_pages!(0)),
-];
-
-static GOT_PC_LO12: &[LoongArchEntry] = &[
-    entry!(Delete => R_LARCH_NONE, Load(4), bound_by_pcaddi!(4)),
-    entry!(LdToAddi => R_LARCH_PCALA_LO12, Load(4), bound_by_pages!(4)),
-];
-
-static PCALA_HI20: &[LoongArchEntry] = &[
-    entry!(PcalaToPcaddi => R_LARCH_PCREL20_S2, Sum(0), by_pcaddi!(0)),
-];
-
-static PCALA_LO12: &[LoongArchEntry] = &[entry!(Delete => R_LARCH_NONE, Sum(4), by_pcaddi!(4))];
-
-static CALL36: &[LoongArchEntry] = &[
-    entry!(CallToB => R_LARCH_B26, OfRewrite, BY_BRANCH),
-    entry!(CallToBl => R_LARCH_B26, OfRewrite, BY_BRANCH),
-];
-
-static TLS_IE_PC_HI20: &[LoongArchEntry] = &[
-    entry!(ReplaceWithNop => R_LARCH_NONE, Load(0), TO_SHORT_LOCAL_EXEC),
-    entry!(PcalaToLu12i => R_LARCH_TLS_LE_HI20, Load(0), TO_LOCAL_EXEC),
-];
-
-static TLS_IE_PC_LO12: &[LoongArchEntry] = &[
-    entry!(LowToOriZero => R_LARCH_TLS_LE_LO12, Load(4), TO_SHORT_LOCAL_EXEC),
-    entry!(LowToOri => R_LARCH_TLS_LE_LO12, Load(4), TO_LOCAL_EXEC),
-];
-
-static TLS_DESC_PC_HI20: &[LoongArchEntry] = &[
-    entry!(PcalaToLu12i => R_LARCH_TLS_LE_HI20, Descriptor(0), TO_LOCAL_EXEC),
-    entry!(NoOp => R_LARCH_TLS_IE_PC_HI20, Descriptor(0), to_initial_exec!(0)),
-];
-
-static TLS_DESC_PC_LO12: &[LoongArchEntry] = &[
-    entry!(LowToOri => R_LARCH_TLS_LE_LO12, Descriptor(4), TO_LOCAL_EXEC),
-    entry!(AddiToLd => R_LARCH_TLS_IE_PC_LO12, Descriptor(4), to_initial_exec!(4)),
-];
-
-static TLS_DESC_LD: &[LoongArchEntry] = &[
-    entry!(ReplaceWithNop => R_LARCH_NONE, Descriptor(8), TO_LOCAL_EXEC),
-    entry!(ReplaceWithNop => R_LARCH_NONE, Descriptor(8), to_initial_exec!(8)),
-];
-
-static TLS_DESC_CALL: &[LoongArchEntry] = &[
-    entry!(ReplaceWithNop => R_LARCH_NONE, Descriptor(12), TO_LOCAL_EXEC),
-    entry!(ReplaceWithNop => R_LARCH_NONE, Descriptor(12), to_initial_exec!(12)),
-];
-
-static TLS_LE_HI20_R: &[LoongArchEntry] = &[entry!(Delete => R_LARCH_NONE, Lu12i, BY_LOW_PART)];
-
-static TLS_LE_ADD_R: &[LoongArchEntry] = &[entry!(Delete => R_LARCH_NONE, AddTp, BY_LOW_PART)];
-
-static TLS_LE_LO12_R: &[LoongArchEntry] = &[
-    entry!(BaseToTp => R_LARCH_TLS_LE_LO12_R, OfRewrite, BY_LOW_PART),
-];
-
-static OTHERS: &[LoongArchEntry] = &[];
-
-/// What a name's table is used for.
-macro_rules! by_table {
-    ($name:expr, $table:ident => $use:expr) => {
-        match $name {
-            LoongArch64Relocation::R_LARCH_GOT_PC_HI20 => { let $table = GOT_PC_HI20; $use }
-            LoongArch64Relocation::R_LARCH_GOT_PC_LO12 => { let $table = GOT_PC_LO12; $use }
-            LoongArch64Relocation::R_LARCH_PCALA_HI20 => { let $table = PCALA_HI20; $use }
-            LoongArch64Relocation::R_LARCH_PCALA_LO12 => { let $table = PCALA_LO12; $use }
-            LoongArch64Relocation::R_LARCH_CALL36 => { let $table = CALL36; $use }
-            LoongArch64Relocation::R_LARCH_TLS_IE_PC_HI20 => { let $table = TLS_IE_PC_HI20; $use }
-            LoongArch64Relocation::R_LARCH_TLS_IE_PC_LO12 => { let $table = TLS_IE_PC_LO12; $use }
-            LoongArch64Relocation::R_LARCH_TLS_DESC_PC_HI20 => { let $table = TLS_DESC_PC_HI20; $use }
-            LoongArch64Relocation::R_LARCH_TLS_DESC_PC_LO12 => { let $table = TLS_DESC_PC_LO12; $use }
-            LoongArch64Relocation::R_LARCH_TLS_DESC_LD => { let $table = TLS_DESC_LD; $use }
-            LoongArch64Relocation::R_LARCH_TLS_DESC_CALL => { let $table = TLS_DESC_CALL; $use }
-            LoongArch64Relocation::R_LARCH_TLS_LE_HI20_R => { let $table = TLS_LE_HI20_R; $use }
-            LoongArch64Relocation::R_LARCH_TLS_LE_ADD_R => { let $table = TLS_LE_ADD_R; $use }
-            LoongArch64Relocation::R_LARCH_TLS_LE_LO12_R => { let $table = TLS_LE_LO12_R; $use }
-            _ => { let $table = OTHERS; $use }
+/// The entries of each relocation.
+macro_rules! choices {
+    ($make:ident $arguments:tt) => {
+        $make! {
+            $arguments
+            R_LARCH_GOT_PC_HI20: [
+                PcalaToPcaddi at Load(0) => R_LARCH_PCREL20_S2, bound_by_pcaddi!(0);
+                NoOp at Load(0) => R_LARCH_PCALA_HI20, bound_by_pages!(0);
+            ]
+            R_LARCH_GOT_PC_LO12: [
+                Delete at Load(4) => R_LARCH_NONE, bound_by_pcaddi!(4);
+                LdToAddi at Load(4) => R_LARCH_PCALA_LO12, bound_by_pages!(4);
+            ]
+            R_LARCH_PCALA_HI20: [PcalaToPcaddi at Sum(0) => R_LARCH_PCREL20_S2, by_pcaddi!(0)]
+            R_LARCH_PCALA_LO12: [Delete at Sum(4) => R_LARCH_NONE, by_pcaddi!(4)]
+            R_LARCH_CALL36: [
+                CallToB => R_LARCH_B26, BY_BRANCH;
+                CallToBl => R_LARCH_B26, BY_BRANCH;
+            ]
+            R_LARCH_TLS_IE_PC_HI20: [
+                ReplaceWithNop at Load(0) => R_LARCH_NONE, TO_SHORT_LOCAL_EXEC;
+                PcalaToLu12i at Load(0) => R_LARCH_TLS_LE_HI20, TO_LOCAL_EXEC;
+            ]
+            R_LARCH_TLS_IE_PC_LO12: [
+                LowToOriZero at Load(4) => R_LARCH_TLS_LE_LO12, TO_SHORT_LOCAL_EXEC;
+                LowToOri at Load(4) => R_LARCH_TLS_LE_LO12, TO_LOCAL_EXEC;
+            ]
+            R_LARCH_TLS_DESC_PC_HI20: [
+                PcalaToLu12i at Descriptor(0) => R_LARCH_TLS_LE_HI20, TO_LOCAL_EXEC;
+                NoOp at Descriptor(0) => R_LARCH_TLS_IE_PC_HI20, to_initial_exec!(0);
+            ]
+            R_LARCH_TLS_DESC_PC_LO12: [
+                LowToOri at Descriptor(4) => R_LARCH_TLS_LE_LO12, TO_LOCAL_EXEC;
+                AddiToLd at Descriptor(4) => R_LARCH_TLS_IE_PC_LO12, to_initial_exec!(4);
+            ]
+            R_LARCH_TLS_DESC_LD: [
+                ReplaceWithNop at Descriptor(8) => R_LARCH_NONE, TO_LOCAL_EXEC;
+                ReplaceWithNop at Descriptor(8) => R_LARCH_NONE, to_initial_exec!(8);
+            ]
+            R_LARCH_TLS_DESC_CALL: [
+                ReplaceWithNop at Descriptor(12) => R_LARCH_NONE, TO_LOCAL_EXEC;
+                ReplaceWithNop at Descriptor(12) => R_LARCH_NONE, to_initial_exec!(12);
+            ]
+            R_LARCH_TLS_LE_HI20_R: [Delete at Lu12i => R_LARCH_NONE, BY_LOW_PART]
+            R_LARCH_TLS_LE_ADD_R: [Delete at AddTp => R_LARCH_NONE, BY_LOW_PART]
+            R_LARCH_TLS_LE_LO12_R: [BaseToTp => R_LARCH_TLS_LE_LO12_R, BY_LOW_PART]
         }
     };
 }
 
+type Table = &'static [ChoiceEntry<AskedFor, RelaxationKind, Names>];
+
+static TABLES: &[Table] = choices!(all_tables());
+
 /// The entries of a relocation.
 #[inline(always)]
-pub fn entries(name: LoongArch64Relocation) -> &'static [LoongArchEntry]
+pub fn entries(name: LoongArch64Relocation) -> Table
     ensures table { IsTableOf is_asked_by (IsAskedFor name) result.now (loongarch_entries name) }
     ensures few { length result.now ≤ 5 }
 {
-    by_table!(name, table => table)
+    choices!(by_table(TABLES, name, table => table))
 }
 
 /// The choice by a table of a name.
 #[inline(always)]
 fn choice_by(
-    table: &'static [LoongArchEntry],
+    table: Table,
     name: LoongArch64Relocation,
     section: &[u8],
     offset: u64,
@@ -330,9 +288,7 @@ fn choice_by(
 ) -> Choice<RelaxationKind, LoongArch64Relocation>
     requires table { IsTableOf is_asked_by (IsAskedFor name) table.now (loongarch_entries name) }
     requires few { length table.now ≤ 5 }
-    ensures chosen { IsLoongArchChoice name section.now offset facts.now result }
-    ensures matches { loongarch_matches result.kind section.now offset }
-    ensures rewritable { CanRewrite (loongarch_rewrite result.kind) section.now offset }
+    ensures { IsLoongArchChoice name section.now offset facts.now result }
 {
     let unchanged = Choice {
         kind: RelaxationKind::NoOp,
@@ -341,34 +297,24 @@ fn choice_by(
     first_entry(table, section, offset, facts, unchanged)
 }
 
+/// The choice for a relocation that is listed.
+#[inline(never)]
+fn choose_listed(
+    name: LoongArch64Relocation,
+    section: &[u8],
+    offset: u64,
+    facts: &LinkFacts,
+) -> Choice<RelaxationKind, LoongArch64Relocation>
+    ensures { IsLoongArchChoice name section.now offset facts.now result }
+{
+    choices!(by_table(TABLES, name, table => choice_by(table, name, section, offset, facts)))
+}
+
 /// Which rewrite a linker may make of the instruction or the pair at a relocation's offset, and the
 /// relocation whose value is then written (LoongArch ELF psABI, relaxation and the sequences of
 /// thread-local storage). It is the first entry of the relocation in the table of choices whose
 /// instructions are there and whose conditions hold, and else `NoOp` and the same relocation, as
 /// for any name that isn't listed and for an offset that isn't in the section.
-///
-/// `apply` may be called at the offset with the rewrite. It leaves offset and addend as they are.
-/// The sequence of a TLS descriptor is that of `is_tls_descriptor_sequence`. Where it becomes
-/// initial-exec, `got_entry` has to be the address of the entry for initial-exec.
-///
-/// Both halves of a pair, and all four relocations of a descriptor, are chosen alike
-/// (`relocations_are_chosen_alike`). The linker sees to the rest:
-///
-/// - The relocations of one pair or sequence are all there, with the same symbol and addend, and
-///   the facts are the same for all of them, except for `place`, which is that of each. Where one
-///   is marked all are.
-/// - All of them are chosen before any is rewritten: what was rewritten isn't what the others are
-///   chosen by.
-/// - Nothing jumps between the instructions.
-/// - It deletes the bytes that `RelaxationKind::deleted` names.
-/// - Once a `lu12i.w` of local-exec is deleted, its `add.d` has to be deleted and each low part of
-///   it rewritten. They are chosen alike (`relocations_are_chosen_alike`), wherever they are, with
-///   the same facts except for `place`, where a `lu12i.w` and an `add.d` of `tp` are there and each
-///   low part is an instruction that `BaseToTp` is meant for. So all of them have to have the same
-///   symbol and addend, and to be marked if one of them is.
-/// - The distance is that of the addresses in `facts`. Deleted bytes make it smaller, but the
-///   padding of an alignment between may grow. `write` then returns an error if the distance is out
-///   of reach.
 ///
 /// ```
 /// use linker_utils::elf::{LinkFacts, Operands};
@@ -387,6 +333,7 @@ fn choice_by(
 /// assert_eq!(chosen.kind, RelaxationKind::CallToBl);
 /// assert_eq!(chosen.relocation, LoongArch64Relocation::R_LARCH_B26);
 /// ```
+#[inline]
 pub fn choose(
     name: LoongArch64Relocation,
     section: &[u8],
@@ -397,7 +344,41 @@ pub fn choose(
     ensures matches { loongarch_matches result.kind section.now offset }
     ensures rewritable { CanRewrite (loongarch_rewrite result.kind) section.now offset }
 {
-    by_table!(name, table => choice_by(table, name, section, offset, facts))
+    if let [] = entries(name) {
+        return Choice {
+            kind: RelaxationKind::NoOp,
+            relocation: name,
+        };
+    }
+    choose_listed(name, section, offset, facts)
+}
+
+/// Whether a relocation can be rewritten, if all others of its sequence can: whether `choose` with
+/// `group_fits` changes it. A linker asks this for each relocation of a sequence before it chooses
+/// for any of them, with the facts of each, and sets `group_fits` only if it is true of all.
+///
+/// ```
+/// use linker_utils::elf::LinkFacts;
+/// use linker_utils::loongarch64::{LoongArch64Relocation, fits};
+///
+/// // pcalau12i a0, 0 and ld.d a0, a0, 0, which load the address of a symbol of the output
+/// let mut section = [0x04, 0, 0, 0x1a, 0x84, 0, 0xc0, 0x28];
+/// let facts = LinkFacts { is_local: true, has_fixed_distance: true, ..LinkFacts::default() };
+/// assert!(fits(LoongArch64Relocation::R_LARCH_GOT_PC_HI20, &section, 0, &facts));
+/// assert!(fits(LoongArch64Relocation::R_LARCH_GOT_PC_LO12, &section, 4, &facts));
+/// // ld.d a1, a0, 0 leaves the address of the entry in a0
+/// section[4] = 0x85;
+/// assert!(!fits(LoongArch64Relocation::R_LARCH_GOT_PC_HI20, &section, 0, &facts));
+/// ```
+pub fn fits(name: LoongArch64Relocation, section: &[u8], offset: u64, facts: &LinkFacts) -> bool
+    ensures { IsTrue result
+        ↔ Fits (IsLoongArchChoice name section.now offset) (choice kinds.NoOp name) facts.now }
+{
+    let facts = LinkFacts {
+        group_fits: true,
+        ..*facts
+    };
+    !choose(name, section, offset, &facts).is_unchanged(name)
 }
 
 /// With the same facts, except that each has its own place, both relocations of a pair are

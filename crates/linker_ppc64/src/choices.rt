@@ -202,32 +202,6 @@ fn choose_listed(
 /// for any name that isn't listed and for an offset that isn't in the section. Where TLS becomes
 /// initial-exec, `got_entry` has to be the address of the entry for initial-exec.
 ///
-/// A doubleword of the TOC that holds the address of a symbol is a GOT entry of that symbol: for
-/// `TOC16_HA` and `TOC16_LO_DS` of it, ask for `GOT16_HA` and `GOT16_LO_DS`, with the symbol's
-/// facts and the doubleword's address as `got_entry`. What is then computed from the TOC pointer
-/// may be near it: ask once more, for `TOC16_HA` and `TOC16_LO` of the symbol, after the rewrite.
-///
-/// The linker sees to the rest:
-///
-/// - The instructions of one sequence are not next to each other, and each is chosen alone. The
-///   facts are the same for all of them, except for `place`. If one of them keeps its relocation,
-///   all have to; where each is the instruction that its rewrites are meant for, those of a pair
-///   and of `__tls_get_addr` are chosen alike (`relocations_are_chosen_alike`).
-/// - Of thread-local storage nothing is rewritten without `group_fits`. The linker asks `fits` of all
-///   relocations of a sequence before it chooses for one. They are told by their names, since the
-///   instructions may be anywhere in an object: of initial-exec all `GOT_TPREL16_*`,
-///   `GOT_TPREL_PCREL34` and `TLS` of one symbol and addend; of general-dynamic all `GOT_TLSGD16_*`,
-///   `GOT_TLSGD_PCREL34` and `TLSGD` of these; and of local-dynamic all `GOT_TLSLD16_*`,
-///   `GOT_TLSLD_PCREL34` and `TLSLD` of the object. If it has a call of `__tls_get_addr` without
-///   `TLSGD` or `TLSLD` at its place, then nothing fits.
-/// - The register that an `addis` before a `nop` has set, and for TLS also the one that the `ld` or
-///   the `addi` has set, are read by the instructions of the sequence only, as the ABI asks of
-///   compilers. The number that the `addi` leaves may be copied to other registers, and what its
-///   calls take in register 3 are such copies.
-/// - `tls_base` is the thread pointer, 0x7000 above the first byte of the TLS segment. After
-///   `CallToAddi4096` register 3 is 0x1000 above it, which the `DTPREL` relocations are relative
-///   to.
-///
 /// ```
 /// use linker_utils::elf::LinkFacts;
 /// use linker_utils::ppc64::{Ppc64Relocation, RelaxationKind, choose};

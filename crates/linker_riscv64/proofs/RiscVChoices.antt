@@ -1,12 +1,14 @@
 -- What is chosen on RISC-V matches, and can be rewritten.
-use Rattle.std.proofs.Common.{ℕ, List, [], ◌∷◌, ◌≡◌, ◌↔◌, sym, subst, inl, inr, rules}
+use Rattle.std.proofs.Common.{ℕ, List, [], ◌∷◌, ◌≡◌, ◌↔◌, sym, subst, inl, inr, rules, Bool, IsTrue, not, ◌==◌}
 use Rattle.std.specs.Bool.{⊤}
 use Rattle.std.specs.Int.{cast_unsigned, w64}
 use Rattle.linker_base.specs.Rewrite.{CanRewrite}
-use Rattle.linker_elf.specs.Choices.{IsFirst, choice}
+use Rattle.linker_elf.specs.Choices.{IsFirst, choice, Fits, with_group}
 use Rattle.linker_elf.specs.Inner.ChoiceTables.{IsTableOf, IsFirstOf, EntryApplies}
 use Rattle.linker_elf.specs.Value.{sum_64}
-use Rattle.linker_elf.proofs.ChoiceTables.{first_of_table}
+use Rattle.linker_elf.proofs.ChoiceTables.{first_of_table, isnt_last}
+use Rattle.linker_elf.proofs.SameNames.{AreSame, unchanged_is, exact_code}
+use Rattle.linker_elf.specs.contracts.riscv64.relocations.RiscVRelocation.{enum as names}
 use Rattle.linker_elf.specs.declared.elf.choice.LinkFacts.{LinkFacts}
 use Rattle.linker_elf.specs.declared.elf.choice_table.ChoiceEntry.{ChoiceEntry}
 use Rattle.linker_elf.specs.declared.elf.value.Operands.{Operands}
@@ -16,14 +18,14 @@ use Rattle.linker_riscv64.specs.Inner.Choices.{IsThere}
 use Rattle.linker_riscv64.specs.RiscVRewrites.{RiscVEntry, RiscVChoice, AppliesToRiscV, IsAskedFor, IsRiscVChoice, riscv_row_of, riscv_entries}
 use Rattle.linker_riscv64.specs.RiscVRewrites.{riscv_matches}
 use Rattle.linker_riscv64.specs.RiscVRewrites.{riscv_rewrite, FitsClui}
-use Rattle.linker_riscv64.specs.declared.choices.Original.{Original}
+use Rattle.linker_riscv64.specs.declared.choices.AskedFor.{AskedFor}
 use Rattle.linker_riscv64.specs.declared.rewrites.RelaxationKind.{RelaxationKind}
 use Rattle.linker_riscv64.specs.declared.rewrites.RelaxationKind.TheVariants as kinds
 
 -- ---- the code's table
 
 abbrev CodeEntry : Type 0
-CodeEntry = ChoiceEntry Original RelaxationKind RiscVRelocation
+CodeEntry = ChoiceEntry AskedFor RelaxationKind RiscVRelocation
 
 pub same : (P : Type 0) → P ↔ P
 same P = (λ h. h, λ h. h)
@@ -99,3 +101,11 @@ pub chosen_compressed : (name : RiscVRelocation) (section : List ℕ) (o : ℕ) 
 chosen_compressed name section o facts c =
     of_chosen (AppliesToRiscV (IsAskedFor name) section o facts) (IsFit facts) (riscv_entries name) (choice kinds.NoOp name) c
     (each_fits name section o facts) (search rules)
+
+pub chosen_fits : (name : RiscVRelocation) (section : List ℕ) (o : ℕ) (facts : LinkFacts) (c : RiscVChoice) (is : Bool)
+    → IsRiscVChoice name section o (with_group facts) c
+    → (IsTrue is ↔ ((c.kind ≡ kinds.NoOp) × AreSame names (λ x y. x.0 == y.0, tt) c.relocation name))
+    → IsTrue (not is) ↔ Fits (IsRiscVChoice name section o) (choice kinds.NoOp name) facts
+chosen_fits name section o facts c is first known =
+    isnt_last (AppliesToRiscV (IsAskedFor name) section o (with_group facts)) (riscv_entries name) (choice kinds.NoOp name) c is first
+    (unchanged_is names (λ x y. x.0 == y.0, tt) (exact_code, tt) kinds.NoOp name c is known)

@@ -5,10 +5,10 @@ use super::rewrites::{
     RelaxationKind, are_of_one_register, destination, is_add64, is_adrp, is_ldr64, source, word_at,
 };
 use crate::linker_base::rewrite::has_window;
-use crate::linker_elf::aarch64::AArch64Relocation;
+use crate::linker_elf::aarch64::{AArch64Relocation, AArch64Relocation as Names};
 use crate::linker_elf::elf::choice_table::{
-    BOUND, ChoiceEntry, ChosenKind, Conditions, EXECUTABLE, FIXED_DISTANCE, Originals,
-    ValueCondition, WEAK_ZERO, first_entry,
+    BOUND, ChoiceEntry, ChosenKind, Conditions, EXECUTABLE, FIXED_DISTANCE, Originals, WEAK_ZERO,
+    all_tables, by_table, conditions, first_entry,
 };
 use crate::linker_elf::elf::{Choice, LinkFacts, Operands};
 
@@ -58,7 +58,7 @@ pub fn is_tls_descriptor_sequence(section: &[u8], offset: u64) -> bool {
 
 /// The instructions that an entry is for: what its rewrite is meant for, or others.
 #[derive(Debug)]
-pub enum Original {
+pub enum AskedFor {
     /// What the rewrite is meant for.
     OfRewrite,
     /// The `adrp` of a pair `adrp xN`, `ldr xN, [xN, #imm]`.
@@ -73,19 +73,19 @@ pub enum Original {
     B,
 }
 
-impl Originals<RelaxationKind> for Original {
+impl Originals<RelaxationKind> for AskedFor {
     #[inline(always)]
     fn stand_at(&self, kind: RelaxationKind, section: &[u8], offset: u64) -> bool {
         match *self {
-            Original::OfRewrite => kind.matches(section, offset),
-            Original::AdrpOfPair => is_entry_load(section, offset),
-            Original::LdrOfPair => 4 <= offset && is_entry_load(section, offset - 4),
-            Original::OfDescriptor(back) => {
+            AskedFor::OfRewrite => kind.matches(section, offset),
+            AskedFor::AdrpOfPair => is_entry_load(section, offset),
+            AskedFor::LdrOfPair => 4 <= offset && is_entry_load(section, offset - 4),
+            AskedFor::OfDescriptor(back) => {
                 back <= offset && is_tls_descriptor_sequence(section, offset - back)
             }
             _ if !has_window(section, offset, 0, 4) => false,
-            Original::Bl => word_at(section, offset) >> 26 == 0x25,
-            Original::B => word_at(section, offset) >> 26 == 0x05,
+            AskedFor::Bl => word_at(section, offset) >> 26 == 0x25,
+            AskedFor::B => word_at(section, offset) >> 26 == 0x05,
         }
     }
 }
@@ -98,135 +98,95 @@ impl ChosenKind for RelaxationKind {
     }
 }
 
-/// An entry: the instructions, the rewrite, the relocation after it and the conditions.
-macro_rules! entry {
-    ($original:ident $(($back:expr))?: $kind:ident => $relocation:ident, $conditions:expr) => {
-        ChoiceEntry {
-            originals: Original::$original $(($back))?,
-            kind: RelaxationKind::$kind,
-            relocation: AArch64Relocation::$relocation,
-            conditions: $conditions,
-        }
-    };
-}
-
-/// Conditions: facts, and the values in reach, so many bytes before the place.
-macro_rules! conditions {
-    ($facts:expr $(, $value:ident $relocation:ident $back:expr)*) => {
-        Conditions {
-            facts: $facts,
-            addend: None,
-            values: &[$(ValueCondition::$value(AArch64Relocation::$relocation, $back),)*],
-        }
-    };
-}
-
 /// The address itself in place of that of the GOT entry: `adrp` is so many bytes before.
 macro_rules! to_address {
     ($back:expr) => {
-        conditions!(BOUND + FIXED_DISTANCE, InReachIfKnown R_AARCH64_ADR_PREL_PG_HI21 $back)
+        conditions!(BOUND + FIXED_DISTANCE, None, InReachIfKnown(R_AARCH64_ADR_PREL_PG_HI21, $back))
     };
 }
 
 /// The offset from the thread pointer in the GOT: `adrp` is so many bytes before.
 macro_rules! to_initial_exec {
     ($back:expr) => {
-        conditions!(EXECUTABLE, InReachIfKnown R_AARCH64_TLSIE_ADR_GOTTPREL_PAGE21 $back)
+        conditions!(EXECUTABLE, None, InReachIfKnown(R_AARCH64_TLSIE_ADR_GOTTPREL_PAGE21, $back))
     };
 }
 
 /// By `adr` alone, which reaches 1 MiB.
-const TO_ADR: Conditions<AArch64Relocation> =
-    conditions!(FIXED_DISTANCE, InReach R_AARCH64_ADR_PREL_LO21 0);
+const TO_ADR: Conditions<Names> = conditions!(
+    FIXED_DISTANCE,
+    None,
+    InReach(R_AARCH64_ADR_PREL_LO21, 0)
+);
 
 /// The offset from the thread pointer in the instructions.
-const TO_LOCAL_EXEC: Conditions<AArch64Relocation> =
-    conditions!(BOUND + EXECUTABLE, InReachIfKnown R_AARCH64_TLSLE_MOVW_TPREL_G1 0);
+const TO_LOCAL_EXEC: Conditions<Names> = conditions!(
+    BOUND + EXECUTABLE,
+    None,
+    InReachIfKnown(R_AARCH64_TLSLE_MOVW_TPREL_G1, 0)
+);
 
 /// The address of the symbol is 0.
-const TO_NEXT: Conditions<AArch64Relocation> = conditions!(WEAK_ZERO);
+const TO_NEXT: Conditions<Names> = conditions!(WEAK_ZERO, None);
 
-/// An entry of the table.
-pub type AArch64Entry = ChoiceEntry<Original, RelaxationKind, AArch64Relocation>;
-
-static ADR_GOT_PAGE: &[AArch64Entry] = &[
-    entry!(AdrpOfPair: NoOp => R_AARCH64_ADR_PREL_PG_HI21, to_address!(0)),
-];
-
-static LD64_GOT_LO12_NC: &[AArch64Entry] = &[
-    entry!(LdrOfPair: LdrToAdd => R_AARCH64_ADD_ABS_LO12_NC, to_address!(4)),
-];
-
-static ADD_ABS_LO12_NC: &[AArch64Entry] = &[
-    entry!(OfRewrite: AdrpAddToNopAdr => R_AARCH64_ADR_PREL_LO21, TO_ADR),
-];
-
-static TLSIE_ADR_GOTTPREL_PAGE21: &[AArch64Entry] = &[
-    entry!(AdrpOfPair: MovzXnLsl16 => R_AARCH64_TLSLE_MOVW_TPREL_G1, TO_LOCAL_EXEC),
-];
-
-static TLSIE_LD64_GOTTPREL_LO12_NC: &[AArch64Entry] = &[
-    entry!(LdrOfPair: MovkXn => R_AARCH64_TLSLE_MOVW_TPREL_G0_NC, TO_LOCAL_EXEC),
-];
-
-static TLSDESC_ADR_PAGE21: &[AArch64Entry] = &[
-    entry!(OfDescriptor(0): MovzX0Lsl16 => R_AARCH64_TLSLE_MOVW_TPREL_G1, TO_LOCAL_EXEC),
-    entry!(OfDescriptor(0): AdrpX0 => R_AARCH64_TLSIE_ADR_GOTTPREL_PAGE21, to_initial_exec!(0)),
-];
-
-static TLSDESC_LD64_LO12: &[AArch64Entry] = &[
-    entry!(OfDescriptor(4): MovkX0 => R_AARCH64_TLSLE_MOVW_TPREL_G0_NC, TO_LOCAL_EXEC),
-    entry!(OfDescriptor(4): LdrX0 => R_AARCH64_TLSIE_LD64_GOTTPREL_LO12_NC, to_initial_exec!(4)),
-];
-
-static TLSDESC_ADD_LO12: &[AArch64Entry] = &[
-    entry!(OfDescriptor(8): ReplaceWithNop => R_AARCH64_NONE, TO_LOCAL_EXEC),
-    entry!(OfDescriptor(8): ReplaceWithNop => R_AARCH64_NONE, to_initial_exec!(8)),
-];
-
-static TLSDESC_CALL: &[AArch64Entry] = &[
-    entry!(OfDescriptor(12): ReplaceWithNop => R_AARCH64_NONE, TO_LOCAL_EXEC),
-    entry!(OfDescriptor(12): ReplaceWithNop => R_AARCH64_NONE, to_initial_exec!(12)),
-];
-
-static CALL26: &[AArch64Entry] = &[entry!(Bl: ReplaceWithNop => R_AARCH64_NONE, TO_NEXT)];
-
-static JUMP26: &[AArch64Entry] = &[entry!(B: ReplaceWithNop => R_AARCH64_NONE, TO_NEXT)];
-
-static OTHERS: &[AArch64Entry] = &[];
-
-/// What the table of a name is used for.
-macro_rules! by_table {
-    ($name:expr, $table:ident => $use:expr) => {
-        match $name {
-            AArch64Relocation::R_AARCH64_ADR_GOT_PAGE => { let $table = ADR_GOT_PAGE; $use }
-            AArch64Relocation::R_AARCH64_LD64_GOT_LO12_NC => { let $table = LD64_GOT_LO12_NC; $use }
-            AArch64Relocation::R_AARCH64_ADD_ABS_LO12_NC => { let $table = ADD_ABS_LO12_NC; $use }
-            AArch64Relocation::R_AARCH64_TLSIE_ADR_GOTTPREL_PAGE21 => { let $table = TLSIE_ADR_GOTTPREL_PAGE21; $use }
-            AArch64Relocation::R_AARCH64_TLSIE_LD64_GOTTPREL_LO12_NC => { let $table = TLSIE_LD64_GOTTPREL_LO12_NC; $use }
-            AArch64Relocation::R_AARCH64_TLSDESC_ADR_PAGE21 => { let $table = TLSDESC_ADR_PAGE21; $use }
-            AArch64Relocation::R_AARCH64_TLSDESC_LD64_LO12 => { let $table = TLSDESC_LD64_LO12; $use }
-            AArch64Relocation::R_AARCH64_TLSDESC_ADD_LO12 => { let $table = TLSDESC_ADD_LO12; $use }
-            AArch64Relocation::R_AARCH64_TLSDESC_CALL => { let $table = TLSDESC_CALL; $use }
-            AArch64Relocation::R_AARCH64_CALL26 => { let $table = CALL26; $use }
-            AArch64Relocation::R_AARCH64_JUMP26 => { let $table = JUMP26; $use }
-            _ => { let $table = OTHERS; $use }
+/// The entries of each relocation.
+macro_rules! choices {
+    ($make:ident $arguments:tt) => {
+        $make! {
+            $arguments
+            R_AARCH64_ADR_GOT_PAGE: [
+                NoOp at AdrpOfPair => R_AARCH64_ADR_PREL_PG_HI21, to_address!(0);
+            ]
+            R_AARCH64_LD64_GOT_LO12_NC: [
+                LdrToAdd at LdrOfPair => R_AARCH64_ADD_ABS_LO12_NC, to_address!(4);
+            ]
+            R_AARCH64_ADD_ABS_LO12_NC: [AdrpAddToNopAdr => R_AARCH64_ADR_PREL_LO21, TO_ADR]
+            R_AARCH64_TLSIE_ADR_GOTTPREL_PAGE21: [
+                MovzXnLsl16 at AdrpOfPair => R_AARCH64_TLSLE_MOVW_TPREL_G1, TO_LOCAL_EXEC;
+            ]
+            R_AARCH64_TLSIE_LD64_GOTTPREL_LO12_NC: [
+                MovkXn at LdrOfPair => R_AARCH64_TLSLE_MOVW_TPREL_G0_NC, TO_LOCAL_EXEC;
+            ]
+            R_AARCH64_TLSDESC_ADR_PAGE21: [
+                MovzX0Lsl16 at OfDescriptor(0) => R_AARCH64_TLSLE_MOVW_TPREL_G1, TO_LOCAL_EXEC;
+                AdrpX0 at OfDescriptor(0)
+                    => R_AARCH64_TLSIE_ADR_GOTTPREL_PAGE21, to_initial_exec!(0);
+            ]
+            R_AARCH64_TLSDESC_LD64_LO12: [
+                MovkX0 at OfDescriptor(4) => R_AARCH64_TLSLE_MOVW_TPREL_G0_NC, TO_LOCAL_EXEC;
+                LdrX0 at OfDescriptor(4)
+                    => R_AARCH64_TLSIE_LD64_GOTTPREL_LO12_NC, to_initial_exec!(4);
+            ]
+            R_AARCH64_TLSDESC_ADD_LO12: [
+                ReplaceWithNop at OfDescriptor(8) => R_AARCH64_NONE, TO_LOCAL_EXEC;
+                ReplaceWithNop at OfDescriptor(8) => R_AARCH64_NONE, to_initial_exec!(8);
+            ]
+            R_AARCH64_TLSDESC_CALL: [
+                ReplaceWithNop at OfDescriptor(12) => R_AARCH64_NONE, TO_LOCAL_EXEC;
+                ReplaceWithNop at OfDescriptor(12) => R_AARCH64_NONE, to_initial_exec!(12);
+            ]
+            R_AARCH64_CALL26: [ReplaceWithNop at Bl => R_AARCH64_NONE, TO_NEXT]
+            R_AARCH64_JUMP26: [ReplaceWithNop at B => R_AARCH64_NONE, TO_NEXT]
         }
     };
 }
+
+type Table = &'static [ChoiceEntry<AskedFor, RelaxationKind, Names>];
+
+const TABLES: &[Table] = choices!(all_tables());
 
 /// The entries of a relocation.
 #[doc(hidden)]
 #[must_use]
 #[inline(always)]
-pub fn entries(name: AArch64Relocation) -> &'static [AArch64Entry] {
-    by_table!(name, table => table)
+pub fn entries(name: AArch64Relocation) -> Table {
+    choices!(by_table(TABLES, name, table => table))
 }
 
-/// The choice by the table of a name.
+/// The choice by a table of a name.
 #[cfg_attr(not(debug_assertions), inline(always))]
 fn choice_by(
-    table: &'static [AArch64Entry],
+    table: Table,
     name: AArch64Relocation,
     section: &[u8],
     offset: u64,
@@ -239,26 +199,22 @@ fn choice_by(
     first_entry(table, section, offset, facts, unchanged)
 }
 
+/// The choice for a relocation that is listed.
+#[inline(never)]
+fn choose_listed(
+    name: AArch64Relocation,
+    section: &[u8],
+    offset: u64,
+    facts: &LinkFacts,
+) -> Choice<RelaxationKind, AArch64Relocation> {
+    choices!(by_table(TABLES, name, table => choice_by(table, name, section, offset, facts)))
+}
+
 /// The rewrite that a linker chooses for a relocation at an offset of a section, and the relocation
 /// after it (ELF for the Arm 64-bit Architecture, "Relocation optimization" and the sequences of
 /// thread-local storage). It is the first entry of the relocation in the table of choices whose
 /// instructions are there and whose conditions hold, and else `NoOp` and the same relocation, as
 /// for any name that isn't listed and for an offset that isn't in the section.
-///
-/// `apply` may be called at the offset with the rewrite. It leaves offset and addend as they are.
-/// The sequence of a TLS descriptor is that of `is_tls_descriptor_sequence`. Where it becomes
-/// initial-exec, `got_entry` has to be the address of the entry for initial-exec.
-///
-/// Both halves of a load of a GOT entry, and all four relocations of a descriptor, are chosen alike
-/// (`relocations_are_chosen_alike`), since each is chosen by the whole pair or sequence and by the
-/// place of its first instruction. The linker sees to the rest:
-///
-/// - The relocations of one pair or sequence are all there, with the same symbol and addend, and
-///   the facts are the same for all of them, except for `place`, which is that of each.
-/// - All of them are chosen before any is rewritten: what was rewritten isn't what the others are
-///   chosen by.
-/// - `AdrpAddToNopAdr` erases the `adrp`, whose relocation has to be of the same symbol and addend.
-/// - Nothing jumps between the instructions.
 ///
 /// ```
 /// use linker_utils::aarch64::{AArch64Relocation, RelaxationKind, choose};
@@ -277,6 +233,8 @@ fn choice_by(
 /// assert_eq!(section, [0x03, 0, 0, 0x90, 0x63, 0, 0, 0x91]);
 /// ```
 #[must_use]
+#[inline]
+#[doc = include_str!("../../doc/aarch64/choose.linker.md")]
 #[doc = include_str!("../../doc/aarch64/choose.md")]
 pub fn choose(
     name: AArch64Relocation,
@@ -284,7 +242,39 @@ pub fn choose(
     offset: u64,
     facts: &LinkFacts,
 ) -> Choice<RelaxationKind, AArch64Relocation> {
-    by_table!(name, table => choice_by(table, name, section, offset, facts))
+    if let [] = entries(name) {
+        return Choice {
+            kind: RelaxationKind::NoOp,
+            relocation: name,
+        };
+    }
+    choose_listed(name, section, offset, facts)
+}
+
+/// Whether a relocation can be rewritten, if all others of its sequence can: whether `choose` with
+/// `group_fits` changes it. A linker asks this for each relocation of a sequence before it chooses
+/// for any of them, with the facts of each, and sets `group_fits` only if it is true of all.
+///
+/// ```
+/// use linker_utils::aarch64::{AArch64Relocation, fits};
+/// use linker_utils::elf::LinkFacts;
+///
+/// // `adrp x3, :got:v` and `ldr x3, [x3, :got_lo12:v]`, where v is defined in the output
+/// let section = [0x03, 0, 0, 0x90, 0x63, 0, 0x40, 0xf9];
+/// let facts = LinkFacts { is_local: true, has_fixed_distance: true, ..LinkFacts::default() };
+/// assert!(fits(AArch64Relocation::R_AARCH64_ADR_GOT_PAGE, &section, 0, &facts));
+/// assert!(fits(AArch64Relocation::R_AARCH64_LD64_GOT_LO12_NC, &section, 4, &facts));
+/// // where it may be of another file
+/// let facts = LinkFacts::default();
+/// assert!(!fits(AArch64Relocation::R_AARCH64_ADR_GOT_PAGE, &section, 0, &facts));
+/// ```
+#[must_use]
+pub fn fits(name: AArch64Relocation, section: &[u8], offset: u64, facts: &LinkFacts) -> bool {
+    let facts = LinkFacts {
+        group_fits: true,
+        ..*facts
+    };
+    !choose(name, section, offset, &facts).is_unchanged(name)
 }
 
 /// With the same facts, except that each has its own place, both relocations of a load of a GOT

@@ -3,12 +3,12 @@ use Rattle.std.specs.Prelude.{◌+◌, ℕ, List}
 use Rattle.linker_elf.specs.Originals.{HasWord}
 use Rattle.linker_aarch64.specs.AArch64Rewrites.{IsEntryLoad, IsOfDescriptor, IsBranch, IsCall}
 use Rattle.linker_aarch64.specs.AArch64Rewrites.{aarch64_matches}
-use Rattle.linker_aarch64.specs.declared.choices.Original.{Original}
-use Rattle.linker_aarch64.specs.declared.choices.Original.TheVariants as originals
+use Rattle.linker_aarch64.specs.declared.choices.AskedFor.{AskedFor}
+use Rattle.linker_aarch64.specs.declared.choices.AskedFor.TheVariants as originals
 use Rattle.linker_aarch64.specs.declared.rewrites.RelaxationKind.{RelaxationKind}
 
 -- what an entry with a rewrite is for is at an offset of a section
-abbrev pub IsThere : Original → RelaxationKind → List ℕ → ℕ → Type 0
+abbrev pub IsThere : AskedFor → RelaxationKind → List ℕ → ℕ → Type 0
 IsThere originals.OfRewrite kind section o = aarch64_matches kind section o
 IsThere originals.AdrpOfPair kind section o = IsEntryLoad section (o + 4)
 IsThere originals.LdrOfPair kind section o = IsEntryLoad section o

@@ -357,7 +357,8 @@ macro_rules! all_tables {
     };
 }
 
-/// What the table of a name is used for. Each use is one of a constant table.
+/// What the table of a name is used for, behind other arms, if any. Each use is one of a constant
+/// table.
 #[macro_export]
 macro_rules! by_table {
     ($arguments:tt $($($name:ident)|+: $entries:tt)*) => {
@@ -376,10 +377,11 @@ macro_rules! by_table {
         )
     };
     (
-        @ ($tables:ident, $value:expr, $table:ident => $use:expr)
+        @ ($tables:ident, $value:expr, $table:ident => $use:expr $(; $($before:tt)*)?)
         [] [$([$($name:ident)|+] $index:literal)*] $last:literal $($further:literal)*
     ) => {
         match $value {
+            $($($before)*)?
             $($(Names::$name)|+ => { let $table = $tables[$index]; $use })*
             _ => { let $table = $tables[$last]; $use }
         }

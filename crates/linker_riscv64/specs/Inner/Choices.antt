@@ -3,12 +3,12 @@ use Rattle.std.specs.Prelude.{ℕ, List}
 use Rattle.linker_elf.specs.Originals.{HasWord}
 use Rattle.linker_riscv64.specs.RiscVRewrites.{riscv_matches, IsLui, IsAuipc, IsLd, IsAddTp}
 use Rattle.linker_riscv64.specs.RiscVRewrites.{IsAddiToA0}
-use Rattle.linker_riscv64.specs.declared.choices.Original.{Original}
-use Rattle.linker_riscv64.specs.declared.choices.Original.TheVariants as originals
+use Rattle.linker_riscv64.specs.declared.choices.AskedFor.{AskedFor}
+use Rattle.linker_riscv64.specs.declared.choices.AskedFor.TheVariants as originals
 use Rattle.linker_riscv64.specs.declared.rewrites.RelaxationKind.{RelaxationKind}
 
 -- what an entry with a rewrite is for is at an offset of a section
-abbrev pub IsThere : Original → RelaxationKind → List ℕ → ℕ → Type 0
+abbrev pub IsThere : AskedFor → RelaxationKind → List ℕ → ℕ → Type 0
 IsThere originals.OfRewrite kind section o = riscv_matches kind section o
 IsThere originals.Lui kind section o = HasWord section o IsLui
 IsThere originals.AddTp kind section o = HasWord section o IsAddTp

@@ -325,7 +325,8 @@ macro_rules! all_tables {
     };
 }
 
-/// What the table of a name is used for. Each use is one of a constant table.
+/// What the table of a name is used for, behind other arms, if any. Each use is one of a constant
+/// table.
 macro_rules! by_table {
     ($arguments:tt $($($name:ident)|+: $entries:tt)*) => {
         $crate::linker_elf::elf::choice_table::by_table!(
@@ -343,10 +344,11 @@ macro_rules! by_table {
         )
     };
     (
-        @ ($tables:ident, $value:expr, $table:ident => $use:expr)
+        @ ($tables:ident, $value:expr, $table:ident => $use:expr $(; $($before:tt)*)?)
         [] [$([$($name:ident)|+] $index:literal)*] $last:literal $($further:literal)*
     ) => {
         match $value {
+            $($($before)*)?
             $($(Names::$name)|+ => { let $table = $tables[$index]; $use })*
             _ => { let $table = $tables[$last]; $use }
         }

@@ -1,24 +1,10 @@
-use Rattle.std.proofs.Common.{refl}
-use Rattle.linker_elf.specs.declared.loongarch64.relocations.LoongArch64Relocation.TheVariants as r
-use Rattle.linker_loongarch64.specs.declared.rewrites.RelaxationKind.TheVariants as kinds
-use Rattle.linker_loongarch64.proofs.LoongArchChoices.{first_asked}
+use Rattle.linker_loongarch64.proofs.LoongArchChoices.{chosen_matches, chosen_rewritable}
 use Rattle.linker_loongarch64.proofs.choices.choose.Goals as goal
 
-pub choice_by-requires-clause-table : goal.choice_by-requires-clause-table
-choice_by-requires-clause-table c =
-    let is = c.in-R_LARCH_GOT_PC_HI20.is in
-    let near = first_asked c.args.name r.R_LARCH_GOT_PC_HI20 kinds.PcalaToPcaddi is in
-    let paged = first_asked c.args.name r.R_LARCH_GOT_PC_HI20 kinds.NoOp is in
-    rw is (refl, (near, (refl, (paged, tt))))
+pub returns-clause-matches : goal.returns-clause-matches
+returns-clause-matches c =
+    chosen_matches c.args.name c.args.section.now c.args.offset c.args.facts.now c.choose_listed.result c.choose_listed.ensures
 
-pub choice_by-requires-in-R_LARCH_PCALA_HI20-clause-table : goal.choice_by-requires-in-R_LARCH_PCALA_HI20-clause-table
-choice_by-requires-in-R_LARCH_PCALA_HI20-clause-table c =
-    let is = c.in-R_LARCH_PCALA_HI20.is in
-    rw is (refl, (first_asked c.args.name r.R_LARCH_PCALA_HI20 kinds.PcalaToPcaddi is, tt))
-
-pub choice_by-requires-in-R_LARCH_TLS_IE_PC_HI20-clause-table : goal.choice_by-requires-in-R_LARCH_TLS_IE_PC_HI20-clause-table
-choice_by-requires-in-R_LARCH_TLS_IE_PC_HI20-clause-table c =
-    let is = c.in-R_LARCH_TLS_IE_PC_HI20.is in
-    let short = first_asked c.args.name r.R_LARCH_TLS_IE_PC_HI20 kinds.ReplaceWithNop is in
-    let long = first_asked c.args.name r.R_LARCH_TLS_IE_PC_HI20 kinds.PcalaToLu12i is in
-    rw is (refl, (short, (refl, (long, tt))))
+pub returns-clause-rewritable : goal.returns-clause-rewritable
+returns-clause-rewritable c =
+    chosen_rewritable c.args.name c.args.section.now c.args.offset c.args.facts.now c.choose_listed.result c.choose_listed.ensures

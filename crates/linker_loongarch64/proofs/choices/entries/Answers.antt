@@ -4,21 +4,21 @@ use Rattle.linker_loongarch64.specs.declared.rewrites.RelaxationKind.TheVariants
 use Rattle.linker_loongarch64.proofs.LoongArchChoices.{first_asked}
 use Rattle.linker_loongarch64.proofs.choices.entries.Goals as goal
 
-pub returns-in-R_LARCH_GOT_PC_HI20-clause-table : goal.returns-in-R_LARCH_GOT_PC_HI20-clause-table
-returns-in-R_LARCH_GOT_PC_HI20-clause-table c =
-    let is = c.in-R_LARCH_GOT_PC_HI20.is in
+pub returns-in-R_LARCH_GOT_PC_HI20-by_table-clause-table : goal.returns-in-R_LARCH_GOT_PC_HI20-by_table-clause-table
+returns-in-R_LARCH_GOT_PC_HI20-by_table-clause-table c =
+    let is = c.in-R_LARCH_GOT_PC_HI20-by_table.is in
     let near = first_asked c.args.name r.R_LARCH_GOT_PC_HI20 kinds.PcalaToPcaddi is in
     let paged = first_asked c.args.name r.R_LARCH_GOT_PC_HI20 kinds.NoOp is in
     rw is (refl, (near, (refl, (paged, tt))))
 
-pub returns-in-R_LARCH_PCALA_HI20-clause-table : goal.returns-in-R_LARCH_PCALA_HI20-clause-table
-returns-in-R_LARCH_PCALA_HI20-clause-table c =
-    let is = c.in-R_LARCH_PCALA_HI20.is in
+pub returns-in-R_LARCH_PCALA_HI20-by_table-clause-table : goal.returns-in-R_LARCH_PCALA_HI20-by_table-clause-table
+returns-in-R_LARCH_PCALA_HI20-by_table-clause-table c =
+    let is = c.in-R_LARCH_PCALA_HI20-by_table.is in
     rw is (refl, (first_asked c.args.name r.R_LARCH_PCALA_HI20 kinds.PcalaToPcaddi is, tt))
 
-pub returns-in-R_LARCH_TLS_IE_PC_HI20-clause-table : goal.returns-in-R_LARCH_TLS_IE_PC_HI20-clause-table
-returns-in-R_LARCH_TLS_IE_PC_HI20-clause-table c =
-    let is = c.in-R_LARCH_TLS_IE_PC_HI20.is in
+pub returns-in-R_LARCH_TLS_IE_PC_HI20-by_table-clause-table : goal.returns-in-R_LARCH_TLS_IE_PC_HI20-by_table-clause-table
+returns-in-R_LARCH_TLS_IE_PC_HI20-by_table-clause-table c =
+    let is = c.in-R_LARCH_TLS_IE_PC_HI20-by_table.is in
     let short = first_asked c.args.name r.R_LARCH_TLS_IE_PC_HI20 kinds.ReplaceWithNop is in
     let long = first_asked c.args.name r.R_LARCH_TLS_IE_PC_HI20 kinds.PcalaToLu12i is in
     rw is (refl, (short, (refl, (long, tt))))

@@ -1,23 +1,14 @@
-use Rattle.std.proofs.Common.{refl}
-use Rattle.linker_riscv64.proofs.RiscVChoices.{same}
+use Rattle.linker_riscv64.proofs.RiscVChoices.{chosen_matches, chosen_rewritable, chosen_compressed}
 use Rattle.linker_riscv64.proofs.choices.choose.Goals as goal
 
-pub choice_by-requires-in-R_RISCV_TLSDESC_HI20-clause-table : goal.choice_by-requires-in-R_RISCV_TLSDESC_HI20-clause-table
-choice_by-requires-in-R_RISCV_TLSDESC_HI20-clause-table c =
-    simp c.in-R_RISCV_TLSDESC_HI20.is
-    (refl, (λ s o. same _, (refl, (λ s o. same _, (refl, (λ s o. same _, (refl, (λ s o. same _, tt))))))))
+pub returns-clause-matches : goal.returns-clause-matches
+returns-clause-matches c =
+    chosen_matches c.args.name c.args.section.now c.args.offset c.args.facts.now c.choose_listed.result c.choose_listed.ensures
 
-pub choice_by-requires-in-R_RISCV_TLSDESC_LOAD_LO12-clause-table : goal.choice_by-requires-in-R_RISCV_TLSDESC_LOAD_LO12-clause-table
-choice_by-requires-in-R_RISCV_TLSDESC_LOAD_LO12-clause-table c =
-    simp c.in-R_RISCV_TLSDESC_LOAD_LO12.is
-    (refl, (λ s o. same _, (refl, (λ s o. same _, (refl, (λ s o. same _, (refl, (λ s o. same _, tt))))))))
+pub returns-clause-rewritable : goal.returns-clause-rewritable
+returns-clause-rewritable c =
+    chosen_rewritable c.args.name c.args.section.now c.args.offset c.args.facts.now c.choose_listed.result c.choose_listed.ensures
 
-pub choice_by-requires-in-R_RISCV_TLSDESC_ADD_LO12-clause-table : goal.choice_by-requires-in-R_RISCV_TLSDESC_ADD_LO12-clause-table
-choice_by-requires-in-R_RISCV_TLSDESC_ADD_LO12-clause-table c =
-    simp c.in-R_RISCV_TLSDESC_ADD_LO12.is
-    (refl, (λ s o. same _, (refl, (λ s o. same _, (refl, (λ s o. same _, (refl, (λ s o. same _, tt))))))))
-
-pub choice_by-requires-in-R_RISCV_TLSDESC_CALL-clause-table : goal.choice_by-requires-in-R_RISCV_TLSDESC_CALL-clause-table
-choice_by-requires-in-R_RISCV_TLSDESC_CALL-clause-table c =
-    simp c.in-R_RISCV_TLSDESC_CALL.is
-    (refl, (λ s o. same _, (refl, (λ s o. same _, (refl, (λ s o. same _, tt))))))
+pub returns-clause-compressed : goal.returns-clause-compressed
+returns-clause-compressed c =
+    chosen_compressed c.args.name c.args.section.now c.args.offset c.args.facts.now c.choose_listed.result c.choose_listed.ensures
