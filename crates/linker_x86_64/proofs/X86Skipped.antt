@@ -7,9 +7,10 @@ pub of_general_dynamic : HaveFieldAt 8 general_dynamic
 of_general_dynamic = ((0xe8, [], refl), ((0x15, [], refl), tt))
 
 pub of_large : HaveFieldAt 6 large
-of_large =
-    ((0xb8, field4 ++ byte 0x48 ∷ byte 0x01 ∷ byte 0xd8 ∷ byte 0xff ∷ byte 0xd0 ∷ [], refl),
-    ((0xb8, field4 ++ byte 0x4c ∷ byte 0x01 ∷ byte 0xf8 ∷ byte 0xff ∷ byte 0xd0 ∷ [], refl), tt))
+of_large = (
+  (0xb8, field4 ++ byte 0x48 ∷ byte 0x01 ∷ byte 0xd8 ∷ byte 0xff ∷ byte 0xd0 ∷ [], refl),
+  ((0xb8, field4 ++ byte 0x4c ∷ byte 0x01 ∷ byte 0xf8 ∷ byte 0xff ∷ byte 0xd0 ∷ [], refl), tt),
+)
 
 pub of_local_dynamic : HaveFieldAt 5 (x86_64_originals kinds.TlsLdToLocalExec)
 of_local_dynamic = ((0xe8, [], refl), tt)
