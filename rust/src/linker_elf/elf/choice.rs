@@ -46,6 +46,12 @@ pub struct LinkFacts {
     /// Each relocation of the sequence that this one is part of can be rewritten: `fits` of the
     /// architecture is true of all of them, with the same facts but for `place`. Where the
     /// instructions of a sequence may be apart, none of them is rewritten without it.
+    ///
+    /// At `R_X86_64_TLSGD` and `R_X86_64_TLSLD` it says that a relocation whose type
+    /// `may_be_skipped`, and whose symbol is `__tls_get_addr`, is where `skipped_offset` of the
+    /// rewrite says. At `R_X86_64_GOTPC32_TLSDESC`, its `CODE_4`, `CODE_5` and `CODE_6`, and
+    /// `R_X86_64_TLSDESC_CALL` it says that each relocation of these types in the object that is of
+    /// the same symbol fits.
     pub group_fits: bool,
     /// The addresses in `operands` are known. Where they are not, a rewrite that depends on a
     /// distance is not chosen; another is, and its value may turn out to be out of reach.
