@@ -1,12 +1,12 @@
 -- Bytes that are the same but for the bits of a mask.
-use Rattle.std.proofs.Common.{◌≡◌, ◌↔◌, ◌<◌, ◌≤◌, ◌+◌, ◌-◌, ◌*◌, ◌/◌, ◌%◌, ◌^◌, ◌&&◌, ◌||◌, ℕ, zero, suc, Bool, true, false, List, length, take, get_or, refl, sym, ap, ◌∙◌, ⊎_elim, arith, bit_and, bit_or}
-use Rattle.std.specs.Prelude.{◌==◌, IsTrue, nat_eq, nat_lt, nat_le, min, max, bit_xor}
+use Rattle.std.proofs.Common.{◌≡◌, ◌<◌, ◌≤◌, ◌+◌, ◌-◌, ◌*◌, ◌/◌, ◌%◌, ◌^◌, ◌&&◌, ◌||◌, ℕ, zero, suc, Bool, true, false, List, length, take, get_or, refl, sym, ap, ◌∙◌, ⊎_elim, arith, bit_and, bit_or}
+use Rattle.std.specs.Prelude.{◌==◌, nat_lt, min, max, bit_xor}
 use Rattle.std.specs.Int.{bit_at, bit_not, w64}
-use Rattle.std.proofs.lemmas.Bool.{cases_lt, lt-ltb, le-leb, false≢true, eqb-true, eq-eqb}
+use Rattle.std.proofs.lemmas.Bool.{cases_lt, lt-ltb, le-leb, false≢true, eqb-true}
 use Rattle.std.proofs.lemmas.List.Folds.{list_any_more}
 use Rattle.std.proofs.lemmas.Nat.{shr-shr}
 use Rattle.std.proofs.lemmas.Nat.Bits.{bit_at_and, bit_at_or, bit_at_xor, bit_at_not, bit_at-lt, bit_at_above, bit_at-zero, same_from_bits}
-use Rattle.linker_recognise.specs.Fields.{is_in, is_in_one, IsSameBut}
+use Rattle.linker_recognise.specs.Fields.{is_in, is_in_one}
 use Rattle.linker_recognise.specs.declared.fields.FieldBits.{FieldBits}
 
 -- a bit of a number that is shifted to a byte

@@ -28,20 +28,18 @@ macro_rules! of_name {
 }
 
 /// The same with the rewrite as one of all architectures', and the relocation's code.
-fn by_code<N: Recognised>(found: Option<Made<N::Kind, N>>) -> Option<Made<Relaxation, u32>>
+fn coded<N: Recognised>(found: Option<Made<N::Kind, N>>) -> Option<Made<Relaxation, u32>>
     ensures { result ≡ of_some (by_code N.how) found }
 {
-    match found {
-        Some(made) => Some(Made {
-            choice: Choice {
-                kind: N::relaxation(made.choice.kind),
-                relocation: made.choice.relocation.code(),
-            },
-            offset: made.offset,
-            value: made.value,
-        }),
-        None => None,
-    }
+    let made = found?;
+    Some(Made {
+        choice: Choice {
+            kind: N::relaxation(made.choice.kind),
+            relocation: made.choice.relocation.code(),
+        },
+        offset: made.offset,
+        value: made.value,
+    })
 }
 
 /// The same of each.
@@ -52,14 +50,7 @@ fn all_by_code<N: Recognised>(
     ensures { result ≡ map (of_some (by_code N.how)) found }
 {
     let [a, b, c, d, e, f] = found;
-    [
-        by_code(a),
-        by_code(b),
-        by_code(c),
-        by_code(d),
-        by_code(e),
-        by_code(f),
-    ]
+    [coded(a), coded(b), coded(c), coded(d), coded(e), coded(f)]
 }
 
 /// Which rewrites, and relocations after them, a linker may have made at the relocation with a
@@ -112,6 +103,6 @@ pub fn recognise_chosen(
         facts.now result }
 {
     of_name!(architecture, code, name => {
-        by_code(engine::recognise_chosen(name, original, offset, others, linked, facts))
+        coded(engine::recognise_chosen(name, original, offset, others, linked, facts))
     })
 }

@@ -11,10 +11,9 @@ ghost use Rattle.linker_recognise.specs.Fields.{is_in, is_in_field};
 ghost use Rattle.linker_recognise.specs.Inner.Found.{IsMeant, IsBefore, choices_in};
 ghost use Rattle.linker_recognise.specs.Inner.Laws.{AreLawsOf};
 ghost use Rattle.linker_recognise.specs.Recognised.{HasField, AreLeft, deleted_start, deleted_count};
-ghost use Rattle.linker_recognise.specs.Recognised.{linked_offset, value_at, Recogniser};
-ghost use Rattle.linker_recognise.specs.Recognised.{choices_at, IsChosen, IsMade};
-ghost use Rattle.linker_recognise.specs.Recognised.{IsFound, IsOneOf, AreThose, ArePlaced};
-ghost use Rattle.linker_recognise.specs.Recognised.{AreDistinct};
+ghost use Rattle.linker_recognise.specs.Recognised.{linked_offset, value_at, Recogniser, choices_at};
+ghost use Rattle.linker_recognise.specs.Recognised.{IsChosen, IsMade, IsFound, IsOneOf, AreThose};
+ghost use Rattle.linker_recognise.specs.Recognised.{ArePlaced, AreDistinct};
 
 use crate::fields::{FieldBits, are_same_but};
 use linker_elf::elf::choice_table::{ChoiceEntry, RelocationName};
@@ -66,10 +65,7 @@ fn deleted_at(deleted: Option<DeletedBytes>, offset: u64) -> (u64, u64)
     ensures count { result.1 ≡ deleted_count deleted }
 {
     match deleted {
-        Some(deleted) => (
-            offset.saturating_add(deleted.start),
-            u64::from(deleted.count),
-        ),
+        Some(bytes) => (offset.saturating_add(bytes.start), u64::from(bytes.count)),
         None => (0, 0),
     }
 }
@@ -111,13 +107,11 @@ fn linked_offset(deleted: Option<DeletedBytes>, offset: u64, at: u64) -> u64
 fn value_at(row: &Option<Row>, at: u64, linked: &[u8]) -> Option<FieldValue>
     ensures { result ≡ value_at row.now at linked.now }
 {
-    match row {
-        Some(row) => {
-            let start = at.min(linked.len() as u64);
-            read(row, &linked[start as usize..])
-        }
-        None => None,
-    }
+    let Some(row) = row else {
+        return None;
+    };
+    let start = at.min(linked.len() as u64);
+    read(row, &linked[start as usize..])
 }
 
 /// A relocation's name, with the table of its choices.
@@ -152,11 +146,11 @@ pub trait Recognised: RelocationName + PartialEq {
 #[inline(always)]
 pub(crate) fn choice_at<O, K: Copy, R: Copy>(
     entries: &'static [ChoiceEntry<O, K, R>],
-    no_op: K,
-    name: R,
+    kind: K,
+    relocation: R,
     index: usize,
 ) -> Option<Choice<K, R>>
-    ensures { result ≡ slice_get (choices_in entries.now (choice no_op name)) index }
+    ensures { result ≡ slice_get (choices_in entries.now (choice kind relocation)) index }
 {
     if index < entries.len() {
         let ChoiceEntry {
@@ -166,18 +160,14 @@ pub(crate) fn choice_at<O, K: Copy, R: Copy>(
         } = entries[index];
         Some(Choice { kind, relocation })
     } else if index == entries.len() {
-        Some(Choice {
-            kind: no_op,
-            relocation: name,
-        })
+        Some(Choice { kind, relocation })
     } else {
         None
     }
 }
 
 /// A choice with what stands in its field, if its rewrite is meant for what is at the offset and it
-/// leaves the linked bytes: if these differ from what the rewrite makes of the original ones only in
-/// the field of the relocation after it and in some other bits.
+/// leaves the linked bytes, as `recognise` says.
 fn recognise_one<N: Recognised>(
     choice: Choice<N::Kind, N>,
     original: &[u8],

@@ -25,18 +25,16 @@ macro_rules! of_name {
 }
 
 /// The same with the rewrite as one of all architectures', and the relocation's code.
-fn by_code<N: Recognised>(found: Option<Made<N::Kind, N>>) -> Option<Made<Relaxation, u32>> {
-    match found {
-        Some(made) => Some(Made {
-            choice: Choice {
-                kind: N::relaxation(made.choice.kind),
-                relocation: made.choice.relocation.code(),
-            },
-            offset: made.offset,
-            value: made.value,
-        }),
-        None => None,
-    }
+fn coded<N: Recognised>(found: Option<Made<N::Kind, N>>) -> Option<Made<Relaxation, u32>> {
+    let made = found?;
+    Some(Made {
+        choice: Choice {
+            kind: N::relaxation(made.choice.kind),
+            relocation: made.choice.relocation.code(),
+        },
+        offset: made.offset,
+        value: made.value,
+    })
 }
 
 /// The same of each.
@@ -44,14 +42,7 @@ fn all_by_code<N: Recognised>(
     found: [Option<Made<N::Kind, N>>; CANDIDATES],
 ) -> [Option<Made<Relaxation, u32>>; CANDIDATES] {
     let [a, b, c, d, e, f] = found;
-    [
-        by_code(a),
-        by_code(b),
-        by_code(c),
-        by_code(d),
-        by_code(e),
-        by_code(f),
-    ]
+    [coded(a), coded(b), coded(c), coded(d), coded(e), coded(f)]
 }
 
 /// Which rewrites, and relocations after them, a linker may have made at the relocation with a
@@ -111,6 +102,6 @@ pub fn recognise_chosen(
 ) -> Option<Made<Relaxation, u32>> {
     debug_assert!(original.len() <= 64);
     of_name!(architecture, code, name => {
-        by_code(engine::recognise_chosen(name, original, offset, others, linked, facts))
+        coded(engine::recognise_chosen(name, original, offset, others, linked, facts))
     })
 }

@@ -43,10 +43,7 @@ fn field_at(row: &Option<Row>, at: u64, bytes: &[u8]) -> Option<FieldBits> {
 #[inline(always)]
 fn deleted_at(deleted: Option<DeletedBytes>, offset: u64) -> (u64, u64) {
     match deleted {
-        Some(deleted) => (
-            offset.saturating_add(deleted.start),
-            u64::from(deleted.count),
-        ),
+        Some(bytes) => (offset.saturating_add(bytes.start), u64::from(bytes.count)),
         None => (0, 0),
     }
 }
@@ -82,13 +79,11 @@ fn linked_offset(deleted: Option<DeletedBytes>, offset: u64, at: u64) -> u64 {
 
 /// What stands in the field of a relocation at an offset of the linked bytes.
 fn value_at(row: &Option<Row>, at: u64, linked: &[u8]) -> Option<FieldValue> {
-    match row {
-        Some(row) => {
-            let start = at.min(linked.len() as u64);
-            read(row, &linked[start as usize..])
-        }
-        None => None,
-    }
+    let Some(row) = row else {
+        return None;
+    };
+    let start = at.min(linked.len() as u64);
+    read(row, &linked[start as usize..])
 }
 
 /// A relocation's name, with the table of its choices.
@@ -117,8 +112,8 @@ pub trait Recognised: RelocationName + PartialEq {
 #[cfg_attr(not(debug_assertions), inline(always))]
 pub(crate) fn choice_at<O, K: Copy, R: Copy>(
     entries: &'static [ChoiceEntry<O, K, R>],
-    no_op: K,
-    name: R,
+    kind: K,
+    relocation: R,
     index: usize,
 ) -> Option<Choice<K, R>> {
     if index < entries.len() {
@@ -129,18 +124,14 @@ pub(crate) fn choice_at<O, K: Copy, R: Copy>(
         } = entries[index];
         Some(Choice { kind, relocation })
     } else if index == entries.len() {
-        Some(Choice {
-            kind: no_op,
-            relocation: name,
-        })
+        Some(Choice { kind, relocation })
     } else {
         None
     }
 }
 
 /// A choice with what stands in its field, if its rewrite is meant for what is at the offset and it
-/// leaves the linked bytes: if these differ from what the rewrite makes of the original ones only in
-/// the field of the relocation after it and in some other bits.
+/// leaves the linked bytes, as `recognise` says.
 fn recognise_one<N: Recognised>(
     choice: Choice<N::Kind, N>,
     original: &[u8],

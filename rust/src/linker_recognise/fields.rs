@@ -35,19 +35,6 @@ fn number_bits(kind: RelocationKind, len: usize) -> u64 {
     }
 }
 
-/// The bits that a write of a row may change, as a mask.
-#[inline(always)]
-fn mask_of(row: &Row, bytes: &[u8]) -> u64 {
-    let info = row.info();
-    match info.size {
-        RelocationSize::ByteSize(len) => number_bits(info.kind, len as usize),
-        RelocationSize::BitMasking { range, insn } => {
-            let placed = insn.placed_bits(info.kind, range, bytes);
-            insn.written_at(range, bytes).field_mask(placed, bytes)
-        }
-    }
-}
-
 /// Which bits of the bytes that `bytes` begins with a write of a row may change, bit 0 the lowest
 /// of the first byte. Of an instruction these are the bits of its form, and for `Movnz` those of
 /// the opcode that it sets, except at a MOVK; at a `jirl` at `R_LARCH_PCALA_LO12` they are all 16 of
@@ -69,7 +56,14 @@ fn mask_of(row: &Row, bytes: &[u8]) -> u64 {
 #[cfg_attr(debug_assertions, track_caller)]
 pub fn field_bits(row: &Row, bytes: &[u8]) -> u64 {
     debug_assert!(row.window() <= bytes.len());
-    mask_of(row, bytes)
+    let info = row.info();
+    match info.size {
+        RelocationSize::ByteSize(len) => number_bits(info.kind, len as usize),
+        RelocationSize::BitMasking { range, insn } => {
+            let placed = insn.placed_bits(info.kind, range, bytes);
+            insn.written_at(range, bytes).field_mask(placed, bytes)
+        }
+    }
 }
 
 impl FieldBits {

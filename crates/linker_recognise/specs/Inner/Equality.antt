@@ -7,7 +7,7 @@ use Rattle.std.specs.Cmp.{unsigned_Decides}
 use denote.Struct.Field.{Field}
 use denote.Enum.Bare.{Bare, sameb, same_true, true_same}
 use denote.Enum.Compared.{Each, by}
-use denote.Enum.Declared.{Record, Declared, Choice, left_or, right_or, values_one}
+use denote.Enum.Declared.{Record, Declared, left_or, right_or, values_one}
 
 -- the comparison is true of one value exactly
 abbrev pub IsEquality : {A : Type 0} → (A → A → Bool) → Type 0

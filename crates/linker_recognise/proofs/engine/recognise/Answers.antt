@@ -1,10 +1,10 @@
-use Rattle.std.proofs.Common.{rules, ◌+◌, ap, sym, subst, ◌∙◌, arith}
+use Rattle.std.proofs.Common.{◌+◌, ap, sym, subst, ◌∙◌, arith}
 use Rattle.std.specs.Option.{is_some}
 use Rattle.std.proofs.lemmas.Bool.{both_ways}
 use Rattle.linker_recognise.specs.Inner.Found.{IsMeant, AreFoundOfFirst}
 use Rattle.linker_recognise.specs.Recognised.{choices_at}
 use Rattle.linker_recognise.specs.declared.engine.Made.{Made}
-use Rattle.linker_recognise.proofs.Found.{none_yet, one_more, same_again, not_so, not_behind, found_in_table, are_distinct, chosen_found}
+use Rattle.linker_recognise.proofs.Found.{one_more, same_again, not_so, not_behind, found_in_table, are_distinct, chosen_found}
 use Rattle.linker_recognise.proofs.engine.recognise.Goals.{then-is_some+then-not-is_listed_before, else-is_some, else-is_some-via-then-is_some+else-not-is_listed_before, else-is_some-via-else-is_some}
 use Rattle.linker_recognise.proofs.engine.recognise.Goals as goal
 

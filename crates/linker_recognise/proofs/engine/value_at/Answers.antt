@@ -5,7 +5,7 @@ use Rattle.linker_recognise.specs.Recognised.{value_at}
 use Rattle.linker_recognise.proofs.Read.{read_from}
 use Rattle.linker_recognise.proofs.engine.value_at.Goals as goal
 
-pub returns-in-Some : goal.returns-in-Some
-returns-in-Some c =
+pub returns : goal.returns
+returns c =
     c.read.ensures.value ∙ ap (value_read c.in-Some.row) (read_from c.args.at c.min-start.result c.args.linked.now c.min-start.ensures)
     ∙ sym (ap (λ (row : Option RelocationKindInfo). value_at row c.args.at c.args.linked.now) c.in-Some.is)
