@@ -76,8 +76,7 @@ fn relocations_of(
 
 #[inline]
 fn numbers_of(item: &Item) -> ItemNumbers
-    ensures item { item_of result ≡ item.now }
-    ensures kind { result.kind ≤ 2 }
+    ensures { item_of result ≡ item.now }
 {
     match item {
         Item::Site(site) => ItemNumbers {
@@ -110,8 +109,6 @@ fn numbers_of(item: &Item) -> ItemNumbers
 fn write_items(made: &[Item], items: &mut [ItemNumbers])
     requires { length made.now ≤ length items.old }
     ensures written { items_in (take (length made.now) items.new) ≡ made.now }
-    ensures kinds { (k : ℕ) (item : ItemNumbers) → k < length made.now
-        → (slice_index_or items.new k item).kind ≤ 2 }
     ensures others_stay { (k : ℕ) (item : ItemNumbers) → length made.now ≤ k
         → slice_index_or items.new k item ≡ slice_index_or items.old k item }
 {
@@ -131,8 +128,6 @@ fn put(
     ensures outcome { MatchResult made
         (λ made. (result ≡ code Status.Success) × (items_in (take len.new items.new) ≡ made.items))
         (IsNotMade faulty.new result) }
-    ensures kinds { (k : ℕ) (item : ItemNumbers) → result ≡ code Status.Success → k < len.new
-        → (slice_index_or items.new k item).kind ≤ 2 }
     ensures others_stay { (k : ℕ) (item : ItemNumbers) → result ≡ code Status.Success → len.new ≤ k
         → slice_index_or items.new k item ≡ slice_index_or items.old k item }
     ensures unchanged { result ≢ code Status.Success
@@ -187,8 +182,6 @@ pub extern "C" fn linker_utils_riscv_items_nonnull(
     ensures malformed { result ≡ code Status.MalformedRelocation
         → IsFirstMalformed (IsRiscVFormed section.now)
         (relocations_in relocations.now) faulty.new }
-    ensures kinds { result ≡ code Status.Success → (k : ℕ) (item : ItemNumbers) → k < len.new
-        → (slice_index_or items.new k item).kind ≤ 2 }
     ensures others_stay { result ≡ code Status.Success → (k : ℕ) (item : ItemNumbers) → len.new ≤ k
         → slice_index_or items.new k item ≡ slice_index_or items.old k item }
     ensures unchanged { result ≢ code Status.Success
@@ -235,8 +228,6 @@ pub extern "C" fn linker_utils_loongarch_items_nonnull(
     ensures malformed { result ≡ code Status.MalformedRelocation
         → IsFirstMalformed (IsLoongArchFormed section.now) (relocations_in relocations.now)
         faulty.new }
-    ensures kinds { result ≡ code Status.Success → (k : ℕ) (item : ItemNumbers) → k < len.new
-        → (slice_index_or items.new k item).kind ≤ 2 }
     ensures others_stay { result ≡ code Status.Success → (k : ℕ) (item : ItemNumbers) → len.new ≤ k
         → slice_index_or items.new k item ≡ slice_index_or items.old k item }
     ensures unchanged { result ≢ code Status.Success
