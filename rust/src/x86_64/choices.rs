@@ -452,3 +452,30 @@ pub fn choose(
     let opcode = opcode_before(section, offset);
     by_table!(name, opcode, table => choice_by(table, name, opcode, section, offset, facts))
 }
+
+/// Whether a relocation can be rewritten, if all others of its sequence can: whether `choose` with
+/// `group_fits` changes it. A linker asks this for each relocation of a sequence before it chooses
+/// for any of them, with the facts of each, and sets `group_fits` only if it is true of all.
+///
+/// ```
+/// use linker_utils::elf::{LinkFacts, Operands};
+/// use linker_utils::x86_64::{X86_64Relocation, fits};
+///
+/// // lea x@tlsdesc(%rip), %rax; call *x@tlscall(%rax), in an executable that defines x
+/// let section = [0x48, 0x8d, 0x05, 0, 0, 0, 0, 0xff, 0x10];
+/// let operands = Operands { addend: -4, ..Operands::default() };
+/// let facts =
+///     LinkFacts { is_local: true, is_executable: true, operands, ..LinkFacts::default() };
+/// assert!(fits(X86_64Relocation::R_X86_64_GOTPC32_TLSDESC, &section, 3, &facts));
+/// assert!(fits(X86_64Relocation::R_X86_64_TLSDESC_CALL, &section, 7, &facts));
+/// // a call through another register
+/// assert!(!fits(X86_64Relocation::R_X86_64_TLSDESC_CALL, &[0xff, 0x11], 0, &facts));
+/// ```
+#[must_use]
+pub fn fits(name: X86_64Relocation, section: &[u8], offset: u64, facts: &LinkFacts) -> bool {
+    let facts = LinkFacts {
+        group_fits: true,
+        ..*facts
+    };
+    !choose(name, section, offset, &facts).is_unchanged(name)
+}
