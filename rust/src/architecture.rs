@@ -46,7 +46,7 @@ impl Relaxation {
     /// the rewrite is meant for, as `matches` of the architecture's `RelaxationKind` says. Where
     /// they are, the rewrite can be applied.
     #[must_use]
-    #[inline]
+    #[inline(always)]
     pub fn matches(self, section: &[u8], offset: u64) -> bool {
         match self {
             Relaxation::AArch64(kind) => kind.matches(section, offset),

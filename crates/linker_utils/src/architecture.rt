@@ -59,7 +59,7 @@ impl Relaxation {
     /// Whether the bytes at an offset of a section are an instruction, or a sequence of some, that
     /// the rewrite is meant for, as `matches` of the architecture's `RelaxationKind` says. Where
     /// they are, the rewrite can be applied.
-    #[inline]
+    #[inline(always)]
     pub fn matches(self, section: &[u8], offset: u64) -> bool
         ensures exactly { IsTrue result ↔ relaxation_matches self section.now offset }
         ensures rewritable { IsTrue result
