@@ -304,10 +304,8 @@ fn halves_made<const N: usize>(mut words: [u32; N], halves: &[(u64, bool)]) -> (
 /// make of it.
 #[test]
 fn halves_are_rewritten_where_they_are() {
-    let code =
-        [0x9000_0000u32, 0x1400_0004, 0x9100_0421, 0x9000_0000, 0x9100_0442, 0xf940_0000];
-    let linked =
-        [0xd2a0_0020u32, 0x1400_0004, 0x9100_0421, 0xd2a0_0020, 0x9100_0442, 0xf284_6a00];
+    let code = [0x9000_0000u32, 0x1400_0004, 0x9100_0421, 0x9000_0000, 0x9100_0442, 0xf940_0000];
+    let linked = [0xd2a0_0020u32, 0x1400_0004, 0x9100_0421, 0xd2a0_0020, 0x9100_0442, 0xf284_6a00];
     assert_eq!(halves_made(code, &[(0, true), (12, true), (20, false)]), (true, linked));
 }
 
