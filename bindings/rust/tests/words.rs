@@ -328,6 +328,7 @@ fn choices_of_loongarch_match_gnu_ld() {
         };
         let mut facts = facts_with(symbol != 0, operands);
         facts.is_marked = true;
+        facts.group_fits = true;
         let mut section: [u8; 16] = words
             .map(u32::to_le_bytes)
             .as_flattened()
