@@ -2,10 +2,14 @@
 //! Which rewrite is chosen for a relocation of x86-64.
 
 use super::rewrites::{is_lea_of_descriptor, is_legacy};
-use super::{RelaxationKind, X86_64Relocation};
+use super::{RelaxationKind, X86_64Relocation, X86_64Relocation as Names};
 use crate::linker_elf::elf::choice_table::{
     BOUND, ChoiceEntry, ChosenKind, Conditions, EXECUTABLE, FIXED_ADDRESS, FIXED_DISTANCE,
+<<<<<<< HEAD
     GROUP_FITS, LOCAL_EXEC_BASE, Originals, ValueCondition, WEAK_ZERO, first_entry,
+=======
+    LOCAL_EXEC_BASE, Originals, WEAK_ZERO, all_tables, by_table, conditions, first_entry, table_of,
+>>>>>>> d628579e43e928ff3c50266ea4fad8b56aecd6a6
 };
 use crate::linker_elf::elf::{Choice, LinkFacts, Operands};
 
@@ -37,51 +41,26 @@ impl ChosenKind for RelaxationKind {
     #[inline(always)]
     fn operands_after(self, offset: u64, operands: &Operands) -> Operands {
         let place = operands.place;
-        match self {
+        let (place, addend) = match self {
             RelaxationKind::NoOp
             | RelaxationKind::MovIndirectToLea
             | RelaxationKind::CallIndirectToRelative
             | RelaxationKind::TlsDescToInitialExec
-            | RelaxationKind::SkipTlsDescCall => *operands,
+            | RelaxationKind::SkipTlsDescCall => (place, operands.addend),
             RelaxationKind::JmpIndirectToRelative => {
                 let before = offset.saturating_sub(1);
-                Operands {
-                    place: place.wrapping_add(before).wrapping_sub(offset),
-                    ..*operands
-                }
+                (
+                    place.wrapping_add(before).wrapping_sub(offset),
+                    operands.addend,
+                )
             }
-            RelaxationKind::TlsGdToLocalExec => {
-                Operands {
-                    place: place.wrapping_add(8),
-                    addend: 0,
-                    ..*operands
-                }
-            }
-            RelaxationKind::TlsGdToLocalExecLarge => {
-                Operands {
-                    place: place.wrapping_add(9),
-                    addend: 0,
-                    ..*operands
-                }
-            }
-            RelaxationKind::TlsGdToInitialExec => {
-                Operands {
-                    place: place.wrapping_add(8),
-                    ..*operands
-                }
-            }
+            RelaxationKind::TlsGdToLocalExec => (place.wrapping_add(8), 0),
+            RelaxationKind::TlsGdToLocalExecLarge => (place.wrapping_add(9), 0),
+            RelaxationKind::TlsGdToInitialExec => (place.wrapping_add(8), operands.addend),
             RelaxationKind::TlsLdToLocalExec | RelaxationKind::TlsLdToLocalExecNoPlt => {
-                Operands {
-                    place: place.wrapping_add(5),
-                    ..*operands
-                }
+                (place.wrapping_add(5), operands.addend)
             }
-            RelaxationKind::TlsLdToLocalExec64 => {
-                Operands {
-                    place: place.wrapping_add(15),
-                    ..*operands
-                }
-            }
+            RelaxationKind::TlsLdToLocalExec64 => (place.wrapping_add(15), operands.addend),
             RelaxationKind::MovIndirectToAbsolute
             | RelaxationKind::RexMovIndirectToAbsolute(_)
             | RelaxationKind::RexAddIndirectToAbsolute(_)
@@ -93,54 +72,33 @@ impl ChosenKind for RelaxationKind {
             | RelaxationKind::RexOrIndirectToAbsolute(_)
             | RelaxationKind::RexSbbIndirectToAbsolute(_)
             | RelaxationKind::RexXorIndirectToAbsolute(_)
-            | RelaxationKind::RexTestIndirectToAbsolute(_) => Operands {
-                addend: 0,
-                ..*operands
-            },
+            | RelaxationKind::RexTestIndirectToAbsolute(_) => (place, 0),
+        };
+        Operands {
+            place,
+            addend,
+            ..*operands
         }
     }
-}
-
-/// An entry: a rewrite, the relocation after it, the conditions, and the instructions that it is
-/// for, if not all of the rewrite's.
-macro_rules! entry {
-    ($kind:ident $(($n:expr))? => $relocation:ident, $conditions:expr) => {
-        entry!($kind $(($n))? => $relocation, $conditions, OfRewrite)
-    };
-    (
-        $kind:ident $(($n:expr))? => $relocation:ident, $conditions:expr,
-        $originals:ident $(($($argument:expr),*))?
-    ) => {
-        ChoiceEntry {
-            originals: AskedFor::$originals $(($($argument),*))?,
-            kind: RelaxationKind::$kind $(($n))?,
-            relocation: X86_64Relocation::$relocation,
-            conditions: $conditions,
-        }
-    };
-}
-
-/// Conditions: facts, the addend and the value in reach.
-macro_rules! conditions {
-    ($facts:expr, $addend:expr $(, $value:ident $relocation:ident)?) => {
-        Conditions {
-            facts: $facts,
-            addend: $addend,
-            values: &[$(ValueCondition::$value(X86_64Relocation::$relocation, 0),)?],
-        }
-    };
 }
 
 /// The field's value counts from its end.
 const FROM_END_OF_FIELD: Option<i64> = Some(-4);
 
 /// The operand becomes the distance to the symbol.
-const DISTANCE: Conditions<X86_64Relocation> =
-    conditions!(BOUND + FIXED_DISTANCE, FROM_END_OF_FIELD, InReachIfKnown R_X86_64_PC32);
+const DISTANCE: Conditions<Names> = conditions!(
+    BOUND + FIXED_DISTANCE,
+    FROM_END_OF_FIELD,
+    InReachIfKnown(R_X86_64_PC32, 0)
+);
 
-const LOCAL_EXEC: Conditions<X86_64Relocation> =
-    conditions!(BOUND + EXECUTABLE, FROM_END_OF_FIELD, InReachIfKnown R_X86_64_TPOFF32);
+const LOCAL_EXEC: Conditions<Names> = conditions!(
+    BOUND + EXECUTABLE,
+    FROM_END_OF_FIELD,
+    InReachIfKnown(R_X86_64_TPOFF32, 0)
+);
 
+<<<<<<< HEAD
 /// The entries of a sequence also ask that all of it can be rewritten.
 const SEQUENCE_TO_LOCAL_EXEC: Conditions<X86_64Relocation> = conditions!(
     BOUND + EXECUTABLE + GROUP_FITS,
@@ -156,14 +114,31 @@ const SEQUENCE_TO_INITIAL_EXEC: Conditions<X86_64Relocation> = conditions!(
 
 /// Nothing is relocated any more.
 const UNRELOCATED: Conditions<X86_64Relocation> = conditions!(EXECUTABLE + GROUP_FITS, None);
+=======
+const INITIAL_EXEC: Conditions<Names> = conditions!(
+    EXECUTABLE,
+    FROM_END_OF_FIELD,
+    InReachIfKnown(R_X86_64_GOTTPOFF, 0)
+);
+
+/// Nothing is relocated any more.
+const UNRELOCATED: Conditions<Names> = conditions!(EXECUTABLE, None);
+>>>>>>> d628579e43e928ff3c50266ea4fad8b56aecd6a6
 
 /// An offset in the module's TLS block becomes one from the thread pointer.
-const FROM_THREAD_POINTER_32: Conditions<X86_64Relocation> =
-    conditions!(EXECUTABLE + LOCAL_EXEC_BASE, None, InReachIfKnown R_X86_64_TPOFF32);
+const FROM_THREAD_POINTER_32: Conditions<Names> = conditions!(
+    EXECUTABLE + LOCAL_EXEC_BASE,
+    None,
+    InReachIfKnown(R_X86_64_TPOFF32, 0)
+);
 
-const FROM_THREAD_POINTER_64: Conditions<X86_64Relocation> =
-    conditions!(EXECUTABLE + LOCAL_EXEC_BASE, None, InReachIfKnown R_X86_64_TPOFF64);
+const FROM_THREAD_POINTER_64: Conditions<Names> = conditions!(
+    EXECUTABLE + LOCAL_EXEC_BASE,
+    None,
+    InReachIfKnown(R_X86_64_TPOFF64, 0)
+);
 
+<<<<<<< HEAD
 /// An entry of the table.
 pub type X86Entry = ChoiceEntry<AskedFor, RelaxationKind, X86_64Relocation>;
 
@@ -207,31 +182,71 @@ macro_rules! descriptor {
                 LeaOfDescriptor($n)
             ),
         ]
+=======
+/// The entries of each relocation whose table isn't one of an opcode.
+macro_rules! choices {
+    ($make:ident $arguments:tt) => {
+        $make! {
+            $arguments
+            R_X86_64_TLSGD: [
+                TlsGdToLocalExec => R_X86_64_TPOFF32, LOCAL_EXEC;
+                TlsGdToLocalExecLarge => R_X86_64_TPOFF32, LOCAL_EXEC;
+                TlsGdToInitialExec => R_X86_64_GOTTPOFF, INITIAL_EXEC;
+            ]
+            R_X86_64_TLSLD: [
+                TlsLdToLocalExec => R_X86_64_NONE, UNRELOCATED;
+                TlsLdToLocalExecNoPlt => R_X86_64_NONE, UNRELOCATED;
+                TlsLdToLocalExec64 => R_X86_64_NONE, UNRELOCATED;
+            ]
+            R_X86_64_DTPOFF32: [NoOp => R_X86_64_TPOFF32, FROM_THREAD_POINTER_32]
+            R_X86_64_DTPOFF64: [NoOp => R_X86_64_TPOFF64, FROM_THREAD_POINTER_64]
+            R_X86_64_GOTPC32_TLSDESC: [
+                TlsDescToLocalExec(3) at LeaOfDescriptor(3) => R_X86_64_TPOFF32, LOCAL_EXEC;
+                TlsDescToInitialExec at LeaOfDescriptor(3) => R_X86_64_GOTTPOFF, INITIAL_EXEC;
+            ]
+            R_X86_64_CODE_4_GOTPC32_TLSDESC: [
+                TlsDescToLocalExec(4) at LeaOfDescriptor(4) => R_X86_64_TPOFF32, LOCAL_EXEC;
+                TlsDescToInitialExec at LeaOfDescriptor(4) => R_X86_64_GOTTPOFF, INITIAL_EXEC;
+            ]
+            R_X86_64_CODE_5_GOTPC32_TLSDESC: [
+                TlsDescToLocalExec(5) at LeaOfDescriptor(5) => R_X86_64_TPOFF32, LOCAL_EXEC;
+                TlsDescToInitialExec at LeaOfDescriptor(5) => R_X86_64_GOTTPOFF, INITIAL_EXEC;
+            ]
+            R_X86_64_CODE_6_GOTPC32_TLSDESC: [
+                TlsDescToLocalExec(6) at LeaOfDescriptor(6) => R_X86_64_TPOFF32, LOCAL_EXEC;
+                TlsDescToInitialExec at LeaOfDescriptor(6) => R_X86_64_GOTTPOFF, INITIAL_EXEC;
+            ]
+            R_X86_64_TLSDESC_CALL: [SkipTlsDescCall => R_X86_64_NONE, UNRELOCATED]
+        }
+>>>>>>> d628579e43e928ff3c50266ea4fad8b56aecd6a6
     };
 }
 
-static DESCRIPTOR_3: &[X86Entry] = descriptor!(3);
+type Table = &'static [ChoiceEntry<AskedFor, RelaxationKind, Names>];
 
-static DESCRIPTOR_4: &[X86Entry] = descriptor!(4);
+const TABLES: &[Table] = choices!(all_tables());
 
-static DESCRIPTOR_5: &[X86Entry] = descriptor!(5);
+const OTHERS: Table = &[];
 
-static DESCRIPTOR_6: &[X86Entry] = descriptor!(6);
+const BRANCH: Table = table_of!([
+    CallIndirectToRelative => R_X86_64_PC32, DISTANCE;
+    JmpIndirectToRelative => R_X86_64_PC32, DISTANCE;
+]);
 
 /// The conditions on which an operand becomes the symbol's address, that of a definition or 0.
 macro_rules! address {
-    ($fact:ident, $reach:ident $relocation:ident) => {
-        conditions!($fact + FIXED_ADDRESS, FROM_END_OF_FIELD, $reach $relocation)
+    ($fact:ident, $reach:ident $name:ident) => {
+        conditions!($fact + FIXED_ADDRESS, FROM_END_OF_FIELD, $reach($name, 0))
     };
 }
 
 /// The entries of an operation on an operand in the GOT.
 macro_rules! operation {
-    ($kind:ident($n:literal) => $relocation:ident) => {
-        &[
-            entry!($kind($n) => $relocation, address!(BOUND, InReachIfKnown $relocation)),
-            entry!($kind($n) => $relocation, address!(WEAK_ZERO, InReachIfKnown $relocation)),
-        ]
+    ($kind:ident($n:literal) => $name:ident) => {
+        table_of!([
+            $kind($n) => $name, address!(BOUND, InReachIfKnown $name);
+            $kind($n) => $name, address!(WEAK_ZERO, InReachIfKnown $name);
+        ])
     };
 }
 
@@ -239,115 +254,92 @@ macro_rules! operation {
 /// the relocation of an immediate. A `mov` takes only an address that is known, since it also takes
 /// a distance.
 macro_rules! operations {
-    ($n:literal, $mov:ident $(($m:literal))? => $relocation:ident) => {
+    ($n:literal, $mov:ident $(($m:literal))? => $name:ident) => {
         [
-            &[
-                entry!(
-                    $mov $(($m))? => $relocation, address!(BOUND, InReach $relocation),
-                    Legacy($n, 0x8b)
-                ),
-                entry!(
-                    $mov $(($m))? => $relocation, address!(WEAK_ZERO, InReach $relocation),
-                    Legacy($n, 0x8b)
-                ),
-                entry!(MovIndirectToLea => R_X86_64_PC32, DISTANCE, Legacy($n, 0x8b)),
-            ],
-            operation!(RexAddIndirectToAbsolute($n) => $relocation),
-            operation!(RexSubIndirectToAbsolute($n) => $relocation),
-            operation!(RexCmpIndirectToAbsolute($n) => $relocation),
-            operation!(RexAdcIndirectToAbsolute($n) => $relocation),
-            operation!(RexAndIndirectToAbsolute($n) => $relocation),
-            operation!(RexOrIndirectToAbsolute($n) => $relocation),
-            operation!(RexSbbIndirectToAbsolute($n) => $relocation),
-            operation!(RexXorIndirectToAbsolute($n) => $relocation),
-            operation!(RexTestIndirectToAbsolute($n) => $relocation),
+            table_of!([
+                $mov $(($m))? at Legacy($n, 0x8b) => $name, address!(BOUND, InReach $name);
+                $mov $(($m))? at Legacy($n, 0x8b) => $name, address!(WEAK_ZERO, InReach $name);
+                MovIndirectToLea at Legacy($n, 0x8b) => R_X86_64_PC32, DISTANCE;
+            ]),
+            operation!(RexAddIndirectToAbsolute($n) => $name),
+            operation!(RexSubIndirectToAbsolute($n) => $name),
+            operation!(RexCmpIndirectToAbsolute($n) => $name),
+            operation!(RexAdcIndirectToAbsolute($n) => $name),
+            operation!(RexAndIndirectToAbsolute($n) => $name),
+            operation!(RexOrIndirectToAbsolute($n) => $name),
+            operation!(RexSbbIndirectToAbsolute($n) => $name),
+            operation!(RexXorIndirectToAbsolute($n) => $name),
+            operation!(RexTestIndirectToAbsolute($n) => $name),
         ]
     };
 }
 
-static GOT_2: [&[X86Entry]; 10] = operations!(2, MovIndirectToAbsolute => R_X86_64_32);
+const GOT_2: &[Table; 10] = &operations!(2, MovIndirectToAbsolute => R_X86_64_32);
 
-static GOT_3: [&[X86Entry]; 10] = operations!(3, RexMovIndirectToAbsolute(3) => R_X86_64_32S);
+const GOT_3: &[Table; 10] = &operations!(3, RexMovIndirectToAbsolute(3) => R_X86_64_32S);
 
-static GOT_4: [&[X86Entry]; 10] = operations!(4, RexMovIndirectToAbsolute(4) => R_X86_64_32S);
+const GOT_4: &[Table; 10] = &operations!(4, RexMovIndirectToAbsolute(4) => R_X86_64_32S);
 
-static GOT_5: [&[X86Entry]; 10] = operations!(5, RexMovIndirectToAbsolute(5) => R_X86_64_32S);
+const GOT_5: &[Table; 10] = &operations!(5, RexMovIndirectToAbsolute(5) => R_X86_64_32S);
 
-static GOT_6: [&[X86Entry]; 10] = operations!(6, RexMovIndirectToAbsolute(6) => R_X86_64_32S);
+const GOT_6: &[Table; 10] = &operations!(6, RexMovIndirectToAbsolute(6) => R_X86_64_32S);
 
 /// The entries of initial-exec accesses, by the count of the bytes before the field.
 macro_rules! accesses {
     ($n:literal) => {
         [
-            &[entry!(RexMovIndirectToAbsolute($n) => R_X86_64_TPOFF32, LOCAL_EXEC)],
-            &[entry!(RexAddIndirectToAbsolute($n) => R_X86_64_TPOFF32, LOCAL_EXEC)],
+            table_of!([RexMovIndirectToAbsolute($n) => R_X86_64_TPOFF32, LOCAL_EXEC]),
+            table_of!([RexAddIndirectToAbsolute($n) => R_X86_64_TPOFF32, LOCAL_EXEC]),
         ]
     };
 }
 
-static GOTTPOFF_3: [&[X86Entry]; 2] = accesses!(3);
+const GOTTPOFF_3: &[Table; 2] = &accesses!(3);
 
-static GOTTPOFF_4: [&[X86Entry]; 2] = accesses!(4);
+const GOTTPOFF_4: &[Table; 2] = &accesses!(4);
 
-static GOTTPOFF_5: [&[X86Entry]; 2] = accesses!(5);
+const GOTTPOFF_5: &[Table; 2] = &accesses!(5);
 
-static GOTTPOFF_6: [&[X86Entry]; 2] = accesses!(6);
+const GOTTPOFF_6: &[Table; 2] = &accesses!(6);
 
-/// What the table of an operation is used for, by its opcode.
-macro_rules! by_operation {
-    ($operations:ident, $opcode:expr, $table:ident => $use:expr) => {
-        match $opcode {
-            0x8b => { let $table = $operations[0]; $use }
-            0x03 => { let $table = $operations[1]; $use }
-            0x2b => { let $table = $operations[2]; $use }
-            0x3b => { let $table = $operations[3]; $use }
-            0x13 => { let $table = $operations[4]; $use }
-            0x23 => { let $table = $operations[5]; $use }
-            0x0b => { let $table = $operations[6]; $use }
-            0x1b => { let $table = $operations[7]; $use }
-            0x33 => { let $table = $operations[8]; $use }
-            0x85 => { let $table = $operations[9]; $use }
-            _ => { let $table = OTHERS; $use }
-        }
+/// What the table of an operation is used for, or with `access` that of an initial-exec access.
+macro_rules! by_opcode {
+    ($tables:ident, $opcode:expr, $table:ident => $use:expr) => {
+        by_opcode!(
+            @ [0 0x8b 1 0x03 2 0x2b 3 0x3b 4 0x13 5 0x23 6 0x0b 7 0x1b 8 0x33 9 0x85]
+            $tables, $opcode, $table => $use
+        )
     };
-}
-
-/// The same of an initial-exec access.
-macro_rules! by_access {
-    ($accesses:ident, $opcode:expr, $table:ident => $use:expr) => {
+    (access $tables:ident, $opcode:expr, $table:ident => $use:expr) => {
+        by_opcode!(@ [0 0x8b 1 0x03] $tables, $opcode, $table => $use)
+    };
+    (
+        @ [$($index:literal $of_table:literal)*]
+        $tables:ident, $opcode:expr, $table:ident => $use:expr
+    ) => {
         match $opcode {
-            0x8b => { let $table = $accesses[0]; $use }
-            0x03 => { let $table = $accesses[1]; $use }
+            $($of_table => { let $table = $tables[$index]; $use })*
             _ => { let $table = OTHERS; $use }
         }
     };
 }
 
 /// What the table of a name and an opcode is used for.
-macro_rules! by_table {
+macro_rules! by_tables {
     ($name:expr, $opcode:expr, $table:ident => $use:expr) => {
-        match $name {
-            X86_64Relocation::R_X86_64_GOTPCRELX if $opcode == 0xff => { let $table = BRANCH; $use }
-            X86_64Relocation::R_X86_64_GOTPCRELX => by_operation!(GOT_2, $opcode, $table => $use),
-            X86_64Relocation::R_X86_64_REX_GOTPCRELX => by_operation!(GOT_3, $opcode, $table => $use),
-            X86_64Relocation::R_X86_64_CODE_4_GOTPCRELX => by_operation!(GOT_4, $opcode, $table => $use),
-            X86_64Relocation::R_X86_64_CODE_5_GOTPCRELX => by_operation!(GOT_5, $opcode, $table => $use),
-            X86_64Relocation::R_X86_64_CODE_6_GOTPCRELX => by_operation!(GOT_6, $opcode, $table => $use),
-            X86_64Relocation::R_X86_64_GOTTPOFF => by_access!(GOTTPOFF_3, $opcode, $table => $use),
-            X86_64Relocation::R_X86_64_CODE_4_GOTTPOFF => by_access!(GOTTPOFF_4, $opcode, $table => $use),
-            X86_64Relocation::R_X86_64_CODE_5_GOTTPOFF => by_access!(GOTTPOFF_5, $opcode, $table => $use),
-            X86_64Relocation::R_X86_64_CODE_6_GOTTPOFF => by_access!(GOTTPOFF_6, $opcode, $table => $use),
-            X86_64Relocation::R_X86_64_TLSGD => { let $table = TLSGD; $use }
-            X86_64Relocation::R_X86_64_TLSLD => { let $table = TLSLD; $use }
-            X86_64Relocation::R_X86_64_DTPOFF32 => { let $table = DTPOFF32; $use }
-            X86_64Relocation::R_X86_64_DTPOFF64 => { let $table = DTPOFF64; $use }
-            X86_64Relocation::R_X86_64_GOTPC32_TLSDESC => { let $table = DESCRIPTOR_3; $use }
-            X86_64Relocation::R_X86_64_CODE_4_GOTPC32_TLSDESC => { let $table = DESCRIPTOR_4; $use }
-            X86_64Relocation::R_X86_64_CODE_5_GOTPC32_TLSDESC => { let $table = DESCRIPTOR_5; $use }
-            X86_64Relocation::R_X86_64_CODE_6_GOTPC32_TLSDESC => { let $table = DESCRIPTOR_6; $use }
-            X86_64Relocation::R_X86_64_TLSDESC_CALL => { let $table = TLSDESC_CALL; $use }
-            _ => { let $table = OTHERS; $use }
-        }
+        choices!(by_table(
+            TABLES, $name, $table => $use;
+            Names::R_X86_64_GOTPCRELX if $opcode == 0xff => { let $table = BRANCH; $use }
+            Names::R_X86_64_GOTPCRELX => by_opcode!(GOT_2, $opcode, $table => $use),
+            Names::R_X86_64_REX_GOTPCRELX => by_opcode!(GOT_3, $opcode, $table => $use),
+            Names::R_X86_64_CODE_4_GOTPCRELX => by_opcode!(GOT_4, $opcode, $table => $use),
+            Names::R_X86_64_CODE_5_GOTPCRELX => by_opcode!(GOT_5, $opcode, $table => $use),
+            Names::R_X86_64_CODE_6_GOTPCRELX => by_opcode!(GOT_6, $opcode, $table => $use),
+            Names::R_X86_64_GOTTPOFF => by_opcode!(access GOTTPOFF_3, $opcode, $table => $use),
+            Names::R_X86_64_CODE_4_GOTTPOFF => by_opcode!(access GOTTPOFF_4, $opcode, $table => $use),
+            Names::R_X86_64_CODE_5_GOTTPOFF => by_opcode!(access GOTTPOFF_5, $opcode, $table => $use),
+            Names::R_X86_64_CODE_6_GOTTPOFF => by_opcode!(access GOTTPOFF_6, $opcode, $table => $use),
+        ))
     };
 }
 
@@ -355,20 +347,20 @@ macro_rules! by_table {
 #[doc(hidden)]
 #[must_use]
 #[inline(always)]
-pub fn entries(name: X86_64Relocation, opcode: u8) -> &'static [X86Entry] {
-    by_table!(name, opcode, table => table)
+pub fn entries(name: X86_64Relocation, opcode: u8) -> Table {
+    by_tables!(name, opcode, table => table)
 }
 
 /// The choice by a table of a name and an opcode.
 #[cfg_attr(not(debug_assertions), inline(always))]
 fn choice_by(
-    table: &'static [X86Entry],
+    table: Table,
     name: X86_64Relocation,
     opcode: u8,
     section: &[u8],
     offset: u64,
     facts: &LinkFacts,
-) -> X86Choice {
+) -> Choice<RelaxationKind, X86_64Relocation> {
     let unchanged = Choice {
         kind: RelaxationKind::NoOp,
         relocation: name,
@@ -387,6 +379,18 @@ pub fn opcode_before(section: &[u8], offset: u64) -> u8 {
         .unwrap_or(0)
 }
 
+/// The choice for a relocation that is listed.
+#[inline(never)]
+fn choose_listed(
+    name: X86_64Relocation,
+    section: &[u8],
+    offset: u64,
+    facts: &LinkFacts,
+) -> Choice<RelaxationKind, X86_64Relocation> {
+    let opcode = opcode_before(section, offset);
+    by_tables!(name, opcode, table => choice_by(table, name, opcode, section, offset, facts))
+}
+
 /// The rewrite that a linker makes of the instruction or the sequence with a relocation, and the
 /// relocation whose value it then writes (x86-64 psABI, "Optimize GOTPCRELX Relocations" and "ELF
 /// Handling For Thread-Local Storage"). It is the first entry of the relocation in the table of
@@ -394,6 +398,7 @@ pub fn opcode_before(section: &[u8], offset: u64) -> u8 {
 /// relocation. The offset is that of the relocation in the section. Any bytes and any offset may be
 /// passed, and the rewrite can be applied there.
 ///
+<<<<<<< HEAD
 /// The addend is always read: it has to be -4 where the field's value counts from its end. Addresses
 /// are read where `has_addresses` says that they are known. So a `mov` takes an address as its
 /// immediate only where it is known, and otherwise becomes a `lea`.
@@ -412,6 +417,8 @@ pub fn opcode_before(section: &[u8], offset: u64) -> u8 {
 /// Bytes before the instruction are not tested. So a prefix 0x66, of operands of 16 bits, is not
 /// seen before an instruction of `R_X86_64_GOTPCRELX`; no compiler writes one.
 ///
+=======
+>>>>>>> d628579e43e928ff3c50266ea4fad8b56aecd6a6
 /// ```
 /// use linker_utils::elf::{LinkFacts, Operands};
 /// use linker_utils::x86_64::{RelaxationKind, X86_64Relocation, choose, row};
@@ -442,6 +449,8 @@ pub fn opcode_before(section: &[u8], offset: u64) -> u8 {
 /// assert_eq!(section, [0x48, 0xc7, 0xc7, 0x10, 0x40, 0x40, 0]);
 /// ```
 #[must_use]
+#[inline]
+#[doc = include_str!("../../doc/x86_64/choose.linker.md")]
 #[doc = include_str!("../../doc/x86_64/choose.md")]
 pub fn choose(
     name: X86_64Relocation,
@@ -449,8 +458,41 @@ pub fn choose(
     offset: u64,
     facts: &LinkFacts,
 ) -> Choice<RelaxationKind, X86_64Relocation> {
-    let opcode = opcode_before(section, offset);
-    by_table!(name, opcode, table => choice_by(table, name, opcode, section, offset, facts))
+    // a relocation with a table of one of several opcodes has one of this
+    if let [] = entries(name, 0x8b) {
+        return Choice {
+            kind: RelaxationKind::NoOp,
+            relocation: name,
+        };
+    }
+    choose_listed(name, section, offset, facts)
+}
+
+/// Whether a relocation can be rewritten, if all others of its sequence can: whether `choose` with
+/// `group_fits` changes it. A linker asks this for each relocation of a sequence before it chooses
+/// for any of them, with the facts of each, and sets `group_fits` only if it is true of all.
+///
+/// ```
+/// use linker_utils::elf::{LinkFacts, Operands};
+/// use linker_utils::x86_64::{X86_64Relocation, fits};
+///
+/// // lea x@tlsdesc(%rip), %rcx; call *(%rax), in an executable that defines x: with another register
+/// // than %rax the call isn't that of the descriptor
+/// let operands = Operands { addend: -4, ..Operands::default() };
+/// let facts =
+///     LinkFacts { is_local: true, is_executable: true, operands, ..LinkFacts::default() };
+/// let code = [0x48, 0x8d, 0x0d, 0, 0, 0, 0, 0xff, 0x10];
+/// assert!(fits(X86_64Relocation::R_X86_64_GOTPC32_TLSDESC, &code, 3, &facts));
+/// assert!(fits(X86_64Relocation::R_X86_64_TLSDESC_CALL, &code, 7, &facts));
+/// assert!(!fits(X86_64Relocation::R_X86_64_TLSDESC_CALL, &code, 0, &facts));
+/// ```
+#[must_use]
+pub fn fits(name: X86_64Relocation, section: &[u8], offset: u64, facts: &LinkFacts) -> bool {
+    let facts = LinkFacts {
+        group_fits: true,
+        ..*facts
+    };
+    !choose(name, section, offset, &facts).is_unchanged(name)
 }
 
 /// Whether a relocation can be rewritten, if all others of its sequence can: whether `choose` with
