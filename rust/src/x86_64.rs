@@ -6,10 +6,6 @@
 mod choices;
 mod rewrites;
 
-<<<<<<< HEAD
 pub use choices::{choose, entries, fits, opcode_before};
-=======
-pub use choices::{choose, entries, fits};
->>>>>>> d628579e43e928ff3c50266ea4fad8b56aecd6a6
 pub use crate::linker_elf::x86_64::{X86_64Relocation, relocation_from_raw, row};
 pub use rewrites::{RelaxationKind, may_be_skipped};

@@ -49,26 +49,51 @@ impl ChosenKind for RelaxationKind {
     #[inline(always)]
     fn operands_after(self, offset: u64, operands: &Operands) -> Operands {
         let place = operands.place;
-        let (place, addend) = match self {
+        match self {
             RelaxationKind::NoOp
             | RelaxationKind::MovIndirectToLea
             | RelaxationKind::CallIndirectToRelative
             | RelaxationKind::TlsDescToInitialExec
-            | RelaxationKind::SkipTlsDescCall => (place, operands.addend),
+            | RelaxationKind::SkipTlsDescCall => *operands,
             RelaxationKind::JmpIndirectToRelative => {
                 let before = offset.saturating_sub(1);
-                (
-                    place.wrapping_add(before).wrapping_sub(offset),
-                    operands.addend,
-                )
+                Operands {
+                    place: place.wrapping_add(before).wrapping_sub(offset),
+                    ..*operands
+                }
             }
-            RelaxationKind::TlsGdToLocalExec => (place.wrapping_add(8), 0),
-            RelaxationKind::TlsGdToLocalExecLarge => (place.wrapping_add(9), 0),
-            RelaxationKind::TlsGdToInitialExec => (place.wrapping_add(8), operands.addend),
+            RelaxationKind::TlsGdToLocalExec => {
+                Operands {
+                    place: place.wrapping_add(8),
+                    addend: 0,
+                    ..*operands
+                }
+            }
+            RelaxationKind::TlsGdToLocalExecLarge => {
+                Operands {
+                    place: place.wrapping_add(9),
+                    addend: 0,
+                    ..*operands
+                }
+            }
+            RelaxationKind::TlsGdToInitialExec => {
+                Operands {
+                    place: place.wrapping_add(8),
+                    ..*operands
+                }
+            }
             RelaxationKind::TlsLdToLocalExec | RelaxationKind::TlsLdToLocalExecNoPlt => {
-                (place.wrapping_add(5), operands.addend)
+                Operands {
+                    place: place.wrapping_add(5),
+                    ..*operands
+                }
             }
-            RelaxationKind::TlsLdToLocalExec64 => (place.wrapping_add(15), operands.addend),
+            RelaxationKind::TlsLdToLocalExec64 => {
+                Operands {
+                    place: place.wrapping_add(15),
+                    ..*operands
+                }
+            }
             RelaxationKind::MovIndirectToAbsolute
             | RelaxationKind::RexMovIndirectToAbsolute(_)
             | RelaxationKind::RexAddIndirectToAbsolute(_)
@@ -80,12 +105,10 @@ impl ChosenKind for RelaxationKind {
             | RelaxationKind::RexOrIndirectToAbsolute(_)
             | RelaxationKind::RexSbbIndirectToAbsolute(_)
             | RelaxationKind::RexXorIndirectToAbsolute(_)
-            | RelaxationKind::RexTestIndirectToAbsolute(_) => (place, 0),
-        };
-        Operands {
-            place,
-            addend,
-            ..*operands
+            | RelaxationKind::RexTestIndirectToAbsolute(_) => Operands {
+                addend: 0,
+                ..*operands
+            },
         }
     }
 }
@@ -424,15 +447,15 @@ pub fn choose(
 /// use linker_utils::elf::{LinkFacts, Operands};
 /// use linker_utils::x86_64::{X86_64Relocation, fits};
 ///
-/// // lea x@tlsdesc(%rip), %rcx; call *(%rax), in an executable that defines x: with another register
-/// // than %rax the call isn't that of the descriptor
+/// // lea x@tlsdesc(%rip), %rax; call *x@tlscall(%rax), in an executable that defines x
+/// let section = [0x48, 0x8d, 0x05, 0, 0, 0, 0, 0xff, 0x10];
 /// let operands = Operands { addend: -4, ..Operands::default() };
 /// let facts =
 ///     LinkFacts { is_local: true, is_executable: true, operands, ..LinkFacts::default() };
-/// let code = [0x48, 0x8d, 0x0d, 0, 0, 0, 0, 0xff, 0x10];
-/// assert!(fits(X86_64Relocation::R_X86_64_GOTPC32_TLSDESC, &code, 3, &facts));
-/// assert!(fits(X86_64Relocation::R_X86_64_TLSDESC_CALL, &code, 7, &facts));
-/// assert!(!fits(X86_64Relocation::R_X86_64_TLSDESC_CALL, &code, 0, &facts));
+/// assert!(fits(X86_64Relocation::R_X86_64_GOTPC32_TLSDESC, &section, 3, &facts));
+/// assert!(fits(X86_64Relocation::R_X86_64_TLSDESC_CALL, &section, 7, &facts));
+/// // a call through another register
+/// assert!(!fits(X86_64Relocation::R_X86_64_TLSDESC_CALL, &[0xff, 0x11], 0, &facts));
 /// ```
 pub fn fits(name: X86_64Relocation, section: &[u8], offset: u64, facts: &LinkFacts) -> bool
     ensures { IsTrue result

@@ -5,11 +5,8 @@ use super::rewrites::{is_lea_of_descriptor, is_legacy};
 use super::{RelaxationKind, X86_64Relocation, X86_64Relocation as Names};
 use crate::linker_elf::elf::choice_table::{
     BOUND, ChoiceEntry, ChosenKind, Conditions, EXECUTABLE, FIXED_ADDRESS, FIXED_DISTANCE,
-<<<<<<< HEAD
-    GROUP_FITS, LOCAL_EXEC_BASE, Originals, ValueCondition, WEAK_ZERO, first_entry,
-=======
-    LOCAL_EXEC_BASE, Originals, WEAK_ZERO, all_tables, by_table, conditions, first_entry, table_of,
->>>>>>> d628579e43e928ff3c50266ea4fad8b56aecd6a6
+    GROUP_FITS, LOCAL_EXEC_BASE, Originals, WEAK_ZERO, all_tables, by_table, conditions,
+    first_entry, table_of,
 };
 use crate::linker_elf::elf::{Choice, LinkFacts, Operands};
 
@@ -41,26 +38,51 @@ impl ChosenKind for RelaxationKind {
     #[inline(always)]
     fn operands_after(self, offset: u64, operands: &Operands) -> Operands {
         let place = operands.place;
-        let (place, addend) = match self {
+        match self {
             RelaxationKind::NoOp
             | RelaxationKind::MovIndirectToLea
             | RelaxationKind::CallIndirectToRelative
             | RelaxationKind::TlsDescToInitialExec
-            | RelaxationKind::SkipTlsDescCall => (place, operands.addend),
+            | RelaxationKind::SkipTlsDescCall => *operands,
             RelaxationKind::JmpIndirectToRelative => {
                 let before = offset.saturating_sub(1);
-                (
-                    place.wrapping_add(before).wrapping_sub(offset),
-                    operands.addend,
-                )
+                Operands {
+                    place: place.wrapping_add(before).wrapping_sub(offset),
+                    ..*operands
+                }
             }
-            RelaxationKind::TlsGdToLocalExec => (place.wrapping_add(8), 0),
-            RelaxationKind::TlsGdToLocalExecLarge => (place.wrapping_add(9), 0),
-            RelaxationKind::TlsGdToInitialExec => (place.wrapping_add(8), operands.addend),
+            RelaxationKind::TlsGdToLocalExec => {
+                Operands {
+                    place: place.wrapping_add(8),
+                    addend: 0,
+                    ..*operands
+                }
+            }
+            RelaxationKind::TlsGdToLocalExecLarge => {
+                Operands {
+                    place: place.wrapping_add(9),
+                    addend: 0,
+                    ..*operands
+                }
+            }
+            RelaxationKind::TlsGdToInitialExec => {
+                Operands {
+                    place: place.wrapping_add(8),
+                    ..*operands
+                }
+            }
             RelaxationKind::TlsLdToLocalExec | RelaxationKind::TlsLdToLocalExecNoPlt => {
-                (place.wrapping_add(5), operands.addend)
+                Operands {
+                    place: place.wrapping_add(5),
+                    ..*operands
+                }
             }
-            RelaxationKind::TlsLdToLocalExec64 => (place.wrapping_add(15), operands.addend),
+            RelaxationKind::TlsLdToLocalExec64 => {
+                Operands {
+                    place: place.wrapping_add(15),
+                    ..*operands
+                }
+            }
             RelaxationKind::MovIndirectToAbsolute
             | RelaxationKind::RexMovIndirectToAbsolute(_)
             | RelaxationKind::RexAddIndirectToAbsolute(_)
@@ -72,12 +94,10 @@ impl ChosenKind for RelaxationKind {
             | RelaxationKind::RexOrIndirectToAbsolute(_)
             | RelaxationKind::RexSbbIndirectToAbsolute(_)
             | RelaxationKind::RexXorIndirectToAbsolute(_)
-            | RelaxationKind::RexTestIndirectToAbsolute(_) => (place, 0),
-        };
-        Operands {
-            place,
-            addend,
-            ..*operands
+            | RelaxationKind::RexTestIndirectToAbsolute(_) => Operands {
+                addend: 0,
+                ..*operands
+            },
         }
     }
 }
@@ -98,32 +118,21 @@ const LOCAL_EXEC: Conditions<Names> = conditions!(
     InReachIfKnown(R_X86_64_TPOFF32, 0)
 );
 
-<<<<<<< HEAD
 /// The entries of a sequence also ask that all of it can be rewritten.
-const SEQUENCE_TO_LOCAL_EXEC: Conditions<X86_64Relocation> = conditions!(
+const SEQUENCE_TO_LOCAL_EXEC: Conditions<Names> = conditions!(
     BOUND + EXECUTABLE + GROUP_FITS,
     FROM_END_OF_FIELD,
-    InReachIfKnown R_X86_64_TPOFF32
+    InReachIfKnown(R_X86_64_TPOFF32, 0)
 );
 
-const SEQUENCE_TO_INITIAL_EXEC: Conditions<X86_64Relocation> = conditions!(
+const SEQUENCE_TO_INITIAL_EXEC: Conditions<Names> = conditions!(
     EXECUTABLE + GROUP_FITS,
-    FROM_END_OF_FIELD,
-    InReachIfKnown R_X86_64_GOTTPOFF
-);
-
-/// Nothing is relocated any more.
-const UNRELOCATED: Conditions<X86_64Relocation> = conditions!(EXECUTABLE + GROUP_FITS, None);
-=======
-const INITIAL_EXEC: Conditions<Names> = conditions!(
-    EXECUTABLE,
     FROM_END_OF_FIELD,
     InReachIfKnown(R_X86_64_GOTTPOFF, 0)
 );
 
 /// Nothing is relocated any more.
-const UNRELOCATED: Conditions<Names> = conditions!(EXECUTABLE, None);
->>>>>>> d628579e43e928ff3c50266ea4fad8b56aecd6a6
+const UNRELOCATED: Conditions<Names> = conditions!(EXECUTABLE + GROUP_FITS, None);
 
 /// An offset in the module's TLS block becomes one from the thread pointer.
 const FROM_THREAD_POINTER_32: Conditions<Names> = conditions!(
@@ -138,60 +147,15 @@ const FROM_THREAD_POINTER_64: Conditions<Names> = conditions!(
     InReachIfKnown(R_X86_64_TPOFF64, 0)
 );
 
-<<<<<<< HEAD
-/// An entry of the table.
-pub type X86Entry = ChoiceEntry<AskedFor, RelaxationKind, X86_64Relocation>;
-
-type X86Choice = Choice<RelaxationKind, X86_64Relocation>;
-
-static BRANCH: &[X86Entry] = &[
-    entry!(CallIndirectToRelative => R_X86_64_PC32, DISTANCE),
-    entry!(JmpIndirectToRelative => R_X86_64_PC32, DISTANCE),
-];
-
-static TLSGD: &[X86Entry] = &[
-    entry!(TlsGdToLocalExec => R_X86_64_TPOFF32, SEQUENCE_TO_LOCAL_EXEC),
-    entry!(TlsGdToLocalExecLarge => R_X86_64_TPOFF32, SEQUENCE_TO_LOCAL_EXEC),
-    entry!(TlsGdToInitialExec => R_X86_64_GOTTPOFF, SEQUENCE_TO_INITIAL_EXEC),
-];
-
-static TLSLD: &[X86Entry] = &[
-    entry!(TlsLdToLocalExec => R_X86_64_NONE, UNRELOCATED),
-    entry!(TlsLdToLocalExecNoPlt => R_X86_64_NONE, UNRELOCATED),
-    entry!(TlsLdToLocalExec64 => R_X86_64_NONE, UNRELOCATED),
-];
-
-static DTPOFF32: &[X86Entry] = &[entry!(NoOp => R_X86_64_TPOFF32, FROM_THREAD_POINTER_32)];
-
-static DTPOFF64: &[X86Entry] = &[entry!(NoOp => R_X86_64_TPOFF64, FROM_THREAD_POINTER_64)];
-
-static TLSDESC_CALL: &[X86Entry] = &[entry!(SkipTlsDescCall => R_X86_64_NONE, UNRELOCATED)];
-
-static OTHERS: &[X86Entry] = &[];
-
-/// The entries of the `lea` of a TLS descriptor, by the count of its bytes before the field.
-macro_rules! descriptor {
-    ($n:literal) => {
-        &[
-            entry!(
-                TlsDescToLocalExec($n) => R_X86_64_TPOFF32, SEQUENCE_TO_LOCAL_EXEC,
-                LeaOfDescriptor($n)
-            ),
-            entry!(
-                TlsDescToInitialExec => R_X86_64_GOTTPOFF, SEQUENCE_TO_INITIAL_EXEC,
-                LeaOfDescriptor($n)
-            ),
-        ]
-=======
 /// The entries of each relocation whose table isn't one of an opcode.
 macro_rules! choices {
     ($make:ident $arguments:tt) => {
         $make! {
             $arguments
             R_X86_64_TLSGD: [
-                TlsGdToLocalExec => R_X86_64_TPOFF32, LOCAL_EXEC;
-                TlsGdToLocalExecLarge => R_X86_64_TPOFF32, LOCAL_EXEC;
-                TlsGdToInitialExec => R_X86_64_GOTTPOFF, INITIAL_EXEC;
+                TlsGdToLocalExec => R_X86_64_TPOFF32, SEQUENCE_TO_LOCAL_EXEC;
+                TlsGdToLocalExecLarge => R_X86_64_TPOFF32, SEQUENCE_TO_LOCAL_EXEC;
+                TlsGdToInitialExec => R_X86_64_GOTTPOFF, SEQUENCE_TO_INITIAL_EXEC;
             ]
             R_X86_64_TLSLD: [
                 TlsLdToLocalExec => R_X86_64_NONE, UNRELOCATED;
@@ -201,24 +165,31 @@ macro_rules! choices {
             R_X86_64_DTPOFF32: [NoOp => R_X86_64_TPOFF32, FROM_THREAD_POINTER_32]
             R_X86_64_DTPOFF64: [NoOp => R_X86_64_TPOFF64, FROM_THREAD_POINTER_64]
             R_X86_64_GOTPC32_TLSDESC: [
-                TlsDescToLocalExec(3) at LeaOfDescriptor(3) => R_X86_64_TPOFF32, LOCAL_EXEC;
-                TlsDescToInitialExec at LeaOfDescriptor(3) => R_X86_64_GOTTPOFF, INITIAL_EXEC;
+                TlsDescToLocalExec(3) at LeaOfDescriptor(3)
+                    => R_X86_64_TPOFF32, SEQUENCE_TO_LOCAL_EXEC;
+                TlsDescToInitialExec at LeaOfDescriptor(3)
+                    => R_X86_64_GOTTPOFF, SEQUENCE_TO_INITIAL_EXEC;
             ]
             R_X86_64_CODE_4_GOTPC32_TLSDESC: [
-                TlsDescToLocalExec(4) at LeaOfDescriptor(4) => R_X86_64_TPOFF32, LOCAL_EXEC;
-                TlsDescToInitialExec at LeaOfDescriptor(4) => R_X86_64_GOTTPOFF, INITIAL_EXEC;
+                TlsDescToLocalExec(4) at LeaOfDescriptor(4)
+                    => R_X86_64_TPOFF32, SEQUENCE_TO_LOCAL_EXEC;
+                TlsDescToInitialExec at LeaOfDescriptor(4)
+                    => R_X86_64_GOTTPOFF, SEQUENCE_TO_INITIAL_EXEC;
             ]
             R_X86_64_CODE_5_GOTPC32_TLSDESC: [
-                TlsDescToLocalExec(5) at LeaOfDescriptor(5) => R_X86_64_TPOFF32, LOCAL_EXEC;
-                TlsDescToInitialExec at LeaOfDescriptor(5) => R_X86_64_GOTTPOFF, INITIAL_EXEC;
+                TlsDescToLocalExec(5) at LeaOfDescriptor(5)
+                    => R_X86_64_TPOFF32, SEQUENCE_TO_LOCAL_EXEC;
+                TlsDescToInitialExec at LeaOfDescriptor(5)
+                    => R_X86_64_GOTTPOFF, SEQUENCE_TO_INITIAL_EXEC;
             ]
             R_X86_64_CODE_6_GOTPC32_TLSDESC: [
-                TlsDescToLocalExec(6) at LeaOfDescriptor(6) => R_X86_64_TPOFF32, LOCAL_EXEC;
-                TlsDescToInitialExec at LeaOfDescriptor(6) => R_X86_64_GOTTPOFF, INITIAL_EXEC;
+                TlsDescToLocalExec(6) at LeaOfDescriptor(6)
+                    => R_X86_64_TPOFF32, SEQUENCE_TO_LOCAL_EXEC;
+                TlsDescToInitialExec at LeaOfDescriptor(6)
+                    => R_X86_64_GOTTPOFF, SEQUENCE_TO_INITIAL_EXEC;
             ]
             R_X86_64_TLSDESC_CALL: [SkipTlsDescCall => R_X86_64_NONE, UNRELOCATED]
         }
->>>>>>> d628579e43e928ff3c50266ea4fad8b56aecd6a6
     };
 }
 
@@ -398,27 +369,6 @@ fn choose_listed(
 /// relocation. The offset is that of the relocation in the section. Any bytes and any offset may be
 /// passed, and the rewrite can be applied there.
 ///
-<<<<<<< HEAD
-/// The addend is always read: it has to be -4 where the field's value counts from its end. Addresses
-/// are read where `has_addresses` says that they are known. So a `mov` takes an address as its
-/// immediate only where it is known, and otherwise becomes a `lea`.
-///
-/// What takes more than one relocation is rewritten only with `group_fits`. At `R_X86_64_TLSGD` and
-/// `R_X86_64_TLSLD` it says that a relocation whose type `may_be_skipped`, and whose symbol is
-/// `__tls_get_addr`, is where `skipped_offset` of the rewrite says. A linker chooses with it, looks
-/// there, and where there is none, chooses without it: the relocation stays. At the `lea` and the
-/// call of a TLS descriptor, which have relocations of their own and may be apart, it says that
-/// each relocation of the symbol's descriptors in the object can be rewritten with `group_fits`, by
-/// the same facts but for `place`: then all are, and alike.
-///
-/// `R_X86_64_DTPOFF32` and `R_X86_64_DTPOFF64` are replaced only with `has_local_exec_base`, since
-/// a linker knows which sequence computed their base.
-///
-/// Bytes before the instruction are not tested. So a prefix 0x66, of operands of 16 bits, is not
-/// seen before an instruction of `R_X86_64_GOTPCRELX`; no compiler writes one.
-///
-=======
->>>>>>> d628579e43e928ff3c50266ea4fad8b56aecd6a6
 /// ```
 /// use linker_utils::elf::{LinkFacts, Operands};
 /// use linker_utils::x86_64::{RelaxationKind, X86_64Relocation, choose, row};
@@ -466,33 +416,6 @@ pub fn choose(
         };
     }
     choose_listed(name, section, offset, facts)
-}
-
-/// Whether a relocation can be rewritten, if all others of its sequence can: whether `choose` with
-/// `group_fits` changes it. A linker asks this for each relocation of a sequence before it chooses
-/// for any of them, with the facts of each, and sets `group_fits` only if it is true of all.
-///
-/// ```
-/// use linker_utils::elf::{LinkFacts, Operands};
-/// use linker_utils::x86_64::{X86_64Relocation, fits};
-///
-/// // lea x@tlsdesc(%rip), %rcx; call *(%rax), in an executable that defines x: with another register
-/// // than %rax the call isn't that of the descriptor
-/// let operands = Operands { addend: -4, ..Operands::default() };
-/// let facts =
-///     LinkFacts { is_local: true, is_executable: true, operands, ..LinkFacts::default() };
-/// let code = [0x48, 0x8d, 0x0d, 0, 0, 0, 0, 0xff, 0x10];
-/// assert!(fits(X86_64Relocation::R_X86_64_GOTPC32_TLSDESC, &code, 3, &facts));
-/// assert!(fits(X86_64Relocation::R_X86_64_TLSDESC_CALL, &code, 7, &facts));
-/// assert!(!fits(X86_64Relocation::R_X86_64_TLSDESC_CALL, &code, 0, &facts));
-/// ```
-#[must_use]
-pub fn fits(name: X86_64Relocation, section: &[u8], offset: u64, facts: &LinkFacts) -> bool {
-    let facts = LinkFacts {
-        group_fits: true,
-        ..*facts
-    };
-    !choose(name, section, offset, &facts).is_unchanged(name)
 }
 
 /// Whether a relocation can be rewritten, if all others of its sequence can: whether `choose` with
