@@ -783,7 +783,7 @@ struct linker_utils_link_facts {
     uint8_t is_label_marked;
     /* PowerPC64: the register through which the instruction gets the high part of its address, and
      * which an `addis` has set, is read only by instructions whose relocation is of the same symbol
-     * and addend. Linkers assume so, as the ABI asks of compilers. */
+     * and addend. Linkers assume this, as the ABI requires of compilers. */
     uint8_t has_private_base;
     /* PowerPC64: the function that is called may return with another TOC pointer in register 2,
      * since it is called through a PLT entry or its symbol's st_other says so. */
@@ -1085,7 +1085,7 @@ static inline uint32_t linker_utils_choose(uint16_t machine, uint32_t r_type,
  * End of the tables of choices. */
 
 /* Whether the relocation of type `r_type` can be rewritten if each other one of its sequence can:
- * whether `linker_utils_choose` changes something by these facts and `group_fits`. A linker asks it
+ * whether `linker_utils_choose` changes something by these facts and `group_fits`. A linker calls it
  * for each relocation of the sequence before it chooses, with the facts that it chooses by, and sets
  * `group_fits` for all of them if all fit. False for a machine that isn't known. */
 static inline bool linker_utils_relocation_fits(uint16_t machine, uint32_t r_type,
