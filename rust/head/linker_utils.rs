@@ -16,10 +16,7 @@ pub mod compat;
 mod errors;
 mod linker_base;
 mod linker_elf;
-mod linker_pack;
-mod linker_reads;
-mod linker_recognise;
-mod linker_relax;
+mod linker_reading;
 mod linker_runs;
 pub mod names;
 pub mod readers;
@@ -32,27 +29,25 @@ pub use crate::linker_elf::elf::choice_table;
 
 pub mod runs {
     #![doc = include_str!("../doc/runs.md")]
-    pub use crate::linker_pack::packing;
-    pub use crate::linker_relax::{relaxation, shapes};
-    pub use crate::linker_runs::{items, loongarch64, riscv64};
+    pub use crate::linker_runs::{items, loongarch64, packing, relaxation, riscv64, shapes};
 }
 
 /// What stands in the fields of relocations: the bits of a value that are known from linked bytes,
 /// and the addresses that have such a value.
 pub mod reading {
-    pub use crate::linker_reads::fields::FieldValue;
-    pub use crate::linker_reads::reading::{read, read_row};
-    pub use crate::linker_reads::solving::{Origin, Reference, Terms, join, solve, terms_of};
+    pub use crate::linker_reading::fields::FieldValue;
+    pub use crate::linker_reading::reading::{read, read_row};
+    pub use crate::linker_reading::solving::{Origin, Reference, Terms, join, solve, terms_of};
 }
 
 /// What a linker made of a relocation, by the bytes before and after: which rewrite, which
 /// relocation it then wrote, and what stands in its field.
 pub mod recognise {
-    pub use crate::linker_recognise::fields::{
+    pub use crate::linker_reading::recognise::architecture;
+    pub use crate::linker_reading::recognise::fields::{
         FieldBits, field_bits, same_but_for, writes_change_fields,
     };
-    pub use crate::linker_recognise::architecture;
-    pub use crate::linker_recognise::{
+    pub use crate::linker_reading::recognise::{
         CANDIDATES, MAX_WINDOW, Made, Recognised, recognise, recognise_chosen,
         written_choices_are_left,
     };

@@ -763,8 +763,8 @@ fn the_structs_are_those_of_the_library() {
         + &repository("crates/linker_riscv64/src/calls.rt")
         + &repository("crates/linker_elf/src/elf/value.rt")
         + &repository("crates/linker_elf/src/elf/numbers.rt")
-        + &repository("crates/linker_relax/src/relaxation.rt")
-        + &repository("crates/linker_recognise/src/fields.rt");
+        + &repository("crates/linker_runs/src/relaxation.rt")
+        + &repository("crates/linker_reading/src/recognise/fields.rt");
     for (name, of_library) in [
         ("linker_utils_deletion", "Deletion"),
         ("linker_utils_call", "Call"),

@@ -1,6 +1,6 @@
 -- The items so far, by one relocation more.
 use Rattle.std.proofs.Common.{◌≡◌, ◌+◌, ◌++◌, ◌∷◌, [], List, ℕ, suc, subst, sym, add-one}
-use Rattle.linker_relax.specs.declared.relaxation.Item.{Item}
+use Rattle.linker_runs.specs.declared.relaxation.Item.{Item}
 use Rattle.linker_runs.specs.Relocations.{AreMade}
 use Rattle.linker_runs.specs.Relocations.AreMade.{none, left_out, made}
 

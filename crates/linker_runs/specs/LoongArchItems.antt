@@ -10,11 +10,11 @@ use Rattle.linker_elf.specs.LoongArchRelocations.{loongarch_name}
 use Rattle.linker_elf.specs.declared.loongarch64.relocations.LoongArch64Relocation.{LoongArch64Relocation}
 use Rattle.linker_elf.specs.declared.loongarch64.relocations.LoongArch64Relocation.TheVariants as r
 use Rattle.linker_loongarch64.specs.LoongArchRewrites.{IsAddi, IsCall, IsPair}
-use Rattle.linker_relax.specs.declared.shapes.loongarch64.TheConstants.{CALL36, PCALA}
-use Rattle.linker_relax.specs.declared.relaxation.Site.{Site as site}
-use Rattle.linker_relax.specs.declared.relaxation.Alignment.{Alignment}
-use Rattle.linker_relax.specs.declared.relaxation.Item.{Item}
-use Rattle.linker_relax.specs.declared.relaxation.Item.TheVariants.{Site, Aligned}
+use Rattle.linker_runs.specs.declared.shapes.loongarch64.TheConstants.{CALL36, PCALA}
+use Rattle.linker_runs.specs.declared.relaxation.Site.{Site as site}
+use Rattle.linker_runs.specs.declared.relaxation.Alignment.{Alignment}
+use Rattle.linker_runs.specs.declared.relaxation.Item.{Item}
+use Rattle.linker_runs.specs.declared.relaxation.Item.TheVariants.{Site, Aligned}
 use Rattle.linker_runs.specs.declared.items.Relocation.{Relocation}
 use Rattle.linker_runs.specs.Relocations.{relocation_at, IsMarked}
 

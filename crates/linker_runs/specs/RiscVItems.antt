@@ -10,12 +10,12 @@ use Rattle.linker_elf.specs.declared.riscv64.relocations.RiscVRelocation.{RiscVR
 use Rattle.linker_elf.specs.declared.riscv64.relocations.RiscVRelocation.TheVariants as r
 use Rattle.linker_riscv64.specs.RiscVCalls.{IsCallPair, link_register, word_at}
 use Rattle.linker_riscv64.specs.declared.calls.LinkRegister.TheVariants.{OfJalr}
-use Rattle.linker_relax.specs.declared.shapes.riscv64.TheConstants.{CALL, TAIL_C}
-use Rattle.linker_relax.specs.declared.relaxation.Shapes.{Shapes}
-use Rattle.linker_relax.specs.declared.relaxation.Site.{Site as site}
-use Rattle.linker_relax.specs.declared.relaxation.Alignment.{Alignment}
-use Rattle.linker_relax.specs.declared.relaxation.Item.{Item}
-use Rattle.linker_relax.specs.declared.relaxation.Item.TheVariants.{Site, Aligned}
+use Rattle.linker_runs.specs.declared.shapes.riscv64.TheConstants.{CALL, TAIL_C}
+use Rattle.linker_runs.specs.declared.relaxation.Shapes.{Shapes}
+use Rattle.linker_runs.specs.declared.relaxation.Site.{Site as site}
+use Rattle.linker_runs.specs.declared.relaxation.Alignment.{Alignment}
+use Rattle.linker_runs.specs.declared.relaxation.Item.{Item}
+use Rattle.linker_runs.specs.declared.relaxation.Item.TheVariants.{Site, Aligned}
 use Rattle.linker_runs.specs.declared.items.Relocation.{Relocation}
 use Rattle.linker_runs.specs.Relocations.{relocation_at, IsMarked}
 

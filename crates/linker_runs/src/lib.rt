@@ -1,6 +1,11 @@
-//! Sections as parts of a run that is relaxed: the items that their relocations make.
+//! Runs of code that become shorter: the items that a section's relocations make, which instructions
+//! become shorter and how many nops each alignment keeps, and sections without the bytes that they lose.
 #![tactic(auto)]
 
 pub mod items;
+pub mod laws;
 pub mod loongarch64;
+pub mod packing;
+pub mod relaxation;
 pub mod riscv64;
+pub mod shapes;

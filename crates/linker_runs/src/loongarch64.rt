@@ -4,9 +4,9 @@ ghost use Rattle.std.specs.Prelude.{◌≡◌, ◌+◌, ◌≤◌, ◌<◌, ◌^
 ghost use Rattle.std.specs.Prelude.{IfOk, OnOk, OnErr, IfErr, IfSome, IfNone, MatchOption};
 ghost use Rattle.linker_elf.specs.ElfNames.{code_of};
 ghost use Rattle.linker_elf.specs.LoongArchRelocations.{loongarch_name};
-ghost use Rattle.linker_relax.specs.declared.relaxation.Item.{Item as items};
-ghost use Rattle.linker_relax.specs.declared.relaxation.Site.{Site as sites};
-ghost use Rattle.linker_relax.specs.declared.relaxation.Alignment.{Alignment as alignments};
+ghost use Rattle.linker_runs.specs.declared.relaxation.Item.{Item as items};
+ghost use Rattle.linker_runs.specs.declared.relaxation.Site.{Site as sites};
+ghost use Rattle.linker_runs.specs.declared.relaxation.Alignment.{Alignment as alignments};
 ghost use Rattle.linker_loongarch64.specs.LoongArchRewrites.{IsAddi, IsCall, IsPair};
 ghost use Rattle.linker_runs.specs.Relocations.{relocation_at, AreMade, AreWellFormed};
 ghost use Rattle.linker_runs.specs.Relocations.{IsItemsCause};
@@ -17,9 +17,9 @@ ghost use Rattle.linker_runs.specs.LoongArchItems.{IsLoongArchSite, LoongArchMak
 ghost use Rattle.linker_runs.specs.LoongArchItems.{IsLoongArchFormed};
 
 use crate::items::{ItemsError, NotAllowed, Relocation, has_bytes, is_marked, unsigned_addend};
+use crate::relaxation::{Alignment, Item, Shapes, Site};
+use crate::shapes::loongarch64::{CALL36, PCALA};
 use linker_loongarch64::{LoongArch64Relocation, RelaxationKind};
-use linker_relax::relaxation::{Alignment, Item, Shapes, Site};
-use linker_relax::shapes::loongarch64::{CALL36, PCALA};
 use std::alloc::Global;
 
 /// Whether a relocation has a name.

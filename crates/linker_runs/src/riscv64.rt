@@ -3,7 +3,7 @@
 ghost use Rattle.std.specs.Prelude.{◌≡◌, ◌+◌, ◌≤◌, ◌<◌, ◌^◌, ◌↔◌, ℕ, IsTrue, length, pos};
 ghost use Rattle.std.specs.Prelude.{IfOk, OnOk, OnErr, IfErr, IfSome, IfNone, MatchOption, None};
 ghost use Rattle.std.specs.Int.{IsNextPowerOfTwo};
-ghost use Rattle.linker_relax.specs.declared.relaxation.Item.{Item as items};
+ghost use Rattle.linker_runs.specs.declared.relaxation.Item.{Item as items};
 ghost use Rattle.linker_riscv64.specs.RiscVCalls.{link_register};
 ghost use Rattle.linker_riscv64.specs.declared.calls.LinkRegister.TheVariants.{OfJalr};
 ghost use Rattle.linker_runs.specs.Relocations.{relocation_at, AreMade, AreWellFormed};
@@ -14,8 +14,8 @@ ghost use Rattle.linker_runs.specs.RiscVItems.{AreEnoughAt, MayFree, IsShapesOf,
 ghost use Rattle.linker_runs.specs.RiscVItems.{RiscVMakes, IsRiscVFormed};
 
 use crate::items::{ItemsError, NotAllowed, Relocation, has_bytes, is_marked, unsigned_addend};
-use linker_relax::relaxation::{Alignment, Item, Shapes, Site};
-use linker_relax::shapes::riscv64::{CALL, TAIL_C};
+use crate::relaxation::{Alignment, Item, Shapes, Site};
+use crate::shapes::riscv64::{CALL, TAIL_C};
 use linker_riscv64::{LinkRegister, RiscVRelocation};
 use std::alloc::Global;
 

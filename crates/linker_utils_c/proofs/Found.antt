@@ -1,7 +1,7 @@
 -- What was found, in the numbers that C sees.
 use Rattle.std.proofs.Common.{◌≡◌, ℕ, ◌+◌, ◌<◌, List, [], ◌∷◌, ◌++◌, length, get_or, take, set, ap, refl, Option, Some, None}
 use Rattle.std.proofs.lemmas.List.{take_more, take_more_set}
-use Rattle.linker_recognise.specs.declared.engine.Made.{Made}
+use Rattle.linker_reading.specs.declared.recognise.engine.Made.{Made}
 use Rattle.linker_utils.specs.declared.architecture.Relaxation.{Relaxation}
 use Rattle.linker_utils_c.specs.Recognising.{AreInNumbers, IsMadeInNumbers, present}
 use Rattle.linker_utils_c.specs.declared.recognising.RecognisedNumbers.{RecognisedNumbers}

@@ -8,10 +8,10 @@ use Rattle.linker_base.specs.Deletions.{bytes_of}
 use Rattle.linker_base.specs.Deltas.{deletion_of, RecordsDeletions}
 use Rattle.linker_base.proofs.Listed.{RecordsDeletions-push}
 use Rattle.linker_base.proofs.OutputOffsets.{bytes_of-take_fit}
-use Rattle.linker_relax.specs.declared.relaxation.Item.{Item}
-use Rattle.linker_relax.specs.Relaxing.{offset_of, len_of, item_at, no_item, AreInOrder}
-use Rattle.linker_relax.specs.Deleting.{deletions_before}
-use Rattle.linker_relax.proofs.Deletions.{deletions_none, deletions_next, deletion_some, deletion_none, deletions_valid}
+use Rattle.linker_runs.specs.declared.relaxation.Item.{Item}
+use Rattle.linker_runs.specs.Relaxing.{offset_of, len_of, item_at, no_item, AreInOrder}
+use Rattle.linker_runs.specs.Deleting.{deletions_before}
+use Rattle.linker_runs.proofs.Deletions.{deletions_none, deletions_next, deletion_some, deletion_none, deletions_valid}
 use Rattle.linker_utils_c.specs.declared.relaxing.ItemNumbers.{ItemNumbers}
 use Rattle.linker_utils_c.specs.Relaxing.{item_of, items_in}
 

@@ -3,8 +3,8 @@ use Rattle.std.proofs.Common.{◌≡◌, ℕ, ◌+◌, ◌<◌, ◌≤◌, ◌�
 use Rattle.std.specs.Prelude.{pos, Result, Ok, Err, IfOk}
 use Rattle.std.specs.Global.{Vec}
 use Rattle.std.proofs.lemmas.List.{take_more, take_more_set, map_push}
-use Rattle.linker_relax.specs.declared.relaxation.Item.{Item}
-use Rattle.linker_relax.specs.Relaxing.{no_item}
+use Rattle.linker_runs.specs.declared.relaxation.Item.{Item}
+use Rattle.linker_runs.specs.Relaxing.{no_item}
 use Rattle.linker_runs.specs.declared.items.ItemsError.{ItemsError}
 use Rattle.linker_runs.specs.Relocations.{AreMade}
 use Rattle.linker_runs.specs.Relocations.AreMade.{none, left_out, made}

@@ -3,12 +3,12 @@ use Rattle.std.specs.Prelude.{◌≡◌, ◌⊎◌, ℕ, List, [], ◌∷◌, Op
 use Rattle.linker_utils.specs.Machines.{architecture_of}
 use Rattle.linker_utils.specs.declared.elf.Architecture.{Architecture}
 use Rattle.linker_utils.specs.declared.elf.Architecture.TheVariants as architectures
-use Rattle.linker_relax.specs.declared.relaxation.Item.{Item}
-use Rattle.linker_pack.specs.declared.packing.Machine.{Machine}
-use Rattle.linker_pack.specs.declared.packing.Machine.TheVariants as machines
-use Rattle.linker_pack.specs.declared.packing.ItemError.{ItemError}
-use Rattle.linker_pack.specs.declared.packing.ItemError.TheVariants as errors
-use Rattle.linker_pack.specs.Packing.{Section, IsPackedRun, IsFirstRejected}
+use Rattle.linker_runs.specs.declared.relaxation.Item.{Item}
+use Rattle.linker_runs.specs.declared.packing.Machine.{Machine}
+use Rattle.linker_runs.specs.declared.packing.Machine.TheVariants as machines
+use Rattle.linker_runs.specs.declared.packing.ItemError.{ItemError}
+use Rattle.linker_runs.specs.declared.packing.ItemError.TheVariants as errors
+use Rattle.linker_runs.specs.Packing.{Section, IsPackedRun, IsFirstRejected}
 use Rattle.linker_utils_c.specs.declared.status.Status.{Status}
 use Rattle.linker_utils_c.specs.declared.status.Status.TheVariants.{Success, ItemsOverlap}
 use Rattle.linker_utils_c.specs.declared.status.Status.TheVariants.{ItemOutOfSection}

@@ -3,13 +3,13 @@ use Rattle.std.specs.Prelude.{◌≡◌, ℕ, List, length, nat_lt, Bool, true, 
 use Rattle.linker_elf.specs.Relocate.{window_len}
 use Rattle.linker_elf.specs.declared.elf.RelocationKindInfo.{RelocationKindInfo}
 use Rattle.linker_elf.specs.declared.elf.value.Operands.{Operands}
-use Rattle.linker_reads.specs.Fields.{IsProper}
-use Rattle.linker_reads.specs.Reading.{value_read}
-use Rattle.linker_reads.specs.Solving.{terms_of, IsSolved, IsJoined}
-use Rattle.linker_reads.specs.declared.fields.FieldValue.{FieldValue}
-use Rattle.linker_reads.specs.declared.solving.Reference.{Reference}
-use Rattle.linker_reads.specs.declared.solving.Reference.TheVariants.{Symbol, GotEntry, PltEntry}
-use Rattle.linker_reads.specs.declared.solving.Terms.{Terms}
+use Rattle.linker_reading.specs.Fields.{IsProper}
+use Rattle.linker_reading.specs.Reading.{value_read}
+use Rattle.linker_reading.specs.Solving.{terms_of, IsSolved, IsJoined}
+use Rattle.linker_reading.specs.declared.fields.FieldValue.{FieldValue}
+use Rattle.linker_reading.specs.declared.solving.Reference.{Reference}
+use Rattle.linker_reading.specs.declared.solving.Reference.TheVariants.{Symbol, GotEntry, PltEntry}
+use Rattle.linker_reading.specs.declared.solving.Terms.{Terms}
 use Rattle.linker_utils_c.specs.Status.{code}
 use Rattle.linker_utils_c.specs.declared.reading.FieldValueNumbers.{FieldValueNumbers}
 use Rattle.linker_utils_c.specs.declared.status.Status.TheVariants.{Success, UnknownRelocation}

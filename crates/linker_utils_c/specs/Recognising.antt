@@ -4,11 +4,11 @@ use Rattle.std.specs.Prelude.{slice_index_or, Bool, Option, None, Some, IsTrue}
 use Rattle.std.specs.Int.{bit_at}
 use Rattle.linker_elf.specs.Relocate.{window_len}
 use Rattle.linker_elf.specs.declared.elf.RelocationKindInfo.{RelocationKindInfo}
-use Rattle.linker_reads.specs.declared.fields.FieldValue.{FieldValue}
-use Rattle.linker_recognise.specs.Fields.{is_field_bit, AreSameButFor}
-use Rattle.linker_recognise.specs.FoundByCode.{AreFound, IsFoundChosen}
-use Rattle.linker_recognise.specs.declared.engine.Made.{Made}
-use Rattle.linker_recognise.specs.declared.fields.FieldBits.{FieldBits}
+use Rattle.linker_reading.specs.declared.fields.FieldValue.{FieldValue}
+use Rattle.linker_reading.specs.FieldsOfBytes.{is_field_bit, AreSameButFor}
+use Rattle.linker_reading.specs.FoundByCode.{AreFound, IsFoundChosen}
+use Rattle.linker_reading.specs.declared.recognise.engine.Made.{Made}
+use Rattle.linker_reading.specs.declared.recognise.fields.FieldBits.{FieldBits}
 use Rattle.linker_utils.specs.Architectures.{relaxation_architecture}
 use Rattle.linker_utils.specs.declared.architecture.Relaxation.{Relaxation}
 use Rattle.linker_utils.specs.declared.elf.Architecture.{Architecture}

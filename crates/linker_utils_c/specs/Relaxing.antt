@@ -1,14 +1,14 @@
 -- The items of a run, and their faults, in the numbers that C sees.
 use Rattle.std.specs.Prelude.{◌≡◌, ℕ, ◌+◌, ◌==◌, if◌then◌else◌, List, map}
 use Rattle.std.specs.Prelude.{Option, None, Some}
-use Rattle.linker_relax.specs.declared.relaxation.Shapes.{Shapes}
-use Rattle.linker_relax.specs.declared.relaxation.Item.{Item}
-use Rattle.linker_relax.specs.declared.relaxation.Item.TheVariants.{Site, Aligned}
-use Rattle.linker_relax.specs.declared.relaxation.faults.Fault.{Fault}
-use Rattle.linker_relax.specs.declared.relaxation.faults.Fault.TheVariants as faults
-use Rattle.linker_relax.specs.declared.shapes.riscv64.TheConstants as riscv
-use Rattle.linker_relax.specs.declared.shapes.loongarch64.TheConstants as loongarch
-use Rattle.linker_relax.specs.Faults.{IsFirstFault}
+use Rattle.linker_runs.specs.declared.relaxation.Shapes.{Shapes}
+use Rattle.linker_runs.specs.declared.relaxation.Item.{Item}
+use Rattle.linker_runs.specs.declared.relaxation.Item.TheVariants.{Site, Aligned}
+use Rattle.linker_runs.specs.declared.relaxation.faults.Fault.{Fault}
+use Rattle.linker_runs.specs.declared.relaxation.faults.Fault.TheVariants as faults
+use Rattle.linker_runs.specs.declared.shapes.riscv64.TheConstants as riscv
+use Rattle.linker_runs.specs.declared.shapes.loongarch64.TheConstants as loongarch
+use Rattle.linker_runs.specs.Faults.{IsFirstFault}
 use Rattle.linker_utils_c.specs.declared.relaxing.ItemNumbers.{ItemNumbers}
 use Rattle.linker_utils_c.specs.declared.status.Status.{Status}
 use Rattle.linker_utils_c.specs.declared.status.Status.TheVariants.{ItemsOverlap, EndsTooHigh}

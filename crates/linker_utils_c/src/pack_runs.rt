@@ -5,7 +5,7 @@ ghost use Rattle.std.specs.Prelude.{IsNone, IfSome};
 ghost use Rattle.linker_base.specs.Deletions.{rank};
 ghost use Rattle.linker_base.specs.Deltas.{deletions_of};
 ghost use Rattle.linker_base.specs.Listed.{AreValidDeltas};
-ghost use Rattle.linker_pack.specs.Packing.{section_of, packed_offset};
+ghost use Rattle.linker_runs.specs.Packing.{section_of, packed_offset};
 ghost use Rattle.linker_utils_c.specs.PackRuns.{packing_machine, item_status, item_statuses};
 ghost use Rattle.linker_utils_c.specs.PackRuns.{IsRunPackedOrRejected};
 ghost use Rattle.linker_utils_c.specs.Relaxing.{items_in};
@@ -13,7 +13,7 @@ ghost use Rattle.linker_utils_c.specs.Status.{code, IsOneOf};
 
 use crate::relaxing::{ItemNumbers, items_of};
 use crate::status::Status;
-use linker_pack::packing::{ItemError, Machine, pack_run, packed_run_len};
+use linker_runs::packing::{ItemError, Machine, pack_run, packed_run_len};
 use linker_utils::elf::Architecture;
 use linker_utils::relaxation::RelaxDelta;
 use std::alloc::Global;

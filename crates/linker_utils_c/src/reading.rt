@@ -10,9 +10,9 @@ ghost use Rattle.linker_utils_c.specs.Reading.{IsWhole, AreHalvesJoined};
 ghost use Rattle.linker_utils_c.specs.Status.{code};
 
 use crate::status::Status;
-use linker_reads::fields::FieldValue;
-use linker_reads::reading::read;
-use linker_reads::solving::{Reference, Terms, join, solve, terms_of};
+use linker_reading::fields::FieldValue;
+use linker_reading::reading::read;
+use linker_reading::solving::{Reference, Terms, join, solve, terms_of};
 use linker_utils::bit_misc::BitRange;
 use linker_utils::elf::{Architecture, Operands, Row};
 
@@ -59,7 +59,7 @@ impl FieldValueNumbers {
 }
 
 /// What is known of the value of the relocation with `r_type` from the bytes that begin with its
-/// field, as `read` of `linker_reads` returns it. The first that applies of `UnknownArchitecture`;
+/// field, as `read` of `linker_reading` returns it. The first that applies of `UnknownArchitecture`;
 /// `UnknownRelocation`; `TooShort`, where there are fewer bytes than the field's; `HoldsNoValue`.
 #[unsafe(no_mangle)]
 pub extern "C" fn linker_utils_read_value_nonnull(
@@ -156,7 +156,7 @@ fn solve_row(
 }
 
 /// What is known of the address that the value of the relocation with `r_type` comes from, as
-/// `solve` of `linker_reads` returns it, and into `reference` which address it is: 0 that of the
+/// `solve` of `linker_reading` returns it, and into `reference` which address it is: 0 that of the
 /// symbol, 1 that of the GOT entry, 2 that of the PLT entry. Of the operands only the place, the
 /// GOT's address and the base of TLS are read. The first that applies of `UnknownArchitecture`;
 /// `UnknownRelocation`; `BadFieldValue`; `NoAddress`.
@@ -199,7 +199,7 @@ fn put_whole(joined: Option<FieldValue>, whole: &mut FieldValueNumbers) -> u32
     }
 }
 
-/// What is known of an address from both halves of a pair, as `join` of `linker_reads` returns it.
+/// What is known of an address from both halves of a pair, as `join` of `linker_reading` returns it.
 /// The first that applies of `BadFieldValue`, of either half, and `NotHalves`.
 #[unsafe(no_mangle)]
 pub extern "C" fn linker_utils_join(

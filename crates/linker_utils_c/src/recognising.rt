@@ -15,15 +15,15 @@ ghost use Rattle.linker_utils_c.specs.Status.{code};
 use crate::choices::{ChoiceNumbers, LinkFactNumbers, in_numbers};
 use crate::reading::FieldValueNumbers;
 use crate::status::Status;
-use linker_reads::fields::FieldValue;
-use linker_recognise::architecture::{recognise, recognise_chosen};
-use linker_recognise::fields::{FieldBits, field_bits, same_but_for};
-use linker_recognise::{CANDIDATES, MAX_WINDOW, Made};
+use linker_reading::fields::FieldValue;
+use linker_reading::recognise::architecture::{recognise, recognise_chosen};
+use linker_reading::recognise::fields::{FieldBits, field_bits, same_but_for};
+use linker_reading::recognise::{CANDIDATES, MAX_WINDOW, Made};
 use linker_utils::architecture::Relaxation;
 use linker_utils::elf::{Architecture, Row};
 
 /// Which bits of the bytes that `bytes` begins with a write of the relocation with `r_type` may
-/// change, bit 0 the lowest of the first byte, as `field_bits` of `linker_recognise` returns them.
+/// change, bit 0 the lowest of the first byte, as `field_bits` of `linker_reading` returns them.
 /// The first that applies of `UnknownArchitecture`; `UnknownRelocation`; `TooShort`.
 #[unsafe(no_mangle)]
 pub extern "C" fn linker_utils_field_bits_nonnull(
@@ -136,7 +136,7 @@ fn write_found(made: &[Option<Made<Relaxation, u32>>], found: &mut [RecognisedNu
 }
 
 /// Writes which rewrites, and relocations after them, a linker may have made at the relocation with
-/// `r_type`, whose offset in the original bytes is given, as `recognise` of `linker_recognise`.
+/// `r_type`, whose offset in the original bytes is given, as `recognise` of `linker_reading`.
 /// `count` is how many there are, and the elements of `found` from there on are unchanged.
 ///
 /// `found` has 6 elements. The first that applies of `UnknownArchitecture`; `DifferentLengths`;

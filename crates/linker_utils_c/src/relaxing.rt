@@ -2,18 +2,18 @@
 
 ghost use Rattle.std.specs.Prelude.{◌≡◌, ◌≢◌, ◌+◌, ◌-◌, ◌^◌, ◌<◌, ◌≤◌, ◌↔◌, ◌⊎◌, ℕ, IsTrue, IfOk};
 ghost use Rattle.std.specs.Prelude.{IfSome, IfNone, length, take, slice_index_or};
-ghost use Rattle.linker_relax.specs.Relaxing.{AreInOrder};
-ghost use Rattle.linker_relax.specs.Choosing.{AreItems, IsRelaxation};
-ghost use Rattle.linker_relax.specs.Deleting.{deletions_of_run};
+ghost use Rattle.linker_runs.specs.Relaxing.{AreInOrder};
+ghost use Rattle.linker_runs.specs.Choosing.{AreItems, IsRelaxation};
+ghost use Rattle.linker_runs.specs.Deleting.{deletions_of_run};
 ghost use Rattle.linker_utils_c.specs.Deltas.{AreDeltasOf};
 ghost use Rattle.linker_utils_c.specs.Relaxing.{item_of, items_in, named_shapes, fault_status};
 ghost use Rattle.linker_utils_c.specs.Relaxing.{IsRunFault, HaveLengths};
 ghost use Rattle.linker_utils_c.specs.Status.{code};
 
 use crate::status::Status;
-use linker_relax::relaxation::{Alignment, Fault, Item, Shapes, Site, first_faulty, relax_into};
-use linker_relax::shapes::loongarch64::{CALL36, PCALA};
-use linker_relax::shapes::riscv64::{CALL, CALL_WITHOUT_C, TAIL_C};
+use linker_runs::relaxation::{Alignment, Fault, Item, Shapes, Site, first_faulty, relax_into};
+use linker_runs::shapes::loongarch64::{CALL36, PCALA};
+use linker_runs::shapes::riscv64::{CALL, CALL_WITHOUT_C, TAIL_C};
 use linker_utils::relaxation::{OutOfMemory, RelaxDelta};
 use std::alloc::Global;
 

@@ -11,9 +11,9 @@ ghost use Rattle.linker_utils_c.specs.Status.{code};
 
 use crate::relaxing::ItemNumbers;
 use crate::status::Status;
-use linker_relax::relaxation::Item;
-use linker_relax::shapes::fixed;
 use linker_runs::items::{ItemsError, Relocation};
+use linker_runs::relaxation::Item;
+use linker_runs::shapes::fixed;
 use linker_runs::{loongarch64, riscv64};
 use linker_utils::relaxation::OutOfMemory;
 use std::alloc::Global;

@@ -3,9 +3,9 @@
 //! whichever growth is refused.
 
 use crate::rows::expect_eq;
-use linker_relax::relaxation::{Item, Site, are_items, relax};
-use linker_relax::shapes::riscv64::CALL as CALL_SHAPES;
 use linker_runs::items::Relocation;
+use linker_runs::relaxation::{Item, Site, are_items, relax};
+use linker_runs::shapes::riscv64::CALL as CALL_SHAPES;
 use linker_runs::{loongarch64, riscv64};
 use linker_utils::relaxation::{
     OutOfMemory, PackError, RelaxDeltaMap, SectionRelaxDeltas, calls_apart, calls_shrinkable,

@@ -3,7 +3,7 @@
 
 use crate::refused_growth::{MARKED_CALL, NOPS, many_calls};
 use crate::rows::expect_eq;
-use linker_relax::relaxation::{are_items, relax};
+use linker_runs::relaxation::{are_items, relax};
 use linker_runs::{loongarch64, riscv64};
 use linker_utils::relaxation::{
     RelaxDeltaMap, SectionRelaxDeltas, calls_apart, calls_shrinkable, pack_section, shrink_calls,

@@ -47,7 +47,7 @@ impl FieldValueNumbers {
 }
 
 /// What is known of the value of the relocation with `r_type` from the bytes that begin with its
-/// field, as `read` of `linker_reads` returns it. The first that applies of `UnknownArchitecture`;
+/// field, as `read` of `linker_reading` returns it. The first that applies of `UnknownArchitecture`;
 /// `UnknownRelocation`; `TooShort`, where there are fewer bytes than the field's; `HoldsNoValue`.
 pub fn linker_utils_read_value_nonnull(
     machine: u16,
@@ -128,7 +128,7 @@ fn solve_row(
 }
 
 /// What is known of the address that the value of the relocation with `r_type` comes from, as
-/// `solve` of `linker_reads` returns it, and into `reference` which address it is: 0 that of the
+/// `solve` of `linker_reading` returns it, and into `reference` which address it is: 0 that of the
 /// symbol, 1 that of the GOT entry, 2 that of the PLT entry. Of the operands only the place, the
 /// GOT's address and the base of TLS are read. The first that applies of `UnknownArchitecture`;
 /// `UnknownRelocation`; `BadFieldValue`; `NoAddress`.
@@ -160,7 +160,7 @@ fn put_whole(joined: Option<FieldValue>, whole: &mut FieldValueNumbers) -> u32 {
     }
 }
 
-/// What is known of an address from both halves of a pair, as `join` of `linker_reads` returns it.
+/// What is known of an address from both halves of a pair, as `join` of `linker_reading` returns it.
 /// The first that applies of `BadFieldValue`, of either half, and `NotHalves`.
 pub fn linker_utils_join(
     high: &FieldValueNumbers,

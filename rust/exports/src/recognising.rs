@@ -12,7 +12,7 @@ use linker_utils::architecture::Relaxation;
 use linker_utils::elf::{Architecture, Row};
 
 /// Which bits of the bytes that `bytes` begins with a write of the relocation with `r_type` may
-/// change, bit 0 the lowest of the first byte, as `field_bits` of `linker_recognise` returns them.
+/// change, bit 0 the lowest of the first byte, as `field_bits` of `linker_reading` returns them.
 /// The first that applies of `UnknownArchitecture`; `UnknownRelocation`; `TooShort`.
 pub fn linker_utils_field_bits_nonnull(
     machine: u16,
@@ -103,7 +103,7 @@ fn write_found(made: &[Option<Made<Relaxation, u32>>], found: &mut [RecognisedNu
 }
 
 /// Writes which rewrites, and relocations after them, a linker may have made at the relocation with
-/// `r_type`, whose offset in the original bytes is given, as `recognise` of `linker_recognise`.
+/// `r_type`, whose offset in the original bytes is given, as `recognise` of `linker_reading`.
 /// `count` is how many there are, and the elements of `found` from there on are unchanged.
 ///
 /// `found` has 6 elements. The first that applies of `UnknownArchitecture`; `DifferentLengths`;

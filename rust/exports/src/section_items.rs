@@ -5,9 +5,9 @@ use alloc::vec::Vec;
 use crate::support::*;
 use crate::relaxing::ItemNumbers;
 use crate::status::Status;
+use linker_utils::runs::items::{ItemsError, Relocation};
 use linker_utils::runs::relaxation::Item;
 use linker_utils::runs::shapes::fixed;
-use linker_utils::runs::items::{ItemsError, Relocation};
 use linker_utils::runs::{loongarch64, riscv64};
 use linker_utils::relaxation::OutOfMemory;
 

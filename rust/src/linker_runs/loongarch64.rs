@@ -4,9 +4,9 @@
 use alloc::vec::Vec;
 use crate::support::*;
 use crate::linker_runs::items::{ItemsError, NotAllowed, Relocation, has_bytes, is_marked, unsigned_addend};
+use crate::linker_runs::relaxation::{Alignment, Item, Shapes, Site};
+use crate::linker_runs::shapes::loongarch64::{CALL36, PCALA};
 use crate::loongarch64::{LoongArch64Relocation, RelaxationKind};
-use crate::linker_relax::relaxation::{Alignment, Item, Shapes, Site};
-use crate::linker_relax::shapes::loongarch64::{CALL36, PCALA};
 
 /// Whether a relocation has a name.
 #[inline(always)]

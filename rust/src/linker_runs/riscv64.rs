@@ -4,8 +4,8 @@
 use alloc::vec::Vec;
 use crate::support::*;
 use crate::linker_runs::items::{ItemsError, NotAllowed, Relocation, has_bytes, is_marked, unsigned_addend};
-use crate::linker_relax::relaxation::{Alignment, Item, Shapes, Site};
-use crate::linker_relax::shapes::riscv64::{CALL, TAIL_C};
+use crate::linker_runs::relaxation::{Alignment, Item, Shapes, Site};
+use crate::linker_runs::shapes::riscv64::{CALL, TAIL_C};
 use crate::riscv64::{LinkRegister, RiscVRelocation};
 
 /// Whether a relocation has a name.

@@ -5,9 +5,9 @@
 
 use crate::support::*;
 use crate::rows::expect_eq;
+use linker_utils::runs::items::Relocation;
 use linker_utils::runs::relaxation::{Item, Site, are_items, relax};
 use linker_utils::runs::shapes::riscv64::CALL as CALL_SHAPES;
-use linker_utils::runs::items::Relocation;
 use linker_utils::runs::{loongarch64, riscv64};
 use linker_utils::relaxation::{
     OutOfMemory, PackError, RelaxDeltaMap, SectionRelaxDeltas, calls_apart, calls_shrinkable,

@@ -1,6 +1,6 @@
 use Rattle.std.proofs.Common.{ℕ, ◌∙◌, ap, below_more, arith, subst}
 use Rattle.std.specs.Prelude.{MatchOption}
-use Rattle.linker_relax.specs.declared.relaxation.Item.{Item}
+use Rattle.linker_runs.specs.declared.relaxation.Item.{Item}
 use Rattle.linker_runs.specs.LoongArchItems.{LoongArchMakes}
 use Rattle.linker_runs.proofs.Made.{made_none, made_less, made_more}
 use Rattle.linker_runs.proofs.loongarch64.items.Goals as goal

@@ -1,7 +1,7 @@
 use Rattle.std.proofs.Common.{◌+◌, ◌<◌, ◌≤◌, ℕ, List, inl, inr, ⊎_elim, ◌∙◌, ap, sym, below_more, arith, subst}
 use Rattle.std.specs.Prelude.{MatchOption, ◌⊎◌}
 use Rattle.std.proofs.lemmas.Bool.{cases_lt}
-use Rattle.linker_relax.specs.declared.relaxation.Item.{Item}
+use Rattle.linker_runs.specs.declared.relaxation.Item.{Item}
 use Rattle.linker_runs.specs.declared.items.Relocation.{Relocation}
 use Rattle.linker_runs.specs.RiscVItems.{RiscVMakes, IsNextAlignment}
 use Rattle.linker_runs.proofs.Made.{made_none, made_less, made_more}

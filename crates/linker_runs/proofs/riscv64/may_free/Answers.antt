@@ -2,7 +2,7 @@ use Rattle.std.proofs.Common.{◌≡◌, ◌+◌, ◌-◌, ◌<◌, ◌%◌, ℕ
 use Rattle.std.specs.Prelude.{◌⊎◌, pos}
 use Rattle.std.specs.Int.{IsNextPowerOfTwo}
 use Rattle.std.proofs.lemmas.Bool.{cases_order}
-use Rattle.linker_relax.proofs.Addresses.{next_unique}
+use Rattle.linker_runs.proofs.Addresses.{next_unique}
 use Rattle.linker_runs.specs.declared.items.Relocation.{Relocation}
 use Rattle.linker_runs.specs.Relocations.{relocation_at}
 use Rattle.linker_runs.specs.RiscVItems.{IsNextAlignment, AreEnoughAt, MayFree}

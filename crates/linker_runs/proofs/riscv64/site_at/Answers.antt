@@ -1,7 +1,7 @@
 use Rattle.std.proofs.Common.{ℕ, ⊎_elim, refl, subst, arith, rules}
 use Rattle.linker_elf.specs.declared.riscv64.relocations.RiscVRelocation.TheVariants as r
-use Rattle.linker_relax.specs.declared.relaxation.Item.{Item}
-use Rattle.linker_relax.specs.declared.relaxation.Item.TheVariants.{Site, Aligned}
+use Rattle.linker_runs.specs.declared.relaxation.Item.{Item}
+use Rattle.linker_runs.specs.declared.relaxation.Item.TheVariants.{Site, Aligned}
 use Rattle.linker_runs.specs.Relocations.{relocation_at, IsMarked}
 use Rattle.linker_runs.specs.RiscVItems.{HasRiscVName, IsOfCall, RiscVMakes, MayFree}
 use Rattle.linker_runs.specs.declared.items.Relocation.{Relocation}

@@ -1,6 +1,6 @@
 use Rattle.std.proofs.Common.{inr, ◌∙◌, subst}
 use Rattle.linker_base.specs.Deltas.{deletions_of}
-use Rattle.linker_pack.specs.Packing.{section_of, IsFirstRejected}
+use Rattle.linker_runs.specs.Packing.{section_of, IsFirstRejected}
 use Rattle.linker_utils_c.proofs.pack_runs.pack.Goals as goal
 
 pub returns-clause-outcome : goal.returns-clause-outcome

@@ -1,5 +1,5 @@
 use Rattle.std.proofs.Common.{◌≡◌, List, get_or, refl, arith}
-use Rattle.linker_relax.specs.declared.relaxation.Item.{Item}
+use Rattle.linker_runs.specs.declared.relaxation.Item.{Item}
 use Rattle.linker_utils_c.specs.Relaxing.{item_of}
 use Rattle.linker_utils_c.proofs.DeltaLists.{take_more_map}
 use Rattle.linker_utils_c.proofs.RunItems.{no_numbers}

@@ -1,6 +1,0 @@
-use Rattle.std.proofs.Common.{◌≡◌, ◌+◌, ◌*◌, ◌++◌, take, drop}
-use Rattle.linker_pack.specs.Packing.{repeated}
-use Rattle.linker_pack.proofs.packing.put_words.Given as goal
-
-abbrev pub invariant-loop-index : goal.invariant-loop-index
-invariant-loop-index l = l.packed ≡ take l.at l.initial.packed ++ repeated l.word l.index ++ drop (l.at + 4 * l.index) l.initial.packed

@@ -1,4 +1,0 @@
-pub mod Pieces
-pub mod LoongArch
-pub mod Copying
-pub mod Packing

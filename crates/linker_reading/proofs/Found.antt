@@ -1,0 +1,177 @@
+-- What was found of the choices of a table.
+use Rattle.std.proofs.Common.{◌≡◌, ◌≢◌, ◌↔◌, ◌<◌, ◌≤◌, ◌+◌, ℕ, zero, suc, List, [], ◌∷◌, length, get_or, set, replicate, slice_get, Option, Some, None, refl, sym, ap, ◌∙◌, inl, inr, ⊎_elim, arith}
+use Rattle.std.proofs.lemmas.Bool.{cases_lt, cases_eq}
+use Rattle.std.proofs.lemmas.List.{get_or-set_same, get_or-set_other, length-set}
+use Rattle.linker_elf.specs.Choices.{choice}
+use Rattle.linker_elf.specs.declared.elf.choice.Choice.{Choice}
+use Rattle.linker_reading.proofs.Tables.{behind}
+use Rattle.linker_reading.specs.Inner.Found.{IsMeant, AreFoundOfFirst, IsBefore}
+use Rattle.linker_reading.specs.Recognised.{Recogniser, choices_at, IsChosen, IsMade, IsFound, IsOneOf, AreThose, ArePlaced, IsFirstPlace, AreDistinct}
+use Rattle.linker_elf.specs.declared.elf.choice.LinkFacts.{LinkFacts}
+use Rattle.linker_reading.proofs.Chosen.{first_is_listed}
+use Rattle.linker_reading.specs.Inner.Laws.{ChosenMatches}
+use Rattle.linker_reading.specs.declared.recognise.fields.FieldBits.{FieldBits}
+use Rattle.linker_reading.specs.declared.recognise.engine.Made.{Made}
+
+-- ---- places in lists
+
+pub some_same : {A : Type 0} (a b : A) → Some a ≡ Some b → a ≡ b
+some_same a b e = cc
+
+pub not_none : {A : Type 0} (x : Option A) (a : A) → x ≡ None → x ≡ Some a → ⊥
+not_none x a n e = let none : None ≡ Some a = sym n ∙ e in cc
+
+-- what is in a list of options has a place
+place_of : {A : Type 0} (a : A) (xs : List (Option A)) → IsOneOf (Some a) xs → (i : ℕ) × (get_or xs i None ≡ Some a)
+place_of a [] h = absurd h
+place_of a (x ∷ xs) (inl e) = (0, e)
+place_of a (x ∷ xs) (inr h) = let rest = place_of a xs h in (suc rest.0, rest.1)
+
+at_place : {A : Type 0} (a : A) (xs : List (Option A)) (i : ℕ) → get_or xs i None ≡ Some a → IsOneOf (Some a) xs
+at_place a [] i e = absurd (not_none None a refl e)
+at_place a (x ∷ xs) zero e = inl e
+at_place a (x ∷ xs) (suc i) e = inr (at_place a xs i e)
+
+place_in : {A : Type 0} (a : A) (xs : List A) → IsOneOf a xs → (i : ℕ) × (slice_get xs i ≡ Some a)
+place_in a [] h = absurd h
+place_in a (x ∷ xs) (inl e) = (0, ap Some e)
+place_in a (x ∷ xs) (inr h) = let rest = place_in a xs h in (suc rest.0, rest.1)
+
+one_of : {A : Type 0} (a : A) (xs : List A) (i : ℕ) → slice_get xs i ≡ Some a → IsOneOf a xs
+one_of a [] i e = absurd (not_none None a refl e)
+one_of a (x ∷ xs) zero e = inl (some_same x a e)
+one_of a (x ∷ xs) (suc i) e = inr (one_of a xs i e)
+
+pub inside : {A : Type 0} (a : A) (xs : List (Option A)) (i : ℕ) → get_or xs i None ≡ Some a → i < length xs
+inside a [] i e = absurd (not_none None a refl e)
+inside a (x ∷ xs) zero e = omega arith
+inside a (x ∷ xs) (suc i) e = let h = inside a xs i e in omega arith
+
+pub not_behind : {A : Type 0} (xs : List A) (i : ℕ) → slice_get xs i ≡ None → length xs ≤ i
+not_behind [] i e = omega arith
+not_behind (x ∷ xs) zero e = absurd (not_none (Some x) x e refl)
+not_behind (x ∷ xs) (suc i) e = let h = not_behind xs i e in omega arith
+
+no_some : {A : Type 0} (n i : ℕ) (a : A) → get_or (replicate n None) i None ≡ Some a → ⊥
+no_some zero i a e = not_none None a refl e
+no_some (suc n) zero a e = not_none None a refl e
+no_some (suc n) (suc i) a e = no_some n i a e
+
+-- ---- one choice more
+
+module _ {A B : Type 0} (of : B → A) (IsSo : B → Type 0) (choices : List A) where
+  pub none_yet : AreFoundOfFirst of IsSo choices (replicate 6 None) 0
+  none_yet =
+      record {
+        lengths = refl;
+        first = λ i b e. absurd (no_some 6 i b e);
+        placed = λ i b e. absurd (no_some 6 i b e);
+        so = λ i b e. absurd (no_some 6 i b e);
+        all = λ i b h e is. absurd (omega (arith, h));
+      }
+
+  -- nothing more is found where what is so of the next choice was found before
+  found_before : (found : List (Option B)) (n : ℕ) (c : A) → AreFoundOfFirst of IsSo choices found n → slice_get choices n ≡ Some c
+      → ((b : B) → of b ≡ c → IsSo b → (j : ℕ) × (get_or found j None ≡ Some b)) → AreFoundOfFirst of IsSo choices found (n + 1)
+  found_before found n c were at before =
+      record {
+        lengths = were.lengths;
+        first = λ i b e. let h = were.first i b e in omega arith;
+        placed = were.placed;
+        so = were.so;
+        all = λ i b h e is. ⊎_elim (λ below. were.all i b below e is)
+            (λ from.
+            let same : i ≡ n = omega (arith, h, from) in
+            before b (sym (some_same c (of b) (sym at ∙ ap (slice_get choices) (sym same) ∙ e))) is)
+            (cases_lt i n);
+      }
+
+  -- the same choice is listed before
+  pub same_again : (found : List (Option B)) (n : ℕ) (c : A) → AreFoundOfFirst of IsSo choices found n → slice_get choices n ≡ Some c
+      → IsBefore c choices n → AreFoundOfFirst of IsSo choices found (n + 1)
+  same_again found n c were at before =
+      found_before found n c were at (λ b e is. were.all before.0 b before.1 (before.2 ∙ ap Some (sym e)) is)
+
+  -- it isn't so
+  pub not_so : (found : List (Option B)) (n : ℕ) (c : A) → AreFoundOfFirst of IsSo choices found n → slice_get choices n ≡ Some c
+      → ((b : B) → of b ≡ c → IsSo b → ⊥) → AreFoundOfFirst of IsSo choices found (n + 1)
+  not_so found n c were at never = found_before found n c were at (λ b e is. absurd (never b e is))
+
+  -- what is so of the next choice, if anything is
+  pub one_more : (found : List (Option B)) (n : ℕ) (c : A) (y : Option B) → AreFoundOfFirst of IsSo choices found n → slice_get choices n ≡ Some c
+      → (IsBefore c choices n → ⊥)
+      → n < 6 → ((b : B) → (y ≡ Some b) ↔ ((of b ≡ c) × IsSo b)) → AreFoundOfFirst of IsSo choices (set found n y) (n + 1)
+  one_more found n c y were at apart room test =
+      record {
+        lengths = length-set found n y ∙ were.lengths;
+        first = λ i b e. either i b e (i < n + 1) (λ same is. omega (arith, same)) (λ other was. let h = were.first i b was in omega arith);
+        placed = λ i b e. either i b e (IsFirstPlace (of b) choices i)
+            (λ same is. first_here i b same is) (λ other was. were.placed i b was);
+        so = λ i b e. either i b e (IsSo b) (λ same is. ((test b).0 is).1) (λ other was. were.so i b was);
+        all = λ i b h e is. ⊎_elim
+            (λ below. let had = were.all i b below e is in (had.0, get_or-set_other found n had.0 y None (let less = were.first had.0 b had.1 in λ s. omega (arith, less, s)) ∙ had.1))
+            (λ from.
+            let same : i ≡ n = omega (arith, h, from) in
+            let of_c : of b ≡ c = sym (some_same c (of b) (sym at ∙ ap (slice_get choices) (sym same) ∙ e)) in
+            (n, get_or-set_same found n y None (omega (arith, were.lengths, room)) ∙ (test b).1 (of_c, is)))
+            (cases_lt i n);
+      }
+    where
+      either : (i : ℕ) (b : B) → get_or (set found n y) i None ≡ Some b → (T : Type 0) → (i ≡ n → y ≡ Some b → T)
+          → (i ≢ n → get_or found i None ≡ Some b → T) → T
+      either i b e T same other =
+          ⊎_elim (λ h. same h (sym (get_or-set_same found n y None (omega (arith, were.lengths, room))) ∙ ap (λ k. get_or (set found n y) k None) (sym h) ∙ e))
+          (λ h. other h (sym (get_or-set_other found n i y None h) ∙ e)) (cases_eq i n)
+
+      first_here : (i : ℕ) (b : B) → i ≡ n → y ≡ Some b → IsFirstPlace (of b) choices i
+      first_here i b same is = record {
+        here = ap (slice_get choices) same ∙ at ∙ ap Some (sym ((test b).0 is).0);
+        not_before = λ j below there. apart (j, omega (arith, below, same), there ∙ ap Some ((test b).0 is).0);
+      }
+
+  -- ---- all of them
+
+  pub those_found : (found : List (Option B)) (n : ℕ) → AreFoundOfFirst of IsSo choices found n → length choices ≤ n → AreThose (λ b. IsOneOf (of b) choices × IsSo b) found
+  those_found found n were end =
+      record {
+        only = λ b h. let at = place_of b found h in (one_of (of b) choices at.0 (were.placed at.0 b at.1).here, were.so at.0 b at.1);
+        all = λ b is.
+            let at = place_in (of b) choices is.0 in
+            let had = were.all at.0 b (let h = behind (of b) choices at.0 at.1 in omega (arith, h, end)) at.1 is.1 in
+            at_place b found had.0 had.1;
+      }
+
+-- ---- of a table
+
+-- no two have the same choice
+pub are_distinct : {K R : Type 0} (choices : List (Choice K R)) (found : List (Option (Made K R))) → ArePlaced choices found → AreDistinct found
+are_distinct choices found placed i j m n e f same =
+    ⊎_elim
+    (λ before. absurd ((placed j n f).not_before i before ((placed i m e).here ∙ ap Some same)))
+    (λ from. ⊎_elim
+    (λ after. absurd ((placed i m e).not_before j after ((placed j n f).here ∙ ap Some (sym same))))
+    (λ upto. omega (arith, from, upto))
+    (cases_lt j i))
+    (cases_lt i j)
+
+pub found_in_table : {K R : Type 0} (it : Recogniser K R) (name : R) (original : List ℕ) (o : ℕ) (others : List FieldBits) (linked : List ℕ) (found : List (Option (Made K R))) (n : ℕ)
+    → AreFoundOfFirst (λ (m : Made K R). m.choice) (IsMeant it original o others linked) (choices_at it name original o) found n
+    → length (choices_at it name original o) ≤ n → AreThose (IsFound it name original o others linked) found
+found_in_table {K} {R} it name original o others linked found n were end =
+    let those = those_found (λ (m : Made K R). m.choice) (IsMeant it original o others linked) (choices_at it name original o) found n were end in
+    record {
+      only = λ m h. let is = those.only m h in record { listed = is.0; matches = is.1.0; made = is.1.1 };
+      all = λ m is. those.all m (is.listed, (is.matches, is.made));
+    }
+
+-- what is chosen is one of those that were found
+pub chosen_found : {K R : Type 0} (it : Recogniser K R) (name : R) (original : List ℕ) (o : ℕ) (others : List FieldBits) (linked : List ℕ) (found : List (Option (Made K R)))
+    → ChosenMatches it
+    → AreThose (IsFound it name original o others linked) found
+    → (facts : LinkFacts) (m : Made K R) → IsChosen it name original o facts m.choice → IsMade it original o others linked m → IsOneOf (Some m) found
+chosen_found it name original o others linked found chosen_matches those facts m is made =
+    those.all m (record {
+      listed = first_is_listed (it.applies name original o facts) (it.entries name original o) (choice it.no_op name) m.choice is;
+      matches = chosen_matches name original o facts m.choice is;
+      made = made;
+    })

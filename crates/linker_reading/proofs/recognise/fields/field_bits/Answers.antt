@@ -1,0 +1,16 @@
+use Rattle.std.proofs.Common.{◌≡◌, ap, ◌∙◌, rules}
+use Rattle.std.specs.Prelude.{◌==◌}
+use Rattle.std.specs.Int.{bit_at}
+use Rattle.linker_reading.specs.Inner.Masks.{field_mask}
+use Rattle.linker_reading.proofs.FieldBits.{field_agrees}
+use Rattle.linker_reading.proofs.fields.field_bits.Goals as goal
+
+pub returns-in-ByteSize : goal.returns-in-ByteSize
+returns-in-ByteSize c w h =
+    let mask : c.number_bits.result ≡ field_mask c.args.row.now c.args.bytes.now = search rules in
+    ap (λ n. bit_at n w == 1) mask ∙ field_agrees c.args.row.now c.args.bytes.now w h
+
+pub returns-in-BitMasking : goal.returns-in-BitMasking
+returns-in-BitMasking c w h =
+    let mask : c.field_mask.result ≡ field_mask c.args.row.now c.args.bytes.now = search rules in
+    ap (λ n. bit_at n w == 1) mask ∙ field_agrees c.args.row.now c.args.bytes.now w h

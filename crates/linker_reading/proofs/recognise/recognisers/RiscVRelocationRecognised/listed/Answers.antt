@@ -1,0 +1,11 @@
+use Rattle.linker_reading.proofs.Tables.{listed_at, few_listed}
+use Rattle.linker_reading.specs.Recognisers.{riscv}
+use Rattle.linker_reading.proofs.recognisers.RiscVRelocationRecognised.listed.Goals as goal
+
+pub returns-clause-choice : goal.returns-clause-choice
+returns-clause-choice c =
+    listed_at riscv c.args.self c.args._section.now c.args._at _ _ c.entries.result.now c.entries.ensures.table c.args.index c.choice_at.result c.choice_at.ensures
+
+pub returns-clause-few : goal.returns-clause-few
+returns-clause-few c =
+    few_listed riscv c.args.self c.args._section.now c.args._at _ _ c.entries.result.now c.entries.ensures.table c.entries.ensures.few

@@ -1,0 +1,10 @@
+pub mod Fields
+pub mod FieldsOfBytes
+pub mod FoundByCode
+pub mod Inner
+pub mod Reading
+pub mod Recognised
+pub mod Recognisers
+pub mod Solving
+pub mod WrittenFields
+pub mod WrittenRows

@@ -1,0 +1,10 @@
+//! What a linker made of a relocation, by the bytes before and after: which rewrite, which
+//! relocation it then wrote, and what stands in its field.
+
+pub mod architecture;
+mod engine;
+pub mod fields;
+mod recognisers;
+
+pub use self::engine::{CANDIDATES, MAX_WINDOW, Made, Recognised, recognise, recognise_chosen};
+pub use self::recognisers::written_choices_are_left;

@@ -1,0 +1,108 @@
+//! What a linker made of a relocation, by its architecture and its code.
+
+ghost use Rattle.std.specs.Prelude.{◌≡◌, ◌≤◌, length, map};
+ghost use Rattle.linker_reading.specs.FoundByCode.{by_code, AreFound, IsFoundChosen};
+ghost use Rattle.linker_utils.specs.Architectures.{of_some};
+
+use crate::recognise::engine::{self, CANDIDATES, Made, Recognised};
+use crate::recognise::fields::FieldBits;
+use linker_utils::aarch64::AArch64Relocation;
+use linker_utils::architecture::Relaxation;
+use linker_utils::elf::{Architecture, Choice, LinkFacts};
+use linker_utils::loongarch64::LoongArch64Relocation;
+use linker_utils::ppc64::Ppc64Relocation;
+use linker_utils::riscv64::RiscVRelocation;
+use linker_utils::x86_64::X86_64Relocation;
+
+/// What is found of the relocation's name that an architecture has for a code.
+macro_rules! of_name {
+    ($architecture:expr, $code:expr, $name:ident => $found:expr) => {
+        match $architecture {
+            Architecture::AArch64 => { let $name = AArch64Relocation::from_elf($code); $found }
+            Architecture::RiscV => { let $name = RiscVRelocation::from_elf($code); $found }
+            Architecture::LoongArch64 => { let $name = LoongArch64Relocation::from_elf($code); $found }
+            Architecture::Ppc64 => { let $name = Ppc64Relocation::from_elf($code); $found }
+            Architecture::X86_64 => { let $name = X86_64Relocation::from_elf($code); $found }
+        }
+    };
+}
+
+/// The same with the rewrite as one of all architectures', and the relocation's code.
+fn coded<N: Recognised>(found: Option<Made<N::Kind, N>>) -> Option<Made<Relaxation, u32>>
+    ensures { result ≡ of_some (by_code N.how) found }
+{
+    let made = found?;
+    Some(Made {
+        choice: Choice {
+            kind: N::relaxation(made.choice.kind),
+            relocation: made.choice.relocation.code(),
+        },
+        offset: made.offset,
+        value: made.value,
+    })
+}
+
+/// The same of each.
+fn all_by_code<N: Recognised>(
+    found: [Option<Made<N::Kind, N>>; CANDIDATES],
+) -> [Option<Made<Relaxation, u32>>; CANDIDATES]
+    requires { length found ≡ 6 }
+    ensures { result ≡ map (of_some (by_code N.how)) found }
+{
+    let [a, b, c, d, e, f] = found;
+    [coded(a), coded(b), coded(c), coded(d), coded(e), coded(f)]
+}
+
+/// Which rewrites, and relocations after them, a linker may have made at the relocation with a
+/// code, `r_type` in ELF files, as `recognise` of this crate says.
+///
+/// ```
+/// use linker_reading::recognise::architecture::recognise;
+/// use linker_utils::architecture::Relaxation;
+/// use linker_utils::elf::Architecture;
+/// use linker_utils::x86_64::RelaxationKind;
+///
+/// // mov x@GOTPCREL(%rip), %rdi, with R_X86_64_REX_GOTPCRELX, became lea x(%rip), %rdi
+/// let original = [0x48, 0x8b, 0x3d, 0, 0, 0, 0];
+/// let linked = [0x48, 0x8d, 0x3d, 0x10, 0x20, 0, 0];
+/// let found = recognise(Architecture::X86_64, 42, &original, 3, &[], &linked);
+/// let made = found.into_iter().flatten().next().unwrap();
+/// assert_eq!(made.choice.kind, Relaxation::X86_64(RelaxationKind::MovIndirectToLea));
+/// assert_eq!(Architecture::X86_64.name(made.choice.relocation), Some("R_X86_64_PC32"));
+/// assert_eq!(made.value.unwrap().number(), Some(0x2010));
+/// ```
+pub fn recognise(
+    architecture: Architecture,
+    code: u32,
+    original: &[u8],
+    offset: u64,
+    others: &[FieldBits],
+    linked: &[u8],
+) -> [Option<Made<Relaxation, u32>>; CANDIDATES]
+    requires { length original.now ≤ 64 }
+    ensures found { AreFound architecture code original.now offset others.now linked.now result }
+{
+    of_name!(architecture, code, name => {
+        all_by_code(engine::recognise(name, original, offset, others, linked))
+    })
+}
+
+/// The choice that `choose` makes by what the linker knows, if it leaves the linked bytes, as
+/// `recognise_chosen` of this crate says.
+pub fn recognise_chosen(
+    architecture: Architecture,
+    code: u32,
+    original: &[u8],
+    offset: u64,
+    others: &[FieldBits],
+    linked: &[u8],
+    facts: &LinkFacts,
+) -> Option<Made<Relaxation, u32>>
+    requires { length original.now ≤ 64 }
+    ensures found { IsFoundChosen architecture code original.now offset others.now linked.now
+        facts.now result }
+{
+    of_name!(architecture, code, name => {
+        coded(engine::recognise_chosen(name, original, offset, others, linked, facts))
+    })
+}

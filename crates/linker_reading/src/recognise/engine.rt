@@ -1,0 +1,311 @@
+//! Which choices of a table leave the linked bytes, and what then stands in the field.
+
+ghost use Rattle.std.specs.Prelude.{◌≡◌, ℕ, ◌-◌, ◌^◌, ◌≤◌, ◌↔◌, IsTrue, IfSome, IfNone};
+ghost use Rattle.std.specs.Prelude.{length, min, slice_get, Option, Some};
+ghost use Rattle.linker_base.specs.declared.rewrite.DeletedBytes.{DeletedBytes};
+ghost use Rattle.linker_elf.specs.Choices.{choice};
+ghost use Rattle.linker_elf.specs.ElfNames.{code_of};
+ghost use Rattle.linker_elf.specs.declared.elf.choice.Choice.{Choice};
+ghost use Rattle.linker_elf.specs.declared.elf.choice.LinkFacts.{LinkFacts};
+ghost use Rattle.linker_reading.specs.FieldsOfBytes.{is_in, is_in_field};
+ghost use Rattle.linker_reading.specs.Inner.Found.{IsMeant, IsBefore, choices_in};
+ghost use Rattle.linker_reading.specs.Inner.Laws.{AreLawsOf};
+ghost use Rattle.linker_reading.specs.Recognised.{HasField, AreLeft, deleted_start, deleted_count};
+ghost use Rattle.linker_reading.specs.Recognised.{linked_offset, value_at, Recogniser, choices_at};
+ghost use Rattle.linker_reading.specs.Recognised.{IsChosen, IsMade, IsFound, IsOneOf, AreThose};
+ghost use Rattle.linker_reading.specs.Recognised.{ArePlaced, AreDistinct};
+
+use crate::fields::FieldValue;
+use crate::reading::read;
+use crate::recognise::fields::{FieldBits, are_same_but};
+use linker_elf::elf::choice_table::{ChoiceEntry, RelocationName};
+use linker_elf::elf::{InstructionRewrite, Row};
+use linker_utils::architecture::Relaxation;
+use linker_utils::elf::{Choice, LinkFacts};
+use linker_utils::riscv64::DeletedBytes;
+
+/// How many choices a relocation may have.
+pub const CANDIDATES: usize = 6;
+
+/// How long the windows of original bytes may be.
+pub const MAX_WINDOW: usize = 64;
+
+/// A choice that leaves the linked bytes, and what stands in the field of its relocation there.
+#[derive(Debug, Clone, Copy, PartialEq, Eq)]
+pub struct Made<K, R> {
+    /// The rewrite, and the relocation after it.
+    pub choice: Choice<K, R>,
+    /// The field's offset in the linked bytes: the relocation's after the rewrite, less the deleted
+    /// bytes before it.
+    pub offset: u64,
+    /// What is known of the relocation's value from the linked bytes at the offset, as `read` of
+    /// `linker_reading` returns it. None of a relocation without a row, and of one whose field isn't
+    /// its value.
+    pub value: Option<FieldValue>,
+}
+
+/// The bits of a relocation's field at an offset, if its window is there. A relocation without a
+/// row has no bits.
+#[tactic(auto, using(crate::proofs::Same::in_none))]
+fn field_at(row: &Option<Row>, at: u64, bytes: &[u8]) -> Option<FieldBits>
+    ensures some { IfSome result (λ field. HasField row.now at bytes.now
+        × ((i j : ℕ) → is_in field i j ≡ is_in_field row.now at bytes.now i j)) }
+    ensures none { IfNone result (HasField row.now at bytes.now → ⊥) }
+{
+    match row {
+        Some(row) => FieldBits::of_row(row, at, bytes),
+        None => Some(FieldBits { offset: 0, bits: 0 }),
+    }
+}
+
+/// Where the deleted bytes begin, at most 2^64 - 1, and how many they are.
+#[inline(always)]
+fn deleted_at(deleted: Option<DeletedBytes>, offset: u64) -> (u64, u64)
+    ensures start { result.0 ≡ min (deleted_start deleted offset) (2 ^ 64 - 1) }
+    ensures count { result.1 ≡ deleted_count deleted }
+{
+    match deleted {
+        Some(bytes) => (offset.saturating_add(bytes.start), u64::from(bytes.count)),
+        None => (0, 0),
+    }
+}
+
+/// Whether the linked bytes are those after a rewrite, without the deleted ones, but for the field
+/// of a row and some other bits.
+fn are_left(
+    after: &[u8],
+    at: u64,
+    row: &Option<Row>,
+    deleted: Option<DeletedBytes>,
+    offset: u64,
+    others: &[FieldBits],
+    linked: &[u8],
+) -> bool
+    ensures { IsTrue result ↔ AreLeft after.now at row.now deleted offset others.now linked.now }
+{
+    let (start, count) = deleted_at(deleted, offset);
+    let linked_len = linked.len() as u64;
+    if linked_len < start || linked_len + count != after.len() as u64 {
+        return false;
+    }
+    match field_at(row, at, after) {
+        Some(field) => are_same_but(&field, others, start, count, after, linked),
+        None => false,
+    }
+}
+
+/// The offset in the linked bytes of what is at an offset after a rewrite.
+#[inline(always)]
+fn linked_offset(deleted: Option<DeletedBytes>, offset: u64, at: u64) -> u64
+    ensures { result ≡ linked_offset deleted offset at }
+{
+    let (start, count) = deleted_at(deleted, offset);
+    at - count.min(at.saturating_sub(start))
+}
+
+/// What stands in the field of a relocation at an offset of the linked bytes.
+fn value_at(row: &Option<Row>, at: u64, linked: &[u8]) -> Option<FieldValue>
+    ensures { result ≡ value_at row.now at linked.now }
+{
+    let Some(row) = row else {
+        return None;
+    };
+    let start = at.min(linked.len() as u64);
+    read(row, &linked[start as usize..])
+}
+
+/// A relocation's name, with the table of its choices.
+pub trait Recognised: RelocationName + PartialEq {
+    /// The rewrites.
+    type Kind: Copy + PartialEq;
+
+    // the tables and relocations
+    ghost how: { Recogniser Self.Kind Self };
+
+    /// The code, `r_type` in ELF files.
+    fn code(self) -> u32
+        ensures { result ≡ code_of (how.elf_name self) };
+
+    /// A rewrite as one of all architectures'.
+    fn relaxation(kind: Self::Kind) -> Relaxation
+        ensures { result ≡ how.relaxation kind };
+
+    /// The choice by what a linker knows.
+    fn choose(self, original: &[u8], offset: u64, facts: &LinkFacts) -> Choice<Self::Kind, Self>
+        ensures { IsChosen Self.how self original.now offset facts.now result };
+
+    /// The choice with an index in its table, behind which is the one that changes nothing.
+    fn listed(self, section: &[u8], at: u64, index: usize) -> Option<Choice<Self::Kind, Self>>
+        ensures choice { result ≡ slice_get (choices_at Self.how self section.now at) index }
+        ensures few { length (choices_at Self.how self section.now at) ≤ 6 };
+
+    ghost laws: { AreLawsOf Self.how Self.row_of Self.Kind.eq Self.eq };
+}
+
+/// The choice with an index: that of an entry, and behind these the one that changes nothing.
+#[inline(always)]
+pub(crate) fn choice_at<O, K: Copy, R: Copy>(
+    entries: &'static [ChoiceEntry<O, K, R>],
+    kind: K,
+    relocation: R,
+    index: usize,
+) -> Option<Choice<K, R>>
+    ensures { result ≡ slice_get (choices_in entries.now (choice kind relocation)) index }
+{
+    if index < entries.len() {
+        let ChoiceEntry {
+            kind,
+            relocation,
+            ..
+        } = entries[index];
+        Some(Choice { kind, relocation })
+    } else if index == entries.len() {
+        Some(Choice { kind, relocation })
+    } else {
+        None
+    }
+}
+
+/// A choice with what stands in its field, if its rewrite is meant for what is at the offset and it
+/// leaves the linked bytes, as `recognise` says.
+fn recognise_one<N: Recognised>(
+    choice: Choice<N::Kind, N>,
+    original: &[u8],
+    offset: u64,
+    others: &[FieldBits],
+    linked: &[u8],
+) -> Option<Made<N::Kind, N>>
+    requires { length original.now ≤ 64 }
+    ensures { (m : Made N.Kind N) → (result ≡ Some m)
+        ↔ ((m.choice ≡ choice) × IsMeant N.how original.now offset others.now linked.now m) }
+{
+    let kind = N::relaxation(choice.kind);
+    if !kind.matches(original, offset) {
+        return None;
+    }
+    let mut buffer = [0u8; MAX_WINDOW];
+    let after = &mut buffer[..original.len()];
+    after.copy_from_slice(original);
+    let (mut at, mut addend) = (offset, 0);
+    kind.apply(after, &mut at, &mut addend);
+    let row = choice.relocation.find_row();
+    let deleted = kind.deleted();
+    if !are_left(after, at, &row, deleted, offset, others, linked) {
+        return None;
+    }
+    let field_offset = linked_offset(deleted, offset, at);
+    Some(Made {
+        choice,
+        offset: field_offset,
+        value: value_at(&row, field_offset, linked),
+    })
+}
+
+/// Whether a choice is listed before an index.
+fn is_listed_before<N: Recognised>(
+    choice: &Choice<N::Kind, N>,
+    index: usize,
+    name: N,
+    section: &[u8],
+    at: u64,
+) -> bool
+    ensures { IsTrue result ↔ IsBefore choice.now (choices_at N.how name section.now at) index }
+{
+    for earlier in 0..index {
+        if name.listed(section, at, earlier) == Some(*choice) {
+            return true;
+        }
+    }
+    false
+}
+
+/// Which rewrites, and relocations after them, a linker may have made at the relocation with a
+/// name, whose offset in the original bytes is given: those after which the original bytes differ
+/// from the linked ones only in the field of the relocation after it and in `others`. They have
+/// their places in the table of `choose`, behind which is `NoOp` and the same name. A choice that is
+/// listed twice has the first one, so that none is returned twice.
+///
+/// - Both windows may begin before the relocation, at the same place. The original one has at most
+///   `MAX_WINDOW` bytes. After a rewrite that deletes bytes the linked window is shorter by these, and
+///   empty if they are all of the original one.
+/// - `others` are bits of the original window that other relocations write, as
+///   `FieldBits::of_row` gives them, among them those of a relocation that the choice skips. Of an
+///   instruction that another relocation rewrites or deletes they are all bits. Where a skipped
+///   relocation isn't named, its field is compared with what the rewrite left, since it isn't
+///   applied.
+/// - Nothing needs to be known of the symbol. So several choices are returned where their bytes are
+///   the same, as where only the relocation changes. Each comes with the offset of its field in the
+///   linked bytes and with what `read` of `linker_reading` returns there.
+/// - A choice is returned only if its rewrite is meant for what is at the offset, as `matches`
+///   says, and the field is in the window. Each that `choose` makes, whatever the linker knows, is
+///   one of them if it leaves the linked bytes so.
+///
+/// ```
+/// use linker_reading::recognise::recognise;
+/// use linker_utils::riscv64::RiscVRelocation;
+/// use linker_utils::x86_64::{RelaxationKind, X86_64Relocation};
+///
+/// // mov x@GOTPCREL(%rip), %rdi became lea x(%rip), %rdi
+/// let original = [0x48, 0x8b, 0x3d, 0, 0, 0, 0];
+/// let linked = [0x48, 0x8d, 0x3d, 0x10, 0x20, 0, 0];
+/// let name = X86_64Relocation::R_X86_64_REX_GOTPCRELX;
+/// let mut choices = recognise(name, &original, 3, &[], &linked).into_iter().flatten();
+/// let made = choices.next().unwrap();
+/// assert_eq!(made.choice.kind, RelaxationKind::MovIndirectToLea);
+/// assert_eq!(made.value.unwrap().number(), Some(0x2010));
+/// assert!(choices.next().is_none());
+///
+/// // `auipc ra, 0` and `jalr ra, 0(ra)` became `jal ra, 256`
+/// let original = [0x97, 0, 0, 0, 0xe7, 0x80, 0, 0];
+/// let linked = [0xef, 0, 0, 0x10];
+/// let name = RiscVRelocation::R_RISCV_CALL_PLT;
+/// let mut choices = recognise(name, &original, 0, &[], &linked).into_iter().flatten();
+/// assert_eq!(choices.next().unwrap().choice.relocation, RiscVRelocation::R_RISCV_JAL);
+/// ```
+pub fn recognise<N: Recognised>(
+    name: N,
+    original: &[u8],
+    offset: u64,
+    others: &[FieldBits],
+    linked: &[u8],
+) -> [Option<Made<N::Kind, N>>; CANDIDATES]
+    requires { length original.now ≤ 64 }
+    ensures found { AreThose (IsFound N.how name original.now offset others.now linked.now)
+        result }
+    ensures any { (facts : LinkFacts) (m : Made N.Kind N)
+        → IsChosen N.how name original.now offset facts m.choice
+        → IsMade N.how original.now offset others.now linked.now m → IsOneOf (Some m) result }
+    ensures placed { ArePlaced (choices_at N.how name original.now offset) result }
+    ensures once { AreDistinct result }
+{
+    let mut found = [None; CANDIDATES];
+    for index in 0..CANDIDATES {
+        let Some(choice) = name.listed(original, offset, index) else {
+            break;
+        };
+        let made = recognise_one(choice, original, offset, others, linked);
+        if made.is_some() && !is_listed_before(&choice, index, name, original, offset) {
+            found[index] = made;
+        }
+    }
+    found
+}
+
+/// The choice that `choose` makes by what the linker knows, if it leaves the linked bytes, as
+/// `recognise` says.
+pub fn recognise_chosen<N: Recognised>(
+    name: N,
+    original: &[u8],
+    offset: u64,
+    others: &[FieldBits],
+    linked: &[u8],
+    facts: &LinkFacts,
+) -> Option<Made<N::Kind, N>>
+    requires { length original.now ≤ 64 }
+    ensures { (m : Made N.Kind N) → (result ≡ Some m)
+        ↔ (IsChosen N.how name original.now offset facts.now m.choice
+        × IsMade N.how original.now offset others.now linked.now m) }
+{
+    let chosen = name.choose(original, offset, facts);
+    recognise_one(chosen, original, offset, others, linked)
+}

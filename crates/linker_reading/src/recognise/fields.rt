@@ -1,0 +1,195 @@
+//! The bits of a relocation's field, and bytes that differ in such bits only.
+
+ghost use Rattle.std.specs.Prelude.{◌≡◌, ◌<◌, ◌≤◌, ◌+◌, ◌^◌, ◌==◌, ◌||◌, ◌↔◌, ℕ, IsTrue, IfSome};
+ghost use Rattle.std.specs.Prelude.{IfNone, length};
+ghost use Rattle.std.specs.Int.{bit_at};
+ghost use Rattle.linker_elf.specs.Relocate.{window_len};
+ghost use Rattle.linker_elf.specs.declared.elf.RelocationKindInfo.{RelocationKindInfo};
+ghost use Rattle.linker_reading.specs.FieldsOfBytes.{is_field_bit, is_in, is_in_one, is_in_row, IsSameBut};
+ghost use Rattle.linker_reading.specs.FieldsOfBytes.{AreSameBut, AreSameButFor, kept_index};
+ghost use Rattle.linker_reading.specs.Inner.Masks.{bytes_mask, number_mask, field_mask};
+ghost use Rattle.linker_reading.specs.WrittenRows.{ChangesField};
+
+use linker_elf::elf::{RelocationKind, RelocationSize, Row};
+
+/// Some of the bits of the eight bytes from an offset of a window on.
+#[repr(C)]
+#[derive(Debug, Clone, Copy, PartialEq, Eq)]
+pub struct FieldBits {
+    /// The offset in bytes.
+    pub offset: u64,
+    /// Bit 0 is the lowest of the byte at the offset, bit 8 that of the next byte.
+    pub bits: u64,
+}
+
+/// The lowest bits of a number of so many bytes, of at most 8.
+#[inline(always)]
+fn bits_of_bytes(len: usize) -> u64
+    ensures { result ≡ bytes_mask len }
+{
+    if len < 8 {
+        (1 << (8 * len)) - 1
+    } else {
+        u64::MAX
+    }
+}
+
+/// The bits that a write of a row may change in the number that its whole bytes make.
+#[inline(always)]
+fn number_bits(kind: RelocationKind, len: usize) -> u64
+    ensures { result ≡ number_mask kind len }
+{
+    let bits = bits_of_bytes(len);
+    match kind {
+        RelocationKind::AbsoluteSetWord6
+        | RelocationKind::AbsoluteAdditionWord6
+        | RelocationKind::AbsoluteSubtractionWord6 => bits & 0x3f,
+        _ => bits,
+    }
+}
+
+/// Which bits of the bytes that `bytes` begins with a write of a row may change, bit 0 the lowest
+/// of the first byte. Of an instruction these are the bits of its form, and for `Movnz` those of
+/// the opcode that it sets, except at a MOVK; at a `jirl` at `R_LARCH_PCALA_LO12` they are all 16 of
+/// its immediate. All other bits are the same after each write. Requires the row's
+/// window.
+///
+/// ```
+/// use linker_reading::recognise::fields::field_bits;
+/// use linker_utils::x86_64::{X86_64Relocation, row};
+///
+/// let row = row(X86_64Relocation::R_X86_64_PLT32).unwrap();
+/// assert_eq!(field_bits(&row, &[0; 4]), 0xffff_ffff);
+/// ```
+#[tactic(auto, using(crate::proofs::FieldBits::field_agrees))]
+pub fn field_bits(row: &Row, bytes: &[u8]) -> u64
+    requires { window_len row.now ≤ length bytes.now }
+    ensures { (w : ℕ) → w < 64 → (bit_at result w == 1) ≡ is_field_bit row.now bytes.now w }
+{
+    let info = row.info();
+    match info.size {
+        RelocationSize::ByteSize(len) => number_bits(info.kind, len as usize),
+        RelocationSize::BitMasking { range, insn } => {
+            let placed = insn.placed_bits(info.kind, range, bytes);
+            insn.written_at(range, bytes).field_mask(placed, bytes)
+        }
+    }
+}
+
+impl FieldBits {
+    /// The bits that a write of a row at an offset of a window may change. None if the row's window
+    /// isn't there.
+    ///
+    /// ```
+    /// use linker_reading::recognise::fields::FieldBits;
+    /// use linker_utils::riscv64::{RiscVRelocation, row};
+    ///
+    /// // the immediate of a `jal` after two bytes
+    /// let row = row(RiscVRelocation::R_RISCV_JAL).unwrap();
+    /// let jal = [0x01, 0x00, 0xef, 0x00, 0x00, 0x00];
+    /// let field = FieldBits::of_row(&row, 2, &jal).unwrap();
+    /// assert_eq!((field.offset, field.bits), (2, 0xffff_f000));
+    /// ```
+    #[tactic(auto, using(crate::proofs::Same::in_row))]
+    pub fn of_row(row: &Row, offset: u64, window: &[u8]) -> Option<FieldBits>
+        ensures some { IfSome result (λ field. (offset + window_len row.now ≤ length window.now)
+            × ((i j : ℕ) → is_in field i j ≡ is_in_row row.now offset window.now i j)) }
+        ensures none { IfNone result (length window.now < offset + window_len row.now) }
+    {
+        let row_window = row.window();
+        if window.len() < row_window || offset > (window.len() - row_window) as u64 {
+            return None;
+        }
+        Some(FieldBits {
+            offset,
+            bits: field_bits(row, &window[offset as usize..]),
+        })
+    }
+
+    /// Which bits of a byte of the window are these, as the lowest eight bits. The byte counts from
+    /// the window's first one.
+    #[inline(always)]
+    fn of_byte(&self, byte: u64) -> u64
+        ensures { (j : ℕ) → j < 8 → (bit_at result j == 1) ≡ is_in self.now byte j }
+    {
+        if byte < self.offset || byte - self.offset >= 8 {
+            return 0;
+        }
+        self.bits >> (8 * (byte - self.offset))
+    }
+}
+
+/// Whether two bytes that are at the same place of a window differ in some bits only.
+#[inline(always)]
+fn is_same_but(field: &FieldBits, others: &[FieldBits], byte: u64, a: u8, b: u8) -> bool
+    ensures { IsTrue result
+        ↔ IsSameBut (λ j. is_in field.now byte j || is_in_one others.now byte j) a b }
+{
+    let mut ignored = field.of_byte(byte);
+    for other in others {
+        ignored |= other.of_byte(byte);
+    }
+    u64::from(a ^ b) & !ignored == 0
+}
+
+/// The index of a byte before `count` bytes from `start` on were deleted.
+#[inline(always)]
+fn kept_index(start: u64, count: u64, index: u64) -> u64
+    requires { index + count < 2 ^ 64 }
+    ensures { result ≡ kept_index start count index }
+{
+    if index < start { index } else { index + count }
+}
+
+/// Whether a window differs from another, of which `count` bytes from `start` on are deleted, in
+/// some bits only.
+pub(crate) fn are_same_but(
+    field: &FieldBits,
+    others: &[FieldBits],
+    start: u64,
+    count: u64,
+    a: &[u8],
+    b: &[u8],
+) -> bool
+    requires lengths { length b.now + count ≡ length a.now }
+    ensures { IsTrue result
+        ↔ AreSameBut (is_in field.now) others.now start count a.now b.now }
+{
+    for (index, byte) in b.iter().enumerate() {
+        let at = kept_index(start, count, index as u64);
+        if !is_same_but(field, others, at, a[at as usize], *byte) {
+            return false;
+        }
+    }
+    true
+}
+
+/// Whether two windows of the same length differ in the field of a row only, which is at their
+/// front. False if the lengths differ or the row's window isn't in them.
+///
+/// ```
+/// use linker_reading::recognise::fields::same_but_for;
+/// use linker_utils::x86_64::{X86_64Relocation, row};
+///
+/// let row = row(X86_64Relocation::R_X86_64_PLT32).unwrap();
+/// assert!(same_but_for(&row, &[0, 0, 0, 0, 0x90], &[1, 2, 3, 4, 0x90]));
+/// assert!(!same_but_for(&row, &[0, 0, 0, 0, 0x90], &[1, 2, 3, 4, 0xcc]));
+/// ```
+pub fn same_but_for(row: &Row, a: &[u8], b: &[u8]) -> bool
+    ensures { IsTrue result ↔ AreSameButFor row.now a.now b.now }
+{
+    if a.len() != b.len() || a.len() < row.window() {
+        return false;
+    }
+    let field = FieldBits {
+        offset: 0,
+        bits: field_bits(row, a),
+    };
+    are_same_but(&field, &[], 0, 0, a, b)
+}
+
+/// A write of the value of any row to its window changes bits of the row's field only, which are
+/// those that `field_bits` returns.
+pub fn writes_change_fields()
+    ensures { (row : RelocationKindInfo) → ChangesField row }
+{}

@@ -1,5 +1,0 @@
-use Rattle.linker_recognise.proofs.WrittenRows.{row_changes_field}
-use Rattle.linker_recognise.proofs.fields.writes_change_fields.Goals as goal
-
-pub returns : goal.returns
-returns c = row_changes_field

@@ -1,6 +1,0 @@
-use Rattle.std.proofs.Common.{◌≡◌}
-use Rattle.linker_relax.specs.Deleting.{deletions_before}
-use Rattle.linker_relax.proofs.relaxation.deletions.Given as goal
-
-abbrev pub invariant-loop-index : goal.invariant-loop-index
-invariant-loop-index l = l.raw.items ≡ deletions_before l.items l.kept l.index

@@ -1,7 +1,0 @@
-use Rattle.std.proofs.Common.{◌<◌, ℕ}
-use Rattle.linker_relax.specs.declared.relaxation.faults.Fault.{Fault}
-use Rattle.linker_relax.specs.Faults.{OwnMeets}
-use Rattle.linker_relax.proofs.relaxation.faults.first_own_fault.Given as goal
-
-abbrev pub invariant-loop-index : goal.invariant-loop-index
-invariant-loop-index l = (k : ℕ) → k < l.index → (fault : Fault) → OwnMeets l.start l.items k fault

@@ -1,9 +1,0 @@
-use Rattle.std.proofs.Common.{◌≡◌, ◌<◌, ℕ, get_or}
-use Rattle.linker_relax.specs.Relaxing.{choice_of, freed_before}
-use Rattle.linker_relax.proofs.relaxation.passes.lay_out.Given as goal
-
-abbrev pub invariant-loop-index : goal.invariant-loop-index
-invariant-loop-index l = record {
-  before : l.before ≡ freed_before l.start l.items (choice_of l.shapes) l.index;
-  written : (k : ℕ) → k < l.index → get_or l.freed k 0 ≡ freed_before l.start l.items (choice_of l.shapes) k;
-}

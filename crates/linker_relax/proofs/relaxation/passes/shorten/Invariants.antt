@@ -1,5 +1,0 @@
-use Rattle.std.proofs.Common.{◌≡◌, ◌<◌, ℕ, get_or}
-use Rattle.linker_relax.proofs.relaxation.passes.shorten.Given as goal
-
-abbrev pub invariant-loop-shape : goal.invariant-loop-shape
-invariant-loop-shape l = (k : ℕ) → k < l.shape-index → get_or l.shapes k 0 ≡ 0

@@ -1,7 +1,0 @@
-use Rattle.std.proofs.Common.{◌-◌, ◌↔◌}
-use Rattle.linker_relax.specs.Choosing.{IsAlwaysMultiple}
-use Rattle.linker_relax.proofs.relaxation.validity.is_always_multiple.Given as goal
-
--- what is left to be told is what all items tell
-abbrev pub invariant-loop-behind : goal.invariant-loop-behind
-invariant-loop-behind l = IsAlwaysMultiple l.number l.start l.offset l.items (l.index - l.behind) ↔ IsAlwaysMultiple l.number l.start l.offset l.items l.index

@@ -1,7 +1,0 @@
-use Rattle.std.proofs.Common.{◌↔◌, IsTrue, subst, sym}
-use Rattle.std.specs.Int.{IsPowerOfTwo}
-use Rattle.linker_relax.proofs.Powers.{power_test}
-use Rattle.linker_relax.proofs.relaxation.validity.is_power_of_two.Goals as goal
-
-pub returns : goal.returns
-returns c = subst (λ test. IsTrue test ↔ IsPowerOfTwo c.args.number) (sym c.is_power_of_two.ensures) (power_test c.args.number)

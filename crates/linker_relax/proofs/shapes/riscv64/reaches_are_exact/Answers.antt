@@ -1,5 +1,0 @@
-use Rattle.linker_relax.proofs.Reaches.{riscv_shapes}
-use Rattle.linker_relax.proofs.shapes.riscv64.reaches_are_exact.Goals as goal
-
-pub returns : goal.returns
-returns c = riscv_shapes

@@ -1,2 +1,0 @@
-pub mod Relaxing
-pub mod Validity

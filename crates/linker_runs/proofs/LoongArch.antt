@@ -1,0 +1,191 @@
+-- What calls and addresses of LoongArch become.
+use Rattle.std.proofs.Common.{◌≡◌, ℕ, ◌+◌, ◌*◌, ◌^◌, ◌<◌, List, length, take, drop, refl, subst, ◌∙◌, ap, arith, inl, inr, ℤ, pos, ◌+ℤ◌, Bool, true, false, int_lt, Some, eqb, not, ◌↔◌, ⊎_elim}
+use Rattle.std.specs.Prelude.{IsSomeAnd, ◌*ℤ◌, ◌⊎◌, IsTrue}
+use Rattle.std.specs.Int.{w32, w64, from_le_bytes, to_le_bytes}
+use Rattle.std.proofs.lemmas.Bool.{agree_below}
+use Rattle.std.proofs.lemmas.Nat.{from_le_bytes-to_le_bytes_4}
+use Rattle.linker_base.specs.Bits.{field}
+use Rattle.linker_base.specs.Form.{window_of, is_placed}
+use Rattle.linker_base.specs.declared.bit_misc.BitRange.{BitRange}
+use Rattle.linker_elf.specs.Elf.{IsWithin, bit_bounds}
+use Rattle.linker_elf.specs.Relocate.{InstructionWritten, bits_taken, places_cleared, is_jirl}
+use Rattle.linker_riscv64.proofs.Jumps.{word_of_front}
+use Rattle.linker_elf.specs.LoongArch.{loongarch_form, reach}
+use Rattle.linker_elf.specs.declared.elf.RelocationInstruction.TheVariants.{LoongArch64}
+use Rattle.linker_elf.specs.declared.elf.Sign.TheVariants.{Signed}
+use Rattle.linker_elf.specs.declared.loongarch64.forms.LoongArch64Instruction.{LoongArch64Instruction}
+use Rattle.linker_elf.specs.declared.loongarch64.forms.LoongArch64Instruction.TheVariants.{Shift5, Branch26}
+use Rattle.linker_elf.specs.Value.{sum_64}
+use Rattle.relocation_laws.specs.LoongArchLaws.{Branches, Calls, RelativeAddresses, page_and_low}
+use Rattle.relocation_laws.specs.Schemes.{IsAddress, AreAddresses}
+use Rattle.linker_runs.specs.Sites.{operands_of, IsRelocated, IsOutOfReach}
+use Rattle.linker_runs.specs.LoongArchSites.{IsCall36At, IsPcalaAt, IsSiteAt, destination, branch_template, pcaddi_template, call_template, IsBranch, IsPcaddi, IsFarCall, IsFarAddress, LoongArchBecomes, LoongArchAccepts, LoongArchIsFar, LoongArchCause}
+use Rattle.linker_runs.specs.LoongArchSites.{jump, call, far_call, address, far_address, short_call, long_call, short_address, long_address, far_from_branch, far_from_call, far_from_pcaddi, far_from_pair}
+use Rattle.linker_runs.specs.Origins.{HasLoongArchShapes}
+use Rattle.linker_runs.specs.declared.relaxation.Shapes.{Shapes}
+use Rattle.linker_runs.specs.declared.shapes.loongarch64.TheConstants.{CALL36, PCALA}
+use Rattle.linker_runs.specs.Inner.LoongArch.{IsKindAt, short_template, AreRelocated, IsLongOf, IsLongOutOfReach}
+use Rattle.linker_runs.specs.declared.packing.loongarch64.Kind.{Kind}
+use Rattle.linker_runs.specs.declared.packing.loongarch64.Kind.TheVariants.{Call, Address}
+use Rattle.linker_runs.specs.declared.packing.ItemError.{ItemError}
+use Rattle.linker_runs.specs.declared.packing.ItemError.TheVariants.{Overlaps, OutOfSection, DeletedOutside, NotItsFirstBytes, NotItsInstructions, NoShape, OutOfReach}
+use Rattle.linker_runs.proofs.Sites.{kept_field, operands_small, unit_sum, target_is, in_reach}
+
+-- what writing an immediate keeps: n bits from bit s up, of which none is placed
+loongarch_kept : (f : LoongArch64Instruction) (bits : BitRange) (v : ℤ) (before after : List ℕ) (w : InstructionWritten (LoongArch64 f) bits v before after)
+    (none : (x i : ℕ) → is_placed (places_cleared (LoongArch64 f) bits x) i ≡ false)
+    (same : (b : Bool) (x : ℕ) → (loongarch_form f).base b x ≡ x) (s n : ℕ)
+    → agree_below (λ i. is_placed ((loongarch_form f).places w.clear) (s + i)) (λ _. false) n ≡ true
+    → field (window_of (loongarch_form f) after) s (s + n) ≡ field (window_of (loongarch_form f) before) s (s + n)
+loongarch_kept f bits v before after w none same s n outside =
+    kept_field (loongarch_form f) (bits_taken bits v) (int_lt v (pos 0)) (window_of (loongarch_form f) before) w.clear (window_of (loongarch_form f) after)
+    (λ i. w.clears.kept i (none (window_of (loongarch_form f) before) i)) w.written (same (int_lt v (pos 0)) w.clear) s n outside
+
+-- ---- what is written
+
+module _ (section : List ℕ) (o place target : ℕ) (written : List ℕ) (branches : Branches) (calls : Calls) (relative : RelativeAddresses)
+    (p : place < 2 ^ 64) (t : target < 2 ^ 64) where
+  small : AreAddresses (operands_of place target)
+  small = operands_small place target p t
+
+  branch_is : (link opcode : ℕ) → link < 2 → opcode ≡ 0x14 + link → IsRelocated (branch_template link) place target written → IsBranch opcode (from_le_bytes w32 written) place target
+  branch_is link opcode low is applied =
+      let bytes : List ℕ = to_le_bytes w32 (0x50000000 + link * 2 ^ 26) in
+      let word : from_le_bytes w32 bytes ≡ 0x50000000 + link * 2 ^ 26 = from_le_bytes-to_le_bytes_4 (0x50000000 + link * 2 ^ 26) (omega arith) in
+      record {
+        opcode_is = loongarch_kept Branch26 (record { start = 2; end = 28 }) applied.value bytes written applied.written (λ x i. refl) (λ b w. refl) 26 6 refl ∙ ap (λ w. field w 26 32) word ∙ omega arith;
+        goes = subst (λ a. IsAddress (pos place +ℤ ((loongarch_form Branch26).machine (from_le_bytes w32 written) *ℤ pos 4)) a) (target_is target t)
+            (branches.2 (operands_of place target) small place bytes written applied tt);
+      }
+
+  pcaddi_is : (register : ℕ) → register < 32 → IsRelocated (pcaddi_template register) place target written → IsPcaddi (from_le_bytes w32 written) register place target
+  pcaddi_is register low applied =
+      let bytes : List ℕ = to_le_bytes w32 (0x18000000 + register) in
+      let word : from_le_bytes w32 bytes ≡ 0x18000000 + register = from_le_bytes-to_le_bytes_4 (0x18000000 + register) (omega arith) in
+      record {
+        opcode = loongarch_kept Shift5 (record { start = 2; end = 22 }) applied.value bytes written applied.written (λ x i. refl) (λ b w. refl) 25 7 refl ∙ ap (λ w. field w 25 32) word ∙ omega arith;
+        register_is = loongarch_kept Shift5 (record { start = 2; end = 22 }) applied.value bytes written applied.written (λ x i. refl) (λ b w. refl) 0 5 refl ∙ ap (λ w. field w 0 5) word ∙ omega arith;
+        computes = subst (λ a. IsAddress (pos place +ℤ ((loongarch_form Shift5).machine (from_le_bytes w32 written) *ℤ pos 4)) a) (target_is target t)
+            (branches.3 (operands_of place target) small place bytes written applied tt);
+      }
+
+  call_is : IsRelocated (call_template section o) place target written → IsFarCall section o place target written
+  call_is applied = record {
+    relocated = applied;
+    goes = subst (λ s. IsAddress s target) (unit_sum (pos place) (reach (from_le_bytes w64 written)))
+        (subst (λ a. IsAddress (pos place +ℤ (reach (from_le_bytes w64 written) *ℤ pos 1)) a) (target_is target t)
+        (calls (operands_of place target) small place (take 8 (drop o section)) written applied tt));
+  }
+
+  -- `addi.d` is no `jirl`
+  no_jirl : IsPcalaAt section o → is_jirl (from_le_bytes w32 (take 4 (drop (o + 4) section))) ≡ false
+  no_jirl pair =
+      let opcode : field (from_le_bytes w32 (drop (o + 4) section)) 26 32 ≡ 0 = let second = pair.second in omega arith in
+      ap (λ w. eqb (field w 26 32) 19) (word_of_front (drop (o + 4) section)) ∙ ap (λ q. eqb q 19) opcode
+
+  address_is : IsPcalaAt section o → AreRelocated section o place target written → IsFarAddress section o place target written
+  address_is pair applied = record {
+    high = applied.high;
+    low = applied.low;
+    computes = subst (λ a. IsAddress (page_and_low (operands_of place target) (from_le_bytes w32 (take 4 written)) (from_le_bytes w32 (drop 4 written))) a) (target_is target t)
+        (relative.0 (operands_of place target) small place (take 4 (drop o section)) (take 4 written) applied.high
+        (subst (λ v. IsSomeAnd v (IsWithin (Some (bit_bounds 32 Signed)))) applied.high.value_is applied.pages)
+        (sum_64 place 4) (take 4 (drop (o + 4) section)) (drop 4 written) applied.low (ap not (no_jirl pair)));
+  }
+
+  pub becomes_short : (kind : Kind) → IsKindAt section o kind → length written ≡ 4 → IsRelocated (short_template section o kind) place target written → LoongArchBecomes section o place target written
+  becomes_short Call (inl one) len applied = call one len
+      (branch_is (destination section o) 0x15 (let h = one.links in omega arith) (let h = one.links in omega arith) applied)
+  becomes_short Call (inr none) len applied = jump none len
+      (branch_is (destination section o) 0x14 (let h = none.links in omega arith) (let h = none.links in omega arith) applied)
+  becomes_short Address pair len applied = address pair len
+      (pcaddi_is (destination section o) (omega arith) applied)
+
+  pub becomes_long : (kind : Kind) → IsKindAt section o kind → length written ≡ 8 → IsLongOf section o kind place target written → LoongArchBecomes section o place target written
+  becomes_long Call here len applied = far_call here len (call_is applied)
+  becomes_long Address pair len applied = far_address pair len (address_is pair applied)
+
+-- ---- what is accepted and rejected
+
+pub kind_is_site : (section : List ℕ) (o : ℕ) (kind : Kind) → IsKindAt section o kind → IsSiteAt section o
+kind_is_site section o Call here = inl here
+kind_is_site section o Address here = inr here
+
+accepted_site : (section : List ℕ) (o kept place target : ℕ) → LoongArchAccepts section o kept place target → IsSiteAt section o
+accepted_site section o kept place target (short_call here len reached) = inl here
+accepted_site section o kept place target (long_call here len reached) = inl here
+accepted_site section o kept place target (short_address here len reached) = inr here
+accepted_site section o kept place target (long_address here len reached) = inr here
+
+accepted_len : (section : List ℕ) (o kept place target : ℕ) → LoongArchAccepts section o kept place target → (kept ≡ 4) ⊎ (kept ≡ 8)
+accepted_len section o kept place target (short_call here len reached) = inl len
+accepted_len section o kept place target (long_call here len reached) = inr len
+accepted_len section o kept place target (short_address here len reached) = inl len
+accepted_len section o kept place target (long_address here len reached) = inr len
+
+pub not_both : (section : List ℕ) (o : ℕ) → IsCall36At section o → IsPcalaAt section o → ⊥
+not_both section o (inl one) pair = let a = one.first in let b = pair.one_register.first in omega arith
+not_both section o (inr none) pair = let a = none.first in let b = pair.one_register.first in omega arith
+
+-- what is far isn't accepted
+far_excludes : (section : List ℕ) (o kept place target : ℕ) → LoongArchAccepts section o kept place target → LoongArchIsFar section o kept place target → ⊥
+far_excludes section o kept place target (short_call here len reached) (far_from_branch _ _ out) = in_reach (branch_template (destination section o)) place target reached out
+far_excludes section o kept place target (short_call here len reached) (far_from_call _ eight out) = omega arith
+far_excludes section o kept place target (short_call here len reached) (far_from_pcaddi pair _ out) = not_both section o here pair
+far_excludes section o kept place target (short_call here len reached) (far_from_pair pair _ out) = not_both section o here pair
+far_excludes section o kept place target (long_call here len reached) (far_from_branch _ four out) = omega arith
+far_excludes section o kept place target (long_call here len reached) (far_from_call _ _ out) = in_reach (call_template section o) place target reached out
+far_excludes section o kept place target (long_call here len reached) (far_from_pcaddi pair _ out) = not_both section o here pair
+far_excludes section o kept place target (long_call here len reached) (far_from_pair pair _ out) = not_both section o here pair
+far_excludes section o kept place target (short_address pair len reached) (far_from_branch here _ out) = not_both section o here pair
+far_excludes section o kept place target (short_address pair len reached) (far_from_call here _ out) = not_both section o here pair
+far_excludes section o kept place target (short_address pair len reached) (far_from_pcaddi _ _ out) = in_reach (pcaddi_template (destination section o)) place target reached out
+far_excludes section o kept place target (short_address pair len reached) (far_from_pair _ eight out) = omega arith
+far_excludes section o kept place target (long_address pair len reached) (far_from_branch here _ out) = not_both section o here pair
+far_excludes section o kept place target (long_address pair len reached) (far_from_call here _ out) = not_both section o here pair
+far_excludes section o kept place target (long_address pair len reached) (far_from_pcaddi _ four out) = omega arith
+far_excludes section o kept place target (long_address pair len reached) (far_from_pair _ _ out) = out reached
+
+pub loongarch_excludes : (section : List ℕ) (o kept place target : ℕ) (error : ItemError) → LoongArchAccepts section o kept place target → LoongArchCause section o kept place target error → ⊥
+loongarch_excludes section o kept place target NotItsInstructions a cause = cause (accepted_site section o kept place target a)
+loongarch_excludes section o kept place target NoShape a cause = elim (accepted_len section o kept place target a) [
+  | inl four ↦ cause.1 four
+  | inr eight ↦ cause.2 eight
+]
+loongarch_excludes section o kept place target OutOfReach a cause = far_excludes section o kept place target a cause
+loongarch_excludes section o kept place target Overlaps a cause = cause
+loongarch_excludes section o kept place target OutOfSection a cause = cause
+loongarch_excludes section o kept place target DeletedOutside a cause = cause
+loongarch_excludes section o kept place target NotItsFirstBytes a cause = cause
+
+module _ (section : List ℕ) (o kept place target : ℕ) where
+  pub short_accepts : (kind : Kind) (written : List ℕ) → IsKindAt section o kind → kept ≡ 4 → IsRelocated (short_template section o kind) place target written → LoongArchAccepts section o kept place target
+  short_accepts Call written here len applied = short_call here len (written, applied)
+  short_accepts Address written here len applied = short_address here len (written, applied)
+
+  pub long_accepts : (kind : Kind) (written : List ℕ) → IsKindAt section o kind → kept ≡ 8 → IsLongOf section o kind place target written → LoongArchAccepts section o kept place target
+  long_accepts Call written here len applied = long_call here len (written, applied)
+  long_accepts Address written here len applied = long_address here len
+      (record { pages = applied.pages; high = (take 4 written, applied.high); low = (drop 4 written, applied.low) })
+
+  pub short_rejected : (kind : Kind) → IsKindAt section o kind → kept ≡ 4 → IsOutOfReach (short_template section o kind) place target → LoongArchIsFar section o kept place target
+  short_rejected Call here four out = far_from_branch here four out
+  short_rejected Address here four out = far_from_pcaddi here four out
+
+  pub long_rejected : (kind : Kind) → IsKindAt section o kind → kept ≡ 8 → IsLongOutOfReach section o kind place target → LoongArchIsFar section o kept place target
+  long_rejected Call here eight out = far_from_call here eight out
+  long_rejected Address here eight out = far_from_pair here eight out
+
+-- ---- which shapes a site can have
+
+pub call_shapes : (section : List ℕ) (o : ℕ) (shapes : Shapes) (same : Bool) → IsCall36At section o → (IsTrue same ↔ (shapes ≡ CALL36)) → IsTrue same ↔ HasLoongArchShapes section o shapes
+call_shapes section o shapes same here is = (
+  λ h. inl (here, is.0 h),
+  λ h. ⊎_elim (λ (call : IsCall36At section o × (shapes ≡ CALL36)). is.1 call.1) (λ (pair : IsPcalaAt section o × (shapes ≡ PCALA)). absurd (not_both section o here pair.0)) h,
+)
+
+pub pair_shapes : (section : List ℕ) (o : ℕ) (shapes : Shapes) (same : Bool) → IsPcalaAt section o → (IsTrue same ↔ (shapes ≡ PCALA)) → IsTrue same ↔ HasLoongArchShapes section o shapes
+pair_shapes section o shapes same here is = (
+  λ h. inr (here, is.0 h),
+  λ h. ⊎_elim (λ (call : IsCall36At section o × (shapes ≡ CALL36)). absurd (not_both section o call.0 here)) (λ (pair : IsPcalaAt section o × (shapes ≡ PCALA)). is.1 pair.1) h,
+)

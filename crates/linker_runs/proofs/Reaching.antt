@@ -1,0 +1,121 @@
+-- What a call loses, and what its `jal` reaches.
+use Rattle.std.proofs.Common.{◌≡◌, ℕ, ◌+◌, ◌-◌, ◌%◌, ◌<◌, ◌≤◌, ◌∙◌, ◌↔◌, Bool, true, false, cond, refl, ap, sym, inl, inr, ⊎_elim, arith}
+use Rattle.std.specs.Prelude.{◌||◌, nat_lt, pos, negsuc, ◌-ℤ◌}
+use Rattle.std.proofs.lemmas.Int.{ints}
+use Rattle.std.proofs.lemmas.Bool.{cases_lt}
+use Rattle.std.proofs.lemmas.Bool.Decides.{nat_tests}
+use Rattle.linker_base.specs.Deletions.{covers}
+use Rattle.linker_runs.specs.declared.relaxation.Item.{Item}
+use Rattle.linker_runs.specs.declared.relaxation.Item.TheVariants.{Site, Aligned}
+use Rattle.linker_runs.specs.Relaxing.{offset_of, len_of, target_of, shape_len, shape_reaches, is_reached, kept_by, item_reaches}
+use Rattle.linker_runs.specs.Choosing.{IsSite}
+use Rattle.linker_runs.specs.Deleting.{deletion_at}
+use Rattle.linker_runs.proofs.Deletions.{deletion_some, deletion_none}
+use Rattle.linker_riscv64.specs.RiscVCalls.{IsEven, IsJalDistance}
+use Rattle.linker_riscv64.specs.Shrinking.{shrinking}
+use Rattle.linker_runs.specs.Calls.{call_shapes, IsCallItem, IsDeletedItem}
+use Rattle.linker_runs.proofs.Covering.{takes}
+
+or_none : (a : Bool) → (a || false) ≡ a
+or_none true = refl
+or_none false = refl
+
+covers_same : (p a b c d : ℕ) → a ≡ c → b ≡ d → covers (a, b) p ≡ covers (c, d) p
+covers_same p a b c d e f = ap (λ x. covers (x, b) p) e ∙ ap (λ y. covers (c, y) p) f
+
+pub loses_some : (item : Item) (kept p : ℕ) → kept < len_of item → takes (deletion_at item kept) p ≡ covers (offset_of item + kept, len_of item - kept) p
+loses_some item kept p less = ap (λ ds. takes ds p) (deletion_some item kept less) ∙ or_none (covers (offset_of item + kept, len_of item - kept) p)
+
+pub loses_none : (item : Item) (kept p : ℕ) → len_of item ≤ kept → takes (deletion_at item kept) p ≡ false
+loses_none item kept p all = ap (λ ds. takes ds p) (deletion_none item kept all)
+
+none : {A : Type 0} → false ≡ true → A
+none e = cc
+
+-- a call that has its `jal` loses its last four bytes
+pub call_loses : (start : ℕ) (item : Item) (call : ℕ × ℕ) (k freed kept p : ℕ) → IsCallItem call item → kept ≡ kept_by start item k freed → k ≡ 0 → takes (deletion_at item kept) p ≡ covers (shrinking call) p
+call_loses start (Site site) call k freed kept p is keeps short =
+    let four : kept ≡ 4 = keeps ∙ ap (λ s. shape_len s k) is.3 ∙ ap (shape_len call_shapes) short in
+    let offset = is.0 in
+    let len = is.2 in
+    loses_some (Site site) kept p (omega arith) ∙ covers_same p (site.offset + kept) (site.len - kept) (call.0 + 4) 4 (omega arith) (omega arith)
+call_loses start (Aligned alignment) call k freed kept p is keeps short = absurd is
+
+-- and another none
+pub call_keeps : (start : ℕ) (item : Item) (call : ℕ × ℕ) (k freed kept p : ℕ) → IsCallItem call item → kept ≡ kept_by start item k freed → 0 < k → takes (deletion_at item kept) p ≡ false
+call_keeps start (Site site) call k freed kept p is keeps long =
+    let past : nat_lt k 1 ≡ false = grind (arith, nat_tests) in
+    let eight : kept ≡ 8 = keeps ∙ ap (λ s. shape_len s k) is.3 ∙ grind (arith, nat_tests) in
+    let len = is.2 in
+    loses_none (Site site) kept p (omega arith)
+call_keeps start (Aligned alignment) call k freed kept p is keeps long = absurd is
+
+-- a decided deletion loses all
+pub deleted_loses : (start : ℕ) (item : Item) (deletion : ℕ × ℕ) (k freed kept p : ℕ) → IsDeletedItem deletion item → kept ≡ kept_by start item k freed → takes (deletion_at item kept) p ≡ covers deletion p
+deleted_loses start (Site site) deletion k freed kept p is keeps =
+    let nothing : kept ≡ 0 = keeps ∙ is.2 k in
+    let offset = is.0 in
+    let len = is.1 in
+    ⊎_elim
+    (λ (some : 0 < site.len). loses_some (Site site) kept p (omega arith) ∙ covers_same p (site.offset + kept) (site.len - kept) deletion.0 deletion.1 (omega arith) (omega arith))
+    (λ (empty : site.len ≤ 0). loses_none (Site site) kept p (omega arith) ∙ sym (covers_nothing deletion.0 deletion.1 p (omega arith)))
+    (cases_lt 0 site.len)
+  where
+    covers_nothing : (a b p : ℕ) → b ≡ 0 → covers (a, b) p ≡ false
+    covers_nothing a b p e = grind (arith, nat_tests)
+deleted_loses start (Aligned alignment) deletion k freed kept p is keeps = absurd is
+
+even_sum : (x y : ℕ) → IsEven (pos x -ℤ pos y) ↔ ((x + y) % 2 ≡ 0)
+even_sum x y = elim (cases_lt x y) [
+  | inl below ↦
+      let d : pos x -ℤ pos y ≡ negsuc (y - x - 1) = omega (arith, ints) in
+      rw d (λ h. odd (y - x - 1) h (omega arith), λ h. evens (y - x - 1) (omega arith))
+  | inr above ↦
+      let d : pos x -ℤ pos y ≡ pos (x - y) = omega (arith, ints) in
+      rw d (λ h. let e : (x - y) % 2 ≡ 0 = cc in omega arith, λ h. let e : (x - y) % 2 ≡ 0 = omega arith in ap pos e)
+]
+  where
+    odd : (n : ℕ) → IsEven (negsuc n) → x + n + 1 ≡ y → (x + y) % 2 ≡ 0
+    odd n h e = let o : 1 - n % 2 ≡ 0 = cc in omega arith
+
+    evens : (n : ℕ) → n % 2 ≡ 1 → IsEven (negsuc n)
+    evens n h = ap (λ m. pos (1 - m)) h
+
+reached_is : (from to : ℕ) → is_reached (record { kept = 4; behind = 1048576; ahead = 1048576; unit = 2 }) from to ≡ true → ((to + from) % 2 ≡ 0) × (to < from + 1048576) × (from ≤ to + 1048576)
+reached_is from to h = ⊎_elim
+    (λ (down : to < from). (let a : (from - to) % 2 ≡ 0 = grind (arith, nat_tests) in let b : from - to ≤ 1048576 = grind (arith, nat_tests) in (omega arith, omega arith, omega arith)))
+    (λ (up : from ≤ to). (let a : (to - from) % 2 ≡ 0 = grind (arith, nat_tests) in let b : to - from < 1048576 = grind (arith, nat_tests) in (omega arith, omega arith, omega arith)))
+    (cases_lt to from)
+
+is_within : (from to : ℕ) → (to + from) % 2 ≡ 0 → to < from + 1048576 → from ≤ to + 1048576 → is_reached (record { kept = 4; behind = 1048576; ahead = 1048576; unit = 2 }) from to ≡ true
+is_within from to even above below = ⊎_elim
+    (λ (down : to < from). (let a : (from - to) % 2 ≡ 0 = omega arith in let b : from - to ≤ 1048576 = omega arith in grind (arith, nat_tests)))
+    (λ (up : from ≤ to). (let a : (to - from) % 2 ≡ 0 = omega arith in let b : to - from < 1048576 = omega arith in grind (arith, nat_tests)))
+    (cases_lt to from)
+
+pub jal_reaches : (from to : ℕ) → (shape_reaches call_shapes 0 from to ≡ true) ↔ (IsEven (pos to -ℤ pos from) × IsJalDistance (pos to -ℤ pos from))
+jal_reaches from to = (
+  λ h. (let r = reached_is from to h in let above = r.1 in let below = r.2 in ((even_sum to from).1 r.0, (omega (arith, ints), omega (arith, ints)))),
+  λ h. is_within from to ((even_sum to from).0 h.0) (omega (arith, ints, h.1.1)) (omega (arith, ints, h.1.0)),
+)
+
+-- the item of a call, whatever it reaches
+pub call_reaches : (item : Item) (call : ℕ × ℕ) (k here there : ℕ) → IsCallItem call item → k ≡ 0 → item_reaches item k here there ≡ shape_reaches call_shapes 0 (offset_of item - here) (target_of item - there)
+call_reaches (Site site) call k here there is short = ap (λ s. shape_reaches s k (site.offset - here) (target_of (Site site) - there)) is.3 ∙ ap (λ n. shape_reaches call_shapes n (site.offset - here) (target_of (Site site) - there)) short
+call_reaches (Aligned alignment) call k here there is short = absurd is
+
+pub long_reaches : (item : Item) (call : ℕ × ℕ) (k here there : ℕ) → IsCallItem call item → 0 < k → item_reaches item k here there ≡ true
+long_reaches (Site site) call k here there is long = ap (λ s. shape_reaches s k (site.offset - here) (target_of (Site site) - there)) is.3 ∙ grind (arith, nat_tests)
+long_reaches (Aligned alignment) call k here there is long = absurd is
+
+pub deleted_reaches : (item : Item) (deletion : ℕ × ℕ) (k here there : ℕ) → IsDeletedItem deletion item → item_reaches item k here there ≡ true
+deleted_reaches (Site site) deletion k here there is = is.3 k (site.offset - here) (target_of (Site site) - there)
+deleted_reaches (Aligned alignment) deletion k here there is = absurd is
+
+pub call_place : (item : Item) (call : ℕ × ℕ) → IsCallItem call item → (offset_of item ≡ call.0) × (target_of item ≡ call.1) × IsSite item
+call_place (Site site) call is = (is.0, ap (λ s. cond (nat_lt 0 s.count) site.target site.offset) is.3 ∙ is.1, tt)
+call_place (Aligned alignment) call is = absurd is
+
+pub deleted_site : (item : Item) (deletion : ℕ × ℕ) → IsDeletedItem deletion item → IsSite item
+deleted_site (Site site) deletion is = tt
+deleted_site (Aligned alignment) deletion is = absurd is

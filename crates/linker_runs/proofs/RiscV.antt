@@ -1,0 +1,105 @@
+-- What calls of RISC-V become.
+use Rattle.std.proofs.Common.{◌≡◌, ℕ, ◌+◌, ◌-◌, ◌*◌, ◌%◌, ◌^◌, ◌<◌, List, [], length, take, drop, refl, subst, ◌∙◌, ap, arith, inl, inr, ℤ, pos, ◌+ℤ◌, Option, Some, None, Bool, true, false, int_lt}
+use Rattle.std.specs.Prelude.{◌==◌, ◌&&◌, if◌then◌else◌, IsSomeAnd, ◌*ℤ◌}
+use Rattle.std.specs.Int.{w16, w32, w64, from_le_bytes, to_le_bytes}
+use Rattle.std.proofs.lemmas.Bool.{cases_Bool, eqb-true, agree_below}
+use Rattle.std.proofs.lemmas.Nat.{from_le_bytes-to_le_bytes_4}
+use Rattle.linker_base.specs.Bits.{field}
+use Rattle.linker_base.specs.Form.{window_of, is_placed}
+use Rattle.linker_base.specs.declared.bit_misc.BitRange.{BitRange}
+use Rattle.linker_elf.specs.Relocate.{InstructionWritten, bits_taken}
+use Rattle.linker_elf.specs.RiscV.{riscv_form}
+use Rattle.linker_elf.specs.declared.elf.RelocationInstruction.TheVariants.{RiscV}
+use Rattle.linker_elf.specs.declared.riscv64.forms.RiscVInstruction.{RiscVInstruction}
+use Rattle.linker_elf.specs.declared.riscv64.forms.RiscVInstruction.TheVariants.{JType, CjType, UiType}
+use Rattle.linker_elf.specs.RiscVRelocations.{riscv_row}
+use Rattle.linker_elf.specs.declared.riscv64.relocations.RiscVRelocation.TheVariants as r
+use Rattle.linker_riscv64.specs.RiscVCalls.{link_register}
+use Rattle.linker_riscv64.specs.RiscVRewrites.{tail_to_cj}
+use Rattle.linker_riscv64.specs.declared.calls.LinkRegister.TheVariants.{OfJalr}
+use Rattle.relocation_laws.specs.RiscVLaws.{Jumps, Calls, without_bit_0}
+use Rattle.relocation_laws.specs.Schemes.{IsApplied, IsAddress, AreAddresses}
+use Rattle.linker_runs.specs.Sites.{Template, operands_of}
+use Rattle.linker_runs.specs.RiscVSites.{IsCj, IsJal, IsFarCall, RiscVBecomes, short_jump, jump, call, riscv_template}
+use Rattle.linker_runs.proofs.Sites.{kept_field, operands_small, unit_sum, target_is}
+
+-- what writing an immediate keeps: n bits from bit s up, of which none is placed
+riscv_kept : (f : RiscVInstruction) (bits : BitRange) (v : ℤ) (before after : List ℕ) (w : InstructionWritten (RiscV f) bits v before after)
+    (same : (b : Bool) (x : ℕ) → (riscv_form f).base b x ≡ x) (s n : ℕ)
+    → agree_below (λ i. is_placed ((riscv_form f).places w.clear) (s + i)) (λ _. false) n ≡ true
+    → field (window_of (riscv_form f) after) s (s + n) ≡ field (window_of (riscv_form f) before) s (s + n)
+riscv_kept f bits v before after w same s n outside =
+    kept_field (riscv_form f) (bits_taken bits v) (int_lt v (pos 0)) (window_of (riscv_form f) before) w.clear (window_of (riscv_form f) after)
+    (λ i. w.clears.kept i refl) w.written (same (int_lt v (pos 0)) w.clear) s n outside
+
+-- the template's relocation is applied
+abbrev pub IsRelocated : ℕ → ℕ → List ℕ → Option Template → Type 0
+IsRelocated place target written template =
+    IsSomeAnd template (λ t. IsSomeAnd t.row (λ row. IsApplied row (operands_of place target) t.bytes written))
+
+module _ (section : List ℕ) (o place target : ℕ) (written : List ℕ) (jumps : Jumps) (calls : Calls)
+    (p : place < 2 ^ 64) (t : target < 2 ^ 64) where
+  small : AreAddresses (operands_of place target)
+  small = operands_small place target p t
+
+  cj_is : IsRelocated place target written (Some (record { row = riscv_row r.R_RISCV_RVC_JUMP; bytes = tail_to_cj [] })) → IsCj (from_le_bytes w16 written) place target
+  cj_is applied = record {
+    quadrant = riscv_kept CjType (record { start = 0; end = 16 }) applied.value (tail_to_cj []) written applied.written (λ b w. refl) 0 2 refl;
+    function = riscv_kept CjType (record { start = 0; end = 16 }) applied.value (tail_to_cj []) written applied.written (λ b w. refl) 13 3 refl;
+    goes = subst (λ s. IsAddress s target) (unit_sum (pos place) ((riscv_form CjType).machine (from_le_bytes w16 written)))
+        (subst (λ a. IsAddress (pos place +ℤ ((riscv_form CjType).machine (from_le_bytes w16 written) *ℤ pos 1)) a) (target_is target t)
+        (jumps.2 (operands_of place target) small place (tail_to_cj []) written applied tt));
+  }
+
+  jal_word : from_le_bytes w32 (to_le_bytes w32 (0x6f + link_register OfJalr section o * 2 ^ 7)) ≡ 0x6f + link_register OfJalr section o * 2 ^ 7
+  jal_word = from_le_bytes-to_le_bytes_4 (0x6f + link_register OfJalr section o * 2 ^ 7) (omega arith)
+
+  jal_is : IsRelocated place target written (Some (record { row = riscv_row r.R_RISCV_JAL; bytes = to_le_bytes w32 (0x6f + link_register OfJalr section o * 2 ^ 7) })) → IsJal (from_le_bytes w32 written) (link_register OfJalr section o) place target
+  jal_is applied =
+      let bytes : List ℕ = to_le_bytes w32 (0x6f + link_register OfJalr section o * 2 ^ 7) in
+      let word : from_le_bytes w32 bytes ≡ 0x6f + link_register OfJalr section o * 2 ^ 7 = jal_word in
+      record {
+        opcode = riscv_kept JType (record { start = 0; end = 32 }) applied.value bytes written applied.written (λ b w. refl) 0 7 refl ∙ ap (λ w. field w 0 7) word ∙ omega arith;
+        links = riscv_kept JType (record { start = 0; end = 32 }) applied.value bytes written applied.written (λ b w. refl) 7 5 refl ∙ ap (λ w. field w 7 12) word ∙ omega arith;
+        goes = subst (λ s. IsAddress s target) (unit_sum (pos place) ((riscv_form JType).machine (from_le_bytes w32 written)))
+            (subst (λ a. IsAddress (pos place +ℤ ((riscv_form JType).machine (from_le_bytes w32 written) *ℤ pos 1)) a) (target_is target t)
+            (jumps.0 (operands_of place target) small place bytes written applied tt));
+      }
+
+  call_is : IsRelocated place target written (Some (record { row = riscv_row r.R_RISCV_CALL_PLT; bytes = take 8 (drop o section) })) → IsFarCall section o place target written
+  call_is applied = record {
+    relocated = applied;
+    goes = subst (λ a. IsAddress (without_bit_0 (pos place +ℤ (riscv_form UiType).machine (from_le_bytes w64 written))) (a - a % 2)) (target_is target t)
+        (calls.1 (operands_of place target) small place (take 8 (drop o section)) written applied tt);
+  }
+
+  pub becomes : (kept : ℕ) → length written ≡ kept → IsRelocated place target written (riscv_template section o kept) → RiscVBecomes section o place target written
+  becomes kept len applied =
+      let link = link_register OfJalr section o in
+      let cj : Option Template = Some (record { row = riscv_row r.R_RISCV_RVC_JUMP; bytes = tail_to_cj [] }) in
+      let jal : Option Template = Some (record { row = riscv_row r.R_RISCV_JAL; bytes = to_le_bytes w32 (0x6f + link * 2 ^ 7) }) in
+      let far : Option Template = Some (record { row = riscv_row r.R_RISCV_CALL_PLT; bytes = take 8 (drop o section) }) in
+      let others : Option Template = if kept == 8 then far else None in
+      let longer : Option Template = if kept == 4 then jal else others in
+      elim (cases_Bool (kept == 2 && link == 0)) [
+        | inl two ↦
+            let a = and-both (kept == 2) (link == 0) two in
+            short_jump (len ∙ eqb-true kept 2 a.0) (eqb-true link 0 a.1)
+            (cj_is (subst (IsRelocated place target written) (ap (λ b. if b then cj else longer) two) applied))
+        | inr more ↦
+            let rest = subst (IsRelocated place target written) (ap (λ b. if b then cj else longer) more) applied in
+            elim (cases_Bool (kept == 4)) [
+              | inl four ↦ jump (len ∙ eqb-true kept 4 four) (jal_is (subst (IsRelocated place target written) (ap (λ b. if b then jal else others) four) rest))
+              | inr more ↦
+                  let rest = subst (IsRelocated place target written) (ap (λ b. if b then jal else others) more) rest in
+                  elim (cases_Bool (kept == 8)) [
+                    | inl eight ↦ call (len ∙ eqb-true kept 8 eight) (call_is (subst (IsRelocated place target written) (ap (λ b. if b then far else None) eight) rest))
+                    | inr none ↦ absurd (subst (IsRelocated place target written) (ap (λ b. if b then far else None) none) rest)
+                  ]
+            ]
+      ]
+    where
+      and-both : (a b : Bool) → (a && b) ≡ true → (a ≡ true) × (b ≡ true)
+      and-both true true h = (refl, refl)
+      and-both true false h = cc
+      and-both false b h = cc

@@ -1,0 +1,46 @@
+-- Shapes that are compared.
+use Rattle.std.proofs.Common.{◌≡◌, Bool, true, ◌&&◌, eqb, refl, sym, subst, ◌∙◌, rules}
+use Rattle.std.specs.Bool.{Decides}
+use Rattle.std.proofs.lemmas.Bool.{and_parts, eqb-true}
+use Rattle.std.proofs.lemmas.Slice.Eq.{slice_eq-Decides}
+use Rattle.std.specs.Cmp.Lexicographic.{pointwise}
+use Rattle.linker_runs.specs.declared.relaxation.Shape.{Shape}
+use Rattle.linker_runs.specs.declared.relaxation.Shapes.{Shapes}
+
+abbrev shape_eq : Shape → Shape → Bool
+shape_eq a b = eqb a.behind b.behind && (eqb a.ahead b.ahead && (eqb a.kept b.kept && eqb a.unit b.unit))
+
+pub shape_decides : (a b : Shape) → Decides (shape_eq a b) (a ≡ b)
+shape_decides a b = (
+  λ h.
+      let p = and_parts (eqb a.behind b.behind) (eqb a.ahead b.ahead && (eqb a.kept b.kept && eqb a.unit b.unit)) h in
+      let q = and_parts (eqb a.ahead b.ahead) (eqb a.kept b.kept && eqb a.unit b.unit) p.1 in
+      let r = and_parts (eqb a.kept b.kept) (eqb a.unit b.unit) q.1 in
+      let behind = eqb-true a.behind b.behind p.0 in
+      let ahead = eqb-true a.ahead b.ahead q.0 in
+      let kept = eqb-true a.kept b.kept r.0 in
+      let unit = eqb-true a.unit b.unit r.1 in
+      λ i. record { behind = behind i; ahead = ahead i; kept = kept i; unit = unit i },
+  λ e. subst (λ c. shape_eq a c ≡ true) e (same a),
+)
+  where
+    same : (c : Shape) → shape_eq c c ≡ true
+    same c = search rules
+
+abbrev shapes_eq : Shapes → Shapes → Bool
+shapes_eq a b = pointwise shape_eq a.short b.short && (eqb a.longest b.longest && eqb a.count b.count)
+
+pub shapes_decide : (a b : Shapes) (r : Bool) → r ≡ shapes_eq a b → Decides r (a ≡ b)
+shapes_decide a b r told = (
+  λ h.
+      let p = and_parts (pointwise shape_eq a.short b.short) (eqb a.longest b.longest && eqb a.count b.count) (sym told ∙ h) in
+      let q = and_parts (eqb a.longest b.longest) (eqb a.count b.count) p.1 in
+      let short = (slice_eq-Decides shape_decides a.short b.short (pointwise shape_eq a.short b.short) refl).0 p.0 in
+      let longest = eqb-true a.longest b.longest q.0 in
+      let count = eqb-true a.count b.count q.1 in
+      λ i. record { short = short i; longest = longest i; count = count i },
+  λ e. told ∙ subst (λ c. shapes_eq a c ≡ true) e (same a),
+)
+  where
+    same : (c : Shapes) → shapes_eq c c ≡ true
+    same c = rw ((slice_eq-Decides shape_decides c.short c.short (pointwise shape_eq c.short c.short) refl).1 refl) (search rules)

@@ -1,0 +1,109 @@
+-- The unit of a run, and what runs that can be relaxed suit.
+use Rattle.std.proofs.Common.{◌≡◌, ℕ, zero, suc, ◌+◌, ◌-◌, ◌*◌, ◌%◌, ◌^◌, ◌<◌, ◌≤◌, ◌∙◌, List, [], ◌∷◌, length, refl, ap, sym, subst, ⊎_elim, arith}
+use Rattle.std.specs.Prelude.{max}
+use Rattle.std.specs.Int.{IsPowerOfTwo}
+use Rattle.std.specs.List.{fold}
+use Rattle.std.proofs.Math.Nat.{mul-mod_left}
+use Rattle.std.proofs.lemmas.Nat.{pow-add, pow_below}
+use Rattle.std.proofs.lemmas.Bool.{cases_lt}
+use Rattle.std.proofs.lemmas.Bool.Decides.{nat_tests}
+use Rattle.linker_runs.specs.declared.relaxation.Shapes.{Shapes}
+use Rattle.linker_runs.specs.declared.relaxation.Item.{Item}
+use Rattle.linker_runs.specs.declared.relaxation.Item.TheVariants.{Site, Aligned}
+use Rattle.linker_runs.specs.Relaxing.{item_at, shape_len, short_shape, IsSound}
+use Rattle.linker_runs.specs.Choosing.{AreNested, IsFormed, ItemFits, shapes_unit, item_unit, run_unit, AreItems}
+use Rattle.linker_runs.specs.Inner.Validity.{ItemSuits}
+
+-- of two powers of two the less divides the other
+pub power_divides : (a b : ℕ) → IsPowerOfTwo a → IsPowerOfTwo b → a ≤ b → b % a ≡ 0
+power_divides a b pa pb up =
+    let ea = pa.1 in
+    let eb = pb.1 in
+    ⊎_elim
+    (λ (below : pb.0 < pa.0). let h = pow_below pb.0 pa.0 below in absurd (omega arith))
+    (λ (above : pa.0 ≤ pb.0).
+    let z : pb.0 - pa.0 + pa.0 ≡ pb.0 = omega arith in
+    let whole : b ≡ 2 ^ (pb.0 - pa.0) * 2 ^ pa.0 = eb ∙ ap (λ k. 2 ^ k) (sym z) ∙ pow-add 2 (pb.0 - pa.0) pa.0 in
+    ap (λ n. n % a) whole ∙ ap (λ n. 2 ^ (pb.0 - pa.0) * 2 ^ pa.0 % n) ea ∙ mul-mod_left (2 ^ (pb.0 - pa.0)) (2 ^ pa.0))
+    (cases_lt pb.0 pa.0)
+
+max_power : (a b : ℕ) → IsPowerOfTwo a → IsPowerOfTwo b → IsPowerOfTwo (max a b)
+max_power a b pa pb = ⊎_elim
+    (λ (less : a < b). let e : max a b ≡ b = grind (arith, nat_tests) in subst IsPowerOfTwo (sym e) pb)
+    (λ (more : b ≤ a). let e : max a b ≡ a = grind (arith, nat_tests) in subst IsPowerOfTwo (sym e) pa)
+    (cases_lt a b)
+
+-- the greatest unit of so many items is a power of two, and no less than that before nor than each
+record IsUnitOf (before : ℕ) (items : List Item) (unit : ℕ) : Type 0 where
+  power : IsPowerOfTwo unit
+  least : before ≤ unit
+  each : (i : ℕ) → i < length items → item_unit (item_at items i) ≤ unit
+
+abbrev unit_from : ℕ → List Item → ℕ
+unit_from before items = fold (λ unit item. max unit (item_unit item)) before items
+
+fold_unit : (before : ℕ) (items : List Item) → IsPowerOfTwo before → ((i : ℕ) → i < length items → IsPowerOfTwo (item_unit (item_at items i))) → IsUnitOf before items (unit_from before items)
+fold_unit before [] power powers = record { power = power; least = omega arith; each = λ i within. absurd (omega arith) }
+fold_unit before (item ∷ items) power powers =
+    let rest = fold_unit (max before (item_unit item)) items (max_power before (item_unit item) power (powers 0 (omega arith))) (λ i within. powers (suc i) (omega arith)) in
+    let least = rest.least in
+    record {
+      power = rest.power;
+      least = omega arith;
+      each = each (item_unit item) (unit_from (max before (item_unit item)) items) (omega arith) rest.each;
+    }
+  where
+    each : (first unit : ℕ) → item_unit item ≤ unit → ((i : ℕ) → i < length items → item_unit (item_at items i) ≤ unit) → (i : ℕ) → i < length (item ∷ items) → item_unit (item_at (item ∷ items) i) ≤ unit
+    each first unit here others zero within = here
+    each first unit here others (suc i) within = others i (omega arith)
+
+shapes_power : (shapes : Shapes) → AreNested shapes → IsPowerOfTwo (shapes_unit shapes)
+shapes_power shapes nested = ⊎_elim
+    (λ (two : 1 < shapes.count).
+    let e : shapes_unit shapes ≡ max (short_shape shapes 0).unit (short_shape shapes 1).unit = grind (arith, nat_tests) in
+    subst IsPowerOfTwo (sym e) (max_power (short_shape shapes 0).unit (short_shape shapes 1).unit (nested.powers 0 (omega arith)).power (nested.powers 1 two).power))
+    (λ (fewer : shapes.count ≤ 1). ⊎_elim
+    (λ (one : 0 < shapes.count).
+    let e : shapes_unit shapes ≡ (short_shape shapes 0).unit = grind (arith, nat_tests) in
+    subst IsPowerOfTwo (sym e) (nested.powers 0 one).power)
+    (λ (none : shapes.count ≤ 0).
+    let e : shapes_unit shapes ≡ 1 = grind (arith, nat_tests) in
+    subst IsPowerOfTwo (sym e) (0, refl))
+    (cases_lt 0 shapes.count))
+    (cases_lt 1 shapes.count)
+
+item_power : (item : Item) → IsFormed item → IsPowerOfTwo (item_unit item)
+item_power (Site site) formed = shapes_power site.shapes formed
+item_power (Aligned alignment) formed = (0, refl)
+
+-- each short shape's unit is at most that of all
+shape_below : (shapes : Shapes) → shapes.count ≤ 2 → (k : ℕ) → k < shapes.count → (short_shape shapes k).unit ≤ shapes_unit shapes
+shape_below shapes few zero within = ⊎_elim
+    (λ (two : 1 < shapes.count). grind (arith, nat_tests))
+    (λ (one : shapes.count ≤ 1). grind (arith, nat_tests))
+    (cases_lt 1 shapes.count)
+shape_below shapes few (suc zero) within = grind (arith, nat_tests)
+shape_below shapes few (suc (suc k)) within = absurd (omega arith)
+
+-- no shape keeps more than the next
+ascends : (shapes : Shapes) → AreNested shapes → (k : ℕ) → shape_len shapes k ≤ shape_len shapes (k + 1)
+ascends shapes nested k = ⊎_elim
+    (λ (short : k < shapes.count). let h = nested.ascending k short in omega arith)
+    (λ (past : shapes.count ≤ k). grind (arith, nat_tests))
+    (cases_lt k shapes.count)
+
+pub item_suits : (start : ℕ) (items : List Item) → AreItems start items → (i : ℕ) → i < length items → ItemSuits (run_unit items) start (item_at items i)
+item_suits start items are i within =
+    let whole = fold_unit 1 items (0, refl) (λ j there. item_power (item_at items j) (are.formed j there)) in
+    suits (run_unit items) (item_at items i) whole.power (whole.each i within) (are.in_order.sound i within) (are.formed i within) (are.fit i within)
+  where
+    suits : (u : ℕ) (item : Item) → IsPowerOfTwo u → item_unit item ≤ u → IsSound item → IsFormed item → ItemFits u start item → ItemSuits u start item
+    suits u (Site site) power most sound formed fit = record {
+      freed = fit;
+      ascending = ascends site.shapes formed;
+      ahead = formed.ahead;
+      units = λ k short.
+          let h = shape_below site.shapes sound.0 k short in
+          power_divides (short_shape site.shapes k).unit u (formed.powers k short).power power (omega arith);
+    }
+    suits u (Aligned alignment) power most sound formed fit = fit

@@ -1,0 +1,47 @@
+use Rattle.std.proofs.Common.{rules, ℕ, ◌≡◌, ◌+◌, ◌∙◌, ◌≤◌, get_or, map, ap, sym, arith, length}
+use Rattle.std.specs.Prelude.{nat_lt}
+use Rattle.std.proofs.lemmas.List.{get_or-map, length-map}
+use Rattle.std.proofs.lemmas.List.Sorted.{IsPartitionPoint-from_clause}
+use Rattle.linker_base.specs.Deltas.{deletion_of}
+use Rattle.linker_base.specs.declared.relaxation.RelaxDelta.{RelaxDelta}
+use Rattle.linker_runs.proofs.Copied.{copied_first, copied_step, copied_end, deltas_parted, begin_above}
+use Rattle.linker_runs.proofs.copying.copy_kept.Goals as goal
+
+pub loop-index-init : goal.loop-index-init
+loop-index-init c = record {
+  within = omega arith;
+  copied = λ valid room. copied_first (map deletion_of c.args.deltas.now) c.args.base c.args.section.now c.args.packed.now c.first_run-first.result.0 c.first_run-first.result.1 (c.first_run-first.ensures.first valid);
+}
+
+pub loop-index-preserved : goal.loop-index-preserved
+loop-index-preserved c =
+    let s = c.args.section.now in
+    let k = c.loop-index.index in
+    let ds = map deletion_of c.args.deltas.now in
+    let none : RelaxDelta = record { input_offset = 0; cumulative_deleted = 0; bytes_deleted = 0 } in
+    let here : get_or ds k (0, 0) ≡ deletion_of (get_or c.args.deltas.now k none) =
+    get_or-map deletion_of c.args.deltas.now k none (0, 0) (omega arith) in
+    record {
+      within = omega (arith, c.put-at.ensures.end, c.put-at.auto.packed);
+      copied = λ valid room.
+          let same : length c.loop-index.packed ≡ length c.put-at.new.packed = sym c.put-at.auto.packed in
+          copied_step ds c.args.base s c.loop-index.packed c.between.result.now c.put-at.new.packed k c.loop-index.from c.loop-index.at
+          (c.loop-index.invariant.copied valid (same ∙ room)) (same ∙ room)
+          (get_or c.args.deltas.now k none).input_offset c.put-at.result c.saturating_add-from.result
+          valid.valid (omega (arith, length-map c.args.deltas.now deletion_of)) (sym (ap (λ (d : ℕ × ℕ). d.0) here))
+          c.between.ensures c.put-at.ensures.bytes c.put-at.ensures.end
+          (omega (arith, c.saturating_add-from.ensures, c.from.ensures, ap (λ (d : ℕ × ℕ). d.0) here, ap (λ (d : ℕ × ℕ). d.1) here));
+    }
+
+pub returns : goal.returns
+returns c = λ valid room.
+    let deltas = c.args.deltas.now in
+    let ends = c.args.base + length c.args.section.now in
+    let behind = c.partition_point-behind.result in
+    let point = IsPartitionPoint-from_clause (λ (d : RelaxDelta). nat_lt d.input_offset ends) deltas behind c.partition_point-behind.ensures.partitioned (deltas_parted deltas ends valid) (λ a r f called. search rules) in
+    let same = c.loop-index.auto.packed in
+    let past : behind ≤ c.loop-index.index = c.loop-index-test.false in
+    copied_end (map deletion_of deltas) c.args.base c.args.section.now c.loop-index.packed c.between-2.result.now c.put-end.new.packed c.loop-index.index c.loop-index.from c.loop-index.at
+    (c.loop-index.invariant.copied valid (same ∙ room)) (same ∙ room)
+    (λ j d h inside. begin_above deltas ends behind point (omega arith) j d (omega arith) inside)
+    c.between-2.ensures c.put-end.ensures.bytes

@@ -1,0 +1,18 @@
+use Rattle.std.proofs.Common.{◌≡◌, ◌%◌, ◌∙◌, ap, sym, subst}
+use Rattle.linker_base.specs.Deltas.{deletions_of}
+use Rattle.linker_runs.specs.Packing.{section_of, nops, nop_len, ItemBecomes}
+use Rattle.linker_runs.proofs.Nops.{nops_length}
+use Rattle.linker_runs.proofs.packing.piece_for.Goals as goal
+
+pub returns-then-kept-nop_len-eq0-clause-becomes :
+    goal.returns-then-kept-nop_len-eq0-clause-becomes
+returns-then-kept-nop_len-eq0-clause-becomes c = λ valid.
+    let machine = c.args.machine in
+    let n = c.args.kept in
+    let even : n % nop_len machine ≡ 0 = ap (λ k. n % k) (sym c.nop_len.ensures.len) ∙ c.if-kept-nop_len-eq0.true in
+    subst (λ item. ItemBecomes machine (section_of c.args.section.now c.args.base (deletions_of c.args.deltas.now) c.args.start) item (nops machine n)) (sym c.in-Aligned.is)
+    (ap (nops machine) (sym (nops_length machine n even)))
+
+pub returns-then-kept-nop_len-eq0-clause-len : goal.returns-then-kept-nop_len-eq0-clause-len
+returns-then-kept-nop_len-eq0-clause-len c =
+    nops_length c.args.machine c.args.kept (ap (λ k. c.args.kept % k) (sym c.nop_len.ensures.len) ∙ c.if-kept-nop_len-eq0.true)

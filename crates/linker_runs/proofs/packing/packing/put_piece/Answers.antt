@@ -1,0 +1,18 @@
+use Rattle.std.proofs.Common.{◌≡◌, ◌+◌, ◌%◌, ◌++◌, ◌∙◌, length, take, drop, ap, sym, subst, arith}
+use Rattle.linker_runs.specs.Packing.{nops, nop_len}
+use Rattle.linker_runs.specs.Inner.Pieces.{piece_bytes, IsWhole}
+use Rattle.linker_runs.proofs.Nops.{nops_length}
+use Rattle.linker_runs.proofs.packing.put_piece.Goals as goal
+
+pub returns-in-Nops : goal.returns-in-Nops
+returns-in-Nops c = λ room whole.
+    let machine = c.args.machine in
+    let xs = c.args.packed.now in
+    let n = c.in-Nops.len in
+    let even : n % nop_len machine ≡ 0 = subst (IsWhole machine) c.in-Nops.is whole in
+    let len = nops_length machine n even in
+    let bytes : piece_bytes machine c.args.piece ≡ nops machine n = ap (piece_bytes machine) c.in-Nops.is in
+    let long = ap length bytes in
+    c.put_nops.ensures (omega arith) even
+    ∙ ap (λ ys. take c.args.at xs ++ ys ++ drop (c.args.at + n) xs) (sym bytes)
+    ∙ ap (λ k. take c.args.at xs ++ piece_bytes machine c.args.piece ++ drop (c.args.at + k) xs) (omega arith)

@@ -1,0 +1,20 @@
+use Rattle.std.proofs.Common.{subst, arith}
+use Rattle.linker_runs.specs.Faults.{ItemMeets}
+use Rattle.linker_runs.specs.declared.relaxation.faults.Fault.TheVariants.{TooManyShapes, ShapeTooLong, BadPower}
+use Rattle.std.proofs.lemmas.Nat.{pow_pos}
+use Rattle.linker_runs.proofs.relaxation.Item.unit_fault.Goals as goal
+
+pub are_even-requires-clause-count : goal.are_even-requires-clause-count
+are_even-requires-clause-count c = subst (λ item. ItemMeets item TooManyShapes) c.in-Site.is (c.requires.few TooManyShapes)
+
+pub are_even-requires-clause-within : goal.are_even-requires-clause-within
+are_even-requires-clause-within c =
+    let h = subst (λ item. ItemMeets item ShapeTooLong) c.in-Site.is (c.requires.few ShapeTooLong) in
+    (omega arith, λ k short. (let one = h.1 k short in omega arith))
+
+pub fault-requires-clause-power : goal.fault-requires-clause-power
+fault-requires-clause-power c =
+    let power = subst (λ item. ItemMeets item BadPower) c.in-Aligned.is (c.requires.few BadPower) in
+    let some = pow_pos power.0 in
+    let e = power.1 in
+    omega arith

@@ -1,0 +1,10 @@
+use Rattle.std.proofs.Common.{◌≡◌, ◌<◌, ℕ, get_or}
+use Rattle.linker_runs.specs.Relaxing.{choice_of}
+use Rattle.linker_runs.specs.Choosing.{cautious_before}
+use Rattle.linker_runs.proofs.relaxation.cautious.lay_out_cautiously.Given as goal
+
+abbrev pub invariant-loop-index : goal.invariant-loop-index
+invariant-loop-index l = record {
+  before : l.before ≡ cautious_before l.items (choice_of l.shapes) l.index;
+  written : (k : ℕ) → k < l.index → get_or l.freed k 0 ≡ cautious_before l.items (choice_of l.shapes) k;
+}

@@ -1,0 +1,34 @@
+use Rattle.std.proofs.Common.{◌≡◌, ◌∙◌, false, get_or, refl, ap, sym, ⊎_elim, arith}
+use Rattle.linker_runs.specs.Relaxing.{item_at, choice_of, place_of, target_of, item_reaches}
+use Rattle.linker_runs.specs.Choosing.{cautious_before}
+use Rattle.linker_runs.specs.Inner.Relaxing.{is_in_reach_cautiously}
+use Rattle.linker_runs.proofs.Sweeps.{next_layout, next_forced}
+use Rattle.linker_runs.proofs.relaxation.cautious.lengthen_at.Goals as goal
+use Rattle.linker_runs.proofs.relaxation.cautious.lengthen_at.Goals.{then-place-index, else-place-index}
+
+pub returns-clause-freed : goal.returns-clause-freed
+returns-clause-freed c =
+    next_layout c.args.start c.args.items.now c.args.shapes.now _ c.args.index c.requires.items c.requires.within c.requires.shapes refl c.args.freed.now c.args.more
+    c.freed_cautiously-2.result c.freed_cautiously.result c.freed_cautiously.ensures c.freed_cautiously-2.ensures c.requires.freed
+
+pub returns-clause-forced : goal.returns-clause-forced
+returns-clause-forced c =
+    let items = c.args.items.now in
+    let i = c.args.index in
+    let choice = choice_of c.args.shapes.now in
+    let freed = c.args.freed.now in
+    let place = get_or c.args.places.now i 0 in
+    let target = place_of items (target_of (item_at items i)) in
+    let is_place : place ≡ target = ⊎_elim (λ is. is) (λ far. absurd (let h = far.0 in omega arith)) (c.requires.placed.each i c.requires.within) in
+    let here : get_or freed i 0 ≡ cautious_before items choice i = c.requires.freed.below i (omega arith) in
+    let at = ap (cautious_before items choice) is_place in
+    let there : c.if-place-index.there ≡ cautious_before items choice target =
+    elim c.if-place-index.branch [
+      | then-place-index w ↦ w.there-is ∙ c.requires.freed.below place (omega (arith, w.if-place-index.true)) ∙ at
+      | else-place-index w ↦ (let above = c.requires.freed.above place (omega (arith, w.if-place-index.false)) (omega arith) in let e = w.there-is in omega arith)
+    ] in
+    let out : is_in_reach_cautiously items choice i ≡ false =
+    ap (λ x. item_reaches (item_at items i) (choice i) x (cautious_before items choice target)) (sym here)
+    ∙ ap (λ x. item_reaches (item_at items i) (choice i) (get_or freed i 0) x) (sym there)
+    ∙ sym c.reaches.ensures.reached ∙ c.if-reaches.false in
+    next_forced c.args.start items c.args.shapes.now _ i c.requires.items c.requires.within c.requires.shapes refl out

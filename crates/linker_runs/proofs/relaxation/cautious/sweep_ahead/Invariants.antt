@@ -1,0 +1,13 @@
+use Rattle.std.proofs.Common.{◌^◌, ◌<◌, ◌≤◌, ℕ, length, get_or, sum}
+use Rattle.linker_runs.specs.Relaxing.{choice_of}
+use Rattle.linker_runs.specs.Inner.Relaxing.{AreCautious, AreForced}
+use Rattle.linker_runs.proofs.relaxation.cautious.sweep_ahead.Given as goal
+
+abbrev pub invariant-loop-index : goal.invariant-loop-index
+invariant-loop-index l = record {
+  freed : AreCautious l.items l.shapes l.freed l.index l.more;
+  fits : get_or l.freed (length l.items) 0 < 2 ^ 64;
+  short : (i : ℕ) → choice_of l.shapes i ≤ 2;
+  forced : AreForced l.items l.shapes;
+  longer : sum l.initial.shapes ≤ sum l.shapes;
+}

@@ -1,0 +1,67 @@
+use Rattle.std.proofs.Common.{◌≡◌, ◌≢◌, ◌+◌, ◌-◌, ◌∙◌, ◌<◌, ◌≤◌, length, get_or, refl, ⊎_elim, subst, sym, ap, arith, sum, set, get_or-set_other}
+use Rattle.std.proofs.lemmas.Bool.{cases_lt}
+use Rattle.linker_runs.specs.Relaxing.{choice_of}
+use Rattle.linker_runs.specs.Inner.Relaxing.{AreCautious, is_in_reach_cautiously}
+use Rattle.linker_runs.proofs.Sweeps.{back_step, whole_layout, last_fits, more_fits}
+use Rattle.linker_runs.proofs.relaxation.cautious.sweep_back.Goals as goal
+
+pub loop-behind-init : goal.loop-behind-init
+loop-behind-init c = record {
+  freed = whole_layout c.args.items.now c.args.shapes.now c.args.freed.now (length c.args.items.now - 0) (omega arith) c.requires.freed;
+  fits = last_fits c.args.start c.args.items.now c.args.shapes.now c.args.freed.now c.requires.items c.requires.freed;
+  short = c.requires.short;
+  forced = c.requires.forced;
+  same = λ _. refl;
+  reached = λ _ k high low. absurd (omega arith);
+  longer = λ h. absurd (omega arith);
+}
+
+pub overflow_add-more : goal.overflow_add-more
+overflow_add-more c =
+    let n = length c.args.items.now in
+    let laid = c.lengthen_at-more.ensures.freed.above n (omega arith) (omega arith) in
+    let fits = c.loop-behind.invariant.fits in
+    omega arith
+
+pub overflow_add-freed : goal.overflow_add-freed
+overflow_add-freed c =
+    let fits = more_fits c.args.start c.args.items.now c.lengthen_at-more.new.shapes c.loop-behind.freed (length c.args.items.now - 1 - c.loop-behind.behind) (c.loop-behind.more + c.lengthen_at-more.result) (omega arith)
+    c.lengthen_at-more.ensures.freed c.loop-behind.invariant.fits in
+    omega arith
+
+pub loop-behind-preserved : goal.loop-behind-preserved
+loop-behind-preserved c =
+    let items = c.args.items.now in
+    let n = length items in
+    let i = n - 1 - c.loop-behind.behind in
+    let old = c.loop-behind.shapes in
+    let new = c.lengthen_at-more.new.shapes in
+    let fewer = c.lengthen_at-more.result in
+    let more = c.loop-behind.more in
+    let inv = c.loop-behind.invariant in
+    let z : i ≡ n - (c.loop-behind.behind + 1) = omega arith in
+    let ne : n ≢ i = omega arith in
+    let same_end = get_or-set_other c.loop-behind.freed i n (get_or c.loop-behind.freed i 0 + (more + fewer)) 0 ne in
+    record {
+      freed = subst (λ s. AreCautious items new (set c.loop-behind.freed i (get_or c.loop-behind.freed i 0 + (more + fewer))) s (more + fewer)) z
+          (back_step items new c.loop-behind.freed (set c.loop-behind.freed i (get_or c.loop-behind.freed i 0 + (more + fewer))) i (more + fewer) (omega arith) c.lengthen_at-more.ensures.freed refl);
+      fits = omega (arith, inv.fits, same_end);
+      short = c.lengthen_at-more.ensures.short;
+      forced = c.lengthen_at-more.ensures.forced inv.forced;
+      same = λ none. c.lengthen_at-more.ensures.same (omega arith) ∙ inv.same (omega arith);
+      reached = λ none k high low. ⊎_elim
+          (λ (before : k < n - c.loop-behind.behind).
+          let here : k ≡ i = omega arith in
+          ap (is_in_reach_cautiously items (choice_of c.args.shapes.now)) here
+          ∙ ap (λ xs. is_in_reach_cautiously items (choice_of xs) i) (sym (inv.same (omega arith)))
+          ∙ c.lengthen_at-more.ensures.reached (omega arith))
+          (λ (after : n - c.loop-behind.behind ≤ k). inv.reached (omega arith) k after low)
+          (cases_lt k (n - c.loop-behind.behind));
+      longer = λ some. ⊎_elim
+          (λ (here : 0 < fewer). ⊎_elim
+          (λ (was : 0 < more). omega (arith, inv.longer was, c.lengthen_at-more.ensures.longer here))
+          (λ (first : more ≤ 0). let e = ap sum (inv.same (omega arith)) in omega (arith, c.lengthen_at-more.ensures.longer here, e))
+          (cases_lt 0 more))
+          (λ (none : fewer ≤ 0). let e = ap sum (c.lengthen_at-more.ensures.same (omega arith)) in omega (arith, inv.longer (omega arith), e))
+          (cases_lt 0 fewer);
+    }

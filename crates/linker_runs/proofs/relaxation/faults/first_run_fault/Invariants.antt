@@ -1,0 +1,7 @@
+use Rattle.std.proofs.Common.{◌<◌, ℕ}
+use Rattle.linker_runs.specs.declared.relaxation.faults.Fault.{Fault}
+use Rattle.linker_runs.specs.Faults.{RunMeets}
+use Rattle.linker_runs.proofs.relaxation.faults.first_run_fault.Given as goal
+
+abbrev pub invariant-loop-index : goal.invariant-loop-index
+invariant-loop-index l = (k : ℕ) → k < l.index → (fault : Fault) → RunMeets l.unit l.start l.items k fault

@@ -1,0 +1,5 @@
+use Rattle.linker_runs.proofs.Reaches.{loongarch_shapes}
+use Rattle.linker_runs.proofs.shapes.loongarch64.reaches_are_exact.Goals as goal
+
+pub returns : goal.returns
+returns c = loongarch_shapes

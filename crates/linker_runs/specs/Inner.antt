@@ -1,0 +1,6 @@
+pub mod Copying
+pub mod LoongArch
+pub mod Packing
+pub mod Pieces
+pub mod Relaxing
+pub mod Validity

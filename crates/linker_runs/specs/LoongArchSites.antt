@@ -1,0 +1,164 @@
+-- What sites of LoongArch become (LoongArch ELF psABI, "Linker Relaxation"; the instructions by the
+-- LoongArch Reference Manual, volume 1).
+use Rattle.std.specs.Prelude.{◌≡◌, ◌≢◌, ◌⊎◌, ℕ, ◌+◌, ◌*◌, ◌^◌, List, length, take, drop, pos}
+use Rattle.std.specs.Prelude.{IsSomeAnd, Some, ◌+ℤ◌, ◌*ℤ◌}
+use Rattle.std.specs.Int.{w32, w64, from_le_bytes, to_le_bytes}
+use Rattle.linker_base.specs.Bits.{field, signed}
+use Rattle.linker_elf.specs.Elf.{IsWithin, bit_bounds}
+use Rattle.linker_elf.specs.LoongArch.{loongarch_form, pcalau12i, reach}
+use Rattle.linker_elf.specs.LoongArchRelocations.{loongarch_row}
+use Rattle.linker_elf.specs.Value.{sum_64, value_of}
+use Rattle.linker_elf.specs.declared.elf.Sign.TheVariants.{Signed}
+use Rattle.linker_elf.specs.declared.loongarch64.forms.LoongArch64Instruction.TheVariants.{Shift5}
+use Rattle.linker_elf.specs.declared.loongarch64.forms.LoongArch64Instruction.TheVariants.{Branch26}
+use Rattle.linker_elf.specs.declared.loongarch64.relocations.LoongArch64Relocation.TheVariants as r
+use Rattle.linker_loongarch64.specs.LoongArchRewrites.{IsAddi, IsCall, IsPair, word_at}
+use Rattle.linker_loongarch64.specs.LoongArchRewrites.{rd_of}
+use Rattle.relocation_laws.specs.Schemes.{IsAddress}
+use Rattle.linker_runs.specs.Sites.{Template, operands_of, IsRelocated, IsInReach, IsOutOfReach}
+use Rattle.linker_runs.specs.declared.packing.ItemError.{ItemError}
+use Rattle.linker_runs.specs.declared.packing.ItemError.TheVariants.{NotItsInstructions, NoShape}
+use Rattle.linker_runs.specs.declared.packing.ItemError.TheVariants.{OutOfReach}
+
+-- ---- sites
+
+-- `pcaddu18i`, and a `jirl` from its register that links `ra` or none
+abbrev pub IsCall36At : List ℕ → ℕ → Type 0
+IsCall36At section o = IsCall 1 section o ⊎ IsCall 0 section o
+
+-- `pcalau12i` and `addi.d` of one register
+abbrev pub IsPcalaAt : List ℕ → ℕ → Type 0
+IsPcalaAt section o = IsPair IsAddi section o
+
+abbrev pub IsSiteAt : List ℕ → ℕ → Type 0
+IsSiteAt section o = IsCall36At section o ⊎ IsPcalaAt section o
+
+-- the destination register of the second instruction
+abbrev pub destination : List ℕ → ℕ → ℕ
+destination section o = rd_of (word_at section (o + 4))
+
+-- ---- instructions before their relocations
+
+-- `b` where no register is linked, `bl` where `ra` is
+abbrev pub branch_template : ℕ → Template
+branch_template link =
+    record {
+      row = loongarch_row r.R_LARCH_B26;
+      bytes = to_le_bytes w32 (0x50000000 + link * 2 ^ 26);
+    }
+
+-- `pcaddi` of a register
+abbrev pub pcaddi_template : ℕ → Template
+pcaddi_template register =
+    record {
+      row = loongarch_row r.R_LARCH_PCREL20_S2;
+      bytes = to_le_bytes w32 (0x18000000 + register);
+    }
+
+-- the `pcaddu18i` and the `jirl` at an offset
+abbrev pub call_template : List ℕ → ℕ → Template
+call_template section o =
+    record { row = loongarch_row r.R_LARCH_CALL36; bytes = take 8 (drop o section) }
+
+-- the `pcalau12i` at an offset, and the `addi.d` behind it
+abbrev pub high_template : List ℕ → ℕ → Template
+high_template section o =
+    record { row = loongarch_row r.R_LARCH_PCALA_HI20; bytes = take 4 (drop o section) }
+
+abbrev pub low_template : List ℕ → ℕ → Template
+low_template section o =
+    record { row = loongarch_row r.R_LARCH_PCALA_LO12; bytes = take 4 (drop (o + 4) section) }
+
+-- ---- what is written
+
+-- The word is `b` or `bl`, by its opcode, to the target.
+pub record IsBranch (opcode word place target : ℕ) : Type 0 where
+  pub opcode_is : field word 26 32 ≡ opcode
+  pub goes : IsAddress (pos place +ℤ ((loongarch_form Branch26).machine word *ℤ pos 4)) target
+
+-- The word is `pcaddi` of a register, and computes the target.
+pub record IsPcaddi (word register place target : ℕ) : Type 0 where
+  pub opcode : field word 25 32 ≡ 0x0c
+  pub register_is : rd_of word ≡ register
+  pub computes : IsAddress (pos place +ℤ ((loongarch_form Shift5).machine word *ℤ pos 4)) target
+
+-- The bytes are those of the call at an offset of a section with its relocation applied, which
+-- changes nothing but their immediates. It goes to the target.
+pub record IsFarCall (section : List ℕ) (o place target : ℕ) (written : List ℕ) : Type 0 where
+  pub relocated : IsRelocated (call_template section o) place target written
+  pub goes : IsAddress (pos place +ℤ reach (from_le_bytes w64 written)) target
+
+-- The bytes are those of the pair at an offset of a section with its relocations applied, which
+-- changes nothing but their immediates. It computes the target.
+pub record IsFarAddress (section : List ℕ) (o place target : ℕ) (written : List ℕ) : Type 0 where
+  pub high : IsRelocated (high_template section o) place target (take 4 written)
+  pub low : IsRelocated (low_template section o) (sum_64 place 4) target (drop 4 written)
+  pub computes : IsAddress
+      (pcalau12i place (from_le_bytes w32 (take 4 written))
+      +ℤ signed 12 (field (from_le_bytes w32 (drop 4 written)) 10 22)) target
+
+-- What the site at an offset of a section becomes.
+pub data LoongArchBecomes (section : List ℕ) (o place target : ℕ) (written : List ℕ) : Type 0 where
+  jump : IsCall 0 section o → length written ≡ 4
+      → IsBranch 0x14 (from_le_bytes w32 written) place target
+      → LoongArchBecomes section o place target written
+  call : IsCall 1 section o → length written ≡ 4
+      → IsBranch 0x15 (from_le_bytes w32 written) place target
+      → LoongArchBecomes section o place target written
+  far_call : IsCall36At section o → length written ≡ 8
+      → IsFarCall section o place target written → LoongArchBecomes section o place target written
+  address : IsPcalaAt section o → length written ≡ 4
+      → IsPcaddi (from_le_bytes w32 written) (destination section o) place target
+      → LoongArchBecomes section o place target written
+  far_address : IsPcalaAt section o → length written ≡ 8
+      → IsFarAddress section o place target written
+      → LoongArchBecomes section o place target written
+
+-- ---- what is accepted and rejected
+
+-- the distance of the pages is a number of 32 bits
+abbrev pub ArePagesNear : ℕ → ℕ → Type 0
+ArePagesNear place target =
+    IsSomeAnd (loongarch_row r.R_LARCH_PCALA_HI20) (λ row.
+    IsSomeAnd (value_of row (operands_of place target)) (IsWithin (Some (bit_bounds 32 Signed))))
+
+-- Both relocations of the pair at an offset can be applied, and it can compute the target.
+pub record IsAddressInReach (section : List ℕ) (o place target : ℕ) : Type 0 where
+  pub pages : ArePagesNear place target
+  pub high : IsInReach (high_template section o) place target
+  pub low : IsInReach (low_template section o) (sum_64 place 4) target
+
+-- A site is at the offset, and of so many bytes there are instructions that reach the target.
+pub data LoongArchAccepts (section : List ℕ) (o kept place target : ℕ) : Type 0 where
+  short_call : IsCall36At section o → kept ≡ 4
+      → IsInReach (branch_template (destination section o)) place target
+      → LoongArchAccepts section o kept place target
+  long_call : IsCall36At section o → kept ≡ 8 → IsInReach (call_template section o) place target
+      → LoongArchAccepts section o kept place target
+  short_address : IsPcalaAt section o → kept ≡ 4
+      → IsInReach (pcaddi_template (destination section o)) place target
+      → LoongArchAccepts section o kept place target
+  long_address : IsPcalaAt section o → kept ≡ 8 → IsAddressInReach section o place target
+      → LoongArchAccepts section o kept place target
+
+-- A site is at the offset, and its instructions of so many bytes don't reach the target.
+pub data LoongArchIsFar (section : List ℕ) (o kept place target : ℕ) : Type 0 where
+  far_from_branch : IsCall36At section o → kept ≡ 4
+      → IsOutOfReach (branch_template (destination section o)) place target
+      → LoongArchIsFar section o kept place target
+  far_from_call : IsCall36At section o → kept ≡ 8
+      → IsOutOfReach (call_template section o) place target
+      → LoongArchIsFar section o kept place target
+  far_from_pcaddi : IsPcalaAt section o → kept ≡ 4
+      → IsOutOfReach (pcaddi_template (destination section o)) place target
+      → LoongArchIsFar section o kept place target
+  far_from_pair : IsPcalaAt section o → kept ≡ 8 → ¬ IsAddressInReach section o place target
+      → LoongArchIsFar section o kept place target
+
+-- why nothing is written of the eight bytes at an offset of which so many stay
+abbrev pub LoongArchCause : List ℕ → ℕ → ℕ → ℕ → ℕ → ItemError → Type 0
+LoongArchCause section o kept place target NotItsInstructions = ¬ IsSiteAt section o
+LoongArchCause section o kept place target NoShape =
+    IsSiteAt section o × (kept ≢ 4) × (kept ≢ 8)
+LoongArchCause section o kept place target OutOfReach = LoongArchIsFar section o kept place target
+LoongArchCause section o kept place target other = ⊥

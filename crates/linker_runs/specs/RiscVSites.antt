@@ -1,0 +1,91 @@
+-- What calls of RISC-V become (RISC-V ELF psABI, "Function Call Relaxation", "Compressed Tail Call
+-- Relaxation"; the instructions by the RISC-V unprivileged ISA).
+use Rattle.std.specs.Prelude.{◌≡◌, ℕ, ◌+◌, ◌-◌, ◌*◌, ◌%◌, ◌^◌, List, [], length, take, drop}
+use Rattle.std.specs.Prelude.{Option, Some, None, IsSomeAnd, ◌==◌, ◌&&◌, if◌then◌else◌, pos}
+use Rattle.std.specs.Prelude.{◌+ℤ◌}
+use Rattle.std.specs.Int.{w16, w32, w64, from_le_bytes, to_le_bytes}
+use Rattle.linker_base.specs.Bits.{field}
+use Rattle.linker_elf.specs.RiscV.{riscv_form}
+use Rattle.linker_elf.specs.RiscVRelocations.{riscv_row}
+use Rattle.linker_elf.specs.declared.riscv64.forms.RiscVInstruction.TheVariants.{JType, CjType}
+use Rattle.linker_elf.specs.declared.riscv64.forms.RiscVInstruction.TheVariants.{UiType}
+use Rattle.linker_elf.specs.declared.riscv64.relocations.RiscVRelocation.TheVariants as r
+use Rattle.linker_riscv64.specs.RiscVCalls.{link_register}
+use Rattle.linker_riscv64.specs.RiscVRewrites.{tail_to_cj}
+use Rattle.linker_riscv64.specs.declared.calls.LinkRegister.TheVariants.{OfJalr}
+use Rattle.relocation_laws.specs.RiscVLaws.{without_bit_0}
+use Rattle.relocation_laws.specs.Schemes.{IsApplied, IsAddress}
+use Rattle.linker_runs.specs.RiscVItems.{IsCallAt}
+use Rattle.linker_runs.specs.Sites.{Template, operands_of, IsInReach, IsOutOfReach}
+use Rattle.linker_runs.specs.declared.packing.ItemError.{ItemError}
+use Rattle.linker_runs.specs.declared.packing.ItemError.TheVariants.{NotItsInstructions, NoShape}
+use Rattle.linker_runs.specs.declared.packing.ItemError.TheVariants.{OutOfReach}
+
+-- ---- what is written
+
+-- The half is `c.j` to the target.
+pub record IsCj (half place target : ℕ) : Type 0 where
+  pub quadrant : field half 0 2 ≡ 1
+  pub function : field half 13 16 ≡ 5
+  pub goes : IsAddress (pos place +ℤ (riscv_form CjType).machine half) target
+
+-- The word is `jal` to the target, and links a register.
+pub record IsJal (word link place target : ℕ) : Type 0 where
+  pub opcode : field word 0 7 ≡ 0x6f
+  pub links : field word 7 12 ≡ link
+  pub goes : IsAddress (pos place +ℤ (riscv_form JType).machine word) target
+
+-- The bytes are those of the call at an offset of a section, `auipc` and `jalr`, with its
+-- relocation applied, which changes nothing but their immediates. It goes to the target, without
+-- bit 0.
+pub record IsFarCall (section : List ℕ) (o place target : ℕ) (written : List ℕ) : Type 0 where
+  pub relocated : IsSomeAnd (riscv_row r.R_RISCV_CALL_PLT)
+      (λ row. IsApplied row (operands_of place target) (take 8 (drop o section)) written)
+  pub goes : IsAddress
+      (without_bit_0 (pos place +ℤ (riscv_form UiType).machine (from_le_bytes w64 written)))
+      (target - target % 2)
+
+-- What the call at an offset of a section becomes. Only one that links x0 becomes `c.j`.
+pub data RiscVBecomes (section : List ℕ) (o place target : ℕ) (written : List ℕ) : Type 0 where
+  short_jump : length written ≡ 2 → link_register OfJalr section o ≡ 0
+      → IsCj (from_le_bytes w16 written) place target
+      → RiscVBecomes section o place target written
+  jump : length written ≡ 4
+      → IsJal (from_le_bytes w32 written) (link_register OfJalr section o) place target
+      → RiscVBecomes section o place target written
+  call : length written ≡ 8 → IsFarCall section o place target written
+      → RiscVBecomes section o place target written
+
+-- ---- what is accepted and rejected
+
+-- the instruction of so many bytes before its relocation
+abbrev pub riscv_template : List ℕ → ℕ → ℕ → Option Template
+riscv_template section o kept =
+    if kept == 2 && link_register OfJalr section o == 0
+    then Some (record { row = riscv_row r.R_RISCV_RVC_JUMP; bytes = tail_to_cj [] })
+    else if kept == 4
+    then Some (record {
+      row = riscv_row r.R_RISCV_JAL;
+      bytes = to_le_bytes w32 (0x6f + link_register OfJalr section o * 2 ^ 7);
+    })
+    else if kept == 8
+    then Some (record {
+      row = riscv_row r.R_RISCV_CALL_PLT;
+      bytes = take 8 (drop o section);
+    })
+    else None
+
+-- A call is at the offset, and of so many bytes there is an instruction that reaches the target.
+pub record RiscVAccepts (section : List ℕ) (o kept place target : ℕ) : Type 0 where
+  pub call : IsCallAt section o
+  pub reached : IsSomeAnd (riscv_template section o kept) (λ t. IsInReach t place target)
+
+-- why nothing is written of the eight bytes at an offset of which so many stay
+abbrev pub RiscVCause : List ℕ → ℕ → ℕ → ℕ → ℕ → ItemError → Type 0
+RiscVCause section o kept place target NotItsInstructions = ¬ IsCallAt section o
+RiscVCause section o kept place target NoShape =
+    IsCallAt section o × (riscv_template section o kept ≡ None)
+RiscVCause section o kept place target OutOfReach =
+    IsCallAt section o
+    × IsSomeAnd (riscv_template section o kept) (λ t. IsOutOfReach t place target)
+RiscVCause section o kept place target other = ⊥

@@ -1,0 +1,84 @@
+-- What a relaxation made shorter can be written where the run is packed.
+use Rattle.std.specs.Prelude.{◌≡◌, ℕ, ◌-◌, ◌%◌, ◌^◌, ◌<◌, List, length}
+use Rattle.linker_runs.specs.declared.relaxation.Shapes.{Shapes}
+use Rattle.linker_runs.specs.declared.relaxation.Item.{Item}
+use Rattle.linker_runs.specs.declared.relaxation.Item.TheVariants.{Site, Aligned}
+use Rattle.linker_runs.specs.declared.shapes.loongarch64.TheConstants.{CALL36}
+use Rattle.linker_runs.specs.Relaxing.{item_at, offset_of, target_of, choice_of}
+use Rattle.linker_runs.specs.Choosing.{AreItems, IsRelaxation, IsSite}
+use Rattle.linker_runs.specs.Deleting.{deletions_of_run}
+use Rattle.linker_runs.specs.LoongArchItems.{LoongArchMakes}
+use Rattle.linker_runs.specs.Relocations.{AreMade, AreWellFormed}
+use Rattle.linker_runs.specs.RiscVItems.{RiscVMakes, IsRiscVFormed}
+use Rattle.linker_runs.specs.declared.items.Relocation.{Relocation}
+use Rattle.linker_runs.specs.Origins.{HasItsInstructions}
+use Rattle.linker_runs.specs.Packing.{section_of, IsUnwritable}
+use Rattle.linker_runs.specs.declared.packing.Machine.{Machine}
+use Rattle.linker_runs.specs.declared.packing.Machine.TheVariants.{RiscV64, LoongArch64}
+use Rattle.linker_runs.specs.declared.packing.ItemError.{ItemError}
+
+-- a site that has a short shape
+abbrev pub IsShortened : Item → ℕ → Type 0
+IsShortened (Site site) k = k < site.shapes.count
+IsShortened (Aligned alignment) k = ⊥
+
+-- A site that the relaxation made shorter can be written with the deletions of the run: `pack_run`
+-- doesn't reject it for itself, and so not because it doesn't reach its target.
+abbrev pub ShortSitesAreWritable : Type 0
+ShortSitesAreWritable = (machine : Machine) (start base : ℕ) (items : List Item)
+    (shapes kept freed bytes : List ℕ) → AreItems start items
+    → IsRelaxation start items shapes kept freed → (i : ℕ) → i < length items
+    → IsShortened (item_at items i) (choice_of shapes i)
+    → HasItsInstructions machine bytes base (item_at items i)
+    → (error : ItemError)
+    → ¬ IsUnwritable machine (section_of bytes base (deletions_of_run items kept) start)
+    (item_at items i) error
+
+-- a site with the shapes
+abbrev pub HasShapesOf : Shapes → Item → Type 0
+HasShapesOf shapes (Site site) = site.shapes ≡ shapes
+HasShapesOf shapes (Aligned alignment) = ⊥
+
+-- A site and its target lie in the first 2 ^ 31 - 2 ^ 11 bytes of the run: `auipc` and `jalr` reach
+-- from one to the other, whatever is deleted.
+abbrev pub IsNear : Item → Type 0
+IsNear item = (offset_of item < 2 ^ 31 - 2 ^ 11) × (target_of item < 2 ^ 31 - 2 ^ 11)
+
+-- Each such call of RISC-V can be written, whichever shape it has.
+abbrev pub NearCallsAreWritable : Type 0
+NearCallsAreWritable = (start base : ℕ) (items : List Item) (shapes kept freed bytes : List ℕ)
+    → AreItems start items → IsRelaxation start items shapes kept freed
+    → (i : ℕ) → i < length items → IsSite (item_at items i) → IsNear (item_at items i)
+    → HasItsInstructions RiscV64 bytes base (item_at items i) → (error : ItemError)
+    → ¬ IsUnwritable RiscV64 (section_of bytes base (deletions_of_run items kept) start)
+    (item_at items i) error
+
+-- The site is an `R_LARCH_CALL36`. It and its target lie at multiples of 4 in the first
+-- 2 ^ 37 - 2 ^ 17 bytes of the run: `pcaddu18i` and `jirl` reach from one to the other, whatever is
+-- deleted.
+pub record IsNearCall36 (item : Item) : Type 0 where
+  pub shapes : HasShapesOf CALL36 item
+  pub offset : offset_of item < 2 ^ 37 - 2 ^ 17
+  pub target : target_of item < 2 ^ 37 - 2 ^ 17
+  pub offset_in_words : offset_of item % 4 ≡ 0
+  pub target_in_words : target_of item % 4 ≡ 0
+
+-- Each such call of LoongArch can be written, whichever shape it has.
+abbrev pub NearCalls36AreWritable : Type 0
+NearCalls36AreWritable = (start base : ℕ) (items : List Item) (shapes kept freed bytes : List ℕ)
+    → AreItems start items → IsRelaxation start items shapes kept freed
+    → (i : ℕ) → i < length items → IsNearCall36 (item_at items i)
+    → HasItsInstructions LoongArch64 bytes base (item_at items i) → (error : ItemError)
+    → ¬ IsUnwritable LoongArch64 (section_of bytes base (deletions_of_run items kept) start)
+    (item_at items i) error
+
+-- The items that relocations of a section make, as `items` of `linker_runs` returns them, have their
+-- instructions.
+abbrev pub MadeSitesHaveInstructions : Type 0
+MadeSitesHaveInstructions = (section : List ℕ) (base : ℕ) (relocations : List Relocation)
+    (items : List Item)
+    → (AreMade (RiscVMakes section base relocations) (length relocations) items
+    → AreWellFormed (IsRiscVFormed section) relocations (length relocations)
+    → (j : ℕ) → j < length items → HasItsInstructions RiscV64 section base (item_at items j))
+    × (AreMade (LoongArchMakes section base relocations) (length relocations) items
+    → (j : ℕ) → j < length items → HasItsInstructions LoongArch64 section base (item_at items j))

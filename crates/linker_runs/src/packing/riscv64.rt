@@ -1,0 +1,113 @@
+//! RISC-V: what a call becomes.
+
+ghost use Rattle.std.specs.Prelude.{◌≡◌, ◌↔◌, ◌+◌, ◌≤◌, ◌<◌, ◌*◌, ◌^◌, Some, None, IfOk, IfErr, OnOk};
+ghost use Rattle.std.specs.Prelude.{length, IsTrue, ◌⊎◌};
+ghost use Rattle.std.specs.Prelude.{IsSomeAnd, IfSome, IfNone, ⊤};
+ghost use Rattle.std.specs.Int.{w32, to_le_bytes};
+ghost use Rattle.linker_elf.specs.RiscVRelocations.{riscv_row};
+ghost use Rattle.linker_riscv64.specs.RiscVRewrites.{tail_to_cj};
+ghost use Rattle.linker_riscv64.specs.RiscVCalls.{link_register};
+ghost use Rattle.linker_riscv64.specs.declared.calls.LinkRegister.TheVariants.{OfJalr};
+ghost use Rattle.linker_runs.specs.RiscVSites.{riscv_template, RiscVBecomes, RiscVAccepts};
+ghost use Rattle.linker_runs.specs.RiscVSites.{RiscVCause};
+ghost use Rattle.linker_runs.specs.Origins.{HasRiscVShapes};
+ghost use Rattle.linker_runs.specs.Inner.Pieces.{template_is, code_bytes};
+
+use crate::packing::ItemError;
+use crate::packing::code::{Code, Template, pair_at, relocated};
+use crate::relaxation::Shapes;
+use crate::riscv64::link_at;
+use crate::shapes::riscv64::{CALL, TAIL_C};
+use linker_elf::elf::RelocationKindInfo;
+use linker_riscv64::{RiscVRelocation, relocation_type_from_raw};
+
+/// What a relocation means that has a row.
+fn row_of(name: RiscVRelocation) -> RelocationKindInfo
+    requires { IsSomeAnd (riscv_row name) (λ _. ⊤) }
+    ensures { riscv_row name ≡ Some result }
+{
+    match relocation_type_from_raw(name) {
+        Some(row) => row,
+        None => unreachable!(),
+    }
+}
+
+/// `jal` of distance 0 that links a register.
+fn jal(link: u32) -> [u8; 4]
+    requires { link < 32 }
+    ensures { result ≡ to_le_bytes w32 (0x6f + link * 2 ^ 7) }
+{
+    (0x6f + link * 128).to_le_bytes()
+}
+
+/// The instruction of which so many bytes stay of a call that links a register.
+fn template_of(section: &[u8], offset: u64, link: u32, kept: u64) -> Option<Template>
+    requires inside { offset + 8 ≤ length section.now }
+    requires link { link ≡ link_register OfJalr section.now offset }
+    ensures none { IfNone result (riscv_template section.now offset kept ≡ None) }
+    ensures some { IfSome result (λ template.
+        (riscv_template section.now offset kept ≡ Some (template_is template))
+        × (length (code_bytes template.code) ≡ kept)) }
+{
+    match kept {
+        2 if link == 0 => Some(Template {
+            row: row_of(RiscVRelocation::R_RISCV_RVC_JUMP),
+            code: Code::Half([0x01, 0xa0]),
+        }),
+        4 => Some(Template {
+            row: row_of(RiscVRelocation::R_RISCV_JAL),
+            code: Code::Word(jal(link)),
+        }),
+        8 => Some(Template {
+            row: row_of(RiscVRelocation::R_RISCV_CALL_PLT),
+            code: Code::Pair(pair_at(section, offset)),
+        }),
+        _ => None,
+    }
+}
+
+/// What a call becomes of which so many bytes stay, at an address and for a target's.
+pub(crate) fn code_of(
+    section: &[u8],
+    offset: u64,
+    kept: u64,
+    place: u64,
+    target: u64,
+) -> Result<Code, ItemError>
+    requires { offset + 8 ≤ length section.now }
+    ensures becomes { IfOk result
+        (λ code. RiscVBecomes section.now offset place target (code_bytes code)) }
+    ensures len { IfOk result (λ code. length (code_bytes code) ≡ kept) }
+    ensures accepts { OnOk result (RiscVAccepts section.now offset kept place target) }
+    ensures rejected { IfErr result (RiscVCause section.now offset kept place target) }
+{
+    let Some(link) = link_at(section, offset) else {
+        return Err(ItemError::NotItsInstructions);
+    };
+    let Some(template) = template_of(section, offset, link, kept) else {
+        return Err(ItemError::NoShape);
+    };
+    relocation_laws::riscv64();
+    match relocated(template, place, target) {
+        Some(code) => Ok(code),
+        None => Err(ItemError::OutOfReach),
+    }
+}
+
+/// Whether a call that links a register can have the shapes.
+fn are_of_link(link: u32, shapes: &Shapes) -> bool
+    ensures { IsTrue result ↔ ((shapes.now ≡ CALL) ⊎ ((shapes.now ≡ TAIL_C) × (link ≡ 0))) }
+{
+    *shapes == CALL || (link == 0 && *shapes == TAIL_C)
+}
+
+/// Whether a call at an offset can have the shapes.
+pub(crate) fn has_shapes(section: &[u8], offset: u64, shapes: &Shapes) -> bool
+    requires { offset + 8 ≤ length section.now }
+    ensures { IsTrue result ↔ HasRiscVShapes section.now offset shapes.now }
+{
+    match link_at(section, offset) {
+        Some(link) => are_of_link(link, shapes),
+        None => false,
+    }
+}

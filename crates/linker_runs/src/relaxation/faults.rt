@@ -1,0 +1,249 @@
+//! Which runs can be relaxed, and what is wrong with the others.
+
+ghost use Rattle.std.specs.Prelude.{◌≡◌, ◌+◌, ◌<◌, ◌^◌, ◌↔◌, ℕ, length, IsTrue, MatchOption};
+ghost use Rattle.linker_runs.specs.Relaxing.{item_at, end_of, AreInOrder};
+ghost use Rattle.linker_runs.specs.Choosing.{run_unit, AreItems};
+ghost use Rattle.linker_runs.specs.Faults.{ShapesMeet, ItemMeets, OwnMeets, AlignmentMeets};
+ghost use Rattle.linker_runs.specs.Faults.{UnitMeets, RunMeets, AreSound, IsFirstIn, IsFirstAt};
+ghost use Rattle.linker_runs.specs.Faults.{IsFirstFault};
+
+use super::validity::{has_its_nops, is_clear, run_unit};
+use super::{Alignment, Item, Shapes};
+
+/// Why a run can't be relaxed: what is wrong with one of its items. Of an item that has several
+/// faults, the one that comes first here is told. u is the greatest unit of all short shapes.
+///
+/// An alignment is *still* if it divides u, has no limit, and has the nops that its input address
+/// needs, and beside these a multiple of u. It keeps the same nops in each layout.
+#[derive(Debug, Clone, Copy, PartialEq, Eq)]
+pub enum Fault {
+    /// It begins below the end of the item before it.
+    Overlaps,
+    /// The address behind it is above 2^64 - 1.
+    TooHigh,
+    /// It has more than two short shapes.
+    TooManyShapes,
+    /// A shape keeps more bytes than the site has.
+    ShapeTooLong,
+    /// A short shape keeps no fewer bytes than the next shape.
+    ShapesNotAscending,
+    /// The unit of a short shape isn't a power of two, or isn't a multiple of the next one's.
+    BadUnit,
+    /// A short shape doesn't reach its own offset, or reaches farther than the next short one.
+    BadReach,
+    /// The alignment isn't a power of two.
+    BadPower,
+    /// A shape frees bytes that aren't a multiple of u.
+    UnevenShape,
+    /// The alignment isn't a multiple of u, nor still.
+    PowerBelowUnit,
+    /// The address behind the nops isn't a multiple of u, and the alignment isn't still.
+    UnevenEnd,
+    /// It has a limit, and there are fewer nops than the alignment less u, and fewer than may stay.
+    TooFewNops,
+    /// It has a limit, and its nops aren't a multiple of u.
+    UnevenNops,
+    /// Its target is strictly inside the bytes that an item may lose.
+    TargetInside,
+    /// It is an alignment without a limit, and in some layout more nops may be needed than there are.
+    MayBeMisaligned,
+}
+
+/// A faulty item of a run.
+#[derive(Debug, Clone, Copy, PartialEq, Eq)]
+pub struct ItemFault {
+    /// The item's index.
+    pub index: usize,
+    /// What is wrong with it.
+    pub fault: Fault,
+}
+
+impl Shapes {
+    /// What is wrong with shapes of a site of so many bytes.
+    fn fault(&self, len: u64) -> Option<Fault>
+        ensures { IsFirstIn (ShapesMeet self.now len) result }
+    {
+        if self.count > 2 {
+            Some(Fault::TooManyShapes)
+        } else if !self.are_within(len) {
+            Some(Fault::ShapeTooLong)
+        } else if !self.are_ascending() {
+            Some(Fault::ShapesNotAscending)
+        } else if !self.have_units() {
+            Some(Fault::BadUnit)
+        } else if !self.have_reaches() {
+            Some(Fault::BadReach)
+        } else {
+            None
+        }
+    }
+}
+
+impl Alignment {
+    /// What is wrong with it in a run of a unit at an address.
+    fn fault(&self, unit: u64, start: u64) -> Option<Fault>
+        requires unit { 0 < unit }
+        requires power { 0 < self.now.power }
+        requires ends { start + (self.now.offset + self.now.nops) < 2 ^ 64 }
+        ensures { IsFirstIn (AlignmentMeets unit start self.now) result }
+    {
+        if self.is_still(unit, start) {
+            None
+        } else if self.power % unit != 0 {
+            Some(Fault::PowerBelowUnit)
+        } else if (start + (self.offset + u64::from(self.nops))) % unit != 0 {
+            Some(Fault::UnevenEnd)
+        } else if !self.has_nops(unit) {
+            Some(Fault::TooFewNops)
+        } else if !self.has_even_nops(unit) {
+            Some(Fault::UnevenNops)
+        } else {
+            None
+        }
+    }
+}
+
+impl Item {
+    /// What is wrong with it by itself.
+    fn fault(&self) -> Option<Fault>
+        ensures { IsFirstIn (ItemMeets self.now) result }
+    {
+        match self {
+            Item::Site(site) => site.shapes.fault(u64::from(site.len)),
+            Item::Aligned(alignment) => {
+                if alignment.has_power() {
+                    None
+                } else {
+                    Some(Fault::BadPower)
+                }
+            }
+        }
+    }
+
+    /// What is wrong with it in a run of a unit at an address.
+    fn unit_fault(&self, unit: u64, start: u64) -> Option<Fault>
+        requires unit { 0 < unit }
+        requires ends { start + end_of self.now < 2 ^ 64 }
+        requires few { (fault : Fault) → ItemMeets self.now fault }
+        ensures { IsFirstIn (UnitMeets unit start self.now) result }
+    {
+        match self {
+            Item::Site(site) => {
+                if site.shapes.are_even(unit, u64::from(site.len)) {
+                    None
+                } else {
+                    Some(Fault::UnevenShape)
+                }
+            }
+            Item::Aligned(alignment) => alignment.fault(unit, start),
+        }
+    }
+}
+
+/// What is wrong with the item at an index by itself or by its place.
+fn own_fault(items: &[Item], start: u64, index: usize) -> Option<Fault>
+    requires { index < length items.now }
+    ensures { IsFirstIn (OwnMeets start items.now index) result }
+{
+    let item = &items[index];
+    if index > 0 && !items[index - 1].ends_by(item.offset()) {
+        Some(Fault::Overlaps)
+    } else if !item.ends_below(start) {
+        Some(Fault::TooHigh)
+    } else {
+        item.fault()
+    }
+}
+
+/// What is wrong with the item at an index among the others, in a run of a unit.
+fn run_fault(items: &[Item], start: u64, unit: u64, index: usize) -> Option<Fault>
+    requires in_order { AreInOrder start items.now }
+    requires sound { AreSound start items.now }
+    requires within { index < length items.now }
+    requires unit { 0 < unit }
+    ensures { IsFirstIn (RunMeets unit start items.now index) result }
+{
+    let item = &items[index];
+    if let Some(fault) = item.unit_fault(unit, start) {
+        return Some(fault);
+    }
+    if !is_clear(items, start, item.target()) {
+        Some(Fault::TargetInside)
+    } else if !has_its_nops(items, start, unit, index) {
+        Some(Fault::MayBeMisaligned)
+    } else {
+        None
+    }
+}
+
+/// The first item with a fault by itself or by its place.
+fn first_own_fault(items: &[Item], start: u64) -> Option<ItemFault>
+    ensures { MatchOption result (AreSound start items.now)
+        (IsFirstAt (OwnMeets start items.now) (length items.now)) }
+{
+    for index in 0..items.len() {
+        if let Some(fault) = own_fault(items, start, index) {
+            return Some(ItemFault { index, fault });
+        }
+    }
+    None
+}
+
+/// The first item with a fault among the others.
+fn first_run_fault(items: &[Item], start: u64) -> Option<ItemFault>
+    requires in_order { AreInOrder start items.now }
+    requires sound { AreSound start items.now }
+    ensures { MatchOption result ((i : ℕ) → i < length items.now → (fault : Fault)
+        → RunMeets (run_unit items.now) start items.now i fault)
+        (IsFirstAt (RunMeets (run_unit items.now) start items.now) (length items.now)) }
+{
+    let unit = run_unit(items, start);
+    for index in 0..items.len() {
+        if let Some(fault) = run_fault(items, start, unit, index) {
+            return Some(ItemFault { index, fault });
+        }
+    }
+    None
+}
+
+/// The first faulty item of a run at an address, and its first fault; none where `relax` and
+/// `relax_into` accept the run.
+///
+/// The faults from `UnevenShape` on are about an item among the others. They count only where no
+/// item has one of those before.
+///
+/// It doesn't allocate, and takes O(n log n) for n items.
+pub fn first_faulty(items: &[Item], start: u64) -> Option<ItemFault>
+    ensures { MatchOption result (AreItems start items.now) (IsFirstFault start items.now) }
+{
+    if let Some(found) = first_own_fault(items, start) {
+        return Some(found);
+    }
+    first_run_fault(items, start)
+}
+
+/// Whether `relax` and `relax_into` accept a run at an address.
+///
+/// The items ascend, none reaches past the next, and the address behind the last is below 2^64. No
+/// shape of a site keeps more bytes than the site has, and each keeps fewer than the next. Each
+/// short one reaches its own offset and no farther than the next short one; its unit is a power of
+/// two and a multiple of the next one's. With u the greatest unit of all short shapes each shape
+/// frees a multiple of u, and each alignment, a power of two, and the address behind its nops are
+/// multiples of u; but an alignment may also divide u, have no limit and have the nops that its input
+/// address needs, and beside these a multiple of u. No target is strictly inside the bytes that an item may lose; that of a site
+/// without short shapes isn't asked for.
+///
+/// An alignment with a limit has as many nops as the alignment less u, or no more may stay than there
+/// are; its nops are a multiple of u. One without a limit has as many as it needs in every layout:
+/// as many as the alignment less u, or as many as it less w, where w is the least such power of two
+/// and divides the address of the first nop in every layout. It does if it divides the alignment
+/// without a limit before it, or the address `start`, and the bytes from there, and if what lies in
+/// between frees multiples of w: each shape of a site; an alignment with a limit where w divides
+/// the alignment, its nops and the bytes from there.
+///
+/// It doesn't allocate, and takes O(n log n) for n items. `first_faulty` says what is wrong.
+pub fn are_items(items: &[Item], start: u64) -> bool
+    ensures { IsTrue result ↔ AreItems start items.now }
+{
+    first_faulty(items, start).is_none()
+}

@@ -1,0 +1,312 @@
+//! What is tested of the items of a run.
+
+ghost use Rattle.std.specs.Prelude.{◌≡◌, ◌+◌, ◌<◌, ◌≤◌, ◌^◌, ◌↔◌, ℕ, length, IsTrue};
+ghost use Rattle.std.specs.Int.{IsPowerOfTwo};
+ghost use Rattle.linker_runs.specs.declared.relaxation.faults.Fault.TheVariants.{ShapeTooLong};
+ghost use Rattle.linker_runs.specs.declared.relaxation.faults.Fault.TheVariants.{ShapesNotAscending};
+ghost use Rattle.linker_runs.specs.declared.relaxation.faults.Fault.TheVariants.{BadUnit};
+ghost use Rattle.linker_runs.specs.declared.relaxation.faults.Fault.TheVariants.{BadReach};
+ghost use Rattle.linker_runs.specs.declared.relaxation.faults.Fault.TheVariants.{TooFewNops};
+ghost use Rattle.linker_runs.specs.declared.relaxation.faults.Fault.TheVariants.{UnevenNops};
+ghost use Rattle.linker_runs.specs.Relaxing.{end_of, short_shape, IsSound, AreInOrder};
+ghost use Rattle.linker_runs.specs.Relaxing.{item_at, offset_of};
+ghost use Rattle.linker_runs.specs.Choosing.{item_unit, run_unit, least_len, shapes_unit};
+ghost use Rattle.linker_runs.specs.Choosing.{HasUnit, ShapesFit, IsStill, IsFormed};
+ghost use Rattle.linker_runs.specs.Choosing.{IsAnchor};
+ghost use Rattle.linker_runs.specs.Choosing.{FreesMultiples, IsAlwaysMultiple, AreAlwaysEnough};
+ghost use Rattle.linker_runs.specs.Choosing.{HasItsNops};
+ghost use Rattle.linker_runs.specs.Faults.{ShapesMeet, AlignmentMeets};
+ghost use Rattle.linker_runs.specs.Inner.Validity.{IsClearRun};
+
+use super::passes::place_of;
+use super::{Alignment, Item, Shapes};
+
+/// Whether a number is a power of two.
+fn is_power_of_two(number: u64) -> bool
+    ensures { IsTrue result ↔ IsPowerOfTwo number }
+{
+    number.is_power_of_two()
+}
+
+impl Shapes {
+    /// Whether no shape keeps more than so many bytes.
+    pub(super) fn are_within(&self, len: u64) -> bool
+        requires { self.now.count ≤ 2 }
+        ensures { IsTrue result ↔ ShapesMeet self.now len ShapeTooLong }
+    {
+        u64::from(self.longest) <= len
+            && (self.count < 1 || u64::from(self.short[0].kept) <= len)
+            && (self.count < 2 || u64::from(self.short[1].kept) <= len)
+    }
+
+    /// Whether each short shape keeps fewer bytes than the next.
+    pub(super) fn are_ascending(&self) -> bool
+        requires { self.now.count ≤ 2 }
+        ensures { (len : ℕ) → IsTrue result ↔ ShapesMeet self.now len ShapesNotAscending }
+    {
+        (self.count < 1 || self.kept_by(0) < self.kept_by(1))
+            && (self.count < 2 || self.kept_by(1) < self.kept_by(2))
+    }
+
+    /// Whether the short shape at an index, if there is one, has a power of two as its unit.
+    fn has_unit(&self, shape: u8) -> bool
+        requires { shape < 2 }
+        ensures { IsTrue result
+            ↔ (shape < self.now.count → HasUnit (short_shape self.now shape)) }
+    {
+        shape >= self.count || is_power_of_two(u64::from(self.short[usize::from(shape)].unit))
+    }
+
+    /// Whether all units are powers of two.
+    fn have_powers(&self) -> bool
+        requires { self.now.count ≤ 2 }
+        ensures { IsTrue result
+            ↔ ((k : ℕ) → k < self.now.count → HasUnit (short_shape self.now k)) }
+    {
+        self.has_unit(0) && self.has_unit(1)
+    }
+
+    /// Whether the second unit, if there is one, is no greater than the first.
+    fn units_descend(&self) -> bool
+        requires { self.now.count ≤ 2 }
+        ensures { IsTrue result ↔ (1 < self.now.count
+            → (short_shape self.now 1).unit ≤ (short_shape self.now 0).unit) }
+    {
+        let [first, second] = &self.short;
+        self.count < 2 || second.unit <= first.unit
+    }
+
+    /// Whether the units are powers of two, none less than the next.
+    pub(super) fn have_units(&self) -> bool
+        requires { self.now.count ≤ 2 }
+        ensures { (len : ℕ) → IsTrue result ↔ ShapesMeet self.now len BadUnit }
+    {
+        self.have_powers() && self.units_descend()
+    }
+
+    /// Whether each short shape reaches its own offset, and none farther than the next.
+    pub(super) fn have_reaches(&self) -> bool
+        requires { self.now.count ≤ 2 }
+        ensures { (len : ℕ) → IsTrue result ↔ ShapesMeet self.now len BadReach }
+    {
+        let [first, second] = &self.short;
+        (self.count < 1 || first.ahead > 0)
+            && (self.count < 2
+                || second.ahead > 0 && first.behind <= second.behind && first.ahead <= second.ahead)
+    }
+
+    /// Whether each shape of a site of so many bytes frees a multiple of a unit.
+    pub(super) fn are_even(&self, unit: u64, len: u64) -> bool
+        requires unit { 0 < unit }
+        requires count { self.now.count ≤ 2 }
+        requires within { ShapesMeet self.now len ShapeTooLong }
+        ensures { IsTrue result ↔ ShapesFit unit len self.now }
+    {
+        (len - self.kept_by(0)) % unit == 0
+            && (len - self.kept_by(1)) % unit == 0
+            && (len - self.kept_by(2)) % unit == 0
+    }
+
+    /// The greatest unit of the short ones, and 1 where there is none.
+    fn unit(&self) -> u64
+        requires { self.now.count ≤ 2 }
+        ensures { result ≡ shapes_unit self.now }
+    {
+        if self.count > 1 {
+            u64::from(self.short[0].unit.max(self.short[1].unit))
+        } else if self.count > 0 {
+            u64::from(self.short[0].unit)
+        } else {
+            1
+        }
+    }
+}
+
+impl Alignment {
+    /// Whether it is a power of two.
+    pub(super) fn has_power(&self) -> bool
+        ensures { IsTrue result ↔ IsPowerOfTwo self.now.power }
+    {
+        is_power_of_two(self.power)
+    }
+
+    /// Whether it keeps the nops that its input address needs in each layout of a run of a unit.
+    pub(super) fn is_still(&self, unit: u64, start: u64) -> bool
+        requires unit { 0 < unit }
+        requires power { 0 < self.now.power }
+        requires ends { start + (self.now.offset + self.now.nops) < 2 ^ 64 }
+        ensures { IsTrue result ↔ IsStill unit start self.now }
+    {
+        let nops = u64::from(self.nops);
+        let needed = self.needed_at(start + self.offset);
+        unit % self.power == 0
+            && self.most.is_none()
+            && needed <= nops
+            && (nops - needed) % unit == 0
+    }
+
+    /// Whether it has as many nops as it may need in a run of a unit, if it has a limit.
+    pub(super) fn has_nops(&self, unit: u64) -> bool
+        ensures { (start : ℕ) → IsTrue result ↔ AlignmentMeets unit start self.now TooFewNops }
+    {
+        let nops = u64::from(self.nops);
+        match self.most {
+            None => true,
+            Some(most) => self.power.saturating_sub(nops) <= unit || most <= nops,
+        }
+    }
+
+    /// Whether its nops are a multiple of a unit, if it has a limit.
+    pub(super) fn has_even_nops(&self, unit: u64) -> bool
+        requires { 0 < unit }
+        ensures { (start : ℕ) → IsTrue result ↔ AlignmentMeets unit start self.now UnevenNops }
+    {
+        match self.most {
+            None => true,
+            Some(_) => u64::from(self.nops) % unit == 0,
+        }
+    }
+}
+
+impl Item {
+    /// Whether it ends at or below the address 2^64 - 1 in a run at an address.
+    pub(super) fn ends_below(&self, start: u64) -> bool
+        ensures { IsTrue result ↔ (start + end_of self.now < 2 ^ 64) }
+    {
+        let room = u64::MAX - start;
+        self.offset() <= room && self.len() <= room - self.offset()
+    }
+
+    /// The greatest unit of its short shapes.
+    fn unit(&self) -> u64
+        requires { IsSound self.now }
+        ensures { result ≡ item_unit self.now }
+    {
+        match self {
+            Item::Site(site) => site.shapes.unit(),
+            Item::Aligned(_) => 1,
+        }
+    }
+
+    /// Whether it aligns an offset behind it to a multiple of a number in every layout.
+    fn is_anchor(&self, number: u64, offset: u64) -> bool
+        requires number { 0 < number }
+        requires behind { end_of self.now ≤ offset }
+        ensures { IsTrue result ↔ IsAnchor number offset self.now }
+    {
+        match self {
+            Item::Site(_) => false,
+            Item::Aligned(alignment) => {
+                alignment.most.is_none()
+                    && alignment.power % number == 0
+                    && (offset - (alignment.offset + u64::from(alignment.nops))) % number == 0
+            }
+        }
+    }
+
+    /// Whether it frees only multiples of a number that divides the address of an offset behind it.
+    fn frees_multiples(&self, number: u64, offset: u64) -> bool
+        requires number { 0 < number }
+        requires sound { IsSound self.now }
+        requires behind { end_of self.now ≤ offset }
+        ensures { IsTrue result ↔ FreesMultiples number offset self.now }
+    {
+        match self {
+            Item::Site(site) => site.shapes.are_even(number, u64::from(site.len)),
+            Item::Aligned(alignment) => {
+                (offset - alignment.offset) % number == 0
+                    && alignment.power % number == 0
+                    && u64::from(alignment.nops) % number == 0
+            }
+        }
+    }
+
+    /// How many of its bytes stay in each choice.
+    fn least_len(&self) -> u64
+        requires { IsSound self.now }
+        ensures { result ≡ least_len self.now }
+    {
+        match self {
+            Item::Site(site) => site.shapes.kept_by(0),
+            Item::Aligned(_) => 0,
+        }
+    }
+}
+
+/// The greatest unit of a run.
+pub(super) fn run_unit(items: &[Item], start: u64) -> u64
+    requires { AreInOrder start items.now }
+    ensures unit { result ≡ run_unit items.now }
+    ensures some { 0 < result }
+{
+    let mut unit = 1;
+    for item in items {
+        unit = unit.max(item.unit());
+    }
+    unit
+}
+
+/// Whether an offset is not inside what an item may lose.
+pub(super) fn is_clear(items: &[Item], start: u64, offset: u64) -> bool
+    requires { AreInOrder start items.now }
+    ensures { IsTrue result ↔ IsClearRun items.now offset }
+{
+    let place = place_of(items, offset, start);
+    place == items.len() || offset.saturating_sub(items[place].offset()) <= items[place].least_len()
+}
+
+/// Whether a number divides the output address of the item at an index in every layout.
+fn is_always_multiple(items: &[Item], start: u64, number: u64, index: usize) -> bool
+    requires number { 0 < number }
+    requires in_order { AreInOrder start items.now }
+    requires within { index < length items.now }
+    ensures { IsTrue result
+        ↔ IsAlwaysMultiple number start (offset_of (item_at items.now index)) items.now index }
+{
+    let offset = items[index].offset();
+    for behind in 0..index {
+        let item = &items[index - 1 - behind];
+        if item.is_anchor(number, offset) {
+            return true;
+        }
+        if !item.frees_multiples(number, offset) {
+            return false;
+        }
+    }
+    (start + offset) % number == 0
+}
+
+/// Whether an alignment, the item at an index, has as many nops as it needs in every layout of a run
+/// of a unit.
+fn are_always_enough(
+    items: &[Item],
+    start: u64,
+    unit: u64,
+    index: usize,
+    alignment: &Alignment,
+) -> bool
+    requires in_order { AreInOrder start items.now }
+    requires within { index < length items.now }
+    requires is_there { offset_of (item_at items.now index) ≡ alignment.now.offset }
+    requires power { IsPowerOfTwo alignment.now.power }
+    ensures { IsTrue result ↔ AreAlwaysEnough unit start items.now index alignment.now }
+{
+    let unfilled = alignment.power.saturating_sub(u64::from(alignment.nops));
+    unfilled <= unit || is_always_multiple(items, start, unfilled.next_power_of_two(), index)
+}
+
+/// Whether the item at an index has as many nops as it needs in every layout of a run of a unit, if
+/// it is an alignment without a limit.
+pub(super) fn has_its_nops(items: &[Item], start: u64, unit: u64, index: usize) -> bool
+    requires in_order { AreInOrder start items.now }
+    requires within { index < length items.now }
+    requires formed { IsFormed (item_at items.now index) }
+    ensures { IsTrue result ↔ HasItsNops unit start items.now index (item_at items.now index) }
+{
+    match &items[index] {
+        Item::Site(_) => true,
+        Item::Aligned(alignment) => {
+            alignment.most.is_some() || are_always_enough(items, start, unit, index, alignment)
+        }
+    }
+}

@@ -1,0 +1,29 @@
+//! The shapes that the instructions of an architecture can have.
+
+ghost use Rattle.std.specs.Prelude.{◌≡◌, ℕ, true};
+ghost use Rattle.linker_runs.specs.Relaxing.{shape_len, shape_reaches};
+
+use crate::relaxation::{Shape, Shapes};
+
+pub mod loongarch64;
+pub mod riscv64;
+
+/// No short shape.
+const NONE: Shape = Shape {
+    kept: 0,
+    behind: 0,
+    ahead: 0,
+    unit: 1,
+};
+
+/// A deletion that is decided already: so many bytes stay wherever the target is.
+pub fn fixed(kept: u32) -> Shapes
+    ensures len { (k : ℕ) → shape_len result k ≡ kept }
+    ensures reached { (k from to : ℕ) → shape_reaches result k from to ≡ true }
+{
+    Shapes {
+        short: [NONE, NONE],
+        count: 0,
+        longest: kept,
+    }
+}

@@ -1,5 +1,0 @@
-use Rattle.relax_laws.proofs.LongCalls36.{near_calls_36}
-use Rattle.relax_laws.proofs.near_calls_36_are_writable.Goals as goal
-
-pub returns : goal.returns
-returns c = near_calls_36

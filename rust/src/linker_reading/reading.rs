@@ -1,0 +1,335 @@
+// Made by tools/erase of crates/linker_reading/src/reading.rt.
+//! The value of a relocation, read from the bytes at its place.
+
+use crate::linker_reading::fields::{FieldValue, bits_of, power_of_two};
+use crate::linker_base::bit_misc::{BitExtraction, BitRange};
+use crate::linker_base::utils::{u32_from_slice, u64_from_slice};
+use crate::linker_elf::elf::{
+    AArch64Instruction, AllowedRange, InstructionForm, LoongArch64Instruction, Ppc64Instruction,
+    RelocationInstruction, RelocationKind, RelocationKindInfo, RelocationSize, RiscVInstruction,
+    Row, Sign,
+};
+use crate::linker_elf::ppc64::DQ_UNIT;
+
+/// Whether bytes hold the value, or its low bits, and not a sum of it and what stood there.
+fn holds_value(kind: RelocationKind) -> bool {
+    !matches!(
+        kind,
+        RelocationKind::AbsoluteAddition
+            | RelocationKind::AbsoluteAdditionWord6
+            | RelocationKind::AbsoluteSubtraction
+            | RelocationKind::AbsoluteSubtractionWord6
+            | RelocationKind::PairSubtractionULEB128RiscV
+            | RelocationKind::PairSubtractionULEB128LoongArch
+    )
+}
+
+/// Whether an instruction holds bits of a value from the range's start up.
+fn holds_bits(insn: RelocationInstruction, bits: BitRange) -> bool {
+    match insn {
+        RelocationInstruction::AArch64(AArch64Instruction::Movnz) => {
+            bits.end as u32 == bits.start as u32 + 16
+        }
+        RelocationInstruction::AArch64(AArch64Instruction::MachOLow12)
+        | RelocationInstruction::LoongArch64(LoongArch64Instruction::Call30) => false,
+        RelocationInstruction::RiscV(RiscVInstruction::UType | RiscVInstruction::CluiType)
+        | RelocationInstruction::Ppc64(Ppc64Instruction::Ds) => bits.start == 0,
+        _ => true,
+    }
+}
+
+/// What an instruction of AArch64 holds.
+fn aarch64_number(insn: AArch64Instruction, bytes: &[u8]) -> u64 {
+    let (number, _) = insn.read(bytes);
+    match insn {
+        // the machine reads these without a sign
+        AArch64Instruction::Movkz => number.low_bits(16),
+        AArch64Instruction::LdSt => number.low_bits(12),
+        _ => number,
+    }
+}
+
+/// What an instruction of RISC-V holds, its value rounded.
+fn riscv_number(insn: RiscVInstruction, bytes: &[u8]) -> u64 {
+    let (number, _) = insn.read(bytes);
+    match insn {
+        RiscVInstruction::UType => number.wrapping_add(0x800),
+        RiscVInstruction::CluiType => number.wrapping_add(0x800),
+        _ => number,
+    }
+}
+
+/// What an instruction of PowerPC64 holds, in two's complement.
+fn ppc64_number(insn: Ppc64Instruction, bytes: &[u8]) -> u64 {
+    let (number, _) = insn.read(bytes);
+    match insn {
+        Ppc64Instruction::Ds => {
+            if insn.is_dq_form(bytes) {
+                (number - number % DQ_UNIT).low_bits_signed(16)
+            } else {
+                number.low_bits_signed(16)
+            }
+        }
+        Ppc64Instruction::D => number.low_bits_signed(16),
+        Ppc64Instruction::Branch14 => number.low_bits_signed(16),
+        Ppc64Instruction::Branch24 => number.low_bits_signed(26),
+        Ppc64Instruction::Prefixed => number.low_bits_signed(34),
+    }
+}
+
+/// What an instruction of LoongArch, or a pair, holds, in two's complement.
+fn loongarch_number(insn: LoongArch64Instruction, bytes: &[u8]) -> u64 {
+    match insn {
+        LoongArch64Instruction::Shift5 => insn.read(bytes).0.low_bits_signed(20),
+        LoongArch64Instruction::Shift10 => {
+            let word = u32_from_slice(bytes) as u64;
+            word.extract_bit_range(10..26).low_bits_signed(16)
+        }
+        LoongArch64Instruction::Call36 => {
+            let pair = u64_from_slice(bytes);
+            let high = pair.extract_bit_range(5..25).low_bits_signed(20);
+            let low = pair.extract_bit_range(42..58).low_bits_signed(16);
+            high.wrapping_mul(1 << 16).wrapping_add(low)
+        }
+        _ => insn.read(bytes).0,
+    }
+}
+
+/// What the machine reads of an instruction, in units of the first bit of its range, modulo 2^64.
+fn number_held(insn: RelocationInstruction, bytes: &[u8]) -> u64 {
+    match insn {
+        RelocationInstruction::AArch64(insn) => aarch64_number(insn, bytes),
+        RelocationInstruction::RiscV(insn) => riscv_number(insn, bytes),
+        RelocationInstruction::Ppc64(insn) => ppc64_number(insn, bytes),
+        RelocationInstruction::LoongArch64(insn) => loongarch_number(insn, bytes),
+    }
+}
+
+/// Whether every allowed value is a number of `count` signed bits.
+fn are_signed(count: u32, reach: AllowedRange) -> bool {
+    let all = AllowedRange::from_bit_size(count, Sign::Signed);
+    match (all.bounds, reach.bounds) {
+        (Some((least, end)), Some((min, max))) => least <= min && max <= end,
+        _ => false,
+    }
+}
+
+/// Which bits of a value, of a range, an immediate has.
+fn bits_within(immediate: BitRange, bits: BitRange) -> BitRange {
+    let end = bits.start as u32 + immediate.end as u32;
+    BitRange {
+        start: bits.start + immediate.start,
+        end: if (bits.end as u32) < end {
+            bits.end
+        } else {
+            end as u8
+        },
+    }
+}
+
+/// Which bits of the value, rounded, an instruction holds.
+fn bits_held(insn: RelocationInstruction, bits: BitRange, reach: AllowedRange) -> BitRange {
+    match insn {
+        RelocationInstruction::AArch64(AArch64Instruction::Movnz) => {
+            if bits.end < 49 && are_signed(bits.end as u32 + 1, reach) {
+                BitRange {
+                    start: bits.start,
+                    end: bits.end + 1,
+                }
+            } else {
+                bits
+            }
+        }
+        _ => bits_within(insn.value_bits(), bits),
+    }
+}
+
+/// Whether a field holds a value, or some of its bits.
+fn holds_field(kind: RelocationKind, size: RelocationSize, reach: AllowedRange) -> bool {
+    match size {
+        RelocationSize::ByteSize(len) => 0 < len && len < 9 && holds_value(kind),
+        RelocationSize::BitMasking { range, insn } => {
+            if range.start >= range.end {
+                return false;
+            }
+            if range.end > 64 {
+                return false;
+            }
+            let known = bits_held(insn, range, reach);
+            known.start < known.end && holds_bits(insn, range)
+        }
+    }
+}
+
+/// What is added to a value before an instruction takes its bits.
+fn rounding_of(insn: RelocationInstruction) -> u64 {
+    match insn {
+        RelocationInstruction::RiscV(RiscVInstruction::UType | RiscVInstruction::CluiType) => 0x800,
+        _ => 0,
+    }
+}
+
+/// The number of the first `len` bytes.
+fn number_of_bytes(len: usize, bytes: &[u8]) -> u64 {
+    let mut word = [0u8; 8];
+    word[..len].copy_from_slice(&bytes[..len]);
+    u64::from_le_bytes(word)
+}
+
+/// What stands in a `jirl` at the low part of an address: bits 2 to 11 of the value, of which bits 0 and 1 are 0.
+fn jump_read(bytes: &[u8]) -> FieldValue {
+    let word = u32_from_slice(bytes) as u64;
+    FieldValue {
+        known: BitRange { start: 0, end: 12 },
+        bits: word.extract_bit_range(10..20) * 4,
+        rounding: 0,
+    }
+}
+
+/// What stands in an instruction of a form.
+fn instruction_read(
+    insn: RelocationInstruction,
+    range: BitRange,
+    reach: AllowedRange,
+    bytes: &[u8],
+) -> FieldValue {
+    let known = bits_held(insn, range, reach);
+    let number = number_held(insn, bytes);
+    FieldValue {
+        known,
+        bits: bits_of(number, known.start - range.start, known.end - range.start),
+        rounding: rounding_of(insn),
+    }
+}
+
+/// What stands in the field.
+fn field_read(row: &RelocationKindInfo, reach: AllowedRange, bytes: &[u8]) -> FieldValue {
+    match row.size {
+        RelocationSize::ByteSize(len) => {
+            let count = match row.kind {
+                RelocationKind::AbsoluteSetWord6 => 6,
+                _ => 8 * len,
+            };
+            FieldValue {
+                known: BitRange {
+                    start: 0,
+                    end: count,
+                },
+                bits: bits_of(number_of_bytes(len as usize, bytes), 0, count),
+                rounding: 0,
+            }
+        }
+        RelocationSize::BitMasking { range, insn } => {
+            if insn.is_low_jump(row.kind, bytes) {
+                return jump_read(bytes);
+            }
+            instruction_read(insn.written_at(range, bytes), range, reach, bytes)
+        }
+    }
+}
+
+/// Whether the values from `min` up, below `max`, with the known bits differ below the first of
+/// these only.
+fn leaves_one(min: i64, max: i64, field: FieldValue) -> bool {
+    if field.known.end >= 64 {
+        return false;
+    }
+    let least = min.cast_unsigned().wrapping_add(field.rounding);
+    let count = max.cast_unsigned().wrapping_sub(min.cast_unsigned());
+    count <= power_of_two(field.known.end) && least % power_of_two(field.known.start) == 0
+}
+
+/// Adds all bits above the known ones.
+fn up_to_sign(min: i64, max: i64, field: FieldValue) -> FieldValue {
+    let unit = power_of_two(field.known.start);
+    let least = min.cast_unsigned().wrapping_add(field.rounding);
+    let steps = field.bits.wrapping_sub(least / unit)
+        % power_of_two(field.known.end - field.known.start);
+    FieldValue {
+        known: BitRange {
+            start: field.known.start,
+            end: 64,
+        },
+        bits: least.wrapping_add(steps * unit) / unit,
+        rounding: field.rounding,
+    }
+}
+
+/// Adds the bits above that the reach leaves.
+fn with_reach(reach: AllowedRange, field: FieldValue) -> FieldValue {
+    match reach.bounds {
+        Some((min, max)) => {
+            if leaves_one(min, max, field) {
+                up_to_sign(min, max, field)
+            } else {
+                field
+            }
+        }
+        None => field,
+    }
+}
+
+/// Adds the bits below that are 0 in multiples of the alignment.
+fn with_alignment(alignment: u64, field: FieldValue) -> FieldValue {
+    let unit = power_of_two(field.known.start);
+    if field.rounding == 0 && alignment % unit == 0 {
+        FieldValue {
+            known: BitRange {
+                start: 0,
+                end: field.known.end,
+            },
+            bits: field.bits * unit,
+            rounding: 0,
+        }
+    } else {
+        field
+    }
+}
+
+/// What is known of a relocation's value from the bytes that begin with its field. Whatever value
+/// `write` wrote there, it has these bits. Of instructions it is what the machine reads:
+///
+/// - Bits of an instruction are those of the value from the first of the relocation's bits up. They
+///   are known up to bit 63 if `reach` leaves one choice, as a sign does, and down to bit 0 if the
+///   row's alignment says that the bits below are 0. Then `number` returns the value.
+/// - RISC-V's `lui`, `auipc` and `c.lui` have the upper bits of the value plus 0x800, which is the
+///   `rounding`. The other half has its low 12 bits. `UiType` and LoongArch's `Call36` have both
+///   halves, so that all bits are known.
+/// - PowerPC64's and LoongArch's adjusted high halves need no rounding: the row's bias is part of
+///   the value, and `solve` takes it off.
+/// - MOVN and MOVZ have 16 bits and the sign, whatever their shift is; a MOVK has 16 bits.
+/// - A `jirl` at `R_LARCH_PCALA_LO12` has bits 2 to 11, and bits 0 and 1 are 0.
+/// - Whole bytes have the low bits of the value, as a little-endian number; `R_RISCV_SET6` has 6.
+///
+/// `None` if there are fewer bytes than the window. Also `None` of rows whose field isn't the
+/// value: those of no bytes, those that add or subtract, those of ULEB128 numbers, and
+/// `R_LARCH_CALL30`; and of rows that the library doesn't return, as those of `MachOLow12` or of
+/// more than 8 bytes.
+///
+/// ```
+/// use linker_utils::reading::read;
+/// use linker_utils::riscv64::{self, RiscVRelocation};
+///
+/// // `jal ra, 8`
+/// let jal = 0x0080_00efu32.to_le_bytes();
+/// let row = riscv64::row(RiscVRelocation::R_RISCV_JAL).unwrap();
+/// assert_eq!(read(&row, &jal).unwrap().number(), Some(8));
+/// ```
+#[must_use]
+pub fn read(row: &Row, bytes: &[u8]) -> Option<FieldValue> {
+    read_row(&row.info(), bytes)
+}
+
+/// The same, of a row that was read from a table.
+#[must_use]
+pub fn read_row(row: &RelocationKindInfo, bytes: &[u8]) -> Option<FieldValue> {
+    let reach = row.reach();
+    if !holds_field(row.kind, row.size, reach) {
+        return None;
+    }
+    if bytes.len() < row.window() {
+        return None;
+    }
+    let field = field_read(row, reach, bytes);
+    Some(with_alignment(row.alignment, with_reach(reach, field)))
+}

@@ -1,0 +1,404 @@
+// Made by tools/erase of crates/linker_runs/src/packing.rt.
+//! A section of a relaxed run, packed.
+
+mod code;
+mod copying;
+mod loongarch64;
+mod riscv64;
+
+use crate::linker_runs::packing::code::Code;
+use crate::linker_runs::packing::copying::copy_kept;
+use crate::linker_runs::relaxation::{Item, Site};
+use crate::linker_base::relaxation::{DeltaSlice, RelaxDelta};
+
+/// The architecture of a section's code.
+#[derive(Debug, Clone, Copy, PartialEq, Eq)]
+pub enum Machine {
+    /// RISC-V of 64 bits.
+    RiscV64,
+    /// LoongArch of 64 bits.
+    LoongArch64,
+}
+
+/// Why an item isn't written.
+#[derive(Debug, Clone, Copy, PartialEq, Eq)]
+pub enum ItemError {
+    /// It begins below the end of the item before it.
+    Overlaps,
+    /// It doesn't lie in the section.
+    OutOfSection,
+    /// Bytes between the item before it, or the section's begin, and it are deleted, so that an item
+    /// is missing. The index is that behind the last item where bytes between that and the section's
+    /// end are.
+    DeletedOutside,
+    /// So many bytes of it stay, but they aren't its first ones.
+    NotItsFirstBytes,
+    /// The instructions of the site aren't those that its shapes stand for.
+    NotItsInstructions,
+    /// No instruction, or no nops, have as many bytes as stay.
+    NoShape,
+    /// The instructions don't reach the target: it is too far, or the distance isn't a multiple of
+    /// what the instruction counts in.
+    OutOfReach,
+}
+
+/// The first item of a section that can't be written.
+#[derive(Debug, Clone, Copy, PartialEq, Eq)]
+pub struct RejectedItem {
+    /// Its index among the items, or how many there are.
+    pub index: usize,
+    /// Why it can't.
+    pub error: ItemError,
+}
+
+/// What is written in place of the bytes of an item that stay.
+#[derive(Clone, Copy)]
+pub(crate) enum Piece {
+    /// Nothing: they stay as they are.
+    Nothing,
+    /// So many bytes of nops.
+    Nops(u64),
+    /// An instruction.
+    Code(Code),
+}
+
+/// The output offset of an input offset.
+#[inline(always)]
+fn to_output(deltas: &[RelaxDelta], offset: u64) -> u64 {
+    DeltaSlice::new(deltas).input_to_output_offset(offset)
+}
+
+/// Whether the item at an index begins at or above the end of the one before it.
+fn is_apart(items: &[Item], index: usize) -> bool {
+    if index == 0 {
+        return true;
+    }
+    let before = &items[index - 1];
+    let offset = items[index].offset();
+    before.offset() <= offset && before.len() <= offset - before.offset()
+}
+
+/// Whether an item lies in a section that begins at the input offset `base`.
+fn is_inside(section: &[u8], base: u64, item: &Item) -> bool {
+    let len = section.len() as u64;
+    if item.offset() < base {
+        return false;
+    }
+    let at = item.offset() - base;
+    at <= len && item.len() <= len - at
+}
+
+/// Where the bytes before the item at an index, which are of no item, begin.
+fn gap_start(base: u64, items: &[Item], index: usize) -> u64 {
+    if index == 0 {
+        return base;
+    }
+    let before = &items[index - 1];
+    before.offset() + before.len()
+}
+
+/// Whether all bytes from an input offset up to another stay.
+fn stay_whole(deltas: &[RelaxDelta], from: u64, to: u64) -> bool {
+    let output = to_output(deltas, from);
+    to_output(deltas, to).saturating_sub(output) == to - from
+}
+
+/// What the instructions of a site become of which so many bytes stay.
+fn code_of_site(
+    machine: Machine,
+    section: &[u8],
+    base: u64,
+    deltas: &[RelaxDelta],
+    start: u64,
+    site: &Site,
+    kept: u64,
+) -> Result<Code, ItemError> {
+    if site.len != 8 {
+        return Err(ItemError::NotItsInstructions);
+    }
+    let place = start.wrapping_add(to_output(deltas, site.offset));
+    let target = start.wrapping_add(to_output(deltas, site.target));
+    match machine {
+        Machine::RiscV64 => riscv64::code_of(section, site.offset - base, kept, place, target),
+        Machine::LoongArch64 => {
+            loongarch64::code_of(section, site.offset - base, kept, place, target)
+        }
+    }
+}
+
+/// How many bytes the shortest nop has.
+fn nop_len(machine: Machine) -> u64 {
+    match machine {
+        Machine::RiscV64 => 2,
+        Machine::LoongArch64 => 4,
+    }
+}
+
+/// Whether the linker has decided what stays of an item.
+fn is_fixed(item: &Item) -> bool {
+    match item {
+        Item::Site(site) => site.shapes.count == 0,
+        Item::Aligned(_) => false,
+    }
+}
+
+/// How many bytes of an item stay, if they are its first ones.
+fn kept_of(deltas: &[RelaxDelta], item: &Item) -> Option<u64> {
+    let from = to_output(deltas, item.offset());
+    let kept = to_output(deltas, item.offset() + item.len()).saturating_sub(from);
+    if kept <= item.len() && to_output(deltas, item.offset() + kept) == from + kept {
+        Some(kept)
+    } else {
+        None
+    }
+}
+
+/// What is written of an item of which so many bytes stay.
+fn piece_for(
+    machine: Machine,
+    section: &[u8],
+    base: u64,
+    deltas: &[RelaxDelta],
+    start: u64,
+    item: &Item,
+    kept: u64,
+) -> Result<Piece, ItemError> {
+    match item {
+        Item::Aligned(_) => {
+            if kept % nop_len(machine) == 0 {
+                Ok(Piece::Nops(kept))
+            } else {
+                Err(ItemError::NoShape)
+            }
+        }
+        Item::Site(site) => {
+            match code_of_site(machine, section, base, deltas, start, site, kept) {
+                Ok(code) => Ok(Piece::Code(code)),
+                Err(error) => Err(error),
+            }
+        }
+    }
+}
+
+/// What is written in place of an item's bytes that stay.
+fn piece_of(
+    machine: Machine,
+    section: &[u8],
+    base: u64,
+    deltas: &[RelaxDelta],
+    start: u64,
+    item: &Item,
+) -> Result<Piece, ItemError> {
+    if is_fixed(item) {
+        return Ok(Piece::Nothing);
+    }
+    match kept_of(deltas, item) {
+        Some(kept) => piece_for(machine, section, base, deltas, start, item, kept),
+        None => Err(ItemError::NotItsFirstBytes),
+    }
+}
+
+/// Whether each item can be written; the error is that of the first that can't.
+fn test_items(
+    machine: Machine,
+    section: &[u8],
+    base: u64,
+    items: &[Item],
+    deltas: &[RelaxDelta],
+    start: u64,
+) -> Result<(), RejectedItem> {
+    for index in 0..items.len() {
+        if !is_apart(items, index) {
+            return Err(RejectedItem {
+                index,
+                error: ItemError::Overlaps,
+            });
+        }
+        let item = &items[index];
+        if !is_inside(section, base, item) {
+            return Err(RejectedItem {
+                index,
+                error: ItemError::OutOfSection,
+            });
+        }
+        if !stay_whole(deltas, gap_start(base, items, index), item.offset()) {
+            return Err(RejectedItem {
+                index,
+                error: ItemError::DeletedOutside,
+            });
+        }
+        if let Err(error) = piece_of(machine, section, base, deltas, start, item) {
+            return Err(RejectedItem { index, error });
+        }
+    }
+    let end = base + section.len() as u64;
+    if stay_whole(deltas, gap_start(base, items, items.len()), end) {
+        Ok(())
+    } else {
+        Err(RejectedItem {
+            index: items.len(),
+            error: ItemError::DeletedOutside,
+        })
+    }
+}
+
+/// Puts bytes at an offset, where they fit there.
+fn put_bytes(packed: &mut [u8], at: u64, bytes: &[u8]) {
+    let len = packed.len() as u64;
+    let count = bytes.len() as u64;
+    if count > len || at > len - count {
+        return;
+    }
+    let from = at as usize;
+    packed[from..from + bytes.len()].copy_from_slice(bytes);
+}
+
+/// Puts so many of the same four bytes at an offset, where they fit there.
+fn put_words(packed: &mut [u8], at: u64, word: [u8; 4], count: u64) {
+    let len = packed.len() as u64;
+    if count > len / 4 || at > len - 4 * count {
+        return;
+    }
+    for index in 0..count {
+        put_bytes(packed, at + 4 * index, &word);
+    }
+}
+
+/// Puts so many bytes of nops at an offset, where they fit there.
+fn put_nops(machine: Machine, packed: &mut [u8], at: u64, len: u64) {
+    match machine {
+        Machine::RiscV64 => {
+            put_words(packed, at, [0x13, 0x00, 0x00, 0x00], len / 4);
+            if len % 4 == 2 {
+                put_bytes(packed, at.wrapping_add(len - 2), &[0x01, 0x00]);
+            }
+        }
+        Machine::LoongArch64 => put_words(packed, at, [0x00, 0x00, 0x40, 0x03], len / 4),
+    }
+}
+
+/// Puts what is written of an item at an offset, where it fits there.
+fn put_piece(machine: Machine, packed: &mut [u8], at: u64, piece: Piece) {
+    match piece {
+        Piece::Nothing => {}
+        Piece::Nops(len) => put_nops(machine, packed, at, len),
+        Piece::Code(code) => match code {
+            Code::Half(bytes) => put_bytes(packed, at, &bytes),
+            Code::Word(bytes) => put_bytes(packed, at, &bytes),
+            Code::Pair(bytes) => put_bytes(packed, at, &bytes),
+        },
+    }
+}
+
+/// Puts what is written of each item, where it can be written.
+fn put_items(
+    machine: Machine,
+    section: &[u8],
+    base: u64,
+    items: &[Item],
+    deltas: &[RelaxDelta],
+    start: u64,
+    packed: &mut [u8],
+) {
+    for index in 0..items.len() {
+        let item = &items[index];
+        if !is_inside(section, base, item) {
+            return;
+        }
+        match piece_of(machine, section, base, deltas, start, item) {
+            Err(_error) => return,
+            Ok(piece) => {
+                let before = to_output(deltas, base);
+                let at = to_output(deltas, item.offset()).saturating_sub(before);
+                put_piece(machine, packed, at, piece);
+            }
+        }
+    }
+}
+
+/// How many bytes of a section stay: as many as it takes when it is packed. The section has `len`
+/// bytes, and begins at the input offset `base` of the run that loses what the deltas list.
+///
+/// # Requires
+///
+/// - `(base as u128) + (len as u128) < 1 << 64`
+#[must_use]
+#[cfg_attr(debug_assertions, track_caller)]
+pub fn packed_run_len(base: u64, len: usize, deltas: &[RelaxDelta]) -> usize {
+    debug_assert!((base as u128) + (len as u128) < 1 << 64);
+    let end = to_output(deltas, base + len as u64);
+    end.saturating_sub(to_output(deltas, base)) as usize
+}
+
+/// Whether a site is eight bytes of a section, of instructions that can have its shapes: of RISC-V
+/// `auipc` and `jalr` with `CALL`, or with `TAIL_C` where they link x0; of LoongArch `pcaddu18i` and
+/// `jirl` with `CALL36`, or `pcalau12i` and `addi.d` of one register with `PCALA`. The section begins
+/// at the input offset `base` of the run. A site of which the linker has decided has none of these
+/// shapes; an alignment has no instructions to be tested.
+///
+/// Where this is so of a site that `relax` made shorter, `pack_run` can write it: the instruction
+/// reaches its target.
+#[must_use]
+pub fn has_its_instructions(machine: Machine, section: &[u8], base: u64, item: &Item) -> bool {
+    let Item::Site(site) = item else {
+        return true;
+    };
+    if site.len != 8 || !is_inside(section, base, item) {
+        return false;
+    }
+    let offset = site.offset - base;
+    match machine {
+        Machine::RiscV64 => riscv64::has_shapes(section, offset, &site.shapes),
+        Machine::LoongArch64 => loongarch64::has_shapes(section, offset, &site.shapes),
+    }
+}
+
+/// Packs a section of a relaxed run into memory of the caller's: the bytes that stay, in order,
+/// with the instructions of its sites and the nops of its alignments written anew.
+///
+/// The section begins at the input offset `base` of the run. The run begins at the address `start`
+/// and loses what `deltas` list, as `relax` returns it; addresses are modulo 2^64. `items` are all
+/// of the run's items that lie in the section and lose bytes, in their order, and any others there.
+/// Targets may lie anywhere in the run.
+///
+/// How many bytes of an item stay, which have to be its first ones, says what is written:
+/// - of RISC-V `c.j` of two bytes for a call that links x0, `jal` of four with the link register of
+///   the `jalr`, and of eight the call as it is, with `R_RISCV_CALL_PLT` applied (RISC-V ELF psABI,
+///   "Function Call Relaxation");
+/// - of LoongArch four bytes of `b` for a call whose `jirl` links none, of `bl` for one that links
+///   `ra`, and of `pcaddi`, with the `addi.d`'s register, for an address; of eight the instructions
+///   as they are, with `R_LARCH_CALL36`, or `R_LARCH_PCALA_HI20` and `R_LARCH_PCALA_LO12`, applied
+///   (LoongArch ELF psABI, "Linker Relaxation"). The instructions tell which of both a site is;
+/// - of an alignment nops: of RISC-V `nop`, and at most one `c.nop` at the end; of LoongArch
+///   `andi zero, zero, 0`.
+///
+/// A site without short shapes, as `fixed` has it, is left as it is.
+///
+/// Requires an output of `packed_run_len` bytes. The deltas are as `SectionRelaxDeltas::deltas`
+/// lists them (`DeltaSlice::has_valid_deltas`); of others nothing is promised but that the call is
+/// safe. The error tells the first item that can't be written, or before which bytes are deleted
+/// that are of no item, and nothing is written then.
+///
+/// It doesn't allocate. It takes O(section + deltas + items log deltas).
+///
+/// # Requires
+///
+/// - small: `(base as u128) + (section.len() as u128) < 1 << 64`
+/// - room: `!DeltaSlice::new(deltas).has_valid_deltas() || packed_run_len(base, section.len(), deltas) == out.len()`
+#[cfg_attr(debug_assertions, track_caller)]
+pub fn pack_run(
+    machine: Machine,
+    section: &[u8],
+    base: u64,
+    items: &[Item],
+    deltas: &[RelaxDelta],
+    start: u64,
+    out: &mut [u8],
+) -> Result<(), RejectedItem> {
+    debug_assert!((base as u128) + (section.len() as u128) < 1 << 64);
+    debug_assert!(!DeltaSlice::new(deltas).has_valid_deltas() || packed_run_len(base, section.len(), deltas) == out.len());
+    test_items(machine, section, base, items, deltas, start)?;
+    copy_kept(section, base, deltas, out);
+    put_items(machine, section, base, items, deltas, start, out);
+    Ok(())
+}

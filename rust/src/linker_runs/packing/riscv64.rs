@@ -1,0 +1,76 @@
+// Made by tools/erase of crates/linker_runs/src/packing/riscv64.rt.
+//! RISC-V: what a call becomes.
+
+use crate::linker_runs::packing::ItemError;
+use crate::linker_runs::packing::code::{Code, Template, pair_at, relocated};
+use crate::linker_runs::relaxation::Shapes;
+use crate::linker_runs::riscv64::link_at;
+use crate::linker_runs::shapes::riscv64::{CALL, TAIL_C};
+use crate::linker_elf::elf::RelocationKindInfo;
+use crate::riscv64::{RiscVRelocation, relocation_type_from_raw};
+
+/// What a relocation means that has a row.
+fn row_of(name: RiscVRelocation) -> RelocationKindInfo {
+    match relocation_type_from_raw(name) {
+        Some(row) => row,
+        None => unreachable!(),
+    }
+}
+
+/// `jal` of distance 0 that links a register.
+fn jal(link: u32) -> [u8; 4] {
+    (0x6f + link * 128).to_le_bytes()
+}
+
+/// The instruction of which so many bytes stay of a call that links a register.
+fn template_of(section: &[u8], offset: u64, link: u32, kept: u64) -> Option<Template> {
+    match kept {
+        2 if link == 0 => Some(Template {
+            row: row_of(RiscVRelocation::R_RISCV_RVC_JUMP),
+            code: Code::Half([0x01, 0xa0]),
+        }),
+        4 => Some(Template {
+            row: row_of(RiscVRelocation::R_RISCV_JAL),
+            code: Code::Word(jal(link)),
+        }),
+        8 => Some(Template {
+            row: row_of(RiscVRelocation::R_RISCV_CALL_PLT),
+            code: Code::Pair(pair_at(section, offset)),
+        }),
+        _ => None,
+    }
+}
+
+/// What a call becomes of which so many bytes stay, at an address and for a target's.
+pub(crate) fn code_of(
+    section: &[u8],
+    offset: u64,
+    kept: u64,
+    place: u64,
+    target: u64,
+) -> Result<Code, ItemError> {
+    let Some(link) = link_at(section, offset) else {
+        return Err(ItemError::NotItsInstructions);
+    };
+    let Some(template) = template_of(section, offset, link, kept) else {
+        return Err(ItemError::NoShape);
+    };
+    crate::relocation_laws::riscv64();
+    match relocated(template, place, target) {
+        Some(code) => Ok(code),
+        None => Err(ItemError::OutOfReach),
+    }
+}
+
+/// Whether a call that links a register can have the shapes.
+fn are_of_link(link: u32, shapes: &Shapes) -> bool {
+    *shapes == CALL || (link == 0 && *shapes == TAIL_C)
+}
+
+/// Whether a call at an offset can have the shapes.
+pub(crate) fn has_shapes(section: &[u8], offset: u64, shapes: &Shapes) -> bool {
+    match link_at(section, offset) {
+        Some(link) => are_of_link(link, shapes),
+        None => false,
+    }
+}

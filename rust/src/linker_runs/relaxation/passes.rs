@@ -1,0 +1,103 @@
+// Made by tools/erase of crates/linker_runs/src/relaxation/passes.rt.
+//! Passes over a run: the places of targets, a layout, and one round.
+
+use super::Item;
+
+/// How many items end at or below an offset.
+pub(super) fn place_of(items: &[Item], offset: u64, start: u64) -> usize {
+    items.partition_point(|item| item.ends_by(offset))
+}
+
+/// For each item the place of its target, or `usize::MAX` where its shortest shape reaches that while
+/// nothing is freed: then it is always in reach.
+pub(super) fn find_places(items: &[Item], start: u64, places: &mut [usize]) {
+    for index in 0..items.len() {
+        let item = &items[index];
+        places[index] = if item.reaches(0, 0, 0) {
+            usize::MAX
+        } else {
+            place_of(items, item.target(), start)
+        };
+    }
+}
+
+/// Gives each item its shortest shape.
+pub(super) fn shorten(shapes: &mut [u8]) {
+    for shape in shapes.iter_mut() {
+        *shape = 0;
+    }
+}
+
+/// For each item how many bytes those before it free, and at the end how many all do.
+pub(super) fn lay_out(items: &[Item], start: u64, shapes: &[u8], freed: &mut [u64]) {
+    let mut before = 0;
+    for index in 0..items.len() {
+        let item = &items[index];
+        freed[index] = before;
+        before += item.len() - item.kept_by(start, shapes[index], before);
+    }
+    freed[items.len()] = before;
+}
+
+/// For each item how many of its bytes stay.
+pub(super) fn keep(items: &[Item], start: u64, shapes: &[u8], freed: &[u64], kept: &mut [u64]) {
+    for index in 0..items.len() {
+        kept[index] = items[index].kept_by(start, shapes[index], freed[index]);
+    }
+}
+
+/// Whether the item at an index, which has a shape, is in reach of its target by a layout.
+#[inline(always)]
+fn is_in_reach(
+    items: &[Item],
+    start: u64,
+    places: &[usize],
+    freed: &[u64],
+    shape: u8,
+    index: usize,
+) -> bool {
+    let place = places[index];
+    place > items.len() || items[index].reaches(shape, freed[index], freed[place])
+}
+
+/// Gives each site that is out of reach its next shape. Whether there is one.
+pub(super) fn lengthen(
+    items: &[Item],
+    start: u64,
+    places: &[usize],
+    freed: &[u64],
+    shapes: &mut [u8],
+) -> bool {
+    let mut longer = false;
+    for index in 0..items.len() {
+        let shape = shapes[index];
+        if !is_in_reach(items, start, places, freed, shape, index) {
+            shapes[index] = shape + 1;
+            longer = true;
+        }
+    }
+    longer
+}
+
+/// How many rounds there are at most. Code has a few; calls of which each is out of reach only once
+/// the next one is long take as many rounds as there are.
+const MOST_ROUNDS: u32 = 64;
+
+/// Rounds until no site is out of reach. Whether there are few enough.
+pub(super) fn settle(
+    items: &[Item],
+    start: u64,
+    places: &[usize],
+    freed: &mut [u64],
+    shapes: &mut [u8],
+) -> bool {
+    shorten(shapes);
+    lay_out(items, start, shapes, freed);
+    for _round in 0..MOST_ROUNDS + 1 {
+        if !lengthen(items, start, places, freed, shapes) {
+            return true;
+        }
+        lay_out(items, start, shapes, freed);
+    }
+    false
+}

@@ -1,0 +1,25 @@
+// Made by tools/erase of crates/linker_runs/src/shapes.rt.
+//! The shapes that the instructions of an architecture can have.
+
+use crate::linker_runs::relaxation::{Shape, Shapes};
+
+pub mod loongarch64;
+pub mod riscv64;
+
+/// No short shape.
+const NONE: Shape = Shape {
+    kept: 0,
+    behind: 0,
+    ahead: 0,
+    unit: 1,
+};
+
+/// A deletion that is decided already: so many bytes stay wherever the target is.
+#[must_use]
+pub fn fixed(kept: u32) -> Shapes {
+    Shapes {
+        short: [NONE, NONE],
+        count: 0,
+        longest: kept,
+    }
+}
