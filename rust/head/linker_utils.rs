@@ -20,8 +20,6 @@ mod linker_reading;
 mod linker_runs;
 pub mod names;
 pub mod readers;
-#[allow(dead_code, reason = "the laws do nothing here")]
-mod relocation_laws;
 mod traits;
 
 #[doc(hidden)]

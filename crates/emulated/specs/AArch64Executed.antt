@@ -1,8 +1,8 @@
--- AArch64: the instructions of `rewrite_laws` compared with an emulator.
+-- AArch64: the instructions of `linker_laws` compared with an emulator.
 use Rattle.std.specs.Prelude.{◌≡◌, Bool, true, false, Option, Some, None}
 use Rattle.std.specs.List.{list_all}
 use Rattle.std.specs.Int.{w32, from_le_bytes}
-use Rattle.rewrite_laws.specs.AArch64Machine.{State, step}
+use Rattle.linker_laws.specs.AArch64Machine.{State, step}
 use Rattle.emulated.specs.Steps.{Executed, Group, number_in, byte_in, is_left}
 use Rattle.emulated.specs.AArch64Steps.{aarch64_groups}
 

@@ -1,10 +1,10 @@
--- LoongArch: the instructions of `rewrite_laws` compared with an emulator. Registers 32 to 63 are
+-- LoongArch: the instructions of `linker_laws` compared with an emulator. Registers 32 to 63 are
 -- those of floating-point numbers.
 use Rattle.std.specs.Prelude.{ℕ, ◌≡◌, ◌+◌, ◌-◌, ◌^◌, nat_lt, if◌then◌else◌, Bool, true, false}
 use Rattle.std.specs.Prelude.{Option, Some, None}
 use Rattle.std.specs.List.{list_all}
 use Rattle.std.specs.Int.{w32, from_le_bytes}
-use Rattle.rewrite_laws.specs.LoongArchMachine.{State, Floats, step, read}
+use Rattle.linker_laws.specs.LoongArchMachine.{State, Floats, step, read}
 use Rattle.emulated.specs.Steps.{Executed, Group, number_in, byte_in, is_left}
 use Rattle.emulated.specs.LoongArchSteps.{loongarch_groups}
 

@@ -1,11 +1,11 @@
--- PowerPC64: the instructions of `rewrite_laws` compared with an emulator. Registers 32 to 63 are
+-- PowerPC64: the instructions of `linker_laws` compared with an emulator. Registers 32 to 63 are
 -- those of floating-point numbers, and 64 is the link register.
 use Rattle.std.specs.Prelude.{ℕ, ◌≡◌, ◌+◌, ◌-◌, ◌*◌, ◌/◌, ◌^◌, ◌==◌, nat_lt, if◌then◌else◌}
 use Rattle.std.specs.Prelude.{Bool, true, false, Option, Some, None, length}
 use Rattle.std.specs.List.{list_all}
 use Rattle.std.specs.Int.{w32, w64, from_le_bytes, leading_zeros}
 use Rattle.linker_base.specs.Bits.{field}
-use Rattle.rewrite_laws.specs.Ppc64Machine.{State, Formats, step, step_prefixed}
+use Rattle.linker_laws.specs.Ppc64Machine.{State, Formats, step, step_prefixed}
 use Rattle.emulated.specs.Steps.{Executed, Group, number_in, byte_in, is_left}
 use Rattle.emulated.specs.Ppc64Steps.{ppc64_groups}
 

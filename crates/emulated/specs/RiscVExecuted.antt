@@ -1,9 +1,9 @@
--- RISC-V: the instructions of `rewrite_laws` compared with an emulator. Registers 32 to 63 are those
+-- RISC-V: the instructions of `linker_laws` compared with an emulator. Registers 32 to 63 are those
 -- of floating-point numbers, which have 64 bits in the emulator.
 use Rattle.std.specs.Prelude.{ℕ, ◌≡◌, ◌+◌, ◌-◌, ◌%◌, ◌^◌, nat_lt, if◌then◌else◌}
 use Rattle.std.specs.Prelude.{Bool, true, false, Option, Some, None}
 use Rattle.std.specs.List.{list_all}
-use Rattle.rewrite_laws.specs.RiscVMachine.{Hart, Instruction, register, fetched, executed}
+use Rattle.linker_laws.specs.RiscVMachine.{Hart, Instruction, register, fetched, executed}
 use Rattle.emulated.specs.Steps.{Executed, Group, number_in, byte_in, is_left}
 use Rattle.emulated.specs.RiscVSteps.{riscv_groups}
 

@@ -11,11 +11,11 @@ use Rattle.linker_elf.specs.RiscV.{riscv_form}
 use Rattle.linker_elf.specs.declared.aarch64.forms.AArch64Instruction.TheVariants.{Add}
 use Rattle.linker_elf.specs.declared.elf.value.Operands.{Operands}
 use Rattle.linker_elf.specs.declared.riscv64.forms.RiscVInstruction.TheVariants.{UiType}
-use Rattle.relocation_laws.specs.AArch64Laws.{page_and_offset}
-use Rattle.relocation_laws.specs.LoongArchLaws.{upper_and_or, four, page_and_low}
-use Rattle.relocation_laws.specs.Ppc64Laws.{unadjusted}
-use Rattle.relocation_laws.specs.RiscVLaws.{without_bit_0}
-use Rattle.relocation_laws.specs.Schemes.{zero}
+use Rattle.linker_laws.specs.AArch64RelocationLaws.{page_and_offset}
+use Rattle.linker_laws.specs.LoongArchRelocationLaws.{upper_and_or, four, page_and_low}
+use Rattle.linker_laws.specs.Ppc64RelocationLaws.{unadjusted}
+use Rattle.linker_laws.specs.RiscVRelocationLaws.{without_bit_0}
+use Rattle.linker_laws.specs.Schemes.{zero}
 
 abbrev pub word : ℕ → ℕ → ℕ
 word k words = field words (32 * k) (32 * k + 32)

@@ -1,9 +1,9 @@
--- x86-64: the instructions of `rewrite_laws` compared with an emulator. Register 16 is where the FS
+-- x86-64: the instructions of `linker_laws` compared with an emulator. Register 16 is where the FS
 -- segment begins.
 use Rattle.std.specs.Prelude.{ℕ, ◌≡◌, ◌+◌, ◌*◌, ◌==◌, ◌^◌, Bool, true, false, Option, Some, None}
 use Rattle.std.specs.List.{list_all}
 use Rattle.std.specs.Int.{bit_at}
-use Rattle.rewrite_laws.specs.X86Machine.{State, Flags, step, bit_of}
+use Rattle.linker_laws.specs.X86Machine.{State, Flags, step, bit_of}
 use Rattle.emulated.specs.Steps.{Executed, Group, number_in, byte_in, is_left}
 use Rattle.emulated.specs.X86Steps.{x86_groups}
 

@@ -18,14 +18,14 @@ ghost use Rattle.emulated.specs.RiscVTable as riscv_table;
 ghost use Rattle.emulated.specs.X86Executed as x86_executed;
 
 /// AArch64: offsets of loads and stores, `adr` and `adrp`, moves, additions, branches, a number by
-/// four moves, and `adrp` with `add`; and what the instructions of `rewrite_laws` do.
+/// four moves, and `adrp` with `add`; and what the instructions of `linker_laws` do.
 pub fn aarch64()
     ensures agrees { aarch64_table.Agrees }
     ensures steps { aarch64_executed.Agrees }
 {}
 
 /// RISC-V: the forms of 32 bits and of 16, pairs with `lui` or `auipc`, and calls; and what the
-/// instructions of `rewrite_laws` do, but for the loads and stores of floating-point numbers of 2 and
+/// instructions of `linker_laws` do, but for the loads and stores of floating-point numbers of 2 and
 /// 16 bytes.
 pub fn riscv64()
     ensures agrees { riscv_table.Agrees }
@@ -33,7 +33,7 @@ pub fn riscv64()
 {}
 
 /// LoongArch: immediates of 20, 16 and 12 bits, branches, `pcaddu18i` with `jirl`, numbers by two to
-/// four instructions, and addresses by two and by five; and what the instructions of `rewrite_laws`
+/// four instructions, and addresses by two and by five; and what the instructions of `linker_laws`
 /// do.
 pub fn loongarch64()
     ensures agrees { loongarch_table.Agrees }
@@ -41,14 +41,14 @@ pub fn loongarch64()
 {}
 
 /// PowerPC64: displacements, also those in units of 4 and 16 bytes, branches, `paddi`, and `addis`
-/// with `addi` or `ori`; and what the instructions of `rewrite_laws` do, but for `stfs` of a number
+/// with `addi` or `ori`; and what the instructions of `linker_laws` do, but for `stfs` of a number
 /// that is too small for single precision.
 pub fn ppc64()
     ensures agrees { ppc64_table.Agrees }
     ensures steps { ppc64_executed.Agrees }
 {}
 
-/// x86-64: what the instructions of `rewrite_laws` do.
+/// x86-64: what the instructions of `linker_laws` do.
 pub fn x86_64()
     ensures steps { x86_executed.Agrees }
 {}

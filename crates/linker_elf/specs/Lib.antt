@@ -1,6 +1,7 @@
 pub mod AArch64
 pub mod AArch64Relocations
 pub mod Agrees
+pub mod Applied
 pub mod Bounds
 pub mod Choices
 pub mod Elf

@@ -16,8 +16,8 @@ use Rattle.linker_elf.specs.declared.elf.Sign.TheVariants.{Signed}
 use Rattle.linker_elf.specs.declared.loongarch64.forms.LoongArch64Instruction.{LoongArch64Instruction}
 use Rattle.linker_elf.specs.declared.loongarch64.forms.LoongArch64Instruction.TheVariants.{Shift5, Branch26}
 use Rattle.linker_elf.specs.Value.{sum_64}
-use Rattle.relocation_laws.specs.LoongArchLaws.{Branches, Calls, RelativeAddresses, page_and_low}
-use Rattle.relocation_laws.specs.Schemes.{IsAddress, AreAddresses}
+use Rattle.linker_laws.specs.LoongArchRelocationLaws.{Branches, Calls, RelativeAddresses, page_and_low}
+use Rattle.linker_laws.specs.Schemes.{IsAddress, AreAddresses}
 use Rattle.linker_runs.specs.Sites.{operands_of, IsRelocated, IsOutOfReach}
 use Rattle.linker_runs.specs.LoongArchSites.{IsCall36At, IsPcalaAt, IsSiteAt, destination, branch_template, pcaddi_template, call_template, IsBranch, IsPcaddi, IsFarCall, IsFarAddress, LoongArchBecomes, LoongArchAccepts, LoongArchIsFar, LoongArchCause}
 use Rattle.linker_runs.specs.LoongArchSites.{jump, call, far_call, address, far_address, short_call, long_call, short_address, long_address, far_from_branch, far_from_call, far_from_pcaddi, far_from_pair}

@@ -17,8 +17,9 @@ use Rattle.linker_elf.specs.declared.riscv64.relocations.RiscVRelocation.TheVari
 use Rattle.linker_riscv64.specs.RiscVCalls.{link_register}
 use Rattle.linker_riscv64.specs.RiscVRewrites.{tail_to_cj}
 use Rattle.linker_riscv64.specs.declared.calls.LinkRegister.TheVariants.{OfJalr}
-use Rattle.relocation_laws.specs.RiscVLaws.{Jumps, Calls, without_bit_0}
-use Rattle.relocation_laws.specs.Schemes.{IsApplied, IsAddress, AreAddresses}
+use Rattle.linker_laws.specs.RiscVRelocationLaws.{Jumps, Calls, without_bit_0}
+use Rattle.linker_elf.specs.Applied.{IsApplied}
+use Rattle.linker_laws.specs.Schemes.{IsAddress, AreAddresses}
 use Rattle.linker_runs.specs.Sites.{Template, operands_of}
 use Rattle.linker_runs.specs.RiscVSites.{IsCj, IsJal, IsFarCall, RiscVBecomes, short_jump, jump, call, riscv_template}
 use Rattle.linker_runs.proofs.Sites.{kept_field, operands_small, unit_sum, target_is}

@@ -7,7 +7,7 @@ use Rattle.std.proofs.lemmas.Int.{ints}
 use Rattle.linker_base.specs.Bits.{field}
 use Rattle.linker_base.specs.Form.{Form, Written, is_placed}
 use Rattle.linker_base.proofs.Fields.{same_fields}
-use Rattle.relocation_laws.specs.Schemes.{AreAddresses}
+use Rattle.linker_laws.specs.Schemes.{AreAddresses}
 use Rattle.linker_runs.specs.Sites.{Template, operands_of, IsInReach, IsOutOfReach}
 
 -- ---- what a write keeps

@@ -17,7 +17,7 @@ use Rattle.linker_elf.specs.declared.loongarch64.relocations.LoongArch64Relocati
 use Rattle.linker_elf.specs.declared.riscv64.relocations.RiscVRelocation.TheVariants.{R_RISCV_JAL, R_RISCV_RVC_JUMP}
 use Rattle.linker_elf.proofs.Reached.{holds}
 use Rattle.linker_elf.proofs.RowsFit.{riscv_fits, loongarch_fits}
-use Rattle.relocation_laws.specs.Schemes.{IsRejected}
+use Rattle.linker_elf.specs.Applied.{IsRejected}
 use Rattle.linker_riscv64.specs.RiscVCalls.{link_register}
 use Rattle.linker_riscv64.specs.RiscVRewrites.{tail_to_cj}
 use Rattle.linker_riscv64.specs.declared.calls.LinkRegister.TheVariants.{OfJalr}

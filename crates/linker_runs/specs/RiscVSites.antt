@@ -13,8 +13,9 @@ use Rattle.linker_elf.specs.declared.riscv64.relocations.RiscVRelocation.TheVari
 use Rattle.linker_riscv64.specs.RiscVCalls.{link_register}
 use Rattle.linker_riscv64.specs.RiscVRewrites.{tail_to_cj}
 use Rattle.linker_riscv64.specs.declared.calls.LinkRegister.TheVariants.{OfJalr}
-use Rattle.relocation_laws.specs.RiscVLaws.{without_bit_0}
-use Rattle.relocation_laws.specs.Schemes.{IsApplied, IsAddress}
+use Rattle.linker_laws.specs.RiscVRelocationLaws.{without_bit_0}
+use Rattle.linker_elf.specs.Applied.{IsApplied}
+use Rattle.linker_laws.specs.Schemes.{IsAddress}
 use Rattle.linker_runs.specs.RiscVItems.{IsCallAt}
 use Rattle.linker_runs.specs.Sites.{Template, operands_of, IsInReach, IsOutOfReach}
 use Rattle.linker_runs.specs.declared.packing.ItemError.{ItemError}

@@ -2,7 +2,7 @@
 use Rattle.std.specs.Prelude.{ℕ, List, Option, IsSomeAnd, pos}
 use Rattle.linker_elf.specs.declared.elf.RelocationKindInfo.{RelocationKindInfo}
 use Rattle.linker_elf.specs.declared.elf.value.Operands.{Operands}
-use Rattle.relocation_laws.specs.Schemes.{IsApplied, IsRejected}
+use Rattle.linker_elf.specs.Applied.{IsApplied, IsRejected}
 
 -- An instruction or two that go nowhere yet, and the relocation that gives them their target.
 pub record Template : Type 0 where

@@ -5,6 +5,7 @@ ghost use Rattle.std.specs.Prelude.{true, false, length, take, drop, replicate, 
 ghost use Rattle.std.specs.Int.{byte_len, from_le_bytes, w32};
 ghost use Rattle.linker_base.specs.Bits.{field};
 ghost use Rattle.linker_base.specs.Form.{window_of, BitsWritten, Fits};
+ghost use Rattle.linker_elf.specs.Applied.{IsApplied, IsRejected};
 ghost use Rattle.linker_elf.specs.AArch64.{aarch64_form};
 ghost use Rattle.linker_elf.specs.Agrees.{AgreesBy, AgreesInReach};
 ghost use Rattle.linker_elf.specs.Elf.{relocation_form};
@@ -26,7 +27,7 @@ ghost use Rattle.linker_elf.specs.Inner.RowTables.{is_over};
 use crate::aarch64::is_movk;
 use crate::elf::engine::{self, Window};
 use crate::elf::{
-    AArch64Instruction, InstructionForm, LoongArch64Instruction, RelocationInstruction,
+    AArch64Instruction, InstructionForm, LoongArch64Instruction, Operands, RelocationInstruction,
     RelocationKind, RelocationKindInfo, RelocationSize, RiscVInstruction,
 };
 use crate::loongarch64::is_jirl;
@@ -499,5 +500,18 @@ impl RelocationKindInfo {
             }
         }
         Ok(())
+    }
+
+    /// Computes the relocation's value from a linker's numbers and writes it. Returns true if it has a
+    /// value and `write` accepts it, and else writes nothing.
+    pub fn apply(&self, operands: &Operands, dest: &mut [u8]) -> bool
+        ensures applied { result ≡ true → IsApplied self.now operands.now dest.old dest.new }
+        ensures rejected { result ≡ false → IsRejected self.now operands.now dest.old }
+        ensures unchanged { result ≡ false → dest.new ≡ dest.old }
+    {
+        match self.value(operands) {
+            Some(value) => self.write(value, dest).is_ok(),
+            None => false,
+        }
     }
 }

@@ -1,12 +1,11 @@
 //! Instructions, and the relocations that are applied to them.
 
 ghost use Rattle.std.specs.Prelude.{◌≡◌, ◌+◌, ◌≤◌, MatchOption, IfSome, length, take, drop};
-ghost use Rattle.relocation_laws.specs.Schemes.{IsApplied, IsRejected};
+ghost use Rattle.linker_elf.specs.Applied.{IsApplied, IsRejected};
 ghost use Rattle.linker_runs.specs.Sites.{operands_of};
 ghost use Rattle.linker_runs.specs.Inner.Pieces.{code_bytes};
 
 use linker_elf::elf::{Operands, RelocationKindInfo};
-use relocation_laws::apply;
 
 /// The bytes of an instruction or of two.
 #[derive(Clone, Copy)]
@@ -60,7 +59,7 @@ pub(crate) fn relocated(template: Template, place: u64, target: u64) -> Option<C
     match template.code {
         Code::Half(bytes) => {
             let mut bytes = bytes;
-            if apply(&template.row, &operands, &mut bytes) {
+            if template.row.apply(&operands, &mut bytes) {
                 Some(Code::Half(bytes))
             } else {
                 None
@@ -68,7 +67,7 @@ pub(crate) fn relocated(template: Template, place: u64, target: u64) -> Option<C
         }
         Code::Word(bytes) => {
             let mut bytes = bytes;
-            if apply(&template.row, &operands, &mut bytes) {
+            if template.row.apply(&operands, &mut bytes) {
                 Some(Code::Word(bytes))
             } else {
                 None
@@ -76,7 +75,7 @@ pub(crate) fn relocated(template: Template, place: u64, target: u64) -> Option<C
         }
         Code::Pair(bytes) => {
             let mut bytes = bytes;
-            if apply(&template.row, &operands, &mut bytes) {
+            if template.row.apply(&operands, &mut bytes) {
                 Some(Code::Pair(bytes))
             } else {
                 None

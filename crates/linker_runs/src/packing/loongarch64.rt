@@ -21,7 +21,6 @@ use crate::shapes::loongarch64::{CALL36, PCALA};
 use linker_base::utils::u32_from_slice;
 use linker_elf::elf::{AllowedRange, RelocationKindInfo, Sign};
 use linker_loongarch64::{LoongArch64Relocation, RelaxationKind, relocation_type_from_raw};
-use relocation_laws::apply;
 
 /// The instructions of a site.
 #[derive(Clone, Copy)]
@@ -155,12 +154,12 @@ fn address_of(section: &[u8], offset: u64, place: u64, target: u64) -> Option<[u
         return None;
     }
     let mut high = word_at(section, offset);
-    if !apply(&row, &operands_of(place, target), &mut high) {
+    if !row.apply(&operands_of(place, target), &mut high) {
         return None;
     }
     let row = row_of(LoongArch64Relocation::R_LARCH_PCALA_LO12);
     let mut low = word_at(section, offset + 4);
-    if !apply(&row, &operands_of(place.wrapping_add(4), target), &mut low) {
+    if !row.apply(&operands_of(place.wrapping_add(4), target), &mut low) {
         return None;
     }
     Some(joined(high, low))
@@ -207,7 +206,7 @@ pub(crate) fn code_of(
     let Some(kind) = kind_at(section, offset) else {
         return Err(ItemError::NotItsInstructions);
     };
-    relocation_laws::loongarch64();
+    linker_laws::relocations::loongarch64();
     match kept {
         4 => match relocated(short_of(section, offset, kind), place, target) {
             Some(code) => Ok(code),

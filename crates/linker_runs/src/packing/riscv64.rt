@@ -87,7 +87,7 @@ pub(crate) fn code_of(
     let Some(template) = template_of(section, offset, link, kept) else {
         return Err(ItemError::NoShape);
     };
-    relocation_laws::riscv64();
+    linker_laws::relocations::riscv64();
     match relocated(template, place, target) {
         Some(code) => Ok(code),
         None => Err(ItemError::OutOfReach),

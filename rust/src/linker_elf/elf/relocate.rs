@@ -4,7 +4,7 @@
 use crate::linker_elf::aarch64::is_movk;
 use crate::linker_elf::elf::engine::{self, Window};
 use crate::linker_elf::elf::{
-    AArch64Instruction, InstructionForm, LoongArch64Instruction, RelocationInstruction,
+    AArch64Instruction, InstructionForm, LoongArch64Instruction, Operands, RelocationInstruction,
     RelocationKind, RelocationKindInfo, RelocationSize, RiscVInstruction,
 };
 use crate::linker_elf::loongarch64::is_jirl;
@@ -412,5 +412,14 @@ impl RelocationKindInfo {
             }
         }
         Ok(())
+    }
+
+    /// Computes the relocation's value from a linker's numbers and writes it. Returns true if it has a
+    /// value and `write` accepts it, and else writes nothing.
+    pub fn apply(&self, operands: &Operands, dest: &mut [u8]) -> bool {
+        match self.value(operands) {
+            Some(value) => self.write(value, dest).is_ok(),
+            None => false,
+        }
     }
 }

@@ -2,7 +2,6 @@
 //! Instructions, and the relocations that are applied to them.
 
 use crate::linker_elf::elf::{Operands, RelocationKindInfo};
-use crate::relocation_laws::apply;
 
 /// The bytes of an instruction or of two.
 #[derive(Clone, Copy)]
@@ -44,7 +43,7 @@ pub(crate) fn relocated(template: Template, place: u64, target: u64) -> Option<C
     match template.code {
         Code::Half(bytes) => {
             let mut bytes = bytes;
-            if apply(&template.row, &operands, &mut bytes) {
+            if template.row.apply(&operands, &mut bytes) {
                 Some(Code::Half(bytes))
             } else {
                 None
@@ -52,7 +51,7 @@ pub(crate) fn relocated(template: Template, place: u64, target: u64) -> Option<C
         }
         Code::Word(bytes) => {
             let mut bytes = bytes;
-            if apply(&template.row, &operands, &mut bytes) {
+            if template.row.apply(&operands, &mut bytes) {
                 Some(Code::Word(bytes))
             } else {
                 None
@@ -60,7 +59,7 @@ pub(crate) fn relocated(template: Template, place: u64, target: u64) -> Option<C
         }
         Code::Pair(bytes) => {
             let mut bytes = bytes;
-            if apply(&template.row, &operands, &mut bytes) {
+            if template.row.apply(&operands, &mut bytes) {
                 Some(Code::Pair(bytes))
             } else {
                 None

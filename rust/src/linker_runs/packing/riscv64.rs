@@ -55,7 +55,6 @@ pub(crate) fn code_of(
     let Some(template) = template_of(section, offset, link, kept) else {
         return Err(ItemError::NoShape);
     };
-    crate::relocation_laws::riscv64();
     match relocated(template, place, target) {
         Some(code) => Ok(code),
         None => Err(ItemError::OutOfReach),

@@ -1,0 +1,272 @@
+-- The halves of initial-exec, each by itself.
+use Rattle.std.proofs.Common.{◌≡◌, ℕ, ◌+◌, ◌-◌, ◌*◌, ◌/◌, ◌%◌, ◌^◌, ◌<◌, refl, sym}
+use Rattle.std.proofs.Common.{◌∙◌, ap, subst, arith, List, eqb, ℤ, pos, ◌+ℤ◌, ◌*ℤ◌, Some, inl}
+use Rattle.std.proofs.Common.{inr}
+use Rattle.std.specs.Prelude.{IsSomeAnd, not, ◌&&◌, nat_lt}
+use Rattle.std.specs.Int.{w64, cast_signed, bit_at, int_rem_euclid}
+use Rattle.std.proofs.lemmas.Bool.{eq-eqb, ne_eqb, cond-true, cond-false, or_parts}
+use Rattle.std.proofs.lemmas.Bool.Decides.{eqb_tells}
+use Rattle.std.proofs.lemmas.Int.{ints, int_rem_euclid_is}
+use Rattle.linker_base.specs.Bits.{field}
+use Rattle.linker_aarch64.specs.AArch64Rewrites.{rd_of}
+use Rattle.linker_elf.specs.AArch64.{aarch64_form, shift_of}
+use Rattle.linker_elf.specs.Agrees.{bits_from}
+use Rattle.linker_elf.specs.Elf.{bit_bounds}
+use Rattle.linker_elf.specs.LoongArch.{page}
+use Rattle.linker_elf.specs.Relocate.{is_movk}
+use Rattle.linker_elf.specs.Value.{sum_64, difference_64}
+use Rattle.linker_elf.specs.declared.aarch64.forms.AArch64Instruction.TheVariants.{Adr, LdrRegister}
+use Rattle.linker_elf.specs.declared.aarch64.forms.AArch64Instruction.TheVariants.{LdSt, Movkz}
+use Rattle.linker_elf.specs.declared.aarch64.forms.AArch64Instruction.TheVariants.{Movnz}
+use Rattle.linker_elf.specs.declared.aarch64.relocations.AArch64Relocation.TheVariants as names
+use Rattle.linker_elf.specs.declared.elf.RelocationInstruction.TheVariants.{AArch64}
+use Rattle.linker_elf.specs.declared.elf.RelocationKind.TheVariants.{TpOff}
+use Rattle.linker_elf.specs.declared.elf.Sign.TheVariants.{Signed}
+use Rattle.linker_elf.specs.declared.elf.value.Operands.{Operands}
+use Rattle.linker_elf.proofs.Relocated.{plain_written}
+use Rattle.linker_elf.proofs.RowsAgree.{aarch64_rows}
+use Rattle.linker_laws.specs.AArch64RelocationLaws.{movk, movn_or_movz}
+use Rattle.linker_laws.specs.Schemes.{AreAddresses, symbol_address, tls_base}
+use Rattle.linker_laws.proofs.Instructions.{reads_bits, field_sum, relative}
+use Rattle.linker_laws.proofs.Instructions.{symbol_from_tls, unbiased}
+use Rattle.linker_laws.proofs.Moves.{movn_first}
+use Rattle.linker_laws.proofs.Pages.{offset_reads, IsUnsigned}
+use Rattle.linker_laws.proofs.Sums.{sum_below, difference_below, page_halves_sum, taken_off}
+use Rattle.linker_laws.proofs.Sums.{cast_is, euclid, lift, lifted_is}
+use Rattle.linker_laws.specs.AArch64RewriteLaws.{word_of, thread_offset, IsRelocated, AgreeBut, Changes, HasHigh}
+use Rattle.linker_laws.specs.AArch64RewriteLaws.{StepSo, with_register, without_register}
+use Rattle.linker_laws.specs.AArch64RewriteLaws as aarch64_laws
+use Rattle.linker_laws.specs.AArch64Machine.{State, step, in_64_bits, moved, with_moved, read_x}
+use Rattle.linker_laws.specs.AArch64Machine.{loaded, load_64, adrp_address}
+use Rattle.linker_laws.proofs.AArch64Moves.{movk_lifted, movz_is_no_movk}
+use Rattle.linker_laws.proofs.AArch64Pairs.{word_made}
+use Rattle.linker_laws.proofs.AArch64Steps.{set, step_adrp, step_ldr, step_move, step_movk}
+use Rattle.linker_laws.proofs.AArch64Steps.{address_is}
+use Rattle.linker_laws.proofs.AArch64Words.{adrp_after, decodes_adrp, ldr_of_register_after}
+use Rattle.linker_laws.proofs.AArch64Words.{movnz_after, movk_after}
+
+-- ---- states that are alike apart from some registers and bytes
+
+steps_so : (x y : ℕ) (s t u v : State) (P : State → State → Type 0) → step x s ≡ Some u
+    → step y t ≡ Some v → P u v → StepSo x s y t P
+steps_so x y s t u v P first second holds =
+    subst (λ r. IsSomeAnd r (λ u. IsSomeAnd (step y t) (λ v. P u v))) (sym first)
+    (subst (λ r. IsSomeAnd r (λ v. P u v)) (sym second) holds)
+
+-- One register is written in both, and may differ then.
+alike_also : (n v w : ℕ) (c : Changes) (s t : State) → AgreeBut c s t
+    → AgreeBut (with_register n c) (set n v s) (set n w t)
+alike_also n v w c s t alike =
+    record {
+      registers = λ m kept.
+          let parts = or_parts (eqb m n) (c.registers m) kept in
+          cond-false (eqb m n) v (s.registers m) parts.0
+          ∙ alike.registers m parts.1
+          ∙ sym (cond-false (eqb m n) w (t.registers m) parts.0);
+      memory = alike.memory;
+      pc = ap (λ p. sum_64 p 4) alike.pc;
+      thread_pointer = alike.thread_pointer;
+    }
+
+-- One register gets the same number in both.
+alike_but : (n v w : ℕ) (c : Changes) (s t : State) → v ≡ w
+    → AgreeBut c s t
+    → AgreeBut (without_register n c) (set n v s) (set n w t)
+alike_but n v w c s t same alike =
+    record {
+      registers = λ m kept. elim (eqb_tells m n) [
+        | inl is ↦ cond-true (eqb m n) v (s.registers m) is.0 ∙ same
+            ∙ sym (cond-true (eqb m n) w (t.registers m) is.0)
+        | inr other ↦
+            let alone = sym (ap (λ b. not b && c.registers m) other.0) ∙ kept in
+            cond-false (eqb m n) v (s.registers m) other.0 ∙ alike.registers m alone
+            ∙ sym (cond-false (eqb m n) w (t.registers m) other.0)
+      ];
+      memory = alike.memory;
+      pc = ap (λ p. sum_64 p 4) alike.pc;
+      thread_pointer = alike.thread_pointer;
+    }
+
+-- ---- the high half
+
+-- the page of the GOT entry
+page_of_entry : (o : Operands) → AreAddresses o → (adrp after : List ℕ)
+    → IsRelocated names.R_AARCH64_TLSIE_ADR_GOTTPREL_PAGE21 o adrp after
+    → in_64_bits (pos (page o.place) +ℤ ((aarch64_form Adr).machine (word_of after) *ℤ pos 4096))
+    ≡ page o.got_entry
+page_of_entry o small adrp after a =
+    let t = sum_64 o.got_entry 0 in
+    let m = difference_64 (page (sum_64 t 0)) (page o.place) in
+    let z = pos (page o.place) +ℤ ((aarch64_form Adr).machine (word_of after) *ℤ pos 4096) in
+    let same : t ≡ o.got_entry = unbiased o.got_entry small.got_entry in
+    let h = reads_bits _ _ _ _ _ _ _ _ _ _ o adrp after a (bit_bounds 33 Signed)
+    a.accepted.reached.0 refl m (difference_below (page (sum_64 t 0)) (page o.place)) refl in
+    let sum = page_halves_sum 0 o.place t m ((aarch64_form Adr).machine (word_of after))
+    (pos (sum_64 t 0 % 2 ^ 12)) (omega arith) (sum_below o.got_entry 0) small.place refl h
+    (ap pos (let e : sum_64 t 0 % 2 ^ 12 + 0 ≡ sum_64 t 0 % 2 ^ 12 = omega arith in e)) in
+    address_is z (page t) (taken_off z (sum_64 t 0 % 2 ^ 12) t (page t) sum
+    (page_below t (sum_below o.got_entry 0)) (parts t (sum_below o.got_entry 0)))
+    ∙ ap page same
+  where
+    page_below : (t : ℕ) → t < 2 ^ 64 → page t < 2 ^ 64
+    page_below t small = omega arith
+
+    parts : (t : ℕ) → t < 2 ^ 64 → (page t + sum_64 t 0 % 2 ^ 12) % 2 ^ 64 ≡ t
+    parts t small = omega arith
+
+-- a number by its bits from 16 up
+scaled : (q : ℤ) (k r t : ℕ) → q +ℤ pos (t * 2 ^ 64) ≡ pos k → r < 2 ^ 16
+    → in_64_bits ((q *ℤ pos (2 ^ 16)) +ℤ pos r) / 2 ^ 16 ≡ k % 2 ^ 48
+scaled q k r t is small =
+    let z = (q *ℤ pos (2 ^ 16)) +ℤ pos r in
+    let whole : z +ℤ pos (t * 2 ^ 16 * 2 ^ 64) ≡ pos (k * 2 ^ 16 + r) = omega (arith, ints) in
+    ap (λ n. n / 2 ^ 16) (address_is z _ (lifted_is z (t * 2 ^ 16) (k * 2 ^ 16 + r) whole))
+    ∙ (let e : (k * 2 ^ 16 + r) % 2 ^ 64 / 2 ^ 16 ≡ k % 2 ^ 48 = omega arith in e)
+
+-- a number's bits from 16 up, and the rest
+record Rest (v : ℤ) : Type 0 where
+  pub number : ℕ
+  pub below : number < 2 ^ 16
+  pub is : v ≡ (bits_from 16 v *ℤ pos (2 ^ 16)) +ℤ pos number
+
+rest : (v : ℤ) → Rest v
+rest v =
+    let l = lift v in
+    let low : int_rem_euclid v (pos (2 ^ 16)) ≡ pos (l.number % 2 ^ 16) =
+    int_rem_euclid_is v (pos (2 ^ 16)) (2 ^ 16) (l.times * 2 ^ 48) l.number (omega arith) refl
+    (let turn : l.times * 2 ^ 64 ≡ l.times * 2 ^ 48 * 2 ^ 16 = omega arith in
+    subst (λ x. v +ℤ pos x ≡ pos l.number) turn l.is) in
+    record {
+      number = l.number % 2 ^ 16;
+      below = omega arith;
+      is = sym (euclid v 16) ∙ ap (λ r. (bits_from 16 v *ℤ pos (2 ^ 16)) +ℤ r) low;
+    }
+
+-- numbers with the same bits from 16 up
+same_bits : (v w : ℤ) → bits_from 16 v ≡ bits_from 16 w
+    → in_64_bits v / 2 ^ 16 ≡ in_64_bits w / 2 ^ 16
+same_bits v w same =
+    let l = lift (bits_from 16 v) in
+    let a = rest v in
+    let b = rest w in
+    ap (λ z. in_64_bits z / 2 ^ 16) a.is
+    ∙ scaled (bits_from 16 v) l.number a.number l.times l.is a.below
+    ∙ sym (ap (λ z. in_64_bits z / 2 ^ 16) (b.is
+    ∙ ap (λ q. (q *ℤ pos (2 ^ 16)) +ℤ pos b.number) (sym same))
+    ∙ scaled (bits_from 16 v) l.number b.number l.times l.is b.below)
+
+pub high_half : aarch64_laws.HighHalfToMovz
+high_half o s t c adrp movz small at alike is named made adrp1 movz1 a b =
+    let n = rd_of (word_of adrp) in
+    let x = word_of adrp1 in
+    let y = word_of movz1 in
+    let first = adrp_after _ _ adrp adrp1 a.written is in
+    let word = word_made (λ w. 0xd2a00000 + rd_of w) adrp movz (omega arith) made in
+    let below : n < 32 = omega arith in
+    let shift : shift_of (word_of movz) ≡ 16 = omega arith in
+    let wide : bit_at (word_of movz) 31 ≡ 1 = omega arith in
+    let no_movk = movz_is_no_movk (word_of movz) n below word in
+    let moved_in = plain_written (AArch64 Movnz) TpOff (record { start = 16; end = 32 }) b.value movz
+    movz1 (ap (λ k. k && nat_lt 16 17) no_movk) refl b.written in
+    let second = movnz_after _ _ movz movz1 moved_in wide in
+    let rd : rd_of y ≡ n =
+    second.rd_is ∙ (let e : rd_of (word_of movz) ≡ n = omega arith in e) in
+    let bits = movn_first 16 symbol_from_tls refl
+    (aarch64_rows names.R_AARCH64_TLSLE_MOVW_TPREL_G1).1 (λ o. refl) o small movz movz1 b
+    (ap (λ k. (eqb k 16 && eqb (bit_at (word_of movz) 31) 1) && not (is_movk (word_of movz))) shift
+    ∙ ap (λ b. b && not (is_movk (word_of movz))) (eq-eqb _ _ wide) ∙ ap not no_movk) in
+    let w = cast_signed w64 (relative symbol_address tls_base o) in
+    steps_so x y s t (set n (adrp_address x s) s) (set n (moved y) t) _
+    (step_adrp x n s (decodes_adrp x first.opcode first.top) first.rd_is named)
+    (step_move y n t second.decodes rd named) (
+      alike_also n (adrp_address x s) (moved y) c s t alike,
+      record {
+        page_is = cond-true (eqb n n) (adrp_address x s) (s.registers n) (eq-eqb n n refl)
+            ∙ ap (λ p. in_64_bits (pos (page p) +ℤ ((aarch64_form Adr).machine x *ℤ pos 4096))) at
+            ∙ page_of_entry o small adrp adrp1 a;
+        bits_are = ap (λ v. v / 2 ^ 16) (cond-true (eqb n n) (moved y) (t.registers n) (eq-eqb n n refl))
+            ∙ same_bits (movn_or_movz y) w bits
+            ∙ ap (λ v. v / 2 ^ 16)
+            (address_is w _ (cast_is (relative symbol_address tls_base o) (difference_below _ _))
+            ∙ ap (λ a. difference_64 a o.tls_base)
+            (unbiased (symbol_address o) (sum_below o.symbol _)));
+      },
+    )
+
+-- ---- the low half
+
+-- the 16 bits of a MOVK
+low_bits : (o : Operands) (movk after : List ℕ)
+    → IsRelocated names.R_AARCH64_TLSLE_MOVW_TPREL_G0_NC o movk after
+    → (aarch64_form Movkz).machine (word_of after)
+    ≡ pos (field (relative symbol_address tls_base o) 0 16)
+low_bits o movk after a =
+    let n = relative symbol_address tls_base o in
+    let f = field n 0 16 in
+    ap pos (field_sum _ 0 16 (AArch64 Movkz) _ _ _ _ _ _ o movk after a refl refl (omega arith) n
+    (difference_below _ _) refl
+    ∙ (let same : (f - f % 2 ^ 0) % 2 ^ 16 ≡ f = omega arith in same))
+
+-- bits from 16 up with others below them
+joined : (c n : ℕ) → n < 2 ^ 64 → c / 2 ^ 16 ≡ n / 2 ^ 16
+    → (c - c % 2 ^ 16 + field n 0 16) % 2 ^ 64 ≡ n
+joined c n small same = omega arith
+
+ldr_is : IsUnsigned LdrRegister
+ldr_is = (refl, refl, refl, λ c x. refl)
+
+-- the GOT entry's address
+entry_of_page : (o : Operands) → AreAddresses o → (ldr after : List ℕ)
+    → IsRelocated names.R_AARCH64_TLSIE_LD64_GOTTPREL_LO12_NC o ldr after
+    → in_64_bits (pos (page o.got_entry) +ℤ ((aarch64_form LdSt).machine (word_of after) *ℤ pos 8))
+    ≡ o.got_entry
+entry_of_page o small ldr after a =
+    let t = sum_64 (sum_64 o.got_entry 0) 0 in
+    let same : t ≡ o.got_entry =
+    unbiased (sum_64 o.got_entry 0) (sum_below o.got_entry 0)
+    ∙ unbiased o.got_entry small.got_entry in
+    let l = offset_reads LdrRegister ldr_is _ 3 _ _ _ _ _ o ldr after a t (sum_below _ 0)
+    (omega arith) refl in
+    let z = pos (page o.got_entry) +ℤ pos (t % 2 ^ 12) in
+    ap (λ k. in_64_bits (pos (page o.got_entry) +ℤ k)) l
+    ∙ address_is z _ (lifted_is z 0 (page o.got_entry + t % 2 ^ 12) (omega (arith, ints)))
+    ∙ whole o.got_entry t small.got_entry same
+  where
+    whole : (g t : ℕ) → g < 2 ^ 64 → t ≡ g → (page g + t % 2 ^ 12) % 2 ^ 64 ≡ g
+    whole g t small same = omega arith
+
+pub low_half : aarch64_laws.LowHalfToMovk
+low_half o s t c ldr movk_bytes small is own holds high alike made ldr1 movk1 a b =
+    let n = rd_of (word_of ldr) in
+    let named = own.not_31 in
+    let x = word_of ldr1 in
+    let y = word_of movk1 in
+    let first = ldr_of_register_after _ _ ldr ldr1 a.written is in
+    let word = word_made (λ w. 0xf2800000 + rd_of w) ldr movk_bytes (omega arith) made in
+    let second = movk_after _ _ movk_bytes movk1 b.written (omega arith) in
+    let rd : rd_of y ≡ n =
+    second.rd_is ∙ (let e : rd_of (word_of movk_bytes) ≡ n = omega arith in e) in
+    let d = relative symbol_address tls_base o in
+    let held = t.registers n in
+    let offset : d ≡ thread_offset o =
+    ap (λ a. difference_64 a o.tls_base) (unbiased (symbol_address o) (sum_below o.symbol _)) in
+    let old : loaded x s ≡ thread_offset o =
+    ap (λ r. load_64 s.memory (in_64_bits (pos (s.registers r)
+    +ℤ ((aarch64_form LdSt).machine x *ℤ pos 8)))) (first.rn_is ∙ own.same)
+    ∙ ap (λ p. load_64 s.memory (in_64_bits (pos p +ℤ ((aarch64_form LdSt).machine x *ℤ pos 8))))
+    high.page_is
+    ∙ ap (load_64 s.memory) (entry_of_page o small ldr ldr1 a) ∙ holds in
+    let read : read_x (rd_of y) t ≡ held =
+    ap (λ r. read_x r t) rd ∙ cond-false (eqb n 31) 0 held (ne_eqb n 31 named) in
+    let low = low_bits o movk_bytes movk1 b in
+    let new : with_moved y t ≡ thread_offset o =
+    ap (λ k. in_64_bits (movk k (pos (read_x (rd_of y) t)) y)) second.shift_is
+    ∙ ap (λ r. in_64_bits (movk 0 (pos r) y)) read
+    ∙ movk_lifted (pos held) 0 held (omega (arith, ints)) y 0 (field d 0 16)
+    (ap (λ k. (k *ℤ pos (2 ^ 0)) +ℤ pos (0 * 2 ^ 64)) low ∙ omega (arith, ints))
+    ∙ joined held d (difference_below _ _) (high.bits_are ∙ ap (λ k. k / 2 ^ 16) (sym offset))
+    ∙ offset in
+    steps_so x y s t (set n (loaded x s) s) (set n (with_moved y t) t) _
+    (step_ldr x n s first.decodes first.rd_is named)
+    (step_movk y n t second.decodes rd named)
+    (alike_but n (loaded x s) (with_moved y t) c s t (old ∙ sym new) alike)

@@ -1,0 +1,72 @@
+-- Where `adr` reaches an address, its page is near.
+use Rattle.std.proofs.Common.{◌≡◌, ℕ, ◌^◌, ◌<◌, ◌≤◌, ◌-◌, ◌⊎◌, inl, inr, sym, ◌∙◌, ap, subst, arith, ℤ, pos, ◌+ℤ◌, Some}
+use Rattle.std.specs.Int.{w64, cast_signed}
+use Rattle.std.proofs.lemmas.Bool.{cases_lt}
+use Rattle.std.proofs.lemmas.Int.{ints, to_z_pos}
+use Rattle.linker_base.proofs.Bits.{cast_negative}
+use Rattle.linker_elf.specs.Elf.{IsWithin, bit_bounds}
+use Rattle.linker_elf.specs.LoongArch.{page}
+use Rattle.linker_elf.specs.Value.{sum_64, difference_64}
+use Rattle.linker_elf.specs.declared.elf.Sign.TheVariants.{Signed}
+use Rattle.linker_laws.proofs.Sums.{difference_below}
+
+-- a number of 64 bits in two's complement
+in_two_ways : (n : ℕ) → n < 2 ^ 64
+    → ((n < 2 ^ 63) × (cast_signed w64 n ≡ pos n)) ⊎ ((2 ^ 63 ≤ n) × (cast_signed w64 n +ℤ pos (2 ^ 64) ≡ pos n))
+in_two_ways n small =
+    elim (cases_lt n (2 ^ 63)) [
+      | inl below ↦ inl (below, to_z_pos w64 n below)
+      | inr above ↦ inr (above, ap (λ z. z +ℤ pos (2 ^ 64)) (cast_negative n small above) ∙ omega (arith, ints, small))
+    ]
+
+-- what is less than 2 ^ 20 away
+close : (n : ℕ) (z : ℤ) → n < 2 ^ 64 → cast_signed w64 n ≡ z → IsWithin (Some (bit_bounds 21 Signed)) z
+    → (n < 2 ^ 20) ⊎ (2 ^ 64 - 2 ^ 20 ≤ n)
+close n z small is within =
+    elim (in_two_ways n small) [
+      | inl a ↦ inl (let e = sym a.1 ∙ is in let upper = within.1 in omega (arith, ints))
+      | inr a ↦ inr (let e = a.1 in let lower = within.0 in omega (arith, ints))
+    ]
+
+-- then the pages are
+pages : (t p : ℕ) → t < 2 ^ 64 → p < 2 ^ 64
+    → (difference_64 t (sum_64 p 4) < 2 ^ 20) ⊎ (2 ^ 64 - 2 ^ 20 ≤ difference_64 t (sum_64 p 4))
+    → (difference_64 (page t) (page p) < 2 ^ 32) ⊎ (2 ^ 64 - 2 ^ 32 ≤ difference_64 (page t) (page p))
+pages t p small small' near =
+    elim (cases_lt (difference_64 (page t) (page p)) (2 ^ 32)) [
+      | inl below ↦ inl below
+      | inr above ↦ inr (elim near [
+        | inl a ↦ omega arith
+        | inr a ↦ omega arith
+      ])
+    ]
+
+wide : (n : ℕ) → n < 2 ^ 64 → (n < 2 ^ 32) ⊎ (2 ^ 64 - 2 ^ 32 ≤ n)
+    → IsWithin (Some (bit_bounds 33 Signed)) (cast_signed w64 n)
+wide n small far =
+    elim (in_two_ways n small) [
+      | inl a ↦
+          let e = a.1 in
+          elim far [
+            | inl below ↦ (omega (arith, ints), omega (arith, ints))
+            | inr above ↦ (let b = a.0 in (omega (arith, ints), omega (arith, ints)))
+          ]
+      | inr a ↦
+          let e = a.1 in
+          elim far [
+            | inl below ↦ (let b = a.0 in (omega (arith, ints), omega (arith, ints)))
+            | inr above ↦ (omega (arith, ints), omega (arith, ints))
+          ]
+    ]
+
+pub near : (t p : ℕ) → t < 2 ^ 64 → p < 2 ^ 64 → (v w : ℤ)
+    → Some (cast_signed w64 (difference_64 (page t) (page p))) ≡ Some v
+    → Some (cast_signed w64 (difference_64 t (sum_64 p 4))) ≡ Some w
+    → IsWithin (Some (bit_bounds 21 Signed)) w → IsWithin (Some (bit_bounds 33 Signed)) v
+near t p small small' v w is is' within =
+    let same : cast_signed w64 (difference_64 (page t) (page p)) ≡ v = cc in
+    let same' : cast_signed w64 (difference_64 t (sum_64 p 4)) ≡ w = cc in
+    subst (λ z. IsWithin (Some (bit_bounds 33 Signed)) z) same
+    (wide (difference_64 (page t) (page p)) (difference_below (page t) (page p))
+    (pages t p small small'
+    (close (difference_64 t (sum_64 p 4)) w (difference_below t (sum_64 p 4)) same' within)))

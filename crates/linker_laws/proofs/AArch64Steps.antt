@@ -1,0 +1,183 @@
+-- Steps of AArch64's instructions.
+use Rattle.std.proofs.Common.{◌≡◌, ◌≢◌, ℕ, ◌+◌, ◌%◌, ◌^◌, Bool, true, false, refl, sym, ◌∙◌, ap}
+use Rattle.std.proofs.Common.{subst, arith, List, [], ◌∷◌, eqb, cond, ℤ, pos, ◌+ℤ◌, ◌*ℤ◌, Some}
+use Rattle.std.proofs.Common.{None, unsigned_abs}
+use Rattle.std.specs.Prelude.{IsSomeAnd}
+use Rattle.std.proofs.lemmas.Bool.{eq-eqb, ne_eqb, cond-true, cond-false}
+use Rattle.std.proofs.lemmas.Int.{ints}
+use Rattle.linker_aarch64.specs.AArch64Rewrites.{rd_of, rn_of}
+use Rattle.linker_elf.specs.AArch64.{aarch64_form}
+use Rattle.linker_elf.specs.declared.aarch64.forms.AArch64Instruction.TheVariants.{LdSt}
+use Rattle.linker_laws.specs.Schemes.{IsAddress}
+use Rattle.linker_laws.proofs.Sums.{lift, lifted_is}
+use Rattle.linker_laws.specs.AArch64Machine.{State, step, run, decode, in_64_bits, write_x}
+use Rattle.linker_laws.specs.AArch64Machine.{write_x_or_sp, go_on, next_pc, continue, execute}
+use Rattle.linker_laws.specs.AArch64Machine.{AreAlikeBut, RunAlikeBut, adrp, adr, add, ldr}
+use Rattle.linker_laws.specs.AArch64Machine.{adrp_address, adr_address, added, loaded, load_64}
+use Rattle.linker_laws.specs.AArch64Machine.{movn_or_movz, movk_64, moved, with_moved, blr}
+use Rattle.linker_laws.specs.AArch64Machine.{go_to, read_x}
+
+-- ---- sums
+
+pub address_is : (z : ℤ) (t : ℕ) → IsAddress z t → in_64_bits z ≡ t
+address_is z t e = ap unsigned_abs e
+
+-- a sum in two steps
+pub in_two_steps : (a b : ℤ) → in_64_bits (pos (in_64_bits a) +ℤ b) ≡ in_64_bits (a +ℤ b)
+in_two_steps a b =
+    let l = lift a in
+    let m = lift b in
+    let il = l.is in
+    let im = m.is in
+    let first : in_64_bits a ≡ l.number % 2 ^ 64 =
+    address_is a _ (lifted_is a l.times l.number l.is) in
+    ap (λ n. in_64_bits (pos n +ℤ b)) first
+    ∙ address_is (pos (l.number % 2 ^ 64) +ℤ b) _
+    (lifted_is (pos (l.number % 2 ^ 64) +ℤ b) m.times (l.number % 2 ^ 64 + m.number)
+    (omega (arith, ints)))
+    ∙ (let same : (l.number % 2 ^ 64 + m.number) % 2 ^ 64 ≡ (l.number + m.number) % 2 ^ 64 =
+    omega arith in same)
+    ∙ sym (address_is (a +ℤ b) _ (lifted_is (a +ℤ b) (l.times + m.times) (l.number + m.number)
+    (omega (arith, ints))))
+
+-- ---- one instruction
+
+-- the state after an instruction that writes a register and goes on
+abbrev pub set : ℕ → ℕ → State → State
+set n v s = go_on (write_x_or_sp n v s)
+
+written : (n v : ℕ) (s : State) → n ≢ 31 → Some (go_on (write_x n v s)) ≡ Some (set n v s)
+written n v s named = ap (λ t. Some (go_on t)) (cond-false _ _ _ (ne_eqb n 31 named))
+
+pub step_adrp : (x n : ℕ) (s : State) → decode x ≡ adrp → rd_of x ≡ n → n ≢ 31
+    → step x s ≡ Some (set n (adrp_address x s) s)
+step_adrp x n s is rd named =
+    ap (λ c. execute c x s) is
+    ∙ ap (λ r. Some (go_on (write_x r (adrp_address x s) s))) rd
+    ∙ written n (adrp_address x s) s named
+
+pub step_adr : (x n : ℕ) (s : State) → decode x ≡ adr → rd_of x ≡ n → n ≢ 31
+    → step x s ≡ Some (set n (adr_address x s) s)
+step_adr x n s is rd named =
+    ap (λ c. execute c x s) is
+    ∙ ap (λ r. Some (go_on (write_x r (adr_address x s) s))) rd
+    ∙ written n (adr_address x s) s named
+
+pub step_add : (x n : ℕ) (s : State) → decode x ≡ add → rd_of x ≡ n
+    → step x s ≡ Some (set n (added x s) s)
+step_add x n s is rd =
+    ap (λ c. execute c x s) is ∙ ap (λ r. Some (set r (added x s) s)) rd
+
+pub step_ldr : (x n : ℕ) (s : State) → decode x ≡ ldr → rd_of x ≡ n → n ≢ 31
+    → step x s ≡ Some (set n (loaded x s) s)
+step_ldr x n s is rd named =
+    ap (λ c. execute c x s) is
+    ∙ ap (λ r. Some (go_on (write_x r (loaded x s) s))) rd
+    ∙ written n (loaded x s) s named
+
+pub step_move : (x n : ℕ) (s : State) → decode x ≡ movn_or_movz → rd_of x ≡ n → n ≢ 31
+    → step x s ≡ Some (set n (moved x) s)
+step_move x n s is rd named =
+    ap (λ c. execute c x s) is
+    ∙ ap (λ r. Some (go_on (write_x r (moved x) s))) rd
+    ∙ written n (moved x) s named
+
+pub step_movk : (x n : ℕ) (s : State) → decode x ≡ movk_64 → rd_of x ≡ n → n ≢ 31
+    → step x s ≡ Some (set n (with_moved x s) s)
+step_movk x n s is rd named =
+    ap (λ c. execute c x s) is
+    ∙ ap (λ r. Some (go_on (write_x r (with_moved x s) s))) rd
+    ∙ written n (with_moved x s) s named
+
+pub step_blr : (x n : ℕ) (s : State) → decode x ≡ blr → rn_of x ≡ n → n ≢ 31
+    → step x s ≡ Some (go_to (s.registers n) (write_x_or_sp 30 (next_pc s) s))
+step_blr x n s is rn named =
+    ap (λ c. execute c x s) is
+    ∙ ap (λ r. Some (go_to (read_x r s) (write_x_or_sp 30 (next_pc s) s))) rn
+    ∙ ap (λ v. Some (go_to v (write_x_or_sp 30 (next_pc s) s)))
+    (cond-false _ _ _ (ne_eqb n 31 named))
+
+-- what is read of the register that was written
+pub read_back : (n v r : ℕ) (s : State) → r ≡ n → (set n v s).registers r ≡ v
+read_back n v r s same = cond-true (eqb r n) v (s.registers r) (eq-eqb r n same)
+
+-- ---- sequences
+
+pub run_more : (x y : ℕ) (words : List ℕ) (s t u : State) → step x s ≡ Some t → t.pc ≡ next_pc s
+    → run (y ∷ words) t ≡ Some u → run (x ∷ y ∷ words) s ≡ Some u
+run_more x y words s t u first on rest =
+    ap (continue (next_pc s) (λ r. run (y ∷ words) r)) first
+    ∙ cond-true (eqb t.pc (next_pc s)) (run (y ∷ words) t) None (eq-eqb t.pc (next_pc s) on) ∙ rest
+
+pub run_pair : (x y : ℕ) (s t u : State) → step x s ≡ Some t → t.pc ≡ next_pc s → step y t ≡ Some u
+    → run (x ∷ y ∷ []) s ≡ Some u
+run_pair x y s t u first on second = run_more x y [] s t u first on second
+
+pub alike_runs : (differing : ℕ → Bool) (old new : List ℕ) (s t u : State)
+    → run old s ≡ Some t → run new s ≡ Some u → AreAlikeBut differing t u
+    → RunAlikeBut differing old new s
+alike_runs differing old new s t u first second alike =
+    subst (λ r. IsSomeAnd r (λ t. IsSomeAnd (run new s) (λ u. AreAlikeBut differing t u)))
+    (sym first)
+    (subst (λ r. IsSomeAnd r (λ u. AreAlikeBut differing t u)) (sym second) alike)
+
+-- A register that is written twice holds what was written last.
+last_counts : (b : Bool) (u v u2 v2 r : ℕ) → v ≡ v2
+    → cond b v (cond b u r) ≡ cond b v2 (cond b u2 r)
+last_counts true u v u2 v2 r e = e
+last_counts false u v u2 v2 r e = refl
+
+pub alike_twice : (n u v u2 v2 : ℕ) (s : State) → v ≡ v2
+    → AreAlikeBut (λ _. false) (set n v (set n u s)) (set n v2 (set n u2 s))
+alike_twice n u v u2 v2 s same =
+    record {
+      registers = λ m any. last_counts (eqb m n) u v u2 v2 (s.registers m) same;
+      pc = refl;
+      memory = refl;
+      thread_pointer = refl;
+    }
+
+-- ---- sums of a pair
+
+-- what is loaded from a register that holds a sum
+pub loaded_from : (y n : ℕ) (a : ℤ) (s : State) → rn_of y ≡ n
+    → loaded y (set n (in_64_bits a) s)
+    ≡ load_64 s.memory (in_64_bits (a +ℤ ((aarch64_form LdSt).machine y *ℤ pos 8)))
+loaded_from y n a s rn =
+    ap (λ v. load_64 s.memory (in_64_bits (pos v +ℤ ((aarch64_form LdSt).machine y *ℤ pos 8))))
+    (read_back n (in_64_bits a) (rn_of y) s rn)
+    ∙ ap (load_64 s.memory) (in_two_steps a ((aarch64_form LdSt).machine y *ℤ pos 8))
+
+-- A register that is written once, after an instruction that changes nothing
+once_counts : (b : Bool) (u v v2 r : ℕ) → v ≡ v2 → cond b v (cond b u r) ≡ cond b v2 r
+once_counts true u v v2 r e = e
+once_counts false u v v2 r e = refl
+
+pub alike_once : (n u v v2 : ℕ) (s : State) → v ≡ v2
+    → AreAlikeBut (λ _. false) (set n v (set n u s)) (set n v2 (go_on s))
+alike_once n u v v2 s same =
+    record {
+      registers = λ m any. once_counts (eqb m n) u v v2 (s.registers m) same;
+      pc = refl;
+      memory = refl;
+      thread_pointer = refl;
+    }
+
+pub alike_before : (n u v v2 : ℕ) (s : State) → v ≡ v2
+    → AreAlikeBut (λ _. false) (set n v (set n u s)) (go_on (set n v2 s))
+alike_before n u v v2 s same =
+    record {
+      registers = λ m any. once_counts (eqb m n) u v v2 (s.registers m) same;
+      pc = refl;
+      memory = refl;
+      thread_pointer = refl;
+    }
+
+pub alike_itself : (differing : ℕ → Bool) (s : State) → AreAlikeBut differing s s
+alike_itself differing s =
+    record {
+      registers = λ n any. refl;
+      pc = refl;
+      memory = refl;
+      thread_pointer = refl;
+    }

@@ -1,0 +1,148 @@
+-- Steps of LoongArch's instructions.
+use Rattle.std.proofs.Common.{◌≡◌, ◌≢◌, ℕ, ◌+◌, ◌-◌, ◌*◌, ◌%◌, ◌^◌, ◌<◌, Bool, true, false, refl, sym, ◌∙◌, ap}
+use Rattle.std.proofs.Common.{subst, arith, List, [], ◌∷◌, eqb, cond, ℤ, pos, ◌+ℤ◌, ◌*ℤ◌, Some, inl, inr}
+use Rattle.std.proofs.Common.{None}
+use Rattle.std.specs.Prelude.{IsSomeAnd}
+use Rattle.std.specs.Int.RustNames.{bit_or}
+use Rattle.std.proofs.lemmas.Bool.{eq-eqb, ne_eqb, cond-true, cond-false}
+use Rattle.std.proofs.lemmas.Int.{ints}
+use Rattle.std.proofs.lemmas.Nat.{or_shifted}
+use Rattle.linker_base.specs.Bits.{field, signed}
+use Rattle.linker_base.proofs.Pairs.{signed_cases}
+use Rattle.linker_loongarch64.specs.LoongArchRewrites.{rd_of, rj_of}
+use Rattle.linker_laws.proofs.Sums.{lifted_is}
+use Rattle.linker_laws.specs.Machine.{wrapped, loaded}
+use Rattle.linker_laws.specs.LoongArchMachine.{State, step, run, decode, read, write, with_register, go_on, next_pc, continue, execute, EndSo, AreAlikeBut, pcalau_12, pcadd_2, lu12i_w, sums, adds, loads, ori, page_address, near_address, high_part, sum_of, ored}
+use Rattle.linker_laws.proofs.AArch64Steps.{address_is, in_two_steps}
+
+-- ---- one instruction
+
+-- the state after an instruction that writes a register and goes on
+abbrev pub set : ℕ → ℕ → State → State
+set n v s = go_on (with_register n v s)
+
+-- an instruction that does so
+pub written : (n m v : ℕ) (s : State) → m ≡ n → n ≢ 0 → Some (go_on (write m v s)) ≡ Some (set n v s)
+written n m v s same named =
+    ap (λ r. Some (go_on (write r v s))) same ∙ ap (λ t. Some (go_on t)) (cond-false _ _ _ (ne_eqb n 0 named))
+
+pub step_page : (x n : ℕ) (s : State) → decode x ≡ pcalau_12 → rd_of x ≡ n → n ≢ 0 → step x s ≡ Some (set n (page_address x s) s)
+step_page x n s is rd named = ap (λ c. execute c x s) is ∙ written n (rd_of x) _ s rd named
+
+pub step_near : (x n : ℕ) (s : State) → decode x ≡ pcadd_2 → rd_of x ≡ n → n ≢ 0 → step x s ≡ Some (set n (near_address x s) s)
+step_near x n s is rd named = ap (λ c. execute c x s) is ∙ written n (rd_of x) _ s rd named
+
+pub step_high : (x n : ℕ) (s : State) → decode x ≡ lu12i_w → rd_of x ≡ n → n ≢ 0 → step x s ≡ Some (set n (high_part x) s)
+step_high x n s is rd named = ap (λ c. execute c x s) is ∙ written n (rd_of x) _ s rd named
+
+-- `addi.d` and `ld.d`
+pub step_sum : (x n : ℕ) (s : State) → decode x ≡ sums adds → rd_of x ≡ n → n ≢ 0 → step x s ≡ Some (set n (sum_of x s) s)
+step_sum x n s is rd named = ap (λ c. execute c x s) is ∙ written n (rd_of x) _ s rd named
+
+-- what `ld.d` loads
+abbrev pub loaded_of : ℕ → State → ℕ
+loaded_of word s = loaded 8 s.memory (sum_of word s)
+
+pub step_load : (x n : ℕ) (s : State) → decode x ≡ sums (loads 8) → rd_of x ≡ n → n ≢ 0 → step x s ≡ Some (set n (loaded_of x s) s)
+step_load x n s is rd named = ap (λ c. execute c x s) is ∙ written n (rd_of x) _ s rd named
+
+pub step_or : (x n : ℕ) (s : State) → decode x ≡ ori → rd_of x ≡ n → n ≢ 0 → step x s ≡ Some (set n (ored x s) s)
+step_or x n s is rd named = ap (λ c. execute c x s) is ∙ written n (rd_of x) _ s rd named
+
+-- what is read of the register that was written
+pub read_back : (n v r : ℕ) (s : State) → r ≡ n → n ≢ 0 → read r (set n v s) ≡ v
+read_back n v r s same named =
+    ap (λ k. read k (set n v s)) same ∙ cond-false (eqb n 0) 0 _ (ne_eqb n 0 named) ∙ cond-true (eqb n n) v (s.registers n) (eq-eqb n n refl)
+
+-- ---- sequences
+
+pub run_pair : (x y : ℕ) (s t u : State) → step x s ≡ Some t → t.pc ≡ next_pc s → step y t ≡ Some u → run (x ∷ y ∷ []) s ≡ Some u
+run_pair x y s t u first on second =
+    ap (continue (next_pc s) (λ r. run (y ∷ []) r)) first
+    ∙ cond-true (eqb t.pc (next_pc s)) (run (y ∷ []) t) None (eq-eqb t.pc (next_pc s) on) ∙ second
+
+pub ends_so : (old new : List ℕ) (s t u v : State) (P : State → State → Type 0) → run old s ≡ Some u → run new t ≡ Some v → P u v → EndSo old s new t P
+ends_so old new s t u v P first second holds =
+    subst (λ r. IsSomeAnd r (λ u. IsSomeAnd (run new t) (λ v. P u v))) (sym first)
+    (subst (λ r. IsSomeAnd r (λ v. P u v)) (sym second) holds)
+
+-- A register that is written twice holds what was written last.
+last_counts : (b c : Bool) (u v u2 v2 r : ℕ) → v ≡ v2 → cond c 0 (cond b v (cond b u r)) ≡ cond c 0 (cond b v2 (cond b u2 r))
+last_counts b true u v u2 v2 r e = refl
+last_counts true false u v u2 v2 r e = e
+last_counts false false u v u2 v2 r e = refl
+
+pub alike_twice : (n u v u2 v2 : ℕ) (s : State) → v ≡ v2 → AreAlikeBut (λ _. false) (set n v (set n u s)) (set n v2 (set n u2 s))
+alike_twice n u v u2 v2 s same =
+    record {
+      registers = λ m any. last_counts (eqb m n) (eqb m 0) u v u2 v2 (s.registers m) same;
+      floats = refl;
+      memory = refl;
+    }
+
+once_counts : (b c : Bool) (u v v2 r : ℕ) → v ≡ v2 → cond c 0 (cond b v (cond b u r)) ≡ cond c 0 (cond b v2 r)
+once_counts b true u v v2 r e = refl
+once_counts true false u v v2 r e = e
+once_counts false false u v v2 r e = refl
+
+pub alike_once : (n u v v2 : ℕ) (s : State) → v ≡ v2 → AreAlikeBut (λ _. false) (set n v (set n u s)) (set n v2 (go_on s))
+alike_once n u v v2 s same =
+    record {
+      registers = λ m any. once_counts (eqb m n) (eqb m 0) u v v2 (s.registers m) same;
+      floats = refl;
+      memory = refl;
+    }
+
+-- of two states that are alike, where one writes twice and the other once
+others_count : (b c : Bool) (u v v2 r q : ℕ) → b ≡ false → cond c 0 r ≡ cond c 0 q → cond c 0 (cond b v (cond b u r)) ≡ cond c 0 (cond b v2 q)
+others_count true c u v v2 r q n e = cc
+others_count false c u v v2 r q n e = e
+
+pub alike_others : (n u v v2 : ℕ) (s t : State) → AreAlikeBut (λ _. false) s t → AreAlikeBut (λ m. eqb m n) (set n v (set n u s)) (set n v2 t)
+alike_others n u v v2 s t alike =
+    record {
+      registers = λ m other. others_count (eqb m n) (eqb m 0) u v v2 (s.registers m) (t.registers m) other (alike.registers m refl);
+      floats = alike.floats;
+      memory = alike.memory;
+    }
+
+-- ---- sums of a pair
+
+pub sum_is : (y n : ℕ) (a : ℤ) (s : State) → rj_of y ≡ n → n ≢ 0 → sum_of y (set n (wrapped a) s) ≡ wrapped (a +ℤ signed 12 (field y 10 22))
+sum_is y n a s rj named =
+    ap (λ v. wrapped (pos v +ℤ signed 12 (field y 10 22))) (read_back n (wrapped a) (rj_of y) s rj named)
+    ∙ in_two_steps a (signed 12 (field y 10 22))
+
+-- ---- `lu12i.w` and `ori`
+
+high_cases : (f low : ℕ) → f < 2 ^ 20 → low < 2 ^ 12 → bit_or (wrapped (signed 20 f *ℤ pos 4096)) low ≡ wrapped ((signed 20 f *ℤ pos 4096) +ℤ pos low)
+high_cases f low small below =
+    elim (signed_cases 20 f) [
+      | inl h ↦ let e = h.1 in let g = h.0 in
+          let first : wrapped (signed 20 f *ℤ pos 4096) ≡ f * 2 ^ 12 =
+          address_is (signed 20 f *ℤ pos 4096) _ (lifted_is (signed 20 f *ℤ pos 4096) 0 (f * 2 ^ 12) (omega (arith, ints)))
+          ∙ (let k : f * 2 ^ 12 % 2 ^ 64 ≡ f * 2 ^ 12 = omega arith in k) in
+          let both : wrapped ((signed 20 f *ℤ pos 4096) +ℤ pos low) ≡ f * 2 ^ 12 + low =
+          address_is _ _ (lifted_is ((signed 20 f *ℤ pos 4096) +ℤ pos low) 0 (f * 2 ^ 12 + low) (omega (arith, ints)))
+          ∙ (let k : (f * 2 ^ 12 + low) % 2 ^ 64 ≡ f * 2 ^ 12 + low = omega arith in k) in
+          ap (λ v. bit_or v low) first ∙ or_shifted f 12 low below ∙ sym both
+      | inr h ↦ let e = h.1 in let g = h.0 in
+          let k = 2 ^ 52 - 2 ^ 20 + f in
+          let first : wrapped (signed 20 f *ℤ pos 4096) ≡ k * 2 ^ 12 =
+          address_is (signed 20 f *ℤ pos 4096) _ (lifted_is (signed 20 f *ℤ pos 4096) 1 (k * 2 ^ 12) (omega (arith, ints)))
+          ∙ (let m : k * 2 ^ 12 % 2 ^ 64 ≡ k * 2 ^ 12 = omega arith in m) in
+          let both : wrapped ((signed 20 f *ℤ pos 4096) +ℤ pos low) ≡ k * 2 ^ 12 + low =
+          address_is _ _ (lifted_is ((signed 20 f *ℤ pos 4096) +ℤ pos low) 1 (k * 2 ^ 12 + low) (omega (arith, ints)))
+          ∙ (let m : (k * 2 ^ 12 + low) % 2 ^ 64 ≡ k * 2 ^ 12 + low = omega arith in m) in
+          ap (λ v. bit_or v low) first ∙ or_shifted k 12 low below ∙ sym both
+    ]
+
+pub ored_is : (x y n : ℕ) (s : State) → rj_of y ≡ n → n ≢ 0
+    → ored y (set n (high_part x) s) ≡ wrapped ((signed 20 (field x 5 25) *ℤ pos 4096) +ℤ pos (field y 10 22))
+ored_is x y n s rj named =
+    ap (λ v. bit_or v (field y 10 22)) (read_back n (high_part x) (rj_of y) s rj named)
+    ∙ high_cases (field x 5 25) (field y 10 22) (omega arith) (omega arith)
+
+-- from `zero`
+pub ored_zero : (y : ℕ) (s : State) → rj_of y ≡ 0 → ored y s ≡ field y 10 22
+ored_zero y s rj = ap (λ r. bit_or (read r s) (field y 10 22)) rj ∙ or_shifted 0 12 (field y 10 22) (omega arith) ∙ omega arith

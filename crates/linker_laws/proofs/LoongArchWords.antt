@@ -1,0 +1,170 @@
+-- Words of LoongArch to which a relocation was applied, and which instructions they are.
+use Rattle.std.proofs.Common.{◌≡◌, ◌≢◌, ℕ, ◌+◌, ◌-◌, ◌/◌, ◌%◌, ◌^◌, ◌<◌, ◌≤◌, ◌⊎◌, inl, inr, refl, max}
+use Rattle.std.proofs.Common.{sym, ◌∙◌, ap, subst, arith, List, [], eqb, ltb, if◌then◌else◌, ℤ, true, false}
+use Rattle.std.specs.Prelude.{◌==◌, ◌&&◌, ◌||◌, nat_le}
+use Rattle.std.specs.Int.{bit_at, w32, from_le_bytes}
+use Rattle.std.proofs.lemmas.List.Elements.{All-nil}
+use Rattle.std.proofs.lemmas.Bool.{ne_eqb, cond-true, cond-false, or_cases, and_parts, eqb-true, leb-true, false_from_ne_true}
+use Rattle.linker_base.specs.Bits.{field}
+use Rattle.linker_base.specs.Form.{ImmediateBit, BitsWritten, bit_for, placed_bit, ored}
+use Rattle.linker_loongarch64.specs.LoongArchRewrites.{adds_low12}
+use Rattle.linker_loongarch64.specs.LoongArchRewrites.{rd_of, rj_of}
+use Rattle.linker_elf.specs.Relocate.{InstructionWritten, bits_taken, ored_cleared}
+use Rattle.linker_elf.specs.declared.loongarch64.forms.LoongArch64Instruction.TheVariants.{Shift5, Shift10}
+use Rattle.linker_elf.specs.declared.elf.RelocationInstruction.TheVariants.{LoongArch64}
+use Rattle.linker_elf.proofs.AArch64Forms.{high_kept}
+use Rattle.linker_elf.proofs.Clearing.{same_window}
+use Rattle.linker_elf.proofs.LoongArch.{shift5_places, shift10_places, shift10_field}
+use Rattle.linker_laws.specs.LoongArchMachine.{decode, pcalau_12, pcadd_2, lu12i_w, sums, action_of, adds, loads, ori}
+use Rattle.linker_laws.proofs.AArch64Words.{field_kept, top_kept}
+
+-- ---- which instruction a word is
+
+pub decodes_page : (x : ℕ) → x / 2 ^ 25 ≡ 0x0d → decode x ≡ pcalau_12
+decodes_page x op = cond-true _ _ _ (ap (λ t. eqb t 0x0d) op)
+
+pub decodes_near : (x : ℕ) → x / 2 ^ 25 ≡ 0x0c → decode x ≡ pcadd_2
+decodes_near x op = cond-false _ _ _ (ap (λ t. eqb t 0x0d) op) ∙ cond-true _ _ _ (ap (λ t. eqb t 0x0c) op)
+
+pub decodes_high : (x : ℕ) → x / 2 ^ 25 ≡ 0x0a → decode x ≡ lu12i_w
+decodes_high x op =
+    cond-false _ _ _ (ap (λ t. eqb t 0x0d) op) ∙ cond-false _ _ _ (ap (λ t. eqb t 0x0c) op)
+    ∙ cond-false _ _ _ (ap (λ t. eqb t 0x0f) op) ∙ cond-true _ _ _ (ap (λ t. eqb t 0x0a) op)
+
+-- ---- those that add a low half
+
+-- by their upper 10 bits
+pub record IsLow12 (op : ℕ) : Type 0 where
+  pub is : (op < 12) ⊎ (0x0a0 ≤ op)
+  pub below : op < 0x0b0
+
+pub low12_is : (op : ℕ) → adds_low12 op ≡ true → IsLow12 op
+low12_is op is =
+    elim (or_cases (op == 0x00a || op == 0x00b || nat_le 0x0a0 op && nat_le op 0x0aa) (nat_le 0x0ac op && nat_le op 0x0af) is) [
+      | inl first ↦ elim (or_cases (op == 0x00a || op == 0x00b) (nat_le 0x0a0 op && nat_le op 0x0aa) first) [
+        | inl sum ↦ elim (or_cases (op == 0x00a) (op == 0x00b) sum) [
+          | inl a ↦ let e = eqb-true op 0x00a a in record { is = inl (omega arith); below = omega arith }
+          | inr b ↦ let e = eqb-true op 0x00b b in record { is = inl (omega arith); below = omega arith }
+        ]
+        | inr between ↦
+            let p = and_parts (nat_le 0x0a0 op) (nat_le op 0x0aa) between in
+            let from = leb-true 0x0a0 op p.0 in
+            let to = leb-true op 0x0aa p.1 in
+            record { is = inr from; below = omega arith }
+      ]
+      | inr between ↦
+          let p = and_parts (nat_le 0x0ac op) (nat_le op 0x0af) between in
+          let from = leb-true 0x0ac op p.0 in
+          let to = leb-true op 0x0af p.1 in
+          record { is = inr (omega arith); below = omega arith }
+    ]
+
+pub no_low12 : (op : ℕ) → 0x0af < op → adds_low12 op ≡ false
+no_low12 op high = false_from_ne_true (adds_low12 op) (λ is. let below = (low12_is op is).below in omega arith)
+
+-- which isn't one of the first four
+low12_not : (op k : ℕ) → adds_low12 op ≡ true → 1 < k → k < 20 → op / 8 ≢ k
+low12_not op k is from to e =
+    elim (low12_is op is).is [
+      | inl near ↦ omega arith
+      | inr far ↦ omega arith
+    ]
+
+-- none of the first four
+module _ (x : ℕ) (k : ℕ) (op : x / 2 ^ 22 ≡ k) (first : k / 8 ≢ 0x0d) (second : k / 8 ≢ 0x0c) (third : k / 8 ≢ 0x0f) (fourth : k / 8 ≢ 0x0a) where
+  high_is : x / 2 ^ 25 ≡ k / 8
+  high_is = omega arith
+
+  pub not_high : {A : Type 0} (a b c d e : A)
+      → (if eqb (x / 2 ^ 25) 0x0d then a else (if eqb (x / 2 ^ 25) 0x0c then b else (if eqb (x / 2 ^ 25) 0x0f then c else (if eqb (x / 2 ^ 25) 0x0a then d else e)))) ≡ e
+  not_high a b c d e =
+      let h = high_is in
+      cond-false _ _ _ (ne_eqb (x / 2 ^ 25) 0x0d (λ i. first (sym h ∙ i)))
+      ∙ cond-false _ _ _ (ne_eqb (x / 2 ^ 25) 0x0c (λ i. second (sym h ∙ i)))
+      ∙ cond-false _ _ _ (ne_eqb (x / 2 ^ 25) 0x0f (λ i. third (sym h ∙ i)))
+      ∙ cond-false _ _ _ (ne_eqb (x / 2 ^ 25) 0x0a (λ i. fourth (sym h ∙ i)))
+
+pub decodes_action : (x op : ℕ) → x / 2 ^ 22 ≡ op → adds_low12 op ≡ true → decode x ≡ sums (action_of op)
+decodes_action x op is low =
+    not_high x op is (low12_not op 0x0d low (omega arith) (omega arith)) (low12_not op 0x0c low (omega arith) (omega arith))
+    (low12_not op 0x0f low (omega arith) (omega arith)) (low12_not op 0x0a low (omega arith) (omega arith)) _ _ _ _ _
+    ∙ cond-true _ _ _ (ap adds_low12 is ∙ low) ∙ ap (λ k. sums (action_of k)) is
+
+pub decodes_sum : (x : ℕ) → x / 2 ^ 22 ≡ 0x00b → decode x ≡ sums adds
+decodes_sum x op = decodes_action x 0x00b op refl
+
+pub decodes_load : (x : ℕ) → x / 2 ^ 22 ≡ 0x0a3 → decode x ≡ sums (loads 8)
+decodes_load x op = decodes_action x 0x0a3 op refl
+
+pub decodes_or : (x : ℕ) → x / 2 ^ 22 ≡ 0x00e → decode x ≡ ori
+decodes_or x op =
+    not_high x 0x00e op (λ i. omega arith) (λ i. omega arith) (λ i. omega arith) (λ i. omega arith) _ _ _ _ _
+    ∙ cond-false _ _ _ (ap adds_low12 op) ∙ cond-true _ _ _ (ap (λ t. eqb t 0x00e) op)
+
+-- ---- words after a relocation
+
+-- 20 bits from bit 5 up: the register and the opcode stay
+pub record IsHigh (op rd : ℕ) (word : ℕ) : Type 0 where
+  pub opcode : word / 2 ^ 25 ≡ op
+  pub rd_is : rd_of word ≡ rd
+
+-- of a range of 20 bits
+pub high_after : (start : ℕ) (op rd : ℕ) (v : ℤ) (before after : List ℕ)
+    → InstructionWritten (LoongArch64 Shift5) (record { start = start; end = start + 20 }) v before after
+    → from_le_bytes w32 before / 2 ^ 25 ≡ op → rd_of (from_le_bytes w32 before) ≡ rd → IsHigh op rd (from_le_bytes w32 after)
+high_after start op rd v before after w is same =
+    let wide : start + 20 - start ≡ 20 = omega arith in
+    let clears : BitsWritten (ored_cleared shift5_places) 0 (from_le_bytes w32 before) w.clear =
+    subst (λ n. BitsWritten (if ltb 12 n then ored_cleared shift5_places else []) 0 (from_le_bytes w32 before) w.clear) wide w.clears in
+    record {
+      opcode = top_kept (ored_cleared shift5_places) shift5_places _ _ _ _ _ clears w.written 25 refl refl ∙ is;
+      rd_is = field_kept (ored_cleared shift5_places) shift5_places _ _ _ _ _ clears w.written 0 5 refl refl ∙ same;
+    }
+
+-- 12 bits from bit 10 up, of a form that ORs four more, which are 0
+pub record IsLow (op rd rj : ℕ) (word : ℕ) : Type 0 where
+  pub opcode : word / 2 ^ 22 ≡ op
+  pub rd_is : rd_of word ≡ rd
+  pub rj_is : rj_of word ≡ rj
+
+ored_with_0 : (old new : ℕ) → new ≡ 0 → max old new ≡ old
+ored_with_0 old new e = rw e (omega arith)
+
+same_opcode : (x y : ℕ) → bit_at x 22 ≡ bit_at y 22 → bit_at x 23 ≡ bit_at y 23 → bit_at x 24 ≡ bit_at y 24
+    → bit_at x 25 ≡ bit_at y 25 → x / 2 ^ 26 ≡ y / 2 ^ 26 → x / 2 ^ 22 ≡ y / 2 ^ 22
+same_opcode x y a b c d e = omega arith
+
+low_kept : (v before after : ℕ) → v < 2 ^ 12 → BitsWritten shift10_places v before after → after / 2 ^ 22 ≡ before / 2 ^ 22
+low_kept v before after small laid =
+    let any : ImmediateBit = record { value = 0; insn_bit = 0; added = 0; mark = ored } in
+    same_opcode after before
+    (laid.placed 12 any (omega arith) ∙ ored_with_0 _ _ (let z : bit_at ((v + 0) % 2 ^ 64) 12 ≡ 0 = omega arith in z))
+    (laid.placed 13 any (omega arith) ∙ ored_with_0 _ _ (let z : bit_at ((v + 0) % 2 ^ 64) 13 ≡ 0 = omega arith in z))
+    (laid.placed 14 any (omega arith) ∙ ored_with_0 _ _ (let z : bit_at ((v + 0) % 2 ^ 64) 14 ≡ 0 = omega arith in z))
+    (laid.placed 15 any (omega arith) ∙ ored_with_0 _ _ (let z : bit_at ((v + 0) % 2 ^ 64) 15 ≡ 0 = omega arith in z))
+    (high_kept shift10_places v before after laid 26 refl)
+
+pub low_after : (op rd rj : ℕ) (v : ℤ) (before after : List ℕ)
+    → InstructionWritten (LoongArch64 Shift10) (record { start = 0; end = 12 }) v before after
+    → from_le_bytes w32 before / 2 ^ 22 ≡ op → rd_of (from_le_bytes w32 before) ≡ rd → rj_of (from_le_bytes w32 before) ≡ rj
+    → IsLow op rd rj (from_le_bytes w32 after)
+low_after op rd rj v before after w is same same2 =
+    let x = from_le_bytes w32 before in
+    let clear : w.clear ≡ x = same_window 0 x w.clear w.clears in
+    let written : BitsWritten shift10_places (bits_taken (record { start = 0; end = 12 }) v) x (from_le_bytes w32 after) =
+    subst (λ c. BitsWritten shift10_places (bits_taken (record { start = 0; end = 12 }) v) c (from_le_bytes w32 after)) clear w.written in
+    let kept = field_kept [] shift10_places 0 _ x x (from_le_bytes w32 after) (none x) written in
+    record {
+      opcode = low_kept _ x _ (omega arith) written ∙ is;
+      rd_is = kept 0 5 refl refl ∙ same;
+      rj_is = kept 5 10 refl refl ∙ same2;
+    }
+  where
+    none : (x : ℕ) → BitsWritten [] 0 x x
+    none x = record { placed = All-nil (λ (p : ImmediateBit). bit_at x p.insn_bit ≡ placed_bit p.mark (bit_for p 0) (bit_at x p.insn_bit)); kept = λ w h. refl }
+
+-- what stands in the 12 bits
+pub low_is : (v : ℤ) (before after : List ℕ)
+    → InstructionWritten (LoongArch64 Shift10) (record { start = 0; end = 12 }) v before after
+    → field (from_le_bytes w32 after) 10 22 ≡ bits_taken (record { start = 0; end = 12 }) v
+low_is v before after w = shift10_field _ w.clear (from_le_bytes w32 after) (omega arith) w.written

@@ -1,0 +1,122 @@
+-- PowerPC64: prefixed instructions.
+use Rattle.std.proofs.Common.{◌≡◌, ℕ, ◌+◌, ◌*◌, ◌/◌, ◌^◌, ◌<◌, ◌++◌, refl, sym, ◌∙◌, ap, subst, arith, List}
+use Rattle.std.proofs.Common.{[], false, drop, Some, true, ℤ}
+use Rattle.std.specs.Prelude.{◌&&◌, ◌==◌, IsSomeAnd}
+use Rattle.std.proofs.lemmas.Bool.{and_parts, eqb-true, cond-true, cond-false, eq-eqb}
+use Rattle.linker_base.specs.Bits.{field}
+use Rattle.linker_base.specs.Form.{ImmediateBit, bits_to}
+use Rattle.linker_base.specs.declared.bit_misc.BitRange.{BitRange}
+use Rattle.linker_elf.specs.Ppc64.{ppc64_form}
+use Rattle.linker_ppc64.specs.Ppc64Rewrites.{opcode_of, rt_of, ra_of, li_of, two_words as both_words}
+use Rattle.linker_elf.specs.Relocate.{InstructionWritten}
+use Rattle.linker_elf.specs.Value.{sum_64}
+use Rattle.linker_elf.specs.declared.elf.RelocationInstruction.TheVariants.{Ppc64}
+use Rattle.linker_elf.specs.declared.ppc64.forms.Ppc64Instruction.TheVariants.{Prefixed}
+use Rattle.linker_laws.specs.Ppc64RelocationLaws as relocation_laws
+use Rattle.linker_laws.specs.Schemes.{symbol_address}
+use Rattle.linker_laws.specs.Machine.{moved, loaded}
+use Rattle.linker_laws.specs.Ppc64RewriteLaws.{word_of, prefixed_of}
+use Rattle.linker_laws.specs.Ppc64RewriteLaws as laws
+use Rattle.linker_laws.specs.Ppc64Machine.{State, Formats, step_prefixed, write, go_to, AreAlikeBut}
+use Rattle.linker_laws.proofs.AArch64Words.{field_kept}
+use Rattle.linker_laws.proofs.Ppc64Calls.{first_made, second_made, back}
+use Rattle.linker_laws.proofs.RiscVMachine.{times_one, address_is}
+use Rattle.linker_laws.proofs.Words.{two_words}
+
+-- the parts of a prefixed instruction
+pub record HasPrefixedParts (prefix opcode rt : ℕ) (both : ℕ) : Type 0 where
+  pub prefix_is : field both 18 32 ≡ prefix
+  pub opcode_is : opcode_of (both / 2 ^ 32) ≡ opcode
+  pub rt_is : rt_of (both / 2 ^ 32) ≡ rt
+  pub ra_is : ra_of (both / 2 ^ 32) ≡ 0
+
+abbrev places : List ImmediateBit
+places = bits_to 0 15 32 ++ bits_to 16 33 0
+
+same_parts : (x y p op rt : ℕ) → field y 18 32 ≡ field x 18 32 → field y 48 64 ≡ field x 48 64
+    → HasPrefixedParts p op rt x → HasPrefixedParts p op rt y
+same_parts x y p op rt low high h =
+    let a = h.opcode_is in
+    let b = h.rt_is in
+    let c = h.ra_is in
+    record { prefix_is = low ∙ h.prefix_is; opcode_is = omega arith; rt_is = omega arith; ra_is = omega arith }
+
+prefixed_after : (bits : BitRange) (v : ℤ) (before after : List ℕ) (p op rt : ℕ)
+    → InstructionWritten (Ppc64 Prefixed) bits v before after
+    → HasPrefixedParts p op rt (prefixed_of before) → HasPrefixedParts p op rt (prefixed_of after)
+prefixed_after bits v before after p op rt w h =
+    same_parts (prefixed_of before) (prefixed_of after) p op rt
+    (field_kept [] places _ _ _ _ _ w.clears w.written 18 32 refl refl)
+    (field_kept [] places _ _ _ _ _ w.clears w.written 48 64 refl refl) h
+
+of_words : (w1 w2 both p op rt : ℕ) → both ≡ w1 + w2 * 2 ^ 32 → w1 < 2 ^ 32 → w2 < 2 ^ 32
+    → field w1 18 32 ≡ p → opcode_of w2 ≡ op → rt_of w2 ≡ rt → ra_of w2 ≡ 0
+    → HasPrefixedParts p op rt both
+of_words w1 w2 both p op rt is small below a b c d =
+    let whole : both / 2 ^ 32 ≡ w2 = omega arith in
+    record {
+      prefix_is = (let e : field both 18 32 ≡ field w1 18 32 = omega arith in e) ∙ a;
+      opcode_is = ap opcode_of whole ∙ b;
+      rt_is = ap rt_of whole ∙ c;
+      ra_is = ap ra_of whole ∙ d;
+    }
+
+-- the state after an instruction of 8 bytes that writes a register
+abbrev pub set_8 : ℕ → ℕ → State → State
+set_8 r v s = write r v (go_to (sum_64 s.pc 8) s)
+
+tests : (both p op rt : ℕ) → HasPrefixedParts p op rt both
+    → (field both 18 32 == p && (opcode_of (both / 2 ^ 32) == op && ra_of (both / 2 ^ 32) == 0)) ≡ true
+tests both p op rt h =
+    ap (λ b. b && (opcode_of (both / 2 ^ 32) == op && ra_of (both / 2 ^ 32) == 0)) (eq-eqb _ _ h.prefix_is)
+    ∙ ap (λ b. b && ra_of (both / 2 ^ 32) == 0) (eq-eqb _ _ h.opcode_is) ∙ eq-eqb _ _ h.ra_is
+
+step_pld : (f : Formats) (both rt : ℕ) (s : State) → HasPrefixedParts 0x104 57 rt both
+    → step_prefixed f both s
+    ≡ Some (set_8 rt (loaded 8 s.memory (moved s.pc ((ppc64_form Prefixed).machine both))) s)
+step_pld f both rt s h =
+    cond-true _ _ _ (tests both 0x104 57 rt h)
+    ∙ ap (λ r. Some (set_8 r (loaded 8 s.memory (moved s.pc ((ppc64_form Prefixed).machine both))) s)) h.rt_is
+
+step_paddi : (f : Formats) (both rt : ℕ) (s : State) → HasPrefixedParts 0x184 14 rt both
+    → step_prefixed f both s ≡ Some (set_8 rt (moved s.pc ((ppc64_form Prefixed).machine both)) s)
+step_paddi f both rt s h =
+    cond-false _ _ _ (ap (λ k. k == 0x104
+    && (opcode_of (both / 2 ^ 32) == 57 && ra_of (both / 2 ^ 32) == 0)) h.prefix_is)
+    ∙ cond-true _ _ _ (tests both 0x184 14 rt h)
+    ∙ ap (λ r. Some (set_8 r (moved s.pc ((ppc64_form Prefixed).machine both)) s)) h.rt_is
+
+pub pld_to_paddi : relocation_laws.Prefixes → laws.PldToPaddi
+pld_to_paddi prefixes f o s pld paddi small at low high is holds made pld1 paddi2 a1 a2 =
+    let w2 = word_of (drop 4 pld) in
+    let rt = rt_of w2 in
+    let first = and_parts (field (word_of pld) 18 32 == 0x104 && opcode_of w2 == 57) (ra_of w2 == 0) is in
+    let second = and_parts (field (word_of pld) 18 32 == 0x104) (opcode_of w2 == 57) first.0 in
+    let old = of_words (word_of pld) w2 (prefixed_of pld) 0x104 57 rt (two_words pld) low high
+    (eqb-true _ _ second.0) (eqb-true _ _ second.1) refl (eqb-true _ _ first.1) in
+    let turned : li_of (rt_of (word_of (drop 4 pld))) < 2 ^ 32 = omega arith in
+    let made_words = made ∙ ap (λ w. both_words 0x06100000 (li_of (rt_of w))) (back pld) in
+    let p1 = first_made paddi 0x06100000 (li_of rt) (omega arith) turned made_words in
+    let p2 = second_made paddi 0x06100000 (li_of rt) (omega arith) turned made_words in
+    let new = of_words 0x06100000 (li_of rt) (prefixed_of paddi) 0x184 14 rt
+    (two_words paddi ∙ ap (λ w. w + word_of (drop 4 paddi) * 2 ^ 32) p1 ∙ ap (λ w. 0x06100000 + w * 2 ^ 32) p2)
+    (omega arith) turned refl (omega arith) (omega arith) (omega arith) in
+    let x = prefixed_of pld1 in
+    let y = prefixed_of paddi2 in
+    let entry : moved s.pc ((ppc64_form Prefixed).machine x) ≡ o.got_entry =
+    ap (λ t. moved t ((ppc64_form Prefixed).machine x)) at ∙ times_one o.place ((ppc64_form Prefixed).machine x)
+    ∙ address_is _ _ (prefixes.1 o small o.place pld pld1 a1 tt) in
+    let symbol : moved s.pc ((ppc64_form Prefixed).machine y) ≡ symbol_address o =
+    ap (λ t. moved t ((ppc64_form Prefixed).machine y)) at ∙ times_one o.place ((ppc64_form Prefixed).machine y)
+    ∙ address_is _ _ (prefixes.0 o small o.place paddi paddi2 a2 tt) in
+    let t = set_8 rt (symbol_address o) s in
+    let left : step_prefixed f x s ≡ Some t =
+    step_pld f x rt s (prefixed_after _ _ pld pld1 0x104 57 rt a1.written old)
+    ∙ ap (λ v. Some (set_8 rt (loaded 8 s.memory v) s)) entry
+    ∙ ap (λ v. Some (set_8 rt v s)) holds in
+    let right : step_prefixed f y s ≡ Some t =
+    step_paddi f y rt s (prefixed_after _ _ paddi paddi2 0x184 14 rt a2.written new)
+    ∙ ap (λ v. Some (set_8 rt v s)) symbol in
+    subst (λ r. IsSomeAnd r (λ t. IsSomeAnd (step_prefixed f y s) (λ u. AreAlikeBut (λ _. false) t u))) (sym left)
+    (subst (λ r. IsSomeAnd r (λ u. AreAlikeBut (λ _. false) t u)) (sym right)
+    (record { registers = λ n any. refl; floats = refl; link = refl; pc = refl; memory = refl }))

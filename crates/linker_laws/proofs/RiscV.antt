@@ -1,0 +1,109 @@
+-- Upper and low parts of RISC-V, and calls.
+use Rattle.std.proofs.Common.{◌≡◌, ℕ, ◌-◌, ◌*◌, ◌%◌, ◌^◌, Bool, refl, sym, ◌∙◌, ap, subst}
+use Rattle.std.proofs.Common.{arith, List, ℤ, pos, ◌+ℤ◌, ◌-ℤ◌, Option, Some, None, int_lt}
+use Rattle.std.proofs.Common.{unsigned_abs}
+use Rattle.std.specs.Int.{w64, cast_signed, int_rem_euclid}
+use Rattle.std.proofs.lemmas.Int.{ints, int_rem_euclid_is}
+use Rattle.linker_base.specs.Form.{window_of}
+use Rattle.linker_base.specs.declared.bit_misc.BitRange.{BitRange}
+use Rattle.linker_elf.specs.Elf.{IsWithin}
+use Rattle.linker_elf.specs.Relocate.{IsCompletedBy, RiscVHolds, SizeHolds, InstructionWritten}
+use Rattle.linker_elf.specs.RiscV.{riscv_form}
+use Rattle.linker_elf.specs.Value.{value_of}
+use Rattle.linker_elf.specs.declared.elf.AllowedRange.{AllowedRange}
+use Rattle.linker_elf.specs.declared.elf.PageMask.{PageMask}
+use Rattle.linker_elf.specs.declared.elf.RelocationInstruction.TheVariants.{RiscV}
+use Rattle.linker_elf.specs.declared.elf.RelocationKind.{RelocationKind}
+use Rattle.linker_elf.specs.declared.elf.RelocationSize.TheVariants.{BitMasking}
+use Rattle.linker_elf.specs.declared.riscv64.forms.RiscVInstruction.{RiscVInstruction}
+use Rattle.linker_elf.specs.declared.riscv64.forms.RiscVInstruction.TheVariants.{UiType}
+use Rattle.linker_elf.specs.declared.elf.value.Operands.{Operands}
+use Rattle.linker_laws.specs.RiscVRelocationLaws.{without_bit_0, even}
+use Rattle.linker_elf.specs.Applied.{IsApplied}
+use Rattle.linker_laws.specs.Schemes.{IsAddress, AreAddresses, place}
+use Rattle.linker_laws.proofs.Applied.{value_is, holds}
+use Rattle.linker_laws.proofs.Instructions.{IsNumber, row_of}
+use Rattle.linker_laws.proofs.Sums.{goes, lift, lifted_is}
+
+-- Each low part completes the upper part of the same value.
+abbrev pub Completes : RiscVInstruction → RiscVInstruction → Type 0
+Completes upper low =
+    (bits : BitRange) (v : ℤ) (after : ℕ) → RiscVHolds upper bits v after
+    → IsCompletedBy low upper bits v after
+
+pub pairs : {begin target number : Operands → ℕ} → IsNumber begin target number
+    → (upper low : RiscVInstruction) → Completes upper low
+    → (operands : Operands → ℕ → Operands)
+    → {kind : RelocationKind} {mask : Option PageMask} {range : AllowedRange} {a : ℕ}
+    {bias : Option ℕ} {thunkable implicit : Bool}
+    {kind' : RelocationKind} {mask' : Option PageMask} {range' : AllowedRange} {a' : ℕ}
+    {bias' : Option ℕ} {thunkable' implicit' : Bool}
+    → ((o : Operands)
+    → value_of (row_of kind 0 32 (RiscV upper) mask range a bias thunkable implicit) o
+    ≡ Some (cast_signed w64 (number o)))
+    → ((o : Operands) (at : ℕ)
+    → value_of (row_of kind' 0 32 (RiscV low) mask' range' a' bias' thunkable' implicit')
+    (operands o at) ≡ Some (cast_signed w64 (number o)))
+    → (o : Operands) → AreAddresses o → (at : ℕ) (before after : List ℕ)
+    (high : IsApplied (row_of kind 0 32 (RiscV upper) mask range a bias thunkable implicit) o
+    before after) → IsWithin None high.value
+    → (at' : ℕ) (before' after' : List ℕ)
+    (rest : IsApplied (row_of kind' 0 32 (RiscV low) mask' range' a' bias' thunkable' implicit')
+    (operands o at') before' after') → IsWithin None rest.value
+    → IsAddress (pos (begin o)
+    +ℤ ((riscv_form upper).machine (window_of (riscv_form upper) after)
+    +ℤ (riscv_form low).machine (window_of (riscv_form low) after'))) (target o)
+pairs {begin} {target} {number} leads upper low completes operands e e' =
+    λ o small at before after high any at' before' after' rest any'.
+    let n = number o in
+    let numbers = leads o small in
+    let is = value_is _ o before after high (cast_signed w64 n) (e o) in
+    let is' = value_is _ _ before' after' rest (cast_signed w64 n) (e' o at') in
+    let same : rest.value ≡ high.value = sym is' ∙ is in
+    let bits : BitRange = record { start = 0; end = 32 } in
+    let held : SizeHolds (BitMasking bits (RiscV upper)) high.value after =
+    holds _ o before after high n numbers.below is in
+    let written : InstructionWritten (RiscV low) bits high.value before' after' =
+    subst (λ v. InstructionWritten (RiscV low) bits v before' after') same rest.written in
+    let sum = completes bits high.value (window_of (riscv_form upper) after)
+    (held refl (omega arith)) (int_lt high.value (pos 0)) written.clear
+    (window_of (riscv_form low) after') written.written in
+    ap (λ z. int_rem_euclid (pos (begin o) +ℤ z) (pos (2 ^ 64))) (sum ∙ sym is)
+    ∙ goes (begin o) n (target o) numbers.below numbers.leads
+
+-- ---- calls
+
+pub bit_cleared : (z : ℤ) (s : ℕ) → IsAddress z s → IsAddress (without_bit_0 z) (s - s % 2)
+bit_cleared z s h =
+    let l = lift z in
+    let is = l.is in
+    let there : l.number % 2 ^ 64 ≡ s =
+    ap unsigned_abs (sym (lifted_is z l.times l.number l.is) ∙ h) in
+    let bit : int_rem_euclid z (pos 2) ≡ pos (l.number % 2) =
+    int_rem_euclid_is z (pos 2) 2 (l.times * 2 ^ 63) l.number (omega arith) refl
+    (omega (arith, ints)) in
+    ap (λ b. int_rem_euclid (z -ℤ b) (pos (2 ^ 64))) bit
+    ∙ lifted_is (z -ℤ pos (l.number % 2)) l.times (l.number - l.number % 2) (omega (arith, ints))
+    ∙ ap pos (let e : (l.number - l.number % 2) % 2 ^ 64 ≡ s - s % 2 = omega arith in e)
+
+pub calls : {target number : Operands → ℕ} → IsNumber place target number
+    → {kind : RelocationKind} {mask : Option PageMask} {range : AllowedRange} {a : ℕ}
+    {bias : Option ℕ} {thunkable implicit : Bool}
+    → ((o : Operands)
+    → value_of (row_of kind 0 64 (RiscV UiType) mask range a bias thunkable implicit) o
+    ≡ Some (cast_signed w64 (number o)))
+    → (o : Operands) → AreAddresses o → (at : ℕ) (before after : List ℕ)
+    (applied : IsApplied (row_of kind 0 64 (RiscV UiType) mask range a bias thunkable implicit) o
+    before after) → IsWithin None applied.value
+    → IsAddress (without_bit_0 (pos o.place
+    +ℤ (riscv_form UiType).machine (window_of (riscv_form UiType) after))) (even target o)
+calls {target} {number} leads e = λ o small at before after applied any.
+    let n = number o in
+    let numbers = leads o small in
+    let is = value_is _ o before after applied (cast_signed w64 n) (e o) in
+    let sum : (riscv_form UiType).machine (window_of (riscv_form UiType) after) ≡ applied.value =
+    holds _ o before after applied n numbers.below is refl (omega arith) in
+    bit_cleared (pos o.place +ℤ (riscv_form UiType).machine (window_of (riscv_form UiType) after))
+    (target o)
+    (ap (λ z. int_rem_euclid (pos o.place +ℤ z) (pos (2 ^ 64))) (sum ∙ sym is)
+    ∙ goes o.place n (target o) numbers.below numbers.leads)

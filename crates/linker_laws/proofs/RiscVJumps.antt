@@ -1,0 +1,320 @@
+-- What a call's pair and the jumps do, once their relocations are applied.
+use Rattle.std.proofs.Common.{◌≡◌, ◌≢◌, ℕ, ◌+◌, ◌-◌, ◌*◌, ◌%◌, ◌^◌, ◌<◌, ◌≤◌, true, false}
+use Rattle.std.proofs.Common.{refl, sym, ◌∙◌, ap, arith, List, length, drop, pos, negsuc}
+use Rattle.std.proofs.Common.{◌+ℤ◌, Option, Some, None, if◌then◌else◌}
+use Rattle.std.specs.Prelude.{◌==◌, ◌&&◌, not}
+use Rattle.std.specs.Int.{w16, w32, w64, from_le_bytes}
+use Rattle.std.proofs.lemmas.Bool.{agree_below}
+use Rattle.std.proofs.lemmas.List.{length-drop}
+use Rattle.linker_base.specs.Bits.{field}
+use Rattle.linker_base.specs.Form.{is_placed}
+use Rattle.linker_elf.specs.RiscV.{riscv_form, riscv_places}
+use Rattle.linker_riscv64.specs.RiscVCalls.{IsCallPair}
+use Rattle.linker_riscv64.specs.RiscVRewrites.{opcode_of, funct3_of, rd_of}
+use Rattle.linker_elf.specs.RiscVRelocations.{pair_row, jump_row}
+use Rattle.linker_elf.specs.Value.{sum_64}
+use Rattle.linker_elf.specs.declared.elf.RelocationKind.TheVariants.{PltRelative}
+use Rattle.linker_elf.specs.declared.elf.value.Operands.{Operands}
+use Rattle.linker_elf.specs.declared.riscv64.forms.RiscVInstruction.TheVariants.{UType, IType}
+use Rattle.linker_elf.specs.declared.riscv64.forms.RiscVInstruction.TheVariants.{JType, CjType}
+use Rattle.linker_elf.specs.declared.riscv64.forms.RiscVInstruction.TheVariants.{UiType, CluiType}
+use Rattle.linker_laws.specs.RiscVRelocationLaws.{even}
+use Rattle.linker_elf.specs.Applied.{IsApplied}
+use Rattle.linker_laws.specs.Schemes.{AreAddresses, plt_address, symbol_address}
+use Rattle.linker_laws.proofs.Instructions.{adds, plt_from_place, symbol_from_place}
+use Rattle.linker_laws.proofs.RiscV.{calls}
+use Rattle.linker_laws.specs.Machine.{AreBytes, moved}
+use Rattle.linker_laws.specs.RiscVMachine.{Hart, register, with_integer, auipc, jal, sums, jumps}
+use Rattle.linker_laws.specs.RiscVMachine.{rs1_of, of_half, of_clui, executed, Runs}
+use Rattle.linker_laws.specs.RiscVMachine.{cli_immediate}
+use Rattle.linker_laws.specs.RiscVMachine.{Instruction, adds as adding}
+use Rattle.linker_laws.proofs.Words.{two_words, word_below, kept_field}
+use Rattle.linker_laws.proofs.RiscVMachine.{moved_twice, cleared_sum, address_is, times_one}
+use Rattle.linker_laws.proofs.RiscVMachine.{at_start, at_second, is_long, fetched_word}
+use Rattle.linker_laws.proofs.RiscVMachine.{fetched_half, steps, is_auipc, is_jalr, is_jal}
+use Rattle.linker_laws.proofs.RiscVMachine.{ui_of_words, other, written, unwritten}
+
+-- ---- the pair
+
+module _ (x : Operands) (before code : List ℕ)
+    (applied : IsApplied (pair_row PltRelative 64 UiType) x before code)
+    (old : AreBytes before) (new : AreBytes code) (len : length code ≡ length before)
+    (pair : IsCallPair (from_le_bytes w32 before) (from_le_bytes w32 (drop 4 before))) where
+  pub low_word : ℕ
+  low_word = from_le_bytes w32 code
+
+  pub high_word : ℕ
+  high_word = from_le_bytes w32 (drop 4 code)
+
+  long_before : 8 ≤ length before
+  long_before = applied.accepted.long
+
+  long : 8 ≤ length code
+  long = omega (arith, long_before, len)
+
+  old_below : from_le_bytes w32 before < 2 ^ 32
+  old_below = word_below before old (omega (arith, long_before))
+
+  low_below : low_word < 2 ^ 32
+  unfolding low_word
+  low_below = word_below code new (omega (arith, long))
+
+  keeps : (s n : ℕ)
+      → agree_below (λ i. is_placed (riscv_places UiType) (s + i)) (λ _. false) n ≡ true
+      → field (low_word + high_word * 2 ^ 32) s (s + n)
+      ≡ field (from_le_bytes w32 before + from_le_bytes w32 (drop 4 before) * 2 ^ 32) s (s + n)
+  unfolding low_word high_word
+  keeps s n check =
+      ap (λ w. field w s (s + n)) (sym (two_words code))
+      ∙ kept_field UiType (record { start = 0; end = 64 }) applied.value before code applied.written
+      (λ b w. refl) s n check
+      ∙ ap (λ w. field w s (s + n)) (two_words before)
+
+  opcode : opcode_of low_word ≡ 0x17
+  opcode =
+      let k = keeps 0 7 refl in
+      let e = pair.auipc_opcode in
+      omega (arith, k, e)
+
+  pub same_register : rd_of low_word ≡ rd_of (from_le_bytes w32 before)
+  same_register = let k = keeps 7 5 refl in omega (arith, k)
+
+  jalr_opcode : opcode_of high_word ≡ 0x67
+  jalr_opcode =
+      let k = keeps 32 7 refl in
+      let e = pair.jalr_opcode in
+      omega (arith, k, e, low_below, old_below)
+
+  jalr_function : funct3_of high_word ≡ 0
+  jalr_function =
+      let k = keeps 44 3 refl in
+      let e = pair.jalr_function in
+      omega (arith, k, e, low_below, old_below)
+
+  pub same_link : rd_of high_word ≡ rd_of (from_le_bytes w32 (drop 4 before))
+  same_link = let k = keeps 39 5 refl in omega (arith, k, low_below, old_below)
+
+  base : rs1_of high_word ≡ rd_of low_word
+  base =
+      let k = keeps 47 5 refl in
+      let e = pair.base in
+      omega (arith, k, e, low_below, old_below, same_register)
+
+  pub first : Instruction
+  first = auipc (rd_of low_word) ((riscv_form UType).machine low_word)
+
+  pub second : Instruction
+  second = sums jumps (rd_of high_word) (rs1_of high_word) 0 ((riscv_form IType).machine high_word)
+
+  -- the hart after the pair
+  pub called : Hart → Hart
+  called h = executed 4 second (executed 4 first h)
+
+  pub pair_runs : (h : Hart) → h.pc < 2 ^ 64 → Runs 2 code h.pc h (called h)
+  unfolding low_word high_word first second called
+  pair_runs h small = (
+    executed 4 first h,
+    steps code h.pc 0 4 first h (at_start h.pc small)
+        (fetched_word code first (is_long low_word 0x17 opcode refl) (omega (arith, long))
+        (is_auipc low_word opcode)),
+    (
+      called h,
+      steps code h.pc 4 4 second (executed 4 first h) (at_second h.pc small)
+          (fetched_word (drop 4 code) second (is_long high_word 0x67 jalr_opcode refl)
+          (omega (arith, long, length-drop 4 code)) (is_jalr high_word jalr_opcode jalr_function)),
+      refl,
+    ),
+  )
+
+  pub pair_target : AreAddresses x → (h : Hart) → h.pc ≡ x.place → rd_of low_word ≢ 0
+      → (called h).pc ≡ even plt_address x
+  unfolding low_word high_word first second called
+  pair_target small h at some =
+      let u = (riscv_form UType).machine low_word in
+      let i = (riscv_form IType).machine high_word in
+      let sum : (riscv_form UiType).machine (from_le_bytes w64 code) ≡ u +ℤ i =
+      ap (riscv_form UiType).machine (two_words code) ∙ ui_of_words low_word high_word low_below in
+      let there : register (executed 4 first h) (rs1_of high_word) ≡ moved h.pc u =
+      ap (register (executed 4 first h)) base ∙ written (rd_of low_word) (moved h.pc u) h some in
+      ap (λ n. moved n i - moved n i % 2) there
+      ∙ ap (λ n. n - n % 2) (moved_twice h.pc u i ∙ ap (moved h.pc) (sym sum)
+      ∙ ap (λ p. moved p ((riscv_form UiType).machine (from_le_bytes w64 code))) at)
+      ∙ cleared_sum (pos x.place +ℤ (riscv_form UiType).machine (from_le_bytes w64 code))
+      (even plt_address x) (calls plt_from_place (λ o. refl) x small x.place before code applied tt)
+
+  pub pair_keeps : (h : Hart) (q : ℕ) → (q == rd_of low_word) ≡ false
+      → (q == rd_of high_word) ≡ false → register (called h) q ≡ register h q
+  unfolding low_word high_word first second called
+  pair_keeps h q a b =
+      other (rd_of high_word) (sum_64 (sum_64 h.pc 4) 4) (executed 4 first h) q b
+      ∙ other (rd_of low_word) (moved h.pc ((riscv_form UType).machine low_word)) h q a
+
+  pub pair_links : (h : Hart) → rd_of high_word ≢ 0
+      → register (called h) (rd_of high_word) ≡ sum_64 h.pc 8
+  unfolding low_word high_word first second called
+  pair_links h some =
+      written (rd_of high_word) (sum_64 (sum_64 h.pc 4) 4) (executed 4 first h) some
+      ∙ omega arith
+
+  -- a tail call, which links x0
+  pub tail_keeps : rd_of high_word ≡ 0 → (h : Hart) (q : ℕ) → (q == rd_of low_word) ≡ false
+      → register (called h) q ≡ register h q
+  unfolding low_word high_word first second called
+  tail_keeps none h q a =
+      ap (λ r. register (with_integer r (sum_64 (sum_64 h.pc 4) 4) (executed 4 first h)) q) none
+      ∙ unwritten (sum_64 (sum_64 h.pc 4) 4) (executed 4 first h) q
+      ∙ other (rd_of low_word) (moved h.pc ((riscv_form UType).machine low_word)) h q a
+
+  -- floating-point registers and memory stay
+  pub pair_floats : (h : Hart) → (called h).floats ≡ h.floats
+  unfolding first second called
+  pair_floats h = refl
+
+  pub pair_memory : (h : Hart) → (called h).memory ≡ h.memory
+  unfolding first second called
+  pair_memory h = refl
+
+-- ---- jumps
+
+module _ (y : Operands) (before code : List ℕ)
+    (applied : IsApplied (jump_row 32 JType (negsuc 1048575, pos 1048575)) y before code)
+    (len : length code ≡ length before)
+    (is : opcode_of (from_le_bytes w32 before) ≡ 0x6f) where
+  pub word : ℕ
+  word = from_le_bytes w32 code
+
+  opcode_kept : opcode_of word ≡ opcode_of (from_le_bytes w32 before)
+  unfolding word
+  opcode_kept =
+      kept_field JType (record { start = 0; end = 32 }) applied.value before code applied.written
+      (λ b w. refl) 0 7 refl
+
+  pub same_destination : rd_of (from_le_bytes w32 code) ≡ rd_of (from_le_bytes w32 before)
+  unfolding word
+  same_destination =
+      kept_field JType (record { start = 0; end = 32 }) applied.value before code applied.written
+      (λ b w. refl) 7 5 refl
+
+  pub jump : Instruction
+  jump = jal (rd_of word) ((riscv_form JType).machine word)
+
+  pub jumped : Hart → Hart
+  jumped k = executed 4 jump k
+
+  pub jump_runs : (k : Hart) → k.pc < 2 ^ 64 → Runs 1 code k.pc k (jumped k)
+  unfolding word jump jumped
+  jump_runs k small =
+      let long : 4 ≤ length before = applied.accepted.long in (
+        jumped k,
+        steps code k.pc 0 4 jump k (at_start k.pc small)
+            (fetched_word code jump (is_long word 0x6f (opcode_kept ∙ is) refl)
+            (omega (arith, long, len)) (is_jal word (opcode_kept ∙ is))),
+        refl,
+      )
+
+  pub jump_target : AreAddresses y → (k : Hart) → k.pc ≡ y.place
+      → (jumped k).pc ≡ symbol_address y
+  unfolding word jump jumped
+  jump_target small k at =
+      let j = (riscv_form JType).machine word in
+      ap (λ p. moved p j) at ∙ times_one y.place j
+      ∙ address_is _ (symbol_address y)
+      (adds symbol_from_place refl refl (λ o. refl) y small y.place before code applied tt)
+
+  pub jump_keeps : (k : Hart) (q : ℕ) → (q == rd_of (from_le_bytes w32 code)) ≡ false
+      → register (jumped k) q ≡ register k q
+  unfolding word jump jumped
+  jump_keeps k q e = other (rd_of word) (sum_64 k.pc 4) k q e
+
+  pub jump_keeps_all : rd_of (from_le_bytes w32 code) ≡ 0 → (k : Hart) (q : ℕ)
+      → register (jumped k) q ≡ register k q
+  unfolding word jump jumped
+  jump_keeps_all none k q =
+      ap (λ r. register (with_integer r (sum_64 k.pc 4) k) q) none ∙ unwritten (sum_64 k.pc 4) k q
+
+  pub jump_links : (k : Hart) → rd_of (from_le_bytes w32 code) ≢ 0
+      → register (jumped k) (rd_of (from_le_bytes w32 code)) ≡ sum_64 k.pc 4
+  unfolding word jump jumped
+  jump_links k some = written (rd_of word) (sum_64 k.pc 4) k some
+
+  pub jump_floats : (k : Hart) → (jumped k).floats ≡ k.floats
+  unfolding jump jumped
+  jump_floats k = refl
+
+  pub jump_memory : (k : Hart) → (jumped k).memory ≡ k.memory
+  unfolding jump jumped
+  jump_memory k = refl
+
+module _ (y : Operands) (before code : List ℕ)
+    (applied : IsApplied (jump_row 16 CjType (negsuc 2047, pos 2047)) y before code)
+    (len : length code ≡ length before)
+    (is_short : field (from_le_bytes w16 before) 0 2 ≡ 1)
+    (function : field (from_le_bytes w16 before) 13 16 ≡ 5) where
+  half : ℕ
+  half = from_le_bytes w16 code
+
+  short_kept : field half 0 2 ≡ 1
+  unfolding half
+  short_kept =
+      kept_field CjType (record { start = 0; end = 16 }) applied.value before code applied.written
+      (λ b w. refl) 0 2 refl ∙ is_short
+
+  function_kept : field half 13 16 ≡ 5
+  unfolding half
+  function_kept =
+      kept_field CjType (record { start = 0; end = 16 }) applied.value before code applied.written
+      (λ b w. refl) 13 3 refl ∙ function
+
+  short_jump : Instruction
+  short_jump = jal 0 ((riscv_form CjType).machine half)
+
+  is_short_jump : of_half half ≡ Some short_jump
+  unfolding short_jump
+  is_short_jump =
+      let no_nop : (half == 1) ≡ false = grind (arith, function_kept) in
+      let otherwise : Option Instruction =
+      if field half 0 2 == 1 && field half 13 16 == 3
+      then of_clui (rd_of half) ((riscv_form CluiType).machine half)
+      else (if field half 0 2 == 1 && (field half 13 16 == 2 && not (rd_of half == 0))
+      then Some (sums adding (rd_of half) 0 0 (cli_immediate half)) else None) in
+      ap (λ b. if b then Some (sums adding 0 0 0 (pos 0))
+      else (if field half 0 2 == 1 && field half 13 16 == 5
+      then Some (jal 0 ((riscv_form CjType).machine half)) else otherwise)) no_nop
+      ∙ ap (λ n. if n == 1 && field half 13 16 == 5
+      then Some (jal 0 ((riscv_form CjType).machine half)) else otherwise) short_kept
+      ∙ ap (λ n. if 1 == 1 && n == 5
+      then Some (jal 0 ((riscv_form CjType).machine half)) else otherwise) function_kept
+
+  pub short_jumped : Hart → Hart
+  short_jumped k = executed 2 short_jump k
+
+  pub short_jump_runs : (k : Hart) → k.pc < 2 ^ 64 → Runs 1 code k.pc k (short_jumped k)
+  unfolding half short_jump short_jumped
+  short_jump_runs k small =
+      let long : 2 ≤ length before = applied.accepted.long in (
+        short_jumped k,
+        steps code k.pc 0 2 short_jump k (at_start k.pc small)
+            (fetched_half code short_jump short_kept (omega (arith, long, len)) is_short_jump),
+        refl,
+      )
+
+  pub short_jump_target : AreAddresses y → (k : Hart) → k.pc ≡ y.place
+      → (short_jumped k).pc ≡ symbol_address y
+  unfolding half short_jump short_jumped
+  short_jump_target small k at =
+      let j = (riscv_form CjType).machine half in
+      ap (λ p. moved p j) at ∙ times_one y.place j
+      ∙ address_is _ (symbol_address y)
+      (adds symbol_from_place refl refl (λ o. refl) y small y.place before code applied tt)
+
+  pub short_jump_keeps : (k : Hart) (q : ℕ) → register (short_jumped k) q ≡ register k q
+  unfolding half short_jump short_jumped
+  short_jump_keeps k q = unwritten (sum_64 k.pc 2) k q
+
+  pub short_jump_floats : (k : Hart) → (short_jumped k).floats ≡ k.floats
+  unfolding short_jump short_jumped
+  short_jump_floats k = refl
+
+  pub short_jump_memory : (k : Hart) → (short_jumped k).memory ≡ k.memory
+  unfolding short_jump short_jumped
+  short_jump_memory k = refl

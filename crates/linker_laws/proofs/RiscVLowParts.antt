@@ -1,0 +1,661 @@
+-- The instructions that add a low part do the same with x0 as their base.
+use Rattle.std.proofs.Common.{◌≡◌, ℕ, zero, suc, ◌+◌, ◌-◌, ◌*◌, ◌%◌, ◌^◌, ◌<◌, ◌≤◌, Bool}
+use Rattle.std.proofs.Common.{true, false, refl, sym, ◌∙◌, ap, subst, arith, List, length, drop}
+use Rattle.std.proofs.Common.{◌++◌, ℤ, pos, ◌-ℤ◌, ◌+ℤ◌, Option, Some, None, inl, inr, ◌⊎◌, not}
+use Rattle.std.proofs.Common.{if◌then◌else◌, w64, int_lt}
+use Rattle.std.specs.Prelude.{◌==◌, ◌&&◌, ◌||◌, nat_lt, IsTrue}
+use Rattle.std.specs.Option.{IsSomeAnd}
+use Rattle.std.specs.Int.{w32, from_le_bytes, to_le_bytes, cast_signed}
+use Rattle.std.proofs.lemmas.Bool.{and_parts, or_parts, cond_both, eqb-true, agree_below}
+use Rattle.std.proofs.lemmas.Int.{ints}
+use Rattle.std.proofs.lemmas.List.{length-drop}
+use Rattle.linker_base.specs.Bits.{field, signed}
+use Rattle.linker_base.specs.Form.{place_sum, is_placed}
+use Rattle.linker_base.specs.Rewrite.{rewritten}
+use Rattle.linker_base.specs.declared.bit_misc.BitRange.{BitRange}
+use Rattle.linker_base.proofs.Immediates.{layout_laid, always_clear}
+use Rattle.linker_base.proofs.Pairs.{signed_cases}
+use Rattle.linker_elf.specs.Relocate.{bits_taken}
+use Rattle.linker_elf.specs.RiscV.{riscv_form, riscv_layout, riscv_places}
+use Rattle.linker_riscv64.specs.RiscVRewrites.{rewrites_word, with_rs1}
+use Rattle.linker_riscv64.specs.declared.rewrites.RelaxationKind.{RelaxationKind}
+use Rattle.linker_elf.specs.declared.elf.RelocationKind.{RelocationKind}
+use Rattle.linker_elf.specs.Elf.{IsWithin}
+use Rattle.linker_elf.specs.Choices.{low_12_bounds}
+use Rattle.linker_riscv64.specs.RiscVCalls.{word_at}
+use Rattle.linker_riscv64.specs.RiscVRewrites.{opcode_of, funct3_of, rd_of, adds_low12}
+use Rattle.linker_elf.specs.RiscVRelocations.{pair_row, riscv_row}
+use Rattle.linker_elf.specs.declared.elf.RelocationKindInfo.{RelocationKindInfo}
+use Rattle.linker_elf.specs.declared.riscv64.relocations.RiscVRelocation.TheVariants as names
+use Rattle.linker_riscv64.specs.declared.rewrites.RelaxationKind.TheVariants as kinds
+use Rattle.linker_elf.specs.Value.{sum_64, value_of}
+use Rattle.linker_elf.specs.declared.elf.RelocationKind.TheVariants.{Absolute, TpOff}
+use Rattle.linker_elf.specs.declared.elf.value.Operands.{Operands}
+use Rattle.linker_elf.specs.declared.riscv64.forms.RiscVInstruction.TheVariants.{UType, IType}
+use Rattle.linker_elf.specs.declared.riscv64.forms.RiscVInstruction.TheVariants.{SType, JType}
+use Rattle.linker_riscv64.proofs.Jumps.{word_of_front}
+use Rattle.linker_laws.specs.RiscVRelocationLaws.{even}
+use Rattle.linker_elf.specs.Applied.{IsApplied}
+use Rattle.linker_laws.specs.Schemes.{symbol_address}
+use Rattle.linker_laws.proofs.Applied.{value_is, taken_bits}
+use Rattle.linker_laws.proofs.Sums.{sum_below}
+use Rattle.linker_laws.specs.Machine.{AreBytes, Memory, loaded, stored, moved, extended}
+use Rattle.linker_laws.specs.Machine.{Relocated}
+use Rattle.linker_laws.specs.RiscVRewriteLaws.{AreAlike, StoresTheSame, GoOn, differs_after, EndSo}
+use Rattle.linker_laws.specs.RiscVRewriteLaws.{after_rewrite, IsLow12, FromZero, LowPartFromZero}
+use Rattle.linker_laws.specs.RiscVRewriteLaws.{HaveOneTarget, thread_offset, FromThreadPointer}
+use Rattle.linker_laws.specs.RiscVRewriteLaws.{LowPartFromThreadPointer}
+use Rattle.linker_laws.specs.RiscVMachine.{Hart, register, with_integer, with_number, Action, adds}
+use Rattle.linker_laws.specs.RiscVMachine.{adds_word, jumps, loads, stores, loads_float}
+use Rattle.linker_laws.specs.RiscVMachine.{stores_float, lui, auipc, jal, sums, rs1_of}
+use Rattle.linker_laws.specs.RiscVMachine.{rs2_of, action_of, with_action, of_word, used, executed}
+use Rattle.linker_laws.specs.RiscVMachine.{load_number, bytes_of, boxed, i_type, s_type, is_add}
+use Rattle.linker_laws.specs.RiscVMachine.{add}
+use Rattle.linker_laws.proofs.RiscVHighParts.{low_12_number, IsOf, of_address, of_offset}
+use Rattle.linker_laws.proofs.RiscVMachine.{at_start, fetched_word, steps, wrapped_is}
+use Rattle.linker_laws.proofs.RiscVMachine.{other, written, same_written}
+use Rattle.linker_laws.proofs.Words.{kept_field, put_there, word_below, word_of_bytes}
+
+-- ---- what an action leaves of harts that are alike but for a register
+
+not_both : (a b : Bool) → (a && not b) ≡ false → b ≡ false → a ≡ false
+not_both true true e f = f
+not_both true false e f = e
+not_both false b e f = refl
+
+same_loaded : (n : ℕ) (m m' : Memory) (address : ℕ) → ((a : ℕ) → m a ≡ m' a)
+    → loaded n m address ≡ loaded n m' address
+same_loaded zero m m' address same = refl
+same_loaded (suc n) m m' address same =
+    ap (λ b. b + 256 * loaded n m (sum_64 address 1)) (same address)
+    ∙ ap (λ r. m' address + 256 * r) (same_loaded n m m' (sum_64 address 1) same)
+
+same_stored : (n number number' address : ℕ) (m m' : Memory) → number ≡ number'
+    → ((a : ℕ) → m a ≡ m' a) → (a : ℕ)
+    → stored n number address m a ≡ stored n number' address m' a
+same_stored n number number' address m m' e same a =
+    ap (λ v. stored n v address m a) e
+    ∙ ap (λ o. stored n number' address (λ b. o) a) (same a)
+
+same_number : (rd v v' : ℕ) (f f' : ℕ → ℕ) → v ≡ v' → ((r : ℕ) → f r ≡ f' r) → (q : ℕ)
+    → with_number rd v f q ≡ with_number rd v' f' q
+same_number rd v v' f f' e same q =
+    ap (λ n. with_number rd n f q) e ∙ ap (λ n. with_number rd v' (λ r. n) q) (same q)
+
+-- an integer register is written the same in both
+alike_written : (differs : ℕ → Bool) (rd v v' : ℕ) (h k : Hart) → AreAlike differs h k → v ≡ v'
+    → (q : ℕ) → (differs q && not (q == rd)) ≡ false
+    → register (with_integer rd v h) q ≡ register (with_integer rd v' k) q
+alike_written differs rd v v' h k alike e q d =
+    ap (λ n. register (with_integer rd n h) q) e
+    ∙ same_written rd v' h k q (λ f. alike.integers q (not_both (differs q) (q == rd) d f))
+
+pub alike_used : (a : Action) (differs : ℕ → Bool) (rd rs2 sum : ℕ) (h k : Hart)
+    → StoresTheSame a rs2 h k → AreAlike differs h k
+    → AreAlike (differs_after a differs rd) (used 4 a rd rs2 sum h) (used 4 a rd rs2 sum k)
+    × GoOn a rd (sum - sum % 2) (sum_64 h.pc 4) (sum_64 k.pc 4) (used 4 a rd rs2 sum h)
+    (used 4 a rd rs2 sum k)
+alike_used adds differs rd rs2 sum h k apart alike = (
+  record {
+    integers = alike_written differs rd sum sum h k alike refl;
+    floats = alike.floats;
+    memory = alike.memory;
+  },
+  (refl, refl),
+)
+alike_used adds_word differs rd rs2 sum h k apart alike = (
+  record {
+    integers =
+        alike_written differs rd (extended 32 (sum % 2 ^ 32)) (extended 32 (sum % 2 ^ 32)) h k alike
+        refl;
+    floats = alike.floats;
+    memory = alike.memory;
+  },
+  (refl, refl),
+)
+alike_used jumps differs rd rs2 sum h k apart alike = (
+  record {
+    integers = λ q d.
+        let n = or_parts (differs q) (q == rd) d in
+        other rd (sum_64 h.pc 4) h q n.1 ∙ alike.integers q n.0
+        ∙ sym (other rd (sum_64 k.pc 4) k q n.1);
+    floats = alike.floats;
+    memory = alike.memory;
+  },
+  (
+    refl,
+    refl,
+    λ some. (written rd (sum_64 h.pc 4) h some, written rd (sum_64 k.pc 4) k some),
+  ),
+)
+alike_used (loads f) differs rd rs2 sum h k apart alike = (
+  record {
+    integers =
+        alike_written differs rd (load_number f (loaded (bytes_of f) h.memory sum))
+        (load_number f (loaded (bytes_of f) k.memory sum)) h k alike
+        (ap (load_number f) (same_loaded (bytes_of f) h.memory k.memory sum alike.memory));
+    floats = alike.floats;
+    memory = alike.memory;
+  },
+  (refl, refl),
+)
+alike_used (stores f) differs rd rs2 sum h k apart alike = (
+  record {
+    integers = alike.integers;
+    floats = alike.floats;
+    memory =
+        same_stored (bytes_of f) (register h rs2) (register k rs2) sum h.memory k.memory
+        apart alike.memory;
+  },
+  (refl, refl),
+)
+alike_used (loads_float f) differs rd rs2 sum h k apart alike = (
+  record {
+    integers = alike.integers;
+    floats =
+        same_number rd (boxed (2 ^ f) (loaded (2 ^ f) h.memory sum))
+        (boxed (2 ^ f) (loaded (2 ^ f) k.memory sum)) h.floats k.floats
+        (ap (boxed (2 ^ f)) (same_loaded (2 ^ f) h.memory k.memory sum alike.memory))
+        alike.floats;
+    memory = alike.memory;
+  },
+  (refl, refl),
+)
+alike_used (stores_float f) differs rd rs2 sum h k apart alike = (
+  record {
+    integers = alike.integers;
+    floats = alike.floats;
+    memory =
+        same_stored (2 ^ f) (h.floats rs2) (k.floats rs2) sum h.memory k.memory
+        (alike.floats rs2) alike.memory;
+  },
+  (refl, refl),
+)
+
+-- ---- which instruction a word is
+
+no_action : (n f : ℕ) (a : Action) → action_of n f ≡ None → action_of n f ≡ Some a → ⊥
+no_action n f a e g = let c : None ≡ Some a = sym e ∙ g in cc
+
+pub is_action : (x : ℕ) (a : Action) → action_of (opcode_of x) (funct3_of x) ≡ Some a
+    → of_word x ≡ with_action x (Some a)
+is_action x a is =
+    let here = with_action x (action_of (opcode_of x) (funct3_of x)) in
+    let not_it : (n : ℕ) → action_of n (funct3_of x) ≡ None → (opcode_of x == n) ≡ true → ⊥
+    = λ n e t. no_action n (funct3_of x) a e
+    (subst (λ o. action_of o (funct3_of x) ≡ Some a) (eqb-true (opcode_of x) n t) is) in
+    cond_both (opcode_of x == 0x37) (Some (lui (rd_of x) ((riscv_form UType).machine x)))
+    (if opcode_of x == 0x17 then Some (auipc (rd_of x) ((riscv_form UType).machine x))
+    else (if opcode_of x == 0x6f then Some (jal (rd_of x) ((riscv_form JType).machine x))
+    else (if is_add x then Some (add (rd_of x) (rs1_of x) (rs2_of x)) else here)))
+    (λ r. r ≡ with_action x (Some a)) (λ t. absurd (not_it 0x37 refl t))
+    (λ _. cond_both (opcode_of x == 0x17) (Some (auipc (rd_of x) ((riscv_form UType).machine x)))
+    (if opcode_of x == 0x6f then Some (jal (rd_of x) ((riscv_form JType).machine x))
+    else (if is_add x then Some (add (rd_of x) (rs1_of x) (rs2_of x)) else here))
+    (λ r. r ≡ with_action x (Some a)) (λ t. absurd (not_it 0x17 refl t))
+    (λ _. cond_both (opcode_of x == 0x6f) (Some (jal (rd_of x) ((riscv_form JType).machine x)))
+    (if is_add x then Some (add (rd_of x) (rs1_of x) (rs2_of x)) else here)
+    (λ r. r ≡ with_action x (Some a)) (λ t. absurd (not_it 0x6f refl t))
+    (λ _. cond_both (is_add x) (Some (add (rd_of x) (rs1_of x) (rs2_of x))) here
+    (λ r. r ≡ with_action x (Some a))
+    (λ t. absurd (not_it 0x33 refl
+    (and_parts (opcode_of x == 0x33) (funct3_of x == 0 && field x 25 32 == 0) t).0))
+    (λ _. ap (with_action x) is))))
+
+-- each instruction that adds a low part has an action, and is one of 32 bits
+abbrev pub HasAction : ℕ → Option Action → Type 0
+HasAction o r = (a : Action) × (r ≡ Some a) × (o % 4 ≡ 3)
+
+long_opcode : (o n : ℕ) (b : Bool) → (o == n && b) ≡ true → n % 4 ≡ 3 → o % 4 ≡ 3
+long_opcode o n b e long =
+    ap (λ k. k % 4) (eqb-true o n (and_parts (o == n) b e).0) ∙ long
+
+pub some_action : (o f : ℕ) → IsTrue (adds_low12 o f) → HasAction o (action_of o f)
+some_action o f is =
+    cond_both (o == 0x13 && f == 0) (Some adds)
+    (if o == 0x1b && f == 0 then Some adds_word
+    else (if o == 0x67 && f == 0 then Some jumps
+    else (if o == 0x03 && nat_lt f 7 then Some (loads f)
+    else (if o == 0x23 && nat_lt f 4 then Some (stores f)
+    else (if o == 0x07 && (nat_lt 0 f && nat_lt f 5) then Some (loads_float f)
+    else (if o == 0x27 && (nat_lt 0 f && nat_lt f 5) then Some (stores_float f) else None))))))
+    (HasAction o) (λ t. (adds, refl, long_opcode o 0x13 (f == 0) t refl))
+    (λ a. cond_both (o == 0x1b && f == 0) (Some adds_word)
+    (if o == 0x67 && f == 0 then Some jumps
+    else (if o == 0x03 && nat_lt f 7 then Some (loads f)
+    else (if o == 0x23 && nat_lt f 4 then Some (stores f)
+    else (if o == 0x07 && (nat_lt 0 f && nat_lt f 5) then Some (loads_float f)
+    else (if o == 0x27 && (nat_lt 0 f && nat_lt f 5) then Some (stores_float f) else None)))))
+    (HasAction o) (λ t. (adds_word, refl, long_opcode o 0x1b (f == 0) t refl))
+    (λ b. cond_both (o == 0x67 && f == 0) (Some jumps)
+    (if o == 0x03 && nat_lt f 7 then Some (loads f)
+    else (if o == 0x23 && nat_lt f 4 then Some (stores f)
+    else (if o == 0x07 && (nat_lt 0 f && nat_lt f 5) then Some (loads_float f)
+    else (if o == 0x27 && (nat_lt 0 f && nat_lt f 5) then Some (stores_float f) else None))))
+    (HasAction o) (λ t. (jumps, refl, long_opcode o 0x67 (f == 0) t refl))
+    (λ c. cond_both (o == 0x03 && nat_lt f 7) (Some (loads f))
+    (if o == 0x23 && nat_lt f 4 then Some (stores f)
+    else (if o == 0x07 && (nat_lt 0 f && nat_lt f 5) then Some (loads_float f)
+    else (if o == 0x27 && (nat_lt 0 f && nat_lt f 5) then Some (stores_float f) else None)))
+    (HasAction o) (λ t. (loads f, refl, long_opcode o 0x03 (nat_lt f 7) t refl))
+    (λ d. cond_both (o == 0x23 && nat_lt f 4) (Some (stores f))
+    (if o == 0x07 && (nat_lt 0 f && nat_lt f 5) then Some (loads_float f)
+    else (if o == 0x27 && (nat_lt 0 f && nat_lt f 5) then Some (stores_float f) else None))
+    (HasAction o) (λ t. (stores f, refl, long_opcode o 0x23 (nat_lt f 4) t refl))
+    (λ e. cond_both (o == 0x07 && (nat_lt 0 f && nat_lt f 5)) (Some (loads_float f))
+    (if o == 0x27 && (nat_lt 0 f && nat_lt f 5) then Some (stores_float f) else None)
+    (HasAction o)
+    (λ t. (loads_float f, refl, long_opcode o 0x07 (nat_lt 0 f && nat_lt f 5) t refl))
+    (λ g. cond_both (o == 0x27 && (nat_lt 0 f && nat_lt f 5)) (Some (stores_float f)) None
+    (HasAction o)
+    (λ t. (stores_float f, refl, long_opcode o 0x27 (nat_lt 0 f && nat_lt f 5) t refl))
+    (λ i. absurd (none_left (o == 0x13) (o == 0x1b) (o == 0x67) (f == 0) (o == 0x03) (nat_lt f 7)
+    (o == 0x23) (nat_lt f 4) (o == 0x07) (o == 0x27) (nat_lt 0 f) (nat_lt f 5) is a b c d e g
+    i))))))))
+  where
+    none_left : (p q r z l l7 s s4 m n some few : Bool)
+        → IsTrue ((p || q || r) && z || l && l7 || s && s4 || (m || n) && some && few)
+        → (p && z) ≡ false → (q && z) ≡ false → (r && z) ≡ false → (l && l7) ≡ false
+        → (s && s4) ≡ false → (m && (some && few)) ≡ false → (n && (some && few)) ≡ false → ⊥
+    none_left p q r z l l7 s s4 m n some few is a b c d e g i = grind arith
+
+-- ---- the sum
+
+-- the signed low 12 bits of a number of 12 bits add the number
+pub low_sum : (v n l : ℕ) → n < 2 ^ 64 → (n < 0x800) ⊎ (2 ^ 64 - 0x800 ≤ n) → l ≡ n % 2 ^ 32 % 4096
+    → moved v (signed 12 l) ≡ sum_64 v n
+low_sum v n l small low e =
+    elim (signed_cases 12 l) [
+      | inl a ↦ ap (moved v) a.1 ∙ (let i = a.0 in elim low [
+        | inl near ↦ wrapped_is (pos v +ℤ pos l) 0 (v + n) (omega (arith, ints))
+        | inr far ↦ absurd (omega arith)
+      ])
+      | inr a ↦ ap (moved v) a.1 ∙ (let i = a.0 in elim low [
+        | inl near ↦ absurd (omega arith)
+        | inr far ↦ wrapped_is (pos v +ℤ (pos l -ℤ pos (2 ^ 12))) 1 (v + n) (omega (arith, ints))
+      ])
+    ]
+
+-- what stands in the instruction once its relocation of a number is applied
+module _ (kind : RelocationKind) (x : Operands) (n : ℕ) (before code : List ℕ)
+    (applied : IsApplied (pair_row kind 32 IType) x before code) (small : n < 2 ^ 64)
+    (is : value_of (pair_row kind 32 IType) x ≡ Some (cast_signed w64 n)) where
+  pub i_stands : place_sum (riscv_places IType) (from_le_bytes w32 code) ≡ n % 2 ^ 32 % 4096
+  i_stands =
+      let bits : BitRange = record { start = 0; end = 32 } in
+      let v = bits_taken bits applied.value in
+      let taken : v ≡ n % 2 ^ 32 =
+      taken_bits bits n applied.value small
+      (value_is (pair_row kind 32 IType) x before code applied (cast_signed w64 n) is)
+      ∙ (let e : field n 0 32 ≡ n % 2 ^ 32 = omega arith in e) in
+      layout_laid (riscv_layout IType) refl v (int_lt applied.value (pos 0)) applied.written.clear
+      (from_le_bytes w32 code) (omega (arith, taken)) applied.written.written
+      (always_clear (riscv_places IType) applied.written.clear refl)
+      ∙ ap (λ t. (t - t % 2 ^ 0) % 2 ^ 12) taken ∙ omega arith
+
+  pub i_kept : (s n : ℕ)
+      → agree_below (λ i. is_placed (riscv_places IType) (s + i)) (λ _. false) n ≡ true
+      → field (from_le_bytes w32 code) s (s + n) ≡ field (from_le_bytes w32 before) s (s + n)
+  i_kept s n check =
+      kept_field IType (record { start = 0; end = 32 }) applied.value before code applied.written
+      (λ b w. refl) s n check
+
+module _ (kind : RelocationKind) (x : Operands) (n : ℕ) (before code : List ℕ)
+    (applied : IsApplied (pair_row kind 32 SType) x before code) (small : n < 2 ^ 64)
+    (is : value_of (pair_row kind 32 SType) x ≡ Some (cast_signed w64 n)) where
+  pub s_stands : place_sum (riscv_places SType) (from_le_bytes w32 code) ≡ n % 2 ^ 32 % 4096
+  s_stands =
+      let bits : BitRange = record { start = 0; end = 32 } in
+      let v = bits_taken bits applied.value in
+      let taken : v ≡ n % 2 ^ 32 =
+      taken_bits bits n applied.value small
+      (value_is (pair_row kind 32 SType) x before code applied (cast_signed w64 n) is)
+      ∙ (let e : field n 0 32 ≡ n % 2 ^ 32 = omega arith in e) in
+      layout_laid (riscv_layout SType) refl v (int_lt applied.value (pos 0)) applied.written.clear
+      (from_le_bytes w32 code) (omega (arith, taken)) applied.written.written
+      (always_clear (riscv_places SType) applied.written.clear refl)
+      ∙ ap (λ t. (t - t % 2 ^ 0) % 2 ^ 12) taken ∙ omega arith
+
+  pub s_kept : (s n : ℕ)
+      → agree_below (λ i. is_placed (riscv_places SType) (s + i)) (λ _. false) n ≡ true
+      → field (from_le_bytes w32 code) s (s + n) ≡ field (from_le_bytes w32 before) s (s + n)
+  s_kept s n check =
+      kept_field SType (record { start = 0; end = 32 }) applied.value before code applied.written
+      (λ b w. refl) s n check
+
+-- ---- the word with another base
+
+clear_0 : (w b : ℕ) → field (with_rs1 b w) 0 7 ≡ field w 0 7
+clear_0 w b = omega arith
+
+clear_7 : (w b : ℕ) → field (with_rs1 b w) 7 12 ≡ field w 7 12
+clear_7 w b = omega arith
+
+clear_12 : (w b : ℕ) → field (with_rs1 b w) 12 15 ≡ field w 12 15
+clear_12 w b = omega arith
+
+clear_15 : (w b : ℕ) → b < 32 → field (with_rs1 b w) 15 20 ≡ b
+clear_15 w b small = omega arith
+
+clear_20 : (w b : ℕ) → b < 32 → field (with_rs1 b w) 20 25 ≡ field w 20 25
+clear_20 w b small = omega arith
+
+-- what a rewrite of a word puts there
+pub word_there : (section : List ℕ) (o : ℕ) (new : ℕ → ℕ) → o + 4 ≤ length section
+    → new (word_at section o) < 2 ^ 32
+    → from_le_bytes w32 (drop o (rewritten (Some (rewrites_word new)) section o))
+    ≡ new (word_at section o)
+word_there section o new inside small =
+    ap (from_le_bytes w32)
+    (put_there section o 4 (λ window. to_le_bytes w32 (new (from_le_bytes w32 window)))
+    (omega arith))
+    ∙ ap (λ w. from_le_bytes w32 (to_le_bytes w32 (new w) ++ drop (o + 4) section))
+    (word_of_front (drop o section))
+    ∙ word_of_bytes (new (word_at section o)) (drop (o + 4) section) small
+
+based_there : (section : List ℕ) (o b : ℕ) → b < 32 → o + 4 ≤ length section
+    → AreBytes (drop o section)
+    → from_le_bytes w32 (drop o (rewritten (Some (rewrites_word (with_rs1 b))) section o))
+    ≡ with_rs1 b (word_at section o)
+based_there section o b small inside bytes =
+    let word = word_at section o in
+    let below : word < 2 ^ 32 = word_below (drop o section) bytes
+    (omega (arith, length-drop o section)) in
+    word_there section o (with_rs1 b) inside (omega arith)
+
+-- x0 and the thread pointer as the base
+abbrev IsBased : RelaxationKind → ℕ → Type 0
+IsBased k b =
+    (section : List ℕ) (o : ℕ) → o + 4 ≤ length section → AreBytes (drop o section)
+    → from_le_bytes w32 (drop o (after_rewrite k section o)) ≡ with_rs1 b (word_at section o)
+
+over_zero : IsBased kinds.Lo12Rs1ToZero 0
+over_zero section o inside bytes =
+    let word = word_at section o in
+    let below : word < 2 ^ 32 = word_below (drop o section) bytes
+    (omega (arith, length-drop o section)) in
+    word_there section o (λ w. w - field w 15 20 * 2 ^ 15) inside (omega arith)
+    ∙ omega arith
+
+over_tp : IsBased kinds.BaseToTp 4
+over_tp section o inside bytes = based_there section o 4 (omega arith) inside bytes
+
+-- ---- both instructions
+
+-- Both use the same sum: one from a register, and one from another base that has its number.
+both_end : (a : Action) (differs : ℕ → Bool) (rd rs1 b rs2 : ℕ) (i : ℤ) (n : ℕ)
+    (code code' : List ℕ) → 4 ≤ length code → 4 ≤ length code'
+    → field (from_le_bytes w32 code) 0 2 ≡ 3 → field (from_le_bytes w32 code') 0 2 ≡ 3
+    → of_word (from_le_bytes w32 code) ≡ Some (sums a rd rs1 rs2 i)
+    → of_word (from_le_bytes w32 code') ≡ Some (sums a rd b rs2 i)
+    → ((v : ℕ) → moved v i ≡ sum_64 v n) → (h k : Hart) → h.pc < 2 ^ 64 → k.pc < 2 ^ 64
+    → AreAlike differs h k → register h rs1 ≡ register k b → StoresTheSame a rs2 h k
+    → EndSo 1 code h 1 code' k (λ e e'. AreAlike (differs_after a differs rd) e e'
+    × GoOn a rd (sum_64 (register k b) n - sum_64 (register k b) n % 2) (sum_64 h.pc 4)
+    (sum_64 k.pc 4) e e')
+both_end a differs rd rs1 b rs2 i n code code' long long' low low' is is' sum h k small small' alike
+    same apart =
+    let instruction = sums a rd rs1 rs2 i in
+    let instruction' = sums a rd b rs2 i in
+    let m = moved (register k b) i in
+    record {
+      end = executed 4 instruction h;
+      new_end = executed 4 instruction' k;
+      runs = (
+        executed 4 instruction h,
+        steps code h.pc 0 4 instruction h (at_start h.pc small)
+            (fetched_word code instruction low long is),
+        refl,
+      );
+      new_runs = (
+        executed 4 instruction' k,
+        steps code' k.pc 0 4 instruction' k (at_start k.pc small')
+            (fetched_word code' instruction' low' long' is'),
+        refl,
+      );
+      so = subst (λ v. AreAlike (differs_after a differs rd) (used 4 a rd rs2 v h)
+          (used 4 a rd rs2 m k)
+          × GoOn a rd (sum_64 (register k b) n - sum_64 (register k b) n % 2) (sum_64 h.pc 4)
+          (sum_64 k.pc 4) (used 4 a rd rs2 v h) (used 4 a rd rs2 m k))
+          (sym (ap (λ v. moved v i) same))
+          (subst (λ t. AreAlike (differs_after a differs rd) (used 4 a rd rs2 m h)
+          (used 4 a rd rs2 m k)
+          × GoOn a rd (t - t % 2) (sum_64 h.pc 4) (sum_64 k.pc 4) (used 4 a rd rs2 m h)
+          (used 4 a rd rs2 m k)) (sum (register k b))
+          (alike_used a differs rd rs2 m h k apart alike));
+    }
+
+-- The law of an action whose instruction has the registers rd and rs2 in its use: with a row of a
+-- number, and a rewrite that makes b the base.
+abbrev pub LowLaw : Option RelocationKindInfo → (Operands → ℕ) → RelaxationKind → ℕ → Action → ℕ
+    → ℕ → List ℕ → ℕ → Type 0
+LowLaw row number kind b a rd rs2 section o =
+    let rs1 = rs1_of (word_at section o) in
+    (x y : Operands) → number x ≡ number y
+    → IsWithin (Some low_12_bounds) (cast_signed w64 (number x)) → (original new : List ℕ)
+    → Relocated row x (drop o section) original
+    → Relocated row y (drop o (after_rewrite kind section o)) new
+    → (h k : Hart) (differs : ℕ → Bool) → h.pc < 2 ^ 64 → k.pc < 2 ^ 64 → AreAlike differs h k
+    → register h rs1 ≡ register k b → StoresTheSame a rs2 h k
+    → EndSo 1 original h 1 new k (λ e e'. AreAlike (differs_after a differs rd) e e'
+    × GoOn a rd (sum_64 (register k b) (number x) - sum_64 (register k b) (number x) % 2)
+    (sum_64 h.pc 4) (sum_64 k.pc 4) e e')
+
+module _ (kind : RelocationKind) (number : Operands → ℕ) (of : IsOf kind number)
+    (rewrite : RelaxationKind) (b : ℕ) (base : b < 32) (based : IsBased rewrite b)
+    (a : Action) (section : List ℕ) (o : ℕ) (inside : o + 4 ≤ length section)
+    (is : action_of (opcode_of (word_at section o)) (funct3_of (word_at section o)) ≡ Some a)
+    (long : opcode_of (word_at section o) % 4 ≡ 3) where
+  low_bits : (w : ℕ) → field w 0 7 ≡ opcode_of (word_at section o) → field w 0 2 ≡ 3
+  low_bits w e = omega (arith, e, long)
+
+  as_action : (w : ℕ) → field w 0 7 ≡ opcode_of (word_at section o)
+      → field w 12 15 ≡ funct3_of (word_at section o) → of_word w ≡ with_action w (Some a)
+  as_action w e f =
+      is_action w a (ap (λ n. action_of n (funct3_of w)) e
+      ∙ ap (action_of (opcode_of (word_at section o))) f ∙ is)
+
+  pub i_law : ((w : ℕ) → with_action w (Some a) ≡ i_type a w)
+      → LowLaw (Some (pair_row kind 32 IType)) number rewrite b a (rd_of (word_at section o)) 0
+      section o
+  i_law form x y one low original new old_code new_code h k differs small small' alike same apart =
+      let word = word_at section o in
+      let n = number x in
+      let before' = drop o (after_rewrite rewrite section o) in
+      let w = from_le_bytes w32 original in
+      let w' = from_le_bytes w32 new in
+      let ap1 = old_code.applied in
+      let ap2 = new_code.applied in
+      let l = old_code.len in
+      let l' = new_code.len in
+      let long_before : 4 ≤ length (drop o section) = ap1.accepted.long in
+      let long_before' : 4 ≤ length before' = ap2.accepted.long in
+      let there = based section o inside old_code.old_bytes in
+      let i = signed 12 (n % 2 ^ 32 % 4096) in
+      let kept = i_kept kind x n (drop o section) original ap1 (of.1 x) (of.0 IType x) in
+      let kept' = i_kept kind y (number y) before' new ap2 (of.1 y) (of.0 IType y) in
+      let opcode : field w 0 7 ≡ field word 0 7 = kept 0 7 refl in
+      let function : field w 12 15 ≡ field word 12 15 = kept 12 3 refl in
+      let rd : field w 7 12 ≡ field word 7 12 = kept 7 5 refl in
+      let rs1 : field w 15 20 ≡ field word 15 20 = kept 15 5 refl in
+      let opcode' : field w' 0 7 ≡ field word 0 7
+      = kept' 0 7 refl ∙ ap (λ v. field v 0 7) there ∙ clear_0 word b in
+      let function' : field w' 12 15 ≡ field word 12 15
+      = kept' 12 3 refl ∙ ap (λ v. field v 12 15) there ∙ clear_12 word b in
+      let rd' : field w' 7 12 ≡ field word 7 12
+      = kept' 7 5 refl ∙ ap (λ v. field v 7 12) there ∙ clear_7 word b in
+      let rs1' : field w' 15 20 ≡ b
+      = kept' 15 5 refl ∙ ap (λ v. field v 15 20) there ∙ clear_15 word b base in
+      both_end a differs (rd_of word) (rs1_of word) b 0 i n original new
+      (omega (arith, long_before, l)) (omega (arith, long_before', l')) (low_bits w opcode)
+      (low_bits w' opcode')
+      (as_action w opcode function ∙ form w
+      ∙ ap (λ v. Some (sums a v (rs1_of w) 0 ((riscv_form IType).machine w))) rd
+      ∙ ap (λ v. Some (sums a (rd_of word) v 0 ((riscv_form IType).machine w))) rs1
+      ∙ ap (λ v. Some (sums a (rd_of word) (rs1_of word) 0 (signed 12 v)))
+      (i_stands kind x n (drop o section) original ap1 (of.1 x) (of.0 IType x)))
+      (as_action w' opcode' function' ∙ form w'
+      ∙ ap (λ v. Some (sums a v (rs1_of w') 0 ((riscv_form IType).machine w'))) rd'
+      ∙ ap (λ v. Some (sums a (rd_of word) v 0 ((riscv_form IType).machine w'))) rs1'
+      ∙ ap (λ v. Some (sums a (rd_of word) b 0 (signed 12 v)))
+      (i_stands kind y (number y) before' new ap2 (of.1 y) (of.0 IType y)
+      ∙ ap (λ t. t % 2 ^ 32 % 4096) (sym one)))
+      (λ v. low_sum v n (n % 2 ^ 32 % 4096) (of.1 x) (low_12_number n (of.1 x) low) refl)
+      h k small small' alike same apart
+
+  pub s_law : ((w : ℕ) → with_action w (Some a) ≡ s_type a w)
+      → LowLaw (Some (pair_row kind 32 SType)) number rewrite b a 0 (rs2_of (word_at section o))
+      section o
+  s_law form x y one low original new old_code new_code h k differs small small' alike same apart =
+      let word = word_at section o in
+      let n = number x in
+      let before' = drop o (after_rewrite rewrite section o) in
+      let w = from_le_bytes w32 original in
+      let w' = from_le_bytes w32 new in
+      let ap1 = old_code.applied in
+      let ap2 = new_code.applied in
+      let l = old_code.len in
+      let l' = new_code.len in
+      let long_before : 4 ≤ length (drop o section) = ap1.accepted.long in
+      let long_before' : 4 ≤ length before' = ap2.accepted.long in
+      let there = based section o inside old_code.old_bytes in
+      let i = signed 12 (n % 2 ^ 32 % 4096) in
+      let kept = s_kept kind x n (drop o section) original ap1 (of.1 x) (of.0 SType x) in
+      let kept' = s_kept kind y (number y) before' new ap2 (of.1 y) (of.0 SType y) in
+      let opcode : field w 0 7 ≡ field word 0 7 = kept 0 7 refl in
+      let function : field w 12 15 ≡ field word 12 15 = kept 12 3 refl in
+      let rs1 : field w 15 20 ≡ field word 15 20 = kept 15 5 refl in
+      let rs2 : field w 20 25 ≡ field word 20 25 = kept 20 5 refl in
+      let opcode' : field w' 0 7 ≡ field word 0 7
+      = kept' 0 7 refl ∙ ap (λ v. field v 0 7) there ∙ clear_0 word b in
+      let function' : field w' 12 15 ≡ field word 12 15
+      = kept' 12 3 refl ∙ ap (λ v. field v 12 15) there ∙ clear_12 word b in
+      let rs1' : field w' 15 20 ≡ b
+      = kept' 15 5 refl ∙ ap (λ v. field v 15 20) there ∙ clear_15 word b base in
+      let rs2' : field w' 20 25 ≡ field word 20 25
+      = kept' 20 5 refl ∙ ap (λ v. field v 20 25) there ∙ clear_20 word b base in
+      both_end a differs 0 (rs1_of word) b (rs2_of word) i n original new
+      (omega (arith, long_before, l)) (omega (arith, long_before', l')) (low_bits w opcode)
+      (low_bits w' opcode')
+      (as_action w opcode function ∙ form w
+      ∙ ap (λ v. Some (sums a 0 v (rs2_of w) ((riscv_form SType).machine w))) rs1
+      ∙ ap (λ v. Some (sums a 0 (rs1_of word) v ((riscv_form SType).machine w))) rs2
+      ∙ ap (λ v. Some (sums a 0 (rs1_of word) (rs2_of word) (signed 12 v)))
+      (s_stands kind x n (drop o section) original ap1 (of.1 x) (of.0 SType x)))
+      (as_action w' opcode' function' ∙ form w'
+      ∙ ap (λ v. Some (sums a 0 v (rs2_of w') ((riscv_form SType).machine w'))) rs1'
+      ∙ ap (λ v. Some (sums a 0 b v ((riscv_form SType).machine w'))) rs2'
+      ∙ ap (λ v. Some (sums a 0 b (rs2_of word) (signed 12 v)))
+      (s_stands kind y (number y) before' new ap2 (of.1 y) (of.0 SType y)
+      ∙ ap (λ t. t % 2 ^ 32 % 4096) (sym one)))
+      (λ v. low_sum v n (n % 2 ^ 32 % 4096) (of.1 x) (low_12_number n (of.1 x) low) refl)
+      h k small small' alike same apart
+
+-- ---- the laws
+
+from_zero : (section : List ℕ) (o : ℕ) (a : Action) (rd rs2 : ℕ) (row : Option RelocationKindInfo)
+    → LowLaw row symbol_address kinds.Lo12Rs1ToZero 0 a rd rs2 section o → (x y : Operands)
+    → HaveOneTarget x y → IsLow12 x → (original new : List ℕ)
+    → Relocated row x (drop o section) original
+    → Relocated row y (drop o (after_rewrite kinds.Lo12Rs1ToZero section o)) new
+    → (h k : Hart) → h.pc < 2 ^ 64 → k.pc < 2 ^ 64
+    → AreAlike (λ r. r == rs1_of (word_at section o)) h k
+    → register h (rs1_of (word_at section o)) ≡ 0 → StoresTheSame a rs2 h k
+    → EndSo 1 original h 1 new k
+    (λ e e'. AreAlike (differs_after a (λ r. r == rs1_of (word_at section o)) rd) e e'
+    × GoOn a rd (even symbol_address x) (sum_64 h.pc 4) (sum_64 k.pc 4) e e')
+from_zero section o a rd rs2 row law x y one low original new old_code new_code h k small small'
+    alike none apart =
+    let n = symbol_address x in
+    let below : n < 2 ^ 64 = sum_below x.symbol _ in
+    let whole : sum_64 0 n ≡ n = omega arith in
+    let differs : ℕ → Bool = λ r. r == rs1_of (word_at section o) in
+    subst (λ t. EndSo 1 original h 1 new k (λ e e'. AreAlike (differs_after a differs rd) e e'
+    × GoOn a rd (t - t % 2) (sum_64 h.pc 4) (sum_64 k.pc 4) e e')) whole
+    (law x y one low original new old_code new_code h k differs small small' alike none apart)
+
+module _ (section : List ℕ) (o : ℕ) (inside : o + 4 ≤ length section) (a : Action)
+    (is : action_of (opcode_of (word_at section o)) (funct3_of (word_at section o)) ≡ Some a)
+    (long : opcode_of (word_at section o) % 4 ≡ 3) where
+  i_zero : ((w : ℕ) → with_action w (Some a) ≡ i_type a w)
+      → LowLaw (riscv_row names.R_RISCV_LO12_I) symbol_address kinds.Lo12Rs1ToZero 0 a
+      (rd_of (word_at section o)) 0 section o
+  i_zero =
+      i_law Absolute symbol_address of_address kinds.Lo12Rs1ToZero 0 (omega arith) over_zero a
+      section o inside is long
+
+  s_zero : ((w : ℕ) → with_action w (Some a) ≡ s_type a w)
+      → LowLaw (riscv_row names.R_RISCV_LO12_S) symbol_address kinds.Lo12Rs1ToZero 0 a 0
+      (rs2_of (word_at section o)) section o
+  s_zero =
+      s_law Absolute symbol_address of_address kinds.Lo12Rs1ToZero 0 (omega arith) over_zero a
+      section o inside is long
+
+  i_thread : ((w : ℕ) → with_action w (Some a) ≡ i_type a w)
+      → LowLaw (riscv_row names.R_RISCV_TPREL_LO12_I) thread_offset kinds.BaseToTp 4 a
+      (rd_of (word_at section o)) 0 section o
+  i_thread =
+      i_law TpOff thread_offset of_offset kinds.BaseToTp 4 (omega arith) over_tp a section o inside
+      is long
+
+  s_thread : ((w : ℕ) → with_action w (Some a) ≡ s_type a w)
+      → LowLaw (riscv_row names.R_RISCV_TPREL_LO12_S) thread_offset kinds.BaseToTp 4 a 0
+      (rs2_of (word_at section o)) section o
+  s_thread =
+      s_law TpOff thread_offset of_offset kinds.BaseToTp 4 (omega arith) over_tp a section o inside
+      is long
+
+pub law : (section : List ℕ) (o : ℕ) → o + 4 ≤ length section → (a : Action)
+    → action_of (opcode_of (word_at section o)) (funct3_of (word_at section o)) ≡ Some a
+    → opcode_of (word_at section o) % 4 ≡ 3 → FromZero section o a
+law section o inside adds is long =
+    from_zero section o adds (rd_of (word_at section o)) 0 (riscv_row names.R_RISCV_LO12_I)
+    (i_zero section o inside adds is long (λ w. refl))
+law section o inside adds_word is long =
+    from_zero section o adds_word (rd_of (word_at section o)) 0 (riscv_row names.R_RISCV_LO12_I)
+    (i_zero section o inside adds_word is long (λ w. refl))
+law section o inside jumps is long =
+    from_zero section o jumps (rd_of (word_at section o)) 0 (riscv_row names.R_RISCV_LO12_I)
+    (i_zero section o inside jumps is long (λ w. refl))
+law section o inside (loads f) is long =
+    from_zero section o (loads f) (rd_of (word_at section o)) 0 (riscv_row names.R_RISCV_LO12_I)
+    (i_zero section o inside (loads f) is long (λ w. refl))
+law section o inside (stores f) is long =
+    from_zero section o (stores f) 0 (rs2_of (word_at section o)) (riscv_row names.R_RISCV_LO12_S)
+    (s_zero section o inside (stores f) is long (λ w. refl))
+law section o inside (loads_float f) is long =
+    from_zero section o (loads_float f) (rd_of (word_at section o)) 0
+    (riscv_row names.R_RISCV_LO12_I) (i_zero section o inside (loads_float f) is long (λ w. refl))
+law section o inside (stores_float f) is long =
+    from_zero section o (stores_float f) 0 (rs2_of (word_at section o))
+    (riscv_row names.R_RISCV_LO12_S) (s_zero section o inside (stores_float f) is long (λ w. refl))
+
+pub low_part_from_zero : LowPartFromZero
+low_part_from_zero section o m =
+    let word = word_at section o in
+    let some = some_action (opcode_of word) (funct3_of word) m.1 in
+    subst (λ r. IsSomeAnd r (FromZero section o)) (sym some.1)
+    (law section o m.0 some.0 some.1 some.2)
+
+pub thread_law : (section : List ℕ) (o : ℕ) → o + 4 ≤ length section → (a : Action)
+    → action_of (opcode_of (word_at section o)) (funct3_of (word_at section o)) ≡ Some a
+    → opcode_of (word_at section o) % 4 ≡ 3 → FromThreadPointer section o a
+thread_law section o inside adds is long = i_thread section o inside adds is long (λ w. refl)
+thread_law section o inside adds_word is long =
+    i_thread section o inside adds_word is long (λ w. refl)
+thread_law section o inside jumps is long = i_thread section o inside jumps is long (λ w. refl)
+thread_law section o inside (loads f) is long =
+    i_thread section o inside (loads f) is long (λ w. refl)
+thread_law section o inside (stores f) is long =
+    s_thread section o inside (stores f) is long (λ w. refl)
+thread_law section o inside (loads_float f) is long =
+    i_thread section o inside (loads_float f) is long (λ w. refl)
+thread_law section o inside (stores_float f) is long =
+    s_thread section o inside (stores_float f) is long (λ w. refl)
+
+pub low_part_from_tp : LowPartFromThreadPointer
+low_part_from_tp section o m =
+    let word = word_at section o in
+    let some = some_action (opcode_of word) (funct3_of word) m.1 in
+    subst (λ r. IsSomeAnd r (FromThreadPointer section o)) (sym some.1)
+    (thread_law section o m.0 some.0 some.1 some.2)

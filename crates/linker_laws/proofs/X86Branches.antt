@@ -1,0 +1,117 @@
+-- Branches through the GOT, and direct ones.
+use Rattle.std.proofs.Common.{◌≡◌, ℕ, ◌-◌, ◌^◌, ◌<◌, ◌≤◌, List, ◌∷◌, drop, sym}
+use Rattle.std.proofs.Common.{◌∙◌, ap, arith, subst}
+use Rattle.std.specs.Int.{w64, cast_unsigned}
+use Rattle.std.proofs.lemmas.List.Elements.{All-drop}
+use Rattle.linker_base.specs.Rewrite.{rewritten}
+use Rattle.linker_elf.specs.Relocate.{number_of_bytes}
+use Rattle.linker_elf.specs.Value.{sum_64, difference_64}
+use Rattle.linker_x86_64.specs.X86Rewrites.{x86_64_rewrite}
+use Rattle.linker_x86_64.specs.X86Rewrites.{original, byte, field4, x86_64_originals}
+use Rattle.linker_elf.specs.declared.elf.value.Operands.{Operands}
+use Rattle.linker_elf.specs.declared.x86_64.relocations.X86_64Relocation.TheVariants as names
+use Rattle.linker_x86_64.specs.declared.rewrites.RelaxationKind.TheVariants as kinds
+use Rattle.linker_elf.specs.Applied.{IsApplied}
+use Rattle.linker_laws.proofs.Sums.{difference_below}
+use Rattle.linker_laws.specs.X86RewriteLaws.{IsBefore, DoesTheSame, address}
+use Rattle.linker_laws.specs.X86Machine.{State, load, extended, call, jump, direct, indirect}
+use Rattle.linker_laws.specs.X86Machine.{decode}
+use Rattle.linker_laws.specs.X86Machine.{with_register, store_8}
+use Rattle.linker_laws.proofs.X86Bytes.{two_bytes}
+use Rattle.linker_laws.proofs.X86Codes.{pattern_there, call_codes, jump_codes}
+use Rattle.linker_laws.proofs.X86Decoding.{lead_to}
+use Rattle.linker_laws.proofs.X86Fields.{entry_field, place_field, got_row, place_row}
+use Rattle.linker_laws.proofs.X86Loads.{same_place, from_next, at_place}
+
+abbrev called : ℕ → ℕ → State → State
+called next target s =
+    let top = difference_64 (s.register 4) 8 in
+    record s {
+      ip = target;
+      register = with_register 4 top s.register;
+      memory = store_8 top next s.memory;
+    }
+
+abbrev jumped : ℕ → State → State
+jumped target s = record s { ip = target }
+
+place_before : (p o : ℕ) → 2 ≤ o → p < 2 ^ 64 → o < 2 ^ 64
+    → difference_64 (sum_64 p (o - 1)) o ≡ difference_64 p 1
+place_before p o room small offset = omega arith
+
+-- from the next instruction, of 5 bytes, of which the last 4 are a field
+from_short : (ip place e t : ℕ) → place < 2 ^ 64 → t < 2 ^ 64 → ip ≡ difference_64 place 2
+    → sum_64 (difference_64 place 1) e ≡ sum_64 t (2 ^ 64 - 4) → sum_64 (sum_64 ip 5) e ≡ t
+from_short ip place e t small target begins leads = omega arith
+
+module _ (section : List ℕ) (o : ℕ) (operands : Operands) (s : State)
+    (before : IsBefore 2 section o operands s)
+    (held : load 8 s operands.got_entry ≡ operands.symbol) where
+  -- what is loaded from the GOT
+  loaded_target : (bytes rest : List ℕ) → IsApplied got_row operands bytes rest
+      → load 8 s (sum_64 (sum_64 s.ip 6) (extended (number_of_bytes 4 rest))) ≡ operands.symbol
+  loaded_target bytes rest applied =
+      ap (load 8 s) (from_next 2 s.ip operands.place (extended (number_of_bytes 4 rest))
+      operands.got_entry (omega arith) before.addresses.place before.addresses.got_entry before.ip
+      (entry_field operands before.addresses bytes rest applied
+      ∙ ap (λ a. sum_64 operands.got_entry (cast_unsigned w64 a)) before.addend))
+      ∙ held
+
+  -- the field of a direct branch, at a place
+  place_at : (p p' : ℕ) → p ≡ p' → p' < 2 ^ 64 → (bytes rest : List ℕ)
+      → IsApplied place_row (record operands { place = p; addend = operands.addend }) bytes rest
+      → sum_64 p' (extended (number_of_bytes 4 rest)) ≡ sum_64 operands.symbol (2 ^ 64 - 4)
+  place_at p p' same small bytes rest applied =
+      ap (λ p. sum_64 p (extended (number_of_bytes 4 rest))) (sym same)
+      ∙ place_field (record operands { place = p; addend = operands.addend })
+      (at_place operands p operands.addend before.addresses
+      (subst (λ p. p < 2 ^ 64) (sym same) small)) bytes rest applied
+      ∙ ap (λ a. sum_64 operands.symbol (cast_unsigned w64 a)) before.addend
+
+pub calls : DoesTheSame 2 (x86_64_originals kinds.CallIndirectToRelative) names.R_X86_64_GOTPCRELX
+    kinds.CallIndirectToRelative address
+calls section old new o operands s before there matches held was is =
+    let shape = pattern_there (original 2 (byte 0xff ∷ byte 0x15 ∷ field4)) section o there in
+    let code = two_bytes 0xff 0x15 (drop (o - 2) section)
+    (All-drop (λ b. b < 2 ^ 8) (o - 2) section before.bytes) shape.1 in
+    let codes = call_codes section old new was.rest is.rest o was.whole 0xff 0x15 code.0 shape.0
+    code.1 is.whole in
+    let place = operands.place in
+    let next = sum_64 s.ip 6 in
+    let f' = number_of_bytes 4 is.rest in
+    let reached = from_next 2 s.ip place (extended f') operands.symbol (omega arith)
+    before.addresses.place before.addresses.symbol before.ip
+    (place_at section o operands s before held (difference_64 (sum_64 place o) o) place
+    (same_place place o before.addresses.place before.offset) before.addresses.place
+    (drop o (rewritten (x86_64_rewrite kinds.CallIndirectToRelative) section o)) is.rest
+    is.applied) in
+    lead_to (drop (o - 2) old) (drop (o - 2) new)
+    (record { instruction = call (indirect (number_of_bytes 4 was.rest)); size = 6 })
+    (record { instruction = call (direct f'); size = 6 }) s (ap decode codes.0)
+    (ap decode codes.1)
+    (ap (λ t. called next t s) (loaded_target section o operands s before held (drop o section)
+    was.rest was.applied ∙ sym reached))
+
+pub jumps : DoesTheSame 2 (x86_64_originals kinds.JmpIndirectToRelative) names.R_X86_64_GOTPCRELX
+    kinds.JmpIndirectToRelative address
+jumps section old new o operands s before there matches held was is =
+    let shape = pattern_there (original 2 (byte 0xff ∷ byte 0x25 ∷ field4)) section o there in
+    let code = two_bytes 0xff 0x25 (drop (o - 2) section)
+    (All-drop (λ b. b < 2 ^ 8) (o - 2) section before.bytes) shape.1 in
+    let codes = jump_codes section old new was.rest is.rest o was.whole 0xff 0x25 code.0 shape.0
+    code.1 is.whole in
+    let place = operands.place in
+    let f' = number_of_bytes 4 is.rest in
+    let reached = from_short s.ip place (extended f') operands.symbol before.addresses.place
+    before.addresses.symbol before.ip
+    (place_at section o operands s before held (difference_64 (sum_64 place (o - 1)) o)
+    (difference_64 place 1) (place_before place o shape.0 before.addresses.place before.offset)
+    (difference_below place 1)
+    (drop (o - 1) (rewritten (x86_64_rewrite kinds.JmpIndirectToRelative) section o)) is.rest
+    is.applied) in
+    lead_to (drop (o - 2) old) (drop (o - 2) new)
+    (record { instruction = jump (indirect (number_of_bytes 4 was.rest)); size = 6 })
+    (record { instruction = jump (direct f'); size = 5 }) s (ap decode codes.0)
+    (ap decode codes.1)
+    (ap (λ t. jumped t s) (loaded_target section o operands s before held (drop o section)
+    was.rest was.applied ∙ sym reached))

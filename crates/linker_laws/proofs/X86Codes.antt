@@ -1,0 +1,205 @@
+-- The code before and after each rewrite, from the instruction's first byte.
+use Rattle.std.proofs.Common.{◌≡◌, ℕ, ◌+◌, ◌-◌, ◌<◌, ◌≤◌, List, [], ◌∷◌, ◌++◌, length, take, drop}
+use Rattle.std.proofs.Common.{sym}
+use Rattle.std.proofs.Common.{◌∙◌, ap, arith, Some, true, IsTrue, leb}
+use Rattle.std.proofs.lemmas.Bool.{and_parts, leb-true}
+use Rattle.std.proofs.Math.Bool.{or-false}
+use Rattle.std.proofs.lemmas.List.{length-drop}
+use Rattle.linker_base.specs.Rewrite.{rewritten, replaces}
+use Rattle.linker_x86_64.specs.X86Rewrites as x86
+use Rattle.linker_x86_64.specs.X86Rewrites.{absolute, operand, prefixed_operand, evex_operand, puts}
+use Rattle.linker_x86_64.specs.X86Rewrites.{Original, is_one_at, is_at, begins}
+use Rattle.linker_x86_64.specs.declared.rewrites.RelaxationKind.TheVariants.{JmpIndirectToRelative}
+use Rattle.linker_laws.proofs.X86Sections.{original_code, rewritten_code}
+
+-- an instruction of one pattern
+pub pattern_there : (r : Original) (section : List ℕ) (o : ℕ)
+    → IsTrue (is_one_at (r ∷ []) section o)
+    → (r.back ≤ o) × (begins r.bytes (drop (o - r.back) section) ≡ true)
+pattern_there r section o h =
+    let both = and_parts (leb r.back o) (begins r.bytes (drop (o - r.back) section))
+    (sym (or-false (is_at r section o)) ∙ h) in
+    (leb-true r.back o both.0, both.1)
+
+-- the offset is in the section
+pub inside : (section rest : List ℕ) (o b : ℕ) → 0 < b → b ≤ o → drop (o - b) section ≡ rest
+    → b ≤ length rest → o ≤ length section
+inside section rest o b some room is long =
+    let h = length-drop (o - b) section in
+    let same = ap length is in
+    omega arith
+
+module _ (section original relaxed rest rest' : List ℕ) (o : ℕ)
+    (whole : original ≡ take o section ++ rest) where
+  -- `mov` made `lea`
+  pub lea_codes : (opcode m : ℕ) (d : List ℕ) → 2 ≤ o
+      → drop (o - 2) section ≡ opcode ∷ m ∷ d
+      → relaxed ≡ take o (rewritten (Some (replaces 2 1 (λ _. 0x8d ∷ []))) section o) ++ rest'
+      → (drop (o - 2) original ≡ opcode ∷ m ∷ rest) × (drop (o - 2) relaxed ≡ 0x8d ∷ m ∷ rest')
+  lea_codes opcode m d room is whole' =
+      let long = inside section (opcode ∷ m ∷ d) o 2 (omega arith) room is (omega arith) in (
+        ap (drop (o - 2)) whole ∙ original_code section rest o 2 2 room long (omega arith)
+            ∙ ap (λ d. drop (2 - 2) (take 2 d ++ rest)) is,
+        ap (drop (o - 2)) whole'
+            ∙ rewritten_code section rest' o 2 2 room long (omega arith)
+            (replaces 2 1 (λ _. 0x8d ∷ [])) o 2 (omega arith) (omega arith)
+            ∙ ap (λ d. drop (2 - 2) (take 2 (take (2 - 2) d ++ (0x8d ∷ []) ++ drop (2 - 2 + 1) d)
+            ++ rest')) is,
+      )
+
+  pub rex_lea_codes : (p opcode m : ℕ) (d : List ℕ) → 3 ≤ o
+      → drop (o - 3) section ≡ p ∷ opcode ∷ m ∷ d
+      → relaxed ≡ take o (rewritten (Some (replaces 2 1 (λ _. 0x8d ∷ []))) section o) ++ rest'
+      → (drop (o - 3) original ≡ p ∷ opcode ∷ m ∷ rest)
+      × (drop (o - 3) relaxed ≡ p ∷ 0x8d ∷ m ∷ rest')
+  rex_lea_codes p opcode m d room is whole' =
+      let long = inside section (p ∷ opcode ∷ m ∷ d) o 3 (omega arith) room is (omega arith) in (
+        ap (drop (o - 3)) whole ∙ original_code section rest o 3 3 room long (omega arith)
+            ∙ ap (λ d. drop (3 - 3) (take 3 d ++ rest)) is,
+        ap (drop (o - 3)) whole'
+            ∙ rewritten_code section rest' o 3 3 room long (omega arith)
+            (replaces 2 1 (λ _. 0x8d ∷ [])) o 3 (omega arith) (omega arith)
+            ∙ ap (λ d. drop (3 - 3) (take 3 (take (3 - 2) d ++ (0x8d ∷ []) ++ drop (3 - 2 + 1) d)
+            ++ rest')) is,
+      )
+
+  -- an operation on an immediate
+  pub immediate_codes : (opcode m opcode' k : ℕ) (d : List ℕ) → 2 ≤ o
+      → drop (o - 2) section ≡ opcode ∷ m ∷ d
+      → relaxed ≡ take o (rewritten (Some (absolute 2 (operand opcode' k))) section o) ++ rest'
+      → (drop (o - 2) original ≡ opcode ∷ m ∷ rest)
+      × (drop (o - 2) relaxed ≡ opcode' ∷ x86.modrm_reg_to_rm k m ∷ rest')
+  immediate_codes opcode m opcode' k d room is whole' =
+      let long = inside section (opcode ∷ m ∷ d) o 2 (omega arith) room is (omega arith) in (
+        ap (drop (o - 2)) whole ∙ original_code section rest o 2 2 room long (omega arith)
+            ∙ ap (λ d. drop (2 - 2) (take 2 d ++ rest)) is,
+        ap (drop (o - 2)) whole'
+            ∙ rewritten_code section rest' o 2 2 room long (omega arith)
+            (absolute 2 (operand opcode' k)) o 2 (omega arith) (omega arith)
+            ∙ ap (λ d. drop (2 - 2) (take 2 (take (2 - 2) d ++ operand opcode' k (take 2 (drop (2 - 2) d))
+            ++ drop (2 - 2 + 2) d) ++ rest')) is,
+      )
+
+  -- the same by a rewrite that has the byte before the instruction in its window
+  pub wide_codes : (x opcode m opcode' k : ℕ) (d : List ℕ) → 3 ≤ o
+      → drop (o - 3) section ≡ x ∷ opcode ∷ m ∷ d
+      → relaxed ≡ take o (rewritten (Some (absolute 3 (prefixed_operand 2 opcode' k))) section o)
+      ++ rest'
+      → (drop (o - 2) original ≡ opcode ∷ m ∷ rest)
+      × (drop (o - 2) relaxed ≡ opcode' ∷ x86.modrm_reg_to_rm k m ∷ rest')
+  wide_codes x opcode m opcode' k d room is whole' =
+      let long = inside section (x ∷ opcode ∷ m ∷ d) o 3 (omega arith) room is (omega arith) in (
+        ap (drop (o - 2)) whole ∙ original_code section rest o 3 2 room long (omega arith)
+            ∙ ap (λ d. drop (3 - 2) (take 3 d ++ rest)) is,
+        ap (drop (o - 2)) whole'
+            ∙ rewritten_code section rest' o 3 2 room long (omega arith)
+            (absolute 3 (prefixed_operand 2 opcode' k)) o 3 (omega arith) (omega arith)
+            ∙ ap (λ d. drop (3 - 2) (take 3 (take (3 - 3) d
+            ++ prefixed_operand 2 opcode' k (take 3 (drop (3 - 3) d))
+            ++ drop (3 - 3 + 3) d) ++ rest')) is,
+      )
+
+  pub rex_immediate_codes : (p opcode m opcode' k : ℕ) (d : List ℕ) → 3 ≤ o
+      → drop (o - 3) section ≡ p ∷ opcode ∷ m ∷ d
+      → relaxed ≡ take o (rewritten (Some (absolute 3 (prefixed_operand 3 opcode' k))) section o)
+      ++ rest'
+      → (drop (o - 3) original ≡ p ∷ opcode ∷ m ∷ rest)
+      × (drop (o - 3) relaxed ≡ x86.rex_r_to_b p ∷ opcode' ∷ x86.modrm_reg_to_rm k m ∷ rest')
+  rex_immediate_codes p opcode m opcode' k d room is whole' =
+      let long = inside section (p ∷ opcode ∷ m ∷ d) o 3 (omega arith) room is (omega arith) in (
+        ap (drop (o - 3)) whole ∙ original_code section rest o 3 3 room long (omega arith)
+            ∙ ap (λ d. drop (3 - 3) (take 3 d ++ rest)) is,
+        ap (drop (o - 3)) whole'
+            ∙ rewritten_code section rest' o 3 3 room long (omega arith)
+            (absolute 3 (prefixed_operand 3 opcode' k)) o 3 (omega arith) (omega arith)
+            ∙ ap (λ d. drop (3 - 3) (take 3 (take (3 - 3) d
+            ++ prefixed_operand 3 opcode' k (take 3 (drop (3 - 3) d))
+            ++ drop (3 - 3 + 3) d) ++ rest')) is,
+      )
+
+  -- the same after REX2
+  pub rex2_lea_codes : (p opcode m : ℕ) (d : List ℕ) → 4 ≤ o
+      → drop (o - 4) section ≡ 0xd5 ∷ p ∷ opcode ∷ m ∷ d
+      → relaxed ≡ take o (rewritten (Some (replaces 2 1 (λ _. 0x8d ∷ []))) section o) ++ rest'
+      → (drop (o - 4) original ≡ 0xd5 ∷ p ∷ opcode ∷ m ∷ rest)
+      × (drop (o - 4) relaxed ≡ 0xd5 ∷ p ∷ 0x8d ∷ m ∷ rest')
+  rex2_lea_codes p opcode m d room is whole' =
+      let long = inside section (0xd5 ∷ p ∷ opcode ∷ m ∷ d) o 4 (omega arith) room is
+      (omega arith) in (
+        ap (drop (o - 4)) whole ∙ original_code section rest o 4 4 room long (omega arith)
+            ∙ ap (λ d. drop (4 - 4) (take 4 d ++ rest)) is,
+        ap (drop (o - 4)) whole'
+            ∙ rewritten_code section rest' o 4 4 room long (omega arith)
+            (replaces 2 1 (λ _. 0x8d ∷ [])) o 4 (omega arith) (omega arith)
+            ∙ ap (λ d. drop (4 - 4) (take 4 (take (4 - 2) d ++ (0x8d ∷ []) ++ drop (4 - 2 + 1) d)
+            ++ rest')) is,
+      )
+
+  pub rex2_immediate_codes : (p opcode m opcode' k : ℕ) (d : List ℕ) → 4 ≤ o
+      → drop (o - 4) section ≡ 0xd5 ∷ p ∷ opcode ∷ m ∷ d
+      → relaxed ≡ take o (rewritten (Some (absolute 3 (prefixed_operand 4 opcode' k))) section o)
+      ++ rest'
+      → (drop (o - 4) original ≡ 0xd5 ∷ p ∷ opcode ∷ m ∷ rest)
+      × (drop (o - 4) relaxed ≡ 0xd5 ∷ x86.rex2_r_to_b p ∷ opcode' ∷ x86.modrm_reg_to_rm k m ∷ rest')
+  rex2_immediate_codes p opcode m opcode' k d room is whole' =
+      let long = inside section (0xd5 ∷ p ∷ opcode ∷ m ∷ d) o 4 (omega arith) room is
+      (omega arith) in (
+        ap (drop (o - 4)) whole ∙ original_code section rest o 4 4 room long (omega arith)
+            ∙ ap (λ d. drop (4 - 4) (take 4 d ++ rest)) is,
+        ap (drop (o - 4)) whole'
+            ∙ rewritten_code section rest' o 4 4 room long (omega arith)
+            (absolute 3 (prefixed_operand 4 opcode' k)) o 4 (omega arith) (omega arith)
+            ∙ ap (λ d. drop (4 - 4) (take 4 (take (4 - 3) d
+            ++ prefixed_operand 4 opcode' k (take 3 (drop (4 - 3) d))
+            ++ drop (4 - 3 + 3) d) ++ rest')) is,
+      )
+
+  -- the same after EVEX
+  pub evex_codes : (p w v opcode m opcode' k : ℕ) (d : List ℕ) → 6 ≤ o
+      → drop (o - 6) section ≡ 0x62 ∷ p ∷ w ∷ v ∷ opcode ∷ m ∷ d
+      → relaxed ≡ take o (rewritten (Some (absolute 5 (evex_operand opcode' k))) section o) ++ rest'
+      → (drop (o - 6) original ≡ 0x62 ∷ p ∷ w ∷ v ∷ opcode ∷ m ∷ rest)
+      × (drop (o - 6) relaxed
+      ≡ 0x62 ∷ x86.evex_reg_to_rm p ∷ w ∷ v ∷ opcode' ∷ x86.modrm_reg_to_rm k m ∷ rest')
+  evex_codes p w v opcode m opcode' k d room is whole' =
+      let long = inside section (0x62 ∷ p ∷ w ∷ v ∷ opcode ∷ m ∷ d) o 6 (omega arith) room is
+      (omega arith) in (
+        ap (drop (o - 6)) whole ∙ original_code section rest o 6 6 room long (omega arith)
+            ∙ ap (λ d. drop (6 - 6) (take 6 d ++ rest)) is,
+        ap (drop (o - 6)) whole'
+            ∙ rewritten_code section rest' o 6 6 room long (omega arith)
+            (absolute 5 (evex_operand opcode' k)) o 6 (omega arith) (omega arith)
+            ∙ ap (λ d. drop (6 - 6) (take 6 (take (6 - 5) d
+            ++ evex_operand opcode' k (take 5 (drop (6 - 5) d))
+            ++ drop (6 - 5 + 5) d) ++ rest')) is,
+      )
+
+  -- branches
+  pub call_codes : (opcode m : ℕ) (d : List ℕ) → 2 ≤ o
+      → drop (o - 2) section ≡ opcode ∷ m ∷ d
+      → relaxed ≡ take o (rewritten (Some (replaces 2 2 (λ _. 0x67 ∷ 0xe8 ∷ []))) section o)
+      ++ rest'
+      → (drop (o - 2) original ≡ opcode ∷ m ∷ rest) × (drop (o - 2) relaxed ≡ 0x67 ∷ 0xe8 ∷ rest')
+  call_codes opcode m d room is whole' =
+      let long = inside section (opcode ∷ m ∷ d) o 2 (omega arith) room is (omega arith) in (
+        ap (drop (o - 2)) whole ∙ original_code section rest o 2 2 room long (omega arith)
+            ∙ ap (λ d. drop (2 - 2) (take 2 d ++ rest)) is,
+        ap (drop (o - 2)) whole'
+            ∙ rewritten_code section rest' o 2 2 room long (omega arith)
+            (replaces 2 2 (λ _. 0x67 ∷ 0xe8 ∷ [])) o 2 (omega arith) (omega arith),
+      )
+
+  pub jump_codes : (opcode m : ℕ) (d : List ℕ) → 2 ≤ o
+      → drop (o - 2) section ≡ opcode ∷ m ∷ d
+      → relaxed ≡ take (o - 1) (rewritten (x86.x86_64_rewrite JmpIndirectToRelative) section o)
+      ++ rest'
+      → (drop (o - 2) original ≡ opcode ∷ m ∷ rest) × (drop (o - 2) relaxed ≡ 0xe9 ∷ rest')
+  jump_codes opcode m d room is whole' =
+      let long = inside section (opcode ∷ m ∷ d) o 2 (omega arith) room is (omega arith) in (
+        ap (drop (o - 2)) whole ∙ original_code section rest o 2 2 room long (omega arith)
+            ∙ ap (λ d. drop (2 - 2) (take 2 d ++ rest)) is,
+        ap (drop (o - 2)) whole'
+            ∙ rewritten_code section rest' o 2 2 room long (omega arith)
+            (puts 2 6 (0xe9 ∷ 0 ∷ 0 ∷ 0 ∷ 0 ∷ 0x90 ∷ []) (λ o. o - 1) (λ a. a)) (o - 1) 1 (omega arith)
+            (omega arith),
+      )

@@ -1,0 +1,211 @@
+-- What relocated fields come to, as numbers modulo 2 ^ 64.
+use Rattle.std.proofs.Common.{◌≡◌, ℕ, ◌+◌, ◌-◌, ◌*◌, ◌%◌, ◌^◌, refl, sym, ◌∙◌, ap, arith}
+use Rattle.std.proofs.Common.{List, ℤ, pos, negsuc, ◌+ℤ◌, ◌*ℤ◌, inl, inr, unsigned_abs}
+use Rattle.std.specs.Int.{w64, cast_unsigned, int_rem_euclid}
+use Rattle.std.proofs.lemmas.Int.{ints}
+use Rattle.linker_base.specs.Bits.{signed}
+use Rattle.linker_base.specs.Form.{unsigned, twos_complement}
+use Rattle.linker_base.proofs.Pairs.{signed_cases}
+use Rattle.linker_elf.specs.Relocate.{number_of_bytes}
+use Rattle.linker_elf.specs.Rows.{bytes_row, signed_row, unsigned_row}
+use Rattle.linker_elf.specs.Value.{sum_64}
+use Rattle.linker_elf.specs.declared.elf.RelocationKindInfo.{RelocationKindInfo}
+use Rattle.linker_elf.specs.declared.elf.RelocationKind.TheVariants as values
+use Rattle.linker_elf.specs.declared.elf.value.Operands.{Operands}
+use Rattle.linker_elf.specs.Applied.{IsApplied}
+use Rattle.linker_laws.specs.Schemes.{IsAddress, AreAddresses, symbol_address}
+use Rattle.linker_laws.specs.Schemes.{entry_and_addend}
+use Rattle.linker_laws.proofs.Fields.{field_adds, whole_field_adds}
+use Rattle.linker_laws.proofs.Instructions.{symbol_from_place, symbol_from_tls, symbol_itself}
+use Rattle.linker_laws.proofs.Instructions.{entry_and_addend_from_place}
+use Rattle.linker_laws.proofs.Sums.{lifted_is}
+use Rattle.linker_laws.specs.X86Machine.{extended}
+
+-- 32 bits in two's complement are some number, less 2 ^ 64
+record IsLifted (f : ℕ) : Type 0 where
+  pub number : ℕ
+  pub is : signed 32 f +ℤ pos (2 ^ 64) ≡ pos number
+  pub low : number % 2 ^ 32 ≡ f % 2 ^ 32
+
+lifted : (f : ℕ) → IsLifted f
+lifted f =
+    elim (signed_cases 32 f) [
+      | inl a ↦
+          let is = a.1 in
+          record {
+            number = f + 2 ^ 64;
+            is = ap (λ z. z +ℤ pos (2 ^ 64)) a.1 ∙ omega (arith, ints);
+            low = omega arith;
+          }
+      | inr a ↦
+          let high = a.0 in
+          record {
+            number = f + (2 ^ 64 - 2 ^ 32);
+            is = ap (λ z. z +ℤ pos (2 ^ 64)) a.1 ∙ omega (arith, ints);
+            low = omega arith;
+          }
+    ]
+
+unsigned_rem : (z : ℤ) (m : ℕ) → z +ℤ pos (2 ^ 64) ≡ pos m
+    → cast_unsigned w64 z % 2 ^ 64 ≡ m % 2 ^ 64
+unsigned_rem (pos a) m e = let same : m ≡ a + 2 ^ 64 = omega (arith, ints) in omega arith
+unsigned_rem (negsuc a) m e = let same : m + a + 1 ≡ 2 ^ 64 = omega (arith, ints) in omega arith
+
+-- an address as the machine computes it
+pub computed : (p f t : ℕ) → IsAddress (pos p +ℤ (signed 32 f *ℤ pos 1)) t
+    → sum_64 p (extended f) ≡ t
+computed p f t h =
+    let l = lifted f in
+    let is = l.is in
+    let there : (p + l.number) % 2 ^ 64 ≡ t =
+    ap unsigned_abs (sym (lifted_is (pos p +ℤ (signed 32 f *ℤ pos 1)) 1 (p + l.number)
+    (added (signed 32 f) p l.number l.is)) ∙ h) in
+    let rem = unsigned_rem (signed 32 f) l.number l.is in
+    omega arith
+  where
+    added : (z : ℤ) (p n : ℕ) → z +ℤ pos (2 ^ 64) ≡ pos n
+        → (pos p +ℤ (z *ℤ pos 1)) +ℤ pos (1 * 2 ^ 64) ≡ pos (p + n)
+    added z p n e = omega (arith, ints)
+
+-- sign-extended, the low 32 bits are the same
+pub extended_low : (f : ℕ) → extended f % 2 ^ 32 ≡ f % 2 ^ 32
+extended_low f =
+    let l = lifted f in
+    let low = l.low in
+    let rem = unsigned_rem (signed 32 f) l.number l.is in
+    omega arith
+
+-- the same of a number that isn't sign-extended
+number_is : (p f t : ℕ) → IsAddress (pos p +ℤ (pos f *ℤ pos 1)) t → sum_64 p f ≡ t
+number_is p f t h =
+    ap unsigned_abs (ap (λ z. int_rem_euclid z (pos (2 ^ 64)))
+    (let e : pos (p + f) ≡ pos p +ℤ (pos f *ℤ pos 1) = omega (arith, ints) in e) ∙ h)
+
+from_zero : (f : ℕ) → f % 2 ^ 64 ≡ sum_64 0 f
+from_zero f = omega arith
+
+-- ---- fields
+
+-- the rows of GOTPCRELX, GOTTPOFF, TLSGD, TLSLD, GOTPC32_TLSDESC, PC32, TPOFF32, DTPOFF32, TPOFF64,
+-- DTPOFF64, 32S and 32
+abbrev pub got_row : RelocationKindInfo
+got_row = signed_row 32 (bytes_row values.GotRelative 4)
+
+abbrev pub tls_got_row : RelocationKindInfo
+tls_got_row = signed_row 32 (bytes_row values.GotTpOff 4)
+
+abbrev pub tls_pair_row : RelocationKindInfo
+tls_pair_row = signed_row 32 (bytes_row values.TlsGd 4)
+
+abbrev pub tls_module_row : RelocationKindInfo
+tls_module_row = signed_row 32 (bytes_row values.TlsLd 4)
+
+abbrev pub descriptor_row : RelocationKindInfo
+descriptor_row = signed_row 32 (bytes_row values.TlsDesc 4)
+
+abbrev pub place_row : RelocationKindInfo
+place_row = signed_row 32 (bytes_row values.Relative 4)
+
+abbrev pub thread_row : RelocationKindInfo
+thread_row = signed_row 32 (bytes_row values.TpOff 4)
+
+abbrev pub block_row : RelocationKindInfo
+block_row = signed_row 32 (bytes_row values.DtpOff 4)
+
+abbrev pub long_thread_row : RelocationKindInfo
+long_thread_row = bytes_row values.TpOff 8
+
+abbrev pub long_block_row : RelocationKindInfo
+long_block_row = bytes_row values.DtpOff 8
+
+abbrev pub signed_immediate : RelocationKindInfo
+signed_immediate = signed_row 32 (bytes_row values.Absolute 4)
+
+abbrev pub unsigned_immediate : RelocationKindInfo
+unsigned_immediate = unsigned_row 32 (bytes_row values.Absolute 4)
+
+module _ (o : Operands) (addresses : AreAddresses o) (before after : List ℕ) where
+  pub entry_field : IsApplied got_row o before after
+      → sum_64 o.place (extended (number_of_bytes 4 after)) ≡ entry_and_addend o
+  entry_field applied =
+      computed o.place (number_of_bytes 4 after) (entry_and_addend o)
+      (field_adds entry_and_addend_from_place twos_complement (λ v old. refl) refl refl
+      (λ o. refl) o addresses 0 before after applied tt)
+
+  pub tls_entry_field : IsApplied tls_got_row o before after
+      → sum_64 o.place (extended (number_of_bytes 4 after)) ≡ entry_and_addend o
+  tls_entry_field applied =
+      computed o.place (number_of_bytes 4 after) (entry_and_addend o)
+      (field_adds entry_and_addend_from_place twos_complement (λ v old. refl) refl refl
+      (λ o. refl) o addresses 0 before after applied tt)
+
+  pub tls_pair_field : IsApplied tls_pair_row o before after
+      → sum_64 o.place (extended (number_of_bytes 4 after)) ≡ entry_and_addend o
+  tls_pair_field applied =
+      computed o.place (number_of_bytes 4 after) (entry_and_addend o)
+      (field_adds entry_and_addend_from_place twos_complement (λ v old. refl) refl refl
+      (λ o. refl) o addresses 0 before after applied tt)
+
+  pub tls_module_field : IsApplied tls_module_row o before after
+      → sum_64 o.place (extended (number_of_bytes 4 after)) ≡ entry_and_addend o
+  tls_module_field applied =
+      computed o.place (number_of_bytes 4 after) (entry_and_addend o)
+      (field_adds entry_and_addend_from_place twos_complement (λ v old. refl) refl refl
+      (λ o. refl) o addresses 0 before after applied tt)
+
+  pub descriptor_field : IsApplied descriptor_row o before after
+      → sum_64 o.place (extended (number_of_bytes 4 after)) ≡ entry_and_addend o
+  descriptor_field applied =
+      computed o.place (number_of_bytes 4 after) (entry_and_addend o)
+      (field_adds entry_and_addend_from_place twos_complement (λ v old. refl) refl refl
+      (λ o. refl) o addresses 0 before after applied tt)
+
+  pub place_field : IsApplied place_row o before after
+      → sum_64 o.place (extended (number_of_bytes 4 after)) ≡ symbol_address o
+  place_field applied =
+      computed o.place (number_of_bytes 4 after) (symbol_address o)
+      (field_adds symbol_from_place twos_complement (λ v old. refl) refl refl
+      (λ o. refl) o addresses 0 before after applied tt)
+
+  pub thread_field : IsApplied thread_row o before after
+      → sum_64 o.tls_base (extended (number_of_bytes 4 after)) ≡ symbol_address o
+  thread_field applied =
+      computed o.tls_base (number_of_bytes 4 after) (symbol_address o)
+      (field_adds symbol_from_tls twos_complement (λ v old. refl) refl refl
+      (λ o. refl) o addresses 0 before after applied tt)
+
+  pub block_field : IsApplied block_row o before after
+      → sum_64 o.tls_base (extended (number_of_bytes 4 after)) ≡ symbol_address o
+  block_field applied =
+      computed o.tls_base (number_of_bytes 4 after) (symbol_address o)
+      (field_adds symbol_from_tls twos_complement (λ v old. refl) refl refl
+      (λ o. refl) o addresses 0 before after applied tt)
+
+  pub long_thread_field : IsApplied long_thread_row o before after
+      → sum_64 o.tls_base (number_of_bytes 8 after) ≡ symbol_address o
+  long_thread_field applied =
+      number_is o.tls_base (number_of_bytes 8 after) (symbol_address o)
+      (whole_field_adds symbol_from_tls (λ v old. refl) (λ o. refl) o addresses 0 before after
+      applied tt)
+
+  pub long_block_field : IsApplied long_block_row o before after
+      → sum_64 o.tls_base (number_of_bytes 8 after) ≡ symbol_address o
+  long_block_field applied =
+      number_is o.tls_base (number_of_bytes 8 after) (symbol_address o)
+      (whole_field_adds symbol_from_tls (λ v old. refl) (λ o. refl) o addresses 0 before after
+      applied tt)
+
+  pub signed_field : IsApplied signed_immediate o before after
+      → sum_64 0 (extended (number_of_bytes 4 after)) ≡ symbol_address o
+  signed_field applied =
+      computed 0 (number_of_bytes 4 after) (symbol_address o)
+      (field_adds symbol_itself twos_complement (λ v old. refl) refl refl
+      (λ o. refl) o addresses 0 before after applied tt)
+
+  pub unsigned_field : IsApplied unsigned_immediate o before after
+      → number_of_bytes 4 after % 2 ^ 64 ≡ symbol_address o
+  unsigned_field applied =
+      from_zero (number_of_bytes 4 after)
+      ∙ number_is 0 (number_of_bytes 4 after) (symbol_address o)
+      (field_adds symbol_itself unsigned (λ v old. refl) refl refl
+      (λ o. refl) o addresses 0 before after applied tt)

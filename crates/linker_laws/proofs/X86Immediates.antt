@@ -1,0 +1,481 @@
+-- Operations on a number from the GOT, and on an immediate.
+use Rattle.std.proofs.Common.{◌≡◌, ℕ, suc, ◌+◌, ◌-◌, ◌*◌, ◌%◌, ◌^◌, ◌<◌, List, [], ◌∷◌, ◌++◌}
+use Rattle.std.proofs.Common.{drop, take, refl, sym, ◌∙◌, ap, arith, Some, subst, inl, inr}
+use Rattle.std.proofs.Common.{IsSomeAnd}
+use Rattle.std.proofs.Common.{IsTrue, true, pos, length, eqb, cond, get_or, drop-cons}
+use Rattle.std.specs.Int.{w64, cast_unsigned}
+use Rattle.std.proofs.lemmas.List.Elements.{All-drop}
+use Rattle.linker_base.specs.Rewrite.{rewritten, IsRewritable}
+use Rattle.linker_elf.specs.Relocate.{number_of_bytes}
+use Rattle.linker_elf.specs.Value.{sum_64, difference_64}
+use Rattle.linker_x86_64.specs.X86Rewrites as x86
+use Rattle.linker_x86_64.specs.X86Rewrites.{absolute, operand, prefixed_operand}
+use Rattle.linker_x86_64.specs.X86Rewrites.{original, rip_operand, with_rex, rex, with_rex2, rex2}
+use Rattle.linker_x86_64.specs.X86Rewrites.{is_one_at}
+use Rattle.linker_x86_64.specs.X86Rewrites.{plain}
+use Rattle.linker_elf.specs.declared.elf.value.Operands.{Operands}
+use Rattle.linker_elf.specs.Applied.{IsApplied}
+use Rattle.linker_laws.specs.Schemes.{AreAddresses}
+use Rattle.linker_laws.proofs.Sums.{difference_below}
+use Rattle.linker_laws.specs.X86RewriteLaws.{IsBefore, IsRelocatedBy, thread_offset}
+use Rattle.linker_laws.specs.X86Machine.{State, Prefix, Operation, Instruction, MOV, ADD, OR, ADC}
+use Rattle.linker_laws.specs.X86Machine.{SBB, AND, SUB, XOR, CMP, TEST, load, extended, reg_of}
+use Rattle.linker_laws.specs.X86Machine.{rex_prefix, rex2_prefix, no_prefix, operate, register}
+use Rattle.linker_laws.specs.X86Machine.{relative}
+use Rattle.linker_laws.specs.X86Machine.{immediate, decode, decode_opcode, step}
+use Rattle.linker_laws.specs.X86Machine.{execute, sized, operand_value, is_relative}
+use Rattle.linker_laws.specs.X86Machine.{immediate_operation}
+use Rattle.linker_laws.proofs.X86Bytes.{on_relative, after_rex, all_below, moved_test, modrm_byte}
+use Rattle.linker_laws.proofs.X86Bytes.{after_rex2}
+use Rattle.linker_laws.proofs.X86Codes.{pattern_there, immediate_codes, wide_codes}
+use Rattle.linker_laws.proofs.X86Codes.{rex_immediate_codes, rex2_immediate_codes}
+use Rattle.linker_laws.proofs.X86Decoding.{from_relative, from_immediate, after_rex_byte, lead_to}
+use Rattle.linker_laws.proofs.X86Decoding.{after_rex2_byte}
+use Rattle.linker_laws.proofs.X86Fields.{entry_field, tls_entry_field, signed_field, got_row}
+use Rattle.linker_laws.proofs.X86Fields.{unsigned_field, thread_field, tls_got_row, thread_row}
+use Rattle.linker_laws.proofs.X86Fields.{signed_immediate, unsigned_immediate, extended_low}
+use Rattle.linker_laws.proofs.X86Loads.{same_place, from_next, at_place, rex_size, rex2_size}
+use Rattle.linker_laws.proofs.X86Values.{IsSize, loaded, same_operation, same_test}
+
+-- ---- opcodes
+
+-- The instruction of an opcode with a relative address, and that of another with an extension and
+-- an immediate.
+pub record IsReplaced (opcode opcode' k number : ℕ) (op : Operation) : Type 0 where
+  pub instruction : Prefix → ℕ → ℕ → Instruction
+  pub plain : (rest : List ℕ)
+      → decode (opcode ∷ rest) ≡ decode_opcode no_prefix (opcode ∷ rest)
+  pub decoded : (p : Prefix) (m : ℕ) (rest : List ℕ) → is_relative m ≡ true
+      → decode_opcode p (opcode ∷ m ∷ rest)
+      ≡ sized p 6 (instruction p m (number_of_bytes 4 rest))
+  pub same : (s : State) (next m d i : ℕ) (p : Prefix)
+      → operand_value s next p.bits (relative d) ≡ operand_value s next p.bits (immediate i)
+      → execute (instruction p m d) next s
+      ≡ execute (operate op p.bits (register (reg_of m + p.reg)) (immediate i)) next s
+  pub plain' : (rest : List ℕ)
+      → decode (opcode' ∷ rest) ≡ decode_opcode no_prefix (opcode' ∷ rest)
+  pub moved : all_below 8 (moved_test k number) ≡ true
+  pub operation : immediate_operation opcode' number ≡ Some op
+
+pub mov : IsReplaced 0x8b 0xc7 0xc0 0 MOV
+mov =
+    record {
+      instruction = λ p m d. operate MOV p.bits (register (reg_of m + p.reg)) (relative d);
+      plain = λ rest. refl;
+      decoded = λ p m rest h. from_relative p 0x8b m rest h;
+      same = λ s next m d i p e. same_operation MOV s next p.bits (reg_of m + p.reg) d i e;
+      plain' = λ rest. refl;
+      moved = refl;
+      operation = refl;
+    }
+
+pub add : IsReplaced 0x03 0x81 0xc0 0 ADD
+add =
+    record {
+      instruction = λ p m d. operate ADD p.bits (register (reg_of m + p.reg)) (relative d);
+      plain = λ rest. refl;
+      decoded = λ p m rest h. from_relative p 0x03 m rest h;
+      same = λ s next m d i p e. same_operation ADD s next p.bits (reg_of m + p.reg) d i e;
+      plain' = λ rest. refl;
+      moved = refl;
+      operation = refl;
+    }
+
+pub or : IsReplaced 0x0b 0x81 0xc8 1 OR
+or =
+    record {
+      instruction = λ p m d. operate OR p.bits (register (reg_of m + p.reg)) (relative d);
+      plain = λ rest. refl;
+      decoded = λ p m rest h. from_relative p 0x0b m rest h;
+      same = λ s next m d i p e. same_operation OR s next p.bits (reg_of m + p.reg) d i e;
+      plain' = λ rest. refl;
+      moved = refl;
+      operation = refl;
+    }
+
+pub adc : IsReplaced 0x13 0x81 0xd0 2 ADC
+adc =
+    record {
+      instruction = λ p m d. operate ADC p.bits (register (reg_of m + p.reg)) (relative d);
+      plain = λ rest. refl;
+      decoded = λ p m rest h. from_relative p 0x13 m rest h;
+      same = λ s next m d i p e. same_operation ADC s next p.bits (reg_of m + p.reg) d i e;
+      plain' = λ rest. refl;
+      moved = refl;
+      operation = refl;
+    }
+
+pub sbb : IsReplaced 0x1b 0x81 0xd8 3 SBB
+sbb =
+    record {
+      instruction = λ p m d. operate SBB p.bits (register (reg_of m + p.reg)) (relative d);
+      plain = λ rest. refl;
+      decoded = λ p m rest h. from_relative p 0x1b m rest h;
+      same = λ s next m d i p e. same_operation SBB s next p.bits (reg_of m + p.reg) d i e;
+      plain' = λ rest. refl;
+      moved = refl;
+      operation = refl;
+    }
+
+pub and : IsReplaced 0x23 0x81 0xe0 4 AND
+and =
+    record {
+      instruction = λ p m d. operate AND p.bits (register (reg_of m + p.reg)) (relative d);
+      plain = λ rest. refl;
+      decoded = λ p m rest h. from_relative p 0x23 m rest h;
+      same = λ s next m d i p e. same_operation AND s next p.bits (reg_of m + p.reg) d i e;
+      plain' = λ rest. refl;
+      moved = refl;
+      operation = refl;
+    }
+
+pub sub : IsReplaced 0x2b 0x81 0xe8 5 SUB
+sub =
+    record {
+      instruction = λ p m d. operate SUB p.bits (register (reg_of m + p.reg)) (relative d);
+      plain = λ rest. refl;
+      decoded = λ p m rest h. from_relative p 0x2b m rest h;
+      same = λ s next m d i p e. same_operation SUB s next p.bits (reg_of m + p.reg) d i e;
+      plain' = λ rest. refl;
+      moved = refl;
+      operation = refl;
+    }
+
+pub xor : IsReplaced 0x33 0x81 0xf0 6 XOR
+xor =
+    record {
+      instruction = λ p m d. operate XOR p.bits (register (reg_of m + p.reg)) (relative d);
+      plain = λ rest. refl;
+      decoded = λ p m rest h. from_relative p 0x33 m rest h;
+      same = λ s next m d i p e. same_operation XOR s next p.bits (reg_of m + p.reg) d i e;
+      plain' = λ rest. refl;
+      moved = refl;
+      operation = refl;
+    }
+
+pub cmp : IsReplaced 0x3b 0x81 0xf8 7 CMP
+cmp =
+    record {
+      instruction = λ p m d. operate CMP p.bits (register (reg_of m + p.reg)) (relative d);
+      plain = λ rest. refl;
+      decoded = λ p m rest h. from_relative p 0x3b m rest h;
+      same = λ s next m d i p e. same_operation CMP s next p.bits (reg_of m + p.reg) d i e;
+      plain' = λ rest. refl;
+      moved = refl;
+      operation = refl;
+    }
+
+pub test : IsReplaced 0x85 0xf7 0xc0 0 TEST
+test =
+    record {
+      instruction = λ p m d. operate TEST p.bits (relative d) (register (reg_of m + p.reg));
+      plain = λ rest. refl;
+      decoded = λ p m rest h. from_relative p 0x85 m rest h;
+      same = λ s next m d i p e. same_test s next p.bits (reg_of m + p.reg) d i e;
+      plain' = λ rest. refl;
+      moved = refl;
+      operation = refl;
+    }
+
+-- ---- numbers
+
+-- the operands after the rewrite
+abbrev pub absolute_operands : ℕ → Operands → Operands
+absolute_operands o operands =
+    record operands { place = difference_64 (sum_64 operands.place o) o; addend = pos 0 }
+
+pub sum_zero : (a : ℕ) → a < 2 ^ 64 → sum_64 a 0 ≡ a
+sum_zero a small = omega arith
+
+zero_sum : (a t : ℕ) → sum_64 0 a ≡ t → a % 2 ^ 64 ≡ t
+zero_sum a t is = omega arith
+
+low_extended : (f number : ℕ) → f % 2 ^ 64 ≡ number → extended f % 2 ^ 32 ≡ number % 2 ^ 32
+low_extended f number is = let low = extended_low f in omega arith
+
+pub offset_is : (x symbol base : ℕ) → symbol < 2 ^ 64 → base < 2 ^ 64 → sum_64 base x ≡ symbol
+    → x % 2 ^ 64 ≡ difference_64 symbol base
+offset_is x symbol base small place is = omega arith
+
+of_size : (bits x number : ℕ) → IsSize bits → x % 2 ^ 64 ≡ number
+    → x % 2 ^ bits ≡ number % 2 ^ bits
+of_size bits x number size is =
+    elim size [
+      | inl e ↦ subst (λ bits. x % 2 ^ bits ≡ number % 2 ^ bits) (sym e)
+          (let same : x % 2 ^ 32 ≡ number % 2 ^ 32 = omega arith in same)
+      | inr e ↦ subst (λ bits. x % 2 ^ bits ≡ number % 2 ^ bits) (sym e)
+          (let same : x % 2 ^ 64 ≡ number % 2 ^ 64 = omega arith in same)
+    ]
+
+-- what fields say at an instruction that begins n bytes before them
+module _ (n : ℕ) (section : List ℕ) (o : ℕ) (operands : Operands) (s : State)
+    (before : IsBefore n section o operands s) where
+  addresses' : AreAddresses (absolute_operands o operands)
+  addresses' =
+      at_place operands (difference_64 (sum_64 operands.place o) o) (pos 0) before.addresses
+      (subst (λ p. p < 2 ^ 64)
+      (sym (same_place operands.place o before.addresses.place before.offset))
+      before.addresses.place)
+
+  pub entry : (bytes rest : List ℕ) → IsApplied got_row operands bytes rest
+      → sum_64 operands.place (extended (number_of_bytes 4 rest))
+      ≡ sum_64 operands.got_entry (2 ^ 64 - 4)
+  entry bytes rest applied =
+      entry_field operands before.addresses bytes rest applied
+      ∙ ap (λ a. sum_64 operands.got_entry (cast_unsigned w64 a)) before.addend
+
+  pub tls_entry : (bytes rest : List ℕ) → IsApplied tls_got_row operands bytes rest
+      → sum_64 operands.place (extended (number_of_bytes 4 rest))
+      ≡ sum_64 operands.got_entry (2 ^ 64 - 4)
+  tls_entry bytes rest applied =
+      tls_entry_field operands before.addresses bytes rest applied
+      ∙ ap (λ a. sum_64 operands.got_entry (cast_unsigned w64 a)) before.addend
+
+  short_immediate : (bytes rest : List ℕ)
+      → IsApplied unsigned_immediate (absolute_operands o operands) bytes rest
+      → extended (number_of_bytes 4 rest) % 2 ^ 32 ≡ operands.symbol % 2 ^ 32
+  short_immediate bytes rest applied =
+      low_extended (number_of_bytes 4 rest) operands.symbol
+      (unsigned_field (absolute_operands o operands) addresses' bytes rest applied
+      ∙ sum_zero operands.symbol before.addresses.symbol)
+
+  pub long_immediate : (bits : ℕ) → IsSize bits → (bytes rest : List ℕ)
+      → IsApplied signed_immediate (absolute_operands o operands) bytes rest
+      → extended (number_of_bytes 4 rest) % 2 ^ bits ≡ operands.symbol % 2 ^ bits
+  long_immediate bits size bytes rest applied =
+      of_size bits (extended (number_of_bytes 4 rest)) operands.symbol size
+      (zero_sum (extended (number_of_bytes 4 rest)) operands.symbol
+      (signed_field (absolute_operands o operands) addresses' bytes rest applied
+      ∙ sum_zero operands.symbol before.addresses.symbol))
+
+  pub offset_immediate : (bits : ℕ) → IsSize bits → (bytes rest : List ℕ)
+      → IsApplied thread_row (absolute_operands o operands) bytes rest
+      → extended (number_of_bytes 4 rest) % 2 ^ bits ≡ thread_offset operands % 2 ^ bits
+  offset_immediate bits size bytes rest applied =
+      of_size bits (extended (number_of_bytes 4 rest)) (thread_offset operands) size
+      (offset_is (extended (number_of_bytes 4 rest)) operands.symbol operands.tls_base
+      before.addresses.symbol before.addresses.tls_base
+      (thread_field (absolute_operands o operands) addresses' bytes rest applied
+      ∙ sum_zero operands.symbol before.addresses.symbol))
+
+-- ---- what both instructions do
+
+module _ {opcode opcode' k number : ℕ} {op : Operation}
+    (replaced : IsReplaced opcode opcode' k number op) (n : ℕ) (few : n < 8) (section : List ℕ)
+    (o : ℕ) (operands : Operands) (s : State) (before : IsBefore n section o operands s) (held : ℕ)
+    (small : held < 2 ^ 64) (holds : load 8 s operands.got_entry ≡ held) where
+  both : (old new rest rest' : List ℕ) (m : ℕ) → is_relative m ≡ true → (p p' : Prefix)
+      → p'.bits ≡ p.bits → p'.rm ≡ p.reg → p.size + 6 ≡ n + 4 → p'.size + 6 ≡ n + 4
+      → IsSize p.bits
+      → sum_64 operands.place (extended (number_of_bytes 4 rest))
+      ≡ sum_64 operands.got_entry (2 ^ 64 - 4)
+      → extended (number_of_bytes 4 rest') % 2 ^ p.bits ≡ held % 2 ^ p.bits
+      → decode old ≡ decode_opcode p (opcode ∷ m ∷ rest)
+      → decode new ≡ decode_opcode p' (opcode' ∷ x86.modrm_reg_to_rm k m ∷ rest')
+      → IsSomeAnd (step old s) (λ t. step new s ≡ Some t)
+  both old new rest rest' m by_ip p p' bits moved size size' sized leads value was is =
+      let f = number_of_bytes 4 rest in
+      let i = number_of_bytes 4 rest' in
+      let next = sum_64 s.ip (n + 4) in
+      let instruction' = operate op p'.bits (register (reg_of m + p'.rm)) (immediate i) in
+      lead_to old new (record { instruction = replaced.instruction p m f; size = n + 4 })
+      (record { instruction = instruction'; size = n + 4 }) s
+      (was ∙ replaced.decoded p m rest by_ip
+      ∙ ap (λ z. Some (record { instruction = replaced.instruction p m f; size = z })) size)
+      (is ∙ from_immediate p' opcode' k number m op rest' (modrm_byte k number m replaced.moved)
+      replaced.operation
+      ∙ ap (λ z. Some (record { instruction = instruction'; size = z })) size')
+      (replaced.same s next m f i p
+      (loaded s next p.bits f operands.got_entry held sized
+      (from_next n s.ip operands.place (extended f) operands.got_entry few before.addresses.place
+      before.addresses.got_entry before.ip leads) holds small ∙ sym value)
+      ∙ ap (λ b. execute (operate op b (register (reg_of m + p.reg)) (immediate i)) next s)
+      (sym bits)
+      ∙ ap (λ r. execute (operate op p'.bits (register (reg_of m + r)) (immediate i)) next s)
+      (sym moved))
+
+-- ---- the laws
+
+module _ {opcode opcode' k number : ℕ} {op : Operation}
+    (replaced : IsReplaced opcode opcode' k number op) (section old new : List ℕ) (o : ℕ)
+    (operands : Operands) (s : State) where
+  -- with no prefix
+  pub without_prefix : IsBefore 2 section o operands s
+      → IsTrue (is_one_at (plain opcode) section o)
+      → IsRewritable (absolute 2 (operand opcode' k)) section o
+      × IsTrue (is_one_at (plain opcode) section o)
+      → load 8 s operands.got_entry ≡ operands.symbol
+      → IsRelocatedBy got_row operands o section old
+      → IsRelocatedBy unsigned_immediate (absolute_operands o operands) o
+      (rewritten (Some (absolute 2 (operand opcode' k))) section o) new
+      → IsSomeAnd (step (drop (o - 2) old) s) (λ t. step (drop (o - 2) new) s ≡ Some t)
+  without_prefix before there matches holds was is =
+      let shape = pattern_there (original 2 (rip_operand opcode)) section o there in
+      let code = on_relative opcode (drop (o - 2) section)
+      (All-drop (λ b. b < 2 ^ 8) (o - 2) section before.bytes) shape.1 in
+      let codes = immediate_codes section old new was.rest is.rest o was.whole opcode code.modrm
+      opcode' k code.rest shape.0 code.is is.whole in
+      both replaced 2 (omega arith) section o operands s before operands.symbol
+      before.addresses.symbol holds (drop (o - 2) old) (drop (o - 2) new) was.rest is.rest
+      code.modrm code.relative no_prefix no_prefix refl refl refl refl (inl refl)
+      (entry 2 section o operands s before (drop o section) was.rest was.applied)
+      (short_immediate 2 section o operands s before
+      (drop o (rewritten (Some (absolute 2 (operand opcode' k))) section o)) is.rest is.applied)
+      (ap decode codes.0 ∙ replaced.plain (code.modrm ∷ was.rest))
+      (ap decode codes.1 ∙ replaced.plain' (x86.modrm_reg_to_rm k code.modrm ∷ is.rest))
+
+  -- the same by a rewrite that has the byte before the instruction in its window
+  pub within_window : IsBefore 2 section o operands s
+      → IsTrue (is_one_at (plain opcode) section o)
+      → IsRewritable (absolute 3 (prefixed_operand 2 opcode' k)) section o
+      × IsTrue (is_one_at (plain opcode) section o)
+      → load 8 s operands.got_entry ≡ operands.symbol
+      → IsRelocatedBy got_row operands o section old
+      → IsRelocatedBy unsigned_immediate (absolute_operands o operands) o
+      (rewritten (Some (absolute 3 (prefixed_operand 2 opcode' k))) section o) new
+      → IsSomeAnd (step (drop (o - 2) old) s) (λ t. step (drop (o - 2) new) s ≡ Some t)
+  within_window before there matches holds was is =
+      let room = matches.0.starts in
+      let inside = matches.0.ends in
+      let shape = pattern_there (original 2 (rip_operand opcode)) section o there in
+      let code = on_relative opcode (drop (o - 2) section)
+      (All-drop (λ b. b < 2 ^ 8) (o - 2) section before.bytes) shape.1 in
+      let front : drop (o - 3) section
+      ≡ get_or section (o - 3) 0 ∷ opcode ∷ code.modrm ∷ code.rest =
+      drop-cons section (o - 3) 0 (let e : o - 3 < length section = omega arith in e)
+      ∙ ap (λ i. get_or section (o - 3) 0 ∷ drop i section)
+      (let e : suc (o - 3) ≡ o - 2 = omega arith in e)
+      ∙ ap (λ xs. get_or section (o - 3) 0 ∷ xs) code.is in
+      let codes = wide_codes section old new was.rest is.rest o was.whole
+      (get_or section (o - 3) 0) opcode code.modrm opcode' k code.rest room front is.whole in
+      both replaced 2 (omega arith) section o operands s before operands.symbol
+      before.addresses.symbol holds (drop (o - 2) old) (drop (o - 2) new) was.rest is.rest
+      code.modrm code.relative no_prefix no_prefix refl refl refl refl (inl refl)
+      (entry 2 section o operands s before (drop o section) was.rest was.applied)
+      (short_immediate 2 section o operands s before
+      (drop o (rewritten (Some (absolute 3 (prefixed_operand 2 opcode' k))) section o)) is.rest
+      is.applied)
+      (ap decode codes.0 ∙ replaced.plain (code.modrm ∷ was.rest))
+      (ap decode codes.1 ∙ replaced.plain' (x86.modrm_reg_to_rm k code.modrm ∷ is.rest))
+
+  -- with REX, by what the fields come to
+  with_rex_of : (held : ℕ) → held < 2 ^ 64 → IsBefore 3 section o operands s
+      → IsTrue (is_one_at (with_rex rex opcode ∷ []) section o)
+      → load 8 s operands.got_entry ≡ held → (rest rest' : List ℕ) → old ≡ take o section ++ rest
+      → new ≡ take o (rewritten (Some (absolute 3 (prefixed_operand 3 opcode' k))) section o)
+      ++ rest'
+      → sum_64 operands.place (extended (number_of_bytes 4 rest))
+      ≡ sum_64 operands.got_entry (2 ^ 64 - 4)
+      → ((bits : ℕ) → IsSize bits
+      → extended (number_of_bytes 4 rest') % 2 ^ bits ≡ held % 2 ^ bits)
+      → IsSomeAnd (step (drop (o - 3) old) s) (λ t. step (drop (o - 3) new) s ≡ Some t)
+  with_rex_of held small before there holds rest rest' whole whole' leads value =
+      let shape = pattern_there (with_rex rex opcode) section o there in
+      let code = after_rex opcode (drop (o - 3) section)
+      (All-drop (λ b. b < 2 ^ 8) (o - 3) section before.bytes) shape.1 in
+      let p = code.prefix in
+      let m = code.after.modrm in
+      let codes = rex_immediate_codes section old new rest rest' o whole p opcode m opcode' k
+      code.after.rest shape.0 (code.is ∙ ap (λ xs. p ∷ xs) code.after.is) whole' in
+      let p' = x86.rex_r_to_b p in
+      both replaced 3 (omega arith) section o operands s before held small holds (drop (o - 3) old)
+      (drop (o - 3) new) rest rest' m code.after.relative (rex_prefix p) (rex_prefix p')
+      (ap (λ w. cond (eqb w 1) 64 32) code.is_rex.wide) (ap (λ r. 8 * r) code.is_rex.moved) refl refl
+      (rex_size p) leads (value (rex_prefix p).bits (rex_size p))
+      (ap decode codes.0 ∙ after_rex_byte p (opcode ∷ m ∷ rest) code.is_rex.is)
+      (ap decode codes.1
+      ∙ after_rex_byte p' (opcode' ∷ x86.modrm_reg_to_rm k m ∷ rest') code.is_rex.after)
+
+  pub with_rex_prefix : IsBefore 3 section o operands s
+      → IsTrue (is_one_at (with_rex rex opcode ∷ []) section o)
+      → IsRewritable (absolute 3 (prefixed_operand 3 opcode' k)) section o
+      × IsTrue (is_one_at (with_rex rex opcode ∷ []) section o)
+      → load 8 s operands.got_entry ≡ operands.symbol
+      → IsRelocatedBy got_row operands o section old
+      → IsRelocatedBy signed_immediate (absolute_operands o operands) o
+      (rewritten (Some (absolute 3 (prefixed_operand 3 opcode' k))) section o) new
+      → IsSomeAnd (step (drop (o - 3) old) s) (λ t. step (drop (o - 3) new) s ≡ Some t)
+  with_rex_prefix before there matches holds was is =
+      with_rex_of operands.symbol before.addresses.symbol before there holds was.rest is.rest
+      was.whole is.whole (entry 3 section o operands s before (drop o section) was.rest was.applied)
+      (λ bits size. long_immediate 3 section o operands s before bits size
+      (drop o (rewritten (Some (absolute 3 (prefixed_operand 3 opcode' k))) section o)) is.rest
+      is.applied)
+
+  pub of_thread : IsBefore 3 section o operands s
+      → IsTrue (is_one_at (with_rex rex opcode ∷ []) section o)
+      → IsRewritable (absolute 3 (prefixed_operand 3 opcode' k)) section o
+      × IsTrue (is_one_at (with_rex rex opcode ∷ []) section o)
+      → load 8 s operands.got_entry ≡ thread_offset operands
+      → IsRelocatedBy tls_got_row operands o section old
+      → IsRelocatedBy thread_row (absolute_operands o operands) o
+      (rewritten (Some (absolute 3 (prefixed_operand 3 opcode' k))) section o) new
+      → IsSomeAnd (step (drop (o - 3) old) s) (λ t. step (drop (o - 3) new) s ≡ Some t)
+  of_thread before there matches holds was is =
+      with_rex_of (thread_offset operands) (difference_below operands.symbol operands.tls_base)
+      before there holds was.rest is.rest was.whole is.whole
+      (tls_entry 3 section o operands s before (drop o section) was.rest was.applied)
+      (λ bits size. offset_immediate 3 section o operands s before bits size
+      (drop o (rewritten (Some (absolute 3 (prefixed_operand 3 opcode' k))) section o)) is.rest
+      is.applied)
+
+  -- with REX2, by what the fields come to
+  with_rex2_of : (held : ℕ) → held < 2 ^ 64 → IsBefore 4 section o operands s
+      → IsTrue (is_one_at (with_rex2 rex2 opcode ∷ []) section o)
+      → load 8 s operands.got_entry ≡ held → (rest rest' : List ℕ) → old ≡ take o section ++ rest
+      → new ≡ take o (rewritten (Some (absolute 3 (prefixed_operand 4 opcode' k))) section o)
+      ++ rest'
+      → sum_64 operands.place (extended (number_of_bytes 4 rest))
+      ≡ sum_64 operands.got_entry (2 ^ 64 - 4)
+      → ((bits : ℕ) → IsSize bits
+      → extended (number_of_bytes 4 rest') % 2 ^ bits ≡ held % 2 ^ bits)
+      → IsSomeAnd (step (drop (o - 4) old) s) (λ t. step (drop (o - 4) new) s ≡ Some t)
+  with_rex2_of held small before there holds rest rest' whole whole' leads value =
+      let shape = pattern_there (with_rex2 rex2 opcode) section o there in
+      let code = after_rex2 opcode (drop (o - 4) section)
+      (All-drop (λ b. b < 2 ^ 8) (o - 4) section before.bytes) shape.1 in
+      let p = code.prefix in
+      let m = code.after.modrm in
+      let codes = rex2_immediate_codes section old new rest rest' o whole p opcode m opcode' k
+      code.after.rest shape.0 (code.is ∙ ap (λ xs. 0xd5 ∷ p ∷ xs) code.after.is) whole' in
+      let p' = x86.rex2_r_to_b p in
+      both replaced 4 (omega arith) section o operands s before held small holds (drop (o - 4) old)
+      (drop (o - 4) new) rest rest' m code.after.relative (rex2_prefix p) (rex2_prefix p')
+      (ap (λ w. cond (eqb w 1) 64 32) code.is_rex2.wide) code.is_rex2.moved refl refl
+      (rex2_size p) leads (value (rex2_prefix p).bits (rex2_size p))
+      (ap decode codes.0 ∙ after_rex2_byte p (opcode ∷ m ∷ rest) code.is_rex2.is)
+      (ap decode codes.1
+      ∙ after_rex2_byte p' (opcode' ∷ x86.modrm_reg_to_rm k m ∷ rest') code.is_rex2.after)
+
+  pub with_rex2_prefix : IsBefore 4 section o operands s
+      → IsTrue (is_one_at (with_rex2 rex2 opcode ∷ []) section o)
+      → IsRewritable (absolute 3 (prefixed_operand 4 opcode' k)) section o
+      × IsTrue (is_one_at (with_rex2 rex2 opcode ∷ []) section o)
+      → load 8 s operands.got_entry ≡ operands.symbol
+      → IsRelocatedBy got_row operands o section old
+      → IsRelocatedBy signed_immediate (absolute_operands o operands) o
+      (rewritten (Some (absolute 3 (prefixed_operand 4 opcode' k))) section o) new
+      → IsSomeAnd (step (drop (o - 4) old) s) (λ t. step (drop (o - 4) new) s ≡ Some t)
+  with_rex2_prefix before there matches holds was is =
+      with_rex2_of operands.symbol before.addresses.symbol before there holds was.rest is.rest
+      was.whole is.whole (entry 4 section o operands s before (drop o section) was.rest was.applied)
+      (λ bits size. long_immediate 4 section o operands s before bits size
+      (drop o (rewritten (Some (absolute 3 (prefixed_operand 4 opcode' k))) section o)) is.rest
+      is.applied)
+
+  pub of_thread_with_rex2 : IsBefore 4 section o operands s
+      → IsTrue (is_one_at (with_rex2 rex2 opcode ∷ []) section o)
+      → IsRewritable (absolute 3 (prefixed_operand 4 opcode' k)) section o
+      × IsTrue (is_one_at (with_rex2 rex2 opcode ∷ []) section o)
+      → load 8 s operands.got_entry ≡ thread_offset operands
+      → IsRelocatedBy tls_got_row operands o section old
+      → IsRelocatedBy thread_row (absolute_operands o operands) o
+      (rewritten (Some (absolute 3 (prefixed_operand 4 opcode' k))) section o) new
+      → IsSomeAnd (step (drop (o - 4) old) s) (λ t. step (drop (o - 4) new) s ≡ Some t)
+  of_thread_with_rex2 before there matches holds was is =
+      with_rex2_of (thread_offset operands) (difference_below operands.symbol operands.tls_base)
+      before there holds was.rest is.rest was.whole is.whole
+      (tls_entry 4 section o operands s before (drop o section) was.rest was.applied)
+      (λ bits size. offset_immediate 4 section o operands s before bits size
+      (drop o (rewritten (Some (absolute 3 (prefixed_operand 4 opcode' k))) section o)) is.rest
+      is.applied)

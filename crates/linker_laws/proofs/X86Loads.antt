@@ -1,0 +1,159 @@
+-- Loads of addresses from the GOT, and `lea`.
+use Rattle.std.proofs.Common.{◌≡◌, ℕ, ◌+◌, ◌-◌, ◌^◌, ◌<◌, List, ◌∷◌, drop, refl}
+use Rattle.std.proofs.Common.{sym, ◌∙◌, ap, arith, Some, subst, inl, inr, IsSomeAnd, eqb, ℤ}
+use Rattle.std.proofs.Common.{if◌then◌else◌}
+use Rattle.std.specs.Int.{w64, cast_unsigned, bit_at}
+use Rattle.std.proofs.lemmas.List.Elements.{All-drop}
+use Rattle.std.proofs.lemmas.Bool.{cases_Bool, cond-true, cond-false}
+use Rattle.linker_elf.specs.Relocate.{number_of_bytes}
+use Rattle.linker_elf.specs.Value.{sum_64, difference_64}
+use Rattle.linker_elf.specs.Choices.{operands_after}
+use Rattle.linker_x86_64.specs.X86Rewrites.{x86_64_rewrite}
+use Rattle.linker_base.specs.Rewrite.{rewritten}
+use Rattle.linker_x86_64.specs.X86Rewrites.{legacy, original, rip_operand, with_rex, rex, with_rex2}
+use Rattle.linker_x86_64.specs.X86Rewrites.{rex2}
+use Rattle.linker_elf.specs.declared.elf.value.Operands.{Operands}
+use Rattle.linker_elf.specs.declared.x86_64.relocations.X86_64Relocation.TheVariants as names
+use Rattle.linker_x86_64.specs.declared.rewrites.RelaxationKind.TheVariants as kinds
+use Rattle.linker_elf.specs.Applied.{IsApplied}
+use Rattle.linker_laws.specs.Schemes.{AreAddresses}
+use Rattle.linker_laws.specs.X86RewriteLaws.{IsBefore, DoesTheSame, address}
+use Rattle.linker_laws.specs.X86Machine.{State, load, extended, reg_of, rex_prefix, no_prefix, MOV}
+use Rattle.linker_laws.specs.X86Machine.{rex2_prefix}
+use Rattle.linker_laws.specs.X86Machine.{operate, register, relative, lea, decode, step}
+use Rattle.linker_laws.proofs.X86Bytes.{on_relative, after_rex, after_rex2}
+use Rattle.linker_laws.proofs.X86Codes.{pattern_there, lea_codes, rex_lea_codes, rex2_lea_codes}
+use Rattle.linker_laws.proofs.X86Decoding.{from_relative, after_rex_byte, after_rex2_byte, lead_to}
+use Rattle.linker_laws.proofs.X86Fields.{entry_field, place_field, got_row, place_row}
+use Rattle.linker_laws.proofs.X86Values.{IsSize, loaded, same_load}
+
+-- ---- addresses
+
+pub same_place : (p o : ℕ) → p < 2 ^ 64 → o < 2 ^ 64 → difference_64 (sum_64 p o) o ≡ p
+same_place p o small offset = omega arith
+
+-- from the next instruction, which begins 4 bytes after the place of the field
+pub from_next : (n ip place e t : ℕ) → n < 8 → place < 2 ^ 64 → t < 2 ^ 64
+    → ip ≡ difference_64 place n → sum_64 place e ≡ sum_64 t (2 ^ 64 - 4)
+    → sum_64 (sum_64 ip (n + 4)) e ≡ t
+from_next n ip place e t short small target begins leads = omega arith
+
+-- the addresses among operands at another place
+pub at_place : (o : Operands) (p : ℕ) (a : ℤ) → AreAddresses o → p < 2 ^ 64
+    → AreAddresses (record o { place = p; addend = a })
+at_place o p a addresses small =
+    record {
+      symbol = addresses.symbol;
+      place = small;
+      got_entry = addresses.got_entry;
+      got_base = addresses.got_base;
+      plt_entry = addresses.plt_entry;
+      tls_base = addresses.tls_base;
+    }
+
+-- operands are of 32 or of 64 bits
+pub size_by : (w : ℕ) → IsSize (if eqb w 1 then 64 else 32)
+size_by w =
+    elim (cases_Bool (eqb w 1)) [
+      | inl wide ↦ inr (cond-true (eqb w 1) 64 32 wide)
+      | inr short ↦ inl (cond-false (eqb w 1) 64 32 short)
+    ]
+
+pub rex_size : (p : ℕ) → IsSize (rex_prefix p).bits
+rex_size p = size_by (bit_at p 3)
+
+pub rex2_size : (p : ℕ) → IsSize (rex2_prefix p).bits
+rex2_size p = size_by (bit_at p 3)
+
+-- ---- the law
+
+module _ (n : ℕ) (few : n < 8) (section : List ℕ) (o : ℕ) (operands : Operands) (s : State)
+    (before : IsBefore n section o operands s)
+    (held : load 8 s operands.got_entry ≡ operands.symbol) where
+  -- what both instructions do, by the code from their first bytes
+  both : (old new rest rest' : List ℕ) (bits r : ℕ) → IsSize bits
+      → IsApplied got_row operands (drop o section) rest
+      → IsApplied place_row (operands_after (x86_64_rewrite kinds.MovIndirectToLea) o operands)
+      (drop o (rewritten (x86_64_rewrite kinds.MovIndirectToLea) section o)) rest'
+      → decode old ≡ Some (record {
+        instruction = operate MOV bits (register r) (relative (number_of_bytes 4 rest));
+        size = n + 4;
+      })
+      → decode new ≡ Some (record {
+        instruction = lea bits r (number_of_bytes 4 rest');
+        size = n + 4;
+      })
+      → IsSomeAnd (step old s) (λ t. step new s ≡ Some t)
+  both old new rest rest' bits r size was is was_decoded is_decoded =
+      let place = operands.place in
+      let same = same_place place o before.addresses.place before.offset in
+      let f = number_of_bytes 4 rest in
+      let f' = number_of_bytes 4 rest' in
+      let after = operands_after (x86_64_rewrite kinds.MovIndirectToLea) o operands in
+      let addresses' = at_place operands (difference_64 (sum_64 place o) o) operands.addend
+      before.addresses (subst (λ p. p < 2 ^ 64) (sym same) before.addresses.place) in
+      let entry = entry_field operands before.addresses (drop o section) rest was
+      ∙ ap (λ a. sum_64 operands.got_entry (cast_unsigned w64 a)) before.addend in
+      let target = ap (λ p. sum_64 p (extended f')) (sym same)
+      ∙ place_field after addresses'
+      (drop o (rewritten (x86_64_rewrite kinds.MovIndirectToLea) section o)) rest' is
+      ∙ ap (λ a. sum_64 operands.symbol (cast_unsigned w64 a)) before.addend in
+      let next = sum_64 s.ip (n + 4) in
+      lead_to old new
+      (record { instruction = operate MOV bits (register r) (relative f); size = n + 4 })
+      (record { instruction = lea bits r f'; size = n + 4 }) s was_decoded is_decoded
+      (same_load s next bits r f f' operands.symbol
+      (loaded s next bits f operands.got_entry operands.symbol size
+      (from_next n s.ip place (extended f) operands.got_entry few before.addresses.place
+      before.addresses.got_entry before.ip entry) held before.addresses.symbol)
+      (from_next n s.ip place (extended f') operands.symbol few before.addresses.place
+      before.addresses.symbol before.ip target))
+
+pub without_prefix : DoesTheSame 2 (legacy 2 0x8b) names.R_X86_64_GOTPCRELX kinds.MovIndirectToLea
+    address
+without_prefix section old new o operands s before there matches held was is =
+    let shape = pattern_there (original 2 (rip_operand 0x8b)) section o there in
+    let d = drop (o - 2) section in
+    let code = on_relative 0x8b d (All-drop (λ b. b < 2 ^ 8) (o - 2) section before.bytes) shape.1 in
+    let codes = lea_codes section old new was.rest is.rest o was.whole 0x8b code.modrm code.rest
+    shape.0 code.is is.whole in
+    both 2 (omega arith) section o operands s before held (drop (o - 2) old) (drop (o - 2) new)
+    was.rest is.rest 32 (reg_of code.modrm + 0) (inl refl) was.applied is.applied
+    (ap decode codes.0 ∙ from_relative no_prefix 0x8b code.modrm was.rest code.relative)
+    (ap decode codes.1 ∙ from_relative no_prefix 0x8d code.modrm is.rest code.relative)
+
+pub with_rex_prefix : DoesTheSame 3 (legacy 3 0x8b) names.R_X86_64_REX_GOTPCRELX
+    kinds.MovIndirectToLea address
+with_rex_prefix section old new o operands s before there matches held was is =
+    let shape = pattern_there (with_rex rex 0x8b) section o there in
+    let d = drop (o - 3) section in
+    let code = after_rex 0x8b d (All-drop (λ b. b < 2 ^ 8) (o - 3) section before.bytes) shape.1 in
+    let p = code.prefix in
+    let m = code.after.modrm in
+    let codes = rex_lea_codes section old new was.rest is.rest o was.whole p 0x8b m code.after.rest
+    shape.0 (code.is ∙ ap (λ xs. p ∷ xs) code.after.is) is.whole in
+    both 3 (omega arith) section o operands s before held (drop (o - 3) old) (drop (o - 3) new)
+    was.rest is.rest (rex_prefix p).bits (reg_of m + (rex_prefix p).reg) (rex_size p) was.applied
+    is.applied
+    (ap decode codes.0 ∙ after_rex_byte p (0x8b ∷ m ∷ was.rest) code.is_rex.is
+    ∙ from_relative (rex_prefix p) 0x8b m was.rest code.after.relative)
+    (ap decode codes.1 ∙ after_rex_byte p (0x8d ∷ m ∷ is.rest) code.is_rex.is
+    ∙ from_relative (rex_prefix p) 0x8d m is.rest code.after.relative)
+
+pub with_rex2_prefix : DoesTheSame 4 (legacy 4 0x8b) names.R_X86_64_CODE_4_GOTPCRELX
+    kinds.MovIndirectToLea address
+with_rex2_prefix section old new o operands s before there matches held was is =
+    let shape = pattern_there (with_rex2 rex2 0x8b) section o there in
+    let d = drop (o - 4) section in
+    let code = after_rex2 0x8b d (All-drop (λ b. b < 2 ^ 8) (o - 4) section before.bytes) shape.1 in
+    let p = code.prefix in
+    let m = code.after.modrm in
+    let codes = rex2_lea_codes section old new was.rest is.rest o was.whole p 0x8b m
+    code.after.rest shape.0 (code.is ∙ ap (λ xs. 0xd5 ∷ p ∷ xs) code.after.is) is.whole in
+    both 4 (omega arith) section o operands s before held (drop (o - 4) old) (drop (o - 4) new)
+    was.rest is.rest (rex2_prefix p).bits (reg_of m + (rex2_prefix p).reg) (rex2_size p)
+    was.applied is.applied
+    (ap decode codes.0 ∙ after_rex2_byte p (0x8b ∷ m ∷ was.rest) code.is_rex2.is
+    ∙ from_relative (rex2_prefix p) 0x8b m was.rest code.after.relative)
+    (ap decode codes.1 ∙ after_rex2_byte p (0x8d ∷ m ∷ is.rest) code.is_rex2.is
+    ∙ from_relative (rex2_prefix p) 0x8d m is.rest code.after.relative)

@@ -1,0 +1,291 @@
+-- The laws of AArch64.
+use Rattle.std.proofs.Common.{refl, ap, arith, None, Some, ◌≡◌, ℕ, ◌^◌, ◌<◌}
+use Rattle.std.specs.Int.{w64, cast_signed, cast_unsigned}
+use Rattle.linker_elf.specs.Value.{sum_64, difference_64}
+use Rattle.linker_elf.specs.declared.elf.value.Operands.{Operands}
+use Rattle.linker_elf.specs.declared.aarch64.relocations.AArch64Relocation.TheVariants as names
+use Rattle.linker_elf.proofs.RowsAgree.{aarch64_rows}
+use Rattle.linker_laws.specs.Schemes.{AreAddresses, none, symbol_address, place}
+use Rattle.linker_elf.specs.Elf.{bit_bounds}
+use Rattle.linker_elf.specs.declared.aarch64.forms.AArch64Instruction.TheVariants.{Add, LdSt, LdrRegister}
+use Rattle.linker_elf.specs.declared.elf.Sign.TheVariants.{Signed}
+use Rattle.linker_laws.proofs.Fields.{holds_distance}
+use Rattle.linker_laws.proofs.Instructions.{entry_and_addend_from_place, symbol_from_got}
+use Rattle.linker_laws.proofs.Instructions.{adds, symbol_from_place, plt_from_place}
+use Rattle.linker_laws.proofs.Instructions.{entry_from_place, entry_from_got, entry_from}
+use Rattle.linker_laws.proofs.Instructions.{symbol_from_tls, symbol_itself, symbol_small}
+use Rattle.linker_laws.proofs.Instructions.{entry_sum_small, entry_is, relative, same_distance}
+use Rattle.linker_laws.proofs.Moves.{moves1, moves2, moves3, moves4, movz_first, movn_first}
+use Rattle.linker_laws.proofs.Moves.{movn_highest, movz_highest}
+use Rattle.linker_laws.proofs.Pages.{pages, high_and_low_parts, IsUnsigned, got_page_small}
+use Rattle.linker_laws.proofs.Sums.{difference_below}
+use Rattle.linker_laws.specs.AArch64RelocationLaws.{got_page, movz, movn_or_movz, has_shift}
+use Rattle.linker_laws.proofs.aarch64.Goals as goal
+
+add_is : IsUnsigned Add
+add_is = (refl, refl, refl, λ c x. refl)
+
+ldst_is : IsUnsigned LdSt
+ldst_is = (refl, refl, refl, λ c x. refl)
+
+ldr_is : IsUnsigned LdrRegister
+ldr_is = (refl, refl, refl, λ c x. refl)
+
+pub returns-clause-relative : goal.returns-clause-relative
+returns-clause-relative c = (
+  (
+    pages symbol_small (λ o small. refl) Add add_is 0 (omega arith) _ None (bit_bounds 33 Signed)
+        (λ v r w. r) refl (λ o small. refl) (λ o small at. refl),
+    pages symbol_small (λ o small. refl) LdSt ldst_is 0 (omega arith) _ None (bit_bounds 33 Signed)
+        (λ v r w. r) refl (λ o small. refl) (λ o small at. refl),
+    pages symbol_small (λ o small. refl) LdSt ldst_is 1 (omega arith) _ None (bit_bounds 33 Signed)
+        (λ v r w. r) refl (λ o small. refl) (λ o small at. refl),
+    pages symbol_small (λ o small. refl) LdSt ldst_is 2 (omega arith) _ None (bit_bounds 33 Signed)
+        (λ v r w. r) refl (λ o small. refl) (λ o small at. refl),
+    pages symbol_small (λ o small. refl) LdSt ldst_is 3 (omega arith) _ None (bit_bounds 33 Signed)
+        (λ v r w. r) refl (λ o small. refl) (λ o small at. refl),
+    pages symbol_small (λ o small. refl) LdSt ldst_is 4 (omega arith) _ None (bit_bounds 33 Signed)
+        (λ v r w. r) refl (λ o small. refl) (λ o small at. refl),
+  ),
+  (
+    pages symbol_small (λ o small. refl) Add add_is 0 (omega arith) _
+        (Some (bit_bounds 33 Signed)) (bit_bounds 33 Signed)
+        (λ v r w. w) refl (λ o small. refl) (λ o small at. refl),
+    pages symbol_small (λ o small. refl) LdSt ldst_is 0 (omega arith) _
+        (Some (bit_bounds 33 Signed)) (bit_bounds 33 Signed)
+        (λ v r w. w) refl (λ o small. refl) (λ o small at. refl),
+    pages symbol_small (λ o small. refl) LdSt ldst_is 1 (omega arith) _
+        (Some (bit_bounds 33 Signed)) (bit_bounds 33 Signed)
+        (λ v r w. w) refl (λ o small. refl) (λ o small at. refl),
+    pages symbol_small (λ o small. refl) LdSt ldst_is 2 (omega arith) _
+        (Some (bit_bounds 33 Signed)) (bit_bounds 33 Signed)
+        (λ v r w. w) refl (λ o small. refl) (λ o small at. refl),
+    pages symbol_small (λ o small. refl) LdSt ldst_is 3 (omega arith) _
+        (Some (bit_bounds 33 Signed)) (bit_bounds 33 Signed)
+        (λ v r w. w) refl (λ o small. refl) (λ o small at. refl),
+    pages symbol_small (λ o small. refl) LdSt ldst_is 4 (omega arith) _
+        (Some (bit_bounds 33 Signed)) (bit_bounds 33 Signed)
+        (λ v r w. w) refl (λ o small. refl) (λ o small at. refl),
+  ),
+)
+
+pub returns-clause-entries : goal.returns-clause-entries
+returns-clause-entries c = (
+  pages entry_sum_small entry_is LdSt ldst_is 3 (omega arith) _ None (bit_bounds 33 Signed)
+      (λ v r w. r) refl (λ o small. refl) (λ o small at. refl),
+  pages entry_sum_small entry_is Add add_is 0 (omega arith) _ None (bit_bounds 33 Signed)
+      (λ v r w. r) refl (λ o small. refl) (λ o small at. refl),
+  pages entry_sum_small entry_is Add add_is 0 (omega arith) _ None (bit_bounds 33 Signed)
+      (λ v r w. r) refl (λ o small. refl) (λ o small at. refl),
+  pages entry_sum_small entry_is LdrRegister ldr_is 3 (omega arith) _ None (bit_bounds 33 Signed)
+      (λ v r w. r) refl (λ o small. refl) (λ o small at. refl),
+  pages entry_sum_small entry_is LdrRegister ldr_is 3 (omega arith) _ None (bit_bounds 33 Signed)
+      (λ v r w. r) refl (λ o small. refl) (λ o small at. refl),
+  pages entry_sum_small entry_is Add add_is 0 (omega arith) _ None (bit_bounds 33 Signed)
+      (λ v r w. r) refl (λ o small. refl) (λ o small at. refl),
+)
+
+pub returns-clause-thread : goal.returns-clause-thread
+returns-clause-thread c = (
+  high_and_low_parts symbol_from_tls (λ o. difference_below _ _) Add add_is 0 (omega arith) _
+      refl refl (λ o small. refl) (λ o small at. refl),
+  high_and_low_parts symbol_from_tls (λ o. difference_below _ _) LdSt ldst_is 0 (omega arith) _
+      refl refl (λ o small. refl) (λ o small at. refl),
+  high_and_low_parts symbol_from_tls (λ o. difference_below _ _) LdSt ldst_is 1 (omega arith) _
+      refl refl (λ o small. refl) (λ o small at. refl),
+  high_and_low_parts symbol_from_tls (λ o. difference_below _ _) LdSt ldst_is 2 (omega arith) _
+      refl refl (λ o small. refl) (λ o small at. refl),
+  high_and_low_parts symbol_from_tls (λ o. difference_below _ _) LdSt ldst_is 3 (omega arith) _
+      refl refl (λ o small. refl) (λ o small at. refl),
+  high_and_low_parts symbol_from_tls (λ o. difference_below _ _) LdSt ldst_is 4 (omega arith) _
+      refl refl (λ o small. refl) (λ o small at. refl),
+  adds symbol_from_tls refl refl (λ o. refl),
+  adds symbol_from_tls refl refl (λ o. refl),
+  adds symbol_from_tls refl refl (λ o. refl),
+  adds symbol_from_tls refl refl (λ o. refl),
+  adds symbol_from_tls refl refl (λ o. refl),
+  adds symbol_from_tls refl refl (λ o. refl),
+)
+
+pub returns-clause-module : goal.returns-clause-module
+returns-clause-module c = (
+  high_and_low_parts symbol_from_tls (λ o. difference_below _ _) Add add_is 0 (omega arith) _
+      refl refl (λ o small. refl) (λ o small at. refl),
+  high_and_low_parts symbol_from_tls (λ o. difference_below _ _) LdSt ldst_is 0 (omega arith) _
+      refl refl (λ o small. refl) (λ o small at. refl),
+  high_and_low_parts symbol_from_tls (λ o. difference_below _ _) LdSt ldst_is 1 (omega arith) _
+      refl refl (λ o small. refl) (λ o small at. refl),
+  high_and_low_parts symbol_from_tls (λ o. difference_below _ _) LdSt ldst_is 2 (omega arith) _
+      refl refl (λ o small. refl) (λ o small at. refl),
+  high_and_low_parts symbol_from_tls (λ o. difference_below _ _) LdSt ldst_is 3 (omega arith) _
+      refl refl (λ o small. refl) (λ o small at. refl),
+  high_and_low_parts symbol_from_tls (λ o. difference_below _ _) LdSt ldst_is 4 (omega arith) _
+      refl refl (λ o small. refl) (λ o small at. refl),
+  adds symbol_from_tls refl refl (λ o. refl),
+  adds symbol_from_tls refl refl (λ o. refl),
+  adds symbol_from_tls refl refl (λ o. refl),
+  adds symbol_from_tls refl refl (λ o. refl),
+  adds symbol_from_tls refl refl (λ o. refl),
+  adds symbol_from_tls refl refl (λ o. refl),
+)
+
+pub returns-clause-branches : goal.returns-clause-branches
+returns-clause-branches c = (
+  adds plt_from_place refl refl (λ o. refl),
+  adds plt_from_place refl refl (λ o. refl),
+  adds symbol_from_place refl refl (λ o. refl),
+  adds symbol_from_place refl refl (λ o. refl),
+)
+
+pub returns-clause-literals : goal.returns-clause-literals
+returns-clause-literals c = (
+  adds symbol_from_place refl refl (λ o. refl),
+  adds symbol_from_place refl refl (λ o. refl),
+  adds entry_from_place refl refl (λ o. refl),
+  adds entry_from_place refl refl (λ o. refl),
+  adds entry_from_place refl refl (λ o. refl),
+  adds entry_from_place refl refl (λ o. refl),
+  adds entry_from_place refl refl (λ o. refl),
+  adds entry_from_place refl refl (λ o. refl),
+  adds entry_from_place refl refl (λ o. refl),
+)
+
+pub returns-clause-from_got : goal.returns-clause-from_got
+returns-clause-from_got c = (
+  adds entry_from_got refl refl (λ o. refl),
+  adds (entry_from got_page got_page_small) refl refl (λ o. refl),
+)
+
+-- the value of a move so many bytes on
+moved : (n : ℕ) → n < 2 ^ 64 → (o : Operands) → AreAddresses o → (at : ℕ)
+    → Some (cast_signed w64
+    (difference_64 (sum_64 (sum_64 (sum_64 o.symbol n) (cast_unsigned w64 o.addend)) 0)
+    (sum_64 o.place n)))
+    ≡ Some (cast_signed w64 (relative symbol_address place o))
+moved n few o small at = ap (λ d. Some (cast_signed w64 d)) (same_distance n o small few)
+
+pub returns-clause-unsigned_moves : goal.returns-clause-unsigned_moves
+returns-clause-unsigned_moves c = (
+  moves1 symbol_itself _ none (movz 0)
+      (movz_first 0 symbol_itself (omega arith) refl refl (λ o. refl)),
+  moves2 symbol_itself _ none (movz 16)
+      (movz_first 16 symbol_itself (omega arith) refl refl (λ o. refl)) _ (λ o small at. refl),
+  moves3 symbol_itself _ none (movz 32)
+      (movz_first 32 symbol_itself (omega arith) refl refl (λ o. refl)) _ _
+      (λ o small at. refl) (λ o small at. refl),
+  moves4 symbol_itself _ none (movz 48) (movz_highest symbol_itself (λ o. refl)) _ _ _
+      (λ o small at. refl) (λ o small at. refl) (λ o small at. refl),
+)
+
+pub returns-clause-signed_moves : goal.returns-clause-signed_moves
+returns-clause-signed_moves c = (
+  moves1 symbol_itself _ (has_shift 0) movn_or_movz
+      (movn_first 0 symbol_itself refl (aarch64_rows names.R_AARCH64_MOVW_SABS_G0).1
+      (λ o. refl)),
+  moves2 symbol_itself _ (has_shift 16) movn_or_movz
+      (movn_first 16 symbol_itself refl (aarch64_rows names.R_AARCH64_MOVW_SABS_G1).1
+      (λ o. refl))
+      _ (λ o small at. refl),
+  moves3 symbol_itself _ (has_shift 32) movn_or_movz
+      (movn_first 32 symbol_itself refl (aarch64_rows names.R_AARCH64_MOVW_SABS_G2).1
+      (λ o. refl))
+      _ _ (λ o small at. refl) (λ o small at. refl),
+)
+
+pub returns-clause-relative_moves : goal.returns-clause-relative_moves
+returns-clause-relative_moves c = (
+  moves1 symbol_from_place _ (has_shift 0) movn_or_movz
+      (movn_first 0 symbol_from_place refl (aarch64_rows names.R_AARCH64_MOVW_PREL_G0).1
+      (λ o. refl)),
+  moves2 symbol_from_place _ (has_shift 16) movn_or_movz
+      (movn_first 16 symbol_from_place refl (aarch64_rows names.R_AARCH64_MOVW_PREL_G1).1
+      (λ o. refl))
+      _ (moved 4 (omega arith)),
+  moves3 symbol_from_place _ (has_shift 32) movn_or_movz
+      (movn_first 32 symbol_from_place refl (aarch64_rows names.R_AARCH64_MOVW_PREL_G2).1
+      (λ o. refl))
+      _ _ (moved 4 (omega arith)) (moved 8 (omega arith)),
+  moves4 symbol_from_place _ (has_shift 48) movn_or_movz
+      (movn_highest symbol_from_place refl (aarch64_rows names.R_AARCH64_MOVW_PREL_G3).1
+      (λ o. refl))
+      _ _ _ (moved 4 (omega arith)) (moved 8 (omega arith)) (moved 12 (omega arith)),
+)
+
+pub returns-clause-got_moves : goal.returns-clause-got_moves
+returns-clause-got_moves c = (
+  moves1 entry_from_got _ (has_shift 0) movn_or_movz
+      (movn_first 0 entry_from_got refl (aarch64_rows names.R_AARCH64_MOVW_GOTOFF_G0).1
+      (λ o. refl)),
+  moves2 entry_from_got _ (has_shift 16) movn_or_movz
+      (movn_first 16 entry_from_got refl (aarch64_rows names.R_AARCH64_MOVW_GOTOFF_G1).1
+      (λ o. refl))
+      _ (λ o small at. refl),
+  moves3 entry_from_got _ (has_shift 32) movn_or_movz
+      (movn_first 32 entry_from_got refl (aarch64_rows names.R_AARCH64_MOVW_GOTOFF_G2).1
+      (λ o. refl))
+      _ _ (λ o small at. refl) (λ o small at. refl),
+  moves4 entry_from_got _ (has_shift 48) movn_or_movz
+      (movn_highest entry_from_got refl (aarch64_rows names.R_AARCH64_MOVW_GOTOFF_G3).1
+      (λ o. refl))
+      _ _ _ (λ o small at. refl) (λ o small at. refl) (λ o small at. refl),
+  moves2 entry_from_got _ (has_shift 16) movn_or_movz
+      (movn_first 16 entry_from_got refl (aarch64_rows names.R_AARCH64_TLSGD_MOVW_G1).1
+      (λ o. refl))
+      _ (λ o small at. refl),
+  moves2 entry_from_got _ (has_shift 16) movn_or_movz
+      (movn_first 16 entry_from_got refl (aarch64_rows names.R_AARCH64_TLSLD_MOVW_G1).1
+      (λ o. refl))
+      _ (λ o small at. refl),
+  moves2 entry_from_got _ (has_shift 16) movn_or_movz
+      (movn_first 16 entry_from_got refl (aarch64_rows names.R_AARCH64_TLSIE_MOVW_GOTTPREL_G1).1
+      (λ o. refl))
+      _ (λ o small at. refl),
+  moves2 entry_from_got _ (has_shift 16) movn_or_movz
+      (movn_first 16 entry_from_got refl (aarch64_rows names.R_AARCH64_TLSDESC_OFF_G1).1
+      (λ o. refl))
+      _ (λ o small at. refl),
+)
+
+pub returns-clause-thread_moves : goal.returns-clause-thread_moves
+returns-clause-thread_moves c = (
+  (
+    moves1 symbol_from_tls _ (has_shift 0) movn_or_movz
+        (movn_first 0 symbol_from_tls refl (aarch64_rows names.R_AARCH64_TLSLE_MOVW_TPREL_G0).1
+        (λ o. refl)),
+    moves2 symbol_from_tls _ (has_shift 16) movn_or_movz
+        (movn_first 16 symbol_from_tls refl (aarch64_rows names.R_AARCH64_TLSLE_MOVW_TPREL_G1).1
+        (λ o. refl))
+        _ (λ o small at. refl),
+    moves3 symbol_from_tls _ (has_shift 32) movn_or_movz
+        (movn_first 32 symbol_from_tls refl (aarch64_rows names.R_AARCH64_TLSLE_MOVW_TPREL_G2).1
+        (λ o. refl))
+        _ _ (λ o small at. refl) (λ o small at. refl),
+  ),
+  (
+    moves1 symbol_from_tls _ (has_shift 0) movn_or_movz
+        (movn_first 0 symbol_from_tls refl (aarch64_rows names.R_AARCH64_TLSLD_MOVW_DTPREL_G0).1
+        (λ o. refl)),
+    moves2 symbol_from_tls _ (has_shift 16) movn_or_movz
+        (movn_first 16 symbol_from_tls refl (aarch64_rows names.R_AARCH64_TLSLD_MOVW_DTPREL_G1).1
+        (λ o. refl))
+        _ (λ o small at. refl),
+    moves3 symbol_from_tls _ (has_shift 32) movn_or_movz
+        (movn_first 32 symbol_from_tls refl (aarch64_rows names.R_AARCH64_TLSLD_MOVW_DTPREL_G2).1
+        (λ o. refl))
+        _ _ (λ o small at. refl) (λ o small at. refl),
+  ),
+)
+
+pub returns-clause-fields : goal.returns-clause-fields
+returns-clause-fields c = (
+  holds_distance symbol_itself (omega arith) (λ v old. refl) (λ o. refl),
+  holds_distance symbol_itself (omega arith) (λ v old. refl) (λ o. refl),
+  holds_distance symbol_itself (omega arith) (λ v old. refl) (λ o. refl),
+  holds_distance symbol_from_place (omega arith) (λ v old. refl) (λ o. refl),
+  holds_distance symbol_from_place (omega arith) (λ v old. refl) (λ o. refl),
+  holds_distance symbol_from_place (omega arith) (λ v old. refl) (λ o. refl),
+  holds_distance plt_from_place (omega arith) (λ v old. refl) (λ o. refl),
+  holds_distance symbol_from_got (omega arith) (λ v old. refl) (λ o. refl),
+  holds_distance symbol_from_got (omega arith) (λ v old. refl) (λ o. refl),
+  holds_distance entry_and_addend_from_place (omega arith) (λ v old. refl) (λ o. refl),
+)

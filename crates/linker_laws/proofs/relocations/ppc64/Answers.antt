@@ -1,0 +1,150 @@
+-- The laws of PowerPC64.
+use Rattle.std.proofs.Common.{◌≡◌, refl, ap, arith, Some}
+use Rattle.std.specs.Int.{w64, cast_signed}
+use Rattle.linker_elf.specs.Value.{sum_64, difference_64}
+use Rattle.linker_elf.specs.declared.ppc64.forms.Ppc64Instruction.TheVariants.{D, Ds}
+use Rattle.linker_elf.specs.declared.elf.value.Operands.{Operands}
+use Rattle.linker_laws.specs.Schemes.{symbol_address, got_base, tls_base, place, AreAddresses, plt_address}
+use Rattle.linker_laws.specs.Schemes.{entry_address}
+use Rattle.linker_laws.proofs.Fields.{holds_distance}
+use Rattle.linker_laws.proofs.Instructions.{adds, symbol_from_place, symbol_from_got}
+use Rattle.linker_laws.proofs.Instructions.{symbol_from_tls, symbol_itself, entry_from_place}
+use Rattle.linker_laws.proofs.Instructions.{entry_from_got, entry_sum, place_small, got_small, plt_from_got}
+use Rattle.linker_laws.proofs.Instructions.{plt_from_place}
+use Rattle.linker_laws.proofs.Instructions.{tls_small, same_distance, relative, entry_is}
+use Rattle.linker_laws.proofs.Halves.{adjusted_halves, high_half, unadjusted_halves, d_reads}
+use Rattle.linker_laws.proofs.Halves.{ds_reads}
+use Rattle.linker_laws.proofs.Halves.{relative_rounds, absolute_rounds, unrounded}
+use Rattle.linker_laws.proofs.Sums.{difference_below, sum_below}
+use Rattle.linker_laws.proofs.ppc64.Goals as goal
+
+pub returns-clause-absolute : goal.returns-clause-absolute
+returns-clause-absolute c = (
+  adjusted_halves symbol_itself (absolute_rounds 0x8000 symbol_address)
+      D d_reads _ refl refl
+      (λ o. refl) (λ o small at. refl),
+  adjusted_halves symbol_itself (absolute_rounds 0x8000 symbol_address)
+      Ds ds_reads _ refl refl
+      (λ o. refl) (λ o small at. refl),
+  unadjusted_halves symbol_itself (unrounded _ (λ o. sum_below _ _)) _ refl refl
+      (λ o. refl) (λ o small at. refl),
+)
+
+pub returns-clause-relative : goal.returns-clause-relative
+returns-clause-relative c =
+    adjusted_halves symbol_from_place (relative_rounds 0x8000 place symbol_address place_small)
+    D d_reads _ refl refl
+    (λ o. refl) (λ o small at.
+    ap (λ n. Some (cast_signed w64 n)) (same_distance 4 o small (omega arith)))
+
+pub returns-clause-toc : goal.returns-clause-toc
+returns-clause-toc c = (
+  adjusted_halves symbol_from_got (relative_rounds 0x8000 got_base symbol_address got_small)
+      D d_reads _ refl refl
+      (λ o. refl) (λ o small at. refl),
+  adjusted_halves symbol_from_got (relative_rounds 0x8000 got_base symbol_address got_small)
+      Ds ds_reads _ refl refl
+      (λ o. refl) (λ o small at. refl),
+)
+
+pub returns-clause-entries : goal.returns-clause-entries
+returns-clause-entries c = (
+  adjusted_halves entry_from_got (relative_rounds 0x8000 got_base entry_sum got_small)
+      Ds ds_reads _ refl refl
+      (λ o. refl) (λ o small at. refl),
+  adjusted_halves entry_from_got (relative_rounds 0x8000 got_base entry_sum got_small)
+      D d_reads _ refl refl
+      (λ o. refl) (λ o small at. refl),
+  adjusted_halves entry_from_got (relative_rounds 0x8000 got_base entry_sum got_small)
+      D d_reads _ refl refl
+      (λ o. refl) (λ o small at. refl),
+  unadjusted_halves entry_from_got (unrounded _ (λ o. difference_below _ _)) _ refl refl
+      (λ o. refl) (λ o small at. refl),
+  unadjusted_halves entry_from_got (unrounded _ (λ o. difference_below _ _)) _ refl refl
+      (λ o. refl) (λ o small at. refl),
+)
+
+pub returns-clause-got : goal.returns-clause-got
+returns-clause-got c = (
+  adjusted_halves entry_from_got (relative_rounds 0x8000 got_base entry_sum got_small)
+      Ds ds_reads _ refl refl
+      (λ o. refl) (λ o small at. refl),
+  adjusted_halves plt_from_got (relative_rounds 0x8000 got_base plt_address got_small)
+      Ds ds_reads _ refl refl
+      (λ o. refl) (λ o small at. refl),
+)
+
+pub returns-clause-thread : goal.returns-clause-thread
+returns-clause-thread c = (
+  adjusted_halves symbol_from_tls (relative_rounds 0x8000 tls_base symbol_address tls_small)
+      D d_reads _ refl refl
+      (λ o. refl) (λ o small at. refl),
+  adjusted_halves symbol_from_tls (relative_rounds 0x8000 tls_base symbol_address tls_small)
+      Ds ds_reads _ refl refl
+      (λ o. refl) (λ o small at. refl),
+  adjusted_halves symbol_from_tls (relative_rounds 0x8000 tls_base symbol_address tls_small)
+      D d_reads _ refl refl
+      (λ o. refl) (λ o small at. refl),
+  adjusted_halves symbol_from_tls (relative_rounds 0x8000 tls_base symbol_address tls_small)
+      Ds ds_reads _ refl refl
+      (λ o. refl) (λ o small at. refl),
+  unadjusted_halves symbol_from_tls (unrounded _ (λ o. difference_below _ _)) _ refl refl
+      (λ o. refl) (λ o small at. refl),
+  unadjusted_halves symbol_from_tls (unrounded _ (λ o. difference_below _ _)) _ refl refl
+      (λ o. refl) (λ o small at. refl),
+)
+
+pub returns-clause-branches : goal.returns-clause-branches
+returns-clause-branches c = (
+  adds symbol_from_place refl refl (λ o. refl),
+  adds symbol_from_place refl refl (λ o. refl),
+  adds symbol_from_place refl refl (λ o. refl),
+)
+
+pub returns-clause-prefixed : goal.returns-clause-prefixed
+returns-clause-prefixed c = (
+  adds symbol_from_place refl refl (λ o. refl),
+  adds entry_from_place refl refl (λ o. refl),
+  adds entry_from_place refl refl (λ o. refl),
+  adds entry_from_place refl refl (λ o. refl),
+  adds entry_from_place refl refl (λ o. refl),
+  adds symbol_itself refl refl (λ o. refl),
+  adds plt_from_place refl refl (λ o. refl),
+  adds plt_from_place refl refl (λ o. refl),
+  adds symbol_from_tls refl refl (λ o. refl),
+  adds symbol_from_tls refl refl (λ o. refl),
+)
+
+pub returns-clause-displacements : goal.returns-clause-displacements
+returns-clause-displacements c = (
+  adds symbol_itself refl refl (λ o. refl),
+  adds symbol_from_got refl refl (λ o. refl),
+  adds symbol_from_got refl refl (λ o. refl),
+  adds entry_from_got refl refl (λ o. refl),
+  adds entry_from_got refl refl (λ o. refl),
+  adds entry_from_got refl refl (λ o. refl),
+  adds symbol_from_tls refl refl (λ o. refl),
+  adds symbol_from_tls refl refl (λ o. refl),
+  adds symbol_from_tls refl refl (λ o. refl),
+  adds symbol_from_tls refl refl (λ o. refl),
+)
+
+pub returns-clause-fields : goal.returns-clause-fields
+returns-clause-fields c = (
+  holds_distance symbol_itself (omega arith) (λ v old. refl) (λ o. refl),
+  holds_distance symbol_itself (omega arith) (λ v old. refl) (λ o. refl),
+  holds_distance symbol_from_place (omega arith) (λ v old. refl) (λ o. refl),
+  holds_distance symbol_from_place (omega arith) (λ v old. refl) (λ o. refl),
+  holds_distance symbol_from_tls (omega arith) (λ v old. refl) (λ o. refl),
+  holds_distance symbol_from_tls (omega arith) (λ v old. refl) (λ o. refl),
+)
+
+-- the entry's address, where no addend is added
+entry_distance : (o : Operands) → AreAddresses o
+    → relative entry_sum got_base o ≡ difference_64 (sum_64 (entry_address o) 0) (got_base o)
+entry_distance o small =
+    ap (λ e. difference_64 (sum_64 e 0) (got_base o)) (entry_is o small)
+
+pub returns-clause-high_parts : goal.returns-clause-high_parts
+returns-clause-high_parts c =
+    high_half got_small entry_address 0 entry_distance refl refl (λ o. refl)

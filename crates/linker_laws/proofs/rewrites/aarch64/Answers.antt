@@ -1,0 +1,365 @@
+-- The laws of AArch64.
+use Rattle.std.proofs.Common.{◌≡◌, ℕ, ◌+◌, refl, sym, ◌∙◌, ap, arith, pos, ◌+ℤ◌, drop, [], ◌∷◌, eqb}
+use Rattle.std.proofs.Common.{◌*ℤ◌, take, length, ◌++◌, subst, Some, ◌-◌, List, ◌<◌, ◌/◌, ◌^◌}
+use Rattle.std.specs.Prelude.{bit_and}
+use Rattle.std.specs.Int.{bit_at}
+use Rattle.std.proofs.Math.Seq.{drop-append_seam, take-append_seam}
+use Rattle.std.proofs.lemmas.Bool.{cond-false, eqb-true}
+use Rattle.std.proofs.lemmas.List.{length-take-le, append_assoc}
+use Rattle.std.proofs.lemmas.Nat.{and_le_r}
+use Rattle.linker_base.specs.Bits.{field}
+use Rattle.linker_base.specs.Form.{place_sum}
+use Rattle.linker_base.specs.Rewrite.{Rewrite, rewrite_window}
+use Rattle.linker_aarch64.specs.AArch64Rewrites.{rd_of, rn_of}
+use Rattle.linker_elf.specs.AArch64.{aarch64_form}
+use Rattle.linker_elf.specs.Value.{sum_64}
+use Rattle.linker_elf.specs.declared.aarch64.forms.AArch64Instruction.TheVariants.{JumpCall}
+use Rattle.linker_aarch64.specs.declared.rewrites.RelaxationKind.TheVariants.{NoOp}
+use Rattle.linker_aarch64.specs.declared.rewrites.RelaxationKind.TheVariants.{ReplaceWithNop}
+use Rattle.linker_aarch64.specs.declared.rewrites.RelaxationKind.TheVariants.{MovzX0Lsl16}
+use Rattle.linker_aarch64.specs.declared.rewrites.RelaxationKind.TheVariants.{MovkX0}
+use Rattle.linker_aarch64.specs.declared.rewrites.RelaxationKind.TheVariants.{MovzXnLsl16}
+use Rattle.linker_aarch64.specs.declared.rewrites.RelaxationKind.TheVariants.{MovkXn}
+use Rattle.linker_aarch64.specs.declared.rewrites.RelaxationKind.TheVariants.{AdrpToAdr}
+use Rattle.linker_aarch64.specs.declared.rewrites.RelaxationKind.TheVariants.{AdrpX0, LdrX0}
+use Rattle.linker_aarch64.specs.declared.rewrites.RelaxationKind.TheVariants.{AddToAdr}
+use Rattle.linker_aarch64.specs.declared.rewrites.RelaxationKind.TheVariants.{LdrToAdr}
+use Rattle.linker_aarch64.specs.declared.rewrites.RelaxationKind.TheVariants.{LdrToAdd}
+use Rattle.linker_aarch64.specs.declared.rewrites.RelaxationKind.TheVariants.{AdrpAddToNopAdr}
+use Rattle.linker_elf.specs.declared.elf.value.Operands.{Operands}
+use Rattle.linker_laws.specs.AArch64RelocationLaws as relocation_laws
+use Rattle.linker_laws.specs.Schemes.{AreAddresses, symbol_address, IsAddress, plt_address}
+use Rattle.linker_laws.proofs.Sums.{sum_below}
+use Rattle.linker_laws.specs.AArch64RewriteLaws.{word_of, pair, behind, BeginsRewrittenAt}
+use Rattle.linker_laws.specs.AArch64RewriteLaws as aarch64_laws
+use Rattle.linker_laws.specs.AArch64Machine.{in_64_bits, adr_address, go_on, go_to, branch_target}
+use Rattle.linker_laws.specs.AArch64Machine.{execute, step, write_x, next_pc, State, adrp_address}
+use Rattle.linker_laws.specs.AArch64Machine.{loaded, added}
+use Rattle.linker_laws.specs.AArch64Worked.{WorkedSteps, WorkedRuns}
+use Rattle.linker_laws.proofs.AArch64Descriptors.{to_local_exec, to_initial_exec}
+use Rattle.linker_laws.proofs.AArch64Halves.{high_half, low_half}
+use Rattle.linker_laws.proofs.AArch64Pairs.{word_is, loads, adds_pair, word_made, pair_made}
+use Rattle.linker_laws.proofs.AArch64Pairs.{adr_is, page_added, entry_loaded}
+use Rattle.linker_laws.proofs.AArch64Steps.{run_pair, alike_runs, alike_twice, set, step_adr}
+use Rattle.linker_laws.proofs.AArch64Steps.{address_is, alike_once, alike_before, alike_itself}
+use Rattle.linker_laws.proofs.AArch64Steps.{step_adrp, step_add}
+use Rattle.linker_laws.proofs.AArch64Words.{adr_of_register, of_registers, adrp_after, ldr_after}
+use Rattle.linker_laws.proofs.AArch64Words.{add_after, masked_field}
+use Rattle.linker_laws.proofs.AArch64Words.{adr_after, decodes_adr, decodes_b, decodes_bl}
+use Rattle.linker_laws.proofs.AArch64Words.{branch_after, adr_of_adrp, adr_of_page, decodes_adrp}
+use Rattle.linker_aarch64.specs.AArch64Rewrites.{IsAdd64}
+use Rattle.linker_elf.specs.declared.aarch64.forms.AArch64Instruction.TheVariants.{Add}
+use Rattle.linker_elf.specs.declared.aarch64.relocations.AArch64Relocation.TheVariants as names
+use Rattle.linker_laws.specs.AArch64Machine.{RunAlike}
+use Rattle.linker_laws.proofs.AArch64Near.{near}
+use Rattle.linker_laws.proofs.AArch64Words.{IsAdrOf}
+use Rattle.linker_laws.proofs.aarch64.Goals as goal
+
+small_behind : (n : ℕ) (o : Operands) → AreAddresses o → AreAddresses (behind n o)
+small_behind n o small =
+    record {
+      symbol = small.symbol;
+      place = sum_below o.place n;
+      got_entry = small.got_entry;
+      got_base = small.got_base;
+      plt_entry = small.plt_entry;
+      tls_base = small.tls_base;
+    }
+
+-- a word under a mask
+below_mask : (x m : ℕ) → m < 2 ^ 32 → bit_and x m < 2 ^ 32
+below_mask x m small = let less = and_le_r x m in omega arith
+
+got_pair : relocation_laws.RelativeAddresses → relocation_laws.EntryAddresses
+    → aarch64_laws.GotToAddress
+got_pair relative entries o s adrp ldr add p holds made adrp1 ldr1 adrp2 add2 a1 l1 a2 d2 =
+    let one = p.one_register in
+    let n = rd_of (word_of ldr) in
+    let named = one.into_own_source.not_31 in
+    let same = one.into_own_source.same in
+    let made_word = word_made (λ x. 0x91000000 + field x 0 21) ldr add (omega arith) made in
+    let op : field (word_of add) 22 32 ≡ 0x244 = omega arith in
+    let rd : rd_of (word_of add) ≡ n = omega arith in
+    let rn : rn_of (word_of add) ≡ rn_of (word_of ldr) = omega arith in
+    let l = loads o n n (word_of adrp1) (word_of ldr1) o.got_entry s
+    (adr_of_register one.register (adrp_after _ _ adrp adrp1 a1.written one.first))
+    (of_registers refl same (ldr_after _ _ ldr ldr1 l1.written p.second_is)) named named p.at
+    (entries.0 o p.small o.place adrp adrp1 a1 tt (sum_64 o.place 4) ldr ldr1 l1 tt) in
+    let d = adds_pair o n (word_of adrp2) (word_of add2) _ s
+    (adr_of_register one.register (adrp_after _ _ adrp adrp2 a2.written one.first))
+    (of_registers rd (rn ∙ same) (add_after _ _ add add2 d2.written op)) named p.at
+    (relative.0.0 o p.small o.place adrp adrp2 a2 tt (sum_64 o.place 4) add add2 d2 tt) in
+    alike_runs _ (pair adrp1 ldr1) (pair adrp2 add2) s _ _
+    (run_pair (word_of adrp1) (word_of ldr1) s _ _ l.first refl l.second)
+    (run_pair (word_of adrp2) (word_of add2) s _ _ d.first refl d.second)
+    (alike_twice n _ _ _ _ s (l.value_is ∙ holds ∙ sym d.value_is))
+
+-- by the words of the pair
+address_by : relocation_laws.Literals → (o : Operands) (s : State) (both made : List ℕ)
+    → aarch64_laws.IsPair IsAdd64 o s both (drop 4 both)
+    → aarch64_laws.IsRewritten AdrpAddToNopAdr both made
+    → (adrp1 add1 adr2 : List ℕ)
+    → IsAdrOf 1 (rd_of (word_of (drop 4 both))) (word_of adrp1)
+    → aarch64_laws.IsRelocated names.R_AARCH64_ADD_ABS_LO12_NC (behind 4 o) (drop 4 both) add1
+    → IsAddress (relocation_laws.page_and_offset Add 1 o (word_of adrp1) (word_of add1))
+    (symbol_address o)
+    → aarch64_laws.IsRelocated names.R_AARCH64_ADR_PREL_LO21 (behind 4 o) (drop 4 made) adr2
+    → RunAlike (pair adrp1 add1) (pair made adr2) s
+address_by literals o s both made p is_made adrp1 add1 adr2 first d1 leads b2 =
+    let one = p.one_register in
+    let add0 = drop 4 both in
+    let n = rd_of (word_of add0) in
+    let named = one.into_own_source.not_31 in
+    let r = 0x10000000 + rd_of (word_of both) in
+    let d = adds_pair o n (word_of adrp1) (word_of add1) _ s first
+    (of_registers refl one.into_own_source.same (add_after _ _ add0 add1 d1.written
+    (masked_field (word_of add0) 0xffc00000 0x91000000 22 32 p.second_is refl))) named p.at
+    leads in
+    let words = pair_made (λ x. 0x10000000 + rd_of x) both made (omega arith) is_made in
+    let word2 : word_of (drop 4 made) ≡ r = words.second in
+    let y = word_of adr2 in
+    let adr = adr_after 0 _ _ (drop 4 made) adr2 b2.written
+    (let e : field (word_of (drop 4 made)) 24 29 ≡ 0x10 = omega arith in e)
+    (let e : bit_at (word_of (drop 4 made)) 31 ≡ 0 = omega arith in e) in
+    let rd : rd_of y ≡ n =
+    adr.rd_is
+    ∙ (let e : rd_of (word_of (drop 4 made)) ≡ rd_of (word_of both) = omega arith in e)
+    ∙ one.register in
+    let t = go_on s in
+    let value : adr_address y t ≡ symbol_address o =
+    adr_is (behind 4 o) y (symbol_address o) t (ap (λ q. sum_64 q 4) p.at)
+    (literals.0 (behind 4 o) (small_behind 4 o p.small) o.place (drop 4 made) adr2 b2 tt) in
+    alike_runs _ (pair adrp1 add1) (pair made adr2) s _ (set n (adr_address y t) t)
+    (run_pair (word_of adrp1) (word_of add1) s _ _ d.first refl d.second)
+    (run_pair (word_of made) y s t _ (ap (λ w. step w s) words.first) refl
+    (step_adr y n t (decodes_adr y adr.opcode adr.top) rd named))
+    (alike_once n _ _ (adr_address y t) s (d.value_is ∙ sym value))
+
+address : relocation_laws.RelativeAddresses → relocation_laws.Literals → aarch64_laws.AddressToAdr
+address relative literals = (
+  λ o s both made p is_made adrp1 add1 adr2 a1 d1 b2.
+      let one = p.one_register in
+      address_by literals o s both made p is_made adrp1 add1 adr2
+      (adr_of_register one.register (adrp_after _ _ both adrp1 a1.written one.first)) d1
+      (relative.0.0 o p.small o.place both adrp1 a1 tt (sum_64 o.place 4) (drop 4 both) add1 d1 tt)
+      b2,
+  λ o s both made p is_made adrp1 add1 adr2 a1 d1 b2.
+      let one = p.one_register in
+      let t = sum_64 (symbol_address o) 0 in
+      let fits = near t o.place (sum_below (symbol_address o) 0) p.small.place a1.value b2.value
+      a1.value_is b2.value_is b2.accepted.reached.0 in
+      address_by literals o s both made p is_made adrp1 add1 adr2
+      (adr_of_register one.register (adrp_after _ _ both adrp1 a1.written one.first)) d1
+      (relative.1.0 o p.small o.place both adrp1 a1 fits (sum_64 o.place 4) (drop 4 both) add1 d1
+      tt) b2,
+)
+
+-- ---- `adr` in place of one instruction
+
+adrp_made : relocation_laws.RelativeAddresses → relocation_laws.Literals → aarch64_laws.AdrpMadeAdr
+adrp_made relative literals o s adrp add made nop p is_made is_nop adrp1 add1 adr2 a1 d1 b2 =
+    let one = p.one_register in
+    let n = rd_of (word_of add) in
+    let named = one.into_own_source.not_31 in
+    let d = adds_pair o n (word_of adrp1) (word_of add1) _ s
+    (adr_of_register one.register (adrp_after _ _ adrp adrp1 a1.written one.first))
+    (of_registers refl one.into_own_source.same (add_after _ _ add add1 d1.written
+    (masked_field (word_of add) 0xffc00000 0x91000000 22 32 p.second_is refl))) named p.at
+    (relative.0.0 o p.small o.place adrp adrp1 a1 tt (sum_64 o.place 4) add add1 d1 tt) in
+    let word = word_made (λ x. bit_and x 0x7fffffff) adrp made
+    (below_mask (word_of adrp) 0x7fffffff (omega arith)) is_made in
+    let was = adr_of_adrp (word_of adrp)
+    (masked_field (word_of adrp) 0x9f000000 0x90000000 24 29 one.first refl) in
+    let y = word_of adr2 in
+    let adr = adr_after 0 _ _ made adr2 b2.written (ap (λ w. field w 24 29) word ∙ was.opcode)
+    (ap (λ w. bit_at w 31) word ∙ was.top) in
+    let rd : rd_of y ≡ n = adr.rd_is ∙ ap rd_of word ∙ was.rd_is ∙ one.register in
+    let value = adr_is o y (symbol_address o) s p.at
+    (literals.0 o p.small o.place made adr2 b2 tt) in
+    let t = set n (adr_address y s) s in
+    alike_runs _ (pair adrp1 add1) (pair adr2 nop) s _ (go_on t)
+    (run_pair (word_of adrp1) (word_of add1) s _ _ d.first refl d.second)
+    (run_pair y (word_of nop) s t _
+    (step_adr y n s (decodes_adr y adr.opcode adr.top) rd named) refl
+    (ap (λ w. step w t) (word_is 0xd503201f nop (omega arith) is_nop)))
+    (alike_before n _ _ (adr_address y s) s (d.value_is ∙ sym value))
+
+add_made : relocation_laws.RelativeAddresses → relocation_laws.Literals → aarch64_laws.AddMadeAdr
+add_made relative literals o s adrp add made p is_made adrp1 add1 adr2 a1 d1 b2 =
+    let n = rd_of (word_of adrp) in
+    let d = rd_of (word_of add) in
+    let x = word_of adrp1 in
+    let z = word_of add1 in
+    let y = word_of adr2 in
+    let op : field (word_of add) 22 32 ≡ 0x244 =
+    masked_field (word_of add) 0xffc00000 0x91000000 22 32 p.second_is.0 refl in
+    let adrp_is = adrp_after _ _ adrp adrp1 a1.written p.is_adrp in
+    let add_is = add_after _ _ add add1 d1.written op in
+    let word = word_made (λ w. bit_and w 0x76ffffff) add made
+    (below_mask (word_of add) 0x76ffffff (omega arith)) is_made in
+    let was = adr_of_page (word_of add) (omega arith) (omega arith) (omega arith) in
+    let adr = adr_after 0 _ _ made adr2 b2.written (ap (λ w. field w 24 29) word ∙ was.opcode)
+    (ap (λ w. bit_at w 31) word ∙ was.top) in
+    let t = set n (adrp_address x s) s in
+    let first =
+    step_adrp x n s (decodes_adrp x adrp_is.opcode adrp_is.top) adrp_is.rd_is p.not_31 in
+    let value : added z t ≡ adr_address y t =
+    page_added o n x z (symbol_address o) s (add_is.rn_is ∙ p.source) p.at
+    (relative.0.0 o p.small o.place adrp adrp1 a1 tt (sum_64 o.place 4) add add1 d1 tt)
+    ∙ sym (adr_is (behind 4 o) y (symbol_address o) t (ap (λ q. sum_64 q 4) p.at)
+    (literals.0 (behind 4 o) (small_behind 4 o p.small) o.place made adr2 b2 tt)) in
+    alike_runs _ (pair adrp1 add1) (pair adrp1 adr2) s _ _
+    (run_pair x z s t _ first refl
+    (step_add z d t add_is.decodes add_is.rd_is ∙ ap (λ v. Some (set d v t)) value))
+    (run_pair x y s t _ first refl
+    (step_adr y d t (decodes_adr y adr.opcode adr.top) (adr.rd_is ∙ ap rd_of word ∙ was.rd_is)
+    p.second_is.1))
+    (alike_itself _ (set d (adr_address y t) t))
+
+ldr_made : relocation_laws.EntryAddresses → relocation_laws.Literals → aarch64_laws.LdrMadeAdr
+ldr_made entries literals o s adrp ldr made p holds is_made adrp1 ldr1 adr2 a1 l1 b2 =
+    let n = rd_of (word_of adrp) in
+    let d = rd_of (word_of ldr) in
+    let x = word_of adrp1 in
+    let z = word_of ldr1 in
+    let y = word_of adr2 in
+    let op : word_of ldr / 2 ^ 22 ≡ 0x3e5 = eqb-true _ _ p.second_is in
+    let adrp_is = adrp_after _ _ adrp adrp1 a1.written p.is_adrp in
+    let ldr_is = ldr_after _ _ ldr ldr1 l1.written p.second_is in
+    let word = word_made (λ w. bit_and w 0x76ffffff) ldr made
+    (below_mask (word_of ldr) 0x76ffffff (omega arith)) is_made in
+    let was = adr_of_page (word_of ldr) (omega arith) (omega arith) (omega arith) in
+    let adr = adr_after 0 _ _ made adr2 b2.written (ap (λ w. field w 24 29) word ∙ was.opcode)
+    (ap (λ w. bit_at w 31) word ∙ was.top) in
+    let rd : rd_of y ≡ d = adr.rd_is ∙ ap rd_of word ∙ was.rd_is in
+    let t = set n (adrp_address x s) s in
+    let first =
+    step_adrp x n s (decodes_adrp x adrp_is.opcode adrp_is.top) adrp_is.rd_is p.not_31 in
+    let value : loaded z t ≡ adr_address y t =
+    entry_loaded o n x z o.got_entry s (ldr_is.rn_is ∙ p.source) p.at
+    (entries.0 o p.small o.place adrp adrp1 a1 tt (sum_64 o.place 4) ldr ldr1 l1 tt) ∙ holds
+    ∙ sym (adr_is (behind 4 o) y (symbol_address o) t (ap (λ q. sum_64 q 4) p.at)
+    (literals.0 (behind 4 o) (small_behind 4 o p.small) o.place made adr2 b2 tt)) in
+    alike_runs _ (pair adrp1 ldr1) (pair adrp1 adr2) s _ _
+    (run_pair x z s t _ first refl
+    (ap (λ c. execute c z t) ldr_is.decodes
+    ∙ ap (λ r. Some (go_on (write_x r (loaded z t) t))) ldr_is.rd_is
+    ∙ ap (λ v. Some (go_on (write_x d v t))) value))
+    (run_pair x y s t _ first refl
+    (ap (λ c. execute c y t) (decodes_adr y adr.opcode adr.top)
+    ∙ ap (λ r. Some (go_on (write_x r (adr_address y t) t))) rd))
+    (alike_itself _ (go_on (write_x d (adr_address y t) t)))
+
+-- ---- branches
+
+branches : relocation_laws.Branches → aarch64_laws.WeakBranches
+branches laws = (
+  λ o s branch nop small at goes is made after a.
+      let x = word_of after in
+      let op = branch_after _ _ branch after a.written ∙ eqb-true _ _ is in
+      alike_runs _ (x ∷ []) (word_of nop ∷ []) s (go_to (branch_target x s) s) (go_on s)
+      (ap (λ k. execute k x s) (decodes_b x op))
+      (ap (λ w. step w s) (word_is 0xd503201f nop (omega arith) made))
+      (record {
+        registers = λ n any. refl;
+        pc = goes_to o x s at (laws.1 o small o.place branch after a tt) ∙ goes;
+        memory = refl;
+        thread_pointer = refl;
+      }),
+  λ o s branch nop small at goes is made after a.
+      let x = word_of after in
+      let op = branch_after _ _ branch after a.written ∙ eqb-true _ _ is in
+      alike_runs _ (x ∷ []) (word_of nop ∷ []) s
+      (go_to (branch_target x s) (write_x 30 (next_pc s) s)) (go_on s)
+      (ap (λ k. execute k x s) (decodes_bl x op))
+      (ap (λ w. step w s) (word_is 0xd503201f nop (omega arith) made))
+      (record {
+        registers = λ n other. cond-false (eqb n 30) (next_pc s) (s.registers n) other;
+        pc = goes_to o x s at (laws.0 o small o.place branch after a tt) ∙ goes;
+        memory = refl;
+        thread_pointer = refl;
+      }),
+)
+  where
+    goes_to : (o : Operands) (x : ℕ) (s : State) → s.pc ≡ o.place
+        → IsAddress (pos o.place +ℤ ((aarch64_form JumpCall).machine x *ℤ pos 4)) (plt_address o)
+        → branch_target x s ≡ plt_address o
+    goes_to o x s at leads =
+        ap (λ p. in_64_bits (pos p +ℤ ((aarch64_form JumpCall).machine x *ℤ pos 4))) at
+        ∙ address_is _ _ leads
+
+-- ---- sections
+
+in_section : (r : Rewrite) (section : List ℕ) (o : ℕ)
+    → ((window : List ℕ) → length (r.bytes window) ≡ r.len)
+    → BeginsRewrittenAt (Some r) section o
+in_section r section o long can =
+    let k = o - r.back in
+    let bytes = r.bytes (rewrite_window r section o) in
+    let rest = drop (k + r.len) section in
+    let ends = can.ends in
+    let before : length (take k section) ≡ k = length-take-le k section (omega arith) in
+    ap (λ l. take r.len (drop k l)) (append_assoc (take k section) bytes rest)
+    ∙ ap (take r.len)
+    (subst (λ j. drop j (take k section ++ (bytes ++ rest)) ≡ bytes ++ rest) before
+    (drop-append_seam (take k section) (bytes ++ rest)))
+    ∙ subst (λ j. take j (bytes ++ rest) ≡ bytes) (long (rewrite_window r section o))
+    (take-append_seam bytes rest)
+
+sections : aarch64_laws.InSections
+sections NoOp section o = tt
+sections ReplaceWithNop section o = in_section _ section o (λ window. refl)
+sections MovzX0Lsl16 section o = in_section _ section o (λ window. refl)
+sections MovkX0 section o = in_section _ section o (λ window. refl)
+sections MovzXnLsl16 section o = in_section _ section o (λ window. refl)
+sections MovkXn section o = in_section _ section o (λ window. refl)
+sections AdrpToAdr section o = in_section _ section o (λ window. refl)
+sections AdrpX0 section o = in_section _ section o (λ window. refl)
+sections LdrX0 section o = in_section _ section o (λ window. refl)
+sections AddToAdr section o = in_section _ section o (λ window. refl)
+sections LdrToAdr section o = in_section _ section o (λ window. refl)
+sections LdrToAdd section o = in_section _ section o (λ window. refl)
+sections AdrpAddToNopAdr section o = in_section _ section o (λ window. refl)
+
+worked : WorkedSteps
+unfolding place_sum
+worked = (
+  (refl, refl),
+  (refl, refl),
+  (refl, refl),
+  (refl, refl),
+  (refl, refl),
+  (refl, refl),
+  (refl, refl),
+  (refl, refl),
+  (refl, refl),
+  (refl, refl),
+  (refl, refl),
+  (refl, refl),
+  (refl, refl),
+  (refl, refl),
+  (refl, refl),
+)
+
+worked_runs : WorkedRuns
+unfolding place_sum
+worked_runs = (refl, refl, refl)
+
+pub returns : goal.returns
+returns c =
+    let laws = c.aarch64.ensures in
+    record {
+      got = got_pair laws.relative laws.entries;
+      high_half = high_half;
+      low_half = low_half;
+      address = address laws.relative laws.literals;
+      descriptor_to_local_exec = to_local_exec laws.entries laws.thread_moves;
+      descriptor_to_initial_exec = to_initial_exec laws.entries;
+      weak = branches laws.branches;
+      adrp_made_adr = adrp_made laws.relative laws.literals;
+      add_made_adr = add_made laws.relative laws.literals;
+      ldr_made_adr = ldr_made laws.entries laws.literals;
+      sections = sections;
+      steps = worked;
+      runs = worked_runs;
+    }

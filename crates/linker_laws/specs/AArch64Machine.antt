@@ -1,0 +1,187 @@
+-- AArch64: what the instructions of a rewrite's sequences do (Arm Architecture Reference Manual for
+-- A-profile, DDI 0487, C6.2). None of them changes memory, the thread pointer or the flags.
+use Rattle.std.specs.Prelude.{ℕ, ℤ, pos, ◌+ℤ◌, ◌*ℤ◌, ◌/◌, ◌^◌, ◌==◌, ◌&&◌, if◌then◌else◌, Bool, ◌∷◌}
+use Rattle.std.specs.Prelude.{[], List, Option, Some, None, IsSomeAnd, ◌≡◌, false, unsigned_abs}
+use Rattle.std.specs.Int.{w64, bit_at, from_le_bytes, int_rem_euclid}
+use Rattle.linker_base.specs.Bits.{field}
+use Rattle.linker_elf.specs.AArch64.{aarch64_form, shift_of}
+use Rattle.linker_aarch64.specs.AArch64Rewrites.{rd_of, rn_of, nop, is_ldr64}
+use Rattle.linker_elf.specs.AArch64.{opcode_of, movn_opcode, movz_opcode, movk_opcode}
+use Rattle.linker_elf.specs.LoongArch.{page}
+use Rattle.linker_elf.specs.Value.{sum_64}
+use Rattle.linker_elf.specs.declared.aarch64.forms.AArch64Instruction.TheVariants.{Adr, LdSt, Add}
+use Rattle.linker_elf.specs.declared.aarch64.forms.AArch64Instruction.TheVariants.{Movnz}
+use Rattle.linker_elf.specs.declared.aarch64.forms.AArch64Instruction.TheVariants.{JumpCall}
+use Rattle.linker_laws.specs.AArch64RelocationLaws.{movk}
+
+-- ---- the state
+
+pub record State : Type 0 where
+  -- X0 to X30 by their numbers, and the stack pointer by number 31
+  pub registers : ℕ → ℕ
+  -- the address of the next instruction
+  pub pc : ℕ
+  -- the byte at each address
+  pub memory : ℕ → ℕ
+  -- TPIDR_EL0
+  pub thread_pointer : ℕ
+
+-- a sum, in the 64 bits of a register
+abbrev pub in_64_bits : ℤ → ℕ
+in_64_bits z = unsigned_abs (int_rem_euclid z (pos (2 ^ 64)))
+
+-- 8 bytes from an address up, little-endian
+abbrev pub load_64 : (ℕ → ℕ) → ℕ → ℕ
+load_64 memory a =
+    from_le_bytes w64
+    (memory a ∷ memory (sum_64 a 1) ∷ memory (sum_64 a 2) ∷ memory (sum_64 a 3) ∷
+    memory (sum_64 a 4) ∷ memory (sum_64 a 5) ∷ memory (sum_64 a 6) ∷ memory (sum_64 a 7) ∷ [])
+
+-- Number 31 is the stack pointer as the base of `ldr` and as both registers of `add`, and else the
+-- zero register, which is 0 whatever is written to it.
+abbrev pub read_x : ℕ → State → ℕ
+read_x n s = if n == 31 then 0 else s.registers n
+
+abbrev pub write_x_or_sp : ℕ → ℕ → State → State
+write_x_or_sp n v s = record s { registers = λ m. if m == n then v else s.registers m }
+
+abbrev pub write_x : ℕ → ℕ → State → State
+write_x n v s = if n == 31 then s else write_x_or_sp n v s
+
+abbrev pub next_pc : State → ℕ
+next_pc s = sum_64 s.pc 4
+
+abbrev pub go_to : ℕ → State → State
+go_to address s = record s { pc = address }
+
+-- on to the next instruction
+abbrev pub go_on : State → State
+go_on s = go_to (next_pc s) s
+
+-- ---- which instruction a word is
+
+pub data Instruction : Type 0 where
+  adrp : Instruction
+  adr : Instruction
+  add : Instruction
+  ldr : Instruction
+  movn_or_movz : Instruction
+  movk_64 : Instruction
+  no_operation : Instruction
+  blr : Instruction
+  bl : Instruction
+  b : Instruction
+  other : Instruction
+
+-- ADR and ADRP differ in bit 31.
+abbrev pub is_adr : ℕ → ℕ → Bool
+is_adr bit_31 word = field word 24 29 == 0x10 && bit_at word 31 == bit_31
+
+-- ADD (immediate) of 64 bits, whose immediate isn't shifted
+abbrev pub is_add64 : ℕ → Bool
+is_add64 word = field word 22 32 == 0x244
+
+abbrev pub is_blr : ℕ → Bool
+is_blr word = word / 2 ^ 10 == 0x358fc0 && rd_of word == 0
+
+abbrev pub is_bl : ℕ → Bool
+is_bl word = word / 2 ^ 26 == 0x25
+
+abbrev pub is_b : ℕ → Bool
+is_b word = word / 2 ^ 26 == 0x5
+
+-- The loads and the moves are those of 64 bits.
+abbrev pub decode : ℕ → Instruction
+decode word =
+    if is_adr 1 word then adrp else (
+    if is_adr 0 word then adr else (
+    if is_add64 word then add else (
+    if is_ldr64 word then ldr else (
+    if opcode_of word == movn_opcode then movn_or_movz else (
+    if opcode_of word == movz_opcode then movn_or_movz else (
+    if opcode_of word == movk_opcode then movk_64 else (
+    if word == nop then no_operation else (
+    if is_blr word then blr else (
+    if is_bl word then bl else (
+    if is_b word then b else other))))))))))
+
+-- ---- what it does
+
+-- "ADRP": the immediate, in pages, is added to the page of the instruction.
+abbrev pub adrp_address : ℕ → State → ℕ
+adrp_address word s =
+    in_64_bits (pos (page s.pc) +ℤ ((aarch64_form Adr).machine word *ℤ pos 4096))
+
+-- "ADR": the immediate is added to the address of the instruction.
+abbrev pub adr_address : ℕ → State → ℕ
+adr_address word s = in_64_bits (pos s.pc +ℤ (aarch64_form Adr).machine word)
+
+-- "ADD (immediate)"
+abbrev pub added : ℕ → State → ℕ
+added word s = in_64_bits (pos (s.registers (rn_of word)) +ℤ (aarch64_form Add).machine word)
+
+-- "LDR (immediate)", unsigned offset: in units of 8 bytes
+abbrev pub loaded : ℕ → State → ℕ
+loaded word s =
+    load_64 s.memory
+    (in_64_bits (pos (s.registers (rn_of word)) +ℤ ((aarch64_form LdSt).machine word *ℤ pos 8)))
+
+-- "MOVN" and "MOVZ"
+abbrev pub moved : ℕ → ℕ
+moved word = in_64_bits ((aarch64_form Movnz).machine word)
+
+-- "MOVK" replaces 16 bits of the register.
+abbrev pub with_moved : ℕ → State → ℕ
+with_moved word s = in_64_bits (movk (shift_of word) (pos (read_x (rd_of word) s)) word)
+
+-- "B" and "BL": the immediate is in units of 4 bytes.
+abbrev pub branch_target : ℕ → State → ℕ
+branch_target word s = in_64_bits (pos s.pc +ℤ ((aarch64_form JumpCall).machine word *ℤ pos 4))
+
+-- The state after an instruction. "BLR" reads its register before it writes X30.
+abbrev pub execute : Instruction → ℕ → State → Option State
+execute adrp word s = Some (go_on (write_x (rd_of word) (adrp_address word s) s))
+execute adr word s = Some (go_on (write_x (rd_of word) (adr_address word s) s))
+execute add word s = Some (go_on (write_x_or_sp (rd_of word) (added word s) s))
+execute ldr word s = Some (go_on (write_x (rd_of word) (loaded word s) s))
+execute movn_or_movz word s = Some (go_on (write_x (rd_of word) (moved word) s))
+execute movk_64 word s = Some (go_on (write_x (rd_of word) (with_moved word s) s))
+execute no_operation word s = Some (go_on s)
+execute blr word s = Some (go_to (read_x (rn_of word) s) (write_x 30 (next_pc s) s))
+execute bl word s = Some (go_to (branch_target word s) (write_x 30 (next_pc s) s))
+execute b word s = Some (go_to (branch_target word s) s)
+execute other word s = None
+
+abbrev pub step : ℕ → State → Option State
+step word s = execute (decode word) word s
+
+-- ---- sequences
+
+-- what a run is after its first instruction, if that goes on to the next
+abbrev pub continue : ℕ → (State → Option State) → Option State → Option State
+continue next rest None = None
+continue next rest (Some s) = if s.pc == next then rest s else None
+
+-- Words that stand one after the other from the state's address up are executed, each after the one
+-- before it, and then the last, which may go anywhere.
+abbrev pub run : List ℕ → State → Option State
+run [] s = Some s
+run (word ∷ []) s = step word s
+run (word ∷ words) s = continue (next_pc s) (run words) (step word s)
+
+-- ---- states that are alike
+
+-- The states differ in no more than some registers.
+pub record AreAlikeBut (differing : ℕ → Bool) (s t : State) : Type 0 where
+  pub registers : (n : ℕ) → differing n ≡ false → s.registers n ≡ t.registers n
+  pub pc : s.pc ≡ t.pc
+  pub memory : s.memory ≡ t.memory
+  pub thread_pointer : s.thread_pointer ≡ t.thread_pointer
+
+-- Both sequences run, and end in such states.
+abbrev pub RunAlikeBut : (ℕ → Bool) → List ℕ → List ℕ → State → Type 0
+RunAlikeBut differing old new s =
+    IsSomeAnd (run old s) (λ t. IsSomeAnd (run new s) (λ u. AreAlikeBut differing t u))
+
+abbrev pub RunAlike : List ℕ → List ℕ → State → Type 0
+RunAlike old new s = RunAlikeBut (λ _. false) old new s

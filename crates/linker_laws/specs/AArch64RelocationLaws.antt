@@ -1,0 +1,301 @@
+-- AArch64: what relocated instructions compute (ELF for the Arm 64-bit Architecture, "Relocation";
+-- Arm Architecture Reference Manual for A-profile, DDI 0487, C6.2).
+use Rattle.std.specs.Prelude.{ℕ, [], ◌∷◌, ℤ, pos, ◌+◌, ◌+ℤ◌, ◌-ℤ◌, ◌*ℤ◌, ◌^◌, ◌==◌, ◌&&◌, not}
+use Rattle.std.specs.Int.{bit_at, int_rem_euclid}
+use Rattle.linker_elf.specs.AArch64.{aarch64_form, shift_of}
+use Rattle.linker_elf.specs.AArch64Relocations.{aarch64_row}
+use Rattle.linker_elf.specs.LoongArch.{page}
+use Rattle.linker_elf.specs.Relocate.{is_movk}
+use Rattle.linker_elf.specs.declared.aarch64.forms.AArch64Instruction.{AArch64Instruction}
+use Rattle.linker_elf.specs.declared.aarch64.forms.AArch64Instruction.TheVariants.{Adr, Ldr}
+use Rattle.linker_elf.specs.declared.aarch64.forms.AArch64Instruction.TheVariants.{LdrRegister}
+use Rattle.linker_elf.specs.declared.aarch64.forms.AArch64Instruction.TheVariants.{Add, LdSt}
+use Rattle.linker_elf.specs.declared.aarch64.forms.AArch64Instruction.TheVariants.{TstBr, Bcond}
+use Rattle.linker_elf.specs.declared.aarch64.forms.AArch64Instruction.TheVariants.{JumpCall}
+use Rattle.linker_elf.specs.declared.aarch64.forms.AArch64Instruction.TheVariants.{Movkz, Movnz}
+use Rattle.linker_elf.specs.declared.elf.Sign.TheVariants.{Signed}
+use Rattle.linker_elf.specs.declared.elf.value.Operands.{Operands}
+use Rattle.linker_elf.specs.declared.aarch64.relocations.AArch64Relocation.{AArch64Relocation}
+use Rattle.linker_elf.specs.declared.aarch64.relocations.AArch64Relocation.TheVariants as names
+use Rattle.linker_laws.specs.Schemes.{entry_and_addend, HoldsDistance, Step, Premise, here}
+use Rattle.linker_laws.specs.Schemes.{anywhere, moved_on, of_bits, of_words, Law, Adds}
+use Rattle.linker_laws.specs.Schemes.{symbol_address, plt_address, entry_address, zero, place}
+use Rattle.linker_laws.specs.Schemes.{got_base, tls_base}
+
+abbrev pub row_here : AArch64Relocation → Step
+row_here name = here (aarch64_row name)
+
+abbrev pub row_anywhere : AArch64Relocation → Step
+row_anywhere name = anywhere (aarch64_row name)
+
+-- ---- a page and an offset in it ("ADRP", "ADD (immediate)", "LDR (immediate)", "STR (immediate)")
+
+-- ADRP adds its immediate, in pages, to the page of its own address. ADD adds its own to that, and
+-- a load or a store, whose unsigned offset is in units of so many bytes, adds that.
+abbrev pub page_and_offset : AArch64Instruction → ℕ → Operands → ℕ → ℕ → ℤ
+page_and_offset f unit o x y =
+    (pos (page o.place) +ℤ ((aarch64_form Adr).machine x *ℤ pos 4096))
+    +ℤ ((aarch64_form f).machine y *ℤ pos unit)
+
+abbrev pub PageAndOffset : Step → AArch64Relocation → AArch64Instruction → ℕ → (Operands → ℕ)
+    → Type 0
+PageAndOffset high low f unit target =
+    Law (high ∷ row_anywhere low ∷ []) (page_and_offset f unit) target
+
+-- a page, with ADD and with loads and stores of 1 to 16 bytes
+abbrev pub OfPage : Step → Type 0
+OfPage high =
+    PageAndOffset high names.R_AARCH64_ADD_ABS_LO12_NC Add 1 symbol_address
+    × PageAndOffset high names.R_AARCH64_LDST8_ABS_LO12_NC LdSt 1 symbol_address
+    × PageAndOffset high names.R_AARCH64_LDST16_ABS_LO12_NC LdSt 2 symbol_address
+    × PageAndOffset high names.R_AARCH64_LDST32_ABS_LO12_NC LdSt 4 symbol_address
+    × PageAndOffset high names.R_AARCH64_LDST64_ABS_LO12_NC LdSt 8 symbol_address
+    × PageAndOffset high names.R_AARCH64_LDST128_ABS_LO12_NC LdSt 16 symbol_address
+
+-- The value of the second page, which nothing else checks, is a number of 33 bits.
+abbrev pub RelativeAddresses : Type 0
+RelativeAddresses =
+    OfPage (row_here names.R_AARCH64_ADR_PREL_PG_HI21)
+    × OfPage (of_bits 33 Signed (row_here names.R_AARCH64_ADR_PREL_PG_HI21_NC))
+
+abbrev pub Entry : AArch64Relocation → AArch64Relocation → AArch64Instruction → ℕ → Type 0
+Entry high low f unit = PageAndOffset (row_here high) low f unit entry_address
+
+abbrev pub EntryAddresses : Type 0
+EntryAddresses =
+    Entry names.R_AARCH64_ADR_GOT_PAGE names.R_AARCH64_LD64_GOT_LO12_NC LdSt 8
+    × Entry names.R_AARCH64_TLSGD_ADR_PAGE21 names.R_AARCH64_TLSGD_ADD_LO12_NC Add 1
+    × Entry names.R_AARCH64_TLSLD_ADR_PAGE21 names.R_AARCH64_TLSLD_ADD_LO12_NC Add 1
+    × Entry names.R_AARCH64_TLSIE_ADR_GOTTPREL_PAGE21 names.R_AARCH64_TLSIE_LD64_GOTTPREL_LO12_NC
+    LdrRegister 8
+    × Entry names.R_AARCH64_TLSDESC_ADR_PAGE21 names.R_AARCH64_TLSDESC_LD64_LO12 LdrRegister 8
+    × Entry names.R_AARCH64_TLSDESC_ADR_PAGE21 names.R_AARCH64_TLSDESC_ADD_LO12 Add 1
+
+-- ---- offsets of TLS ("ADD (immediate)", with its immediate shifted by 12 bits or not)
+
+-- ADD of the immediate times 4096 to the thread pointer, or to the address of the module's block,
+-- and an instruction with the low bits
+abbrev pub high_and_low : AArch64Instruction → ℕ → Operands → ℕ → ℕ → ℤ
+high_and_low f unit o x y =
+    (pos o.tls_base +ℤ ((aarch64_form Add).machine x *ℤ pos 4096))
+    +ℤ ((aarch64_form f).machine y *ℤ pos unit)
+
+abbrev pub HighAndLow : AArch64Relocation → AArch64Relocation → AArch64Instruction → ℕ → Type 0
+HighAndLow high low f unit =
+    Law (row_here high ∷ row_anywhere low ∷ []) (high_and_low f unit) symbol_address
+
+abbrev pub Offset : AArch64Relocation → AArch64Instruction → ℕ → Type 0
+Offset name f unit =
+    Adds (row_here name) tls_base (aarch64_form f).machine unit symbol_address
+
+abbrev pub ThreadAddresses : Type 0
+ThreadAddresses =
+    HighAndLow names.R_AARCH64_TLSLE_ADD_TPREL_HI12 names.R_AARCH64_TLSLE_ADD_TPREL_LO12_NC Add 1
+    × HighAndLow names.R_AARCH64_TLSLE_ADD_TPREL_HI12 names.R_AARCH64_TLSLE_LDST8_TPREL_LO12_NC
+    LdSt 1
+    × HighAndLow names.R_AARCH64_TLSLE_ADD_TPREL_HI12 names.R_AARCH64_TLSLE_LDST16_TPREL_LO12_NC
+    LdSt 2
+    × HighAndLow names.R_AARCH64_TLSLE_ADD_TPREL_HI12 names.R_AARCH64_TLSLE_LDST32_TPREL_LO12_NC
+    LdSt 4
+    × HighAndLow names.R_AARCH64_TLSLE_ADD_TPREL_HI12 names.R_AARCH64_TLSLE_LDST64_TPREL_LO12_NC
+    LdSt 8
+    × HighAndLow names.R_AARCH64_TLSLE_ADD_TPREL_HI12 names.R_AARCH64_TLSLE_LDST128_TPREL_LO12_NC
+    LdSt 16
+    × Offset names.R_AARCH64_TLSLE_ADD_TPREL_LO12 Add 1
+    × Offset names.R_AARCH64_TLSLE_LDST8_TPREL_LO12 LdSt 1
+    × Offset names.R_AARCH64_TLSLE_LDST16_TPREL_LO12 LdSt 2
+    × Offset names.R_AARCH64_TLSLE_LDST32_TPREL_LO12 LdSt 4
+    × Offset names.R_AARCH64_TLSLE_LDST64_TPREL_LO12 LdSt 8
+    × Offset names.R_AARCH64_TLSLE_LDST128_TPREL_LO12 LdSt 16
+
+abbrev pub ModuleAddresses : Type 0
+ModuleAddresses =
+    HighAndLow names.R_AARCH64_TLSLD_ADD_DTPREL_HI12 names.R_AARCH64_TLSLD_ADD_DTPREL_LO12_NC Add 1
+    × HighAndLow names.R_AARCH64_TLSLD_ADD_DTPREL_HI12 names.R_AARCH64_TLSLD_LDST8_DTPREL_LO12_NC
+    LdSt 1
+    × HighAndLow names.R_AARCH64_TLSLD_ADD_DTPREL_HI12 names.R_AARCH64_TLSLD_LDST16_DTPREL_LO12_NC
+    LdSt 2
+    × HighAndLow names.R_AARCH64_TLSLD_ADD_DTPREL_HI12 names.R_AARCH64_TLSLD_LDST32_DTPREL_LO12_NC
+    LdSt 4
+    × HighAndLow names.R_AARCH64_TLSLD_ADD_DTPREL_HI12 names.R_AARCH64_TLSLD_LDST64_DTPREL_LO12_NC
+    LdSt 8
+    × HighAndLow names.R_AARCH64_TLSLD_ADD_DTPREL_HI12
+    names.R_AARCH64_TLSLD_LDST128_DTPREL_LO12_NC LdSt 16
+    × Offset names.R_AARCH64_TLSLD_ADD_DTPREL_LO12 Add 1
+    × Offset names.R_AARCH64_TLSLD_LDST8_DTPREL_LO12 LdSt 1
+    × Offset names.R_AARCH64_TLSLD_LDST16_DTPREL_LO12 LdSt 2
+    × Offset names.R_AARCH64_TLSLD_LDST32_DTPREL_LO12 LdSt 4
+    × Offset names.R_AARCH64_TLSLD_LDST64_DTPREL_LO12 LdSt 8
+    × Offset names.R_AARCH64_TLSLD_LDST128_DTPREL_LO12 LdSt 16
+
+-- ---- one instruction ("ADR", "LDR (literal)", "B", "BL", "B.cond", "CBZ", "TBZ")
+
+abbrev pub Single : AArch64Relocation → AArch64Instruction → ℕ → (Operands → ℕ) → Type 0
+Single name f unit target = Adds (row_here name) place (aarch64_form f).machine unit target
+
+abbrev pub Branches : Type 0
+Branches =
+    Single names.R_AARCH64_CALL26 JumpCall 4 plt_address
+    × Single names.R_AARCH64_JUMP26 JumpCall 4 plt_address
+    × Single names.R_AARCH64_CONDBR19 Bcond 4 symbol_address
+    × Single names.R_AARCH64_TSTBR14 TstBr 4 symbol_address
+
+abbrev pub Literals : Type 0
+Literals =
+    Single names.R_AARCH64_ADR_PREL_LO21 Adr 1 symbol_address
+    × Single names.R_AARCH64_LD_PREL_LO19 Ldr 4 symbol_address
+    × Single names.R_AARCH64_GOT_LD_PREL19 Ldr 4 entry_address
+    × Single names.R_AARCH64_TLSGD_ADR_PREL21 Adr 1 entry_address
+    × Single names.R_AARCH64_TLSLD_ADR_PREL21 Adr 1 entry_address
+    × Single names.R_AARCH64_TLSLD_LD_PREL19 Ldr 4 entry_address
+    × Single names.R_AARCH64_TLSIE_LD_GOTTPREL_PREL19 Ldr 4 entry_address
+    × Single names.R_AARCH64_TLSDESC_ADR_PREL21 Adr 1 entry_address
+    × Single names.R_AARCH64_TLSDESC_LD_PREL19 Ldr 4 entry_address
+
+-- ---- offsets from the GOT, and from its page
+
+abbrev pub got_page : Operands → ℕ
+got_page o = page o.got_base
+
+abbrev pub GotOffsets : Type 0
+GotOffsets =
+    Adds (row_here names.R_AARCH64_LD64_GOTOFF_LO15) got_base (aarch64_form LdSt).machine 8
+    entry_address
+    × Adds (row_here names.R_AARCH64_LD64_GOTPAGE_LO15) got_page (aarch64_form LdSt).machine 8
+    entry_address
+
+-- ---- moves of 16 bits ("MOVZ", "MOVN", "MOVK")
+
+-- MOVZ by a shift
+abbrev pub movz : ℕ → ℕ → ℤ
+movz shift word = (aarch64_form Movkz).machine word *ℤ pos (2 ^ shift)
+
+-- MOVN or MOVZ by the shift that the word has
+abbrev pub movn_or_movz : ℕ → ℤ
+movn_or_movz word = (aarch64_form Movnz).machine word
+
+-- MOVK by a shift replaces 16 bits of a number: what is above them, they, and what is below
+abbrev pub movk : ℕ → ℤ → ℕ → ℤ
+movk shift v word =
+    ((v -ℤ int_rem_euclid v (pos (2 ^ (shift + 16))))
+    +ℤ ((aarch64_form Movkz).machine word *ℤ pos (2 ^ shift)))
+    +ℤ int_rem_euclid v (pos (2 ^ shift))
+
+-- The move is one of 64 bits and no MOVK, and its shift is that of the 16 bits.
+abbrev pub has_shift : ℕ → Premise
+has_shift shift = of_words (λ x. (shift_of x == shift && bit_at x 31 == 1) && not (is_movk x))
+
+-- the moves of the 16 bits below those that the first one moves, of the same value
+abbrev pub Moves1 : Step → (Operands → ℕ) → (ℕ → ℤ) → (Operands → ℕ) → Type 0
+Moves1 first begin move target = Law (first ∷ []) (λ o x. pos (begin o) +ℤ move x) target
+
+abbrev pub Moves2 : Step → Step → (Operands → ℕ) → (ℕ → ℤ) → (Operands → ℕ) → Type 0
+Moves2 first g0 begin move target =
+    Law (first ∷ g0 ∷ []) (λ o x y. pos (begin o) +ℤ movk 0 (move x) y) target
+
+abbrev pub Moves3 : Step → Step → Step → (Operands → ℕ) → (ℕ → ℤ) → (Operands → ℕ) → Type 0
+Moves3 first g1 g0 begin move target =
+    Law (first ∷ g1 ∷ g0 ∷ []) (λ o x y z. pos (begin o) +ℤ movk 0 (movk 16 (move x) y) z) target
+
+abbrev pub Moves4 : Step → Step → Step → Step → (Operands → ℕ) → (ℕ → ℤ) → (Operands → ℕ) → Type 0
+Moves4 first g2 g1 g0 begin move target =
+    Law (first ∷ g2 ∷ g1 ∷ g0 ∷ [])
+    (λ o x y z u. pos (begin o) +ℤ movk 0 (movk 16 (movk 32 (move x) y) z) u) target
+
+abbrev pub UnsignedMoves : Type 0
+UnsignedMoves =
+    Moves1 (row_here names.R_AARCH64_MOVW_UABS_G0) zero (movz 0) symbol_address
+    × Moves2 (row_here names.R_AARCH64_MOVW_UABS_G1)
+    (row_anywhere names.R_AARCH64_MOVW_UABS_G0_NC) zero (movz 16) symbol_address
+    × Moves3 (row_here names.R_AARCH64_MOVW_UABS_G2)
+    (row_anywhere names.R_AARCH64_MOVW_UABS_G1_NC) (row_anywhere names.R_AARCH64_MOVW_UABS_G0_NC)
+    zero (movz 32) symbol_address
+    × Moves4 (row_here names.R_AARCH64_MOVW_UABS_G3)
+    (row_anywhere names.R_AARCH64_MOVW_UABS_G2_NC) (row_anywhere names.R_AARCH64_MOVW_UABS_G1_NC)
+    (row_anywhere names.R_AARCH64_MOVW_UABS_G0_NC) zero (movz 48) symbol_address
+
+abbrev pub signed_move : ℕ → AArch64Relocation → Step
+signed_move shift name = record (row_here name) { premise = has_shift shift }
+
+abbrev pub SignedMoves : Type 0
+SignedMoves =
+    Moves1 (signed_move 0 names.R_AARCH64_MOVW_SABS_G0) zero movn_or_movz symbol_address
+    × Moves2 (signed_move 16 names.R_AARCH64_MOVW_SABS_G1)
+    (row_anywhere names.R_AARCH64_MOVW_UABS_G0_NC) zero movn_or_movz symbol_address
+    × Moves3 (signed_move 32 names.R_AARCH64_MOVW_SABS_G2)
+    (row_anywhere names.R_AARCH64_MOVW_UABS_G1_NC) (row_anywhere names.R_AARCH64_MOVW_UABS_G0_NC)
+    zero movn_or_movz symbol_address
+
+-- a move so many bytes after the first
+abbrev pub relative_move : ℕ → AArch64Relocation → Step
+relative_move n name = moved_on n (aarch64_row name)
+
+abbrev pub RelativeMoves : Type 0
+RelativeMoves =
+    Moves1 (signed_move 0 names.R_AARCH64_MOVW_PREL_G0) place movn_or_movz symbol_address
+    × Moves2 (signed_move 16 names.R_AARCH64_MOVW_PREL_G1)
+    (relative_move 4 names.R_AARCH64_MOVW_PREL_G0_NC) place movn_or_movz symbol_address
+    × Moves3 (signed_move 32 names.R_AARCH64_MOVW_PREL_G2)
+    (relative_move 4 names.R_AARCH64_MOVW_PREL_G1_NC)
+    (relative_move 8 names.R_AARCH64_MOVW_PREL_G0_NC) place movn_or_movz symbol_address
+    × Moves4 (signed_move 48 names.R_AARCH64_MOVW_PREL_G3)
+    (relative_move 4 names.R_AARCH64_MOVW_PREL_G2_NC)
+    (relative_move 8 names.R_AARCH64_MOVW_PREL_G1_NC)
+    (relative_move 12 names.R_AARCH64_MOVW_PREL_G0_NC) place movn_or_movz symbol_address
+
+-- offsets from the GOT
+abbrev pub GotMoves1 : AArch64Relocation → Type 0
+GotMoves1 g0 = Moves1 (signed_move 0 g0) got_base movn_or_movz entry_address
+
+abbrev pub GotMoves2 : AArch64Relocation → AArch64Relocation → Type 0
+GotMoves2 g1 g0 =
+    Moves2 (signed_move 16 g1) (row_anywhere g0) got_base movn_or_movz entry_address
+
+abbrev pub GotMoves : Type 0
+GotMoves =
+    GotMoves1 names.R_AARCH64_MOVW_GOTOFF_G0
+    × GotMoves2 names.R_AARCH64_MOVW_GOTOFF_G1 names.R_AARCH64_MOVW_GOTOFF_G0_NC
+    × Moves3 (signed_move 32 names.R_AARCH64_MOVW_GOTOFF_G2)
+    (row_anywhere names.R_AARCH64_MOVW_GOTOFF_G1_NC)
+    (row_anywhere names.R_AARCH64_MOVW_GOTOFF_G0_NC) got_base movn_or_movz entry_address
+    × Moves4 (signed_move 48 names.R_AARCH64_MOVW_GOTOFF_G3)
+    (row_anywhere names.R_AARCH64_MOVW_GOTOFF_G2_NC)
+    (row_anywhere names.R_AARCH64_MOVW_GOTOFF_G1_NC)
+    (row_anywhere names.R_AARCH64_MOVW_GOTOFF_G0_NC) got_base movn_or_movz entry_address
+    × GotMoves2 names.R_AARCH64_TLSGD_MOVW_G1 names.R_AARCH64_TLSGD_MOVW_G0_NC
+    × GotMoves2 names.R_AARCH64_TLSLD_MOVW_G1 names.R_AARCH64_TLSLD_MOVW_G0_NC
+    × GotMoves2 names.R_AARCH64_TLSIE_MOVW_GOTTPREL_G1 names.R_AARCH64_TLSIE_MOVW_GOTTPREL_G0_NC
+    × GotMoves2 names.R_AARCH64_TLSDESC_OFF_G1 names.R_AARCH64_TLSDESC_OFF_G0_NC
+
+-- offsets of TLS
+abbrev pub OffsetMoves : AArch64Relocation → AArch64Relocation → AArch64Relocation
+    → AArch64Relocation → AArch64Relocation → Type 0
+OffsetMoves g2 g1 g1_nc g0 g0_nc =
+    Moves1 (signed_move 0 g0) tls_base movn_or_movz symbol_address
+    × Moves2 (signed_move 16 g1) (row_anywhere g0_nc) tls_base movn_or_movz symbol_address
+    × Moves3 (signed_move 32 g2) (row_anywhere g1_nc) (row_anywhere g0_nc) tls_base movn_or_movz
+    symbol_address
+
+abbrev pub ThreadMoves : Type 0
+ThreadMoves =
+    OffsetMoves names.R_AARCH64_TLSLE_MOVW_TPREL_G2 names.R_AARCH64_TLSLE_MOVW_TPREL_G1
+    names.R_AARCH64_TLSLE_MOVW_TPREL_G1_NC names.R_AARCH64_TLSLE_MOVW_TPREL_G0
+    names.R_AARCH64_TLSLE_MOVW_TPREL_G0_NC
+    × OffsetMoves names.R_AARCH64_TLSLD_MOVW_DTPREL_G2 names.R_AARCH64_TLSLD_MOVW_DTPREL_G1
+    names.R_AARCH64_TLSLD_MOVW_DTPREL_G1_NC names.R_AARCH64_TLSLD_MOVW_DTPREL_G0
+    names.R_AARCH64_TLSLD_MOVW_DTPREL_G0_NC
+
+-- ---- fields of data
+
+abbrev pub Fields : Type 0
+Fields =
+    HoldsDistance 8 (aarch64_row names.R_AARCH64_ABS64) zero symbol_address
+    × HoldsDistance 4 (aarch64_row names.R_AARCH64_ABS32) zero symbol_address
+    × HoldsDistance 2 (aarch64_row names.R_AARCH64_ABS16) zero symbol_address
+    × HoldsDistance 8 (aarch64_row names.R_AARCH64_PREL64) place symbol_address
+    × HoldsDistance 4 (aarch64_row names.R_AARCH64_PREL32) place symbol_address
+    × HoldsDistance 2 (aarch64_row names.R_AARCH64_PREL16) place symbol_address
+    × HoldsDistance 4 (aarch64_row names.R_AARCH64_PLT32) place plt_address
+    × HoldsDistance 8 (aarch64_row names.R_AARCH64_GOTREL64) got_base symbol_address
+    × HoldsDistance 4 (aarch64_row names.R_AARCH64_GOTREL32) got_base symbol_address
+    × HoldsDistance 4 (aarch64_row names.R_AARCH64_GOTPCREL32) place entry_and_addend

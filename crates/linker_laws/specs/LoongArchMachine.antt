@@ -1,0 +1,239 @@
+-- LoongArch: what the instructions of the rewrites do (LoongArch Reference Manual, volume 1). Any
+-- address can be read and written, and code is apart from memory.
+use Rattle.std.specs.Prelude.{ℕ, pos, ◌+ℤ◌, ◌*ℤ◌, ◌*◌, ◌/◌, ◌%◌, ◌^◌, ◌==◌, ◌&&◌, not, List, []}
+use Rattle.std.specs.Prelude.{◌∷◌, Option, Some, None, IsSomeAnd, ◌≡◌, Bool, true, false, bit_or}
+use Rattle.std.specs.Prelude.{bit_and, if◌then◌else◌}
+use Rattle.linker_base.specs.Bits.{field, signed}
+use Rattle.linker_elf.specs.LoongArch.{loongarch_form, pcalau12i}
+use Rattle.linker_loongarch64.specs.LoongArchRewrites.{adds_low12}
+use Rattle.linker_loongarch64.specs.LoongArchRewrites.{rd_of, rj_of}
+use Rattle.linker_elf.specs.Value.{sum_64}
+use Rattle.linker_elf.specs.declared.loongarch64.forms.LoongArch64Instruction.TheVariants.{Shift5}
+use Rattle.linker_elf.specs.declared.loongarch64.forms.LoongArch64Instruction.TheVariants.{Branch26}
+use Rattle.linker_laws.specs.Machine.{Memory, wrapped, extended, loaded, stored}
+
+-- ---- the state
+
+pub record Floats : Type 0 where
+  -- the floating-point registers by their numbers
+  pub numbers : ℕ → ℕ
+  -- What a register with a number has after a load of 32 bits. "FLD.S" says nothing of the bits
+  -- above.
+  pub widened : ℕ → ℕ → ℕ
+
+abbrev pub with_float : ℕ → ℕ → Floats → Floats
+with_float r v f = record f { numbers = λ m. if m == r then v else f.numbers m }
+
+pub record State : Type 0 where
+  -- the integer registers by their numbers
+  pub registers : ℕ → ℕ
+  pub floats : Floats
+  -- the address of the next instruction
+  pub pc : ℕ
+  pub memory : Memory
+
+-- `zero` is 0 whatever is written to it.
+abbrev pub read : ℕ → State → ℕ
+read n s = if n == 0 then 0 else s.registers n
+
+abbrev pub with_register : ℕ → ℕ → State → State
+with_register n v s = record s { registers = λ m. if m == n then v else s.registers m }
+
+abbrev pub write : ℕ → ℕ → State → State
+write n v s = if n == 0 then s else with_register n v s
+
+abbrev pub write_float : ℕ → ℕ → State → State
+write_float r v s = record s { floats = with_float r v s.floats }
+
+abbrev pub store : ℕ → ℕ → ℕ → State → State
+store bytes number address s = record s { memory = stored bytes number address s.memory }
+
+abbrev pub next_pc : State → ℕ
+next_pc s = sum_64 s.pc 4
+
+abbrev pub go_to : ℕ → State → State
+go_to address s = record s { pc = address }
+
+-- on to the next instruction
+abbrev pub go_on : State → State
+go_on s = go_to (next_pc s) s
+
+-- ---- what an instruction does with a sum
+
+-- What is done with the sum of the source register and the immediate. Loads and stores have a
+-- number of bytes.
+pub data Action : Type 0 where
+  -- `addi.d`; `addi.w`, whose sum has 32 bits
+  adds : Action
+  adds_word : Action
+  loads : ℕ → Action
+  loads_signed : ℕ → Action
+  stores : ℕ → Action
+  -- of floating-point registers
+  loads_single : Action
+  loads_double : Action
+  stores_single : Action
+  stores_double : Action
+
+-- by the upper 10 bits of a word, of those that `adds_low12` names
+abbrev pub action_of : ℕ → Action
+action_of opcode =
+    if opcode == 0x00a then adds_word else (
+    if opcode == 0x00b then adds else (
+    if opcode == 0x0a0 then loads_signed 1 else (
+    if opcode == 0x0a1 then loads_signed 2 else (
+    if opcode == 0x0a2 then loads_signed 4 else (
+    if opcode == 0x0a3 then loads 8 else (
+    if opcode == 0x0a4 then stores 1 else (
+    if opcode == 0x0a5 then stores 2 else (
+    if opcode == 0x0a6 then stores 4 else (
+    if opcode == 0x0a7 then stores 8 else (
+    if opcode == 0x0a8 then loads 1 else (
+    if opcode == 0x0a9 then loads 2 else (
+    if opcode == 0x0aa then loads 4 else (
+    if opcode == 0x0ac then loads_single else (
+    if opcode == 0x0ad then stores_single else (
+    if opcode == 0x0ae then loads_double else stores_double)))))))))))))))
+
+-- whether an integer register is written
+abbrev pub writes_register : Action → Bool
+writes_register adds = true
+writes_register adds_word = true
+writes_register (loads n) = true
+writes_register (loads_signed n) = true
+writes_register action = false
+
+-- what is done with a sum and register r
+abbrev pub used : Action → ℕ → ℕ → State → State
+used adds r sum s = write r sum s
+used adds_word r sum s = write r (extended 32 (sum % 2 ^ 32)) s
+used (loads n) r sum s = write r (loaded n s.memory sum) s
+used (loads_signed n) r sum s = write r (extended (8 * n) (loaded n s.memory sum)) s
+used (stores n) r sum s = store n (read r s) sum s
+used loads_single r sum s =
+    write_float r (s.floats.widened (s.floats.numbers r) (loaded 4 s.memory sum)) s
+used loads_double r sum s = write_float r (loaded 8 s.memory sum) s
+used stores_single r sum s = store 4 (s.floats.numbers r) sum s
+used stores_double r sum s = store 8 (s.floats.numbers r) sum s
+
+-- ---- which instruction a word is
+
+pub data Instruction : Type 0 where
+  pcalau_12 : Instruction
+  pcadd_2 : Instruction
+  pcaddu_18 : Instruction
+  lu12i_w : Instruction
+  sums : Action → Instruction
+  ori : Instruction
+  andi : Instruction
+  jirl : Instruction
+  b : Instruction
+  bl : Instruction
+  add_d : Instruction
+  other : Instruction
+
+-- `pcalau12i`, `pcaddi`, `pcaddu18i`, `lu12i.w`; those that `adds_low12` names; `ori`, `andi`;
+-- `jirl`, `b`, `bl`; `add.d`
+abbrev pub decode : ℕ → Instruction
+decode word =
+    if word / 2 ^ 25 == 0x0d then pcalau_12 else (
+    if word / 2 ^ 25 == 0x0c then pcadd_2 else (
+    if word / 2 ^ 25 == 0x0f then pcaddu_18 else (
+    if word / 2 ^ 25 == 0x0a then lu12i_w else (
+    if adds_low12 (word / 2 ^ 22) then sums (action_of (word / 2 ^ 22)) else (
+    if word / 2 ^ 22 == 0x00e then ori else (
+    if word / 2 ^ 22 == 0x00d then andi else (
+    if word / 2 ^ 26 == 0x13 then jirl else (
+    if word / 2 ^ 26 == 0x14 then b else (
+    if word / 2 ^ 26 == 0x15 then bl else (
+    if word / 2 ^ 15 == 0x21 then add_d else other))))))))))
+
+-- ---- what it does
+
+-- "PCALAU12I": the immediate, in pages, is added to the address, and the low 12 bits are cleared.
+abbrev pub page_address : ℕ → State → ℕ
+page_address word s = wrapped (pcalau12i s.pc word)
+
+-- "PCADDI": the immediate is in units of 4 bytes.
+abbrev pub near_address : ℕ → State → ℕ
+near_address word s = wrapped (pos s.pc +ℤ ((loongarch_form Shift5).machine word *ℤ pos 4))
+
+-- "PCADDU18I": in units of 2^18 bytes
+abbrev pub far_address : ℕ → State → ℕ
+far_address word s = wrapped (pos s.pc +ℤ (signed 20 (field word 5 25) *ℤ pos (2 ^ 18)))
+
+-- "LU12I.W": in units of 2^12, of 32 bits in two's complement
+abbrev pub high_part : ℕ → ℕ
+high_part word = wrapped (signed 20 (field word 5 25) *ℤ pos 4096)
+
+-- "ADDI.{W/D}", and the address of a load or a store: the immediate is signed.
+abbrev pub sum_of : ℕ → State → ℕ
+sum_of word s = wrapped (pos (read (rj_of word) s) +ℤ signed 12 (field word 10 22))
+
+-- "ORI", "ANDI": the immediate has no sign.
+abbrev pub ored : ℕ → State → ℕ
+ored word s = bit_or (read (rj_of word) s) (field word 10 22)
+
+abbrev pub anded : ℕ → State → ℕ
+anded word s = bit_and (read (rj_of word) s) (field word 10 22)
+
+-- "JIRL": the immediate, in units of 4 bytes, is added to a register.
+abbrev pub register_target : ℕ → State → ℕ
+register_target word s =
+    wrapped (pos (read (rj_of word) s) +ℤ (signed 16 (field word 10 26) *ℤ pos 4))
+
+-- "B", "BL": in units of 4 bytes
+abbrev pub branch_target : ℕ → State → ℕ
+branch_target word s = wrapped (pos s.pc +ℤ ((loongarch_form Branch26).machine word *ℤ pos 4))
+
+-- "ADD.D"
+abbrev pub added : ℕ → State → ℕ
+added word s = sum_64 (read (rj_of word) s) (read (field word 10 15) s)
+
+-- The state after an instruction. "JIRL" reads its register before it writes the link.
+abbrev pub execute : Instruction → ℕ → State → Option State
+execute pcalau_12 word s = Some (go_on (write (rd_of word) (page_address word s) s))
+execute pcadd_2 word s = Some (go_on (write (rd_of word) (near_address word s) s))
+execute pcaddu_18 word s = Some (go_on (write (rd_of word) (far_address word s) s))
+execute lu12i_w word s = Some (go_on (write (rd_of word) (high_part word) s))
+execute (sums action) word s = Some (go_on (used action (rd_of word) (sum_of word s) s))
+execute ori word s = Some (go_on (write (rd_of word) (ored word s) s))
+execute andi word s = Some (go_on (write (rd_of word) (anded word s) s))
+execute jirl word s = Some (go_to (register_target word s) (write (rd_of word) (next_pc s) s))
+execute b word s = Some (go_to (branch_target word s) s)
+execute bl word s = Some (go_to (branch_target word s) (write 1 (next_pc s) s))
+execute add_d word s = Some (go_on (write (rd_of word) (added word s) s))
+execute other word s = None
+
+abbrev pub step : ℕ → State → Option State
+step word s = execute (decode word) word s
+
+-- ---- sequences
+
+-- what a run is after its first instruction, if that goes on to the next
+abbrev pub continue : ℕ → (State → Option State) → Option State → Option State
+continue next rest None = None
+continue next rest (Some s) = if s.pc == next then rest s else None
+
+-- Words that stand one after the other from the state's address up are executed, each after the one
+-- before it, and then the last, which may go anywhere.
+abbrev pub run : List ℕ → State → Option State
+run [] s = Some s
+run (word ∷ []) s = step word s
+run (word ∷ words) s = continue (next_pc s) (run words) (step word s)
+
+-- ---- states that are alike
+
+-- The states differ in no more than their addresses and some registers.
+pub record AreAlikeBut (differing : ℕ → Bool) (s t : State) : Type 0 where
+  pub registers : (n : ℕ) → differing n ≡ false → read n s ≡ read n t
+  pub floats : s.floats ≡ t.floats
+  pub memory : s.memory ≡ t.memory
+
+-- registers that differ, but for one that an instruction writes
+abbrev pub but_written : (ℕ → Bool) → Action → ℕ → ℕ → Bool
+but_written differing action r n = differing n && not (writes_register action && n == r)
+
+-- The old code runs from one state and the new code from another, and P holds of the ends.
+abbrev pub EndSo : List ℕ → State → List ℕ → State → (State → State → Type 0) → Type 0
+EndSo old s new t P = IsSomeAnd (run old s) (λ u. IsSomeAnd (run new t) (λ v. P u v))

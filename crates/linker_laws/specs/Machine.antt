@@ -1,0 +1,69 @@
+-- What the machines have in common: sums of 64 bits, bytes of memory, and code to which a
+-- relocation was applied.
+use Rattle.std.specs.Prelude.{ℕ, zero, suc, ◌+◌, ◌*◌, ◌^◌, ◌<◌, ℤ, pos, ◌+ℤ◌, nat_lt, List}
+use Rattle.std.specs.Prelude.{◌++◌, length, ◌≡◌, take, drop, Option, IsSomeAnd, All, if◌then◌else◌}
+use Rattle.std.specs.Int.{int_rem_euclid, w64, cast_unsigned}
+use Rattle.std.specs.Prelude.{unsigned_abs, Bool, not, ◌&&◌, ◌||◌, ◌==◌}
+use Rattle.linker_base.specs.Bits.{field, signed}
+use Rattle.linker_elf.specs.Value.{sum_64, difference_64}
+use Rattle.linker_elf.specs.declared.elf.RelocationKindInfo.{RelocationKindInfo}
+use Rattle.linker_elf.specs.declared.elf.value.Operands.{Operands}
+use Rattle.linker_elf.specs.Applied.{IsApplied}
+
+-- ---- numbers
+
+-- a number modulo 2 ^ 64
+abbrev pub wrapped : ℤ → ℕ
+wrapped z = unsigned_abs (int_rem_euclid z (pos (2 ^ 64)))
+
+-- an address, or a register's number, plus a signed one, modulo 2 ^ 64
+abbrev pub moved : ℕ → ℤ → ℕ
+moved n z = wrapped (pos n +ℤ z)
+
+-- n bits in two's complement, extended to 64
+abbrev pub extended : ℕ → ℕ → ℕ
+extended n v = cast_unsigned w64 (signed n v)
+
+-- ---- sets of registers
+
+-- register n too, and all but register n
+abbrev pub also : ℕ → (ℕ → Bool) → ℕ → Bool
+also n differs m = m == n || differs m
+
+abbrev pub but : ℕ → (ℕ → Bool) → ℕ → Bool
+but n differs m = not (m == n) && differs m
+
+-- ---- memory
+
+-- a byte by each address
+abbrev pub Memory : Type 0
+Memory = ℕ → ℕ
+
+-- the little-endian number of n bytes from an address on
+abbrev pub loaded : ℕ → Memory → ℕ → ℕ
+loaded zero memory address = 0
+loaded (suc n) memory address =
+    memory address + 256 * loaded n memory (sum_64 address 1)
+
+-- the memory after the low n bytes of a number are stored from an address on
+abbrev pub stored : ℕ → ℕ → ℕ → Memory → Memory
+stored n number address memory at =
+    let k = difference_64 at address in
+    if nat_lt k n then field number (8 * k) (8 * k + 8) else memory at
+
+-- ---- code
+
+abbrev pub AreBytes : List ℕ → Type 0
+AreBytes code = All (λ byte. byte < 2 ^ 8) code
+
+-- The code is what was there, with the relocation's value written where it begins.
+pub record Relocated (row : Option RelocationKindInfo) (o : Operands) (before code : List ℕ)
+    : Type 0 where
+  pub applied : IsSomeAnd row (λ row. IsApplied row o before code)
+  pub len : length code ≡ length before
+  pub old_bytes : AreBytes before
+  pub bytes : AreBytes code
+
+-- n bytes are deleted
+abbrev pub deleted : ℕ → ℕ → List ℕ → List ℕ
+deleted n o section = take o section ++ drop (o + n) section

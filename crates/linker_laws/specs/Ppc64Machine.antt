@@ -1,0 +1,243 @@
+-- PowerPC64: what the instructions of a rewrite's sequences do (Power ISA, version 3.1, book I, "Branch
+-- Facility", "Fixed-Point Facility" and "Floating-Point Facility"). Any address can be read and
+-- written, and code is apart from memory. None of the instructions changes the condition register.
+use Rattle.std.specs.Prelude.{◌≡◌, ℕ, ◌-◌, ◌*◌, ◌/◌, ◌^◌, ◌==◌, ◌&&◌, not, nat_lt, Bool}
+use Rattle.std.specs.Prelude.{if◌then◌else◌, true, false, List, [], ◌∷◌, pos, ◌*ℤ◌}
+use Rattle.std.specs.Prelude.{Option, Some, None, IsSomeAnd}
+use Rattle.linker_base.specs.Bits.{field}
+use Rattle.linker_elf.specs.Ppc64.{ppc64_form}
+use Rattle.linker_ppc64.specs.Ppc64Rewrites.{is_access, is_word_access}
+use Rattle.linker_ppc64.specs.Ppc64Rewrites.{opcode_of, rt_of, ra_of, rb_of, access_of, nop}
+use Rattle.linker_elf.specs.Value.{sum_64}
+use Rattle.linker_elf.specs.declared.ppc64.forms.Ppc64Instruction.TheVariants.{D, Ds, Branch24}
+use Rattle.linker_elf.specs.declared.ppc64.forms.Ppc64Instruction.TheVariants.{Prefixed}
+use Rattle.linker_laws.specs.Machine.{Memory, moved, extended, loaded, stored}
+
+-- ---- the state
+
+pub record State : Type 0 where
+  -- the registers by their numbers; floating-point ones in double precision
+  pub registers : ℕ → ℕ
+  pub floats : ℕ → ℕ
+  -- the link register, and the address of the next instruction
+  pub link : ℕ
+  pub pc : ℕ
+  pub memory : Memory
+
+-- what a register is as a base: register 0 stands for the number 0
+abbrev pub base : ℕ → State → ℕ
+base r s = if r == 0 then 0 else s.registers r
+
+abbrev pub with_number : ℕ → ℕ → (ℕ → ℕ) → ℕ → ℕ
+with_number r v registers n = if n == r then v else registers n
+
+abbrev pub write : ℕ → ℕ → State → State
+write r v s = record s { registers = with_number r v s.registers }
+
+abbrev pub write_float : ℕ → ℕ → State → State
+write_float r v s = record s { floats = with_number r v s.floats }
+
+abbrev pub store : ℕ → ℕ → ℕ → State → State
+store bytes number address s = record s { memory = stored bytes number address s.memory }
+
+abbrev pub go_to : ℕ → State → State
+go_to address s = record s { pc = address }
+
+abbrev pub next_pc : State → ℕ
+next_pc s = sum_64 s.pc 4
+
+-- on to the next instruction
+abbrev pub go_on : State → State
+go_on s = go_to (next_pc s) s
+
+-- ---- loads and stores
+
+-- What a load or a store does: how many bytes it takes, and what kind of number.
+pub data Access : Type 0 where
+  loads : ℕ → Access
+  loads_signed : ℕ → Access
+  stores : ℕ → Access
+  loads_single : Access
+  loads_double : Access
+  stores_single : Access
+  stores_double : Access
+  no_access : Access
+
+-- whether a register of the fixed-point facility is written, or read
+abbrev pub loads_register : Access → Bool
+loads_register (loads n) = true
+loads_register (loads_signed n) = true
+loads_register a = false
+
+abbrev pub stores_register : Access → Bool
+stores_register (stores n) = true
+stores_register a = false
+
+-- by the opcode less 32, or the upper half of the extended opcode
+abbrev pub access_with : ℕ → Access
+access_with n =
+    if n == 0 then loads 4 else (
+    if n == 2 then loads 1 else (
+    if n == 4 then stores 4 else (
+    if n == 6 then stores 1 else (
+    if n == 8 then loads 2 else (
+    if n == 10 then loads_signed 2 else (
+    if n == 12 then stores 2 else (
+    if n == 16 then loads_single else (
+    if n == 18 then loads_double else (
+    if n == 20 then stores_single else (
+    if n == 22 then stores_double else no_access))))))))))
+
+-- `ldx`, `stdx` and `lwax`, by the upper half of the extended opcode
+abbrev pub word_access_with : ℕ → Access
+word_access_with n =
+    if n == 0 then loads 8 else (
+    if n == 4 then stores 8 else (
+    if n == 10 then loads_signed 4 else no_access))
+
+-- How numbers of single and double precision are made of one another.
+pub record Formats : Type 0 where
+  pub widened : ℕ → ℕ
+  pub narrowed : ℕ → ℕ
+
+-- an access of register r at an address
+abbrev pub accessed : Formats → Access → ℕ → ℕ → State → State
+accessed f (loads n) r a s = write r (loaded n s.memory a) s
+accessed f (loads_signed n) r a s = write r (extended (8 * n) (loaded n s.memory a)) s
+accessed f (stores n) r a s = store n (s.registers r) a s
+accessed f loads_single r a s = write_float r (f.widened (loaded 4 s.memory a)) s
+accessed f loads_double r a s = write_float r (loaded 8 s.memory a) s
+accessed f stores_single r a s = store 4 (f.narrowed (s.floats r)) a s
+accessed f stores_double r a s = store 8 (s.floats r) a s
+accessed f no_access r a s = s
+
+-- ---- which instruction a word is
+
+pub data Instruction : Type 0 where
+  addi : Instruction
+  addis : Instruction
+  add : Instruction
+  -- D-form, DS-form, and with an index
+  access : Access → Instruction
+  word_access : Access → Instruction
+  indexed : Access → Instruction
+  bl : Instruction
+  no_operation : Instruction
+  other : Instruction
+
+-- extended opcodes, without bit 0 or with 0 there
+abbrev pub of_31 : ℕ → Instruction
+of_31 word =
+    if field word 0 11 == 0x214 then add else (
+    if field word 0 6 == 0x2e && is_access (access_of word)
+    then indexed (access_with (access_of word)) else (
+    if field word 0 6 == 0x2a && is_word_access (access_of word)
+    then indexed (word_access_with (access_of word)) else other))
+
+-- `ld` and `lwa`; `std`
+abbrev pub of_58 : ℕ → Instruction
+of_58 low =
+    if low == 0 then word_access (loads 8) else (
+    if low == 2 then word_access (loads_signed 4) else other)
+
+abbrev pub of_62 : ℕ → Instruction
+of_62 low = if low == 0 then word_access (stores 8) else other
+
+abbrev pub by_opcode : ℕ → ℕ → Instruction
+by_opcode opcode word =
+    if opcode == 14 then addi else (
+    if opcode == 15 then addis else (
+    if opcode == 18 then (if field word 0 2 == 1 then bl else other) else (
+    if opcode == 24 then (if word == nop then no_operation else other) else (
+    if opcode == 31 then of_31 word else (
+    if opcode == 58 then of_58 (field word 0 2) else (
+    if opcode == 62 then of_62 (field word 0 2) else (
+    if nat_lt 31 opcode && is_access (opcode - 32)
+    then access (access_with (opcode - 32)) else other)))))))
+
+abbrev pub decode : ℕ → Instruction
+decode word = by_opcode (opcode_of word) word
+
+-- ---- what it does
+
+-- the base and the displacement
+abbrev pub d_address : ℕ → State → ℕ
+d_address word s = moved (base (ra_of word) s) ((ppc64_form D).machine word)
+
+abbrev pub ds_address : ℕ → State → ℕ
+ds_address word s = moved (base (ra_of word) s) ((ppc64_form Ds).machine word)
+
+abbrev pub indexed_address : ℕ → State → ℕ
+indexed_address word s = sum_64 (base (ra_of word) s) (s.registers (rb_of word))
+
+-- "Add Immediate Shifted"
+abbrev pub shifted_sum : ℕ → State → ℕ
+shifted_sum word s = moved (base (ra_of word) s) ((ppc64_form D).machine word *ℤ pos (2 ^ 16))
+
+-- The state after an instruction.
+abbrev pub execute : Formats → Instruction → ℕ → State → Option State
+execute f addi word s = Some (go_on (write (rt_of word) (d_address word s) s))
+execute f addis word s = Some (go_on (write (rt_of word) (shifted_sum word s) s))
+execute f add word s =
+    Some (go_on (write (rt_of word) (sum_64 (s.registers (ra_of word)) (s.registers (rb_of word))) s))
+execute f (access a) word s = Some (go_on (accessed f a (rt_of word) (d_address word s) s))
+execute f (word_access a) word s = Some (go_on (accessed f a (rt_of word) (ds_address word s) s))
+execute f (indexed a) word s = Some (go_on (accessed f a (rt_of word) (indexed_address word s) s))
+execute f bl word s =
+    Some (go_to (moved s.pc ((ppc64_form Branch24).machine word)) (record s { link = next_pc s }))
+execute f no_operation word s = Some (go_on s)
+execute f other word s = None
+
+abbrev pub step : Formats → ℕ → State → Option State
+step f word s = execute f (decode word) word s
+
+-- `pld` and `paddi`, relative to the instruction, by the number of their 8 bytes: its lower 32 bits are
+-- the prefix.
+abbrev pub step_prefixed : Formats → ℕ → State → Option State
+step_prefixed f both s =
+    if field both 18 32 == 0x104 && (opcode_of (both / 2 ^ 32) == 57 && ra_of (both / 2 ^ 32) == 0)
+    then Some (accessed f (loads 8) (rt_of (both / 2 ^ 32))
+    (moved s.pc ((ppc64_form Prefixed).machine both)) (go_to (sum_64 s.pc 8) s))
+    else (if field both 18 32 == 0x184
+    && (opcode_of (both / 2 ^ 32) == 14 && ra_of (both / 2 ^ 32) == 0)
+    then Some (write (rt_of (both / 2 ^ 32)) (moved s.pc ((ppc64_form Prefixed).machine both))
+    (go_to (sum_64 s.pc 8) s))
+    else None)
+
+-- ---- sequences
+
+-- on behind some instructions
+abbrev pub gone_on : List ℕ → State → State
+gone_on [] s = s
+gone_on (word ∷ words) s = gone_on words (go_on s)
+
+-- what a run is after its first instruction, if that goes on to the next
+abbrev pub continue : ℕ → (State → Option State) → Option State → Option State
+continue next rest None = None
+continue next rest (Some s) = if s.pc == next then rest s else None
+
+-- Words that stand one after the other from the state's address up are executed, each after the one
+-- before it, and then the last, which may go anywhere.
+abbrev pub run : Formats → List ℕ → State → Option State
+run f [] s = Some s
+run f (word ∷ []) s = step f word s
+run f (word ∷ words) s = continue (next_pc s) (run f words) (step f word s)
+
+-- ---- states that are alike
+
+-- The states differ in no more than some registers.
+pub record AreAlikeBut (differing : ℕ → Bool) (s t : State) : Type 0 where
+  pub registers : (n : ℕ) → differing n ≡ false → s.registers n ≡ t.registers n
+  pub floats : s.floats ≡ t.floats
+  pub link : s.link ≡ t.link
+  pub pc : s.pc ≡ t.pc
+  pub memory : s.memory ≡ t.memory
+
+-- Both sequences run, and end in such states.
+abbrev pub RunAlikeBut : Formats → (ℕ → Bool) → List ℕ → List ℕ → State → Type 0
+RunAlikeBut f differing old new s =
+    IsSomeAnd (run f old s) (λ t. IsSomeAnd (run f new s) (λ u. AreAlikeBut differing t u))
+
+-- registers that differ, but for one that an access loads
+abbrev pub but_loaded : (ℕ → Bool) → Access → ℕ → ℕ → Bool
+but_loaded differing a r n = differing n && not (loads_register a && n == r)

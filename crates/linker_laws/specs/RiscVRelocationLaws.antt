@@ -1,0 +1,134 @@
+-- RISC-V: what relocated instructions compute (RISC-V ELF psABI, "Relocations"; the instructions by
+-- the RISC-V unprivileged ISA).
+use Rattle.std.specs.Prelude.{ℕ, [], ◌∷◌, ℤ, pos, ◌+ℤ◌, ◌-ℤ◌, ◌-◌, ◌%◌, Option, Some}
+use Rattle.std.specs.Int.{int_rem_euclid}
+use Rattle.linker_elf.specs.RiscV.{riscv_form}
+use Rattle.linker_elf.specs.RiscVRelocations.{riscv_relocation, riscv_row, clui_row}
+use Rattle.linker_elf.specs.declared.elf.RelocationKindInfo.{RelocationKindInfo}
+use Rattle.linker_elf.specs.declared.riscv64.forms.RiscVInstruction.{RiscVInstruction}
+use Rattle.linker_elf.specs.declared.riscv64.forms.RiscVInstruction.TheVariants.{UType, IType}
+use Rattle.linker_elf.specs.declared.riscv64.forms.RiscVInstruction.TheVariants.{SType, BType}
+use Rattle.linker_elf.specs.declared.riscv64.forms.RiscVInstruction.TheVariants.{JType, CbType}
+use Rattle.linker_elf.specs.declared.riscv64.forms.RiscVInstruction.TheVariants.{CjType}
+use Rattle.linker_elf.specs.declared.riscv64.forms.RiscVInstruction.TheVariants.{CluiType, UiType}
+use Rattle.linker_elf.specs.declared.elf.value.Operands.{Operands}
+use Rattle.linker_elf.specs.declared.riscv64.relocations.RiscVRelocation.{RiscVRelocation}
+use Rattle.linker_elf.specs.declared.riscv64.relocations.RiscVRelocation.TheVariants as names
+use Rattle.linker_laws.specs.Differences.{AddsDistance, SetsDistance, SetsDistance6}
+use Rattle.linker_laws.specs.Schemes.{HoldsDistance, Step, here, Law, Adds, symbol_address}
+use Rattle.linker_laws.specs.Schemes.{plt_address}
+use Rattle.linker_laws.specs.Schemes.{entry_and_addend, zero, place, tls_base}
+
+-- ---- an upper and a low part ("LUI", "AUIPC", "ADDI"; psABI, "Absolute Addresses", "PC-Relative
+-- Symbol Addresses", "Local Exec", "Initial Exec", "Global Dynamic", "TLS Descriptors")
+
+-- What `lui` puts in a register, or `auipc` adds to its own address, and what an instruction with a
+-- low part adds to that. An offset of TLS is added to the thread pointer too.
+abbrev pub upper_and_low : (Operands → ℕ) → RiscVInstruction → RiscVInstruction → Operands → ℕ → ℕ
+    → ℤ
+upper_and_low begin upper low o x y =
+    pos (begin o) +ℤ ((riscv_form upper).machine x +ℤ (riscv_form low).machine y)
+
+-- an upper part, and the low part of a load or an `addi` and that of a store
+abbrev pub Pairs : (Operands → ℕ) → RiscVInstruction → Option RelocationKindInfo → Step → Step
+    → (Operands → ℕ) → Type 0
+Pairs begin upper high load store target =
+    Law (here high ∷ load ∷ []) (upper_and_low begin upper IType) target
+    × Law (here high ∷ store ∷ []) (upper_and_low begin upper SType) target
+
+-- the low part of an `auipc`, which has the operands of the high part
+abbrev pub low_load : Step
+low_load = here (riscv_row names.R_RISCV_PCREL_LO12_I)
+
+abbrev pub low_store : Step
+low_store = here (riscv_row names.R_RISCV_PCREL_LO12_S)
+
+-- the low part whose high part refers to a GOT entry
+abbrev pub of_entry : Step → Step
+of_entry step = record step { operands = λ o at. record o { symbol = o.got_entry } }
+
+abbrev pub Entries : RiscVRelocation → Type 0
+Entries name =
+    Pairs place UType (riscv_row name) (of_entry low_load) (of_entry low_store) entry_and_addend
+
+abbrev pub AbsoluteAddresses : Type 0
+AbsoluteAddresses =
+    Pairs zero UType (riscv_row names.R_RISCV_HI20) (here (riscv_row names.R_RISCV_LO12_I))
+    (here (riscv_row names.R_RISCV_LO12_S)) symbol_address
+    × Pairs zero CluiType (Some clui_row) (here (riscv_row names.R_RISCV_LO12_I))
+    (here (riscv_row names.R_RISCV_LO12_S)) symbol_address
+
+abbrev pub RelativeAddresses : Type 0
+RelativeAddresses =
+    Pairs place UType (riscv_row names.R_RISCV_PCREL_HI20) low_load low_store symbol_address
+
+abbrev pub EntryAddresses : Type 0
+EntryAddresses =
+    Entries names.R_RISCV_GOT_HI20 × Entries names.R_RISCV_TLS_GOT_HI20
+    × Entries names.R_RISCV_TLS_GD_HI20
+
+-- a descriptor, by its load and by the address that is passed on
+abbrev pub Descriptor : RiscVRelocation → Type 0
+Descriptor low =
+    Law
+    (here ((riscv_relocation names.R_RISCV_TLSDESC_HI20).row)
+    ∷ here ((riscv_relocation low).row) ∷ []) (upper_and_low place UType IType)
+    entry_and_addend
+
+abbrev pub DescriptorAddresses : Type 0
+DescriptorAddresses =
+    Descriptor names.R_RISCV_TLSDESC_LOAD_LO12 × Descriptor names.R_RISCV_TLSDESC_ADD_LO12
+
+abbrev pub ThreadAddresses : Type 0
+ThreadAddresses =
+    Pairs tls_base UType (riscv_row names.R_RISCV_TPREL_HI20)
+    (here (riscv_row names.R_RISCV_TPREL_LO12_I)) (here (riscv_row names.R_RISCV_TPREL_LO12_S))
+    symbol_address
+
+-- ---- calls and jumps ("JALR", "JAL", "Conditional Branches"; psABI, "Procedure Calls")
+
+-- `jalr` sets bit 0 of the sum to 0.
+abbrev pub without_bit_0 : ℤ → ℤ
+without_bit_0 sum = sum -ℤ int_rem_euclid sum (pos 2)
+
+abbrev pub even : (Operands → ℕ) → Operands → ℕ
+even address o = address o - address o % 2
+
+abbrev pub Call : RiscVRelocation → Type 0
+Call name =
+    Law (here (riscv_row name) ∷ [])
+    (λ o x. without_bit_0 (pos o.place +ℤ (riscv_form UiType).machine x)) (even plt_address)
+
+abbrev pub Calls : Type 0
+Calls = Call names.R_RISCV_CALL × Call names.R_RISCV_CALL_PLT
+
+abbrev pub Jump : RiscVRelocation → RiscVInstruction → Type 0
+Jump name f = Adds (here (riscv_row name)) place (riscv_form f).machine 1 symbol_address
+
+abbrev pub Jumps : Type 0
+Jumps =
+    Jump names.R_RISCV_JAL JType × Jump names.R_RISCV_BRANCH BType
+    × Jump names.R_RISCV_RVC_JUMP CjType × Jump names.R_RISCV_RVC_BRANCH CbType
+
+-- ---- differences of labels (psABI, "Relocation Types": ADD, SUB, SET)
+
+abbrev pub Distances : Type 0
+Distances =
+    AddsDistance 1 (riscv_row names.R_RISCV_ADD8) (riscv_row names.R_RISCV_SUB8)
+    × AddsDistance 2 (riscv_row names.R_RISCV_ADD16) (riscv_row names.R_RISCV_SUB16)
+    × AddsDistance 4 (riscv_row names.R_RISCV_ADD32) (riscv_row names.R_RISCV_SUB32)
+    × AddsDistance 8 (riscv_row names.R_RISCV_ADD64) (riscv_row names.R_RISCV_SUB64)
+    × SetsDistance 1 (riscv_row names.R_RISCV_SET8) (riscv_row names.R_RISCV_SUB8)
+    × SetsDistance 2 (riscv_row names.R_RISCV_SET16) (riscv_row names.R_RISCV_SUB16)
+    × SetsDistance 4 (riscv_row names.R_RISCV_SET32) (riscv_row names.R_RISCV_SUB32)
+    × SetsDistance6 (riscv_row names.R_RISCV_SET6) (riscv_row names.R_RISCV_SUB6)
+
+-- ---- fields of data
+
+abbrev pub Fields : Type 0
+Fields =
+    HoldsDistance 4 (riscv_row names.R_RISCV_32) zero symbol_address
+    × HoldsDistance 8 (riscv_row names.R_RISCV_64) zero symbol_address
+    × HoldsDistance 4 (riscv_row names.R_RISCV_32_PCREL) place symbol_address
+    × HoldsDistance 4 (riscv_row names.R_RISCV_PLT32) place plt_address
+    × HoldsDistance 4 (riscv_row names.R_RISCV_GOT32_PCREL) place entry_and_addend
