@@ -20,7 +20,7 @@ use Rattle.linker_laws.proofs.Moves.{movn_highest, movz_highest}
 use Rattle.linker_laws.proofs.Pages.{pages, high_and_low_parts, IsUnsigned, got_page_small}
 use Rattle.linker_laws.proofs.Sums.{difference_below}
 use Rattle.linker_laws.specs.AArch64RelocationLaws.{got_page, movz, movn_or_movz, has_shift}
-use Rattle.linker_laws.proofs.aarch64.Goals as goal
+use Rattle.linker_laws.proofs.relocations.aarch64.Goals as goal
 
 add_is : IsUnsigned Add
 add_is = (refl, refl, refl, λ c x. refl)

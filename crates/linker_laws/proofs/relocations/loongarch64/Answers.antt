@@ -26,7 +26,7 @@ use Rattle.linker_laws.proofs.PartsOfAddresses.{page_pairs, page_jumps, two_part
 use Rattle.linker_laws.proofs.PartsOfAddresses.{four_parts}
 use Rattle.linker_laws.proofs.PartsOfAddresses.{five_parts, calls_far, high_parts}
 use Rattle.linker_laws.proofs.Sums.{difference_below, sum_below, multiple_part}
-use Rattle.linker_laws.proofs.loongarch64.Goals as goal
+use Rattle.linker_laws.proofs.relocations.loongarch64.Goals as goal
 
 is_false : (is : Bool) → not is ≡ true → is ≡ false
 is_false true h = cc

@@ -16,7 +16,7 @@ use Rattle.linker_laws.proofs.Halves.{adjusted_halves, high_half, unadjusted_hal
 use Rattle.linker_laws.proofs.Halves.{ds_reads}
 use Rattle.linker_laws.proofs.Halves.{relative_rounds, absolute_rounds, unrounded}
 use Rattle.linker_laws.proofs.Sums.{difference_below, sum_below}
-use Rattle.linker_laws.proofs.ppc64.Goals as goal
+use Rattle.linker_laws.proofs.relocations.ppc64.Goals as goal
 
 pub returns-clause-absolute : goal.returns-clause-absolute
 returns-clause-absolute c = (

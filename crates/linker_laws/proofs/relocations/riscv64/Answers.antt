@@ -8,7 +8,7 @@ use Rattle.linker_laws.proofs.Instructions.{entry_and_addend_from_place, symbol_
 use Rattle.linker_laws.proofs.Instructions.{symbol_itself}
 use Rattle.linker_laws.proofs.Differences.{adds_distance, sets_distance, sets_distance_6}
 use Rattle.linker_laws.proofs.RiscV.{pairs, calls, Completes}
-use Rattle.linker_laws.proofs.riscv64.Goals as goal
+use Rattle.linker_laws.proofs.relocations.riscv64.Goals as goal
 
 by_load : Completes UType IType
 by_load bits v after h = h.0

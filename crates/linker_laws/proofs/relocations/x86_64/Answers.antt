@@ -6,7 +6,7 @@ use Rattle.linker_laws.proofs.Instructions.{symbol_from_place, plt_from_place, s
 use Rattle.linker_laws.proofs.Instructions.{entry_and_addend_from_place, symbol_itself}
 use Rattle.linker_laws.proofs.Instructions.{entry_and_addend_from_got, symbol_from_got}
 use Rattle.linker_laws.proofs.Instructions.{plt_from_got, size_itself}
-use Rattle.linker_laws.proofs.x86_64.Goals as goal
+use Rattle.linker_laws.proofs.relocations.x86_64.Goals as goal
 
 pub returns-clause-symbols : goal.returns-clause-symbols
 returns-clause-symbols c = (

@@ -53,7 +53,7 @@ use Rattle.linker_elf.specs.declared.aarch64.relocations.AArch64Relocation.TheVa
 use Rattle.linker_laws.specs.AArch64Machine.{RunAlike}
 use Rattle.linker_laws.proofs.AArch64Near.{near}
 use Rattle.linker_laws.proofs.AArch64Words.{IsAdrOf}
-use Rattle.linker_laws.proofs.aarch64.Goals as goal
+use Rattle.linker_laws.proofs.rewrites.aarch64.Goals as goal
 
 small_behind : (n : ℕ) (o : Operands) → AreAddresses o → AreAddresses (behind n o)
 small_behind n o small =

@@ -6,7 +6,7 @@ use Rattle.linker_laws.proofs.LoongArchHalves.{initial_exec_short_high, initial_
 use Rattle.linker_laws.proofs.LoongArchHalves.{descriptor_high, descriptor_page, descriptor_to_ori}
 use Rattle.linker_laws.proofs.LoongArchHalves.{descriptor_to_load, descriptor_load, descriptor_call}
 use Rattle.linker_laws.proofs.LoongArchOffsets.{shorter}
-use Rattle.linker_laws.proofs.loongarch64.Goals as goal
+use Rattle.linker_laws.proofs.rewrites.loongarch64.Goals as goal
 
 pub returns-clause-got : goal.returns-clause-got
 returns-clause-got c = got_to_address c.loongarch64.ensures.relative

@@ -10,7 +10,7 @@ use Rattle.linker_laws.proofs.Ppc64IndexedWords.{word_access_to_local_exec}
 use Rattle.linker_laws.proofs.Ppc64Threads.{general_to_local, general_to_initial, local_dynamic}
 use Rattle.linker_laws.proofs.Ppc64Prefixed.{pld_to_paddi}
 use Rattle.linker_laws.proofs.Ppc64Vectors.{vector_access_near_toc}
-use Rattle.linker_laws.proofs.ppc64.Goals as goal
+use Rattle.linker_laws.proofs.rewrites.ppc64.Goals as goal
 
 pub returns : goal.returns
 returns c =

@@ -11,7 +11,7 @@ use Rattle.linker_laws.proofs.RiscVSums.{sum_is_deleted}
 use Rattle.linker_laws.proofs.RiscVDescriptors.{to_local_exec, to_short_local_exec, to_initial_exec}
 use Rattle.linker_laws.proofs.RiscVDescriptors.{got_to_address, long_nop}
 use Rattle.linker_laws.proofs.RiscVPairs.{pair_from_zero, local_exec_is_shortened}
-use Rattle.linker_laws.proofs.riscv64.Goals as goal
+use Rattle.linker_laws.proofs.rewrites.riscv64.Goals as goal
 
 pub returns-clause-calls : goal.returns-clause-calls
 returns-clause-calls c = (call_becomes_jal, call_becomes_jal)

@@ -8,7 +8,7 @@ use Rattle.linker_laws.proofs.X86Descriptors as descriptors
 use Rattle.linker_laws.proofs.X86LargeThreads as larges
 use Rattle.linker_laws.proofs.X86LocalDynamic as dynamic
 use Rattle.linker_laws.proofs.X86Threads as threads
-use Rattle.linker_laws.proofs.x86_64.Goals as goal
+use Rattle.linker_laws.proofs.rewrites.x86_64.Goals as goal
 
 pub returns-clause-loads : goal.returns-clause-loads
 returns-clause-loads c = (loads.without_prefix, loads.with_rex_prefix, loads.with_rex2_prefix)

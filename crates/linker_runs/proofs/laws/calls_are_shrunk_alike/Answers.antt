@@ -1,5 +1,5 @@
 use Rattle.linker_runs.proofs.Shrunk.{shrunk_alike}
-use Rattle.linker_runs.proofs.calls_are_shrunk_alike.Goals as goal
+use Rattle.linker_runs.proofs.laws.calls_are_shrunk_alike.Goals as goal
 
 pub returns : goal.returns
 returns c = shrunk_alike

@@ -1,5 +1,5 @@
 use Rattle.linker_runs.proofs.First.{first_bytes}
-use Rattle.linker_runs.proofs.first_bytes_are_kept.Goals as goal
+use Rattle.linker_runs.proofs.laws.first_bytes_are_kept.Goals as goal
 
 pub returns : goal.returns
 returns c = first_bytes

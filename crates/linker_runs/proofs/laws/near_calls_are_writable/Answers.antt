@@ -1,5 +1,5 @@
 use Rattle.linker_runs.proofs.LongCalls.{near_calls}
-use Rattle.linker_runs.proofs.near_calls_are_writable.Goals as goal
+use Rattle.linker_runs.proofs.laws.near_calls_are_writable.Goals as goal
 
 pub returns : goal.returns
 returns c = near_calls

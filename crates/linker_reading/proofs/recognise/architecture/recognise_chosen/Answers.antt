@@ -1,4 +1,4 @@
-use Rattle.linker_reading.proofs.architecture.recognise_chosen.Goals as goal
+use Rattle.linker_reading.proofs.recognise.architecture.recognise_chosen.Goals as goal
 
 pub returns-in-AArch64 : goal.returns-in-AArch64
 returns-in-AArch64 c =

@@ -1,7 +1,7 @@
 use Rattle.std.proofs.Common.{arith}
 use Rattle.linker_elf.specs.Choices.{choice}
 use Rattle.linker_reading.proofs.Tables.{at_entry, at_end, behind_end}
-use Rattle.linker_reading.proofs.engine.choice_at.Goals as goal
+use Rattle.linker_reading.proofs.recognise.engine.choice_at.Goals as goal
 
 pub returns-then-index-entries : goal.returns-then-index-entries
 returns-then-index-entries g c =

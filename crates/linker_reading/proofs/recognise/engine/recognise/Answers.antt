@@ -5,8 +5,8 @@ use Rattle.linker_reading.specs.Inner.Found.{IsMeant, AreFoundOfFirst}
 use Rattle.linker_reading.specs.Recognised.{choices_at}
 use Rattle.linker_reading.specs.declared.recognise.engine.Made.{Made}
 use Rattle.linker_reading.proofs.Found.{one_more, same_again, not_so, not_behind, found_in_table, are_distinct, chosen_found}
-use Rattle.linker_reading.proofs.engine.recognise.Goals.{then-is_some+then-not-is_listed_before, else-is_some, else-is_some-via-then-is_some+else-not-is_listed_before, else-is_some-via-else-is_some}
-use Rattle.linker_reading.proofs.engine.recognise.Goals as goal
+use Rattle.linker_reading.proofs.recognise.engine.recognise.Goals.{then-is_some+then-not-is_listed_before, else-is_some, else-is_some-via-then-is_some+else-not-is_listed_before, else-is_some-via-else-is_some}
+use Rattle.linker_reading.proofs.recognise.engine.recognise.Goals as goal
 
 pub loop-index-preserved : goal.loop-index-preserved
 loop-index-preserved g c =

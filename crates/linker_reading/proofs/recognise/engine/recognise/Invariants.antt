@@ -2,7 +2,7 @@ use Rattle.std.proofs.Common.{◌<◌, ◌≤◌, length}
 use Rattle.linker_reading.specs.Inner.Found.{IsMeant, AreFoundOfFirst}
 use Rattle.linker_reading.specs.Recognised.{choices_at}
 use Rattle.linker_reading.specs.declared.recognise.engine.Made.{Made}
-use Rattle.linker_reading.proofs.engine.recognise.Given as goal
+use Rattle.linker_reading.proofs.recognise.engine.recognise.Given as goal
 
 abbrev pub invariant-loop-index : goal.invariant-loop-index
 invariant-loop-index g l = record {

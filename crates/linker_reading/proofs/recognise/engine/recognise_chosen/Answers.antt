@@ -4,7 +4,7 @@ use Rattle.linker_reading.proofs.Chosen.{first_is_same, chosen_made}
 use Rattle.linker_reading.specs.Recognised.{IsChosen, IsMade}
 use Rattle.linker_reading.specs.declared.recognise.engine.Made.{Made}
 use Rattle.linker_utils.specs.Architectures.{relaxation_matches}
-use Rattle.linker_reading.proofs.engine.recognise_chosen.Goals as goal
+use Rattle.linker_reading.proofs.recognise.engine.recognise_chosen.Goals as goal
 
 pub returns : goal.returns
 returns g c =

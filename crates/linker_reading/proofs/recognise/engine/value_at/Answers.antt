@@ -3,7 +3,7 @@ use Rattle.linker_elf.specs.declared.elf.RelocationKindInfo.{RelocationKindInfo}
 use Rattle.linker_reading.specs.Reading.{value_read}
 use Rattle.linker_reading.specs.Recognised.{value_at}
 use Rattle.linker_reading.proofs.Read.{read_from}
-use Rattle.linker_reading.proofs.engine.value_at.Goals as goal
+use Rattle.linker_reading.proofs.recognise.engine.value_at.Goals as goal
 
 pub returns : goal.returns
 returns c =

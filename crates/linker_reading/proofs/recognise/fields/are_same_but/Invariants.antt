@@ -1,6 +1,6 @@
 use Rattle.std.proofs.Common.{ℕ, ◌<◌, ◌||◌, get_or}
 use Rattle.linker_reading.specs.FieldsOfBytes.{is_in, is_in_one, kept_index, IsSameBut}
-use Rattle.linker_reading.proofs.fields.are_same_but.Given as goal
+use Rattle.linker_reading.proofs.recognise.fields.are_same_but.Given as goal
 
 -- the bytes so far are the same but for these bits
 abbrev pub invariant-loop-index : goal.invariant-loop-index

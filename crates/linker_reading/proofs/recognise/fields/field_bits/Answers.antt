@@ -3,7 +3,7 @@ use Rattle.std.specs.Prelude.{◌==◌}
 use Rattle.std.specs.Int.{bit_at}
 use Rattle.linker_reading.specs.Inner.Masks.{field_mask}
 use Rattle.linker_reading.proofs.FieldBits.{field_agrees}
-use Rattle.linker_reading.proofs.fields.field_bits.Goals as goal
+use Rattle.linker_reading.proofs.recognise.fields.field_bits.Goals as goal
 
 pub returns-in-ByteSize : goal.returns-in-ByteSize
 returns-in-ByteSize c w h =

@@ -5,7 +5,7 @@ use Rattle.std.proofs.lemmas.List.{take_all}
 use Rattle.std.specs.Int.{bit_at, bit_not, w64}
 use Rattle.linker_reading.specs.FieldsOfBytes.{is_in, is_in_one}
 use Rattle.linker_reading.proofs.Masked.{one_more, none_apart, all_same}
-use Rattle.linker_reading.proofs.fields.is_same_but.Goals as goal
+use Rattle.linker_reading.proofs.recognise.fields.is_same_but.Goals as goal
 
 pub loop-other-preserved : goal.loop-other-preserved
 loop-other-preserved c j h =

@@ -1,7 +1,7 @@
 use Rattle.std.proofs.Common.{◌≡◌, ℕ, ◌<◌, ◌||◌, ◌==◌, take}
 use Rattle.std.specs.Int.{bit_at}
 use Rattle.linker_reading.specs.FieldsOfBytes.{is_in, is_in_one}
-use Rattle.linker_reading.proofs.fields.is_same_but.Given as goal
+use Rattle.linker_reading.proofs.recognise.fields.is_same_but.Given as goal
 
 -- the bits of the fields so far
 abbrev pub invariant-loop-other : goal.invariant-loop-other

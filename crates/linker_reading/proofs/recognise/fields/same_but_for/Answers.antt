@@ -1,6 +1,6 @@
 use Rattle.std.proofs.Common.{refl, arith}
 use Rattle.linker_reading.proofs.Same.{same_but_row}
-use Rattle.linker_reading.proofs.fields.same_but_for.Goals as goal
+use Rattle.linker_reading.proofs.recognise.fields.same_but_for.Goals as goal
 
 pub returns : goal.returns
 returns c =

@@ -1,5 +1,5 @@
 use Rattle.linker_reading.proofs.WrittenRows.{row_changes_field}
-use Rattle.linker_reading.proofs.fields.writes_change_fields.Goals as goal
+use Rattle.linker_reading.proofs.recognise.fields.writes_change_fields.Goals as goal
 
 pub returns : goal.returns
 returns c = row_changes_field

@@ -1,7 +1,7 @@
 use Rattle.linker_reading.proofs.WrittenChoices.{x86_written_is_left}
 use Rattle.linker_reading.proofs.WrittenLeft.{written_choice_is_left}
 use Rattle.linker_reading.specs.Recognisers.{aarch64, riscv, loongarch, ppc64}
-use Rattle.linker_reading.proofs.recognisers.written_choices_are_left.Goals as goal
+use Rattle.linker_reading.proofs.recognise.recognisers.written_choices_are_left.Goals as goal
 
 pub returns-clause-aarch64 : goal.returns-clause-aarch64
 returns-clause-aarch64 c = written_choice_is_left aarch64

@@ -5,7 +5,7 @@ use Rattle.std.proofs.lemmas.List.Sorted.{IsPartitionPoint-from_clause}
 use Rattle.linker_base.specs.Deltas.{deletion_of}
 use Rattle.linker_base.specs.declared.relaxation.RelaxDelta.{RelaxDelta}
 use Rattle.linker_runs.proofs.Copied.{copied_first, copied_step, copied_end, deltas_parted, begin_above}
-use Rattle.linker_runs.proofs.copying.copy_kept.Goals as goal
+use Rattle.linker_runs.proofs.packing.copying.copy_kept.Goals as goal
 
 pub loop-index-init : goal.loop-index-init
 loop-index-init c = record {

@@ -3,7 +3,7 @@ use Rattle.linker_base.specs.Deletions.{rank}
 use Rattle.linker_base.specs.Deltas.{deletions_of}
 use Rattle.linker_base.specs.Listed.{AreValidDeltas}
 use Rattle.linker_runs.proofs.Copied.{IsCopiedTo}
-use Rattle.linker_runs.proofs.copying.copy_kept.Given as goal
+use Rattle.linker_runs.proofs.packing.copying.copy_kept.Given as goal
 
 abbrev pub invariant-loop-index : goal.invariant-loop-index
 invariant-loop-index l = record {

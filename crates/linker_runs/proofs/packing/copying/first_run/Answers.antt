@@ -5,7 +5,7 @@ use Rattle.std.proofs.lemmas.List.Sorted.{IsPartitionPoint-from_clause}
 use Rattle.linker_base.specs.Deltas.{deletion_of}
 use Rattle.linker_base.specs.declared.relaxation.RelaxDelta.{RelaxDelta}
 use Rattle.linker_runs.proofs.Copied.{deltas_parted, begin_below, begin_above, run_from_base, run_from_end}
-use Rattle.linker_runs.proofs.copying.first_run.Goals as goal
+use Rattle.linker_runs.proofs.packing.copying.first_run.Goals as goal
 
 pub returns-then-first-eq0-clause-first : goal.returns-then-first-eq0-clause-first
 returns-then-first-eq0-clause-first c = λ valid.

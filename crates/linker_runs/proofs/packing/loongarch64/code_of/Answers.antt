@@ -2,7 +2,7 @@ use Rattle.std.proofs.Common.{◌∙◌, subst, arith}
 use Rattle.linker_runs.specs.Sites.{IsRelocated, IsOutOfReach}
 use Rattle.linker_runs.specs.Inner.Pieces.{code_bytes}
 use Rattle.linker_runs.proofs.LoongArch.{becomes_short, becomes_long, short_accepts, long_accepts, short_rejected, long_rejected}
-use Rattle.linker_runs.proofs.loongarch64.code_of.Goals as goal
+use Rattle.linker_runs.proofs.packing.loongarch64.code_of.Goals as goal
 
 pub returns-in-Some-relocated-clause-becomes : goal.returns-in-Some-relocated-clause-becomes
 returns-in-Some-relocated-clause-becomes c =

@@ -3,7 +3,7 @@ use Rattle.linker_runs.specs.Inner.LoongArch.{IsKindAt}
 use Rattle.linker_runs.specs.declared.shapes.loongarch64.TheConstants.{CALL36, PCALA}
 use Rattle.linker_runs.proofs.Same.{shapes_decide}
 use Rattle.linker_runs.proofs.LoongArch.{call_shapes, pair_shapes}
-use Rattle.linker_runs.proofs.loongarch64.has_shapes.Goals as goal
+use Rattle.linker_runs.proofs.packing.loongarch64.has_shapes.Goals as goal
 
 pub returns-in-Some-Call : goal.returns-in-Some-Call
 returns-in-Some-Call c =

@@ -1,7 +1,7 @@
 use Rattle.std.proofs.Common.{◌≡◌, ◌++◌, ◌∙◌, List, ℕ, [], ◌∷◌, length, drop, ap}
 use Rattle.std.proofs.lemmas.List.{take_at, drop_at, append-nil}
 use borrow.Rule.Slice.PartMut.{put_mid, post_of}
-use Rattle.linker_runs.proofs.loongarch64.joined.Goals as goal
+use Rattle.linker_runs.proofs.packing.loongarch64.joined.Goals as goal
 
 put_both : (first second low high : List ℕ) → length low ≡ 4 → low ≡ first → high ≡ second
     → put_mid 4 4 (low ++ 0 ∷ 0 ∷ 0 ∷ 0 ∷ []) high ≡ first ++ second

@@ -1,7 +1,7 @@
 use Rattle.std.proofs.Common.{◌≡◌, false, true, inl, inr, ⊎_elim, sym, ◌∙◌}
 use Rattle.linker_runs.specs.declared.shapes.riscv64.TheConstants.{CALL, TAIL_C}
 use Rattle.linker_runs.proofs.Same.{shapes_decide}
-use Rattle.linker_runs.proofs.riscv64.are_of_link.Goals as goal
+use Rattle.linker_runs.proofs.packing.riscv64.are_of_link.Goals as goal
 
 pub returns-then-eq : goal.returns-then-eq
 returns-then-eq c =

@@ -1,7 +1,7 @@
 use Rattle.std.proofs.Common.{◌∙◌, sym, subst, arith}
 use Rattle.linker_runs.specs.Inner.Pieces.{code_bytes}
 use Rattle.linker_runs.proofs.RiscV.{IsRelocated, becomes}
-use Rattle.linker_runs.proofs.riscv64.code_of.Goals as goal
+use Rattle.linker_runs.proofs.packing.riscv64.code_of.Goals as goal
 
 pub returns-in-Some-relocated-clause-becomes : goal.returns-in-Some-relocated-clause-becomes
 returns-in-Some-relocated-clause-becomes c =

@@ -1,6 +1,6 @@
 use Rattle.linker_reading.proofs.Tables.{listed_at, few_listed}
 use Rattle.linker_reading.specs.Recognisers.{loongarch}
-use Rattle.linker_reading.proofs.recognisers.LoongArch64RelocationRecognised.listed.Goals as goal
+use Rattle.linker_reading.proofs.recognise.recognisers.LoongArch64RelocationRecognised.listed.Goals as goal
 
 pub returns-clause-choice : goal.returns-clause-choice
 returns-clause-choice c =

@@ -1,6 +1,6 @@
 use Rattle.linker_reading.proofs.Tables.{listed_at, few_listed}
 use Rattle.linker_reading.specs.Recognisers.{ppc64}
-use Rattle.linker_reading.proofs.recognisers.Ppc64RelocationRecognised.listed.Goals as goal
+use Rattle.linker_reading.proofs.recognise.recognisers.Ppc64RelocationRecognised.listed.Goals as goal
 
 pub returns-clause-choice : goal.returns-clause-choice
 returns-clause-choice c =

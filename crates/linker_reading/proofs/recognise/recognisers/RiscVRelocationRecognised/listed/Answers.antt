@@ -1,6 +1,6 @@
 use Rattle.linker_reading.proofs.Tables.{listed_at, few_listed}
 use Rattle.linker_reading.specs.Recognisers.{riscv}
-use Rattle.linker_reading.proofs.recognisers.RiscVRelocationRecognised.listed.Goals as goal
+use Rattle.linker_reading.proofs.recognise.recognisers.RiscVRelocationRecognised.listed.Goals as goal
 
 pub returns-clause-choice : goal.returns-clause-choice
 returns-clause-choice c =

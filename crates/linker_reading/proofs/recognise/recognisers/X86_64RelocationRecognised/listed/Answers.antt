@@ -4,7 +4,7 @@ use Rattle.linker_x86_64.specs.Inner.X86Tables.{StandAt}
 use Rattle.linker_x86_64.specs.X86Rewrites.{IsAskedFor, x86_64_table}
 use Rattle.linker_reading.proofs.Tables.{listed_at, few_listed}
 use Rattle.linker_reading.specs.Recognisers.{x86_64}
-use Rattle.linker_reading.proofs.recognisers.X86_64RelocationRecognised.listed.Goals as goal
+use Rattle.linker_reading.proofs.recognise.recognisers.X86_64RelocationRecognised.listed.Goals as goal
 
 pub returns-clause-choice : goal.returns-clause-choice
 returns-clause-choice c =
