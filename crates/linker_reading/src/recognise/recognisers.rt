@@ -24,6 +24,7 @@ ghost use Rattle.linker_x86_64.proofs.X86Choices.{chosen_matches as x86_64_chose
 ghost use Rattle.linker_x86_64.specs.contracts.rewrites.RelaxationKind as x86_64_kind;
 
 use crate::recognise::engine::{Recognised, choice_at};
+use linker_elf::elf::choice_table::ChosenByTable;
 use linker_utils::aarch64::{self, AArch64Relocation};
 use linker_utils::architecture::Relaxation;
 use linker_utils::elf::{Choice, LinkFacts};
@@ -52,9 +53,9 @@ impl Recognised for AArch64Relocation {
         aarch64::choose(self, original, offset, facts)
     }
 
-    fn listed(self, _section: &[u8], _at: u64, index: usize) -> Option<Choice<Self::Kind, Self>> {
+    fn listed(self, section: &[u8], at: u64, index: usize) -> Option<Choice<Self::Kind, Self>> {
         let no_op = aarch64::RelaxationKind::NoOp;
-        choice_at(aarch64::entries(self), no_op, self, index)
+        choice_at(Self::Kind::entries(self, section, at), no_op, self, index)
     }
 }
 
@@ -78,9 +79,9 @@ impl Recognised for RiscVRelocation {
         riscv64::choose(self, original, offset, facts)
     }
 
-    fn listed(self, _section: &[u8], _at: u64, index: usize) -> Option<Choice<Self::Kind, Self>> {
+    fn listed(self, section: &[u8], at: u64, index: usize) -> Option<Choice<Self::Kind, Self>> {
         let no_op = riscv64::RelaxationKind::NoOp;
-        choice_at(riscv64::entries(self), no_op, self, index)
+        choice_at(Self::Kind::entries(self, section, at), no_op, self, index)
     }
 }
 
@@ -104,9 +105,9 @@ impl Recognised for LoongArch64Relocation {
         loongarch64::choose(self, original, offset, facts)
     }
 
-    fn listed(self, _section: &[u8], _at: u64, index: usize) -> Option<Choice<Self::Kind, Self>> {
+    fn listed(self, section: &[u8], at: u64, index: usize) -> Option<Choice<Self::Kind, Self>> {
         let no_op = loongarch64::RelaxationKind::NoOp;
-        choice_at(loongarch64::entries(self), no_op, self, index)
+        choice_at(Self::Kind::entries(self, section, at), no_op, self, index)
     }
 }
 
@@ -130,9 +131,9 @@ impl Recognised for Ppc64Relocation {
         ppc64::choose(self, original, offset, facts)
     }
 
-    fn listed(self, _section: &[u8], _at: u64, index: usize) -> Option<Choice<Self::Kind, Self>> {
+    fn listed(self, section: &[u8], at: u64, index: usize) -> Option<Choice<Self::Kind, Self>> {
         let no_op = ppc64::RelaxationKind::NoOp;
-        choice_at(ppc64::entries(self), no_op, self, index)
+        choice_at(Self::Kind::entries(self, section, at), no_op, self, index)
     }
 }
 
@@ -157,9 +158,8 @@ impl Recognised for X86_64Relocation {
     }
 
     fn listed(self, section: &[u8], at: u64, index: usize) -> Option<Choice<Self::Kind, Self>> {
-        let entries = x86_64::entries(self, x86_64::opcode_before(section, at));
         let no_op = x86_64::RelaxationKind::NoOp;
-        choice_at(entries, no_op, self, index)
+        choice_at(Self::Kind::entries(self, section, at), no_op, self, index)
     }
 }
 

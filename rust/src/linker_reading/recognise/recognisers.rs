@@ -2,6 +2,7 @@
 //! What is recognised of each architecture.
 
 use crate::linker_reading::recognise::engine::{Recognised, choice_at};
+use crate::linker_elf::elf::choice_table::ChosenByTable;
 use crate::aarch64::{self, AArch64Relocation};
 use crate::architecture::Relaxation;
 use crate::elf::{Choice, LinkFacts};
@@ -25,9 +26,9 @@ impl Recognised for AArch64Relocation {
         aarch64::choose(self, original, offset, facts)
     }
 
-    fn listed(self, _section: &[u8], _at: u64, index: usize) -> Option<Choice<Self::Kind, Self>> {
+    fn listed(self, section: &[u8], at: u64, index: usize) -> Option<Choice<Self::Kind, Self>> {
         let no_op = aarch64::RelaxationKind::NoOp;
-        choice_at(aarch64::entries(self), no_op, self, index)
+        choice_at(Self::Kind::entries(self, section, at), no_op, self, index)
     }
 }
 
@@ -46,9 +47,9 @@ impl Recognised for RiscVRelocation {
         riscv64::choose(self, original, offset, facts)
     }
 
-    fn listed(self, _section: &[u8], _at: u64, index: usize) -> Option<Choice<Self::Kind, Self>> {
+    fn listed(self, section: &[u8], at: u64, index: usize) -> Option<Choice<Self::Kind, Self>> {
         let no_op = riscv64::RelaxationKind::NoOp;
-        choice_at(riscv64::entries(self), no_op, self, index)
+        choice_at(Self::Kind::entries(self, section, at), no_op, self, index)
     }
 }
 
@@ -67,9 +68,9 @@ impl Recognised for LoongArch64Relocation {
         loongarch64::choose(self, original, offset, facts)
     }
 
-    fn listed(self, _section: &[u8], _at: u64, index: usize) -> Option<Choice<Self::Kind, Self>> {
+    fn listed(self, section: &[u8], at: u64, index: usize) -> Option<Choice<Self::Kind, Self>> {
         let no_op = loongarch64::RelaxationKind::NoOp;
-        choice_at(loongarch64::entries(self), no_op, self, index)
+        choice_at(Self::Kind::entries(self, section, at), no_op, self, index)
     }
 }
 
@@ -88,9 +89,9 @@ impl Recognised for Ppc64Relocation {
         ppc64::choose(self, original, offset, facts)
     }
 
-    fn listed(self, _section: &[u8], _at: u64, index: usize) -> Option<Choice<Self::Kind, Self>> {
+    fn listed(self, section: &[u8], at: u64, index: usize) -> Option<Choice<Self::Kind, Self>> {
         let no_op = ppc64::RelaxationKind::NoOp;
-        choice_at(ppc64::entries(self), no_op, self, index)
+        choice_at(Self::Kind::entries(self, section, at), no_op, self, index)
     }
 }
 
@@ -110,9 +111,8 @@ impl Recognised for X86_64Relocation {
     }
 
     fn listed(self, section: &[u8], at: u64, index: usize) -> Option<Choice<Self::Kind, Self>> {
-        let entries = x86_64::entries(self, x86_64::opcode_before(section, at));
         let no_op = x86_64::RelaxationKind::NoOp;
-        choice_at(entries, no_op, self, index)
+        choice_at(Self::Kind::entries(self, section, at), no_op, self, index)
     }
 }
 

@@ -4,8 +4,8 @@ use Rattle.linker_reading.proofs.recognise.recognisers.RiscVRelocationRecognised
 
 pub returns-clause-choice : goal.returns-clause-choice
 returns-clause-choice c =
-    listed_at riscv c.args.self c.args._section.now c.args._at _ _ c.entries.result.now c.entries.ensures.table c.args.index c.choice_at.result c.choice_at.ensures
+    listed_at riscv c.args.self c.args.section.now c.args.at _ _ c.entries.result.now c.entries.ensures.table c.args.index c.choice_at.result c.choice_at.ensures
 
 pub returns-clause-few : goal.returns-clause-few
 returns-clause-few c =
-    few_listed riscv c.args.self c.args._section.now c.args._at _ _ c.entries.result.now c.entries.ensures.table c.entries.ensures.few
+    few_listed riscv c.args.self c.args.section.now c.args.at _ _ c.entries.result.now c.entries.ensures.table c.entries.ensures.few
