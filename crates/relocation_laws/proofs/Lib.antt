@@ -6,5 +6,6 @@ pub mod Instructions
 pub mod Moves
 pub mod Pages
 pub mod PartsOfAddresses
+pub mod Quarters
 pub mod RiscV
 pub mod Sums
