@@ -235,7 +235,8 @@ enum linker_utils_ppc64_form {
     LINKER_UTILS_PPC64_FORM_DS = 1, /* bits 2 to 15, in bytes */
     LINKER_UTILS_PPC64_FORM_BRANCH14 = 2, /* bc: bits 2 to 15, in bytes */
     LINKER_UTILS_PPC64_FORM_BRANCH24 = 3, /* b, bl: bits 2 to 25, in bytes */
-    LINKER_UTILS_PPC64_FORM_PREFIXED = 4 /* paddi, pld, 8 bytes: bits 16 to 33, then 0 to 15 */
+    LINKER_UTILS_PPC64_FORM_PREFIXED = 4, /* paddi, pld, 8 bytes: bits 16 to 33, then 0 to 15 */
+    LINKER_UTILS_PPC64_FORM_D_UNSIGNED = 5 /* ori, oris: bits 0 to 15, without a sign */
 };
 
 /* The length in bytes of a form's window, into `window`. */

@@ -5,7 +5,7 @@
 use sathunne::*;
 
 /// What both differ in: a type, and why. docs/DIFFERENCES.md says more of each.
-const DIFFERENT: [(&str, usize, &str); 11] = [
+const DIFFERENT: [(&str, usize, &str); 12] = [
     ("R_AARCH64_MOVW_PREL_G3", 1, "lld leaves MOVZ where it is"),
     ("R_AARCH64_TSTBR14", 2, "lld drops the two lowest bits"),
     ("R_RISCV_32", 2, "lld has no check"),
@@ -16,6 +16,7 @@ const DIFFERENT: [(&str, usize, &str); 11] = [
     ("R_RISCV_SET32", 1, "lld asks for 32 signed bits"),
     ("R_RISCV_32_PCREL", 1, "lld asks for 32 signed bits"),
     ("R_LARCH_32", 2, "lld has no check"),
+    ("R_PPC64_GOT16", 1, "lld accepts 16 unsigned bits"),
     ("R_PPC64_TOC16", 1, "lld accepts 16 unsigned bits"),
 ];
 
@@ -257,7 +258,7 @@ fn words_of_got_entries_are_those_of_lld() {
 #[test]
 fn words_are_those_of_gnu_ld() {
     let rows = rows::<11>(include_str!("data/gnu.txt"));
-    assert_eq!(rows.len(), 19);
+    assert_eq!(rows.len(), 35);
     for [machine, r_type, name, addresses @ .., before, after] in rows {
         let [place, symbol, got_entry, plt_entry, got_base, tls_base] = addresses.map(address);
         let architecture = architecture_of(machine);

@@ -6,9 +6,11 @@ use Rattle.linker_elf.specs.declared.ppc64.forms.Ppc64Instruction.TheVariants.{D
 use Rattle.linker_elf.specs.declared.ppc64.forms.Ppc64Instruction.TheVariants.{Branch14}
 use Rattle.linker_elf.specs.declared.ppc64.forms.Ppc64Instruction.TheVariants.{Branch24}
 use Rattle.linker_elf.specs.declared.ppc64.forms.Ppc64Instruction.TheVariants.{Prefixed}
+use Rattle.linker_elf.specs.declared.ppc64.forms.Ppc64Instruction.TheVariants.{DUnsigned}
 use Rattle.linker_elf.specs.Relocate.{ppc64_reads}
 use Rattle.emulated.specs.Sequences.{halves_number}
 use Rattle.emulated.specs.Sequences.{unadjusted_number}
+use Rattle.emulated.specs.Sequences.{quarters_number}
 use Rattle.emulated.specs.Emulated.{Words, IsComputed}
 
 unfoldable pub d_words : List Words
@@ -387,53 +389,6 @@ d_words =
           (0x91108ed5, 0xffffffffffff8ed5) ∷
           (0x925f3475, 0x3475) ∷
           (0x906d5f5f, 0x5f5f) ∷
-          [];
-    }) ∷
-    -- ori
-    (record {
-      unit = 1;
-      bits = 16;
-      rows =
-          (0x612c0000, 0x0) ∷
-          (0x62b1ffff, 0xffff) ∷
-          (0x630b0001, 0x1) ∷
-          (0x607c0002, 0x2) ∷
-          (0x609b0004, 0x4) ∷
-          (0x60a70008, 0x8) ∷
-          (0x61cf0010, 0x10) ∷
-          (0x63330020, 0x20) ∷
-          (0x62d10040, 0x40) ∷
-          (0x61100080, 0x80) ∷
-          (0x62490100, 0x100) ∷
-          (0x633a0200, 0x200) ∷
-          (0x61a90400, 0x400) ∷
-          (0x61d20800, 0x800) ∷
-          (0x609d1000, 0x1000) ∷
-          (0x61d42000, 0x2000) ∷
-          (0x61904000, 0x4000) ∷
-          (0x63988000, 0x8000) ∷
-          (0x6139fffe, 0xfffe) ∷
-          (0x62d8fffd, 0xfffd) ∷
-          (0x6183fffb, 0xfffb) ∷
-          (0x6243fff7, 0xfff7) ∷
-          (0x6079ffef, 0xffef) ∷
-          (0x62e6ffdf, 0xffdf) ∷
-          (0x6130ffbf, 0xffbf) ∷
-          (0x61dcff7f, 0xff7f) ∷
-          (0x6267feff, 0xfeff) ∷
-          (0x6098fdff, 0xfdff) ∷
-          (0x60cdfbff, 0xfbff) ∷
-          (0x610df7ff, 0xf7ff) ∷
-          (0x60faefff, 0xefff) ∷
-          (0x6132dfff, 0xdfff) ∷
-          (0x6139bfff, 0xbfff) ∷
-          (0x62707fff, 0x7fff) ∷
-          (0x619d5bef, 0x5bef) ∷
-          (0x608712c5, 0x12c5) ∷
-          (0x62ba534e, 0x534e) ∷
-          (0x62096194, 0x6194) ∷
-          (0x61ea02bc, 0x2bc) ∷
-          (0x60f34661, 0x4661) ∷
           [];
     }) ∷
     []
@@ -1079,6 +1034,104 @@ prefixed_words =
     }) ∷
     []
 
+unfoldable pub dunsigned_words : List Words
+dunsigned_words =
+    -- ori
+    (record {
+      unit = 1;
+      bits = 64;
+      rows =
+          (0x61bb0000, 0x0) ∷
+          (0x62b1ffff, 0xffff) ∷
+          (0x611f0001, 0x1) ∷
+          (0x639f0002, 0x2) ∷
+          (0x627e0004, 0x4) ∷
+          (0x627c0008, 0x8) ∷
+          (0x60e40010, 0x10) ∷
+          (0x61f30020, 0x20) ∷
+          (0x611f0040, 0x40) ∷
+          (0x60b80080, 0x80) ∷
+          (0x61690100, 0x100) ∷
+          (0x62790200, 0x200) ∷
+          (0x61790400, 0x400) ∷
+          (0x61f60800, 0x800) ∷
+          (0x60751000, 0x1000) ∷
+          (0x61de2000, 0x2000) ∷
+          (0x624a4000, 0x4000) ∷
+          (0x61248000, 0x8000) ∷
+          (0x6277fffe, 0xfffe) ∷
+          (0x62d1fffd, 0xfffd) ∷
+          (0x6215fffb, 0xfffb) ∷
+          (0x6198fff7, 0xfff7) ∷
+          (0x63daffef, 0xffef) ∷
+          (0x60f9ffdf, 0xffdf) ∷
+          (0x63e9ffbf, 0xffbf) ∷
+          (0x623cff7f, 0xff7f) ∷
+          (0x624cfeff, 0xfeff) ∷
+          (0x606cfdff, 0xfdff) ∷
+          (0x61ccfbff, 0xfbff) ∷
+          (0x610bf7ff, 0xf7ff) ∷
+          (0x6244efff, 0xefff) ∷
+          (0x628ddfff, 0xdfff) ∷
+          (0x619bbfff, 0xbfff) ∷
+          (0x62237fff, 0x7fff) ∷
+          (0x620a2712, 0x2712) ∷
+          (0x60978c4f, 0x8c4f) ∷
+          (0x60930270, 0x270) ∷
+          (0x63ee2192, 0x2192) ∷
+          (0x614793ba, 0x93ba) ∷
+          (0x610a8ee8, 0x8ee8) ∷
+          [];
+    }) ∷
+    -- oris
+    (record {
+      unit = 2 ^ 16;
+      bits = 64;
+      rows =
+          (0x672b0000, 0x0) ∷
+          (0x6549ffff, 0xffff0000) ∷
+          (0x64fc0001, 0x10000) ∷
+          (0x64de0002, 0x20000) ∷
+          (0x65630004, 0x40000) ∷
+          (0x664c0008, 0x80000) ∷
+          (0x64bf0010, 0x100000) ∷
+          (0x672e0020, 0x200000) ∷
+          (0x65100040, 0x400000) ∷
+          (0x67cd0080, 0x800000) ∷
+          (0x657d0100, 0x1000000) ∷
+          (0x66a50200, 0x2000000) ∷
+          (0x64bb0400, 0x4000000) ∷
+          (0x65fa0800, 0x8000000) ∷
+          (0x67231000, 0x10000000) ∷
+          (0x679d2000, 0x20000000) ∷
+          (0x65af4000, 0x40000000) ∷
+          (0x65548000, 0x80000000) ∷
+          (0x660bfffe, 0xfffe0000) ∷
+          (0x650dfffd, 0xfffd0000) ∷
+          (0x67eafffb, 0xfffb0000) ∷
+          (0x6689fff7, 0xfff70000) ∷
+          (0x649effef, 0xffef0000) ∷
+          (0x662cffdf, 0xffdf0000) ∷
+          (0x674cffbf, 0xffbf0000) ∷
+          (0x65bbff7f, 0xff7f0000) ∷
+          (0x65affeff, 0xfeff0000) ∷
+          (0x6716fdff, 0xfdff0000) ∷
+          (0x65e3fbff, 0xfbff0000) ∷
+          (0x672cf7ff, 0xf7ff0000) ∷
+          (0x6514efff, 0xefff0000) ∷
+          (0x64cadfff, 0xdfff0000) ∷
+          (0x660abfff, 0xbfff0000) ∷
+          (0x67af7fff, 0x7fff0000) ∷
+          (0x67467e3e, 0x7e3e0000) ∷
+          (0x659aa927, 0xa9270000) ∷
+          (0x66145a78, 0x5a780000) ∷
+          (0x663598d7, 0x98d70000) ∷
+          (0x6792e9a1, 0xe9a10000) ∷
+          (0x67ce4d34, 0x4d340000) ∷
+          [];
+    }) ∷
+    []
+
 unfoldable pub halves_words : List Words
 halves_words =
     -- addis, addi
@@ -1245,6 +1298,153 @@ unadjusted_words =
     }) ∷
     []
 
+unfoldable pub quarters_words : List Words
+quarters_words =
+    -- lis, ori, sldi 32, oris, ori
+    (record {
+      unit = 1;
+      bits = 64;
+      rows =
+          (0x63390000673900007b3907c6633900003f200000, 0x0) ∷
+          (0x616bffff656bffff796b07c6616bffff3d60ffff, 0xffffffffffffffff) ∷
+          (0x62100000661000007a1007c6621000003e000001, 0x1000000000000) ∷
+          (0x62310000663100007a3107c6623100003e200002, 0x2000000000000) ∷
+          (0x63ff000067ff00007bff07c663ff00003fe00004, 0x4000000000000) ∷
+          (0x62f7000066f700007af707c662f700003ee00008, 0x8000000000000) ∷
+          (0x62100000661000007a1007c6621000003e000010, 0x10000000000000) ∷
+          (0x618c0000658c0000798c07c6618c00003d800020, 0x20000000000000) ∷
+          (0x61ad000065ad000079ad07c661ad00003da00040, 0x40000000000000) ∷
+          (0x60e7000064e7000078e707c660e700003ce00080, 0x80000000000000) ∷
+          (0x6063000064630000786307c6606300003c600100, 0x100000000000000) ∷
+          (0x61ef000065ef000079ef07c661ef00003de00200, 0x200000000000000) ∷
+          (0x62100000661000007a1007c6621000003e000400, 0x400000000000000) ∷
+          (0x62310000663100007a3107c6623100003e200800, 0x800000000000000) ∷
+          (0x63de000067de00007bde07c663de00003fc01000, 0x1000000000000000) ∷
+          (0x62f7000066f700007af707c662f700003ee02000, 0x2000000000000000) ∷
+          (0x62940000669400007a9407c6629400003e804000, 0x4000000000000000) ∷
+          (0x616b0000656b0000796b07c6616b00003d608000, 0x8000000000000000) ∷
+          (0x639c0000679c00007b9c07c6639c00013f800000, 0x100000000) ∷
+          (0x62310000663100007a3107c6623100023e200000, 0x200000000) ∷
+          (0x618c0000658c0000798c07c6618c00043d800000, 0x400000000) ∷
+          (0x60a5000064a5000078a507c660a500083ca00000, 0x800000000) ∷
+          (0x63de000067de00007bde07c663de00103fc00000, 0x1000000000) ∷
+          (0x60c6000064c6000078c607c660c600203cc00000, 0x2000000000) ∷
+          (0x62b5000066b500007ab507c662b500403ea00000, 0x4000000000) ∷
+          (0x61ad000065ad000079ad07c661ad00803da00000, 0x8000000000) ∷
+          (0x62b5000066b500007ab507c662b501003ea00000, 0x10000000000) ∷
+          (0x63390000673900007b3907c6633902003f200000, 0x20000000000) ∷
+          (0x6108000065080000790807c6610804003d000000, 0x40000000000) ∷
+          (0x62520000665200007a5207c6625208003e400000, 0x80000000000) ∷
+          (0x6108000065080000790807c6610810003d000000, 0x100000000000) ∷
+          (0x635a0000675a00007b5a07c6635a20003f400000, 0x200000000000) ∷
+          (0x63bd000067bd00007bbd07c663bd40003fa00000, 0x400000000000) ∷
+          (0x63ff000067ff00007bff07c663ff80003fe00000, 0x800000000000) ∷
+          (0x62730000667300017a7307c6627300003e600000, 0x10000) ∷
+          (0x62730000667300027a7307c6627300003e600000, 0x20000) ∷
+          (0x635a0000675a00047b5a07c6635a00003f400000, 0x40000) ∷
+          (0x61ad000065ad000879ad07c661ad00003da00000, 0x80000) ∷
+          (0x6129000065290010792907c6612900003d200000, 0x100000) ∷
+          (0x616b0000656b0020796b07c6616b00003d600000, 0x200000) ∷
+          (0x6129000065290040792907c6612900003d200000, 0x400000) ∷
+          (0x614a0000654a0080794a07c6614a00003d400000, 0x800000) ∷
+          (0x614a0000654a0100794a07c6614a00003d400000, 0x1000000) ∷
+          (0x62310000663102007a3107c6623100003e200000, 0x2000000) ∷
+          (0x62100000661004007a1007c6621000003e000000, 0x4000000) ∷
+          (0x6063000064630800786307c6606300003c600000, 0x8000000) ∷
+          (0x616b0000656b1000796b07c6616b00003d600000, 0x10000000) ∷
+          (0x61ef000065ef200079ef07c661ef00003de00000, 0x20000000) ∷
+          (0x63de000067de40007bde07c663de00003fc00000, 0x40000000) ∷
+          (0x618c0000658c8000798c07c6618c00003d800000, 0x80000000) ∷
+          (0x639c0001679c00007b9c07c6639c00003f800000, 0x1) ∷
+          (0x63de000267de00007bde07c663de00003fc00000, 0x2) ∷
+          (0x637b0004677b00007b7b07c6637b00003f600000, 0x4) ∷
+          (0x62310008663100007a3107c6623100003e200000, 0x8) ∷
+          (0x61ef001065ef000079ef07c661ef00003de00000, 0x10) ∷
+          (0x63390020673900007b3907c6633900003f200000, 0x20) ∷
+          (0x60a5004064a5000078a507c660a500003ca00000, 0x40) ∷
+          (0x62b5008066b500007ab507c662b500003ea00000, 0x80) ∷
+          (0x635a0100675a00007b5a07c6635a00003f400000, 0x100) ∷
+          (0x63de020067de00007bde07c663de00003fc00000, 0x200) ∷
+          (0x60e7040064e7000078e707c660e700003ce00000, 0x400) ∷
+          (0x637b0800677b00007b7b07c6637b00003f600000, 0x800) ∷
+          (0x616b1000656b0000796b07c6616b00003d600000, 0x1000) ∷
+          (0x62942000669400007a9407c6629400003e800000, 0x2000) ∷
+          (0x63ff400067ff00007bff07c663ff00003fe00000, 0x4000) ∷
+          (0x61ce800065ce000079ce07c661ce00003dc00000, 0x8000) ∷
+          (0x6129ffff6529ffff792907c66129ffff3d20fffe, 0xfffeffffffffffff) ∷
+          (0x6294ffff6694ffff7a9407c66294ffff3e80fffd, 0xfffdffffffffffff) ∷
+          (0x6252ffff6652ffff7a5207c66252ffff3e40fffb, 0xfffbffffffffffff) ∷
+          (0x60c6ffff64c6ffff78c607c660c6ffff3cc0fff7, 0xfff7ffffffffffff) ∷
+          (0x614affff654affff794a07c6614affff3d40ffef, 0xffefffffffffffff) ∷
+          (0x6084ffff6484ffff788407c66084ffff3c80ffdf, 0xffdfffffffffffff) ∷
+          (0x6339ffff6739ffff7b3907c66339ffff3f20ffbf, 0xffbfffffffffffff) ∷
+          (0x6084ffff6484ffff788407c66084ffff3c80ff7f, 0xff7fffffffffffff) ∷
+          (0x6084ffff6484ffff788407c66084ffff3c80feff, 0xfeffffffffffffff) ∷
+          (0x616bffff656bffff796b07c6616bffff3d60fdff, 0xfdffffffffffffff) ∷
+          (0x63deffff67deffff7bde07c663deffff3fc0fbff, 0xfbffffffffffffff) ∷
+          (0x62b5ffff66b5ffff7ab507c662b5ffff3ea0f7ff, 0xf7ffffffffffffff) ∷
+          (0x6129ffff6529ffff792907c66129ffff3d20efff, 0xefffffffffffffff) ∷
+          (0x6273ffff6673ffff7a7307c66273ffff3e60dfff, 0xdfffffffffffffff) ∷
+          (0x637bffff677bffff7b7b07c6637bffff3f60bfff, 0xbfffffffffffffff) ∷
+          (0x6339ffff6739ffff7b3907c66339ffff3f207fff, 0x7fffffffffffffff) ∷
+          (0x614affff654affff794a07c6614afffe3d40ffff, 0xfffffffeffffffff) ∷
+          (0x60e7ffff64e7ffff78e707c660e7fffd3ce0ffff, 0xfffffffdffffffff) ∷
+          (0x61ceffff65ceffff79ce07c661cefffb3dc0ffff, 0xfffffffbffffffff) ∷
+          (0x6339ffff6739ffff7b3907c66339fff73f20ffff, 0xfffffff7ffffffff) ∷
+          (0x618cffff658cffff798c07c6618cffef3d80ffff, 0xffffffefffffffff) ∷
+          (0x614affff654affff794a07c6614affdf3d40ffff, 0xffffffdfffffffff) ∷
+          (0x61ceffff65ceffff79ce07c661ceffbf3dc0ffff, 0xffffffbfffffffff) ∷
+          (0x635affff675affff7b5a07c6635aff7f3f40ffff, 0xffffff7fffffffff) ∷
+          (0x618cffff658cffff798c07c6618cfeff3d80ffff, 0xfffffeffffffffff) ∷
+          (0x635affff675affff7b5a07c6635afdff3f40ffff, 0xfffffdffffffffff) ∷
+          (0x6252ffff6652ffff7a5207c66252fbff3e40ffff, 0xfffffbffffffffff) ∷
+          (0x60e7ffff64e7ffff78e707c660e7f7ff3ce0ffff, 0xfffff7ffffffffff) ∷
+          (0x60c6ffff64c6ffff78c607c660c6efff3cc0ffff, 0xffffefffffffffff) ∷
+          (0x6273ffff6673ffff7a7307c66273dfff3e60ffff, 0xffffdfffffffffff) ∷
+          (0x637bffff677bffff7b7b07c6637bbfff3f60ffff, 0xffffbfffffffffff) ∷
+          (0x6129ffff6529ffff792907c661297fff3d20ffff, 0xffff7fffffffffff) ∷
+          (0x62f7ffff66f7fffe7af707c662f7ffff3ee0ffff, 0xfffffffffffeffff) ∷
+          (0x6210ffff6610fffd7a1007c66210ffff3e00ffff, 0xfffffffffffdffff) ∷
+          (0x614affff654afffb794a07c6614affff3d40ffff, 0xfffffffffffbffff) ∷
+          (0x6339ffff6739fff77b3907c66339ffff3f20ffff, 0xfffffffffff7ffff) ∷
+          (0x637bffff677bffef7b7b07c6637bffff3f60ffff, 0xffffffffffefffff) ∷
+          (0x6084ffff6484ffdf788407c66084ffff3c80ffff, 0xffffffffffdfffff) ∷
+          (0x6210ffff6610ffbf7a1007c66210ffff3e00ffff, 0xffffffffffbfffff) ∷
+          (0x63deffff67deff7f7bde07c663deffff3fc0ffff, 0xffffffffff7fffff) ∷
+          (0x60a5ffff64a5feff78a507c660a5ffff3ca0ffff, 0xfffffffffeffffff) ∷
+          (0x635affff675afdff7b5a07c6635affff3f40ffff, 0xfffffffffdffffff) ∷
+          (0x635affff675afbff7b5a07c6635affff3f40ffff, 0xfffffffffbffffff) ∷
+          (0x60e7ffff64e7f7ff78e707c660e7ffff3ce0ffff, 0xfffffffff7ffffff) ∷
+          (0x6108ffff6508efff790807c66108ffff3d00ffff, 0xffffffffefffffff) ∷
+          (0x614affff654adfff794a07c6614affff3d40ffff, 0xffffffffdfffffff) ∷
+          (0x6318ffff6718bfff7b1807c66318ffff3f00ffff, 0xffffffffbfffffff) ∷
+          (0x616bffff656b7fff796b07c6616bffff3d60ffff, 0xffffffff7fffffff) ∷
+          (0x61effffe65efffff79ef07c661efffff3de0ffff, 0xfffffffffffffffe) ∷
+          (0x62f7fffd66f7ffff7af707c662f7ffff3ee0ffff, 0xfffffffffffffffd) ∷
+          (0x62b5fffb66b5ffff7ab507c662b5ffff3ea0ffff, 0xfffffffffffffffb) ∷
+          (0x639cfff7679cffff7b9c07c6639cffff3f80ffff, 0xfffffffffffffff7) ∷
+          (0x6252ffef6652ffff7a5207c66252ffff3e40ffff, 0xffffffffffffffef) ∷
+          (0x639cffdf679cffff7b9c07c6639cffff3f80ffff, 0xffffffffffffffdf) ∷
+          (0x614affbf654affff794a07c6614affff3d40ffff, 0xffffffffffffffbf) ∷
+          (0x63deff7f67deffff7bde07c663deffff3fc0ffff, 0xffffffffffffff7f) ∷
+          (0x618cfeff658cffff798c07c6618cffff3d80ffff, 0xfffffffffffffeff) ∷
+          (0x6318fdff6718ffff7b1807c66318ffff3f00ffff, 0xfffffffffffffdff) ∷
+          (0x637bfbff677bffff7b7b07c6637bffff3f60ffff, 0xfffffffffffffbff) ∷
+          (0x6339f7ff6739ffff7b3907c66339ffff3f20ffff, 0xfffffffffffff7ff) ∷
+          (0x637befff677bffff7b7b07c6637bffff3f60ffff, 0xffffffffffffefff) ∷
+          (0x60c6dfff64c6ffff78c607c660c6ffff3cc0ffff, 0xffffffffffffdfff) ∷
+          (0x6108bfff6508ffff790807c66108ffff3d00ffff, 0xffffffffffffbfff) ∷
+          (0x63bd7fff67bdffff7bbd07c663bdffff3fa0ffff, 0xffffffffffff7fff) ∷
+          (0x63de6a7867de38cf7bde07c663de1b4f3fc09164, 0x91641b4f38cf6a78) ∷
+          (0x625241d76652ade97a5207c66252e1e93e40df0e, 0xdf0ee1e9ade941d7) ∷
+          (0x60e7f0a464e75bc978e707c660e7d7863ce0fb5e, 0xfb5ed7865bc9f0a4) ∷
+          (0x614aa34b654a5330794a07c6614a3ed93d404521, 0x45213ed95330a34b) ∷
+          (0x6210e01c66105fa17a1007c6621058023e00d807, 0xd80758025fa1e01c) ∷
+          (0x60e7d2e764e7943178e707c660e786213ce08226, 0x822686219431d2e7) ∷
+          [];
+    }) ∷
+    []
+
 -- What is read of the words is what came of them.
 abbrev pub Agrees : Type 0
 Agrees =
@@ -1254,5 +1454,7 @@ Agrees =
     × IsComputed (ppc64_form Branch14).machine branch14_words
     × IsComputed (ppc64_form Branch24).machine branch24_words
     × IsComputed (ppc64_form Prefixed).machine prefixed_words
+    × IsComputed (ppc64_form DUnsigned).machine dunsigned_words
     × IsComputed halves_number halves_words
     × IsComputed unadjusted_number unadjusted_words
+    × IsComputed quarters_number quarters_words

@@ -13,7 +13,7 @@ use Rattle.linker_elf.specs.declared.elf.value.Operands.{Operands}
 use Rattle.linker_elf.specs.declared.riscv64.forms.RiscVInstruction.TheVariants.{UiType}
 use Rattle.linker_laws.specs.AArch64RelocationLaws.{page_and_offset}
 use Rattle.linker_laws.specs.LoongArchRelocationLaws.{upper_and_or, four, page_and_low}
-use Rattle.linker_laws.specs.Ppc64RelocationLaws.{unadjusted}
+use Rattle.linker_laws.specs.Ppc64RelocationLaws.{unadjusted, unadjusted_quarters}
 use Rattle.linker_laws.specs.RiscVRelocationLaws.{without_bit_0}
 use Rattle.linker_laws.specs.Schemes.{zero}
 
@@ -57,6 +57,11 @@ near_number words = page_and_low (at (field words 64 128)) (word 0 words) (word 
 -- `addis` from zero and `ori`
 abbrev pub unadjusted_number : ℕ → ℤ
 unadjusted_number words = unadjusted zero (at 0) (word 0 words) (word 1 words)
+
+-- `lis` and `ori`, `sldi` by 32, `oris` and `ori`
+abbrev pub quarters_number : ℕ → ℤ
+quarters_number words =
+    unadjusted_quarters zero (at 0) (word 0 words) (word 1 words) (word 3 words) (word 4 words)
 
 -- `movz` and three `movk`
 abbrev pub moves_number : ℕ → ℤ

@@ -9,7 +9,7 @@ use Rattle.linker_elf.specs.Forms.{ppc64_word_mask}
 use Rattle.linker_elf.specs.Ppc64.{ppc64_form, ppc64_layout}
 use Rattle.linker_elf.specs.declared.ppc64.forms.Ppc64Instruction.{Ppc64Instruction}
 use Rattle.linker_elf.specs.declared.ppc64.forms.Ppc64Instruction.TheVariants.{D, Ds, Branch14, Branch24}
-use Rattle.linker_elf.specs.declared.ppc64.forms.Ppc64Instruction.TheVariants.{Prefixed}
+use Rattle.linker_elf.specs.declared.ppc64.forms.Ppc64Instruction.TheVariants.{Prefixed, DUnsigned}
 use Rattle.linker_elf.proofs.Runs.{masked, mask_written}
 
 pub ppc64_machine : (f : Ppc64Instruction) (v : ℕ) (neg : Bool) (before after : ℕ) → v < 2 ^ 64
@@ -45,6 +45,7 @@ mask_reads D isnt = d_mask
 mask_reads Ds isnt = ds_mask
 mask_reads Branch14 isnt = ds_mask
 mask_reads Branch24 isnt = i_mask
+mask_reads DUnsigned isnt = d_mask
 mask_reads Prefixed isnt = absurd (isnt refl)
 
 pub mask_writes : (f : Ppc64Instruction) → ¬ (f ≡ Prefixed) → (v : ℕ) (neg : Bool) (x : ℕ)
@@ -55,6 +56,7 @@ mask_writes D isnt v neg = d_written v
 mask_writes Ds isnt v neg = ds_written v
 mask_writes Branch14 isnt v neg = ds_written v
 mask_writes Branch24 isnt v neg = i_written v
+mask_writes DUnsigned isnt v neg = d_written v
 mask_writes Prefixed isnt v neg = absurd (isnt refl)
 
 -- all but one have a window of 4 bytes

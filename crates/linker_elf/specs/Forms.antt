@@ -58,6 +58,7 @@ ppc64_word_mask ppc64.Ds = 0xfffc
 ppc64_word_mask ppc64.Branch14 = 0xfffc
 ppc64_word_mask ppc64.Branch24 = 0x3fffffc
 ppc64_word_mask ppc64.Prefixed = 0
+ppc64_word_mask ppc64.DUnsigned = 0xffff
 
 -- a word of DQ-form where one of DS-form is expected
 abbrev pub is_dq_at : Ppc64Instruction → ℕ → Bool
@@ -103,6 +104,7 @@ immediate_of (Ppc64 ppc64.Ds) = record { start = 2; end = 16 }
 immediate_of (Ppc64 ppc64.Branch14) = record { start = 2; end = 16 }
 immediate_of (Ppc64 ppc64.Branch24) = record { start = 2; end = 26 }
 immediate_of (Ppc64 ppc64.Prefixed) = record { start = 0; end = 34 }
+immediate_of (Ppc64 ppc64.DUnsigned) = record { start = 0; end = 16 }
 immediate_of (LoongArch64 loongarch.Shift5) = record { start = 0; end = 20 }
 immediate_of (LoongArch64 loongarch.Shift10) = record { start = 0; end = 16 }
 immediate_of (LoongArch64 loongarch.Branch26) = record { start = 0; end = 26 }

@@ -6,15 +6,15 @@ use Rattle.std.specs.Prelude.{◌≤ℤ◌, ◌<ℤ◌, ◌^◌, ◌-◌, ◌+�
 use Rattle.std.specs.Int.{Width, w32, w64, from_le_bytes}
 use Rattle.linker_base.specs.Bits.{field, signed}
 use Rattle.linker_base.specs.Form.{ImmediateBit, Form, Layout, one_field, form_of, bits_to}
-use Rattle.linker_base.specs.Form.{unsigned, twos_complement, modulo, IsSameModulo}
+use Rattle.linker_base.specs.Form.{Sign, unsigned, twos_complement, modulo, IsSameModulo}
 use Rattle.linker_elf.specs.declared.ppc64.forms.Ppc64Instruction.{Ppc64Instruction}
 use Rattle.linker_elf.specs.declared.ppc64.forms.Ppc64Instruction.TheVariants.{D, Ds, Branch14}
 use Rattle.linker_elf.specs.declared.ppc64.forms.Ppc64Instruction.TheVariants.{Branch24}
-use Rattle.linker_elf.specs.declared.ppc64.forms.Ppc64Instruction.TheVariants.{Prefixed}
+use Rattle.linker_elf.specs.declared.ppc64.forms.Ppc64Instruction.TheVariants.{Prefixed, DUnsigned}
 
--- a displacement of n bits, of which those from bit `low` up stand at places
-abbrev pub displacement_at : Width → ℕ → ℕ → List ImmediateBit → Layout
-displacement_at w n low ps =
+-- an immediate of n bits, of which those from bit `low` up stand at places
+abbrev pub immediate_at : Sign → Width → ℕ → ℕ → List ImmediateBit → Layout
+immediate_at sign w n low ps =
     one_field (record {
       window = w;
       width = 64;
@@ -22,25 +22,27 @@ displacement_at w n low ps =
       low = low;
       read = unsigned;
       flags = false;
-      machine = twos_complement;
+      machine = sign;
       claim = modulo n;
       places = ps;
     })
 
--- one whose bits stand in the word where they stand in the value
+-- a displacement whose bits stand in the word where they stand in the value
 abbrev pub displacement : ℕ → ℕ → Layout
-displacement n low = displacement_at w32 n low (bits_to low (n - 1) low)
+displacement n low = immediate_at twos_complement w32 n low (bits_to low (n - 1) low)
 
 abbrev pub ppc64_layout : Ppc64Instruction → Layout
 ppc64_layout D = displacement 16 0
 ppc64_layout Ds = displacement 16 2
 ppc64_layout Branch14 = displacement 16 2
 ppc64_layout Branch24 = displacement 26 2
-ppc64_layout Prefixed = displacement_at w64 34 0 (bits_to 0 15 32 ++ bits_to 16 33 0)
+ppc64_layout Prefixed =
+    immediate_at twos_complement w64 34 0 (bits_to 0 15 32 ++ bits_to 16 33 0)
+ppc64_layout DUnsigned = immediate_at unsigned w32 16 0 (bits_to 0 15 0)
 
 -- the forms by their numbers from 0 up
 abbrev pub ppc64_forms : List Ppc64Instruction
-ppc64_forms = D ∷ Ds ∷ Branch14 ∷ Branch24 ∷ Prefixed ∷ []
+ppc64_forms = D ∷ Ds ∷ Branch14 ∷ Branch24 ∷ Prefixed ∷ DUnsigned ∷ []
 
 abbrev pub ppc64_form : Ppc64Instruction → Form
 ppc64_form f = form_of (ppc64_layout f)

@@ -17,6 +17,7 @@ use Rattle.linker_elf.specs.declared.elf.RelocationInstruction.TheVariants.{Ppc6
 use Rattle.linker_elf.specs.declared.ppc64.forms.Ppc64Instruction.{Ppc64Instruction}
 use Rattle.linker_elf.specs.declared.ppc64.forms.Ppc64Instruction.TheVariants.{D, Ds, Branch14}
 use Rattle.linker_elf.specs.declared.ppc64.forms.Ppc64Instruction.TheVariants.{Branch24, Prefixed}
+use Rattle.linker_elf.specs.declared.ppc64.forms.Ppc64Instruction.TheVariants.{DUnsigned}
 use Rattle.linker_elf.specs.declared.ppc64.relocations.Ppc64Relocation.{Ppc64Relocation}
 use Rattle.linker_elf.specs.declared.ppc64.relocations.Ppc64Relocation.TheVariants as r
 
@@ -24,9 +25,13 @@ use Rattle.linker_elf.specs.declared.ppc64.relocations.Ppc64Relocation.TheVarian
 abbrev pub high_row : RelocationKind → RelocationKindInfo
 high_row kind = bits_row kind 16 32 (Ppc64 D)
 
--- the high half, adjusted for the sign of the low half
+-- a part that is adjusted for the sign of the low half
+abbrev pub adjusted_row : RelocationKindInfo → RelocationKindInfo
+adjusted_row row = biased_row 0x8000 row
+
+-- the high half so
 abbrev pub high_adjusted_row : RelocationKind → RelocationKindInfo
-high_adjusted_row kind = biased_row 0x8000 (high_row kind)
+high_adjusted_row kind = adjusted_row (high_row kind)
 
 -- the low half
 abbrev pub low_row : RelocationKind → RelocationKindInfo
@@ -36,9 +41,20 @@ low_row kind = bits_row kind 0 16 (Ppc64 D)
 abbrev pub low_ds_row : RelocationKind → RelocationKindInfo
 low_ds_row kind = aligned_row 4 (bits_row kind 0 16 (Ppc64 Ds))
 
--- a signed distance of n bits
-abbrev pub branch_row : ℕ → Ppc64Instruction → RelocationKindInfo
-branch_row n form = aligned_row 4 (signed_row n (bits_row Relative 0 n (Ppc64 form)))
+-- the parts of a value of 64 bits above its low half, which aren't checked: `lis` takes the highest
+-- one, `ori` and `oris` the others
+abbrev pub highest_row : RelocationKind → RelocationKindInfo
+highest_row kind = bits_row kind 48 64 (Ppc64 D)
+
+abbrev pub higher_row : RelocationKind → RelocationKindInfo
+higher_row kind = bits_row kind 32 48 (Ppc64 DUnsigned)
+
+abbrev pub unchecked_row : RelocationKind → RelocationKindInfo
+unchecked_row kind = bits_row kind 16 32 (Ppc64 DUnsigned)
+
+-- a signed distance, or address, of n bits
+abbrev pub branch_row : RelocationKind → ℕ → Ppc64Instruction → RelocationKindInfo
+branch_row kind n form = aligned_row 4 (signed_row n (bits_row kind 0 n (Ppc64 form)))
 
 -- 34 signed bits into a prefixed instruction
 abbrev pub prefixed_row : RelocationKind → RelocationKindInfo
@@ -49,12 +65,25 @@ abbrev pub ppc64_relocation : Ppc64Relocation → Relocation
 ppc64_relocation r.R_PPC64_NONE = with_row 0 (codes "R_PPC64_NONE") (bytes_row NoValue 0)
 ppc64_relocation r.R_PPC64_ADDR32 =
     with_row 1 (codes "R_PPC64_ADDR32") (signed_or_unsigned_row 32 (bytes_row Absolute 4))
+ppc64_relocation r.R_PPC64_ADDR24 =
+    with_row 2 (codes "R_PPC64_ADDR24") (branch_row Absolute 26 Branch24)
+ppc64_relocation r.R_PPC64_ADDR16 =
+    with_row 3 (codes "R_PPC64_ADDR16") (signed_or_unsigned_row 16 (bytes_row Absolute 2))
 ppc64_relocation r.R_PPC64_ADDR16_LO = with_row 4 (codes "R_PPC64_ADDR16_LO") (low_row Absolute)
 ppc64_relocation r.R_PPC64_ADDR16_HI = with_row 5 (codes "R_PPC64_ADDR16_HI") (high_row Absolute)
 ppc64_relocation r.R_PPC64_ADDR16_HA =
     with_row 6 (codes "R_PPC64_ADDR16_HA") (high_adjusted_row Absolute)
-ppc64_relocation r.R_PPC64_REL24 = with_row 10 (codes "R_PPC64_REL24") (branch_row 26 Branch24)
-ppc64_relocation r.R_PPC64_REL14 = with_row 11 (codes "R_PPC64_REL14") (branch_row 16 Branch14)
+ppc64_relocation r.R_PPC64_ADDR14 =
+    with_row 7 (codes "R_PPC64_ADDR14") (branch_row Absolute 16 Branch14)
+ppc64_relocation r.R_PPC64_REL24 =
+    with_row 10 (codes "R_PPC64_REL24") (branch_row Relative 26 Branch24)
+ppc64_relocation r.R_PPC64_REL14 =
+    with_row 11 (codes "R_PPC64_REL14") (branch_row Relative 16 Branch14)
+ppc64_relocation r.R_PPC64_GOT16 =
+    with_row 14 (codes "R_PPC64_GOT16") (signed_row 16 (low_row GotRelGotBase))
+ppc64_relocation r.R_PPC64_GOT16_LO = with_row 15 (codes "R_PPC64_GOT16_LO") (low_row GotRelGotBase)
+ppc64_relocation r.R_PPC64_GOT16_HI =
+    with_row 16 (codes "R_PPC64_GOT16_HI") (high_row GotRelGotBase)
 ppc64_relocation r.R_PPC64_GOT16_HA =
     with_row 17 (codes "R_PPC64_GOT16_HA") (high_adjusted_row GotRelGotBase)
 ppc64_relocation r.R_PPC64_REL32 =
@@ -62,16 +91,28 @@ ppc64_relocation r.R_PPC64_REL32 =
 ppc64_relocation r.R_PPC64_PLT16_HA =
     with_row 31 (codes "R_PPC64_PLT16_HA") (high_adjusted_row PltRelGotBase)
 ppc64_relocation r.R_PPC64_ADDR64 = with_row 38 (codes "R_PPC64_ADDR64") (bytes_row Absolute 8)
+ppc64_relocation r.R_PPC64_ADDR16_HIGHER =
+    with_row 39 (codes "R_PPC64_ADDR16_HIGHER") (higher_row Absolute)
+ppc64_relocation r.R_PPC64_ADDR16_HIGHERA =
+    with_row 40 (codes "R_PPC64_ADDR16_HIGHERA") (adjusted_row (higher_row Absolute))
+ppc64_relocation r.R_PPC64_ADDR16_HIGHEST =
+    with_row 41 (codes "R_PPC64_ADDR16_HIGHEST") (highest_row Absolute)
+ppc64_relocation r.R_PPC64_ADDR16_HIGHESTA =
+    with_row 42 (codes "R_PPC64_ADDR16_HIGHESTA") (adjusted_row (highest_row Absolute))
 ppc64_relocation r.R_PPC64_REL64 = with_row 44 (codes "R_PPC64_REL64") (bytes_row Relative 8)
 ppc64_relocation r.R_PPC64_TOC16 =
     with_row 47 (codes "R_PPC64_TOC16") (signed_row 16 (low_row SymRelGotBase))
 ppc64_relocation r.R_PPC64_TOC16_LO = with_row 48 (codes "R_PPC64_TOC16_LO") (low_row SymRelGotBase)
+ppc64_relocation r.R_PPC64_TOC16_HI =
+    with_row 49 (codes "R_PPC64_TOC16_HI") (high_row SymRelGotBase)
 ppc64_relocation r.R_PPC64_TOC16_HA =
     with_row 50 (codes "R_PPC64_TOC16_HA") (high_adjusted_row SymRelGotBase)
 ppc64_relocation r.R_PPC64_ADDR16_DS =
     with_row 56 (codes "R_PPC64_ADDR16_DS") (signed_row 16 (low_ds_row Absolute))
 ppc64_relocation r.R_PPC64_ADDR16_LO_DS =
     with_row 57 (codes "R_PPC64_ADDR16_LO_DS") (low_ds_row Absolute)
+ppc64_relocation r.R_PPC64_GOT16_DS =
+    with_row 58 (codes "R_PPC64_GOT16_DS") (signed_row 16 (low_ds_row GotRelGotBase))
 ppc64_relocation r.R_PPC64_GOT16_LO_DS =
     with_row 59 (codes "R_PPC64_GOT16_LO_DS") (low_ds_row GotRelGotBase)
 ppc64_relocation r.R_PPC64_PLT16_LO_DS =
@@ -123,14 +164,42 @@ ppc64_relocation r.R_PPC64_TPREL16_DS =
     with_row 95 (codes "R_PPC64_TPREL16_DS") (signed_row 16 (low_ds_row TpOff))
 ppc64_relocation r.R_PPC64_TPREL16_LO_DS =
     with_row 96 (codes "R_PPC64_TPREL16_LO_DS") (low_ds_row TpOff)
+ppc64_relocation r.R_PPC64_TPREL16_HIGHER =
+    with_row 97 (codes "R_PPC64_TPREL16_HIGHER") (higher_row TpOff)
+ppc64_relocation r.R_PPC64_TPREL16_HIGHERA =
+    with_row 98 (codes "R_PPC64_TPREL16_HIGHERA") (adjusted_row (higher_row TpOff))
+ppc64_relocation r.R_PPC64_TPREL16_HIGHEST =
+    with_row 99 (codes "R_PPC64_TPREL16_HIGHEST") (highest_row TpOff)
+ppc64_relocation r.R_PPC64_TPREL16_HIGHESTA =
+    with_row 100 (codes "R_PPC64_TPREL16_HIGHESTA") (adjusted_row (highest_row TpOff))
 ppc64_relocation r.R_PPC64_DTPREL16_DS =
     with_row 101 (codes "R_PPC64_DTPREL16_DS") (signed_row 16 (low_ds_row DtpOff))
 ppc64_relocation r.R_PPC64_DTPREL16_LO_DS =
     with_row 102 (codes "R_PPC64_DTPREL16_LO_DS") (low_ds_row DtpOff)
+ppc64_relocation r.R_PPC64_DTPREL16_HIGHER =
+    with_row 103 (codes "R_PPC64_DTPREL16_HIGHER") (higher_row DtpOff)
+ppc64_relocation r.R_PPC64_DTPREL16_HIGHERA =
+    with_row 104 (codes "R_PPC64_DTPREL16_HIGHERA") (adjusted_row (higher_row DtpOff))
+ppc64_relocation r.R_PPC64_DTPREL16_HIGHEST =
+    with_row 105 (codes "R_PPC64_DTPREL16_HIGHEST") (highest_row DtpOff)
+ppc64_relocation r.R_PPC64_DTPREL16_HIGHESTA =
+    with_row 106 (codes "R_PPC64_DTPREL16_HIGHESTA") (adjusted_row (highest_row DtpOff))
 ppc64_relocation r.R_PPC64_TLSGD = with_row 107 (codes "R_PPC64_TLSGD") (bytes_row NoValue 0)
 ppc64_relocation r.R_PPC64_TLSLD = with_row 108 (codes "R_PPC64_TLSLD") (bytes_row NoValue 0)
+ppc64_relocation r.R_PPC64_ADDR16_HIGH =
+    with_row 110 (codes "R_PPC64_ADDR16_HIGH") (unchecked_row Absolute)
+ppc64_relocation r.R_PPC64_ADDR16_HIGHA =
+    with_row 111 (codes "R_PPC64_ADDR16_HIGHA") (adjusted_row (unchecked_row Absolute))
+ppc64_relocation r.R_PPC64_TPREL16_HIGH =
+    with_row 112 (codes "R_PPC64_TPREL16_HIGH") (unchecked_row TpOff)
+ppc64_relocation r.R_PPC64_TPREL16_HIGHA =
+    with_row 113 (codes "R_PPC64_TPREL16_HIGHA") (adjusted_row (unchecked_row TpOff))
+ppc64_relocation r.R_PPC64_DTPREL16_HIGH =
+    with_row 114 (codes "R_PPC64_DTPREL16_HIGH") (unchecked_row DtpOff)
+ppc64_relocation r.R_PPC64_DTPREL16_HIGHA =
+    with_row 115 (codes "R_PPC64_DTPREL16_HIGHA") (adjusted_row (unchecked_row DtpOff))
 ppc64_relocation r.R_PPC64_REL24_NOTOC =
-    with_row 116 (codes "R_PPC64_REL24_NOTOC") (branch_row 26 Branch24)
+    with_row 116 (codes "R_PPC64_REL24_NOTOC") (branch_row Relative 26 Branch24)
 ppc64_relocation r.R_PPC64_ENTRY = with_row 118 (codes "R_PPC64_ENTRY") (bytes_row NoValue 0)
 ppc64_relocation r.R_PPC64_PLTSEQ = with_row 119 (codes "R_PPC64_PLTSEQ") (bytes_row NoValue 0)
 ppc64_relocation r.R_PPC64_PLTCALL = with_row 120 (codes "R_PPC64_PLTCALL") (bytes_row NoValue 0)
@@ -163,6 +232,7 @@ ppc64_relocation r.R_PPC64_GOT_TLSLD_PCREL34 =
 ppc64_relocation r.R_PPC64_GOT_TPREL_PCREL34 =
     with_row 150 (codes "R_PPC64_GOT_TPREL_PCREL34") (prefixed_row GotTpOff)
 ppc64_relocation r.R_PPC64_REL16_LO = with_row 250 (codes "R_PPC64_REL16_LO") (low_row Relative)
+ppc64_relocation r.R_PPC64_REL16_HI = with_row 251 (codes "R_PPC64_REL16_HI") (high_row Relative)
 ppc64_relocation r.R_PPC64_REL16_HA =
     with_row 252 (codes "R_PPC64_REL16_HA") (high_adjusted_row Relative)
 ppc64_relocation (r.Other code) = unnamed_relocation code
@@ -176,10 +246,36 @@ ppc64_row name = (ppc64_relocation name).row
 
 -- the names that the crate this one is a port of doesn't have
 abbrev pub is_own : Ppc64Relocation → Bool
+is_own r.R_PPC64_ADDR24 = true
+is_own r.R_PPC64_ADDR16 = true
+is_own r.R_PPC64_ADDR14 = true
+is_own r.R_PPC64_GOT16 = true
+is_own r.R_PPC64_GOT16_LO = true
+is_own r.R_PPC64_GOT16_HI = true
 is_own r.R_PPC64_GOT16_HA = true
 is_own r.R_PPC64_PLT16_HA = true
+is_own r.R_PPC64_ADDR16_HIGHER = true
+is_own r.R_PPC64_ADDR16_HIGHERA = true
+is_own r.R_PPC64_ADDR16_HIGHEST = true
+is_own r.R_PPC64_ADDR16_HIGHESTA = true
+is_own r.R_PPC64_TOC16_HI = true
+is_own r.R_PPC64_GOT16_DS = true
 is_own r.R_PPC64_GOT16_LO_DS = true
 is_own r.R_PPC64_PLT16_LO_DS = true
+is_own r.R_PPC64_TPREL16_HIGHER = true
+is_own r.R_PPC64_TPREL16_HIGHERA = true
+is_own r.R_PPC64_TPREL16_HIGHEST = true
+is_own r.R_PPC64_TPREL16_HIGHESTA = true
+is_own r.R_PPC64_DTPREL16_HIGHER = true
+is_own r.R_PPC64_DTPREL16_HIGHERA = true
+is_own r.R_PPC64_DTPREL16_HIGHEST = true
+is_own r.R_PPC64_DTPREL16_HIGHESTA = true
+is_own r.R_PPC64_ADDR16_HIGH = true
+is_own r.R_PPC64_ADDR16_HIGHA = true
+is_own r.R_PPC64_TPREL16_HIGH = true
+is_own r.R_PPC64_TPREL16_HIGHA = true
+is_own r.R_PPC64_DTPREL16_HIGH = true
+is_own r.R_PPC64_DTPREL16_HIGHA = true
 is_own r.R_PPC64_ENTRY = true
 is_own r.R_PPC64_PLTSEQ = true
 is_own r.R_PPC64_PLTCALL = true
@@ -196,6 +292,7 @@ is_own r.R_PPC64_DTPREL34 = true
 is_own r.R_PPC64_GOT_TLSGD_PCREL34 = true
 is_own r.R_PPC64_GOT_TLSLD_PCREL34 = true
 is_own r.R_PPC64_GOT_TPREL_PCREL34 = true
+is_own r.R_PPC64_REL16_HI = true
 is_own name = false
 
 -- the same without those

@@ -96,7 +96,7 @@ unrounded number below = λ o small. let h = below o in omega arith
 
 -- ---- pairs
 
-adjusted_low : (n m : ℕ) (low : ℤ) → low ≡ signed 16 (n % 2 ^ 16) → m ≡ sum_64 n 0x8000
+pub adjusted_low : (n m : ℕ) (low : ℤ) → low ≡ signed 16 (n % 2 ^ 16) → m ≡ sum_64 n 0x8000
     → low +ℤ pos 0x8000 ≡ pos (m % 2 ^ 16)
 adjusted_low n m low reads is =
     ap (λ z. z +ℤ pos 0x8000) reads ∙ signed_16 (n % 2 ^ 16) (omega arith)
@@ -142,7 +142,7 @@ adjusted_halves {begin} {target} {number} {rounded} leads rounds f low operands 
     numbers.small numbers.below numbers.leads is h (adjusted_low n (rounded o) _ l is)
 
 -- the low half without a sign
-d_field : (x : ℕ) → place_sum ((ppc64_form D).places 0) x ≡ field x 0 16
+pub d_field : (x : ℕ) → place_sum ((ppc64_form D).places 0) x ≡ field x 0 16
 d_field x = consecutive_bits_sum replaced 16 0 0 0 x refl ∙ omega arith
 
 pub unadjusted_halves : {begin target number : Operands → ℕ} → IsNumber begin target number

@@ -30,6 +30,7 @@ pub mod Ppc64Threads
 pub mod Ppc64Vectors
 pub mod Ppc64WholeWords
 pub mod Ppc64Words
+pub mod Quarters
 pub mod RiscV
 pub mod RiscVCalls
 pub mod RiscVDescriptors

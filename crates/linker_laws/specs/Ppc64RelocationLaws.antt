@@ -1,6 +1,6 @@
 -- PowerPC64: what relocated instructions compute (64-bit ELF V2 ABI for Power, "Relocation Types";
 -- Power ISA, version 3.1, book I).
-use Rattle.std.specs.Prelude.{ℕ, [], ◌∷◌, ℤ, pos, ◌+ℤ◌, ◌*ℤ◌, ◌^◌}
+use Rattle.std.specs.Prelude.{ℕ, [], ◌∷◌, ℤ, pos, ◌+ℤ◌, ◌*ℤ◌, ◌+◌, ◌*◌, ◌^◌}
 use Rattle.linker_base.specs.Bits.{field}
 use Rattle.linker_elf.specs.Ppc64.{ppc64_form}
 use Rattle.linker_elf.specs.Ppc64Relocations.{ppc64_row}
@@ -49,6 +49,7 @@ abbrev pub TocAddresses : Type 0
 TocAddresses =
     Adjusted got_base names.R_PPC64_TOC16_HA names.R_PPC64_TOC16_LO D symbol_address
     × Adjusted got_base names.R_PPC64_TOC16_HA names.R_PPC64_TOC16_LO_DS Ds symbol_address
+    × Unadjusted got_base names.R_PPC64_TOC16_HI names.R_PPC64_TOC16_LO symbol_address
 
 abbrev pub EntryAddresses : Type 0
 EntryAddresses =
@@ -62,6 +63,8 @@ EntryAddresses =
 abbrev pub GotAddresses : Type 0
 GotAddresses =
     Adjusted got_base names.R_PPC64_GOT16_HA names.R_PPC64_GOT16_LO_DS Ds entry_address
+    × Adjusted got_base names.R_PPC64_GOT16_HA names.R_PPC64_GOT16_LO D entry_address
+    × Unadjusted got_base names.R_PPC64_GOT16_HI names.R_PPC64_GOT16_LO entry_address
     × Adjusted got_base names.R_PPC64_PLT16_HA names.R_PPC64_PLT16_LO_DS Ds plt_address
 
 -- `addis` alone. No relocation of its low half is among the rows.
@@ -85,6 +88,61 @@ RelativeAddresses =
     Law
     (here (ppc64_row names.R_PPC64_REL16_HA) ∷ moved_on 4 (ppc64_row names.R_PPC64_REL16_LO) ∷ [])
     (adjusted place D) symbol_address
+    × Law
+    (here (ppc64_row names.R_PPC64_REL16_HI) ∷ moved_on 4 (ppc64_row names.R_PPC64_REL16_LO) ∷ [])
+    (unadjusted place) symbol_address
+
+-- ---- four parts of 16 bits ("lis", "ori", "sldi", "oris"; ABI, "@highest", "@higher" and "@high")
+
+-- `lis` and `ori` make the upper 32 bits, which `sldi` shifts there, and `oris` the next 16. What
+-- the sign of `lis` sets is shifted out.
+abbrev pub upper_parts : ℕ → ℕ → ℕ → ℕ
+upper_parts x y z = 2 ^ 48 * field x 0 16 + 2 ^ 32 * field y 0 16 + 2 ^ 16 * field z 0 16
+
+-- with an `ori`, which takes the low half without a sign
+abbrev pub unadjusted_quarters : (Operands → ℕ) → Operands → ℕ → ℕ → ℕ → ℕ → ℤ
+unadjusted_quarters begin o x y z u = pos (begin o + upper_parts x y z) +ℤ pos (field u 0 16)
+
+abbrev pub Quarters : (Operands → ℕ) → Ppc64Relocation → Ppc64Relocation → Ppc64Relocation
+    → Ppc64Relocation → (Operands → ℕ) → Type 0
+Quarters begin highest higher high low target =
+    Law
+    (here (ppc64_row highest) ∷ anywhere (ppc64_row higher) ∷ anywhere (ppc64_row high)
+    ∷ anywhere (ppc64_row low) ∷ [])
+    (unadjusted_quarters begin) target
+
+-- with an instruction that adds the low half in two's complement
+abbrev pub adjusted_quarters : (Operands → ℕ) → Ppc64Instruction → Operands → ℕ → ℕ → ℕ → ℕ → ℤ
+adjusted_quarters begin f o x y z u = pos (begin o + upper_parts x y z) +ℤ ppc64_reads f u
+
+abbrev pub AdjustedQuarters : (Operands → ℕ) → Ppc64Relocation → Ppc64Relocation → Ppc64Relocation
+    → Ppc64Relocation → Ppc64Instruction → (Operands → ℕ) → Type 0
+AdjustedQuarters begin highest higher high low f target =
+    Law
+    (here (ppc64_row highest) ∷ anywhere (ppc64_row higher) ∷ anywhere (ppc64_row high)
+    ∷ anywhere (ppc64_row low) ∷ [])
+    (adjusted_quarters begin f) target
+
+abbrev pub FarAddresses : Type 0
+FarAddresses =
+    Quarters zero names.R_PPC64_ADDR16_HIGHEST names.R_PPC64_ADDR16_HIGHER
+    names.R_PPC64_ADDR16_HIGH names.R_PPC64_ADDR16_LO symbol_address
+    × AdjustedQuarters zero names.R_PPC64_ADDR16_HIGHESTA names.R_PPC64_ADDR16_HIGHERA
+    names.R_PPC64_ADDR16_HIGHA names.R_PPC64_ADDR16_LO D symbol_address
+    × AdjustedQuarters zero names.R_PPC64_ADDR16_HIGHESTA names.R_PPC64_ADDR16_HIGHERA
+    names.R_PPC64_ADDR16_HIGHA names.R_PPC64_ADDR16_LO_DS Ds symbol_address
+    × Quarters tls_base names.R_PPC64_TPREL16_HIGHEST names.R_PPC64_TPREL16_HIGHER
+    names.R_PPC64_TPREL16_HIGH names.R_PPC64_TPREL16_LO symbol_address
+    × AdjustedQuarters tls_base names.R_PPC64_TPREL16_HIGHESTA names.R_PPC64_TPREL16_HIGHERA
+    names.R_PPC64_TPREL16_HIGHA names.R_PPC64_TPREL16_LO D symbol_address
+    × AdjustedQuarters tls_base names.R_PPC64_TPREL16_HIGHESTA names.R_PPC64_TPREL16_HIGHERA
+    names.R_PPC64_TPREL16_HIGHA names.R_PPC64_TPREL16_LO_DS Ds symbol_address
+    × Quarters tls_base names.R_PPC64_DTPREL16_HIGHEST names.R_PPC64_DTPREL16_HIGHER
+    names.R_PPC64_DTPREL16_HIGH names.R_PPC64_DTPREL16_LO symbol_address
+    × AdjustedQuarters tls_base names.R_PPC64_DTPREL16_HIGHESTA names.R_PPC64_DTPREL16_HIGHERA
+    names.R_PPC64_DTPREL16_HIGHA names.R_PPC64_DTPREL16_LO D symbol_address
+    × AdjustedQuarters tls_base names.R_PPC64_DTPREL16_HIGHESTA names.R_PPC64_DTPREL16_HIGHERA
+    names.R_PPC64_DTPREL16_HIGHA names.R_PPC64_DTPREL16_LO_DS Ds symbol_address
 
 -- ---- one instruction
 
@@ -96,6 +154,8 @@ Branches =
     Single names.R_PPC64_REL24 place Branch24 symbol_address
     × Single names.R_PPC64_REL24_NOTOC place Branch24 symbol_address
     × Single names.R_PPC64_REL14 place Branch14 symbol_address
+    × Single names.R_PPC64_ADDR24 zero Branch24 symbol_address
+    × Single names.R_PPC64_ADDR14 zero Branch14 symbol_address
 
 abbrev pub Prefixes : Type 0
 Prefixes =
@@ -115,6 +175,8 @@ Displacements =
     Single names.R_PPC64_ADDR16_DS zero Ds symbol_address
     × Single names.R_PPC64_TOC16 got_base D symbol_address
     × Single names.R_PPC64_TOC16_DS got_base Ds symbol_address
+    × Single names.R_PPC64_GOT16 got_base D entry_address
+    × Single names.R_PPC64_GOT16_DS got_base Ds entry_address
     × Single names.R_PPC64_GOT_TPREL16_DS got_base Ds entry_address
     × Single names.R_PPC64_GOT_TLSGD16 got_base D entry_address
     × Single names.R_PPC64_GOT_TLSLD16 got_base D entry_address
@@ -129,6 +191,7 @@ abbrev pub Fields : Type 0
 Fields =
     HoldsDistance 8 (ppc64_row names.R_PPC64_ADDR64) zero symbol_address
     × HoldsDistance 4 (ppc64_row names.R_PPC64_ADDR32) zero symbol_address
+    × HoldsDistance 2 (ppc64_row names.R_PPC64_ADDR16) zero symbol_address
     × HoldsDistance 8 (ppc64_row names.R_PPC64_REL64) place symbol_address
     × HoldsDistance 4 (ppc64_row names.R_PPC64_REL32) place symbol_address
     × HoldsDistance 8 (ppc64_row names.R_PPC64_TPREL64) tls_base symbol_address

@@ -56,6 +56,7 @@ pub fn loongarch64()
 pub fn ppc64()
     ensures absolute { ppc64_laws.AbsoluteAddresses }
     ensures relative { ppc64_laws.RelativeAddresses }
+    ensures far { ppc64_laws.FarAddresses }
     ensures toc { ppc64_laws.TocAddresses }
     ensures entries { ppc64_laws.EntryAddresses }
     ensures got { ppc64_laws.GotAddresses }

@@ -76,6 +76,7 @@ instruction_agrees (Ppc64 ppc64.Ds) bits x w h = ds_agrees (is_dq_form x) x w h
 instruction_agrees (Ppc64 ppc64.Branch14) bits x w h = agrees 0xfffc (is_instruction_bit (Ppc64 ppc64.Branch14) bits 0) refl w h
 instruction_agrees (Ppc64 ppc64.Branch24) bits x w h = agrees 0x3fffffc (is_instruction_bit (Ppc64 ppc64.Branch24) bits 0) refl w h
 instruction_agrees (Ppc64 ppc64.Prefixed) bits x w h = agrees 0xffff0003ffff (is_instruction_bit (Ppc64 ppc64.Prefixed) bits 0) refl w h
+instruction_agrees (Ppc64 ppc64.DUnsigned) bits x w h = agrees 0xffff (is_instruction_bit (Ppc64 ppc64.DUnsigned) bits 0) refl w h
 instruction_agrees (LoongArch64 loongarch.Shift5) bits x w h = agrees 0x1ffffe0 (is_instruction_bit (LoongArch64 loongarch.Shift5) bits 0) refl w h
 instruction_agrees (LoongArch64 loongarch.Shift10) bits x w h = shift10_agrees (nat_lt 12 (bits.end - bits.start)) x w h
 instruction_agrees (LoongArch64 loongarch.Branch26) bits x w h = agrees 0x3ffffff (is_instruction_bit (LoongArch64 loongarch.Branch26) bits 0) refl w h

@@ -74,6 +74,7 @@ fn ppc64_number(insn: Ppc64Instruction, bytes: &[u8]) -> u64 {
         Ppc64Instruction::Branch14 => number.low_bits_signed(16),
         Ppc64Instruction::Branch24 => number.low_bits_signed(26),
         Ppc64Instruction::Prefixed => number.low_bits_signed(34),
+        Ppc64Instruction::DUnsigned => number,
     }
 }
 

@@ -41,12 +41,15 @@ pub enum Ppc64Instruction {
     /// one, the prefix, and 0 to 15 at bit 0 and up of word two. A signed number of 34 bits (Power
     /// ISA 3.1, "8LS:D-Form" and "MLS:D-Form").
     Prefixed,
+    /// D-form with an unsigned immediate, as `oris`: value bits 0 to 15 at bit 0 and up. A number of
+    /// 16 bits without a sign (Power ISA, "D-Form", the field UI).
+    DUnsigned,
 }
 
 /// The bits that each form holds in its word. A match of them would be merged with that of
 /// `write_to_value`, into a jump by the form, and a constant would be written to the stack at each
 /// use.
-static MASKS: [u64; 5] = [0xffff, 0xfffc, 0xfffc, 0x03ff_fffc, 0];
+static MASKS: [u64; 6] = [0xffff, 0xfffc, 0xfffc, 0x03ff_fffc, 0, 0xffff];
 
 const PREFIXED: [Run; 2] = [run!(0, 32, 16), run!(16, 0, 18)];
 
@@ -159,7 +162,7 @@ impl Ppc64Instruction {
         ensures { result ≡ immediate_of (RelocationInstruction.Ppc64 self) }
     {
         match self {
-            Ppc64Instruction::D => bits(0, 16),
+            Ppc64Instruction::D | Ppc64Instruction::DUnsigned => bits(0, 16),
             Ppc64Instruction::Ds | Ppc64Instruction::Branch14 => bits(2, 16),
             Ppc64Instruction::Branch24 => bits(2, 26),
             Ppc64Instruction::Prefixed => bits(0, 34),
@@ -251,6 +254,7 @@ const FORMS: &[Ppc64Instruction] = &[
     Ppc64Instruction::Branch14,
     Ppc64Instruction::Branch24,
     Ppc64Instruction::Prefixed,
+    Ppc64Instruction::DUnsigned,
 ];
 
 impl Ppc64Instruction {

@@ -17,21 +17,33 @@ use core::fmt;
 pub enum Ppc64Relocation {
     R_PPC64_NONE,
     R_PPC64_ADDR32,
+    R_PPC64_ADDR24,
+    R_PPC64_ADDR16,
     R_PPC64_ADDR16_LO,
     R_PPC64_ADDR16_HI,
     R_PPC64_ADDR16_HA,
+    R_PPC64_ADDR14,
     R_PPC64_REL24,
     R_PPC64_REL14,
+    R_PPC64_GOT16,
+    R_PPC64_GOT16_LO,
+    R_PPC64_GOT16_HI,
     R_PPC64_GOT16_HA,
     R_PPC64_REL32,
     R_PPC64_PLT16_HA,
     R_PPC64_ADDR64,
+    R_PPC64_ADDR16_HIGHER,
+    R_PPC64_ADDR16_HIGHERA,
+    R_PPC64_ADDR16_HIGHEST,
+    R_PPC64_ADDR16_HIGHESTA,
     R_PPC64_REL64,
     R_PPC64_TOC16,
     R_PPC64_TOC16_LO,
+    R_PPC64_TOC16_HI,
     R_PPC64_TOC16_HA,
     R_PPC64_ADDR16_DS,
     R_PPC64_ADDR16_LO_DS,
+    R_PPC64_GOT16_DS,
     R_PPC64_GOT16_LO_DS,
     R_PPC64_PLT16_LO_DS,
     R_PPC64_TOC16_DS,
@@ -61,10 +73,24 @@ pub enum Ppc64Relocation {
     R_PPC64_GOT_TPREL16_HA,
     R_PPC64_TPREL16_DS,
     R_PPC64_TPREL16_LO_DS,
+    R_PPC64_TPREL16_HIGHER,
+    R_PPC64_TPREL16_HIGHERA,
+    R_PPC64_TPREL16_HIGHEST,
+    R_PPC64_TPREL16_HIGHESTA,
     R_PPC64_DTPREL16_DS,
     R_PPC64_DTPREL16_LO_DS,
+    R_PPC64_DTPREL16_HIGHER,
+    R_PPC64_DTPREL16_HIGHERA,
+    R_PPC64_DTPREL16_HIGHEST,
+    R_PPC64_DTPREL16_HIGHESTA,
     R_PPC64_TLSGD,
     R_PPC64_TLSLD,
+    R_PPC64_ADDR16_HIGH,
+    R_PPC64_ADDR16_HIGHA,
+    R_PPC64_TPREL16_HIGH,
+    R_PPC64_TPREL16_HIGHA,
+    R_PPC64_DTPREL16_HIGH,
+    R_PPC64_DTPREL16_HIGHA,
     R_PPC64_REL24_NOTOC,
     R_PPC64_ENTRY,
     R_PPC64_PLTSEQ,
@@ -86,6 +112,7 @@ pub enum Ppc64Relocation {
     R_PPC64_GOT_TLSLD_PCREL34,
     R_PPC64_GOT_TPREL_PCREL34,
     R_PPC64_REL16_LO,
+    R_PPC64_REL16_HI,
     R_PPC64_REL16_HA,
     /// A code without a name here.
     Other(u32),
@@ -99,14 +126,28 @@ macro_rules! relocations {
             below 128 {
                 0 R_PPC64_NONE => Some(row!(None, (0 bytes), any)),
                 1 R_PPC64_ADDR32 => Some(row!(Absolute, (4 bytes), signed_or_unsigned 32)),
+                2 R_PPC64_ADDR24 =>
+                    Some(row!(Absolute, (0..26 Ppc64::Branch24), signed 26, alignment: 4,
+                        origin: own)),
+                3 R_PPC64_ADDR16 =>
+                    Some(row!(Absolute, (2 bytes), signed_or_unsigned 16, origin: own)),
                 4 R_PPC64_ADDR16_LO => Some(row!(Absolute, (0..16 Ppc64::D), any)),
                 5 R_PPC64_ADDR16_HI => Some(row!(Absolute, (16..32 Ppc64::D), any reach signed 32)),
                 6 R_PPC64_ADDR16_HA =>
                     Some(row!(Absolute, (16..32 Ppc64::D), any reach signed 32, bias: 0x8000)),
+                7 R_PPC64_ADDR14 =>
+                    Some(row!(Absolute, (0..16 Ppc64::Branch14), signed 16, alignment: 4,
+                        origin: own)),
                 10 R_PPC64_REL24 =>
                     Some(row!(Relative, (0..26 Ppc64::Branch24), signed 26, alignment: 4)),
                 11 R_PPC64_REL14 =>
                     Some(row!(Relative, (0..16 Ppc64::Branch14), signed 16, alignment: 4)),
+                14 R_PPC64_GOT16 =>
+                    Some(row!(GotRelGotBase, (0..16 Ppc64::D), signed 16, origin: own)),
+                15 R_PPC64_GOT16_LO =>
+                    Some(row!(GotRelGotBase, (0..16 Ppc64::D), any, origin: own)),
+                16 R_PPC64_GOT16_HI =>
+                    Some(row!(GotRelGotBase, (16..32 Ppc64::D), any reach signed 32, origin: own)),
                 17 R_PPC64_GOT16_HA =>
                     Some(row!(GotRelGotBase, (16..32 Ppc64::D), any reach signed 32,
                         bias: 0x8000, origin: own)),
@@ -115,15 +156,28 @@ macro_rules! relocations {
                     Some(row!(PltRelGotBase, (16..32 Ppc64::D), any reach signed 32,
                         bias: 0x8000, origin: own)),
                 38 R_PPC64_ADDR64 => Some(row!(Absolute, (8 bytes), any)),
+                39 R_PPC64_ADDR16_HIGHER =>
+                    Some(row!(Absolute, (32..48 Ppc64::DUnsigned), any, origin: own)),
+                40 R_PPC64_ADDR16_HIGHERA =>
+                    Some(row!(Absolute, (32..48 Ppc64::DUnsigned), any, bias: 0x8000, origin: own)),
+                41 R_PPC64_ADDR16_HIGHEST =>
+                    Some(row!(Absolute, (48..64 Ppc64::D), any, origin: own)),
+                42 R_PPC64_ADDR16_HIGHESTA =>
+                    Some(row!(Absolute, (48..64 Ppc64::D), any, bias: 0x8000, origin: own)),
                 44 R_PPC64_REL64 => Some(row!(Relative, (8 bytes), any)),
                 47 R_PPC64_TOC16 => Some(row!(SymRelGotBase, (0..16 Ppc64::D), signed 16)),
                 48 R_PPC64_TOC16_LO => Some(row!(SymRelGotBase, (0..16 Ppc64::D), any)),
+                49 R_PPC64_TOC16_HI =>
+                    Some(row!(SymRelGotBase, (16..32 Ppc64::D), any reach signed 32, origin: own)),
                 50 R_PPC64_TOC16_HA =>
                     Some(row!(SymRelGotBase, (16..32 Ppc64::D), any reach signed 32, bias: 0x8000)),
                 56 R_PPC64_ADDR16_DS =>
                     Some(row!(Absolute, (0..16 Ppc64::Ds), signed 16, alignment: 4)),
                 57 R_PPC64_ADDR16_LO_DS =>
                     Some(row!(Absolute, (0..16 Ppc64::Ds), any, alignment: 4)),
+                58 R_PPC64_GOT16_DS =>
+                    Some(row!(GotRelGotBase, (0..16 Ppc64::Ds), signed 16, alignment: 4,
+                        origin: own)),
                 59 R_PPC64_GOT16_LO_DS =>
                     Some(row!(GotRelGotBase, (0..16 Ppc64::Ds), any, alignment: 4, origin: own)),
                 60 R_PPC64_PLT16_LO_DS =>
@@ -170,12 +224,40 @@ macro_rules! relocations {
                 95 R_PPC64_TPREL16_DS =>
                     Some(row!(TpOff, (0..16 Ppc64::Ds), signed 16, alignment: 4)),
                 96 R_PPC64_TPREL16_LO_DS => Some(row!(TpOff, (0..16 Ppc64::Ds), any, alignment: 4)),
+                97 R_PPC64_TPREL16_HIGHER =>
+                    Some(row!(TpOff, (32..48 Ppc64::DUnsigned), any, origin: own)),
+                98 R_PPC64_TPREL16_HIGHERA =>
+                    Some(row!(TpOff, (32..48 Ppc64::DUnsigned), any, bias: 0x8000, origin: own)),
+                99 R_PPC64_TPREL16_HIGHEST =>
+                    Some(row!(TpOff, (48..64 Ppc64::D), any, origin: own)),
+                100 R_PPC64_TPREL16_HIGHESTA =>
+                    Some(row!(TpOff, (48..64 Ppc64::D), any, bias: 0x8000, origin: own)),
                 101 R_PPC64_DTPREL16_DS =>
                     Some(row!(DtpOff, (0..16 Ppc64::Ds), signed 16, alignment: 4)),
                 102 R_PPC64_DTPREL16_LO_DS =>
                     Some(row!(DtpOff, (0..16 Ppc64::Ds), any, alignment: 4)),
+                103 R_PPC64_DTPREL16_HIGHER =>
+                    Some(row!(DtpOff, (32..48 Ppc64::DUnsigned), any, origin: own)),
+                104 R_PPC64_DTPREL16_HIGHERA =>
+                    Some(row!(DtpOff, (32..48 Ppc64::DUnsigned), any, bias: 0x8000, origin: own)),
+                105 R_PPC64_DTPREL16_HIGHEST =>
+                    Some(row!(DtpOff, (48..64 Ppc64::D), any, origin: own)),
+                106 R_PPC64_DTPREL16_HIGHESTA =>
+                    Some(row!(DtpOff, (48..64 Ppc64::D), any, bias: 0x8000, origin: own)),
                 107 R_PPC64_TLSGD => Some(row!(None, (0 bytes), any)),
                 108 R_PPC64_TLSLD => Some(row!(None, (0 bytes), any)),
+                110 R_PPC64_ADDR16_HIGH =>
+                    Some(row!(Absolute, (16..32 Ppc64::DUnsigned), any, origin: own)),
+                111 R_PPC64_ADDR16_HIGHA =>
+                    Some(row!(Absolute, (16..32 Ppc64::DUnsigned), any, bias: 0x8000, origin: own)),
+                112 R_PPC64_TPREL16_HIGH =>
+                    Some(row!(TpOff, (16..32 Ppc64::DUnsigned), any, origin: own)),
+                113 R_PPC64_TPREL16_HIGHA =>
+                    Some(row!(TpOff, (16..32 Ppc64::DUnsigned), any, bias: 0x8000, origin: own)),
+                114 R_PPC64_DTPREL16_HIGH =>
+                    Some(row!(DtpOff, (16..32 Ppc64::DUnsigned), any, origin: own)),
+                115 R_PPC64_DTPREL16_HIGHA =>
+                    Some(row!(DtpOff, (16..32 Ppc64::DUnsigned), any, bias: 0x8000, origin: own)),
                 116 R_PPC64_REL24_NOTOC =>
                     Some(row!(Relative, (0..26 Ppc64::Branch24), signed 26, alignment: 4)),
                 118 R_PPC64_ENTRY => Some(row!(None, (0 bytes), any, origin: own)),
@@ -213,6 +295,8 @@ macro_rules! relocations {
                 150 R_PPC64_GOT_TPREL_PCREL34 =>
                     Some(row!(GotTpOff, (0..34 Ppc64::Prefixed), signed 34, origin: own)),
                 250 R_PPC64_REL16_LO => Some(row!(Relative, (0..16 Ppc64::D), any)),
+                251 R_PPC64_REL16_HI =>
+                    Some(row!(Relative, (16..32 Ppc64::D), any reach signed 32, origin: own)),
                 252 R_PPC64_REL16_HA =>
                     Some(row!(Relative, (16..32 Ppc64::D), any reach signed 32, bias: 0x8000)),
             }

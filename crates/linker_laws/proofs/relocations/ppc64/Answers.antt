@@ -15,6 +15,7 @@ use Rattle.linker_laws.proofs.Instructions.{tls_small, same_distance, relative, 
 use Rattle.linker_laws.proofs.Halves.{adjusted_halves, high_half, unadjusted_halves, d_reads}
 use Rattle.linker_laws.proofs.Halves.{ds_reads}
 use Rattle.linker_laws.proofs.Halves.{relative_rounds, absolute_rounds, unrounded}
+use Rattle.linker_laws.proofs.Quarters.{quarters, quarters_adjusted}
 use Rattle.linker_laws.proofs.Sums.{difference_below, sum_below}
 use Rattle.linker_laws.proofs.relocations.ppc64.Goals as goal
 
@@ -31,11 +32,41 @@ returns-clause-absolute c = (
 )
 
 pub returns-clause-relative : goal.returns-clause-relative
-returns-clause-relative c =
-    adjusted_halves symbol_from_place (relative_rounds 0x8000 place symbol_address place_small)
-    D d_reads _ refl refl
-    (λ o. refl) (λ o small at.
-    ap (λ n. Some (cast_signed w64 n)) (same_distance 4 o small (omega arith)))
+returns-clause-relative c = (
+  adjusted_halves symbol_from_place (relative_rounds 0x8000 place symbol_address place_small)
+      D d_reads _ refl refl
+      (λ o. refl) (λ o small at.
+      ap (λ n. Some (cast_signed w64 n)) (same_distance 4 o small (omega arith))),
+  unadjusted_halves symbol_from_place (unrounded _ (λ o. difference_below _ _)) _ refl refl
+      (λ o. refl) (λ o small at.
+      ap (λ n. Some (cast_signed w64 n)) (same_distance 4 o small (omega arith))),
+)
+
+pub returns-clause-far : goal.returns-clause-far
+returns-clause-far c = (
+  quarters symbol_itself _ _ _ (λ o small. refl) (λ o small at. refl) (λ o small at. refl)
+      (λ o small at. refl),
+  quarters_adjusted symbol_itself (absolute_rounds 0x8000 symbol_address) D d_reads _ _ _
+      (λ o small. refl) (λ o small at. refl) (λ o small at. refl) (λ o small at. refl),
+  quarters_adjusted symbol_itself (absolute_rounds 0x8000 symbol_address) Ds ds_reads _ _ _
+      (λ o small. refl) (λ o small at. refl) (λ o small at. refl) (λ o small at. refl),
+  quarters symbol_from_tls _ _ _ (λ o small. refl) (λ o small at. refl) (λ o small at. refl)
+      (λ o small at. refl),
+  quarters_adjusted symbol_from_tls (relative_rounds 0x8000 tls_base symbol_address tls_small)
+      D d_reads _ _ _
+      (λ o small. refl) (λ o small at. refl) (λ o small at. refl) (λ o small at. refl),
+  quarters_adjusted symbol_from_tls (relative_rounds 0x8000 tls_base symbol_address tls_small)
+      Ds ds_reads _ _ _
+      (λ o small. refl) (λ o small at. refl) (λ o small at. refl) (λ o small at. refl),
+  quarters symbol_from_tls _ _ _ (λ o small. refl) (λ o small at. refl) (λ o small at. refl)
+      (λ o small at. refl),
+  quarters_adjusted symbol_from_tls (relative_rounds 0x8000 tls_base symbol_address tls_small)
+      D d_reads _ _ _
+      (λ o small. refl) (λ o small at. refl) (λ o small at. refl) (λ o small at. refl),
+  quarters_adjusted symbol_from_tls (relative_rounds 0x8000 tls_base symbol_address tls_small)
+      Ds ds_reads _ _ _
+      (λ o small. refl) (λ o small at. refl) (λ o small at. refl) (λ o small at. refl),
+)
 
 pub returns-clause-toc : goal.returns-clause-toc
 returns-clause-toc c = (
@@ -44,6 +75,8 @@ returns-clause-toc c = (
       (λ o. refl) (λ o small at. refl),
   adjusted_halves symbol_from_got (relative_rounds 0x8000 got_base symbol_address got_small)
       Ds ds_reads _ refl refl
+      (λ o. refl) (λ o small at. refl),
+  unadjusted_halves symbol_from_got (unrounded _ (λ o. difference_below _ _)) _ refl refl
       (λ o. refl) (λ o small at. refl),
 )
 
@@ -68,6 +101,11 @@ pub returns-clause-got : goal.returns-clause-got
 returns-clause-got c = (
   adjusted_halves entry_from_got (relative_rounds 0x8000 got_base entry_sum got_small)
       Ds ds_reads _ refl refl
+      (λ o. refl) (λ o small at. refl),
+  adjusted_halves entry_from_got (relative_rounds 0x8000 got_base entry_sum got_small)
+      D d_reads _ refl refl
+      (λ o. refl) (λ o small at. refl),
+  unadjusted_halves entry_from_got (unrounded _ (λ o. difference_below _ _)) _ refl refl
       (λ o. refl) (λ o small at. refl),
   adjusted_halves plt_from_got (relative_rounds 0x8000 got_base plt_address got_small)
       Ds ds_reads _ refl refl
@@ -99,6 +137,8 @@ returns-clause-branches c = (
   adds symbol_from_place refl refl (λ o. refl),
   adds symbol_from_place refl refl (λ o. refl),
   adds symbol_from_place refl refl (λ o. refl),
+  adds symbol_itself refl refl (λ o. refl),
+  adds symbol_itself refl refl (λ o. refl),
 )
 
 pub returns-clause-prefixed : goal.returns-clause-prefixed
@@ -123,6 +163,8 @@ returns-clause-displacements c = (
   adds entry_from_got refl refl (λ o. refl),
   adds entry_from_got refl refl (λ o. refl),
   adds entry_from_got refl refl (λ o. refl),
+  adds entry_from_got refl refl (λ o. refl),
+  adds entry_from_got refl refl (λ o. refl),
   adds symbol_from_tls refl refl (λ o. refl),
   adds symbol_from_tls refl refl (λ o. refl),
   adds symbol_from_tls refl refl (λ o. refl),
@@ -131,6 +173,7 @@ returns-clause-displacements c = (
 
 pub returns-clause-fields : goal.returns-clause-fields
 returns-clause-fields c = (
+  holds_distance symbol_itself (omega arith) (λ v old. refl) (λ o. refl),
   holds_distance symbol_itself (omega arith) (λ v old. refl) (λ o. refl),
   holds_distance symbol_itself (omega arith) (λ v old. refl) (λ o. refl),
   holds_distance symbol_from_place (omega arith) (λ v old. refl) (λ o. refl),
