@@ -6,3 +6,5 @@ pub mod Writable
 pub mod Made
 pub mod LongCalls
 pub mod LongCalls36
+pub mod LongAddresses
+pub mod Packed
