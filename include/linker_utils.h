@@ -1635,6 +1635,21 @@ static inline size_t linker_utils_packed_run_len(uint64_t base, size_t section_l
                                                  const struct linker_utils_delta *deltas,
                                                  size_t deltas_len);
 
+/* Whether a site is eight bytes of a section, of instructions that can have its shapes: of RISC-V an
+ * auipc and a jalr with those of LINKER_UTILS_SHAPES_RISCV_CALL, or with those of
+ * LINKER_UTILS_SHAPES_RISCV_TAIL_C where they link x0; of LoongArch a pcaddu18i and a jirl with those
+ * of LINKER_UTILS_SHAPES_LOONGARCH_CALL36, or a pcalau12i and an addi.d of one register with those of
+ * LINKER_UTILS_SHAPES_LOONGARCH_PCALA. The section begins at the input offset `base` of the run. An
+ * alignment has no instructions to be tested; a site with one shape has none of these shapes. Where
+ * this is so of each site that `linker_utils_relax` made shorter, `linker_utils_pack_run` rejects
+ * none of them for its reach.
+ *
+ * LINKER_UTILS_UNKNOWN_ARCHITECTURE for each machine except for LINKER_UTILS_RISCV and
+ * LINKER_UTILS_LOONGARCH64. LINKER_UTILS_NOT_ITS_INSTRUCTIONS where it isn't so. O(1). */
+static inline uint32_t linker_utils_has_its_instructions(uint16_t machine, const uint8_t *section,
+                                                         size_t section_len, uint64_t base,
+                                                         const struct linker_utils_item *item);
+
 /* Packs a section of a relaxed run: writes the bytes that stay, in order, with the instructions of
  * its sites and the nops of its alignments written anew. The section begins at the input offset
  * `base` of the run. The run begins at the address `start` and loses what the deltas list, as

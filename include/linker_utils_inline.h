@@ -508,6 +508,16 @@ static inline size_t linker_utils_packed_run_len(uint64_t base, size_t section_l
         base, section_len, LINKER_UTILS_SLICE(const struct linker_utils_delta, deltas), deltas_len);
 }
 
+uint32_t linker_utils_has_its_instructions_nonnull(uint16_t machine, const uint8_t *section,
+                                                   size_t section_len, uint64_t base,
+                                                   const struct linker_utils_item *item);
+static inline uint32_t linker_utils_has_its_instructions(uint16_t machine, const uint8_t *section,
+                                                         size_t section_len, uint64_t base,
+                                                         const struct linker_utils_item *item) {
+    return linker_utils_has_its_instructions_nonnull(
+        machine, LINKER_UTILS_SLICE(const uint8_t, section), section_len, base, item);
+}
+
 uint32_t linker_utils_pack_run_nonnull(
     uint16_t machine, const uint8_t *section, size_t section_len, uint64_t base,
     const struct linker_utils_item *items, size_t items_len,

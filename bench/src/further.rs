@@ -614,6 +614,16 @@ fn runs(report: &mut Report, random: &mut Random) {
             count,
             || unsafe { linker_utils_items_relaxable_nonnull(item, count, 0, &mut 0) },
         );
+        numbers(
+            report,
+            &format!("`linker_utils_has_its_instructions`, {name}"),
+            &items,
+            |item| unsafe {
+                u64::from(linker_utils_has_its_instructions_nonnull(
+                    machine, bytes, len, 0, item,
+                ))
+            },
+        );
         let (mut shapes, mut kept) = (vec![0; count], vec![0; count]);
         let (mut places, mut freed) = (vec![0; count], vec![0; count + 1]);
         let relaxed = sathunne::Relaxed {

@@ -43,6 +43,11 @@ int main(void) {
         fprintf(stderr, "relocation %zu: %s\n", faulty, linker_utils_status_text(status));
         return 1;
     }
+    for (size_t i = 0; i < count; i++) {
+        if (linker_utils_has_its_instructions(LINKER_UTILS_RISCV, section, sizeof section, 0,
+                                              &items[i]))
+            return 1;
+    }
     status = linker_utils_relax(items, count, 0, shapes, count, kept, count, places, count, freed,
                                 count + 1, &faulty);
     if (status != LINKER_UTILS_OK) {

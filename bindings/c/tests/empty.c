@@ -64,6 +64,11 @@ int main(void) {
     EXPECT(OK, calls_shrinkable(NULL, 0, NULL, 0, NULL));
     EXPECT(OK, shrink_calls(NULL, 0, NULL, 0, NULL, 0, NULL));
     if (linker_utils_packed_run_len(0, 0, NULL, 0) != 0) failures++;
+    struct linker_utils_item item;
+    memset(&item, 0, sizeof item);
+    if (linker_utils_has_its_instructions(LINKER_UTILS_RISCV, NULL, 0, 0, &item) !=
+        LINKER_UTILS_NOT_ITS_INSTRUCTIONS)
+        failures++;
     EXPECT(OK, pack_run(LINKER_UTILS_RISCV, NULL, 0, 0, NULL, 0, NULL, 0, 0, NULL, 0, NULL));
     EXPECT(TOO_SHORT, read_value(machine, 257, NULL, 0, &known)); /* R_AARCH64_ABS64 */
     EXPECT(TOO_SHORT, field_bits(machine, 257, NULL, 0, &value));

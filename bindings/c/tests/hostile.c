@@ -1259,6 +1259,25 @@ static void call_loongarch_items(void) {
     call_section_items(false);
 }
 
+static void call_has_its_instructions(void) {
+    struct buffer *section = bytes(READ, any_section_len());
+    struct buffer *items = place(READ, 1, sizeof(struct linker_utils_item));
+    uint64_t base = once_in(8) ? any_number() : 4 * below(4);
+    uint16_t machine = any_machine();
+    bool is_known = machine == LINKER_UTILS_RISCV || machine == LINKER_UTILS_LOONGARCH64;
+    *(struct linker_utils_item *)filled(items) = (struct linker_utils_item){
+        .offset = once_in(16) ? any_number() : base + any_offset(section->len),
+        .target = any_number(),
+        .len = once_in(16) ? (uint32_t)any_number() : 8,
+        .kind = (uint32_t)(once_in(8) ? any() : 0),
+        .shapes = any_shapes(machine == LINKER_UTILS_RISCV),
+    };
+    uint32_t status =
+        CALL(has_its_instructions, machine, section->given, section->len, base, items->given);
+    expect((status == LINKER_UTILS_UNKNOWN_ARCHITECTURE) == !is_known, "another machine");
+    finish_with(status, 0 OR(UNKNOWN_ARCHITECTURE) OR(NOT_ITS_INSTRUCTIONS));
+}
+
 /* A section of a run, items that mostly are calls and nops in it, and deltas that mostly are theirs. */
 static void call_pack_run(void) {
     size_t section_len = any_section_len(), count = any_len(4), lost_len = 0;
@@ -1492,7 +1511,7 @@ static void (*const all[])(void) = {
     call_deltas_merge, call_has_valid_deltas, call_deltas_total_deleted, call_translations,
     call_deltas_translate_all,
     call_deltas_heads, call_pack, call_shrink_calls, call_named_shapes, call_relax, call_run_deltas,
-    call_riscv_items, call_loongarch_items, call_pack_run,
+    call_riscv_items, call_loongarch_items, call_has_its_instructions, call_pack_run,
     call_read_value, call_solve, call_join, call_field_bits, call_same_but_for,
     call_recognise, call_recognise_chosen,
 };

@@ -1204,6 +1204,20 @@ pub fn packed_run_len(base: u64, section_len: usize, deltas: &[Delta]) -> usize 
     unsafe { raw::linker_utils_packed_run_len_nonnull(base, section_len, at, len) }
 }
 
+/// Whether a site's bytes are instructions that can have its shapes, in a section that begins at the
+/// input offset `base` of the run. The error is else `UnknownArchitecture` or `NotItsInstructions`.
+pub fn has_its_instructions(
+    architecture: Architecture,
+    section: &[u8],
+    base: u64,
+    item: &Item,
+) -> Result<(), Status> {
+    let (machine, at, len) = (architecture.machine(), section.as_ptr(), section.len());
+    let status =
+        unsafe { raw::linker_utils_has_its_instructions_nonnull(machine, at, len, base, item) };
+    result_of(status, ())
+}
+
 /// Packs a section of a relaxed run, which begins at the input offset `base` of the run: writes the
 /// bytes that stay, in order, with the instructions of its sites and the nops of its alignments
 /// written anew. The run begins at the address `start` and loses what `deltas` list. `items` are

@@ -444,6 +444,13 @@ extern "C" {
         deltas: *const Delta,
         deltas_len: usize,
     ) -> usize;
+    pub fn linker_utils_has_its_instructions_nonnull(
+        machine: u16,
+        section: *const u8,
+        section_len: usize,
+        base: u64,
+        item: *const Item,
+    ) -> u32;
     pub fn linker_utils_pack_run_nonnull(
         machine: u16,
         section: *const u8,

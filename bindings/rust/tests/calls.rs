@@ -1637,6 +1637,24 @@ fn packs_sections_of_runs() {
     assert_eq!(packed, [0xaa; 10]);
     assert_eq!(packed_run_len(high, section.len(), &[]), 0);
     assert_eq!(packed_run_len(high - 2, section.len(), &[]), section.len());
+
+    let has = |item: &Item| has_its_instructions(Architecture::RiscV, &section, base, item);
+    for item in &items {
+        assert_eq!(has(item), Ok(()));
+    }
+    // a call that links `ra` can't be `c.j`; shapes without C; nops; outside of the section
+    for item in [
+        Item::site(0x100, 8, f, tail),
+        Item::site(0x100, 8, f, named_shapes(ShapesName::LoongArchCall36)),
+        Item::site(0x10c, 8, f, call),
+        Item::site(0x100, 4, f, call),
+        Item::site(0xff, 8, f, call),
+        Item::site(0x111, 8, f, call),
+    ] {
+        assert_eq!(has(&item), Err(Status::NotItsInstructions));
+    }
+    let other = has_its_instructions(Architecture::AArch64, &section, base, &items[0]);
+    assert_eq!(other, Err(Status::UnknownArchitecture));
 }
 
 #[test]

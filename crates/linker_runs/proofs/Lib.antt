@@ -11,6 +11,7 @@ pub mod Frees
 pub mod Items
 pub mod Layouts
 pub mod Lists
+pub mod LongAddresses
 pub mod LongCalls
 pub mod LongCalls36
 pub mod LoongArch
@@ -20,6 +21,7 @@ pub mod Multiples
 pub mod Nearer
 pub mod Nops
 pub mod Origins
+pub mod Packed
 pub mod Powers
 pub mod Reaches
 pub mod Reaching

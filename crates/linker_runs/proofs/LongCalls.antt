@@ -35,7 +35,7 @@ none : {A : Type 0} → false ≡ true → A
 none e = cc
 
 -- each number is a multiple of 1
-whole : (v : ℤ) → IsAligned 1 v
+pub whole : (v : ℤ) → IsAligned 1 v
 whole (pos n) = ap pos (let e : n % 1 ≡ 0 = omega arith in e)
 whole (negsuc n) = ap pos (let e : 0 - n % 1 ≡ 0 = omega arith in e)
 

@@ -69,7 +69,7 @@ words_of u x four m =
     let q = multiple_of 4 u four in
     no_rest 4 x (m.0 * q.0, m.1 ∙ ap (λ y. m.0 * y) q.1 ∙ sym (mul_assoc m.0 q.0 4))
 
-differ : (a b : ℕ) → a ≡ 134217728 → b ≡ 2097152 → a ≡ b → ⊥
+pub differ : (a b : ℕ) → a ≡ 134217728 → b ≡ 2097152 → a ≡ b → ⊥
 differ a b e f g = omega arith
 
 -- ---- the call

@@ -19,8 +19,8 @@ use Rattle.linker_elf.specs.Value.{sum_64}
 use Rattle.linker_laws.specs.LoongArchRelocationLaws.{Branches, Calls, RelativeAddresses, page_and_low}
 use Rattle.linker_laws.specs.Schemes.{IsAddress, AreAddresses}
 use Rattle.linker_runs.specs.Sites.{operands_of, IsRelocated, IsOutOfReach}
-use Rattle.linker_runs.specs.LoongArchSites.{IsCall36At, IsPcalaAt, IsSiteAt, destination, branch_template, pcaddi_template, call_template, IsBranch, IsPcaddi, IsFarCall, IsFarAddress, LoongArchBecomes, LoongArchAccepts, LoongArchIsFar, LoongArchCause}
-use Rattle.linker_runs.specs.LoongArchSites.{jump, call, far_call, address, far_address, short_call, long_call, short_address, long_address, far_from_branch, far_from_call, far_from_pcaddi, far_from_pair}
+use Rattle.linker_runs.specs.LoongArchSites.{IsCall36At, IsPcalaAt, IsSiteAt, destination, branch_template, pcaddi_template, call_template, high_template, low_template, IsBranch, IsPcaddi, IsFarCall, IsFarAddress, IsAddressInReach, IsAddressOutOfReach, LoongArchBecomes, LoongArchAccepts, LoongArchIsFar, LoongArchCause}
+use Rattle.linker_runs.specs.LoongArchSites.{jump, call, far_call, address, far_address, short_call, long_call, short_address, long_address, far_from_branch, far_from_call, far_from_pcaddi, far_from_pair, far_pages, far_high, far_low}
 use Rattle.linker_runs.specs.Origins.{HasLoongArchShapes}
 use Rattle.linker_runs.specs.declared.relaxation.Shapes.{Shapes}
 use Rattle.linker_runs.specs.declared.shapes.loongarch64.TheConstants.{CALL36, PCALA}
@@ -40,6 +40,12 @@ loongarch_kept : (f : LoongArch64Instruction) (bits : BitRange) (v : ℤ) (befor
 loongarch_kept f bits v before after w none same s n outside =
     kept_field (loongarch_form f) (bits_taken bits v) (int_lt v (pos 0)) (window_of (loongarch_form f) before) w.clear (window_of (loongarch_form f) after)
     (λ i. w.clears.kept i (none (window_of (loongarch_form f) before) i)) w.written (same (int_lt v (pos 0)) w.clear) s n outside
+
+-- `addi.d` is no `jirl`
+pub no_jirl : (section : List ℕ) (o : ℕ) → IsPcalaAt section o → is_jirl (from_le_bytes w32 (take 4 (drop (o + 4) section))) ≡ false
+no_jirl section o pair =
+    let opcode : field (from_le_bytes w32 (drop (o + 4) section)) 26 32 ≡ 0 = let second = pair.second in omega arith in
+    ap (λ w. eqb (field w 26 32) 19) (word_of_front (drop (o + 4) section)) ∙ ap (λ q. eqb q 19) opcode
 
 -- ---- what is written
 
@@ -77,12 +83,6 @@ module _ (section : List ℕ) (o place target : ℕ) (written : List ℕ) (branc
         (calls (operands_of place target) small place (take 8 (drop o section)) written applied tt));
   }
 
-  -- `addi.d` is no `jirl`
-  no_jirl : IsPcalaAt section o → is_jirl (from_le_bytes w32 (take 4 (drop (o + 4) section))) ≡ false
-  no_jirl pair =
-      let opcode : field (from_le_bytes w32 (drop (o + 4) section)) 26 32 ≡ 0 = let second = pair.second in omega arith in
-      ap (λ w. eqb (field w 26 32) 19) (word_of_front (drop (o + 4) section)) ∙ ap (λ q. eqb q 19) opcode
-
   address_is : IsPcalaAt section o → AreRelocated section o place target written → IsFarAddress section o place target written
   address_is pair applied = record {
     high = applied.high;
@@ -90,7 +90,7 @@ module _ (section : List ℕ) (o place target : ℕ) (written : List ℕ) (branc
     computes = subst (λ a. IsAddress (page_and_low (operands_of place target) (from_le_bytes w32 (take 4 written)) (from_le_bytes w32 (drop 4 written))) a) (target_is target t)
         (relative.0 (operands_of place target) small place (take 4 (drop o section)) (take 4 written) applied.high
         (subst (λ v. IsSomeAnd v (IsWithin (Some (bit_bounds 32 Signed)))) applied.high.value_is applied.pages)
-        (sum_64 place 4) (take 4 (drop (o + 4) section)) (drop 4 written) applied.low (ap not (no_jirl pair)));
+        (sum_64 place 4) (take 4 (drop (o + 4) section)) (drop 4 written) applied.low (ap not (no_jirl section o pair)));
   }
 
   pub becomes_short : (kind : Kind) → IsKindAt section o kind → length written ≡ 4 → IsRelocated (short_template section o kind) place target written → LoongArchBecomes section o place target written
@@ -127,6 +127,11 @@ pub not_both : (section : List ℕ) (o : ℕ) → IsCall36At section o → IsPca
 not_both section o (inl one) pair = let a = one.first in let b = pair.one_register.first in omega arith
 not_both section o (inr none) pair = let a = none.first in let b = pair.one_register.first in omega arith
 
+address_excludes : (section : List ℕ) (o place target : ℕ) → IsAddressInReach section o place target → IsAddressOutOfReach section o place target → ⊥
+address_excludes section o place target reached (far_pages out) = out reached.pages
+address_excludes section o place target reached (far_high out) = in_reach (high_template section o) place target reached.high out
+address_excludes section o place target reached (far_low out) = in_reach (low_template section o) (sum_64 place 4) target reached.low out
+
 -- what is far isn't accepted
 far_excludes : (section : List ℕ) (o kept place target : ℕ) → LoongArchAccepts section o kept place target → LoongArchIsFar section o kept place target → ⊥
 far_excludes section o kept place target (short_call here len reached) (far_from_branch _ _ out) = in_reach (branch_template (destination section o)) place target reached out
@@ -144,7 +149,7 @@ far_excludes section o kept place target (short_address pair len reached) (far_f
 far_excludes section o kept place target (long_address pair len reached) (far_from_branch here _ out) = not_both section o here pair
 far_excludes section o kept place target (long_address pair len reached) (far_from_call here _ out) = not_both section o here pair
 far_excludes section o kept place target (long_address pair len reached) (far_from_pcaddi _ four out) = omega arith
-far_excludes section o kept place target (long_address pair len reached) (far_from_pair _ _ out) = out reached
+far_excludes section o kept place target (long_address pair len reached) (far_from_pair _ _ out) = address_excludes section o place target reached out
 
 pub loongarch_excludes : (section : List ℕ) (o kept place target : ℕ) (error : ItemError) → LoongArchAccepts section o kept place target → LoongArchCause section o kept place target error → ⊥
 loongarch_excludes section o kept place target NotItsInstructions a cause = cause (accepted_site section o kept place target a)

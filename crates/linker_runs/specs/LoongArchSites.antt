@@ -128,6 +128,14 @@ pub record IsAddressInReach (section : List ℕ) (o place target : ℕ) : Type 0
   pub high : IsInReach (high_template section o) place target
   pub low : IsInReach (low_template section o) (sum_64 place 4) target
 
+-- The pair at an offset can't compute the target, or one of its relocations can't be applied.
+pub data IsAddressOutOfReach (section : List ℕ) (o place target : ℕ) : Type 0 where
+  far_pages : ¬ ArePagesNear place target → IsAddressOutOfReach section o place target
+  far_high : IsOutOfReach (high_template section o) place target
+      → IsAddressOutOfReach section o place target
+  far_low : IsOutOfReach (low_template section o) (sum_64 place 4) target
+      → IsAddressOutOfReach section o place target
+
 -- A site is at the offset, and of so many bytes there are instructions that reach the target.
 pub data LoongArchAccepts (section : List ℕ) (o kept place target : ℕ) : Type 0 where
   short_call : IsCall36At section o → kept ≡ 4
@@ -152,7 +160,7 @@ pub data LoongArchIsFar (section : List ℕ) (o kept place target : ℕ) : Type 
   far_from_pcaddi : IsPcalaAt section o → kept ≡ 4
       → IsOutOfReach (pcaddi_template (destination section o)) place target
       → LoongArchIsFar section o kept place target
-  far_from_pair : IsPcalaAt section o → kept ≡ 8 → ¬ IsAddressInReach section o place target
+  far_from_pair : IsPcalaAt section o → kept ≡ 8 → IsAddressOutOfReach section o place target
       → LoongArchIsFar section o kept place target
 
 -- why nothing is written of the eight bytes at an offset of which so many stay

@@ -1,9 +1,9 @@
 -- What a relaxation made shorter can be written where the run is packed.
-use Rattle.std.specs.Prelude.{◌≡◌, ℕ, ◌-◌, ◌%◌, ◌^◌, ◌<◌, List, length}
+use Rattle.std.specs.Prelude.{◌≡◌, ◌≢◌, ◌⊎◌, ⊤, ℕ, ◌-◌, ◌%◌, ◌^◌, ◌<◌, List, length}
 use Rattle.linker_runs.specs.declared.relaxation.Shapes.{Shapes}
 use Rattle.linker_runs.specs.declared.relaxation.Item.{Item}
 use Rattle.linker_runs.specs.declared.relaxation.Item.TheVariants.{Site, Aligned}
-use Rattle.linker_runs.specs.declared.shapes.loongarch64.TheConstants.{CALL36}
+use Rattle.linker_runs.specs.declared.shapes.loongarch64.TheConstants.{CALL36, PCALA}
 use Rattle.linker_runs.specs.Relaxing.{item_at, offset_of, target_of, choice_of}
 use Rattle.linker_runs.specs.Choosing.{AreItems, IsRelaxation, IsSite}
 use Rattle.linker_runs.specs.Deleting.{deletions_of_run}
@@ -12,10 +12,12 @@ use Rattle.linker_runs.specs.Relocations.{AreMade, AreWellFormed}
 use Rattle.linker_runs.specs.RiscVItems.{RiscVMakes, IsRiscVFormed}
 use Rattle.linker_runs.specs.declared.items.Relocation.{Relocation}
 use Rattle.linker_runs.specs.Origins.{HasItsInstructions}
-use Rattle.linker_runs.specs.Packing.{section_of, IsUnwritable}
+use Rattle.linker_runs.specs.Packing.{section_of, IsUnwritable, IsFirstRejected}
 use Rattle.linker_runs.specs.declared.packing.Machine.{Machine}
 use Rattle.linker_runs.specs.declared.packing.Machine.TheVariants.{RiscV64, LoongArch64}
 use Rattle.linker_runs.specs.declared.packing.ItemError.{ItemError}
+use Rattle.linker_runs.specs.declared.packing.ItemError.TheVariants.{OutOfReach}
+use Rattle.linker_runs.specs.declared.packing.RejectedItem.{RejectedItem}
 
 -- a site that has a short shape
 abbrev pub IsShortened : Item → ℕ → Type 0
@@ -71,6 +73,56 @@ NearCalls36AreWritable = (start base : ℕ) (items : List Item) (shapes kept fre
     → HasItsInstructions LoongArch64 bytes base (item_at items i) → (error : ItemError)
     → ¬ IsUnwritable LoongArch64 (section_of bytes base (deletions_of_run items kept) start)
     (item_at items i) error
+
+-- The site is a pair of LoongArch that computes an address. It and its target lie in the first
+-- 2 ^ 31 - 2 ^ 13 bytes of the run: the pages of `pcalau12i` reach from one to the other, whatever is
+-- deleted.
+pub record IsNearAddress (item : Item) : Type 0 where
+  pub shapes : HasShapesOf PCALA item
+  pub offset : offset_of item < 2 ^ 31 - 2 ^ 13
+  pub target : target_of item < 2 ^ 31 - 2 ^ 13
+
+-- Each such pair can be written, whichever shape it has.
+abbrev pub NearAddressesAreWritable : Type 0
+NearAddressesAreWritable = (start base : ℕ) (items : List Item) (shapes kept freed bytes : List ℕ)
+    → AreItems start items → IsRelaxation start items shapes kept freed
+    → (i : ℕ) → i < length items → IsNearAddress (item_at items i)
+    → HasItsInstructions LoongArch64 bytes base (item_at items i) → (error : ItemError)
+    → ¬ IsUnwritable LoongArch64 (section_of bytes base (deletions_of_run items kept) start)
+    (item_at items i) error
+
+-- what a site has to be where it stays long
+abbrev pub IsNearSite : Machine → Item → Type 0
+IsNearSite RiscV64 item = IsNear item
+IsNearSite LoongArch64 item = IsNearCall36 item ⊎ IsNearAddress item
+
+-- The item at an index of the run is an alignment, a site without short shapes, or a site that has
+-- its instructions and is short or near.
+abbrev pub MayBePacked : Machine → List ℕ → ℕ → Item → ℕ → Type 0
+MayBePacked machine bytes base (Site site) k = 0 < site.shapes.count
+    → HasItsInstructions machine bytes base (Site site)
+    × ((k < site.shapes.count) ⊎ IsNearSite machine (Site site))
+MayBePacked machine bytes base (Aligned alignment) k = ⊤
+
+-- an item of the run that may be packed
+pub record IsOfRun (machine : Machine) (bytes : List ℕ) (base : ℕ) (items : List Item)
+    (shapes : List ℕ) (item : Item) : Type 0 where
+  pub index : ℕ
+  pub within : index < length items
+  pub is : item_at items index ≡ item
+  pub may_be : MayBePacked machine bytes base item (choice_of shapes index)
+
+-- `pack_run` rejects none of such items of a relaxed run for its reach, with the deletions of the run.
+abbrev pub NoneIsOutOfReach : Type 0
+NoneIsOutOfReach = (machine : Machine) (start base : ℕ) (items : List Item)
+    (shapes kept freed bytes : List ℕ) → AreItems start items
+    → IsRelaxation start items shapes kept freed
+    → (packed : List Item)
+    → ((j : ℕ) → j < length packed → IsOfRun machine bytes base items shapes (item_at packed j))
+    → (rejected : RejectedItem)
+    → IsFirstRejected machine (section_of bytes base (deletions_of_run items kept) start) packed
+    rejected
+    → rejected.error ≢ OutOfReach
 
 -- The items that relocations of a section make, as `items` of `linker_runs` returns them, have their
 -- instructions.

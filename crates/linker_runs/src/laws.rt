@@ -4,7 +4,8 @@ ghost use Rattle.std.specs.Prelude.{◌≡◌};
 ghost use Rattle.linker_runs.specs.Calls.{call_shapes, CallsAreShrunkAlike};
 ghost use Rattle.linker_runs.specs.FirstBytes.{FirstBytesAreKept};
 ghost use Rattle.linker_runs.specs.Writable.{ShortSitesAreWritable, NearCallsAreWritable};
-ghost use Rattle.linker_runs.specs.Writable.{NearCalls36AreWritable, MadeSitesHaveInstructions};
+ghost use Rattle.linker_runs.specs.Writable.{NearCalls36AreWritable, NearAddressesAreWritable};
+ghost use Rattle.linker_runs.specs.Writable.{NoneIsOutOfReach, MadeSitesHaveInstructions};
 
 use crate::relaxation::Shapes;
 use crate::shapes::riscv64::CALL;
@@ -47,6 +48,22 @@ pub fn near_calls_are_writable()
 /// multiples of 4 in the first 128 GiB less 128 KiB of the run.
 pub fn near_calls_36_are_writable()
     ensures { NearCalls36AreWritable }
+{}
+
+/// The same of each `R_LARCH_PCALA_HI20` and `R_LARCH_PCALA_LO12` that have their instructions, where
+/// they and their target lie in the first 2 GiB less 8 KiB of the run.
+pub fn near_addresses_are_writable()
+    ensures { NearAddressesAreWritable }
+{}
+
+/// With the deletions that `relax` returns, `pack_run` never returns `OutOfReach` where the items that
+/// it is given are of the run and each of their sites that has short shapes has its instructions
+/// (`has_its_instructions` of `linker_runs`), and where the site stays long, is near its target:
+/// - of RISC-V both lie in the first 2 GiB less 2 KiB of the run;
+/// - of `R_LARCH_CALL36` at multiples of 4 in the first 128 GiB less 128 KiB;
+/// - of `R_LARCH_PCALA_HI20` and `R_LARCH_PCALA_LO12` in the first 2 GiB less 8 KiB.
+pub fn none_is_out_of_reach()
+    ensures { NoneIsOutOfReach }
 {}
 
 /// The sites that `items` of `linker_runs` returns have their instructions, as

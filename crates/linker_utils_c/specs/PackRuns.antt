@@ -8,6 +8,7 @@ use Rattle.linker_runs.specs.declared.packing.Machine.{Machine}
 use Rattle.linker_runs.specs.declared.packing.Machine.TheVariants as machines
 use Rattle.linker_runs.specs.declared.packing.ItemError.{ItemError}
 use Rattle.linker_runs.specs.declared.packing.ItemError.TheVariants as errors
+use Rattle.linker_runs.specs.Origins.{HasItsInstructions}
 use Rattle.linker_runs.specs.Packing.{Section, IsPackedRun, IsFirstRejected}
 use Rattle.linker_utils_c.specs.declared.status.Status.{Status}
 use Rattle.linker_utils_c.specs.declared.status.Status.TheVariants.{Success, ItemsOverlap}
@@ -54,3 +55,9 @@ abbrev pub IsRunPackedOrRejected : Machine → Section → List Item → List �
 IsRunPackedOrRejected machine s items packed at status =
     ((status ≡ code Success) × IsPackedRun machine s items packed)
     ⊎ IsItemRejected machine s items at status
+
+-- the status says whether an item of a section has its instructions
+abbrev pub SaysOfInstructions : Machine → List ℕ → ℕ → Item → ℕ → Type 0
+SaysOfInstructions machine section base item status =
+    ((status ≡ code Success) × HasItsInstructions machine section base item)
+    ⊎ ((status ≡ code NotItsInstructions) × ¬ HasItsInstructions machine section base item)

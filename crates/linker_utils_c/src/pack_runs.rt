@@ -1,19 +1,19 @@
 //! The sections of a relaxed run, packed.
 
 ghost use Rattle.std.specs.Prelude.{◌≡◌, ◌≢◌, ◌+◌, ◌-◌, ◌^◌, ◌<◌, ◌≤◌, ◌↔◌, ◌⊎◌, ◌∷◌, length};
-ghost use Rattle.std.specs.Prelude.{IsNone, IfSome};
+ghost use Rattle.std.specs.Prelude.{IsNone, IfSome, MatchOption};
 ghost use Rattle.linker_base.specs.Deletions.{rank};
 ghost use Rattle.linker_base.specs.Deltas.{deletions_of};
 ghost use Rattle.linker_base.specs.Listed.{AreValidDeltas};
 ghost use Rattle.linker_runs.specs.Packing.{section_of, packed_offset};
 ghost use Rattle.linker_utils_c.specs.PackRuns.{packing_machine, item_status, item_statuses};
-ghost use Rattle.linker_utils_c.specs.PackRuns.{IsRunPackedOrRejected};
-ghost use Rattle.linker_utils_c.specs.Relaxing.{items_in};
+ghost use Rattle.linker_utils_c.specs.PackRuns.{IsRunPackedOrRejected, SaysOfInstructions};
+ghost use Rattle.linker_utils_c.specs.Relaxing.{item_of, items_in};
 ghost use Rattle.linker_utils_c.specs.Status.{code, IsOneOf};
 
 use crate::relaxing::{ItemNumbers, items_of};
 use crate::status::Status;
-use linker_runs::packing::{ItemError, Machine, pack_run, packed_run_len};
+use linker_runs::packing::{ItemError, Machine, has_its_instructions, pack_run, packed_run_len};
 use linker_utils::elf::Architecture;
 use linker_utils::relaxation::RelaxDelta;
 use std::alloc::Global;
@@ -64,6 +64,31 @@ pub extern "C" fn linker_utils_packed_run_len_nonnull(
         return 0;
     }
     packed_run_len(base, section_len, deltas)
+}
+
+/// Whether a site's bytes are instructions that can have its shapes, as `has_its_instructions`. The
+/// section begins at the input offset `base` of the run.
+///
+/// The error is the first that applies of `UnknownArchitecture`, where no section of the machine is
+/// packed, and `NotItsInstructions`.
+#[unsafe(no_mangle)]
+pub extern "C" fn linker_utils_has_its_instructions_nonnull(
+    machine: u16,
+    section: &[u8],
+    base: u64,
+    item: &ItemNumbers,
+) -> u32
+    ensures { MatchOption (packing_machine machine) (result ≡ code Status.UnknownArchitecture)
+        (λ known. SaysOfInstructions known section.now base (item_of item.now) result) }
+{
+    let Some(known) = packing_machine(machine) else {
+        return Status::UnknownArchitecture.number();
+    };
+    if has_its_instructions(known, section, base, &item.item()) {
+        Status::Success.number()
+    } else {
+        Status::NotItsInstructions.number()
+    }
 }
 
 /// Packs a section of a relaxed run, as `pack_run`: writes the bytes that stay, in order, with the

@@ -517,6 +517,25 @@ unsafe extern "C" fn linker_utils_packed_run_len_nonnull(
 }
 
 #[unsafe(no_mangle)]
+unsafe extern "C" fn linker_utils_has_its_instructions_nonnull(
+    machine: u16,
+    section: *const u8,
+    section_len: usize,
+    base: u64,
+    item: *const ItemNumbers,
+) -> u32 {
+    // SAFETY: the arguments are as the head of the header says.
+    unsafe {
+        crate::pack_runs::linker_utils_has_its_instructions_nonnull(
+            machine,
+            from_raw_parts(section, section_len),
+            base,
+            &*item,
+        )
+    }
+}
+
+#[unsafe(no_mangle)]
 unsafe extern "C" fn linker_utils_pack_run_nonnull(
     machine: u16,
     section: *const u8,

@@ -3,7 +3,7 @@
 
 use crate::relaxing::{ItemNumbers, items_of};
 use crate::status::Status;
-use linker_utils::runs::packing::{ItemError, Machine, pack_run, packed_run_len};
+use linker_utils::runs::packing::{ItemError, Machine, has_its_instructions, pack_run, packed_run_len};
 use linker_utils::elf::Architecture;
 use linker_utils::relaxation::RelaxDelta;
 
@@ -43,6 +43,27 @@ pub fn linker_utils_packed_run_len_nonnull(
         return 0;
     }
     packed_run_len(base, section_len, deltas)
+}
+
+/// Whether a site's bytes are instructions that can have its shapes, as `has_its_instructions`. The
+/// section begins at the input offset `base` of the run.
+///
+/// The error is the first that applies of `UnknownArchitecture`, where no section of the machine is
+/// packed, and `NotItsInstructions`.
+pub fn linker_utils_has_its_instructions_nonnull(
+    machine: u16,
+    section: &[u8],
+    base: u64,
+    item: &ItemNumbers,
+) -> u32 {
+    let Some(known) = packing_machine(machine) else {
+        return Status::UnknownArchitecture.number();
+    };
+    if has_its_instructions(known, section, base, &item.item()) {
+        Status::Success.number()
+    } else {
+        Status::NotItsInstructions.number()
+    }
 }
 
 /// Packs a section of a relaxed run, as `pack_run`: writes the bytes that stay, in order, with the

@@ -4,7 +4,7 @@ use Rattle.linker_elf.specs.Value.{sum_64}
 use Rattle.linker_runs.specs.Sites.{Template, IsRelocated, IsOutOfReach}
 use Rattle.linker_runs.specs.LoongArchSites.{IsCall36At, IsPcalaAt, destination, branch_template}
 use Rattle.linker_runs.specs.LoongArchSites.{pcaddi_template, call_template, high_template}
-use Rattle.linker_runs.specs.LoongArchSites.{low_template, ArePagesNear, IsAddressInReach}
+use Rattle.linker_runs.specs.LoongArchSites.{low_template, ArePagesNear, IsAddressOutOfReach}
 use Rattle.linker_runs.specs.declared.packing.loongarch64.Kind.{Kind}
 use Rattle.linker_runs.specs.declared.packing.loongarch64.Kind.TheVariants.{Call, Address}
 
@@ -31,4 +31,4 @@ IsLongOf section o Address place target written = AreRelocated section o place t
 
 abbrev pub IsLongOutOfReach : List ℕ → ℕ → Kind → ℕ → ℕ → Type 0
 IsLongOutOfReach section o Call place target = IsOutOfReach (call_template section o) place target
-IsLongOutOfReach section o Address place target = ¬ IsAddressInReach section o place target
+IsLongOutOfReach section o Address place target = IsAddressOutOfReach section o place target

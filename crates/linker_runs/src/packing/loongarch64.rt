@@ -6,7 +6,7 @@ ghost use Rattle.std.specs.Prelude.{length, take, drop};
 ghost use Rattle.std.specs.Int.{w32, to_le_bytes};
 ghost use Rattle.linker_elf.specs.LoongArchRelocations.{loongarch_raw_row};
 ghost use Rattle.linker_runs.specs.LoongArchSites.{IsPcalaAt, IsSiteAt, destination};
-ghost use Rattle.linker_runs.specs.LoongArchSites.{ArePagesNear, IsAddressInReach};
+ghost use Rattle.linker_runs.specs.LoongArchSites.{ArePagesNear, IsAddressOutOfReach};
 ghost use Rattle.linker_runs.specs.LoongArchSites.{LoongArchBecomes, LoongArchAccepts};
 ghost use Rattle.linker_runs.specs.LoongArchSites.{LoongArchCause};
 ghost use Rattle.linker_runs.specs.Inner.LoongArch.{IsKindAt, short_template, AreRelocated};
@@ -146,7 +146,7 @@ fn joined(first: [u8; 4], second: [u8; 4]) -> [u8; 8]
 /// compute the target, or a relocation's value is rejected.
 fn address_of(section: &[u8], offset: u64, place: u64, target: u64) -> Option<[u8; 8]>
     requires { offset + 8 ≤ length section.now }
-    ensures { MatchOption result (¬ IsAddressInReach section.now offset place target)
+    ensures { MatchOption result (IsAddressOutOfReach section.now offset place target)
         (λ pair. AreRelocated section.now offset place target pair) }
 {
     let row = row_of(LoongArch64Relocation::R_LARCH_PCALA_HI20);

@@ -1,0 +1,5 @@
+use Rattle.linker_runs.proofs.LongAddresses.{near_addresses}
+use Rattle.linker_runs.proofs.laws.near_addresses_are_writable.Goals as goal
+
+pub returns : goal.returns
+returns c = near_addresses
