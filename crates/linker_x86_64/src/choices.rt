@@ -60,66 +60,38 @@ impl ChosenKind for RelaxationKind {
     #[inline(always)]
     fn operands_after(self, offset: u64, operands: &Operands) -> Operands {
         let place = operands.place;
-        match self {
+        let place = match self {
+            RelaxationKind::JmpIndirectToRelative => {
+                let before = offset.saturating_sub(1);
+                place.wrapping_add(before).wrapping_sub(offset)
+            }
+            RelaxationKind::TlsLdToLocalExec | RelaxationKind::TlsLdToLocalExecNoPlt => {
+                place.wrapping_add(5)
+            }
+            RelaxationKind::TlsGdToLocalExec | RelaxationKind::TlsGdToInitialExec => {
+                place.wrapping_add(8)
+            }
+            RelaxationKind::TlsGdToLocalExecLarge => place.wrapping_add(9),
+            RelaxationKind::TlsLdToLocalExec64 => place.wrapping_add(15),
+            _ => place,
+        };
+        let addend = match self {
             RelaxationKind::NoOp
             | RelaxationKind::MovIndirectToLea
             | RelaxationKind::CallIndirectToRelative
+            | RelaxationKind::JmpIndirectToRelative
+            | RelaxationKind::TlsLdToLocalExec
+            | RelaxationKind::TlsLdToLocalExecNoPlt
+            | RelaxationKind::TlsLdToLocalExec64
+            | RelaxationKind::TlsGdToInitialExec
             | RelaxationKind::TlsDescToInitialExec
-            | RelaxationKind::SkipTlsDescCall => *operands,
-            RelaxationKind::JmpIndirectToRelative => {
-                let before = offset.saturating_sub(1);
-                Operands {
-                    place: place.wrapping_add(before).wrapping_sub(offset),
-                    ..*operands
-                }
-            }
-            RelaxationKind::TlsGdToLocalExec => {
-                Operands {
-                    place: place.wrapping_add(8),
-                    addend: 0,
-                    ..*operands
-                }
-            }
-            RelaxationKind::TlsGdToLocalExecLarge => {
-                Operands {
-                    place: place.wrapping_add(9),
-                    addend: 0,
-                    ..*operands
-                }
-            }
-            RelaxationKind::TlsGdToInitialExec => {
-                Operands {
-                    place: place.wrapping_add(8),
-                    ..*operands
-                }
-            }
-            RelaxationKind::TlsLdToLocalExec | RelaxationKind::TlsLdToLocalExecNoPlt => {
-                Operands {
-                    place: place.wrapping_add(5),
-                    ..*operands
-                }
-            }
-            RelaxationKind::TlsLdToLocalExec64 => {
-                Operands {
-                    place: place.wrapping_add(15),
-                    ..*operands
-                }
-            }
-            RelaxationKind::MovIndirectToAbsolute
-            | RelaxationKind::RexMovIndirectToAbsolute(_)
-            | RelaxationKind::RexAddIndirectToAbsolute(_)
-            | RelaxationKind::RexSubIndirectToAbsolute(_)
-            | RelaxationKind::RexCmpIndirectToAbsolute(_)
-            | RelaxationKind::TlsDescToLocalExec(_)
-            | RelaxationKind::RexAdcIndirectToAbsolute(_)
-            | RelaxationKind::RexAndIndirectToAbsolute(_)
-            | RelaxationKind::RexOrIndirectToAbsolute(_)
-            | RelaxationKind::RexSbbIndirectToAbsolute(_)
-            | RelaxationKind::RexXorIndirectToAbsolute(_)
-            | RelaxationKind::RexTestIndirectToAbsolute(_) => Operands {
-                addend: 0,
-                ..*operands
-            },
+            | RelaxationKind::SkipTlsDescCall => operands.addend,
+            _ => 0,
+        };
+        Operands {
+            place,
+            addend,
+            ..*operands
         }
     }
 }
@@ -405,10 +377,8 @@ impl ChosenByTable for RelaxationKind {
 
 /// The rewrite that a linker makes of the instruction or the sequence with a relocation, and the
 /// relocation whose value it then writes (x86-64 psABI, "Optimize GOTPCRELX Relocations" and "ELF
-/// Handling For Thread-Local Storage"). It is the first entry of the relocation in the table of
-/// choices whose instructions are there and whose conditions hold, and else `NoOp` and the same
-/// relocation. The offset is that of the relocation in the section. Any bytes and any offset may be
-/// passed, and the rewrite can be applied there.
+/// Handling For Thread-Local Storage"). The offset is that of the relocation in the section. Any
+/// bytes and any offset may be passed, and the rewrite can be applied there.
 ///
 /// ```
 /// use linker_utils::elf::{LinkFacts, Operands};
@@ -453,8 +423,7 @@ pub fn choose(
 }
 
 /// Whether a relocation can be rewritten, if all others of its sequence can: whether `choose` with
-/// `group_fits` changes it. A linker calls this for each relocation of a sequence before it
-/// chooses for any of them, with the facts of each, and sets `group_fits` only if it is true of all.
+/// `group_fits` changes it.
 ///
 /// ```
 /// use linker_utils::elf::{LinkFacts, Operands};

@@ -163,10 +163,8 @@ impl ChosenByTable for RelaxationKind {
 
 /// Which rewrite a linker may make of the instruction at a relocation's offset, and the relocation
 /// whose value is then written (64-bit ELF V2 ABI for Power, "TOC Optimizations" and "TLS Linkage
-/// Optimizations"). It is the first entry of the relocation in the table of choices whose
-/// instructions are there and whose conditions hold, and else `NoOp` and the same relocation, as
-/// for any name that isn't listed and for an offset that isn't in the section. Where TLS becomes
-/// initial-exec, `got_entry` has to be the address of the entry for initial-exec.
+/// Optimizations"). Where TLS becomes initial-exec, `got_entry` has to be the address of the entry
+/// for initial-exec.
 ///
 /// ```
 /// use linker_utils::elf::LinkFacts;
@@ -202,8 +200,7 @@ pub fn choose(
 }
 
 /// Whether a relocation can be rewritten, if all others of its sequence can: whether `choose` with
-/// `group_fits` changes it. A linker calls this for each relocation of a sequence before it
-/// chooses for any of them, with the facts of each, and sets `group_fits` only if it is true of all.
+/// `group_fits` changes it.
 ///
 /// ```
 /// use linker_utils::elf::LinkFacts;
@@ -220,6 +217,7 @@ pub fn choose(
 /// assert_eq!(fit, [true, true, false]);
 /// ```
 #[must_use]
+#[doc = include_str!("../../doc/choices/fits.md")]
 pub fn fits(name: Ppc64Relocation, section: &[u8], offset: u64, facts: &LinkFacts) -> bool {
     RelaxationKind::fits(name, section, offset, facts)
 }

@@ -200,9 +200,7 @@ impl ChosenByTable for RelaxationKind {
 }
 
 /// Which rewrite a linker may make of the instruction or the pair at a relocation's offset, and the
-/// relocation whose value is then written (RISC-V ELF psABI, "Linker Relaxation"). It is the first
-/// entry of the relocation in the table of choices whose instructions are there and whose
-/// conditions hold, and else `NoOp` and the same relocation.
+/// relocation whose value is then written (RISC-V ELF psABI, "Linker Relaxation").
 ///
 /// ```
 /// use linker_utils::elf::{LinkFacts, Operands};
@@ -245,8 +243,7 @@ pub fn choose(
 }
 
 /// Whether a relocation can be rewritten, if all others of its sequence can: whether `choose` with
-/// `group_fits` changes it. A linker calls this for each relocation of a sequence before it
-/// chooses for any of them, with the facts of each, and sets `group_fits` only if it is true of all.
+/// `group_fits` changes it.
 ///
 /// ```
 /// use linker_utils::elf::LinkFacts;
@@ -267,6 +264,7 @@ pub fn choose(
 /// assert!(!fits(RiscVRelocation::R_RISCV_PCREL_LO12_I, &section, 0, &facts));
 /// ```
 #[must_use]
+#[doc = include_str!("../../doc/choices/fits.md")]
 pub fn fits(name: RiscVRelocation, section: &[u8], offset: u64, facts: &LinkFacts) -> bool {
     RelaxationKind::fits(name, section, offset, facts)
 }
