@@ -6,6 +6,9 @@ use crate::library::{SITE, WINDOW, added};
 use crate::measure::{Beside, Report, Side};
 use crate::table::{FORMS, LOONGARCH64, MACHINES, REWRITES, RISCV, name_of};
 use crate::{CALLS, architecture, calls_apart, section_of};
+use erased_crate::runs;
+use erased_crate::runs::packing::{Machine, has_its_instructions, pack_run};
+use erased_crate::runs::relaxation::first_faulty;
 use sathunne::raw::*;
 
 // SAFETY of each call of an export below: a slice's pointer and length are its own, and a reference
@@ -27,13 +30,32 @@ fn line<T>(report: &mut Report, name: &str, inputs: &[T], mut call: impl FnMut(&
 }
 
 /// A line of one call over so many entries, which has to return 0.
-fn whole(report: &mut Report, name: &str, entries: usize, mut call: impl FnMut() -> u32) {
-    let round = || {
+fn whole(report: &mut Report, name: &str, entries: usize, call: impl FnMut() -> u32) {
+    let sides = [Some(returns_0(name, call)), None, None, None];
+    report.line(name, entries, true, sides);
+}
+
+/// The same beside the call of the crate that does as much, which tells whether it did.
+fn whole_beside(
+    report: &mut Report,
+    name: &str,
+    entries: usize,
+    call: impl FnMut() -> u32,
+    mut of_crate: impl FnMut() -> bool,
+) {
+    let erased = Side::number(|| {
+        assert!(of_crate(), "{name}");
+        0
+    });
+    let sides = [Some(returns_0(name, call)), None, Some(erased), None];
+    report.line(name, entries, true, sides);
+}
+
+fn returns_0<'a>(name: &'a str, mut call: impl FnMut() -> u32 + 'a) -> Side<'a> {
+    Side::number(move || {
         assert_eq!(call(), 0, "{name}");
         0
-    };
-    let sides = [Some(Side::number(round)), None, None, None];
-    report.line(name, entries, true, sides);
+    })
 }
 
 pub fn further(report: &mut Report) {
@@ -559,6 +581,10 @@ fn runs(report: &mut Report, random: &mut Random) {
     ];
     for (machine, [of_call, of_mark, of_alignment], nops, call, nop) in machines {
         let name = name_of(machine);
+        let of_crate = match machine {
+            RISCV => Machine::RiscV64,
+            _ => Machine::LoongArch64,
+        };
         let mut section = vec![0; COUNT * 64];
         let mut relocations = Vec::new();
         for call_of in calls_apart(random, COUNT, 64) {
@@ -591,7 +617,22 @@ fn runs(report: &mut Report, random: &mut Random) {
             RISCV => "`linker_utils_riscv_items`, a relocation",
             _ => "`linker_utils_loongarch_items`, a relocation",
         };
-        whole(report, export, count, || {
+        let listed: Vec<_> = relocations
+            .iter()
+            .map(|it| runs::items::Relocation {
+                offset: it.offset,
+                code: it.r_type,
+                has_symbol: it.has_symbol != 0,
+                addend: it.addend,
+                target: (it.has_target != 0).then_some(it.target),
+                may_compress: it.may_compress != 0,
+            })
+            .collect();
+        let made = || match of_crate {
+            Machine::RiscV64 => runs::riscv64::items(&section, 0, &listed),
+            Machine::LoongArch64 => runs::loongarch64::items(&section, 0, &listed),
+        };
+        let call = || {
             let (items, used, faulty) = (items.as_mut_ptr(), &mut used, &mut 0);
             unsafe {
                 match machine {
@@ -603,25 +644,33 @@ fn runs(report: &mut Report, random: &mut Random) {
                     ),
                 }
             }
-        });
+        };
+        whole_beside(report, export, count, call, || made().is_ok());
         items.truncate(used);
         assert_eq!(items.len(), COUNT + COUNT / 8);
+        let run = made().expect("items");
 
         let (item, count) = (items.as_ptr(), items.len());
-        whole(
+        whole_beside(
             report,
             &format!("`linker_utils_items_relaxable`, {name}"),
             count,
             || unsafe { linker_utils_items_relaxable_nonnull(item, count, 0, &mut 0) },
+            || first_faulty(&run, 0).is_none(),
         );
-        numbers(
+        whole_beside(
             report,
-            &format!("`linker_utils_has_its_instructions`, {name}"),
-            &items,
-            |item| unsafe {
-                u64::from(linker_utils_has_its_instructions_nonnull(
-                    machine, bytes, len, 0, item,
-                ))
+            &format!("`linker_utils_has_its_instructions`, {name}, an item"),
+            count,
+            || {
+                let test = |item| unsafe {
+                    linker_utils_has_its_instructions_nonnull(machine, bytes, len, 0, item)
+                };
+                items.iter().fold(0, |failed, item| failed | test(item))
+            },
+            || {
+                run.iter()
+                    .all(|item| has_its_instructions(of_crate, &section, 0, item))
             },
         );
         let (mut shapes, mut kept) = (vec![0; count], vec![0; count]);
@@ -648,7 +697,16 @@ fn runs(report: &mut Report, random: &mut Random) {
         );
         deltas.truncate(used);
         let mut packed = vec![0; sathunne::packed_run_len(0, len, &deltas)];
-        whole(
+        let mut of_erased = packed.clone();
+        let lost: Vec<_> = deltas
+            .iter()
+            .map(|delta| erased_crate::relaxation::RelaxDelta {
+                input_offset: delta.input_offset,
+                cumulative_deleted: delta.cumulative_deleted,
+                bytes_deleted: delta.bytes_deleted,
+            })
+            .collect();
+        whole_beside(
             report,
             &format!("`linker_utils_pack_run`, {name}"),
             count,
@@ -668,6 +726,7 @@ fn runs(report: &mut Report, random: &mut Random) {
                     &mut 0,
                 )
             },
+            || pack_run(of_crate, &section, 0, &run, &lost, 0, &mut of_erased).is_ok(),
         );
     }
 }

@@ -78,6 +78,7 @@ impl Run {
             self.arrays(),
             |_| (),
             |(shapes, kept, places, freed)| {
+                assert_eq!(erased::first_faulty(&self.erased, 0), None);
                 erased::relax_into(&self.erased, 0, shapes, kept, places, freed);
             },
             gives,
@@ -86,12 +87,12 @@ impl Run {
     }
 }
 
-/// The original crate relaxes no runs. The exports also copy the items and test them.
+/// The original crate relaxes no runs. Both test the items; the exports also copy them.
 pub fn relaxing(report: &mut Report) {
     const COUNT: usize = 200_000;
     let mut random = Random::new(14);
     report.heading(
-        "Runs relaxed by `linker_utils_relax`, a call",
+        "Runs tested and relaxed by `linker_utils_relax`, a call",
         Beside::Nothing,
     );
     for gap in [64, 32] {

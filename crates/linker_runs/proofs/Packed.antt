@@ -10,7 +10,7 @@ use Rattle.linker_runs.specs.Relaxing.{item_at, choice_of}
 use Rattle.linker_runs.specs.Choosing.{AreItems, IsRelaxation, IsSite}
 use Rattle.linker_runs.specs.Deleting.{deletions_of_run}
 use Rattle.linker_runs.specs.Origins.{HasItsInstructions}
-use Rattle.linker_runs.specs.Packing.{Section, section_of, is_fixed, IsUnwritable, IsCause, IsFirstRejected}
+use Rattle.linker_runs.specs.Packing.{Section, section_of, is_fixed, IsUnwritable, IsCause, IsFirstRejected, KeepsEnd}
 use Rattle.linker_runs.specs.declared.packing.Machine.{Machine}
 use Rattle.linker_runs.specs.declared.packing.Machine.TheVariants.{RiscV64, LoongArch64}
 use Rattle.linker_runs.specs.declared.packing.ItemError.{ItemError}
@@ -67,5 +67,5 @@ none_out_of_reach machine start base items shapes kept freed bytes are is packed
     let item = of_run rejected.index here.0 in
     let cause : IsCause machine s packed rejected.index OutOfReach = subst (IsCause machine s packed rejected.index) e here.1 in
     packed_item start base items shapes kept freed bytes are is item.index item.within machine (item_at packed rejected.index) item.is cause.3 item.may_be cause.4)
-    (λ (end : (rejected.index ≡ length packed) × (rejected.error ≡ DeletedOutside) × _). no_other (sym end.1 ∙ e))
+    (λ (end : (rejected.index ≡ length packed) × (rejected.error ≡ DeletedOutside) × ¬ KeepsEnd s packed). no_other (sym end.1 ∙ e))
     first.here
