@@ -11,7 +11,10 @@ use Rattle.linker_base.specs.Deletions.{rank}
 use Rattle.linker_elf.specs.Elf.{IsWithin, bit_bounds}
 use Rattle.linker_elf.specs.LoongArch.{page}
 use Rattle.linker_elf.specs.Value.{sum_64, difference_64}
+use Rattle.linker_elf.specs.declared.elf.RelocationInstruction.TheVariants.{LoongArch64 as OfLoongArch}
+use Rattle.linker_elf.specs.declared.elf.RelocationSize.TheVariants.{BitMasking}
 use Rattle.linker_elf.specs.declared.elf.Sign.TheVariants.{Signed}
+use Rattle.linker_elf.specs.declared.loongarch64.forms.LoongArch64Instruction.TheVariants.{Shift5, Shift10}
 use Rattle.linker_elf.specs.declared.loongarch64.relocations.LoongArch64Relocation.TheVariants.{R_LARCH_PCALA_HI20, R_LARCH_PCALA_LO12}
 use Rattle.linker_elf.proofs.Reached.{holds}
 use Rattle.linker_elf.proofs.RowsFit.{loongarch_fits}
@@ -76,7 +79,7 @@ module _ (section : List ℕ) (o start from to : ℕ) (here : IsPcalaAt section 
   high_near far =
       let v = cast_signed w64 (difference_64 (page (sum_64 (sum_64 (sum_64 start to) 0) 0x800)) (page (sum_64 start from))) in
       far v refl
-      (record { supported = refl; long = long; aligned = (whole v, tt, λ e. none e); reached = (tt, holds _ v (take 4 (drop o section)) (loongarch_fits R_LARCH_PCALA_HI20), tt) })
+      (record { supported = refl; long = long; aligned = (whole v, tt, λ e. none e); reached = (tt, holds (BitMasking (record { start = 12; end = 32 }) (OfLoongArch Shift5)) v (take 4 (drop o section)) (loongarch_fits R_LARCH_PCALA_HI20), tt) })
     where
       long : 4 ≤ length (take 4 (drop o section))
       long = let a = length-take 4 (drop o section) in let b = length-drop o section in omega arith
@@ -89,7 +92,7 @@ module _ (section : List ℕ) (o start from to : ℕ) (here : IsPcalaAt section 
         supported = refl;
         long = long;
         aligned = (whole v, tt, λ e. none (sym (no_jirl section o here) ∙ e));
-        reached = (tt, holds _ v (take 4 (drop (o + 4) section)) (loongarch_fits R_LARCH_PCALA_LO12), tt);
+        reached = (tt, holds (BitMasking (record { start = 0; end = 12 }) (OfLoongArch Shift10)) v (take 4 (drop (o + 4) section)) (loongarch_fits R_LARCH_PCALA_LO12), tt);
       })
     where
       long : 4 ≤ length (take 4 (drop (o + 4) section))
