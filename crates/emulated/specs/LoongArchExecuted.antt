@@ -1,6 +1,6 @@
 -- LoongArch: the instructions of `rewrite_laws` compared with an emulator. Registers 32 to 63 are
 -- those of floating-point numbers.
-use Rattle.std.specs.Prelude.{ℕ, ◌≡◌, ◌+◌, ◌-◌, ◌^◌, nat_lt, if◌then◌else◌, Bool, true, false}
+use Rattle.std.specs.Prelude.{ℕ, ◌≡◌, ◌+◌, ◌-◌, ◌^◌, ◌==◌, nat_lt, if◌then◌else◌, Bool, true, false}
 use Rattle.std.specs.Prelude.{Option, Some, None}
 use Rattle.std.specs.List.{list_all}
 use Rattle.std.specs.Int.{w32, from_le_bytes}
@@ -8,12 +8,13 @@ use Rattle.rewrite_laws.specs.LoongArchMachine.{State, Floats, step, read}
 use Rattle.emulated.specs.Steps.{Executed, Group, number_in, byte_in, is_left}
 use Rattle.emulated.specs.LoongArchSteps.{loongarch_groups}
 
--- The emulator's `fld.s` sets the bits above the number.
+-- The emulator's `fld.s` sets the bits above the number, and it has no vector registers: registers
+-- have 64 bits.
 abbrev pub floats : Executed → Floats
 floats e =
     record {
       numbers = λ r. number_in e.before.registers (32 + r);
-      widened = λ old number. number + (2 ^ 64 - 2 ^ 32);
+      widened = λ bytes old number. if bytes == 4 then number + (2 ^ 64 - 2 ^ 32) else number;
     }
 
 abbrev pub begun : Executed → State

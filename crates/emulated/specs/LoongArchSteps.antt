@@ -6894,4 +6894,247 @@ loongarch_groups =
     (29, 0x402f2634f) ∷ (42, 0x20ae6832692d0d3e) ∷ [])
     0x4011dea44 0xa309d8d5d593118a9184177bad735f9120ae6832692d0d3e8b79f57652c4e6ad 0) ∷
     []) ∷
+    -- preld
+    group 0x0 (
+    executed (0xef ∷ 0x03 ∷ 0xc0 ∷ 0x2a ∷ []) 0x2eae9be
+    (state ((22, 0x1b03177d295827c4) ∷ (29, 0x77f5b2896ce1326d) ∷ [])
+    0x2011e3aa8 0xc85f64336e86a91b57c466e5b96c75aa0000000000000000fdc1ff3b827ac45d 0)
+    (state ((22, 0x1b03177d295827c4) ∷ (29, 0x77f5b2896ce1326d) ∷ [])
+    0x2011e3aac 0xc85f64336e86a91b57c466e5b96c75aa0000000000000000fdc1ff3b827ac45d 0) ∷
+    executed (0x60 ∷ 0xfd ∷ 0xff ∷ 0x2a ∷ []) 0x4028d8a89
+    (state ((9, 0xffffffff) ∷ (11, 0x8000000000000000) ∷ (19, 0x3fe76f617ed0126b) ∷
+    (21, 0x9e9b76d3f71fe265) ∷ [])
+    0x11e7418 0xa12f2cff14157e7e19b486af3804f83f8000000000000000262e01e3bada98f3 0)
+    (state ((9, 0xffffffff) ∷ (11, 0x8000000000000000) ∷ (19, 0x3fe76f617ed0126b) ∷
+    (21, 0x9e9b76d3f71fe265) ∷ [])
+    0x11e741c 0xa12f2cff14157e7e19b486af3804f83f8000000000000000262e01e3bada98f3 0) ∷
+    executed (0xd3 ∷ 0x07 ∷ 0xc0 ∷ 0x2a ∷ []) 0x402d3bc52
+    (state ((8, 0x9dfb8fb559d762b0) ∷ (23, 0x7fffffffffffffff) ∷ (27, 0xcfd5b11930a4f5d9) ∷
+    (30, 0x7fffffff) ∷ [])
+    0x4011eaa30 0x82b97b0885b18fcae576b875dfc95a94000000007fffffffd93b6c0fe2bc4c50 0)
+    (state ((8, 0x9dfb8fb559d762b0) ∷ (23, 0x7fffffffffffffff) ∷ (27, 0xcfd5b11930a4f5d9) ∷
+    (30, 0x7fffffff) ∷ [])
+    0x4011eaa34 0x82b97b0885b18fcae576b875dfc95a94000000007fffffffd93b6c0fe2bc4c50 0) ∷
+    executed (0x0f ∷ 0x00 ∷ 0xe0 ∷ 0x2a ∷ []) 0x202413494
+    (state ((4, 0xda20d3e205a7a835) ∷ (5, 0x1) ∷ (12, 0xacc3fac078ae35f9) ∷ [])
+    0x11ed4bc 0xfa40f571a604d0bb55571ac3f2205dfffffffff80000000c5f89cf0b714e712 0)
+    (state ((4, 0xda20d3e205a7a835) ∷ (5, 0x1) ∷ (12, 0xacc3fac078ae35f9) ∷ [])
+    0x11ed4c0 0xfa40f571a604d0bb55571ac3f2205dfffffffff80000000c5f89cf0b714e712 0) ∷
+    executed (0x7c ∷ 0xfe ∷ 0xdf ∷ 0x2a ∷ []) 0x2da903f
+    (state ((10, 0xffffffff7fffffff) ∷ (19, 0xffffffffffffffff) ∷ (30, 0xd5b2beee9598dbd4) ∷ [])
+    0x4011f3300 0xb1a5ff3f755a173de5c90be9f984c341000000000000800015fe4a5644fb0c3e 0)
+    (state ((10, 0xffffffff7fffffff) ∷ (19, 0xffffffffffffffff) ∷ (30, 0xd5b2beee9598dbd4) ∷ [])
+    0x4011f3304 0xb1a5ff3f755a173de5c90be9f984c341000000000000800015fe4a5644fb0c3e 0) ∷
+    executed (0xce ∷ 0xfd ∷ 0xff ∷ 0x2a ∷ []) 0x202ba8234
+    (state ((11, 0x281e4a6156aea7ef) ∷ (14, 0x80000000) ∷ (18, 0x8ad22a0c5237fad2) ∷ [])
+    0x4011f65dc 0xc46dbd049f21a3787ce18c09e2a42dad000000000000000119216e93ee1a5f27 0)
+    (state ((11, 0x281e4a6156aea7ef) ∷ (14, 0x80000000) ∷ (18, 0x8ad22a0c5237fad2) ∷ [])
+    0x4011f65e0 0xc46dbd049f21a3787ce18c09e2a42dad000000000000000119216e93ee1a5f27 0) ∷
+    executed (0x75 ∷ 0x07 ∷ 0xc0 ∷ 0x2a ∷ []) 0x2019135
+    (state ((14, 0x60539f8b798b02af) ∷ (22, 0xffffffffffffffff) ∷ (23, 0x41420bf0c1482d27) ∷
+    (27, 0xffffffff7fffffff) ∷ [])
+    0x11f99b0 0x89d147f36dac14e12bf5e273b48bb5387fffffffffffffff9eebcd2510a48bb9 0)
+    (state ((14, 0x60539f8b798b02af) ∷ (22, 0xffffffffffffffff) ∷ (23, 0x41420bf0c1482d27) ∷
+    (27, 0xffffffff7fffffff) ∷ [])
+    0x11f99b4 0x89d147f36dac14e12bf5e273b48bb5387fffffffffffffff9eebcd2510a48bb9 0) ∷
+    executed (0x16 ∷ 0x03 ∷ 0xe0 ∷ 0x2a ∷ []) 0x402b7a7aa
+    (state ((11, 0x1eb3e0c6fc868f1c) ∷ (20, 0xffffffff80000000) ∷ (24, 0x1) ∷
+    (25, 0x6ff48caf017b6ac1) ∷ [])
+    0x2011ff248 0x6b6896b56ddce7f7183d968d9b726d6000000000ffffffffe862c840f2c8f2ef 0)
+    (state ((11, 0x1eb3e0c6fc868f1c) ∷ (20, 0xffffffff80000000) ∷ (24, 0x1) ∷
+    (25, 0x6ff48caf017b6ac1) ∷ [])
+    0x2011ff24c 0x6b6896b56ddce7f7183d968d9b726d6000000000ffffffffe862c840f2c8f2ef 0) ∷
+    executed (0x4c ∷ 0xff ∷ 0xdf ∷ 0x2a ∷ []) 0x2c91b09
+    (state ((1, 0x62488032c331d884) ∷ (10, 0x422d949f4756b777) ∷ (11, 0x7fffffff) ∷
+    (26, 0x7fffffffffffffff) ∷ [])
+    0x401203b6c 0x6befc888319b9198962b61b07f8438330000000000000080dcf35d7ed4b99dbd 0)
+    (state ((1, 0x62488032c331d884) ∷ (10, 0x422d949f4756b777) ∷ (11, 0x7fffffff) ∷
+    (26, 0x7fffffffffffffff) ∷ [])
+    0x401203b70 0x6befc888319b9198962b61b07f8438330000000000000080dcf35d7ed4b99dbd 0) ∷
+    executed (0x20 ∷ 0x02 ∷ 0xc0 ∷ 0x2a ∷ []) 0x402bce9ef
+    (state ((14, 0x8000000000000000) ∷ (17, 0xffffffff) ∷ (25, 0xfe4d6e75630e2039) ∷
+    (26, 0x7ad1fd37f5b13f88) ∷ [])
+    0x201204c20 0x8dee454ae7253825b3a06029f4cf0c970000000000007fffa6468ad479635591 0)
+    (state ((14, 0x8000000000000000) ∷ (17, 0xffffffff) ∷ (25, 0xfe4d6e75630e2039) ∷
+    (26, 0x7ad1fd37f5b13f88) ∷ [])
+    0x201204c24 0x8dee454ae7253825b3a06029f4cf0c970000000000007fffa6468ad479635591 0) ∷
+    executed (0xc0 ∷ 0x04 ∷ 0xc0 ∷ 0x2a ∷ []) 0x2024a9737
+    (state ((5, 0x1) ∷ (6, 0x1) ∷ (20, 0x2cf280f907d1fe69) ∷ (28, 0x6aefb5e2c62ac8a6) ∷ [])
+    0x120a60c 0x96cd1e73d1aec3722b58c486259ed2fbffffffffffffffff1bdcc7ec757f59ba 0)
+    (state ((5, 0x1) ∷ (6, 0x1) ∷ (20, 0x2cf280f907d1fe69) ∷ (28, 0x6aefb5e2c62ac8a6) ∷ [])
+    0x120a610 0x96cd1e73d1aec3722b58c486259ed2fbffffffffffffffff1bdcc7ec757f59ba 0) ∷
+    executed (0x1e ∷ 0x00 ∷ 0xe0 ∷ 0x2a ∷ []) 0x202b9cade
+    (state ((6, 0x4a00e4f66fd3eb44) ∷ (7, 0xffffffff7fffffff) ∷ (17, 0xc26a0ca1c881beb1) ∷ [])
+    0x40120f82c 0xbcf34f6326e4940304ffe150b271be8a000000008000000022b5051552b1f357 0)
+    (state ((6, 0x4a00e4f66fd3eb44) ∷ (7, 0xffffffff7fffffff) ∷ (17, 0xc26a0ca1c881beb1) ∷ [])
+    0x40120f830 0xbcf34f6326e4940304ffe150b271be8a000000008000000022b5051552b1f357 0) ∷
+    executed (0x5b ∷ 0xff ∷ 0xdf ∷ 0x2a ∷ []) 0x40236fbb7
+    (state ((26, 0xffffffff) ∷ (28, 0xa01cfb5444495b38) ∷ (31, 0x9f0de5172384f507) ∷ [])
+    0x201212d78 0x7ddb6f24cbbccd767bef2e10689f727bffffffff7fffffffed641f6e137be584 0)
+    (state ((26, 0xffffffff) ∷ (28, 0xa01cfb5444495b38) ∷ (31, 0x9f0de5172384f507) ∷ [])
+    0x201212d7c 0x7ddb6f24cbbccd767bef2e10689f727bffffffff7fffffffed641f6e137be584 0) ∷
+    executed (0x18 ∷ 0x03 ∷ 0xc0 ∷ 0x2a ∷ []) 0x26084f0
+    (state ((26, 0x833f2aa3d21ba011) ∷ [])
+    0x1217590 0x21a1ecd4e0003abb160c0606754cae6000000000000007fdc1bfa67bc37f582 0)
+    (state ((26, 0x833f2aa3d21ba011) ∷ [])
+    0x1217594 0x21a1ecd4e0003abb160c0606754cae6000000000000007fdc1bfa67bc37f582 0) ∷
+    executed (0x70 ∷ 0xfc ∷ 0xff ∷ 0x2a ∷ []) 0x2bcad90
+    (state ((1, 0xe3e871dfb1ee0563) ∷ (3, 0x8000000000000000) ∷ (5, 0x10665959397367bc) ∷
+    (26, 0xffffffff80000000) ∷ [])
+    0x201219298 0x93cb632cceaa5d2ceb277ff153adc78d000000000000000141e9ecb96211468a 0)
+    (state ((1, 0xe3e871dfb1ee0563) ∷ (3, 0x8000000000000000) ∷ (5, 0x10665959397367bc) ∷
+    (26, 0xffffffff80000000) ∷ [])
+    0x20121929c 0x93cb632cceaa5d2ceb277ff153adc78d000000000000000141e9ecb96211468a 0) ∷
+    executed (0x56 ∷ 0x01 ∷ 0xe0 ∷ 0x2a ∷ []) 0x20235e243
+    (state ((10, 0x7fffffff) ∷ (19, 0xa1044929f4b57861) ∷ (23, 0x7fffffff) ∷
+    (31, 0x6b793e4bc6f5560a) ∷ [])
+    0x20121c87c 0xbe0a533ff1e523db1c1c05af6d569dff7fffffffffffffff111ee01ee08f1ae3 0)
+    (state ((10, 0x7fffffff) ∷ (19, 0xa1044929f4b57861) ∷ (23, 0x7fffffff) ∷
+    (31, 0x6b793e4bc6f5560a) ∷ [])
+    0x20121c880 0xbe0a533ff1e523db1c1c05af6d569dff7fffffffffffffff111ee01ee08f1ae3 0) ∷
+    executed (0xea ∷ 0xfc ∷ 0xdf ∷ 0x2a ∷ []) 0x402c55cf6
+    (state ((4, 0x8000000000000000) ∷ (7, 0xffffffff80000000) ∷ (14, 0xa0e9f2fe6b4c207c) ∷
+    (30, 0x63b7d9d805bb3ec8) ∷ [])
+    0x2012217f4 0xf27ab424d958e0965a81c52283b960e700000000ffffffff35f63df3e2b54318 0)
+    (state ((4, 0x8000000000000000) ∷ (7, 0xffffffff80000000) ∷ (14, 0xa0e9f2fe6b4c207c) ∷
+    (30, 0x63b7d9d805bb3ec8) ∷ [])
+    0x2012217f8 0xf27ab424d958e0965a81c52283b960e700000000ffffffff35f63df3e2b54318 0) ∷
+    executed (0xe0 ∷ 0x02 ∷ 0xc0 ∷ 0x2a ∷ []) 0x202f929cc
+    (state ((14, 0xef0a8cff136846d5) ∷ (19, 0xb49d5a824c066de0) ∷ (23, 0xffffffffffffffff) ∷ [])
+    0x12256b0 0xdca205c09fc5214cb8846e95561e59290000000000000080ca7927dd888acff5 0)
+    (state ((14, 0xef0a8cff136846d5) ∷ (19, 0xb49d5a824c066de0) ∷ (23, 0xffffffffffffffff) ∷ [])
+    0x12256b4 0xdca205c09fc5214cb8846e95561e59290000000000000080ca7927dd888acff5 0) ∷
+    executed (0x9b ∷ 0xff ∷ 0xff ∷ 0x2a ∷ []) 0x202e2d700
+    (state ((4, 0xfea254ebd150c4fb) ∷ (13, 0xffffffff) ∷ (28, 0x80000000) ∷ [])
+    0x20122a6d0 0x979723343dd73780c0fa34c9ebfa41370000000000007fff8fefffce7e4ff447 0)
+    (state ((4, 0xfea254ebd150c4fb) ∷ (13, 0xffffffff) ∷ (28, 0x80000000) ∷ [])
+    0x20122a6d4 0x979723343dd73780c0fa34c9ebfa41370000000000007fff8fefffce7e4ff447 0) ∷
+    executed (0x1e ∷ 0x04 ∷ 0xc0 ∷ 0x2a ∷ []) 0x202549900
+    (state ((4, 0x7fffffffffffffff) ∷ (15, 0xca83f28afe751f56) ∷ (26, 0xb08e1dc8d7c644d2) ∷ [])
+    0x20122db98 0xdbff9ad875b5049655ccaab7075a1666ffffffffffffffffa9f9bffd94892bcd 0)
+    (state ((4, 0x7fffffffffffffff) ∷ (15, 0xca83f28afe751f56) ∷ (26, 0xb08e1dc8d7c644d2) ∷ [])
+    0x20122db9c 0xdbff9ad875b5049655ccaab7075a1666ffffffffffffffffa9f9bffd94892bcd 0) ∷
+    executed (0xd4 ∷ 0x0a ∷ 0xd2 ∷ 0x2a ∷ []) 0x2020cf482
+    (state ((22, 0x40b5633c5f059ae4) ∷ (23, 0x239b46211d604bc2) ∷ (31, 0xfc4dc9363b0c31d0) ∷ [])
+    0x201230fd0 0x28fa4af20e7fdb5f5388925a36c8463c6727bb4ed591d8dce4b4241ed4ab4040 0)
+    (state ((22, 0x40b5633c5f059ae4) ∷ (23, 0x239b46211d604bc2) ∷ (31, 0xfc4dc9363b0c31d0) ∷ [])
+    0x201230fd4 0x28fa4af20e7fdb5f5388925a36c8463c6727bb4ed591d8dce4b4241ed4ab4040 0) ∷
+    executed (0xad ∷ 0xb1 ∷ 0xc8 ∷ 0x2a ∷ []) 0x202a89afe
+    (state ((13, 0xee34597246b45783) ∷ (19, 0xd7fcbf60052858ff) ∷ (22, 0xd36d5bded3531fec) ∷ [])
+    0x201235ea0 0xf8c63ea5b65ac6b783bcb32a06255c0f4c7d80aa2be05838857a17e8d34500f7 0)
+    (state ((13, 0xee34597246b45783) ∷ (19, 0xd7fcbf60052858ff) ∷ (22, 0xd36d5bded3531fec) ∷ [])
+    0x201235ea4 0xf8c63ea5b65ac6b783bcb32a06255c0f4c7d80aa2be05838857a17e8d34500f7 0) ∷
+    executed (0x94 ∷ 0x10 ∷ 0xf9 ∷ 0x2a ∷ []) 0x4022bc41a
+    (state ((4, 0xf39e9d71e6ee2940) ∷ (20, 0x39bad46250810416) ∷ [])
+    0x201239138 0xfb8558fdb8da99ea0262d5e691654a43c3c042240bb78510483658892f65857c 0)
+    (state ((4, 0xf39e9d71e6ee2940) ∷ (20, 0x39bad46250810416) ∷ [])
+    0x20123913c 0xfb8558fdb8da99ea0262d5e691654a43c3c042240bb78510483658892f65857c 0) ∷
+    executed (0xee ∷ 0x13 ∷ 0xff ∷ 0x2a ∷ []) 0x40230fd60
+    (state ((4, 0x32fc628b0647b5fe) ∷ (13, 0x511ee24f89272b2d) ∷ (20, 0x37894bf3760ebcf1) ∷
+    (31, 0x3209e444be04159b) ∷ [])
+    0x20123d6d4 0x82f96ff52d3449ba9635ff66cd2d4f6ce876d74e5ab35e78d3f6edce2f8918ca 0)
+    (state ((4, 0x32fc628b0647b5fe) ∷ (13, 0x511ee24f89272b2d) ∷ (20, 0x37894bf3760ebcf1) ∷
+    (31, 0x3209e444be04159b) ∷ [])
+    0x20123d6d8 0x82f96ff52d3449ba9635ff66cd2d4f6ce876d74e5ab35e78d3f6edce2f8918ca 0) ∷
+    executed (0x7a ∷ 0x6c ∷ 0xd1 ∷ 0x2a ∷ []) 0x2028faee3
+    (state ((3, 0x387dfa2ffa0df247) ∷ (6, 0x6bfc8ee4742995f7) ∷ (7, 0xf35cfa65e4cd7214) ∷ [])
+    0x201240820 0xf304f8544cd064e99cc7e79d1539304223681a7bfc2df49eece46519e46e6f40 0)
+    (state ((3, 0x387dfa2ffa0df247) ∷ (6, 0x6bfc8ee4742995f7) ∷ (7, 0xf35cfa65e4cd7214) ∷ [])
+    0x201240824 0xf304f8544cd064e99cc7e79d1539304223681a7bfc2df49eece46519e46e6f40 0) ∷
+    executed (0x80 ∷ 0x0b ∷ 0xe1 ∷ 0x2a ∷ []) 0x22ca5c9
+    (state ((8, 0xf54f92f36877974a) ∷ (19, 0x2fb67c90a7128924) ∷ (21, 0x28b51c64b7a9f24d) ∷
+    (28, 0x25fd29373ed78309) ∷ [])
+    0x40124575c 0x4aceb807f3906a13148775b5352ebf8f328158d4e0ec3534a4cd2ab0e2c7bcc5 0)
+    (state ((8, 0xf54f92f36877974a) ∷ (19, 0x2fb67c90a7128924) ∷ (21, 0x28b51c64b7a9f24d) ∷
+    (28, 0x25fd29373ed78309) ∷ [])
+    0x401245760 0x4aceb807f3906a13148775b5352ebf8f328158d4e0ec3534a4cd2ab0e2c7bcc5 0) ∷
+    executed (0x29 ∷ 0x30 ∷ 0xef ∷ 0x2a ∷ []) 0x202be7802
+    (state ((1, 0xf2f9b34509d23acb) ∷ (8, 0xedbbb28aed341bc8) ∷ (9, 0x1716cb1a9f41adf1) ∷
+    (26, 0xb60318876e97bd87) ∷ [])
+    0x201249814 0xb829059c8f6f0f62301b13daa2b494e7637589f37b31dd44fc78328bfc9a156a 0)
+    (state ((1, 0xf2f9b34509d23acb) ∷ (8, 0xedbbb28aed341bc8) ∷ (9, 0x1716cb1a9f41adf1) ∷
+    (26, 0xb60318876e97bd87) ∷ [])
+    0x201249818 0xb829059c8f6f0f62301b13daa2b494e7637589f37b31dd44fc78328bfc9a156a 0) ∷
+    executed (0x10 ∷ 0xb8 ∷ 0xd2 ∷ 0x2a ∷ []) 0x40201a9fe
+    (state ((24, 0xdded02b709e88378) ∷ (25, 0xcb509f1c551a2151) ∷ (28, 0xececfa6ac65dc96d) ∷ [])
+    0x20124e99c 0x69f81cc4321e02ccadb5d405cf0481cdf22a0f6579d9fe85d8283bb22ba71137 0)
+    (state ((24, 0xdded02b709e88378) ∷ (25, 0xcb509f1c551a2151) ∷ (28, 0xececfa6ac65dc96d) ∷ [])
+    0x20124e9a0 0x69f81cc4321e02ccadb5d405cf0481cdf22a0f6579d9fe85d8283bb22ba71137 0) ∷
+    executed (0x01 ∷ 0x26 ∷ 0xc2 ∷ 0x2a ∷ []) 0x2023bf36f
+    (state ((7, 0x170f849b35955224) ∷ (16, 0x5a27951014e16969) ∷ (20, 0xc162bf0f25b812c5) ∷
+    (23, 0x8ed79420ca4c5ad8) ∷ [])
+    0x1252c9c 0xd646c1a24b878865a518b565422950c24eae9592f4b5f3ebbafad9d2b00667ca 0)
+    (state ((7, 0x170f849b35955224) ∷ (16, 0x5a27951014e16969) ∷ (20, 0xc162bf0f25b812c5) ∷
+    (23, 0x8ed79420ca4c5ad8) ∷ [])
+    0x1252ca0 0xd646c1a24b878865a518b565422950c24eae9592f4b5f3ebbafad9d2b00667ca 0) ∷
+    executed (0x63 ∷ 0x04 ∷ 0xf4 ∷ 0x2a ∷ []) 0x202e065d1
+    (state ((3, 0x6aecf81136d8be5c) ∷ (8, 0xa6a8a64da67e8ae6) ∷ (28, 0xf0f41010bf5e0326) ∷ [])
+    0x1254a34 0x23cad89d52e8e4252e661685370fb162ed98ec861ff88e8ffa5858dccac821f1 0)
+    (state ((3, 0x6aecf81136d8be5c) ∷ (8, 0xa6a8a64da67e8ae6) ∷ (28, 0xf0f41010bf5e0326) ∷ [])
+    0x1254a38 0x23cad89d52e8e4252e661685370fb162ed98ec861ff88e8ffa5858dccac821f1 0) ∷
+    executed (0xa1 ∷ 0xe9 ∷ 0xfa ∷ 0x2a ∷ []) 0x402577815
+    (state ((5, 0xe8521d04b4825f01) ∷ (13, 0xe8111d4b45e28703) ∷ (22, 0x53dd364774e20bc5) ∷ [])
+    0x1259be0 0xcfa97393687d38e4cf4635dc90b4e10250f84b3d51e7455147387da91e3bee2e 0)
+    (state ((5, 0xe8521d04b4825f01) ∷ (13, 0xe8111d4b45e28703) ∷ (22, 0x53dd364774e20bc5) ∷ [])
+    0x1259be4 0xcfa97393687d38e4cf4635dc90b4e10250f84b3d51e7455147387da91e3bee2e 0) ∷
+    executed (0xfe ∷ 0x29 ∷ 0xc2 ∷ 0x2a ∷ []) 0x202705929
+    (state ((3, 0x389901995f6f044f) ∷ (10, 0xc1951431725cdb7b) ∷ (15, 0x192d5221b536a947) ∷
+    (22, 0x16205de96342ba7) ∷ [])
+    0x40125e32c 0x5fadf6ce3b1f5c722fb128fabbd6b2cbdf05fbc90506cb33213d0aa00bf385ce 0)
+    (state ((3, 0x389901995f6f044f) ∷ (10, 0xc1951431725cdb7b) ∷ (15, 0x192d5221b536a947) ∷
+    (22, 0x16205de96342ba7) ∷ [])
+    0x40125e330 0x5fadf6ce3b1f5c722fb128fabbd6b2cbdf05fbc90506cb33213d0aa00bf385ce 0) ∷
+    executed (0x0f ∷ 0xb9 ∷ 0xc3 ∷ 0x2a ∷ []) 0x2f22441
+    (state ((1, 0xe39c6161ccba8933) ∷ (8, 0xd8638061af35dff8) ∷ (14, 0x8954adfbd4a27e8f) ∷
+    (28, 0x35211ff248cacb5a) ∷ [])
+    0x4012626a8 0x858c8caf50abb30c309ac020eb4fd0a61d18f3a0c0e9a33fc23c413baadf9711 0)
+    (state ((1, 0xe39c6161ccba8933) ∷ (8, 0xd8638061af35dff8) ∷ (14, 0x8954adfbd4a27e8f) ∷
+    (28, 0x35211ff248cacb5a) ∷ [])
+    0x4012626ac 0x858c8caf50abb30c309ac020eb4fd0a61d18f3a0c0e9a33fc23c413baadf9711 0) ∷
+    executed (0x60 ∷ 0xb6 ∷ 0xda ∷ 0x2a ∷ []) 0x4028b2fd4
+    (state ((3, 0x20c11d2c2de43594) ∷ (16, 0x7737adda0ee6c0f8) ∷ (19, 0x49591568bf819bc1) ∷
+    (28, 0xc7a4320a238df39) ∷ [])
+    0x20126445c 0x2bdd59a27b8bd710268626cda3b7d91ceafd4dd2b9124c54395d9b647f56292f 0)
+    (state ((3, 0x20c11d2c2de43594) ∷ (16, 0x7737adda0ee6c0f8) ∷ (19, 0x49591568bf819bc1) ∷
+    (28, 0xc7a4320a238df39) ∷ [])
+    0x201264460 0x2bdd59a27b8bd710268626cda3b7d91ceafd4dd2b9124c54395d9b647f56292f 0) ∷
+    executed (0x0b ∷ 0x1e ∷ 0xdd ∷ 0x2a ∷ []) 0x2aea279
+    (state ((10, 0xdfb4dd8741366e9) ∷ (16, 0x1d029c9f5408e257) ∷ (27, 0x2f13fe1e1a9b1718) ∷
+    (31, 0xf00fcba88a00ec00) ∷ [])
+    0x20126ac20 0x1623cd1b86d9768a75c9d4ea16b34009a1cb31ec85d9dcb2b707853326296745 0)
+    (state ((10, 0xdfb4dd8741366e9) ∷ (16, 0x1d029c9f5408e257) ∷ (27, 0x2f13fe1e1a9b1718) ∷
+    (31, 0xf00fcba88a00ec00) ∷ [])
+    0x20126ac24 0x1623cd1b86d9768a75c9d4ea16b34009a1cb31ec85d9dcb2b707853326296745 0) ∷
+    executed (0x06 ∷ 0x88 ∷ 0xf4 ∷ 0x2a ∷ []) 0x2021f651a
+    (state ((17, 0x4020a0c528246f4b) ∷ (25, 0x740ccf2318742896) ∷ (26, 0x69467e0e031f7358) ∷ [])
+    0x40126efd8 0x83fde32da37c250e44ba38c7fa01b4b48e39d041a632b04069fd0db8d2b40b94 0)
+    (state ((17, 0x4020a0c528246f4b) ∷ (25, 0x740ccf2318742896) ∷ (26, 0x69467e0e031f7358) ∷ [])
+    0x40126efdc 0x83fde32da37c250e44ba38c7fa01b4b48e39d041a632b04069fd0db8d2b40b94 0) ∷
+    executed (0x69 ∷ 0xa0 ∷ 0xcc ∷ 0x2a ∷ []) 0x202a232e1
+    (state ((3, 0x6ec25442c19f2e96) ∷ (5, 0xd33bf41e21a3d472) ∷ (15, 0x638a1537bac1bdbf) ∷
+    (16, 0x1522380656cf1c60) ∷ [])
+    0x4012733a4 0xf0bd80ff3845d9b832f0dc0685b27c108b161027921146b70fb05b82f0212201 0)
+    (state ((3, 0x6ec25442c19f2e96) ∷ (5, 0xd33bf41e21a3d472) ∷ (15, 0x638a1537bac1bdbf) ∷
+    (16, 0x1522380656cf1c60) ∷ [])
+    0x4012733a8 0xf0bd80ff3845d9b832f0dc0685b27c108b161027921146b70fb05b82f0212201 0) ∷
+    executed (0x00 ∷ 0x9c ∷ 0xff ∷ 0x2a ∷ []) 0x202d38ba0
+    (state ((5, 0x9b09f0a53d5a290e) ∷ (7, 0x6fd13e2d67ffd41a) ∷ [])
+    0x12777f4 0x9a8f33235fc42626ebdb2ba1b99ae6da4e0277b5e066913c1947ed154bcb1c9c 0)
+    (state ((5, 0x9b09f0a53d5a290e) ∷ (7, 0x6fd13e2d67ffd41a) ∷ [])
+    0x12777f8 0x9a8f33235fc42626ebdb2ba1b99ae6da4e0277b5e066913c1947ed154bcb1c9c 0) ∷
+    executed (0x3c ∷ 0xac ∷ 0xf0 ∷ 0x2a ∷ []) 0x296ac6f
+    (state ((1, 0xaba5faa8ab62c850) ∷ (15, 0x8a92ea3f4375f26) ∷ (18, 0xda383edb0762a2a5) ∷
+    (21, 0xf9c51b004d6b2da4) ∷ [])
+    0x127ab90 0xb03bffcbd484a1c7d205eb164a92636d4c090dbc933ac7ac6153ec0467e2df32 0)
+    (state ((1, 0xaba5faa8ab62c850) ∷ (15, 0x8a92ea3f4375f26) ∷ (18, 0xda383edb0762a2a5) ∷
+    (21, 0xf9c51b004d6b2da4) ∷ [])
+    0x127ab94 0xb03bffcbd484a1c7d205eb164a92636d4c090dbc933ac7ac6153ec0467e2df32 0) ∷
+    executed (0xd9 ∷ 0xf4 ∷ 0xeb ∷ 0x2a ∷ []) 0x40244184f
+    (state ((6, 0xa083f9e4504ec043) ∷ (10, 0x5e8c5b7e9d03133) ∷ (13, 0x30750d6dd672c807) ∷
+    (18, 0x465f935f63805642) ∷ [])
+    0x40127e47c 0x8c7eb5624384c39e9d0cac5f0ed29fac3afb2fc2bc413c73db4ea6e8e023efbf 0)
+    (state ((6, 0xa083f9e4504ec043) ∷ (10, 0x5e8c5b7e9d03133) ∷ (13, 0x30750d6dd672c807) ∷
+    (18, 0x465f935f63805642) ∷ [])
+    0x40127e480 0x8c7eb5624384c39e9d0cac5f0ed29fac3afb2fc2bc413c73db4ea6e8e023efbf 0) ∷
+    []) ∷
     []
