@@ -371,7 +371,10 @@ enum linker_utils_loongarch64_rewrite {
     /* Makes `tp` the source register of the instruction that adds the low part of an offset. */
     LINKER_UTILS_LOONGARCH64_REWRITE_BASE_TO_TP = 10,
     /* Leaves the instruction as it is; the caller deletes it. */
-    LINKER_UTILS_LOONGARCH64_REWRITE_DELETE = 11
+    LINKER_UTILS_LOONGARCH64_REWRITE_DELETE = 11,
+    /* Leaves the `addi.d` of a pair, which adds to its own destination register, as it is; the
+     * caller deletes it. */
+    LINKER_UTILS_LOONGARCH64_REWRITE_DELETE_ADDI = 12
 };
 
 /* Those of a call stand for 8 bytes, the call and the `nop` after it. CALL_TO_ADDI, CALL_TO_ADD and
@@ -951,27 +954,30 @@ static inline uint32_t linker_utils_choose(uint16_t machine, uint32_t r_type,
  *       TPREL_LO12_I in -0x800..0x800
  *
  * LoongArch, with the prefixes R_LARCH_ and LINKER_UTILS_LOONGARCH64_REWRITE_:
- *   PCALA_HI20        PCALA_TO_PCADDI   PCREL20_S2      (1)
- *   PCALA_LO12        DELETE            NONE            (2)
- *   GOT_PC_HI20       PCALA_TO_PCADDI   PCREL20_S2      (3)
- *                     NO_OP             PCALA_HI20      (4)
- *   GOT_PC_LO12       DELETE            NONE            (5)
- *                     LD_TO_ADDI        PCALA_LO12      (6)
- *   TLS_IE_PC_HI20    REPLACE_WITH_NOP  NONE            (7)
- *                     PCALA_TO_LU12I    TLS_LE_HI20     (8)
- *   TLS_IE_PC_LO12    LOW_TO_ORI_ZERO   TLS_LE_LO12     (7)
- *                     LOW_TO_ORI        TLS_LE_LO12     (8)
- *   CALL36            CALL_TO_B         B26             (9)
- *                     CALL_TO_BL        B26             (9)
- *   TLS_DESC_PC_HI20  PCALA_TO_LU12I    TLS_LE_HI20     (8)
- *                     NO_OP             TLS_IE_PC_HI20  (10)
- *   TLS_DESC_PC_LO12  LOW_TO_ORI        TLS_LE_LO12     (8)
- *                     ADDI_TO_LD        TLS_IE_PC_LO12  (11)
- *   TLS_DESC_LD       REPLACE_WITH_NOP  NONE            (11)
- *   TLS_DESC_CALL     REPLACE_WITH_NOP  NONE            (11)
- *   TLS_LE_HI20_R     DELETE            NONE            (12)
- *   TLS_LE_ADD_R      DELETE            NONE            (12)
- *   TLS_LE_LO12_R     BASE_TO_TP        TLS_LE_LO12_R   (12)
+ *   PCALA_HI20        PCALA_TO_PCADDI   PCREL20_S2         (1)
+ *   PCALA_LO12        DELETE            NONE               (2)
+ *   GOT_PC_HI20       PCALA_TO_PCADDI   PCREL20_S2         (3)
+ *                     NO_OP             PCALA_HI20         (4)
+ *   GOT_PC_LO12       DELETE            NONE               (5)
+ *                     LD_TO_ADDI        PCALA_LO12         (6)
+ *                     DELETE_ADDI       NONE               (7)
+ *   TLS_IE_PC_HI20    REPLACE_WITH_NOP  NONE               (8)
+ *                     PCALA_TO_LU12I    TLS_LE_HI20        (9)
+ *   TLS_IE_PC_LO12    LOW_TO_ORI_ZERO   TLS_LE_LO12        (8)
+ *                     LOW_TO_ORI        TLS_LE_LO12        (9)
+ *   TLS_LD_PC_HI20    PCALA_TO_PCADDI   TLS_LD_PCREL20_S2  (10)
+ *   TLS_GD_PC_HI20    PCALA_TO_PCADDI   TLS_GD_PCREL20_S2  (11)
+ *   CALL36            CALL_TO_B         B26                (12)
+ *                     CALL_TO_BL        B26                (12)
+ *   TLS_DESC_PC_HI20  PCALA_TO_LU12I    TLS_LE_HI20        (9)
+ *                     NO_OP             TLS_IE_PC_HI20     (13)
+ *   TLS_DESC_PC_LO12  LOW_TO_ORI        TLS_LE_LO12        (9)
+ *                     ADDI_TO_LD        TLS_IE_PC_LO12     (14)
+ *   TLS_DESC_LD       REPLACE_WITH_NOP  NONE               (14)
+ *   TLS_DESC_CALL     REPLACE_WITH_NOP  NONE               (14)
+ *   TLS_LE_HI20_R     DELETE            NONE               (15)
+ *   TLS_LE_ADD_R      DELETE            NONE               (15)
+ *   TLS_LE_LO12_R     BASE_TO_TP        TLS_LE_LO12_R      (15)
  *   (1) has_fixed_distance, is_marked, PCREL20_S2 in reach
  *   (2) has_fixed_distance, is_marked, PCREL20_S2 at -4 in reach
  *   (3) is_local, not is_ifunc, has_fixed_distance, is_marked, addend 0, PCREL20_S2 in reach
@@ -980,13 +986,16 @@ static inline uint32_t linker_utils_choose(uint16_t machine, uint32_t r_type,
  *   (5) is_local, not is_ifunc, has_fixed_distance, is_marked, addend 0, PCREL20_S2 at -4 in reach
  *   (6) is_local, not is_ifunc, has_fixed_distance, addend 0, PCALA_HI20 at -4 in
  *       -0x80000000..0x80000000 if known
- *   (7) is_local, not is_ifunc, is_executable, group_fits, addend 0, TLS_LE_LO12 in 0x0..0x1000
- *   (8) is_local, not is_ifunc, is_executable, group_fits, addend 0, TLS_LE_HI20 in
+ *   (7) is_marked, group_fits, TLS_GD_PCREL20_S2 at -4 in reach
+ *   (8) is_local, not is_ifunc, is_executable, group_fits, addend 0, TLS_LE_LO12 in 0x0..0x1000
+ *   (9) is_local, not is_ifunc, is_executable, group_fits, addend 0, TLS_LE_HI20 in
  *       -0x80000000..0x80000000 if known
- *   (9) has_fixed_distance, is_marked, B26 in reach
- *   (10) is_executable, group_fits, TLS_IE_PC_HI20 in -0x80000000..0x80000000 if known
- *   (11) is_executable, group_fits
- *   (12) is_marked, TLS_LE_LO12_R in -0x800..0x800
+ *   (10) is_marked, group_fits, TLS_LD_PCREL20_S2 in reach
+ *   (11) is_marked, group_fits, TLS_GD_PCREL20_S2 in reach
+ *   (12) has_fixed_distance, is_marked, B26 in reach
+ *   (13) is_executable, group_fits, TLS_IE_PC_HI20 in -0x80000000..0x80000000 if known
+ *   (14) is_executable, group_fits
+ *   (15) is_marked, TLS_LE_LO12_R in -0x800..0x800
  *
  * PowerPC64, with the prefixes R_PPC64_ and LINKER_UTILS_PPC64_REWRITE_:
  *   REL24                        NOP_TO_RESTORE_TOC    REL24              (1)
@@ -1025,35 +1034,36 @@ static inline uint32_t linker_utils_choose(uint16_t machine, uint32_t r_type,
  *   (9) is_local, not is_ifunc, has_fixed_distance, PCREL34 in reach if known
  *
  * x86-64, with the prefixes R_X86_64_ and LINKER_UTILS_X86_64_REWRITE_:
- *   DTPOFF64      NO_OP                          TPOFF64   (1)
- *   TLSGD         TLS_GD_TO_LOCAL_EXEC           TPOFF32   (2)
- *                 TLS_GD_TO_LOCAL_EXEC_LARGE     TPOFF32   (2)
- *                 TLS_GD_TO_INITIAL_EXEC         GOTTPOFF  (3)
- *   TLSLD         TLS_LD_TO_LOCAL_EXEC           NONE      (4)
- *                 TLS_LD_TO_LOCAL_EXEC_NO_PLT    NONE      (4)
- *                 TLS_LD_TO_LOCAL_EXEC64         NONE      (4)
- *   DTPOFF32      NO_OP                          TPOFF32   (5)
+ *   GOTPCREL      MOV_INDIRECT_TO_LEA            PC32      (1)
+ *   DTPOFF64      NO_OP                          TPOFF64   (2)
+ *   TLSGD         TLS_GD_TO_LOCAL_EXEC           TPOFF32   (3)
+ *                 TLS_GD_TO_LOCAL_EXEC_LARGE     TPOFF32   (3)
+ *                 TLS_GD_TO_INITIAL_EXEC         GOTTPOFF  (4)
+ *   TLSLD         TLS_LD_TO_LOCAL_EXEC           NONE      (5)
+ *                 TLS_LD_TO_LOCAL_EXEC_NO_PLT    NONE      (5)
+ *                 TLS_LD_TO_LOCAL_EXEC64         NONE      (5)
+ *   DTPOFF32      NO_OP                          TPOFF32   (6)
  *   GOTTPOFF (n = 3), CODE_4_GOTTPOFF (n = 4), CODE_5_GOTTPOFF (n = 5), CODE_6_GOTTPOFF (n = 6)
- *                 REX_ADD_INDIRECT_TO_ABSOLUTE   TPOFF32   (6)
- *                 REX_MOV_INDIRECT_TO_ABSOLUTE   TPOFF32   (6)
+ *                 REX_ADD_INDIRECT_TO_ABSOLUTE   TPOFF32   (7)
+ *                 REX_MOV_INDIRECT_TO_ABSOLUTE   TPOFF32   (7)
  *   GOTPC32_TLSDESC (n = 3), CODE_4_GOTPC32_TLSDESC (n = 4), CODE_5_GOTPC32_TLSDESC (n = 5),
  *     CODE_6_GOTPC32_TLSDESC (n = 6)
- *                 TLS_DESC_TO_LOCAL_EXEC         TPOFF32   (2)
- *                 TLS_DESC_TO_INITIAL_EXEC       GOTTPOFF  (3)
- *   TLSDESC_CALL  SKIP_TLS_DESC_CALL             NONE      (4)
- *   GOTPCRELX     REX_ADD_INDIRECT_TO_ABSOLUTE   32        (7)
- *                 REX_OR_INDIRECT_TO_ABSOLUTE    32        (7)
- *                 REX_ADC_INDIRECT_TO_ABSOLUTE   32        (7)
- *                 REX_SBB_INDIRECT_TO_ABSOLUTE   32        (7)
- *                 REX_AND_INDIRECT_TO_ABSOLUTE   32        (7)
- *                 REX_SUB_INDIRECT_TO_ABSOLUTE   32        (7)
- *                 REX_XOR_INDIRECT_TO_ABSOLUTE   32        (7)
- *                 REX_CMP_INDIRECT_TO_ABSOLUTE   32        (7)
- *                 REX_TEST_INDIRECT_TO_ABSOLUTE  32        (7)
- *                 MOV_INDIRECT_TO_ABSOLUTE       32        (8)
- *                 MOV_INDIRECT_TO_LEA            PC32      (9)
- *                 CALL_INDIRECT_TO_RELATIVE      PC32      (9)
- *                 JMP_INDIRECT_TO_RELATIVE       PC32      (9)
+ *                 TLS_DESC_TO_LOCAL_EXEC         TPOFF32   (3)
+ *                 TLS_DESC_TO_INITIAL_EXEC       GOTTPOFF  (4)
+ *   TLSDESC_CALL  SKIP_TLS_DESC_CALL             NONE      (5)
+ *   GOTPCRELX     REX_ADD_INDIRECT_TO_ABSOLUTE   32        (8)
+ *                 REX_OR_INDIRECT_TO_ABSOLUTE    32        (8)
+ *                 REX_ADC_INDIRECT_TO_ABSOLUTE   32        (8)
+ *                 REX_SBB_INDIRECT_TO_ABSOLUTE   32        (8)
+ *                 REX_AND_INDIRECT_TO_ABSOLUTE   32        (8)
+ *                 REX_SUB_INDIRECT_TO_ABSOLUTE   32        (8)
+ *                 REX_XOR_INDIRECT_TO_ABSOLUTE   32        (8)
+ *                 REX_CMP_INDIRECT_TO_ABSOLUTE   32        (8)
+ *                 REX_TEST_INDIRECT_TO_ABSOLUTE  32        (8)
+ *                 MOV_INDIRECT_TO_ABSOLUTE       32        (9)
+ *                 MOV_INDIRECT_TO_LEA            PC32      (1)
+ *                 CALL_INDIRECT_TO_RELATIVE      PC32      (1)
+ *                 JMP_INDIRECT_TO_RELATIVE       PC32      (1)
  *   REX_GOTPCRELX (n = 3), CODE_4_GOTPCRELX (n = 4), CODE_5_GOTPCRELX (n = 5), CODE_6_GOTPCRELX
  *     (n = 6)
  *                 REX_ADD_INDIRECT_TO_ABSOLUTE   32S       (10)
@@ -1066,18 +1076,18 @@ static inline uint32_t linker_utils_choose(uint16_t machine, uint32_t r_type,
  *                 REX_CMP_INDIRECT_TO_ABSOLUTE   32S       (10)
  *                 REX_TEST_INDIRECT_TO_ABSOLUTE  32S       (10)
  *                 REX_MOV_INDIRECT_TO_ABSOLUTE   32S       (11)
- *                 MOV_INDIRECT_TO_LEA            PC32      (9)
- *   (1) is_executable, has_local_exec_base, TPOFF64 in reach if known
- *   (2) is_local, not is_ifunc, is_executable, group_fits, addend -4, TPOFF32 in reach if known
- *   (3) is_executable, group_fits, addend -4, GOTTPOFF in reach if known
- *   (4) is_executable, group_fits
- *   (5) is_executable, has_local_exec_base, TPOFF32 in reach if known
- *   (6) is_local, not is_ifunc, is_executable, addend -4, TPOFF32 in reach if known
- *   (7) has_fixed_address, addend -4, 32 in reach if known, and either is_local and not is_ifunc,
+ *                 MOV_INDIRECT_TO_LEA            PC32      (1)
+ *   (1) is_local, not is_ifunc, has_fixed_distance, addend -4, PC32 in reach if known
+ *   (2) is_executable, has_local_exec_base, TPOFF64 in reach if known
+ *   (3) is_local, not is_ifunc, is_executable, group_fits, addend -4, TPOFF32 in reach if known
+ *   (4) is_executable, group_fits, addend -4, GOTTPOFF in reach if known
+ *   (5) is_executable, group_fits
+ *   (6) is_executable, has_local_exec_base, TPOFF32 in reach if known
+ *   (7) is_local, not is_ifunc, is_executable, addend -4, TPOFF32 in reach if known
+ *   (8) has_fixed_address, addend -4, 32 in reach if known, and either is_local and not is_ifunc,
  *       or is_undefined_weak
- *   (8) has_fixed_address, addend -4, 32 in reach, and either is_local and not is_ifunc, or
+ *   (9) has_fixed_address, addend -4, 32 in reach, and either is_local and not is_ifunc, or
  *       is_undefined_weak
- *   (9) is_local, not is_ifunc, has_fixed_distance, addend -4, PC32 in reach if known
  *   (10) has_fixed_address, addend -4, 32S in reach if known, and either is_local and not is_ifunc,
  *       or is_undefined_weak
  *   (11) has_fixed_address, addend -4, 32S in reach, and either is_local and not is_ifunc, or

@@ -171,6 +171,7 @@ SEQUENCES = {
     258: [
         sequence("GotToAddress GotToPcaddi", "GOT_PC_HI20 GOT_PC_LO12"),
         sequence("AddressToPcaddi", "PCALA_HI20 PCALA_LO12"),
+        sequence("EntriesToPcaddi", "TLS_GD_PC_HI20|TLS_LD_PC_HI20 GOT_PC_LO12"),
         sequence("ShorterLocalExec", "TLS_LE_HI20_R TLS_LE_ADD_R TLS_LE_LO12_R",
                  is_local_exec_of_loongarch),
     ],
@@ -224,6 +225,7 @@ ALONE = {
 OF_X86 = {
     "LoadsOfAddresses AbsoluteAddresses Operations Branches": "GOTPCRELX",
     "LoadsOfAddresses AbsoluteAddresses Operations": "REX_GOTPCRELX CODE_4_GOTPCRELX",
+    "LoadsOfAddresses": "GOTPCREL",
     "Operations": "CODE_6_GOTPCRELX",
     "ThreadOffsets": "GOTTPOFF CODE_4_GOTTPOFF CODE_6_GOTTPOFF",
     "GeneralDynamic": "TLSGD",
@@ -255,12 +257,13 @@ def count(machine, relocations, groups, word, found):
     responses = {(offset & ~3 if machine == 21 else offset, name): response
                for offset, name, _, _, response in relocations}
     for members in map(sorted, groups):
-        verdict = "kind"
+        verdict, laws = "kind", None
         for one in SEQUENCES[machine]:
             if any(name in one.steps[0][1] for _, name in members):
-                verdict = one.verdict(members, word, responses)
-        of_place.update({member: verdict for member in members})
-    of_sequence = {name: one.laws for one in SEQUENCES[machine] for _, names in one.steps
+                verdict, laws = one.verdict(members, word, responses), one.laws
+        of_place.update({member: (verdict, laws) for member in members})
+    # of one that is in several, the first
+    of_sequence = {name: one.laws for one in reversed(SEQUENCES[machine]) for _, names in one.steps
                    for name in names}
     alone = {name: (laws, test) for laws, names, test in ALONE[machine] for name in names.split()}
     for offset, name, _, _, response in relocations:
@@ -268,10 +271,10 @@ def count(machine, relocations, groups, word, found):
             continue
         at = offset & ~3 if machine == 21 else offset
         if name in of_sequence:
-            verdict = of_place.get((at, name), "alone")
+            verdict, laws = of_place.get((at, name), ("alone", None))
             # PCREL_LO12_I is rewritten with a GOT_HI20 only, which is a condition of the choice
             if not (verdict == "kind" and name == "PCREL_LO12_I"):
-                found[of_sequence[name], name][verdict] += 1
+                found[laws or of_sequence[name], name][verdict] += 1
         if name in alone:
             laws, test = alone[name]
             holds = test is None or test([word(at)])

@@ -1,19 +1,22 @@
 -- LoongArch: the instructions of `linker_laws` compared with an emulator. Registers 32 to 63 are
--- those of floating-point numbers.
-use Rattle.std.specs.Prelude.{ℕ, ◌≡◌, ◌+◌, ◌-◌, ◌^◌, nat_lt, if◌then◌else◌, Bool, true, false}
-use Rattle.std.specs.Prelude.{Option, Some, None}
+-- those of vectors.
+use Rattle.std.specs.Prelude.{ℕ, ◌≡◌, ◌+◌, ◌-◌, ◌*◌, ◌/◌, ◌^◌, ◌==◌, nat_lt, if◌then◌else◌}
+use Rattle.std.specs.Prelude.{Bool, true, false, Option, Some, None}
 use Rattle.std.specs.List.{list_all}
 use Rattle.std.specs.Int.{w32, from_le_bytes}
 use Rattle.linker_laws.specs.LoongArchMachine.{State, Floats, step, read}
 use Rattle.emulated.specs.Steps.{Executed, Group, number_in, byte_in, is_left}
 use Rattle.emulated.specs.LoongArchSteps.{loongarch_groups}
 
--- The emulator's `fld.s` sets the bits above the number.
+-- The emulator's `fld.s` sets the bits from 32 to 63. Its loads leave the higher ones as they were.
 abbrev pub floats : Executed → Floats
 floats e =
     record {
       numbers = λ r. number_in e.before.registers (32 + r);
-      widened = λ old number. number + (2 ^ 64 - 2 ^ 32);
+      widened = λ bytes old number.
+          if bytes == 4
+          then number + (2 ^ 64 - 2 ^ 32) + old / 2 ^ 64 * 2 ^ 64
+          else number + old / 2 ^ (8 * bytes) * 2 ^ (8 * bytes);
     }
 
 abbrev pub begun : Executed → State

@@ -6894,4 +6894,1525 @@ loongarch_groups =
     (29, 0x402f2634f) ∷ (42, 0x20ae6832692d0d3e) ∷ [])
     0x4011dea44 0xa309d8d5d593118a9184177bad735f9120ae6832692d0d3e8b79f57652c4e6ad 0) ∷
     []) ∷
+    -- preld
+    group 0x0 (
+    executed (0xef ∷ 0x03 ∷ 0xc0 ∷ 0x2a ∷ []) 0x2eae9be
+    (state ((22, 0x1b03177d295827c4) ∷ (29, 0x77f5b2896ce1326d) ∷ [])
+    0x2011e3aa8 0xc85f64336e86a91b57c466e5b96c75aa0000000000000000fdc1ff3b827ac45d 0)
+    (state ((22, 0x1b03177d295827c4) ∷ (29, 0x77f5b2896ce1326d) ∷ [])
+    0x2011e3aac 0xc85f64336e86a91b57c466e5b96c75aa0000000000000000fdc1ff3b827ac45d 0) ∷
+    executed (0x60 ∷ 0xfd ∷ 0xff ∷ 0x2a ∷ []) 0x4028d8a89
+    (state ((9, 0xffffffff) ∷ (11, 0x8000000000000000) ∷ (19, 0x3fe76f617ed0126b) ∷
+    (21, 0x9e9b76d3f71fe265) ∷ [])
+    0x11e7418 0xa12f2cff14157e7e19b486af3804f83f8000000000000000262e01e3bada98f3 0)
+    (state ((9, 0xffffffff) ∷ (11, 0x8000000000000000) ∷ (19, 0x3fe76f617ed0126b) ∷
+    (21, 0x9e9b76d3f71fe265) ∷ [])
+    0x11e741c 0xa12f2cff14157e7e19b486af3804f83f8000000000000000262e01e3bada98f3 0) ∷
+    executed (0xd3 ∷ 0x07 ∷ 0xc0 ∷ 0x2a ∷ []) 0x402d3bc52
+    (state ((8, 0x9dfb8fb559d762b0) ∷ (23, 0x7fffffffffffffff) ∷ (27, 0xcfd5b11930a4f5d9) ∷
+    (30, 0x7fffffff) ∷ [])
+    0x4011eaa30 0x82b97b0885b18fcae576b875dfc95a94000000007fffffffd93b6c0fe2bc4c50 0)
+    (state ((8, 0x9dfb8fb559d762b0) ∷ (23, 0x7fffffffffffffff) ∷ (27, 0xcfd5b11930a4f5d9) ∷
+    (30, 0x7fffffff) ∷ [])
+    0x4011eaa34 0x82b97b0885b18fcae576b875dfc95a94000000007fffffffd93b6c0fe2bc4c50 0) ∷
+    executed (0x0f ∷ 0x00 ∷ 0xe0 ∷ 0x2a ∷ []) 0x202413494
+    (state ((4, 0xda20d3e205a7a835) ∷ (5, 0x1) ∷ (12, 0xacc3fac078ae35f9) ∷ [])
+    0x11ed4bc 0xfa40f571a604d0bb55571ac3f2205dfffffffff80000000c5f89cf0b714e712 0)
+    (state ((4, 0xda20d3e205a7a835) ∷ (5, 0x1) ∷ (12, 0xacc3fac078ae35f9) ∷ [])
+    0x11ed4c0 0xfa40f571a604d0bb55571ac3f2205dfffffffff80000000c5f89cf0b714e712 0) ∷
+    executed (0x7c ∷ 0xfe ∷ 0xdf ∷ 0x2a ∷ []) 0x2da903f
+    (state ((10, 0xffffffff7fffffff) ∷ (19, 0xffffffffffffffff) ∷ (30, 0xd5b2beee9598dbd4) ∷ [])
+    0x4011f3300 0xb1a5ff3f755a173de5c90be9f984c341000000000000800015fe4a5644fb0c3e 0)
+    (state ((10, 0xffffffff7fffffff) ∷ (19, 0xffffffffffffffff) ∷ (30, 0xd5b2beee9598dbd4) ∷ [])
+    0x4011f3304 0xb1a5ff3f755a173de5c90be9f984c341000000000000800015fe4a5644fb0c3e 0) ∷
+    executed (0xce ∷ 0xfd ∷ 0xff ∷ 0x2a ∷ []) 0x202ba8234
+    (state ((11, 0x281e4a6156aea7ef) ∷ (14, 0x80000000) ∷ (18, 0x8ad22a0c5237fad2) ∷ [])
+    0x4011f65dc 0xc46dbd049f21a3787ce18c09e2a42dad000000000000000119216e93ee1a5f27 0)
+    (state ((11, 0x281e4a6156aea7ef) ∷ (14, 0x80000000) ∷ (18, 0x8ad22a0c5237fad2) ∷ [])
+    0x4011f65e0 0xc46dbd049f21a3787ce18c09e2a42dad000000000000000119216e93ee1a5f27 0) ∷
+    executed (0x75 ∷ 0x07 ∷ 0xc0 ∷ 0x2a ∷ []) 0x2019135
+    (state ((14, 0x60539f8b798b02af) ∷ (22, 0xffffffffffffffff) ∷ (23, 0x41420bf0c1482d27) ∷
+    (27, 0xffffffff7fffffff) ∷ [])
+    0x11f99b0 0x89d147f36dac14e12bf5e273b48bb5387fffffffffffffff9eebcd2510a48bb9 0)
+    (state ((14, 0x60539f8b798b02af) ∷ (22, 0xffffffffffffffff) ∷ (23, 0x41420bf0c1482d27) ∷
+    (27, 0xffffffff7fffffff) ∷ [])
+    0x11f99b4 0x89d147f36dac14e12bf5e273b48bb5387fffffffffffffff9eebcd2510a48bb9 0) ∷
+    executed (0x16 ∷ 0x03 ∷ 0xe0 ∷ 0x2a ∷ []) 0x402b7a7aa
+    (state ((11, 0x1eb3e0c6fc868f1c) ∷ (20, 0xffffffff80000000) ∷ (24, 0x1) ∷
+    (25, 0x6ff48caf017b6ac1) ∷ [])
+    0x2011ff248 0x6b6896b56ddce7f7183d968d9b726d6000000000ffffffffe862c840f2c8f2ef 0)
+    (state ((11, 0x1eb3e0c6fc868f1c) ∷ (20, 0xffffffff80000000) ∷ (24, 0x1) ∷
+    (25, 0x6ff48caf017b6ac1) ∷ [])
+    0x2011ff24c 0x6b6896b56ddce7f7183d968d9b726d6000000000ffffffffe862c840f2c8f2ef 0) ∷
+    executed (0x4c ∷ 0xff ∷ 0xdf ∷ 0x2a ∷ []) 0x2c91b09
+    (state ((1, 0x62488032c331d884) ∷ (10, 0x422d949f4756b777) ∷ (11, 0x7fffffff) ∷
+    (26, 0x7fffffffffffffff) ∷ [])
+    0x401203b6c 0x6befc888319b9198962b61b07f8438330000000000000080dcf35d7ed4b99dbd 0)
+    (state ((1, 0x62488032c331d884) ∷ (10, 0x422d949f4756b777) ∷ (11, 0x7fffffff) ∷
+    (26, 0x7fffffffffffffff) ∷ [])
+    0x401203b70 0x6befc888319b9198962b61b07f8438330000000000000080dcf35d7ed4b99dbd 0) ∷
+    executed (0x20 ∷ 0x02 ∷ 0xc0 ∷ 0x2a ∷ []) 0x402bce9ef
+    (state ((14, 0x8000000000000000) ∷ (17, 0xffffffff) ∷ (25, 0xfe4d6e75630e2039) ∷
+    (26, 0x7ad1fd37f5b13f88) ∷ [])
+    0x201204c20 0x8dee454ae7253825b3a06029f4cf0c970000000000007fffa6468ad479635591 0)
+    (state ((14, 0x8000000000000000) ∷ (17, 0xffffffff) ∷ (25, 0xfe4d6e75630e2039) ∷
+    (26, 0x7ad1fd37f5b13f88) ∷ [])
+    0x201204c24 0x8dee454ae7253825b3a06029f4cf0c970000000000007fffa6468ad479635591 0) ∷
+    executed (0xc0 ∷ 0x04 ∷ 0xc0 ∷ 0x2a ∷ []) 0x2024a9737
+    (state ((5, 0x1) ∷ (6, 0x1) ∷ (20, 0x2cf280f907d1fe69) ∷ (28, 0x6aefb5e2c62ac8a6) ∷ [])
+    0x120a60c 0x96cd1e73d1aec3722b58c486259ed2fbffffffffffffffff1bdcc7ec757f59ba 0)
+    (state ((5, 0x1) ∷ (6, 0x1) ∷ (20, 0x2cf280f907d1fe69) ∷ (28, 0x6aefb5e2c62ac8a6) ∷ [])
+    0x120a610 0x96cd1e73d1aec3722b58c486259ed2fbffffffffffffffff1bdcc7ec757f59ba 0) ∷
+    executed (0x1e ∷ 0x00 ∷ 0xe0 ∷ 0x2a ∷ []) 0x202b9cade
+    (state ((6, 0x4a00e4f66fd3eb44) ∷ (7, 0xffffffff7fffffff) ∷ (17, 0xc26a0ca1c881beb1) ∷ [])
+    0x40120f82c 0xbcf34f6326e4940304ffe150b271be8a000000008000000022b5051552b1f357 0)
+    (state ((6, 0x4a00e4f66fd3eb44) ∷ (7, 0xffffffff7fffffff) ∷ (17, 0xc26a0ca1c881beb1) ∷ [])
+    0x40120f830 0xbcf34f6326e4940304ffe150b271be8a000000008000000022b5051552b1f357 0) ∷
+    executed (0x5b ∷ 0xff ∷ 0xdf ∷ 0x2a ∷ []) 0x40236fbb7
+    (state ((26, 0xffffffff) ∷ (28, 0xa01cfb5444495b38) ∷ (31, 0x9f0de5172384f507) ∷ [])
+    0x201212d78 0x7ddb6f24cbbccd767bef2e10689f727bffffffff7fffffffed641f6e137be584 0)
+    (state ((26, 0xffffffff) ∷ (28, 0xa01cfb5444495b38) ∷ (31, 0x9f0de5172384f507) ∷ [])
+    0x201212d7c 0x7ddb6f24cbbccd767bef2e10689f727bffffffff7fffffffed641f6e137be584 0) ∷
+    executed (0x18 ∷ 0x03 ∷ 0xc0 ∷ 0x2a ∷ []) 0x26084f0
+    (state ((26, 0x833f2aa3d21ba011) ∷ [])
+    0x1217590 0x21a1ecd4e0003abb160c0606754cae6000000000000007fdc1bfa67bc37f582 0)
+    (state ((26, 0x833f2aa3d21ba011) ∷ [])
+    0x1217594 0x21a1ecd4e0003abb160c0606754cae6000000000000007fdc1bfa67bc37f582 0) ∷
+    executed (0x70 ∷ 0xfc ∷ 0xff ∷ 0x2a ∷ []) 0x2bcad90
+    (state ((1, 0xe3e871dfb1ee0563) ∷ (3, 0x8000000000000000) ∷ (5, 0x10665959397367bc) ∷
+    (26, 0xffffffff80000000) ∷ [])
+    0x201219298 0x93cb632cceaa5d2ceb277ff153adc78d000000000000000141e9ecb96211468a 0)
+    (state ((1, 0xe3e871dfb1ee0563) ∷ (3, 0x8000000000000000) ∷ (5, 0x10665959397367bc) ∷
+    (26, 0xffffffff80000000) ∷ [])
+    0x20121929c 0x93cb632cceaa5d2ceb277ff153adc78d000000000000000141e9ecb96211468a 0) ∷
+    executed (0x56 ∷ 0x01 ∷ 0xe0 ∷ 0x2a ∷ []) 0x20235e243
+    (state ((10, 0x7fffffff) ∷ (19, 0xa1044929f4b57861) ∷ (23, 0x7fffffff) ∷
+    (31, 0x6b793e4bc6f5560a) ∷ [])
+    0x20121c87c 0xbe0a533ff1e523db1c1c05af6d569dff7fffffffffffffff111ee01ee08f1ae3 0)
+    (state ((10, 0x7fffffff) ∷ (19, 0xa1044929f4b57861) ∷ (23, 0x7fffffff) ∷
+    (31, 0x6b793e4bc6f5560a) ∷ [])
+    0x20121c880 0xbe0a533ff1e523db1c1c05af6d569dff7fffffffffffffff111ee01ee08f1ae3 0) ∷
+    executed (0xea ∷ 0xfc ∷ 0xdf ∷ 0x2a ∷ []) 0x402c55cf6
+    (state ((4, 0x8000000000000000) ∷ (7, 0xffffffff80000000) ∷ (14, 0xa0e9f2fe6b4c207c) ∷
+    (30, 0x63b7d9d805bb3ec8) ∷ [])
+    0x2012217f4 0xf27ab424d958e0965a81c52283b960e700000000ffffffff35f63df3e2b54318 0)
+    (state ((4, 0x8000000000000000) ∷ (7, 0xffffffff80000000) ∷ (14, 0xa0e9f2fe6b4c207c) ∷
+    (30, 0x63b7d9d805bb3ec8) ∷ [])
+    0x2012217f8 0xf27ab424d958e0965a81c52283b960e700000000ffffffff35f63df3e2b54318 0) ∷
+    executed (0xe0 ∷ 0x02 ∷ 0xc0 ∷ 0x2a ∷ []) 0x202f929cc
+    (state ((14, 0xef0a8cff136846d5) ∷ (19, 0xb49d5a824c066de0) ∷ (23, 0xffffffffffffffff) ∷ [])
+    0x12256b0 0xdca205c09fc5214cb8846e95561e59290000000000000080ca7927dd888acff5 0)
+    (state ((14, 0xef0a8cff136846d5) ∷ (19, 0xb49d5a824c066de0) ∷ (23, 0xffffffffffffffff) ∷ [])
+    0x12256b4 0xdca205c09fc5214cb8846e95561e59290000000000000080ca7927dd888acff5 0) ∷
+    executed (0x9b ∷ 0xff ∷ 0xff ∷ 0x2a ∷ []) 0x202e2d700
+    (state ((4, 0xfea254ebd150c4fb) ∷ (13, 0xffffffff) ∷ (28, 0x80000000) ∷ [])
+    0x20122a6d0 0x979723343dd73780c0fa34c9ebfa41370000000000007fff8fefffce7e4ff447 0)
+    (state ((4, 0xfea254ebd150c4fb) ∷ (13, 0xffffffff) ∷ (28, 0x80000000) ∷ [])
+    0x20122a6d4 0x979723343dd73780c0fa34c9ebfa41370000000000007fff8fefffce7e4ff447 0) ∷
+    executed (0x1e ∷ 0x04 ∷ 0xc0 ∷ 0x2a ∷ []) 0x202549900
+    (state ((4, 0x7fffffffffffffff) ∷ (15, 0xca83f28afe751f56) ∷ (26, 0xb08e1dc8d7c644d2) ∷ [])
+    0x20122db98 0xdbff9ad875b5049655ccaab7075a1666ffffffffffffffffa9f9bffd94892bcd 0)
+    (state ((4, 0x7fffffffffffffff) ∷ (15, 0xca83f28afe751f56) ∷ (26, 0xb08e1dc8d7c644d2) ∷ [])
+    0x20122db9c 0xdbff9ad875b5049655ccaab7075a1666ffffffffffffffffa9f9bffd94892bcd 0) ∷
+    executed (0xd4 ∷ 0x0a ∷ 0xd2 ∷ 0x2a ∷ []) 0x2020cf482
+    (state ((22, 0x40b5633c5f059ae4) ∷ (23, 0x239b46211d604bc2) ∷ (31, 0xfc4dc9363b0c31d0) ∷ [])
+    0x201230fd0 0x28fa4af20e7fdb5f5388925a36c8463c6727bb4ed591d8dce4b4241ed4ab4040 0)
+    (state ((22, 0x40b5633c5f059ae4) ∷ (23, 0x239b46211d604bc2) ∷ (31, 0xfc4dc9363b0c31d0) ∷ [])
+    0x201230fd4 0x28fa4af20e7fdb5f5388925a36c8463c6727bb4ed591d8dce4b4241ed4ab4040 0) ∷
+    executed (0xad ∷ 0xb1 ∷ 0xc8 ∷ 0x2a ∷ []) 0x202a89afe
+    (state ((13, 0xee34597246b45783) ∷ (19, 0xd7fcbf60052858ff) ∷ (22, 0xd36d5bded3531fec) ∷ [])
+    0x201235ea0 0xf8c63ea5b65ac6b783bcb32a06255c0f4c7d80aa2be05838857a17e8d34500f7 0)
+    (state ((13, 0xee34597246b45783) ∷ (19, 0xd7fcbf60052858ff) ∷ (22, 0xd36d5bded3531fec) ∷ [])
+    0x201235ea4 0xf8c63ea5b65ac6b783bcb32a06255c0f4c7d80aa2be05838857a17e8d34500f7 0) ∷
+    executed (0x94 ∷ 0x10 ∷ 0xf9 ∷ 0x2a ∷ []) 0x4022bc41a
+    (state ((4, 0xf39e9d71e6ee2940) ∷ (20, 0x39bad46250810416) ∷ [])
+    0x201239138 0xfb8558fdb8da99ea0262d5e691654a43c3c042240bb78510483658892f65857c 0)
+    (state ((4, 0xf39e9d71e6ee2940) ∷ (20, 0x39bad46250810416) ∷ [])
+    0x20123913c 0xfb8558fdb8da99ea0262d5e691654a43c3c042240bb78510483658892f65857c 0) ∷
+    executed (0xee ∷ 0x13 ∷ 0xff ∷ 0x2a ∷ []) 0x40230fd60
+    (state ((4, 0x32fc628b0647b5fe) ∷ (13, 0x511ee24f89272b2d) ∷ (20, 0x37894bf3760ebcf1) ∷
+    (31, 0x3209e444be04159b) ∷ [])
+    0x20123d6d4 0x82f96ff52d3449ba9635ff66cd2d4f6ce876d74e5ab35e78d3f6edce2f8918ca 0)
+    (state ((4, 0x32fc628b0647b5fe) ∷ (13, 0x511ee24f89272b2d) ∷ (20, 0x37894bf3760ebcf1) ∷
+    (31, 0x3209e444be04159b) ∷ [])
+    0x20123d6d8 0x82f96ff52d3449ba9635ff66cd2d4f6ce876d74e5ab35e78d3f6edce2f8918ca 0) ∷
+    executed (0x7a ∷ 0x6c ∷ 0xd1 ∷ 0x2a ∷ []) 0x2028faee3
+    (state ((3, 0x387dfa2ffa0df247) ∷ (6, 0x6bfc8ee4742995f7) ∷ (7, 0xf35cfa65e4cd7214) ∷ [])
+    0x201240820 0xf304f8544cd064e99cc7e79d1539304223681a7bfc2df49eece46519e46e6f40 0)
+    (state ((3, 0x387dfa2ffa0df247) ∷ (6, 0x6bfc8ee4742995f7) ∷ (7, 0xf35cfa65e4cd7214) ∷ [])
+    0x201240824 0xf304f8544cd064e99cc7e79d1539304223681a7bfc2df49eece46519e46e6f40 0) ∷
+    executed (0x80 ∷ 0x0b ∷ 0xe1 ∷ 0x2a ∷ []) 0x22ca5c9
+    (state ((8, 0xf54f92f36877974a) ∷ (19, 0x2fb67c90a7128924) ∷ (21, 0x28b51c64b7a9f24d) ∷
+    (28, 0x25fd29373ed78309) ∷ [])
+    0x40124575c 0x4aceb807f3906a13148775b5352ebf8f328158d4e0ec3534a4cd2ab0e2c7bcc5 0)
+    (state ((8, 0xf54f92f36877974a) ∷ (19, 0x2fb67c90a7128924) ∷ (21, 0x28b51c64b7a9f24d) ∷
+    (28, 0x25fd29373ed78309) ∷ [])
+    0x401245760 0x4aceb807f3906a13148775b5352ebf8f328158d4e0ec3534a4cd2ab0e2c7bcc5 0) ∷
+    executed (0x29 ∷ 0x30 ∷ 0xef ∷ 0x2a ∷ []) 0x202be7802
+    (state ((1, 0xf2f9b34509d23acb) ∷ (8, 0xedbbb28aed341bc8) ∷ (9, 0x1716cb1a9f41adf1) ∷
+    (26, 0xb60318876e97bd87) ∷ [])
+    0x201249814 0xb829059c8f6f0f62301b13daa2b494e7637589f37b31dd44fc78328bfc9a156a 0)
+    (state ((1, 0xf2f9b34509d23acb) ∷ (8, 0xedbbb28aed341bc8) ∷ (9, 0x1716cb1a9f41adf1) ∷
+    (26, 0xb60318876e97bd87) ∷ [])
+    0x201249818 0xb829059c8f6f0f62301b13daa2b494e7637589f37b31dd44fc78328bfc9a156a 0) ∷
+    executed (0x10 ∷ 0xb8 ∷ 0xd2 ∷ 0x2a ∷ []) 0x40201a9fe
+    (state ((24, 0xdded02b709e88378) ∷ (25, 0xcb509f1c551a2151) ∷ (28, 0xececfa6ac65dc96d) ∷ [])
+    0x20124e99c 0x69f81cc4321e02ccadb5d405cf0481cdf22a0f6579d9fe85d8283bb22ba71137 0)
+    (state ((24, 0xdded02b709e88378) ∷ (25, 0xcb509f1c551a2151) ∷ (28, 0xececfa6ac65dc96d) ∷ [])
+    0x20124e9a0 0x69f81cc4321e02ccadb5d405cf0481cdf22a0f6579d9fe85d8283bb22ba71137 0) ∷
+    executed (0x01 ∷ 0x26 ∷ 0xc2 ∷ 0x2a ∷ []) 0x2023bf36f
+    (state ((7, 0x170f849b35955224) ∷ (16, 0x5a27951014e16969) ∷ (20, 0xc162bf0f25b812c5) ∷
+    (23, 0x8ed79420ca4c5ad8) ∷ [])
+    0x1252c9c 0xd646c1a24b878865a518b565422950c24eae9592f4b5f3ebbafad9d2b00667ca 0)
+    (state ((7, 0x170f849b35955224) ∷ (16, 0x5a27951014e16969) ∷ (20, 0xc162bf0f25b812c5) ∷
+    (23, 0x8ed79420ca4c5ad8) ∷ [])
+    0x1252ca0 0xd646c1a24b878865a518b565422950c24eae9592f4b5f3ebbafad9d2b00667ca 0) ∷
+    executed (0x63 ∷ 0x04 ∷ 0xf4 ∷ 0x2a ∷ []) 0x202e065d1
+    (state ((3, 0x6aecf81136d8be5c) ∷ (8, 0xa6a8a64da67e8ae6) ∷ (28, 0xf0f41010bf5e0326) ∷ [])
+    0x1254a34 0x23cad89d52e8e4252e661685370fb162ed98ec861ff88e8ffa5858dccac821f1 0)
+    (state ((3, 0x6aecf81136d8be5c) ∷ (8, 0xa6a8a64da67e8ae6) ∷ (28, 0xf0f41010bf5e0326) ∷ [])
+    0x1254a38 0x23cad89d52e8e4252e661685370fb162ed98ec861ff88e8ffa5858dccac821f1 0) ∷
+    executed (0xa1 ∷ 0xe9 ∷ 0xfa ∷ 0x2a ∷ []) 0x402577815
+    (state ((5, 0xe8521d04b4825f01) ∷ (13, 0xe8111d4b45e28703) ∷ (22, 0x53dd364774e20bc5) ∷ [])
+    0x1259be0 0xcfa97393687d38e4cf4635dc90b4e10250f84b3d51e7455147387da91e3bee2e 0)
+    (state ((5, 0xe8521d04b4825f01) ∷ (13, 0xe8111d4b45e28703) ∷ (22, 0x53dd364774e20bc5) ∷ [])
+    0x1259be4 0xcfa97393687d38e4cf4635dc90b4e10250f84b3d51e7455147387da91e3bee2e 0) ∷
+    executed (0xfe ∷ 0x29 ∷ 0xc2 ∷ 0x2a ∷ []) 0x202705929
+    (state ((3, 0x389901995f6f044f) ∷ (10, 0xc1951431725cdb7b) ∷ (15, 0x192d5221b536a947) ∷
+    (22, 0x16205de96342ba7) ∷ [])
+    0x40125e32c 0x5fadf6ce3b1f5c722fb128fabbd6b2cbdf05fbc90506cb33213d0aa00bf385ce 0)
+    (state ((3, 0x389901995f6f044f) ∷ (10, 0xc1951431725cdb7b) ∷ (15, 0x192d5221b536a947) ∷
+    (22, 0x16205de96342ba7) ∷ [])
+    0x40125e330 0x5fadf6ce3b1f5c722fb128fabbd6b2cbdf05fbc90506cb33213d0aa00bf385ce 0) ∷
+    executed (0x0f ∷ 0xb9 ∷ 0xc3 ∷ 0x2a ∷ []) 0x2f22441
+    (state ((1, 0xe39c6161ccba8933) ∷ (8, 0xd8638061af35dff8) ∷ (14, 0x8954adfbd4a27e8f) ∷
+    (28, 0x35211ff248cacb5a) ∷ [])
+    0x4012626a8 0x858c8caf50abb30c309ac020eb4fd0a61d18f3a0c0e9a33fc23c413baadf9711 0)
+    (state ((1, 0xe39c6161ccba8933) ∷ (8, 0xd8638061af35dff8) ∷ (14, 0x8954adfbd4a27e8f) ∷
+    (28, 0x35211ff248cacb5a) ∷ [])
+    0x4012626ac 0x858c8caf50abb30c309ac020eb4fd0a61d18f3a0c0e9a33fc23c413baadf9711 0) ∷
+    executed (0x60 ∷ 0xb6 ∷ 0xda ∷ 0x2a ∷ []) 0x4028b2fd4
+    (state ((3, 0x20c11d2c2de43594) ∷ (16, 0x7737adda0ee6c0f8) ∷ (19, 0x49591568bf819bc1) ∷
+    (28, 0xc7a4320a238df39) ∷ [])
+    0x20126445c 0x2bdd59a27b8bd710268626cda3b7d91ceafd4dd2b9124c54395d9b647f56292f 0)
+    (state ((3, 0x20c11d2c2de43594) ∷ (16, 0x7737adda0ee6c0f8) ∷ (19, 0x49591568bf819bc1) ∷
+    (28, 0xc7a4320a238df39) ∷ [])
+    0x201264460 0x2bdd59a27b8bd710268626cda3b7d91ceafd4dd2b9124c54395d9b647f56292f 0) ∷
+    executed (0x0b ∷ 0x1e ∷ 0xdd ∷ 0x2a ∷ []) 0x2aea279
+    (state ((10, 0xdfb4dd8741366e9) ∷ (16, 0x1d029c9f5408e257) ∷ (27, 0x2f13fe1e1a9b1718) ∷
+    (31, 0xf00fcba88a00ec00) ∷ [])
+    0x20126ac20 0x1623cd1b86d9768a75c9d4ea16b34009a1cb31ec85d9dcb2b707853326296745 0)
+    (state ((10, 0xdfb4dd8741366e9) ∷ (16, 0x1d029c9f5408e257) ∷ (27, 0x2f13fe1e1a9b1718) ∷
+    (31, 0xf00fcba88a00ec00) ∷ [])
+    0x20126ac24 0x1623cd1b86d9768a75c9d4ea16b34009a1cb31ec85d9dcb2b707853326296745 0) ∷
+    executed (0x06 ∷ 0x88 ∷ 0xf4 ∷ 0x2a ∷ []) 0x2021f651a
+    (state ((17, 0x4020a0c528246f4b) ∷ (25, 0x740ccf2318742896) ∷ (26, 0x69467e0e031f7358) ∷ [])
+    0x40126efd8 0x83fde32da37c250e44ba38c7fa01b4b48e39d041a632b04069fd0db8d2b40b94 0)
+    (state ((17, 0x4020a0c528246f4b) ∷ (25, 0x740ccf2318742896) ∷ (26, 0x69467e0e031f7358) ∷ [])
+    0x40126efdc 0x83fde32da37c250e44ba38c7fa01b4b48e39d041a632b04069fd0db8d2b40b94 0) ∷
+    executed (0x69 ∷ 0xa0 ∷ 0xcc ∷ 0x2a ∷ []) 0x202a232e1
+    (state ((3, 0x6ec25442c19f2e96) ∷ (5, 0xd33bf41e21a3d472) ∷ (15, 0x638a1537bac1bdbf) ∷
+    (16, 0x1522380656cf1c60) ∷ [])
+    0x4012733a4 0xf0bd80ff3845d9b832f0dc0685b27c108b161027921146b70fb05b82f0212201 0)
+    (state ((3, 0x6ec25442c19f2e96) ∷ (5, 0xd33bf41e21a3d472) ∷ (15, 0x638a1537bac1bdbf) ∷
+    (16, 0x1522380656cf1c60) ∷ [])
+    0x4012733a8 0xf0bd80ff3845d9b832f0dc0685b27c108b161027921146b70fb05b82f0212201 0) ∷
+    executed (0x00 ∷ 0x9c ∷ 0xff ∷ 0x2a ∷ []) 0x202d38ba0
+    (state ((5, 0x9b09f0a53d5a290e) ∷ (7, 0x6fd13e2d67ffd41a) ∷ [])
+    0x12777f4 0x9a8f33235fc42626ebdb2ba1b99ae6da4e0277b5e066913c1947ed154bcb1c9c 0)
+    (state ((5, 0x9b09f0a53d5a290e) ∷ (7, 0x6fd13e2d67ffd41a) ∷ [])
+    0x12777f8 0x9a8f33235fc42626ebdb2ba1b99ae6da4e0277b5e066913c1947ed154bcb1c9c 0) ∷
+    executed (0x3c ∷ 0xac ∷ 0xf0 ∷ 0x2a ∷ []) 0x296ac6f
+    (state ((1, 0xaba5faa8ab62c850) ∷ (15, 0x8a92ea3f4375f26) ∷ (18, 0xda383edb0762a2a5) ∷
+    (21, 0xf9c51b004d6b2da4) ∷ [])
+    0x127ab90 0xb03bffcbd484a1c7d205eb164a92636d4c090dbc933ac7ac6153ec0467e2df32 0)
+    (state ((1, 0xaba5faa8ab62c850) ∷ (15, 0x8a92ea3f4375f26) ∷ (18, 0xda383edb0762a2a5) ∷
+    (21, 0xf9c51b004d6b2da4) ∷ [])
+    0x127ab94 0xb03bffcbd484a1c7d205eb164a92636d4c090dbc933ac7ac6153ec0467e2df32 0) ∷
+    executed (0xd9 ∷ 0xf4 ∷ 0xeb ∷ 0x2a ∷ []) 0x40244184f
+    (state ((6, 0xa083f9e4504ec043) ∷ (10, 0x5e8c5b7e9d03133) ∷ (13, 0x30750d6dd672c807) ∷
+    (18, 0x465f935f63805642) ∷ [])
+    0x40127e47c 0x8c7eb5624384c39e9d0cac5f0ed29fac3afb2fc2bc413c73db4ea6e8e023efbf 0)
+    (state ((6, 0xa083f9e4504ec043) ∷ (10, 0x5e8c5b7e9d03133) ∷ (13, 0x30750d6dd672c807) ∷
+    (18, 0x465f935f63805642) ∷ [])
+    0x40127e480 0x8c7eb5624384c39e9d0cac5f0ed29fac3afb2fc2bc413c73db4ea6e8e023efbf 0) ∷
+    []) ∷
+    -- vld
+    group 0x0 (
+    executed (0xc4 ∷ 0x00 ∷ 0x00 ∷ 0x2c ∷ []) 0x202cf194e
+    (state ((6, 0x202cf1956) ∷
+    (36, 0x44261e4d38b62dd9dbe467ef251db4a5c8db313644e7162094d1a9dfc3f30638) ∷ [])
+    0x1281768 0xf0c4fd51bae0c5b0c8e67774e6c5fcd20000000000000000bc937e3657265eca 0)
+    (state ((6, 0x202cf1956) ∷
+    (36, 0x44261e4d38b62dd9dbe467ef251db4a5c8e67774e6c5fcd20000000000000000) ∷ [])
+    0x128176c 0xf0c4fd51bae0c5b0c8e67774e6c5fcd20000000000000000bc937e3657265eca 0) ∷
+    executed (0xc0 ∷ 0xfe ∷ 0x3f ∷ 0x2c ∷ []) 0x2023750f8
+    (state ((1, 0x9bf6a7484c3c95ae) ∷ (13, 0xffffffff) ∷ (22, 0x202375101) ∷
+    (26, 0xfc26d85b3a0521e1) ∷
+    (32, 0x7ab0196f99cef265590794ff3ce7b971c43a9e0088a29b59f9ea7d2528f74faa) ∷ [])
+    0x1287b48 0x955ca027bcc00501f652d96e54e0083a8000000000000000692faa7dc9bbf7dc 0)
+    (state ((1, 0x9bf6a7484c3c95ae) ∷ (13, 0xffffffff) ∷ (22, 0x202375101) ∷
+    (26, 0xfc26d85b3a0521e1) ∷
+    (32, 0x7ab0196f99cef265590794ff3ce7b971f652d96e54e0083a8000000000000000) ∷ [])
+    0x1287b4c 0x955ca027bcc00501f652d96e54e0083a8000000000000000692faa7dc9bbf7dc 0) ∷
+    executed (0x39 ∷ 0xee ∷ 0x0a ∷ 0x2c ∷ []) 0x217
+    (state ((3, 0x7fffffffffffffff) ∷ (17, 0xffffffffffffff64) ∷ (29, 0x4db0e60d0396dc1) ∷
+    (57, 0xa152d180abeecfe93d6b04dc851b432e6f1f57c01a6f2c787956fdfafd7937f6) ∷ [])
+    0x1288608 0xa3813685440e45d3bafb7b9fe3c33cca000000007fffffff6ca935e31ab6ec3f 0)
+    (state ((3, 0x7fffffffffffffff) ∷ (17, 0xffffffffffffff64) ∷ (29, 0x4db0e60d0396dc1) ∷
+    (57, 0xa152d180abeecfe93d6b04dc851b432ebafb7b9fe3c33cca000000007fffffff) ∷ [])
+    0x128860c 0xa3813685440e45d3bafb7b9fe3c33cca000000007fffffff6ca935e31ab6ec3f 0) ∷
+    executed (0x01 ∷ 0x60 ∷ 0x03 ∷ 0x2c ∷ []) 0xd0
+    (state ((11, 0x3a3d2020cb7d0aa0) ∷ (26, 0xe158fce7360e3c93) ∷ (27, 0x1) ∷
+    (33, 0x1eb5c97471352463c1977a03a01bafed9fc8d3cf9824284c019a546c5dad1c6e) ∷ [])
+    0x128eb1c 0xe01f6962eba0af0eb8d225ed72542958ffffffff800000006a400f556c525073 0)
+    (state ((11, 0x3a3d2020cb7d0aa0) ∷ (26, 0xe158fce7360e3c93) ∷ (27, 0x1) ∷
+    (33, 0x1eb5c97471352463c1977a03a01bafedb8d225ed72542958ffffffff80000000) ∷ [])
+    0x128eb20 0xe01f6962eba0af0eb8d225ed72542958ffffffff800000006a400f556c525073 0) ∷
+    executed (0x7e ∷ 0xff ∷ 0x1f ∷ 0x2c ∷ []) 0x4021018b8
+    (state ((7, 0x3a4f1dfc293ae41f) ∷ (9, 0xd6960ce54faeef0b) ∷ (25, 0xffffffff7fffffff) ∷
+    (27, 0x4021010c1) ∷
+    (62, 0xe22350b5a1127d3c6b7d096a61ba2dbaae34095bfd83cb086ede17c2f3bf3a6a) ∷ [])
+    0x1292768 0x7637a01c7eafd10c78ce835c8d0bda700000000000080007ac8659e4c00e570 0)
+    (state ((7, 0x3a4f1dfc293ae41f) ∷ (9, 0xd6960ce54faeef0b) ∷ (25, 0xffffffff7fffffff) ∷
+    (27, 0x4021010c1) ∷
+    (62, 0xe22350b5a1127d3c6b7d096a61ba2dbac78ce835c8d0bda70000000000008000) ∷ [])
+    0x129276c 0x7637a01c7eafd10c78ce835c8d0bda700000000000080007ac8659e4c00e570 0) ∷
+    executed (0xa5 ∷ 0xfc ∷ 0x3f ∷ 0x2c ∷ []) 0x202382a58
+    (state ((5, 0x202382a61) ∷ (12, 0x63cd3c682df5f987) ∷ (26, 0x464bfa2ef3d2547d) ∷
+    (37, 0x9cb7556db962790afc469620d1f057f9d03ddcd67758fa49dc2f52ccd07dd9d0) ∷ [])
+    0x1294b18 0x2ff68edd388d755494d958cd2864baa0000000000000001f18d118405277b9d 0)
+    (state ((5, 0x202382a61) ∷ (12, 0x63cd3c682df5f987) ∷ (26, 0x464bfa2ef3d2547d) ∷
+    (37, 0x9cb7556db962790afc469620d1f057f9494d958cd2864baa0000000000000001) ∷ [])
+    0x1294b1c 0x2ff68edd388d755494d958cd2864baa0000000000000001f18d118405277b9d 0) ∷
+    executed (0x67 ∷ 0x06 ∷ 0x00 ∷ 0x2c ∷ []) 0x402c8a662
+    (state ((2, 0x640343d87d7ecd79) ∷ (8, 0xffffffffffffffff) ∷ (19, 0x402c8a669) ∷
+    (29, 0x7878f25e666ad99f) ∷
+    (39, 0xbd8a95e4e3f142cc0aca6abb5914ac5c185b4d732a83af33c4be7c1ed9a4e8d7) ∷ [])
+    0x40129a6cc 0xe9549bc9c673bdb3ce21654658fc94377fffffffffffffff78ed6a87460f4623 0)
+    (state ((2, 0x640343d87d7ecd79) ∷ (8, 0xffffffffffffffff) ∷ (19, 0x402c8a669) ∷
+    (29, 0x7878f25e666ad99f) ∷
+    (39, 0xbd8a95e4e3f142cc0aca6abb5914ac5cce21654658fc94377fffffffffffffff) ∷ [])
+    0x40129a6d0 0xe9549bc9c673bdb3ce21654658fc94377fffffffffffffff78ed6a87460f4623 0) ∷
+    executed (0xfa ∷ 0x01 ∷ 0x20 ∷ 0x2c ∷ []) 0x20281ce1f
+    (state ((15, 0x20281d627) ∷ (17, 0xd587476c66c7ecb3) ∷ (19, 0xffffffff80000000) ∷
+    (29, 0xb2bef00148d5fdf5) ∷
+    (58, 0x1f78f00e837fe8a94a7de221e18b8249f23a01e2f353119e6f367a228c43e616) ∷ [])
+    0x129ddc0 0x31e534415ac55204b76a886912bc638000000000ffffffffb7cf7134acb6c5a2 0)
+    (state ((15, 0x20281d627) ∷ (17, 0xd587476c66c7ecb3) ∷ (19, 0xffffffff80000000) ∷
+    (29, 0xb2bef00148d5fdf5) ∷
+    (58, 0x1f78f00e837fe8a94a7de221e18b8249b76a886912bc638000000000ffffffff) ∷ [])
+    0x129ddc4 0x31e534415ac55204b76a886912bc638000000000ffffffffb7cf7134acb6c5a2 0) ∷
+    executed (0x35 ∷ 0xff ∷ 0x1f ∷ 0x2c ∷ []) 0x2234913
+    (state ((1, 0xef4236b0f8755dd) ∷ (25, 0x223411c) ∷ (26, 0x7fffffff) ∷
+    (31, 0x45233416734ef375) ∷
+    (53, 0x11b77cee1c98d3eb119da886b12bd244cb21b611c654aec147c8dbd546e29aa9) ∷ [])
+    0x12a3184 0x381b85c5b009014c5e011e69441a1c5d000000000000008034099beddb32a00d 0)
+    (state ((1, 0xef4236b0f8755dd) ∷ (25, 0x223411c) ∷ (26, 0x7fffffff) ∷
+    (31, 0x45233416734ef375) ∷
+    (53, 0x11b77cee1c98d3eb119da886b12bd2445e011e69441a1c5d0000000000000080) ∷ [])
+    0x12a3188 0x381b85c5b009014c5e011e69441a1c5d000000000000008034099beddb32a00d 0) ∷
+    executed (0xc0 ∷ 0x03 ∷ 0x00 ∷ 0x2c ∷ []) 0x2ef0f81
+    (state ((2, 0x8000000000000000) ∷ (14, 0x7014803f7f0e8b06) ∷ (19, 0xcf89ab6a546b3947) ∷
+    (30, 0x2ef0f89) ∷
+    (32, 0xa00f587e2b66c6f0d3cdb1973c5d805a1b343728fccfd34b77b52443809bd504) ∷ [])
+    0x4012a4ab8 0xf85a97b175b75726b3b68c05ffcfa4e30000000000007ffffd31dd232c6dcac3 0)
+    (state ((2, 0x8000000000000000) ∷ (14, 0x7014803f7f0e8b06) ∷ (19, 0xcf89ab6a546b3947) ∷
+    (30, 0x2ef0f89) ∷
+    (32, 0xa00f587e2b66c6f0d3cdb1973c5d805ab3b68c05ffcfa4e30000000000007fff) ∷ [])
+    0x4012a4abc 0xf85a97b175b75726b3b68c05ffcfa4e30000000000007ffffd31dd232c6dcac3 0) ∷
+    executed (0xa1 ∷ 0x9e ∷ 0x13 ∷ 0x2c ∷ []) 0xc
+    (state ((3, 0x39d700c8ecf755c4) ∷ (21, 0xfffffffffffffb2d) ∷ (22, 0x1) ∷
+    (27, 0x786e7af51577ff2a) ∷
+    (33, 0xe3e9bea2993a01df095ec8c0a6b0f219cc1fa1a2a4a65bd7c64714a19995d6ff) ∷ [])
+    0x2012aad70 0xae74c507417d76cff7784399162ae44ffffffffffffffffc6e2bcb50845941f 0)
+    (state ((3, 0x39d700c8ecf755c4) ∷ (21, 0xfffffffffffffb2d) ∷ (22, 0x1) ∷
+    (27, 0x786e7af51577ff2a) ∷
+    (33, 0xe3e9bea2993a01df095ec8c0a6b0f219ff7784399162ae44ffffffffffffffff) ∷ [])
+    0x2012aad74 0xae74c507417d76cff7784399162ae44ffffffffffffffffc6e2bcb50845941f 0) ∷
+    executed (0x15 ∷ 0xdc ∷ 0x14 ∷ 0x2c ∷ []) 0x52f
+    (state ((13, 0xdd59783e14184f24) ∷
+    (53, 0x4e7a442cca14d7b285737fa84ce983b9f106bd174b6a49577032e22a0cc85f7f) ∷ [])
+    0x4012afb04 0x7962d1a3eaa520132fafd9a013c1f7df0000000080000000d823b6574527e442 0)
+    (state ((13, 0xdd59783e14184f24) ∷
+    (53, 0x4e7a442cca14d7b285737fa84ce983b92fafd9a013c1f7df0000000080000000) ∷ [])
+    0x4012afb08 0x7962d1a3eaa520132fafd9a013c1f7df0000000080000000d823b6574527e442 0) ∷
+    executed (0x49 ∷ 0xfe ∷ 0x1f ∷ 0x2c ∷ []) 0x2aefe04
+    (state ((7, 0xeabe267db25abe72) ∷ (8, 0x7ef570b379781cea) ∷ (14, 0x80000000) ∷
+    (18, 0x2aef60d) ∷
+    (41, 0x78b51923bf19fb88d36edb17faff04327b8299b0ffe072caa3531d9308da4ae8) ∷ [])
+    0x4012b1160 0x292ff27473712a77f428f7fed2e5e878ffffffff7fffffff01bfca1dac03fa70 0)
+    (state ((7, 0xeabe267db25abe72) ∷ (8, 0x7ef570b379781cea) ∷ (14, 0x80000000) ∷
+    (18, 0x2aef60d) ∷
+    (41, 0x78b51923bf19fb88d36edb17faff0432f428f7fed2e5e878ffffffff7fffffff) ∷ [])
+    0x4012b1164 0x292ff27473712a77f428f7fed2e5e878ffffffff7fffffff01bfca1dac03fa70 0) ∷
+    executed (0x31 ∷ 0x02 ∷ 0x00 ∷ 0x2c ∷ []) 0x2f3ceae
+    (state ((17, 0x2f3ceb6) ∷ (28, 0x851c45e5ef906ce4) ∷ (29, 0xc89be2f561796b60) ∷
+    (49, 0x217e274c0acf94972f2ae2202c866ea10e0c5dfb543dd01112033dcebd60418c) ∷ [])
+    0x4012b7a78 0x63ed216e7ae7cd6d09f3b6bac419b364000000000000007f03ca058e138a2f66 0)
+    (state ((17, 0x2f3ceb6) ∷ (28, 0x851c45e5ef906ce4) ∷ (29, 0xc89be2f561796b60) ∷
+    (49, 0x217e274c0acf94972f2ae2202c866ea109f3b6bac419b364000000000000007f) ∷ [])
+    0x4012b7a7c 0x63ed216e7ae7cd6d09f3b6bac419b364000000000000007f03ca058e138a2f66 0) ∷
+    executed (0xff ∷ 0xff ∷ 0x3f ∷ 0x2c ∷ []) 0x2c78322
+    (state ((12, 0xffffffff80000000) ∷ (13, 0xc99f3382e6d76024) ∷ (31, 0x2c7832b) ∷
+    (63, 0x32f9edbc16f1318ef3752cfdb8a104cef91cf9135f77312b18f2a7b7a95d9079) ∷ [])
+    0x12b9f08 0xb1e4ae07eb8ac6bef06d371ca0e10d970000000000000001c462c01fb91206c9 0)
+    (state ((12, 0xffffffff80000000) ∷ (13, 0xc99f3382e6d76024) ∷ (31, 0x2c7832b) ∷
+    (63, 0x32f9edbc16f1318ef3752cfdb8a104cef06d371ca0e10d970000000000000001) ∷ [])
+    0x12b9f0c 0xb1e4ae07eb8ac6bef06d371ca0e10d970000000000000001c462c01fb91206c9 0) ∷
+    executed (0xd6 ∷ 0x03 ∷ 0x20 ∷ 0x2c ∷ []) 0x2025ca277
+    (state ((9, 0x1a5496f581fa7f5c) ∷ (16, 0x7fffffff) ∷ (30, 0x2025caa7f) ∷
+    (54, 0x64ae3abcf404ed00b39be20a9b89e003bd05b303ede7ec989e12c2724b821309) ∷ [])
+    0x12bddec 0x2f2ae032efd2ae84f89c7ff8f67c9dd17fffffffffffffff318bae26fcd77425 0)
+    (state ((9, 0x1a5496f581fa7f5c) ∷ (16, 0x7fffffff) ∷ (30, 0x2025caa7f) ∷
+    (54, 0x64ae3abcf404ed00b39be20a9b89e003f89c7ff8f67c9dd17fffffffffffffff) ∷ [])
+    0x12bddf0 0x2f2ae032efd2ae84f89c7ff8f67c9dd17fffffffffffffff318bae26fcd77425 0) ∷
+    executed (0x48 ∷ 0xfd ∷ 0x1f ∷ 0x2c ∷ []) 0x402b1efae
+    (state ((2, 0x8000000000000000) ∷ (10, 0x402b1e7b7) ∷ (11, 0xf2f6afe060033fe3) ∷
+    (40, 0xaf6e25852a003c0b6d90a57fbe2e75a5edad99d86dcbda0911c2cf3e8d9734a5) ∷ [])
+    0x12c3bbc 0xbcb4c58b37e897a3190f9095e8203f9100000000ffffffffb893b146cde57fc9 0)
+    (state ((2, 0x8000000000000000) ∷ (10, 0x402b1e7b7) ∷ (11, 0xf2f6afe060033fe3) ∷
+    (40, 0xaf6e25852a003c0b6d90a57fbe2e75a5190f9095e8203f9100000000ffffffff) ∷ [])
+    0x12c3bc0 0xbcb4c58b37e897a3190f9095e8203f9100000000ffffffffb893b146cde57fc9 0) ∷
+    executed (0xc0 ∷ 0x03 ∷ 0x00 ∷ 0x2c ∷ []) 0x2a84707
+    (state ((3, 0xe6573075956acbc7) ∷ (11, 0x1ff49c4c5258eee3) ∷ (30, 0x2a8470f) ∷
+    (32, 0xdf100e9b1ccb6b9dba284083f8c893f214c2c30c5661825870896271fb659776) ∷ [])
+    0x4012c7938 0x6d63c1b8089fb205da3a08ee4e5dfd6b00000000000000807a518a2848093d5e 0)
+    (state ((3, 0xe6573075956acbc7) ∷ (11, 0x1ff49c4c5258eee3) ∷ (30, 0x2a8470f) ∷
+    (32, 0xdf100e9b1ccb6b9dba284083f8c893f2da3a08ee4e5dfd6b0000000000000080) ∷ [])
+    0x4012c793c 0x6d63c1b8089fb205da3a08ee4e5dfd6b00000000000000807a518a2848093d5e 0) ∷
+    executed (0xe7 ∷ 0xe4 ∷ 0x11 ∷ 0x2c ∷ []) 0x108
+    (state ((7, 0xfffffffffffffc97) ∷ (11, 0xffffffff) ∷ (18, 0x576b7c6dde99127d) ∷
+    (29, 0xe3eaea00d767533c) ∷
+    (39, 0x93c4edb80ed4ca41ba40223a43ece6ce7fc523de4cf5ab4be7c6a00d4755a026) ∷ [])
+    0x12cb100 0x6bf5d75e3bf6146d9293700ca02e86780000000000007fffd567fcf422da0b85 0)
+    (state ((7, 0xfffffffffffffc97) ∷ (11, 0xffffffff) ∷ (18, 0x576b7c6dde99127d) ∷
+    (29, 0xe3eaea00d767533c) ∷
+    (39, 0x93c4edb80ed4ca41ba40223a43ece6ce9293700ca02e86780000000000007fff) ∷ [])
+    0x12cb104 0x6bf5d75e3bf6146d9293700ca02e86780000000000007fffd567fcf422da0b85 0) ∷
+    executed (0x16 ∷ 0xf0 ∷ 0x00 ∷ 0x2c ∷ []) 0x34
+    (state ((1, 0x93fe0a2863f5b442) ∷ (19, 0x7fffffffffffffff) ∷ (27, 0x9453efba86aff6fe) ∷
+    (54, 0xe4d796ff26d9bbc18780a6022c416d1aa06d69eeca0d81ae86bd7bba0c14fe2c) ∷ [])
+    0x4012cd764 0x9e6bfe0d7f57343d6226d24e47ad887fffffffffffffffff51fc33e4366f3a76 0)
+    (state ((1, 0x93fe0a2863f5b442) ∷ (19, 0x7fffffffffffffff) ∷ (27, 0x9453efba86aff6fe) ∷
+    (54, 0xe4d796ff26d9bbc18780a6022c416d1a6226d24e47ad887fffffffffffffffff) ∷ [])
+    0x4012cd768 0x9e6bfe0d7f57343d6226d24e47ad887fffffffffffffffff51fc33e4366f3a76 0) ∷
+    executed (0xb2 ∷ 0x9f ∷ 0x12 ∷ 0x2c ∷ []) 0x4025f4648
+    (state ((9, 0xb56546ee6de5644) ∷ (10, 0xc062ae912472389c) ∷ (12, 0x354d9818578e89a8) ∷
+    (29, 0x4025f41a9) ∷
+    (50, 0xe99bc9fe4c033f365b37907aeffec48753656b34d3a07340c81fb17299378240) ∷ [])
+    0x4012d30dc 0xdfc47a00532fba8a92050429ed60bbccbd2842bf7ab0f5c82f415a33d34554c1 0)
+    (state ((9, 0xb56546ee6de5644) ∷ (10, 0xc062ae912472389c) ∷ (12, 0x354d9818578e89a8) ∷
+    (29, 0x4025f41a9) ∷
+    (50, 0xe99bc9fe4c033f365b37907aeffec48792050429ed60bbccbd2842bf7ab0f5c8) ∷ [])
+    0x4012d30e0 0xdfc47a00532fba8a92050429ed60bbccbd2842bf7ab0f5c82f415a33d34554c1 0) ∷
+    executed (0xde ∷ 0xa3 ∷ 0x0f ∷ 0x2c ∷ []) 0x2d7fca8
+    (state ((12, 0x3624c623d0abd358) ∷ (30, 0x2d7f8c8) ∷
+    (62, 0xdb410f90d7b2253cd34b53cb211b5a4801680f487658f28453a9ded1f5a466d4) ∷ [])
+    0x4012d47d4 0xd03cd6cd73342cab6dea5afffd2f072f17bbdf12b207d11ec3f9333ef646b54 0)
+    (state ((12, 0x3624c623d0abd358) ∷ (30, 0x2d7f8c8) ∷
+    (62, 0xdb410f90d7b2253cd34b53cb211b5a48b6dea5afffd2f072f17bbdf12b207d11) ∷ [])
+    0x4012d47d8 0xd03cd6cd73342cab6dea5afffd2f072f17bbdf12b207d11ec3f9333ef646b54 0) ∷
+    executed (0x84 ∷ 0xab ∷ 0x0d ∷ 0x2c ∷ []) 0x202cc2ba4
+    (state ((1, 0x22c24982311a6e25) ∷ (22, 0x89b18b222222f10) ∷ (23, 0x288446c3fdae9f73) ∷
+    (28, 0x202cc2842) ∷
+    (36, 0xeb25ca6afabe9d9f4cd603665c020843bf29393c19c48e37c8619b8ebfcb2170) ∷ [])
+    0x4012da878 0x88abc96d2d7063be514e92e59421d3e472321c120ab96a649090d26704eca3ea 0)
+    (state ((1, 0x22c24982311a6e25) ∷ (22, 0x89b18b222222f10) ∷ (23, 0x288446c3fdae9f73) ∷
+    (28, 0x202cc2842) ∷
+    (36, 0xeb25ca6afabe9d9f4cd603665c020843514e92e59421d3e472321c120ab96a64) ∷ [])
+    0x4012da87c 0x88abc96d2d7063be514e92e59421d3e472321c120ab96a649090d26704eca3ea 0) ∷
+    executed (0x8a ∷ 0x88 ∷ 0x12 ∷ 0x2c ∷ []) 0x402691be0
+    (state ((1, 0xaf2b5055c979840f) ∷ (4, 0x402691746) ∷ (30, 0x43a228e7cf20a3f0) ∷
+    (31, 0x90e32c168d389d5b) ∷
+    (42, 0xa469095e6a10a6ec60a6c827acc654b26e810f7f420d1f512b45bfc6644d2a04) ∷ [])
+    0x4012de548 0xd10c8759413212e8f1c0bfc4149d06e8095ea04e7e20d00ec2d90a84041434cf 0)
+    (state ((1, 0xaf2b5055c979840f) ∷ (4, 0x402691746) ∷ (30, 0x43a228e7cf20a3f0) ∷
+    (31, 0x90e32c168d389d5b) ∷
+    (42, 0xa469095e6a10a6ec60a6c827acc654b2f1c0bfc4149d06e8095ea04e7e20d00e) ∷ [])
+    0x4012de54c 0xd10c8759413212e8f1c0bfc4149d06e8095ea04e7e20d00ec2d90a84041434cf 0) ∷
+    executed (0x06 ∷ 0xa5 ∷ 0x1b ∷ 0x2c ∷ []) 0x2bd27dc
+    (state ((8, 0x2bd20fb) ∷
+    (38, 0xe835b412669a0dc175419d45e0da1956c7f0b95eff0599c81931a36df0253366) ∷ [])
+    0x4012e3a00 0xfd4d1b16504aae3b93ff49cb3018d1e55be3fa516c27c0bfc493169765d19c6d 0)
+    (state ((8, 0x2bd20fb) ∷
+    (38, 0xe835b412669a0dc175419d45e0da195693ff49cb3018d1e55be3fa516c27c0bf) ∷ [])
+    0x4012e3a04 0xfd4d1b16504aae3b93ff49cb3018d1e55be3fa516c27c0bfc493169765d19c6d 0) ∷
+    executed (0xe0 ∷ 0x29 ∷ 0x25 ∷ 0x2c ∷ []) 0x20224801d
+    (state ((4, 0x4ade4b4eed2fc4d8) ∷ (15, 0x2022486db) ∷ (23, 0x5c305c09c8ecc924) ∷
+    (24, 0x88aca957efd3452d) ∷
+    (32, 0x8030050d14852b50af6aef91d2c375a24ecfa0fd405a4a44a577fdbb925c2439) ∷ [])
+    0x2012e73b0 0x53799dce0202043efd1e5256f205e77cfd0e40b4f23d17f6941bcbf3054df93c 0)
+    (state ((4, 0x4ade4b4eed2fc4d8) ∷ (15, 0x2022486db) ∷ (23, 0x5c305c09c8ecc924) ∷
+    (24, 0x88aca957efd3452d) ∷
+    (32, 0x8030050d14852b50af6aef91d2c375a2fd1e5256f205e77cfd0e40b4f23d17f6) ∷ [])
+    0x2012e73b4 0x53799dce0202043efd1e5256f205e77cfd0e40b4f23d17f6941bcbf3054df93c 0) ∷
+    executed (0x57 ∷ 0xd5 ∷ 0x18 ∷ 0x2c ∷ []) 0x231
+    (state ((1, 0x16df1ab5654ec061) ∷ (10, 0xfffffffffffffc04) ∷ (12, 0xa89ff5baace55fa7) ∷
+    (13, 0x1205ace7cc0836da) ∷
+    (55, 0x1544fe35b9f05a992ba93b3b5df7d189767bf59645f3631557f2acc986443d66) ∷ [])
+    0x12ea890 0xe07ccca75198deffb8f91ebe6bf31ec29e06be73366d2451ecb4e1807c1ac7e8 0)
+    (state ((1, 0x16df1ab5654ec061) ∷ (10, 0xfffffffffffffc04) ∷ (12, 0xa89ff5baace55fa7) ∷
+    (13, 0x1205ace7cc0836da) ∷
+    (55, 0x1544fe35b9f05a992ba93b3b5df7d189b8f91ebe6bf31ec29e06be73366d2451) ∷ [])
+    0x12ea894 0xe07ccca75198deffb8f91ebe6bf31ec29e06be73366d2451ecb4e1807c1ac7e8 0) ∷
+    executed (0x04 ∷ 0x68 ∷ 0x05 ∷ 0x2c ∷ []) 0x152
+    (state ((4, 0x66cd3f39d528a849) ∷ (21, 0xa4caa482e2ccec1) ∷ (24, 0xdaeb7995c2e3110b) ∷
+    (36, 0x69d3aeec12787ed43b7afafe5d34c51db66d9f345fddce13267e24658d144ce1) ∷ [])
+    0x2012ec81c 0xd3a4b077924a54e7f097e639bb9252b1bba21e58bfc33a975cff77e9131c561e 0)
+    (state ((4, 0x66cd3f39d528a849) ∷ (21, 0xa4caa482e2ccec1) ∷ (24, 0xdaeb7995c2e3110b) ∷
+    (36, 0x69d3aeec12787ed43b7afafe5d34c51df097e639bb9252b1bba21e58bfc33a97) ∷ [])
+    0x2012ec820 0xd3a4b077924a54e7f097e639bb9252b1bba21e58bfc33a975cff77e9131c561e 0) ∷
+    executed (0xe9 ∷ 0x89 ∷ 0x33 ∷ 0x2c ∷ []) 0x402a7e791
+    (state ((9, 0xdd086ab8183ad94) ∷ (15, 0x402a7eab7) ∷ (24, 0x5c23bbb4fc0046c9) ∷
+    (25, 0x41dfd7ea33ac808b) ∷
+    (41, 0x6032e24f1221d7319bbe4e9290f38dee87148389131a3ba4286cb280a7c3074d) ∷ [])
+    0x12f2380 0x9bc04298884fcac44b4cc896d4da9a0554117f439af756b2a50f5a8276bcc856 0)
+    (state ((9, 0xdd086ab8183ad94) ∷ (15, 0x402a7eab7) ∷ (24, 0x5c23bbb4fc0046c9) ∷
+    (25, 0x41dfd7ea33ac808b) ∷
+    (41, 0x6032e24f1221d7319bbe4e9290f38dee4b4cc896d4da9a0554117f439af756b2) ∷ [])
+    0x12f2384 0x9bc04298884fcac44b4cc896d4da9a0554117f439af756b2a50f5a8276bcc856 0) ∷
+    executed (0xad ∷ 0x65 ∷ 0x2f ∷ 0x2c ∷ []) 0x4028173fa
+    (state ((11, 0x3774d404b3f8325) ∷ (13, 0x402817829) ∷ (19, 0x2a4219e60ba28a28) ∷
+    (45, 0xb1702e0ec842d4b8768195c8f409fd31950a09c6f632bd422e7925809ada8e20) ∷ [])
+    0x12f6aa4 0xaaa896b238c48589e48b53f2c8b65fa85eaf5de3d85c2750c38d85540d1aa3c4 0)
+    (state ((11, 0x3774d404b3f8325) ∷ (13, 0x402817829) ∷ (19, 0x2a4219e60ba28a28) ∷
+    (45, 0xb1702e0ec842d4b8768195c8f409fd31e48b53f2c8b65fa85eaf5de3d85c2750) ∷ [])
+    0x12f6aa8 0xaaa896b238c48589e48b53f2c8b65fa85eaf5de3d85c2750c38d85540d1aa3c4 0) ∷
+    executed (0x5a ∷ 0xbd ∷ 0x2b ∷ 0x2c ∷ []) 0x202778abd
+    (state ((10, 0x202778fd6) ∷ (17, 0xb54da22cef9f170c) ∷ (24, 0x612213881ff7529a) ∷
+    (58, 0x38d85fc9b0e43cf540b3967944eb30c274991998e105af230f2f49202a9e8a99) ∷ [])
+    0x4012f91d8 0x1896c336cafcdc9a12d932f1e7382f35a0ecca2c4b6a684ed09c96492f34bcc9 0)
+    (state ((10, 0x202778fd6) ∷ (17, 0xb54da22cef9f170c) ∷ (24, 0x612213881ff7529a) ∷
+    (58, 0x38d85fc9b0e43cf540b3967944eb30c212d932f1e7382f35a0ecca2c4b6a684e) ∷ [])
+    0x4012f91dc 0x1896c336cafcdc9a12d932f1e7382f35a0ecca2c4b6a684ed09c96492f34bcc9 0) ∷
+    executed (0xb3 ∷ 0x39 ∷ 0x31 ∷ 0x2c ∷ []) 0x2736b33
+    (state ((12, 0x36b17b56b0f7897e) ∷ (13, 0x2736eed) ∷ (19, 0x85d8ea4da59eb66c) ∷
+    (22, 0x66ec4cda45b263d7) ∷
+    (51, 0x3f0cc069b3ab7d3e6d8cc227b8d9cfc0fe4e4f1eeb09d330825510dc8f63701f) ∷ [])
+    0x12fdd68 0x6c21eb8d0b0b2e9e21cf6d632b541b6cd258cf11ab10a1f1597c8be404367e7 0)
+    (state ((12, 0x36b17b56b0f7897e) ∷ (13, 0x2736eed) ∷ (19, 0x85d8ea4da59eb66c) ∷
+    (22, 0x66ec4cda45b263d7) ∷
+    (51, 0x3f0cc069b3ab7d3e6d8cc227b8d9cfc0e21cf6d632b541b6cd258cf11ab10a1f) ∷ [])
+    0x12fdd6c 0x6c21eb8d0b0b2e9e21cf6d632b541b6cd258cf11ab10a1f1597c8be404367e7 0) ∷
+    executed (0x9b ∷ 0x6c ∷ 0x2a ∷ 0x2c ∷ []) 0x2e8e9c8
+    (state ((4, 0x2e8ef35) ∷ (10, 0x61cf218d327a1078) ∷ (11, 0x303df5a48afc6049) ∷
+    (22, 0xda2723de83bbf688) ∷
+    (59, 0x8b64e23b2e813c6b01fd395fc1d0377be660ce3a30fb153071c90b611c6ae603) ∷ [])
+    0x13008d8 0x4bf204a3fd1a922c682d8eca1d5d9a3696dee171bf29de3bc75c3c20bf62f348 0)
+    (state ((4, 0x2e8ef35) ∷ (10, 0x61cf218d327a1078) ∷ (11, 0x303df5a48afc6049) ∷
+    (22, 0xda2723de83bbf688) ∷
+    (59, 0x8b64e23b2e813c6b01fd395fc1d0377b682d8eca1d5d9a3696dee171bf29de3b) ∷ [])
+    0x13008dc 0x4bf204a3fd1a922c682d8eca1d5d9a3696dee171bf29de3bc75c3c20bf62f348 0) ∷
+    executed (0xc0 ∷ 0xd2 ∷ 0x2a ∷ 0x2c ∷ []) 0x2024c615a
+    (state ((9, 0x5b325e8b3b0f9932) ∷ (22, 0x2024c66ae) ∷ (24, 0x6d1fa661ef6d94bf) ∷
+    (29, 0x8eb213c0385492a2) ∷
+    (32, 0xc1cc44dc7769c24e0e0c35af6ce3949901e725ca82bce2511576770ece77f22a) ∷ [])
+    0x401304e18 0x539895e703a35d2b5188a1a0d6edbfd8cae1dde2f33d4bf1523f6105999747df 0)
+    (state ((9, 0x5b325e8b3b0f9932) ∷ (22, 0x2024c66ae) ∷ (24, 0x6d1fa661ef6d94bf) ∷
+    (29, 0x8eb213c0385492a2) ∷
+    (32, 0xc1cc44dc7769c24e0e0c35af6ce394995188a1a0d6edbfd8cae1dde2f33d4bf1) ∷ [])
+    0x401304e1c 0x539895e703a35d2b5188a1a0d6edbfd8cae1dde2f33d4bf1523f6105999747df 0) ∷
+    executed (0x97 ∷ 0xda ∷ 0x04 ∷ 0x2c ∷ []) 0xfc
+    (state ((8, 0xdb26d4275c5539ed) ∷ (20, 0xffffffffffffffce) ∷ (27, 0xb783e53778b118a8) ∷
+    (31, 0x6a74dad819ec5931) ∷
+    (55, 0xac58623db3d2691590caf6dedfbfdd7cf3245f2b0b765a868275510ee7dd837c) ∷ [])
+    0x40130a854 0x32a6f209e557da8de6f77ea086f59fc345e656e630caf4c3fe96318278712a08 0)
+    (state ((8, 0xdb26d4275c5539ed) ∷ (20, 0xffffffffffffffce) ∷ (27, 0xb783e53778b118a8) ∷
+    (31, 0x6a74dad819ec5931) ∷
+    (55, 0xac58623db3d2691590caf6dedfbfdd7ce6f77ea086f59fc345e656e630caf4c3) ∷ [])
+    0x40130a858 0x32a6f209e557da8de6f77ea086f59fc345e656e630caf4c3fe96318278712a08 0) ∷
+    executed (0x0d ∷ 0x74 ∷ 0x02 ∷ 0x2c ∷ []) 0x95
+    (state ((5, 0x4eb7bcc92fd593db) ∷ (23, 0x5e9c15780b847ab) ∷
+    (45, 0x449fc85fd5c18923f00f864938a66de95b22aaa0f9acd7ea7c757254445526f) ∷ [])
+    0x20130e034 0x3c87b508ad5078d870388f353f28d5890ab39de4c6beea4d8c6eff5fc63a240e 0)
+    (state ((5, 0x4eb7bcc92fd593db) ∷ (23, 0x5e9c15780b847ab) ∷
+    (45, 0x449fc85fd5c18923f00f864938a66de70388f353f28d5890ab39de4c6beea4d) ∷ [])
+    0x20130e038 0x3c87b508ad5078d870388f353f28d5890ab39de4c6beea4d8c6eff5fc63a240e 0) ∷
+    executed (0x65 ∷ 0x4a ∷ 0x18 ∷ 0x2c ∷ []) 0x4023c57a2
+    (state ((2, 0x852120ebcf54d54e) ∷ (6, 0xda6245374cac12f1) ∷ (19, 0x4023c5198) ∷
+    (30, 0x17416af3e37eb101) ∷
+    (37, 0x4cb7529e454b32daf71a3d957105b335a8aa3b5a7978ea36dcb75abc7918f7b7) ∷ [])
+    0x201310ae0 0xe80c9a8a81be8e1aa9c008bf7004ded835d910987406b196ba37cb6e14f0b94a 0)
+    (state ((2, 0x852120ebcf54d54e) ∷ (6, 0xda6245374cac12f1) ∷ (19, 0x4023c5198) ∷
+    (30, 0x17416af3e37eb101) ∷
+    (37, 0x4cb7529e454b32daf71a3d957105b335a9c008bf7004ded835d910987406b196) ∷ [])
+    0x201310ae4 0xe80c9a8a81be8e1aa9c008bf7004ded835d910987406b196ba37cb6e14f0b94a 0) ∷
+    executed (0x7b ∷ 0xb7 ∷ 0x35 ∷ 0x2c ∷ []) 0x2028a1da4
+    (state ((1, 0x9a00fb4c02b56b75) ∷ (2, 0xe62360f64ed6beab) ∷ (27, 0x2028a203f) ∷
+    (59, 0xcb96858d8471b549d6707f8baad044bb1298ecea5b46ec6dd1e0dda10c485258) ∷ [])
+    0x401314524 0xbf752885b424864156f56149a0ada2137761d01eeb28e598265081b7008eb048 0)
+    (state ((1, 0x9a00fb4c02b56b75) ∷ (2, 0xe62360f64ed6beab) ∷ (27, 0x2028a203f) ∷
+    (59, 0xcb96858d8471b549d6707f8baad044bb56f56149a0ada2137761d01eeb28e598) ∷ [])
+    0x401314528 0xbf752885b424864156f56149a0ada2137761d01eeb28e598265081b7008eb048 0) ∷
+    executed (0xf7 ∷ 0x99 ∷ 0x2a ∷ 0x2c ∷ []) 0x4025e305b
+    (state ((1, 0xcaad7372a8769d7c) ∷ (15, 0x4025e35bd) ∷ (19, 0x3464bd75f997ea4) ∷
+    (28, 0x4f6e857bfb3cb95d) ∷
+    (55, 0xc04d1dd9b8057555133b1a4ef035a5c1976d413ad1f116a8b36968de1afc011) ∷ [])
+    0x1318ac8 0x86c2b3e9975d0ffab33160a5d717ba307e3efabba004185967a54b3551fb47a5 0)
+    (state ((1, 0xcaad7372a8769d7c) ∷ (15, 0x4025e35bd) ∷ (19, 0x3464bd75f997ea4) ∷
+    (28, 0x4f6e857bfb3cb95d) ∷
+    (55, 0xc04d1dd9b8057555133b1a4ef035a5cb33160a5d717ba307e3efabba0041859) ∷ [])
+    0x1318acc 0x86c2b3e9975d0ffab33160a5d717ba307e3efabba004185967a54b3551fb47a5 0) ∷
+    executed (0x74 ∷ 0xde ∷ 0x15 ∷ 0x2c ∷ []) 0x202e37557
+    (state ((11, 0x5526c5b2d320c309) ∷ (15, 0xdefd60108be13727) ∷ (19, 0x202e36fe8) ∷
+    (30, 0x9717228b2e2d618f) ∷
+    (52, 0x1936a2f75ac86a24419f14480246cb4d32060c4d04d25f27323adb02f07e0ffe) ∷ [])
+    0x40131d4e4 0xc0ccad39d1ea45d6a4b504e4c8c512ede112927b75e2f9d5c6302cf3b6df3168 0)
+    (state ((11, 0x5526c5b2d320c309) ∷ (15, 0xdefd60108be13727) ∷ (19, 0x202e36fe8) ∷
+    (30, 0x9717228b2e2d618f) ∷
+    (52, 0x1936a2f75ac86a24419f14480246cb4da4b504e4c8c512ede112927b75e2f9d5) ∷ [])
+    0x40131d4e8 0xc0ccad39d1ea45d6a4b504e4c8c512ede112927b75e2f9d5c6302cf3b6df3168 0) ∷
+    []) ∷
+    -- vst
+    group 0x0 (
+    executed (0x78 ∷ 0x01 ∷ 0x40 ∷ 0x2c ∷ []) 0x2c97131
+    (state ((2, 0xb8ac6faf4fe074bd) ∷ (11, 0x2c97139) ∷ (19, 0xebd5f03afde92b35) ∷
+    (56, 0x283aa475fce7e77fd482509440f96551da3f8774cb7650e39f60db2f1c1bc3cb) ∷ [])
+    0x401322408 0xe77239b1da319be4fa2377c053da66a50000000000000000cbaef13394120bc9 0)
+    (state ((2, 0xb8ac6faf4fe074bd) ∷ (11, 0x2c97139) ∷ (19, 0xebd5f03afde92b35) ∷
+    (56, 0x283aa475fce7e77fd482509440f96551da3f8774cb7650e39f60db2f1c1bc3cb) ∷ [])
+    0x40132240c 0xe77239b1da319be4da3f8774cb7650e39f60db2f1c1bc3cbcbaef13394120bc9 0) ∷
+    executed (0x60 ∷ 0xfd ∷ 0x7f ∷ 0x2c ∷ []) 0x4020e3e60
+    (state ((11, 0x4020e3e69) ∷ (22, 0xffffffff) ∷ (26, 0x24d1d174c9e371fa) ∷
+    (32, 0xdef53599fc59b5e5f5f331a323ccf1d7941c6d4e4fbdb58c9012a5dcd15324a1) ∷ [])
+    0x1326140 0x8bcb1825f87f73eea55678dee5e27cf800000000000000000aa523372803a48 0)
+    (state ((11, 0x4020e3e69) ∷ (22, 0xffffffff) ∷ (26, 0x24d1d174c9e371fa) ∷
+    (32, 0xdef53599fc59b5e5f5f331a323ccf1d7941c6d4e4fbdb58c9012a5dcd15324a1) ∷ [])
+    0x1326144 0x8bcb1825f87f73e941c6d4e4fbdb58c9012a5dcd15324a100aa523372803a48 0) ∷
+    executed (0xbd ∷ 0x6c ∷ 0x4b ∷ 0x2c ∷ []) 0x5f
+    (state ((3, 0xb502a31e6131a352) ∷ (5, 0xfffffffffffffd8c) ∷ (7, 0x2674d6b697cad10b) ∷
+    (29, 0x7fffffffffffffff) ∷
+    (61, 0x6b7dd8120cfb124151185bf7fd5e5d68f887e647d03dfef1d7ff1f51a5b85fa1) ∷ [])
+    0x201329b3c 0xe3b3a0ee614abc8f0916ecbdf44b9ef7000000007ffffffff7ae575ffd68a94d 0)
+    (state ((3, 0xb502a31e6131a352) ∷ (5, 0xfffffffffffffd8c) ∷ (7, 0x2674d6b697cad10b) ∷
+    (29, 0x7fffffffffffffff) ∷
+    (61, 0x6b7dd8120cfb124151185bf7fd5e5d68f887e647d03dfef1d7ff1f51a5b85fa1) ∷ [])
+    0x201329b40 0xe3b3a0ee614abc8ff887e647d03dfef1d7ff1f51a5b85fa1f7ae575ffd68a94d 0) ∷
+    executed (0x12 ∷ 0xe4 ∷ 0x4d ∷ 0x2c ∷ []) 0x371
+    (state ((14, 0xbbce1d5225ff9e9) ∷ (22, 0x3c5455f277d6aad5) ∷ (26, 0x1) ∷
+    (50, 0x7194c7c38b315a771229df409e545a11e0ec9c87704f31cf9166b508d2de1993) ∷ [])
+    0x20132e5d0 0x3edceca5b26761ea69c2a46cc46af849ffffffff800000008739d57f121edd8a 0)
+    (state ((14, 0xbbce1d5225ff9e9) ∷ (22, 0x3c5455f277d6aad5) ∷ (26, 0x1) ∷
+    (50, 0x7194c7c38b315a771229df409e545a11e0ec9c87704f31cf9166b508d2de1993) ∷ [])
+    0x20132e5d4 0x3edceca5b26761eae0ec9c87704f31cf9166b508d2de19938739d57f121edd8a 0) ∷
+    executed (0x80 ∷ 0xff ∷ 0x5f ∷ 0x2c ∷ []) 0x2026dacc5
+    (state ((5, 0x301e3112267c27c9) ∷ (9, 0xffffffff7fffffff) ∷ (28, 0x2026da4ce) ∷
+    (30, 0x603255367ebbeb21) ∷
+    (32, 0x1e98d48a9d4f447b192445fdf202c2d42bcacf082d7e7a036f67bbf7c0025177) ∷ [])
+    0x2013321fc 0x2ac6de0bd575b20cbc892fd21fb7c9d80000000000008000b35fe325e2e27362 0)
+    (state ((5, 0x301e3112267c27c9) ∷ (9, 0xffffffff7fffffff) ∷ (28, 0x2026da4ce) ∷
+    (30, 0x603255367ebbeb21) ∷
+    (32, 0x1e98d48a9d4f447b192445fdf202c2d42bcacf082d7e7a036f67bbf7c0025177) ∷ [])
+    0x201332200 0x2ac6de0bd575b20c2bcacf082d7e7a036f67bbf7c0025177b35fe325e2e27362 0) ∷
+    executed (0xf7 ∷ 0xfe ∷ 0x7f ∷ 0x2c ∷ []) 0x402caf1ca
+    (state ((18, 0x2b172722c5381fce) ∷ (23, 0x402caf1d3) ∷ (28, 0xaf557e2876a871bf) ∷
+    (55, 0x1ee156e9fc5aaf2c766de48fa22101bacac835a265b26a6ae01b9481635ece18) ∷ [])
+    0x4013374cc 0x5d54ff5ec1bc00770fcd21187d0799aa000000000000000173b401aaecb7336e 0)
+    (state ((18, 0x2b172722c5381fce) ∷ (23, 0x402caf1d3) ∷ (28, 0xaf557e2876a871bf) ∷
+    (55, 0x1ee156e9fc5aaf2c766de48fa22101bacac835a265b26a6ae01b9481635ece18) ∷ [])
+    0x4013374d0 0x5d54ff5ec1bc0077cac835a265b26a6ae01b9481635ece1873b401aaecb7336e 0) ∷
+    executed (0x4a ∷ 0x06 ∷ 0x40 ∷ 0x2c ∷ []) 0x40224a071
+    (state ((15, 0x543a8f24814ade42) ∷ (18, 0x40224a078) ∷
+    (42, 0xcd31c1a3bf80fed4acc2cc8a4d268a3f82ef24e2ce0ee2aea2c31de954e9469e) ∷ [])
+    0x4013390e4 0x51b490bf81b7f01680b45bb5d9073fcb7fffffffffffffff13ef711c3e429dca 0)
+    (state ((15, 0x543a8f24814ade42) ∷ (18, 0x40224a078) ∷
+    (42, 0xcd31c1a3bf80fed4acc2cc8a4d268a3f82ef24e2ce0ee2aea2c31de954e9469e) ∷ [])
+    0x4013390e8 0x51b490bf81b7f01682ef24e2ce0ee2aea2c31de954e9469e13ef711c3e429dca 0) ∷
+    executed (0xd4 ∷ 0x00 ∷ 0x60 ∷ 0x2c ∷ []) 0x2026f4d4a
+    (state ((6, 0x2026f5552) ∷ (10, 0xbb58638b06b51068) ∷ (15, 0xffffffff80000000) ∷
+    (21, 0x6b51f65f7ab1a1a1) ∷
+    (52, 0xe615f9dbb01723cd44d1c4b010ed31b77b80e24392fa5acbd06a2963dd2ae046) ∷ [])
+    0x40133e958 0x5daa0003f76370e5f62e7742d3a1e31500000000ffffffff30fa993ff9631b22 0)
+    (state ((6, 0x2026f5552) ∷ (10, 0xbb58638b06b51068) ∷ (15, 0xffffffff80000000) ∷
+    (21, 0x6b51f65f7ab1a1a1) ∷
+    (52, 0xe615f9dbb01723cd44d1c4b010ed31b77b80e24392fa5acbd06a2963dd2ae046) ∷ [])
+    0x40133e95c 0x5daa0003f76370e57b80e24392fa5acbd06a2963dd2ae04630fa993ff9631b22 0) ∷
+    executed (0x96 ∷ 0xff ∷ 0x5f ∷ 0x2c ∷ []) 0x4024f842f
+    (state ((8, 0x7fffffff) ∷ (16, 0x8f3242b3f111cd74) ∷ (28, 0x4024f7c38) ∷
+    (30, 0x3647f7eb09434197) ∷
+    (54, 0x1e011fbac5263e30102ff498ec9bcacff7ab8bb2d256b68474c8f10083f72754) ∷ [])
+    0x13419c0 0x26588a267b270286618baeeac80229c800000000000000801bbbdf14dec8efee 0)
+    (state ((8, 0x7fffffff) ∷ (16, 0x8f3242b3f111cd74) ∷ (28, 0x4024f7c38) ∷
+    (30, 0x3647f7eb09434197) ∷
+    (54, 0x1e011fbac5263e30102ff498ec9bcacff7ab8bb2d256b68474c8f10083f72754) ∷ [])
+    0x13419c4 0x26588a267b270286f7ab8bb2d256b68474c8f10083f727541bbbdf14dec8efee 0) ∷
+    executed (0xa0 ∷ 0x02 ∷ 0x40 ∷ 0x2c ∷ []) 0x402b09086
+    (state ((1, 0x7a069c0931b5bdff) ∷ (5, 0xdd4a8c779dbd59b0) ∷ (12, 0x8000000000000000) ∷
+    (21, 0x402b0908e) ∷
+    (32, 0x8eb83b48060ff9d85fb4b49b13543077e7717e26f4b29ff06a458e051125bbc8) ∷ [])
+    0x401345bec 0xf7f3371fef19e9b1328e20a0eafd79ee0000000000007fff7514a897599fa2dd 0)
+    (state ((1, 0x7a069c0931b5bdff) ∷ (5, 0xdd4a8c779dbd59b0) ∷ (12, 0x8000000000000000) ∷
+    (21, 0x402b0908e) ∷
+    (32, 0x8eb83b48060ff9d85fb4b49b13543077e7717e26f4b29ff06a458e051125bbc8) ∷ [])
+    0x401345bf0 0xf7f3371fef19e9b1e7717e26f4b29ff06a458e051125bbc87514a897599fa2dd 0) ∷
+    executed (0xe2 ∷ 0x24 ∷ 0x57 ∷ 0x2c ∷ []) 0x8b
+    (state ((2, 0x8e5578bc5cef7d0b) ∷ (7, 0xfffffffffffffaca) ∷ (11, 0x1) ∷
+    (34, 0xc4607e725f7a436936d6416b681e4c66771bf1e5582c3e6864b8f009bb0e541c) ∷ [])
+    0x134bad8 0xc80a375b9c72b80205297b1ff3c68e20ffffffffffffffffdc51f763b1c378ae 0)
+    (state ((2, 0x8e5578bc5cef7d0b) ∷ (7, 0xfffffffffffffaca) ∷ (11, 0x1) ∷
+    (34, 0xc4607e725f7a436936d6416b681e4c66771bf1e5582c3e6864b8f009bb0e541c) ∷ [])
+    0x134badc 0xc80a375b9c72b802771bf1e5582c3e6864b8f009bb0e541cdc51f763b1c378ae 0) ∷
+    executed (0x0a ∷ 0x08 ∷ 0x42 ∷ 0x2c ∷ []) 0x7a
+    (state ((2, 0x12514ff7ac726b24) ∷ (11, 0xe56530d71cd512d1) ∷ (16, 0xffffffff7fffffff) ∷
+    (42, 0x92d608e77a313008d20a2dddea170c685ae778a1d8d568b40fac24d033ae0b87) ∷ [])
+    0x134d39c 0xccd433b1292e904835659381084a39d90000000080000000ac9acd37c570af5c 0)
+    (state ((2, 0x12514ff7ac726b24) ∷ (11, 0xe56530d71cd512d1) ∷ (16, 0xffffffff7fffffff) ∷
+    (42, 0x92d608e77a313008d20a2dddea170c685ae778a1d8d568b40fac24d033ae0b87) ∷ [])
+    0x134d3a0 0xccd433b1292e90485ae778a1d8d568b40fac24d033ae0b87ac9acd37c570af5c 0) ∷
+    executed (0x9b ∷ 0xff ∷ 0x5f ∷ 0x2c ∷ []) 0x402c79881
+    (state ((10, 0x80000000) ∷ (21, 0xdf667803ba735350) ∷ (27, 0xaac4d6f803242180) ∷
+    (28, 0x402c7908a) ∷
+    (59, 0x10c1b0fb64e3a1c893fa99c201353698b3a0e055bff547a05b224a3d74c96195) ∷ [])
+    0x20135381c 0xcbe0fa82d1bd3eb033e1b6028c6ae546ffffffff7ffffffffba3486fb7a5e47e 0)
+    (state ((10, 0x80000000) ∷ (21, 0xdf667803ba735350) ∷ (27, 0xaac4d6f803242180) ∷
+    (28, 0x402c7908a) ∷
+    (59, 0x10c1b0fb64e3a1c893fa99c201353698b3a0e055bff547a05b224a3d74c96195) ∷ [])
+    0x201353820 0xcbe0fa82d1bd3eb0b3a0e055bff547a05b224a3d74c96195fba3486fb7a5e47e 0) ∷
+    executed (0x4a ∷ 0x01 ∷ 0x40 ∷ 0x2c ∷ []) 0x40232cd4c
+    (state ((9, 0x26d440388bcbea28) ∷ (10, 0x40232cd54) ∷ (29, 0x7578dfa8033ad218) ∷
+    (42, 0x97ba28ee3aabbffcd447d4fdeb749d6fc72e533fabb83743dc7579f2908856bd) ∷ [])
+    0x20135583c 0x27b46b0279ec32ebca5e7291d74c32fc000000000000007f2c347902bb09219c 0)
+    (state ((9, 0x26d440388bcbea28) ∷ (10, 0x40232cd54) ∷ (29, 0x7578dfa8033ad218) ∷
+    (42, 0x97ba28ee3aabbffcd447d4fdeb749d6fc72e533fabb83743dc7579f2908856bd) ∷ [])
+    0x201355840 0x27b46b0279ec32ebc72e533fabb83743dc7579f2908856bd2c347902bb09219c 0) ∷
+    executed (0xbb ∷ 0xfc ∷ 0x7f ∷ 0x2c ∷ []) 0x402001632
+    (state ((5, 0x40200163b) ∷ (21, 0xffffffff80000000) ∷ (31, 0x281863a5d1945e2c) ∷
+    (59, 0xbbdb8baff5522048c68b393f2b514c6959e7bb65f4c89e313d254aec92cd495) ∷ [])
+    0x40135952c 0x9fec5540ff8010fcc6912f96043e67510000000000000001cac411acff49af2d 0)
+    (state ((5, 0x40200163b) ∷ (21, 0xffffffff80000000) ∷ (31, 0x281863a5d1945e2c) ∷
+    (59, 0xbbdb8baff5522048c68b393f2b514c6959e7bb65f4c89e313d254aec92cd495) ∷ [])
+    0x401359530 0x9fec5540ff8010fc959e7bb65f4c89e313d254aec92cd495cac411acff49af2d 0) ∷
+    executed (0x9f ∷ 0x03 ∷ 0x60 ∷ 0x2c ∷ []) 0x202aa5d93
+    (state ((3, 0xd0af3bfeec9c41fa) ∷ (6, 0x7fffffff) ∷ (25, 0x745693d0c7bd1674) ∷
+    (28, 0x202aa659b) ∷
+    (63, 0x7ceefde777d6ba195a4be665fdcb2010f953738e2006d5367508e22bc0acf289) ∷ [])
+    0x135d2c8 0x8654f82a97de17b00a182ab82b8e40a67fffffffffffffff7a710211412bdea1 0)
+    (state ((3, 0xd0af3bfeec9c41fa) ∷ (6, 0x7fffffff) ∷ (25, 0x745693d0c7bd1674) ∷
+    (28, 0x202aa659b) ∷
+    (63, 0x7ceefde777d6ba195a4be665fdcb2010f953738e2006d5367508e22bc0acf289) ∷ [])
+    0x135d2cc 0x8654f82a97de17b0f953738e2006d5367508e22bc0acf2897a710211412bdea1 0) ∷
+    executed (0x1b ∷ 0x5c ∷ 0x52 ∷ 0x2c ∷ []) 0x48f
+    (state ((10, 0x8000000000000000) ∷ (21, 0x90a8be0bf33c7496) ∷ (29, 0xd34704ef37df4045) ∷
+    (59, 0x69f39d019111da89ad1e2c92f23b48c5ea97648b45cf3d53cb57e26d19731d97) ∷ [])
+    0x201363670 0xe79b927de535a6c4304af7958d41d76a00000000ffffffff7d8a606488238c20 0)
+    (state ((10, 0x8000000000000000) ∷ (21, 0x90a8be0bf33c7496) ∷ (29, 0xd34704ef37df4045) ∷
+    (59, 0x69f39d019111da89ad1e2c92f23b48c5ea97648b45cf3d53cb57e26d19731d97) ∷ [])
+    0x201363674 0xe79b927de535a6c4ea97648b45cf3d53cb57e26d19731d977d8a606488238c20 0) ∷
+    executed (0xc0 ∷ 0x00 ∷ 0x40 ∷ 0x2c ∷ []) 0x202e2ac73
+    (state ((5, 0x2b8261ec844c69f0) ∷ (6, 0x202e2ac7b) ∷ (16, 0x66ead7626d1aab2f) ∷
+    (32, 0x62675ddeefd469501657ebcb0c700d2a9d44ed679533586a06d4fdf682921eba) ∷ [])
+    0x201367720 0x59dabb19c106eafd185dc8faeb415e0700000000000000808fdfd828ed8d57bc 0)
+    (state ((5, 0x2b8261ec844c69f0) ∷ (6, 0x202e2ac7b) ∷ (16, 0x66ead7626d1aab2f) ∷
+    (32, 0x62675ddeefd469501657ebcb0c700d2a9d44ed679533586a06d4fdf682921eba) ∷ [])
+    0x201367724 0x59dabb19c106eafd9d44ed679533586a06d4fdf682921eba8fdfd828ed8d57bc 0) ∷
+    executed (0x7a ∷ 0xad ∷ 0x4d ∷ 0x2c ∷ []) 0x35d
+    (state ((6, 0xc4c8f417f35e26f1) ∷ (11, 0xfffffffffffffffa) ∷ (17, 0x37f96c856ca0b535) ∷
+    (22, 0xffffffff) ∷
+    (58, 0xb51977eedc40f8003331ce608ec70ce29b47b4ca3bb87dcfee1044ae9b189724) ∷ [])
+    0x13690bc 0x91daec9e326b9c54f447e56699c627df0000000000007fffc1a678370477612f 0)
+    (state ((6, 0xc4c8f417f35e26f1) ∷ (11, 0xfffffffffffffffa) ∷ (17, 0x37f96c856ca0b535) ∷
+    (22, 0xffffffff) ∷
+    (58, 0xb51977eedc40f8003331ce608ec70ce29b47b4ca3bb87dcfee1044ae9b189724) ∷ [])
+    0x13690c0 0x91daec9e326b9c549b47b4ca3bb87dcfee1044ae9b189724c1a678370477612f 0) ∷
+    executed (0x0e ∷ 0x20 ∷ 0x53 ∷ 0x2c ∷ []) 0x4c0
+    (state ((16, 0x7fffffffffffffff) ∷ (26, 0x4e72270081186e6f) ∷ (31, 0x90236d82c0535ceb) ∷
+    (46, 0x90ed1ffb342fd6288bf52237563dd13fad467713c5b6ec040da4c71676c30a36) ∷ [])
+    0x40136d390 0x9ed20350e03e11320177c4de94d477f8ffffffffffffffff42527e8177d1b794 0)
+    (state ((16, 0x7fffffffffffffff) ∷ (26, 0x4e72270081186e6f) ∷ (31, 0x90236d82c0535ceb) ∷
+    (46, 0x90ed1ffb342fd6288bf52237563dd13fad467713c5b6ec040da4c71676c30a36) ∷ [])
+    0x40136d394 0x9ed20350e03e1132ad467713c5b6ec040da4c71676c30a3642527e8177d1b794 0) ∷
+    executed (0x4d ∷ 0x4e ∷ 0x5b ∷ 0x2c ∷ []) 0x202993227
+    (state ((4, 0xf2e0fdb4ac819278) ∷ (7, 0xa03f937451818e0e) ∷ (17, 0x74b8ccd76cbc7e6f) ∷
+    (18, 0x202992b5c) ∷
+    (45, 0x22ab3d24287a71a5638efbcbabf73fea1a7bbdd23cc14f4efd7f701c26a90aaf) ∷ [])
+    0x401371e98 0xf023a3c7e8f0e83295d24d1d2761f6a0a2affbe3c241f3cd34c4907e108d6823 0)
+    (state ((4, 0xf2e0fdb4ac819278) ∷ (7, 0xa03f937451818e0e) ∷ (17, 0x74b8ccd76cbc7e6f) ∷
+    (18, 0x202992b5c) ∷
+    (45, 0x22ab3d24287a71a5638efbcbabf73fea1a7bbdd23cc14f4efd7f701c26a90aaf) ∷ [])
+    0x401371e9c 0xf023a3c7e8f0e8321a7bbdd23cc14f4efd7f701c26a90aaf34c4907e108d6823 0) ∷
+    executed (0x73 ∷ 0x0a ∷ 0x6a ∷ 0x2c ∷ []) 0x2532867
+    (state ((13, 0xd10e6d50a4a92840) ∷ (19, 0x2532ded) ∷ (23, 0xacda0475b0347a0d) ∷
+    (51, 0x6021e8c2ea5eff6fb3fc5fd91e7fc2fc1896151072a26a7ae65ce2b08601aa6d) ∷ [])
+    0x40137458c 0xbb5124ba20fad7d49db02922986be5d9e7afa239dbb01f6cc15d6af1e60e39df 0)
+    (state ((13, 0xd10e6d50a4a92840) ∷ (19, 0x2532ded) ∷ (23, 0xacda0475b0347a0d) ∷
+    (51, 0x6021e8c2ea5eff6fb3fc5fd91e7fc2fc1896151072a26a7ae65ce2b08601aa6d) ∷ [])
+    0x401374590 0xbb5124ba20fad7d41896151072a26a7ae65ce2b08601aa6dc15d6af1e60e39df 0) ∷
+    executed (0x5b ∷ 0xfc ∷ 0x47 ∷ 0x2c ∷ []) 0x40290f560
+    (state ((2, 0x40290f369) ∷ (17, 0x5fb5cbf5365a2ce8) ∷ (18, 0xb132de98a9875947) ∷
+    (59, 0x3cf648704b17c871b135f999e0572e516a6c784166fb2f2f402a9238ffb92968) ∷ [])
+    0x137aba4 0xe4171b2e71c9b45bb68617b4bb0e7ebbb5475dea10d4438dcd009c13bfd48075 0)
+    (state ((2, 0x40290f369) ∷ (17, 0x5fb5cbf5365a2ce8) ∷ (18, 0xb132de98a9875947) ∷
+    (59, 0x3cf648704b17c871b135f999e0572e516a6c784166fb2f2f402a9238ffb92968) ∷ [])
+    0x137aba8 0xe4171b2e71c9b45b6a6c784166fb2f2f402a9238ffb92968cd009c13bfd48075 0) ∷
+    executed (0xee ∷ 0xbc ∷ 0x4d ∷ 0x2c ∷ []) 0x202c1975d
+    (state ((4, 0xaf77d1b6c4f9042d) ∷ (7, 0x202c193f6) ∷ (12, 0x9c9866a59d071ba1) ∷
+    (27, 0x6a0696b8b7fcffb) ∷
+    (46, 0x2975dd8cfa9b9cb41e3afe7d6bc12007596cd7da0f0499fa284094418ab56ba3) ∷ [])
+    0x137e238 0xc59c872fc29c390f9868f2fca6758ac3f3177ede8768bd2f094e6e28f578119b 0)
+    (state ((4, 0xaf77d1b6c4f9042d) ∷ (7, 0x202c193f6) ∷ (12, 0x9c9866a59d071ba1) ∷
+    (27, 0x6a0696b8b7fcffb) ∷
+    (46, 0x2975dd8cfa9b9cb41e3afe7d6bc12007596cd7da0f0499fa284094418ab56ba3) ∷ [])
+    0x137e23c 0xc59c872fc29c390f596cd7da0f0499fa284094418ab56ba3094e6e28f578119b 0) ∷
+    executed (0x95 ∷ 0x35 ∷ 0x61 ∷ 0x2c ∷ []) 0x402400ebd
+    (state ((6, 0x66ce765a1c583475) ∷ (12, 0x402401678) ∷ (19, 0x9ab51a10d6e57df2) ∷
+    (25, 0xe7f372e4335c6021) ∷
+    (53, 0xc402e63d70e54ded700a28b231ea7ad670ad07b14380f2fde0fd4d4c5270a092) ∷ [])
+    0x2013809f8 0x359b741aeee6ab0e736ea1458231b0d602d59f2c90d13181451a5314970d8629 0)
+    (state ((6, 0x66ce765a1c583475) ∷ (12, 0x402401678) ∷ (19, 0x9ab51a10d6e57df2) ∷
+    (25, 0xe7f372e4335c6021) ∷
+    (53, 0xc402e63d70e54ded700a28b231ea7ad670ad07b14380f2fde0fd4d4c5270a092) ∷ [])
+    0x2013809fc 0x359b741aeee6ab0e70ad07b14380f2fde0fd4d4c5270a092451a5314970d8629 0) ∷
+    executed (0x20 ∷ 0x08 ∷ 0x78 ∷ 0x2c ∷ []) 0x2a1be58
+    (state ((1, 0x2a1c05e) ∷ (18, 0x2c19a6635b5f518a) ∷ (25, 0x2260b2a5925987ac) ∷
+    (31, 0x67bb8966fae7b57c) ∷
+    (32, 0xf713d7f85626863b0980b93e33fb6029f71986570ecdc9b740526151b4de5ea1) ∷ [])
+    0x401386b38 0x618ceb0fbe11cfce14de021c04eb1725fe10fc5162a862efaed29c45f76da757 0)
+    (state ((1, 0x2a1c05e) ∷ (18, 0x2c19a6635b5f518a) ∷ (25, 0x2260b2a5925987ac) ∷
+    (31, 0x67bb8966fae7b57c) ∷
+    (32, 0xf713d7f85626863b0980b93e33fb6029f71986570ecdc9b740526151b4de5ea1) ∷ [])
+    0x401386b3c 0x618ceb0fbe11cfcef71986570ecdc9b740526151b4de5ea1aed29c45f76da757 0) ∷
+    executed (0xe2 ∷ 0xd2 ∷ 0x45 ∷ 0x2c ∷ []) 0x35
+    (state ((10, 0x6991853c29b011f2) ∷ (14, 0x172760ae60989201) ∷ (23, 0xfffffffffffffec9) ∷
+    (26, 0x2e050257e1fe7eac) ∷
+    (34, 0x3a1ce24bec412499cd829ead11aeadc9659fde03713697cd53fed58d03094966) ∷ [])
+    0x401388c88 0x498cd98b86a18b8ae45808f43b952198b53dde82b5b3b76e5d2c5b38ee13aa13 0)
+    (state ((10, 0x6991853c29b011f2) ∷ (14, 0x172760ae60989201) ∷ (23, 0xfffffffffffffec9) ∷
+    (26, 0x2e050257e1fe7eac) ∷
+    (34, 0x3a1ce24bec412499cd829ead11aeadc9659fde03713697cd53fed58d03094966) ∷ [])
+    0x401388c8c 0x498cd98b86a18b8a659fde03713697cd53fed58d030949665d2c5b38ee13aa13 0) ∷
+    executed (0x10 ∷ 0x70 ∷ 0x4e ∷ 0x2c ∷ []) 0x394
+    (state ((12, 0xd69d59fcab2100ec) ∷ (15, 0x87cffcb2c716d32b) ∷ (29, 0x5261c70e7de2019f) ∷
+    (48, 0xd76dc2ed083dac3b9a0c4ed7c8065550999388f86ecbacc133ef70c130ffd947) ∷ [])
+    0x20138f300 0x207d7c0c6dfe8db775cbed598ed587ba081072a15f3140d313d1cfa19c1e570a 0)
+    (state ((12, 0xd69d59fcab2100ec) ∷ (15, 0x87cffcb2c716d32b) ∷ (29, 0x5261c70e7de2019f) ∷
+    (48, 0xd76dc2ed083dac3b9a0c4ed7c8065550999388f86ecbacc133ef70c130ffd947) ∷ [])
+    0x20138f304 0x207d7c0c6dfe8db7999388f86ecbacc133ef70c130ffd94713d1cfa19c1e570a 0) ∷
+    executed (0x97 ∷ 0x4b ∷ 0x77 ∷ 0x2c ∷ []) 0x285f324
+    (state ((28, 0x285f55a) ∷ (31, 0x5d8f009079fa689b) ∷
+    (55, 0x11ece1f6ad9e38fb6245fc2e68eeae1d1c346e6b39a290f5386b926f8c7d1c4c) ∷ [])
+    0x201392eb8 0x6c21985bc938de9787ce74c9c0d45d10d178c5316cb2f8a88336afc2496e650d 0)
+    (state ((28, 0x285f55a) ∷ (31, 0x5d8f009079fa689b) ∷
+    (55, 0x11ece1f6ad9e38fb6245fc2e68eeae1d1c346e6b39a290f5386b926f8c7d1c4c) ∷ [])
+    0x201392ebc 0x6c21985bc938de971c346e6b39a290f5386b926f8c7d1c4c8336afc2496e650d 0) ∷
+    executed (0xad ∷ 0xa5 ∷ 0x5d ∷ 0x2c ∷ []) 0x402397509
+    (state ((13, 0x402396da8) ∷ (24, 0x5f73b4c04d82372a) ∷ (25, 0x8be54fc9730ca57d) ∷
+    (45, 0xef26e8c91bf0d4bfc6cf54bfd03afa47f6fd1d0e5c8e8e8bc1b6271da9f7c133) ∷ [])
+    0x401394458 0xf9d8fef4d458f5e7a065c7e4fc996dff0607d6e5b39d3f16a27fa141b129df2 0)
+    (state ((13, 0x402396da8) ∷ (24, 0x5f73b4c04d82372a) ∷ (25, 0x8be54fc9730ca57d) ∷
+    (45, 0xef26e8c91bf0d4bfc6cf54bfd03afa47f6fd1d0e5c8e8e8bc1b6271da9f7c133) ∷ [])
+    0x40139445c 0xf9d8fef4d458f5ef6fd1d0e5c8e8e8bc1b6271da9f7c1336a27fa141b129df2 0) ∷
+    executed (0x3d ∷ 0x85 ∷ 0x76 ∷ 0x2c ∷ []) 0x2020d8aed
+    (state ((9, 0x2020d8d54) ∷ (11, 0xfa790e3709d22997) ∷ (30, 0x3910777bad09126f) ∷
+    (61, 0x5c4309e0ddffa91f2875b9a7ed8fc439394ce399fc82d909bbe1909308312b2e) ∷ [])
+    0x201398d84 0x874465e89e348f980a44a155ef14cb477ee9d70891314a926be2c36db4a0470f 0)
+    (state ((9, 0x2020d8d54) ∷ (11, 0xfa790e3709d22997) ∷ (30, 0x3910777bad09126f) ∷
+    (61, 0x5c4309e0ddffa91f2875b9a7ed8fc439394ce399fc82d909bbe1909308312b2e) ∷ [])
+    0x201398d88 0x874465e89e348f98394ce399fc82d909bbe1909308312b2e6be2c36db4a0470f 0) ∷
+    executed (0x49 ∷ 0x02 ∷ 0x76 ∷ 0x2c ∷ []) 0x2731647
+    (state ((18, 0x27318cf) ∷ (20, 0xa473f762298d51bb) ∷ (21, 0x30b997dcccce9474) ∷
+    (25, 0xb6baa81f712f474f) ∷
+    (41, 0x95de85ce2a8553d8364800b525d6b5ebf741585b4ae9ff06f44f90358ae74c91) ∷ [])
+    0x139de7c 0x26865eecd2eeb98f9fae4faa42ba685482abd165cb7fe6a626249e36e9c71adf 0)
+    (state ((18, 0x27318cf) ∷ (20, 0xa473f762298d51bb) ∷ (21, 0x30b997dcccce9474) ∷
+    (25, 0xb6baa81f712f474f) ∷
+    (41, 0x95de85ce2a8553d8364800b525d6b5ebf741585b4ae9ff06f44f90358ae74c91) ∷ [])
+    0x139de80 0x26865eecd2eeb98ff741585b4ae9ff06f44f90358ae74c9126249e36e9c71adf 0) ∷
+    executed (0x6d ∷ 0x5f ∷ 0x78 ∷ 0x2c ∷ []) 0x40273e2cd
+    (state ((8, 0x97c5d3168e2eb852) ∷ (13, 0xd4a93f25a043cf44) ∷ (19, 0x6f8059ab3c407a84) ∷
+    (27, 0x40273e4be) ∷
+    (45, 0xd5091c652b2ce9efe91bc674e0aebd80ce17eac67763f7f1471f89d3c353b54d) ∷ [])
+    0x13a333c 0x7c3ed3c1df2e4c3c1ca0764b37f23a89256527841077511aaa2e5a2a47ecee64 0)
+    (state ((8, 0x97c5d3168e2eb852) ∷ (13, 0xd4a93f25a043cf44) ∷ (19, 0x6f8059ab3c407a84) ∷
+    (27, 0x40273e4be) ∷
+    (45, 0xd5091c652b2ce9efe91bc674e0aebd80ce17eac67763f7f1471f89d3c353b54d) ∷ [])
+    0x13a3340 0x7c3ed3c1df2e4c3cce17eac67763f7f1471f89d3c353b54daa2e5a2a47ecee64 0) ∷
+    executed (0x80 ∷ 0x93 ∷ 0x61 ∷ 0x2c ∷ []) 0x402be427a
+    (state ((20, 0x48eb31d7e5540403) ∷ (28, 0x402be4a1e) ∷ (31, 0x88058c64d16867f7) ∷
+    (32, 0x941d4aeb0118bbc73e261d48c6446e719896ea6e406b14e18f6eb75faef817c4) ∷ [])
+    0x13a78d0 0xf7dc28eeb2ac0e9109e042eaf66e37ea75b9323795824b87e2e2710ba959a4ef 0)
+    (state ((20, 0x48eb31d7e5540403) ∷ (28, 0x402be4a1e) ∷ (31, 0x88058c64d16867f7) ∷
+    (32, 0x941d4aeb0118bbc73e261d48c6446e719896ea6e406b14e18f6eb75faef817c4) ∷ [])
+    0x13a78d4 0xf7dc28eeb2ac0e919896ea6e406b14e18f6eb75faef817c4e2e2710ba959a4ef 0) ∷
+    executed (0xcd ∷ 0x7e ∷ 0x5b ∷ 0x2c ∷ []) 0x38c
+    (state ((15, 0xb8e80b9e326da2ea) ∷ (20, 0x40a28292f93a74b2) ∷ (22, 0xfffffffffffffcb5) ∷
+    (45, 0x23e1dc0034b055d1c21fad5bf00b983272c8c291ce8adbd8ad8b8c410a69d7c) ∷ [])
+    0x4013aab24 0x14b4e35aa8e5b2a547ac67722f48f88c3db34acba5c2069cb38341bcdab71121 0)
+    (state ((15, 0xb8e80b9e326da2ea) ∷ (20, 0x40a28292f93a74b2) ∷ (22, 0xfffffffffffffcb5) ∷
+    (45, 0x23e1dc0034b055d1c21fad5bf00b983272c8c291ce8adbd8ad8b8c410a69d7c) ∷ [])
+    0x4013aab28 0x14b4e35aa8e5b2a5272c8c291ce8adbd8ad8b8c410a69d7cb38341bcdab71121 0) ∷
+    executed (0x14 ∷ 0xd8 ∷ 0x4e ∷ 0x2c ∷ []) 0x3ae
+    (state ((1, 0x6bfeb620ce88a595) ∷ (14, 0xa088696a4e828d3d) ∷
+    (52, 0x10cd86ffc852e8720e3e6c80eac645215acabe5fe568c65fe553c5df1706b30f) ∷ [])
+    0x4013ae460 0xdaf00aed7292d8e98b5ee84565cfc46948dde6c6c69d3a8df96b56aee36d062a 0)
+    (state ((1, 0x6bfeb620ce88a595) ∷ (14, 0xa088696a4e828d3d) ∷
+    (52, 0x10cd86ffc852e8720e3e6c80eac645215acabe5fe568c65fe553c5df1706b30f) ∷ [])
+    0x4013ae464 0xdaf00aed7292d8e95acabe5fe568c65fe553c5df1706b30ff96b56aee36d062a 0) ∷
+    executed (0x91 ∷ 0x8c ∷ 0x75 ∷ 0x2c ∷ []) 0x402a474f2
+    (state ((4, 0x402a47797) ∷ (6, 0x2bc93db6aaf09853) ∷ (7, 0xf7711e8f3ef0048) ∷
+    (49, 0x969454e129ff793e30b31193a0ad4bf8cb28bd5fcaa41b3088bf258004c7d04a) ∷ [])
+    0x4013b1484 0x26c9afcf37d459c9ba1e2ea0e27b53755d6a564dffaf4e021b55f9a6ea7452db 0)
+    (state ((4, 0x402a47797) ∷ (6, 0x2bc93db6aaf09853) ∷ (7, 0xf7711e8f3ef0048) ∷
+    (49, 0x969454e129ff793e30b31193a0ad4bf8cb28bd5fcaa41b3088bf258004c7d04a) ∷ [])
+    0x4013b1488 0x26c9afcf37d459c9cb28bd5fcaa41b3088bf258004c7d04a1b55f9a6ea7452db 0) ∷
+    executed (0x42 ∷ 0xe4 ∷ 0x78 ∷ 0x2c ∷ []) 0x2663936
+    (state ((2, 0x2663b05) ∷ (12, 0x98d00968fcf33e33) ∷ (27, 0xe9981f765976b380) ∷
+    (34, 0x68fb052b3f98910831acad01222627d13fece2bf8e56ff5d9ae61b33de9ee506) ∷ [])
+    0x13b5390 0x2f26cb1be7e934f229a3aa7b1d5e8a96761d12387e097ab929fea5ae1f1876e4 0)
+    (state ((2, 0x2663b05) ∷ (12, 0x98d00968fcf33e33) ∷ (27, 0xe9981f765976b380) ∷
+    (34, 0x68fb052b3f98910831acad01222627d13fece2bf8e56ff5d9ae61b33de9ee506) ∷ [])
+    0x13b5394 0x2f26cb1be7e934f23fece2bf8e56ff5d9ae61b33de9ee50629fea5ae1f1876e4 0) ∷
+    executed (0x2f ∷ 0xdb ∷ 0x6d ∷ 0x2c ∷ []) 0x2870126
+    (state ((1, 0x2a26b9b09854544d) ∷ (13, 0x3fd7c1c6e1bff794) ∷ (14, 0xa98b0519358d9635) ∷
+    (25, 0x28705b8) ∷
+    (47, 0xdd75e7fb6368c77f50b2b9303d0c08f5d5e317bc7e4cc6bbdca3fecebef11c11) ∷ [])
+    0x4013b9c1c 0x76d1ed91c2903ad7543b661c6f3bde0adae04358c35c82dc4137188b2ab43dd1 0)
+    (state ((1, 0x2a26b9b09854544d) ∷ (13, 0x3fd7c1c6e1bff794) ∷ (14, 0xa98b0519358d9635) ∷
+    (25, 0x28705b8) ∷
+    (47, 0xdd75e7fb6368c77f50b2b9303d0c08f5d5e317bc7e4cc6bbdca3fecebef11c11) ∷ [])
+    0x4013b9c20 0x76d1ed91c2903ad7d5e317bc7e4cc6bbdca3fecebef11c114137188b2ab43dd1 0) ∷
+    executed (0x39 ∷ 0x1d ∷ 0x70 ∷ 0x2c ∷ []) 0x4025786d5
+    (state ((3, 0x4a8632f0ca8491f4) ∷ (9, 0x402578ad6) ∷ (13, 0xa15a00de82f445d) ∷
+    (27, 0xa1c1e0b48a6c5bba) ∷
+    (57, 0xa91ebb498a2ac6cc89ea751b8c47b7a45c93d418f4504d28cca56cf8a101d55a) ∷ [])
+    0x4013bcfb4 0x209664049c10d44ffc633959dc1208aaa820250f8c42765efeee777f1c8d7fb0 0)
+    (state ((3, 0x4a8632f0ca8491f4) ∷ (9, 0x402578ad6) ∷ (13, 0xa15a00de82f445d) ∷
+    (27, 0xa1c1e0b48a6c5bba) ∷
+    (57, 0xa91ebb498a2ac6cc89ea751b8c47b7a45c93d418f4504d28cca56cf8a101d55a) ∷ [])
+    0x4013bcfb8 0x209664049c10d44f5c93d418f4504d28cca56cf8a101d55afeee777f1c8d7fb0 0) ∷
+    []) ∷
+    -- xvld
+    group 0x0 (
+    executed (0x99 ∷ 0x03 ∷ 0x80 ∷ 0x2c ∷ []) 0x4024c6b7d
+    (state ((5, 0x65c09e540fabc28f) ∷ (28, 0x4024c6b7d) ∷ (31, 0xf4abe17ae5f54d15) ∷
+    (57, 0x5bd1324e5fd97ae8245db4a32a8256c04471e39004bd7a98e9e1b4b96d861a05) ∷ [])
+    0x13c37ac 0xf1a26cda86fd9084eab8ec9cc45a17d80000000000000000965acfe536393c9e 0)
+    (state ((5, 0x65c09e540fabc28f) ∷ (28, 0x4024c6b7d) ∷ (31, 0xf4abe17ae5f54d15) ∷
+    (57, 0xf1a26cda86fd9084eab8ec9cc45a17d80000000000000000965acfe536393c9e) ∷ [])
+    0x13c37b0 0xf1a26cda86fd9084eab8ec9cc45a17d80000000000000000965acfe536393c9e 0) ∷
+    executed (0xe0 ∷ 0xff ∷ 0xbf ∷ 0x2c ∷ []) 0x402524e08
+    (state ((15, 0xffffffff) ∷ (26, 0x968801f556ba576c) ∷ (31, 0x402524e09) ∷
+    (32, 0xa9e641338ba355ea5be13ee78e77f1b449d08011b8a419c2fb5222f5b46a984c) ∷ [])
+    0x4013c784c 0x1160570a191a1fdab3255c1714b68d55800000000000000046a537060e73abe2 0)
+    (state ((15, 0xffffffff) ∷ (26, 0x968801f556ba576c) ∷ (31, 0x402524e09) ∷
+    (32, 0x1160570a191a1fdab3255c1714b68d55800000000000000046a537060e73abe2) ∷ [])
+    0x4013c7850 0x1160570a191a1fdab3255c1714b68d55800000000000000046a537060e73abe2 0) ∷
+    executed (0xfd ∷ 0x51 ∷ 0x97 ∷ 0x2c ∷ []) 0x2e1
+    (state ((2, 0x7fffffffffffffff) ∷ (11, 0x365220f1a0693c68) ∷ (15, 0xfffffffffffffd0d) ∷
+    (17, 0x8616a5dd6e145335) ∷
+    (61, 0xbab3025678de5470a7577da4eb379d85399822bc71bcf6819a291339cca4b75f) ∷ [])
+    0x4013ca300 0xb432d58872856e0770b232ec1bbb09d0000000007fffffffbc37810876834928 0)
+    (state ((2, 0x7fffffffffffffff) ∷ (11, 0x365220f1a0693c68) ∷ (15, 0xfffffffffffffd0d) ∷
+    (17, 0x8616a5dd6e145335) ∷
+    (61, 0xb432d58872856e0770b232ec1bbb09d0000000007fffffffbc37810876834928) ∷ [])
+    0x4013ca304 0xb432d58872856e0770b232ec1bbb09d0000000007fffffffbc37810876834928 0) ∷
+    executed (0x15 ∷ 0xe0 ∷ 0x8d ∷ 0x2c ∷ []) 0x378
+    (state ((2, 0x1) ∷ (24, 0x7cdc486848d0e702) ∷ (31, 0xbdbe3c4b3cfc090b) ∷
+    (53, 0x209f8ec082e76cad34d0649ff490829e6583658798792458fb7836044fef768b) ∷ [])
+    0x2013cdbec 0x8f95eefdba7643ffc4c545227aa8bde2ffffffff80000000b7caafe4b7bef980 0)
+    (state ((2, 0x1) ∷ (24, 0x7cdc486848d0e702) ∷ (31, 0xbdbe3c4b3cfc090b) ∷
+    (53, 0x8f95eefdba7643ffc4c545227aa8bde2ffffffff80000000b7caafe4b7bef980) ∷ [])
+    0x2013cdbf0 0x8f95eefdba7643ffc4c545227aa8bde2ffffffff80000000b7caafe4b7bef980 0) ∷
+    executed (0xfe ∷ 0xfe ∷ 0x9f ∷ 0x2c ∷ []) 0x202d730ac
+    (state ((7, 0xffffffff7fffffff) ∷ (22, 0x64946a2b5a50f6b7) ∷ (23, 0x202d728ad) ∷
+    (62, 0xf3ae402b17e18c515905608d7e2b25480088475d9d63c747bb176fbb74b38416) ∷ [])
+    0x13d23b4 0x5cbd5c7dbe406acd3e0ca60d4f73e92400000000000080005aba71b6c5aa7bd2 0)
+    (state ((7, 0xffffffff7fffffff) ∷ (22, 0x64946a2b5a50f6b7) ∷ (23, 0x202d728ad) ∷
+    (62, 0x5cbd5c7dbe406acd3e0ca60d4f73e92400000000000080005aba71b6c5aa7bd2) ∷ [])
+    0x13d23b8 0x5cbd5c7dbe406acd3e0ca60d4f73e92400000000000080005aba71b6c5aa7bd2 0) ∷
+    executed (0xde ∷ 0xff ∷ 0xbf ∷ 0x2c ∷ []) 0x202a2d05a
+    (state ((15, 0xda020022dd0698a5) ∷ (30, 0x202a2d05b) ∷
+    (62, 0x6022ee66c0820547f8f9dd1874527b6345ad8a014e2900821e695dd376dc77f0) ∷ [])
+    0x4013d50b4 0x448dba83ddeba0027be2417d6c509f30000000000000000139f9f0efae279e25 0)
+    (state ((15, 0xda020022dd0698a5) ∷ (30, 0x202a2d05b) ∷
+    (62, 0x448dba83ddeba0027be2417d6c509f30000000000000000139f9f0efae279e25) ∷ [])
+    0x4013d50b8 0x448dba83ddeba0027be2417d6c509f30000000000000000139f9f0efae279e25 0) ∷
+    executed (0x13 ∷ 0xdc ∷ 0x99 ∷ 0x2c ∷ []) 0x677
+    (state ((28, 0xffffffffffffffff) ∷ (30, 0xcdc1c655eb59c7b1) ∷
+    (51, 0x3e655a7c3a18d91742f0e8f36eee891de3d2b97893c873f526619893d7b1c3c9) ∷ [])
+    0x4013d9b1c 0x51a40b2899a5c83fff145f853a43849c7fffffffffffffff5a764a3e17aff50d 0)
+    (state ((28, 0xffffffffffffffff) ∷ (30, 0xcdc1c655eb59c7b1) ∷
+    (51, 0x51a40b2899a5c83fff145f853a43849c7fffffffffffffff5a764a3e17aff50d) ∷ [])
+    0x4013d9b20 0x51a40b2899a5c83fff145f853a43849c7fffffffffffffff5a764a3e17aff50d 0) ∷
+    executed (0x60 ∷ 0x03 ∷ 0xa0 ∷ 0x2c ∷ []) 0x257593a
+    (state ((5, 0x1222f6386966b11f) ∷ (9, 0xb1810e7b80e10e8a) ∷ (26, 0xffffffff80000000) ∷
+    (27, 0x257613a) ∷
+    (32, 0xd1bf5313c995343fe0f7ddfd6f158830534473d51e15bc3c98c61e6ebb4abcc7) ∷ [])
+    0x13dcf30 0x989a99d6660d9192cbb39cdf111cfbc600000000ffffffffe17c7323c86e1ef2 0)
+    (state ((5, 0x1222f6386966b11f) ∷ (9, 0xb1810e7b80e10e8a) ∷ (26, 0xffffffff80000000) ∷
+    (27, 0x257613a) ∷
+    (32, 0x989a99d6660d9192cbb39cdf111cfbc600000000ffffffffe17c7323c86e1ef2) ∷ [])
+    0x13dcf34 0x989a99d6660d9192cbb39cdf111cfbc600000000ffffffffe17c7323c86e1ef2 0) ∷
+    executed (0x86 ∷ 0xff ∷ 0x9f ∷ 0x2c ∷ []) 0x26423b3
+    (state ((6, 0xcceccf673f4e2dc2) ∷ (21, 0x225381ac4a367c9e) ∷ (28, 0x2641bb4) ∷
+    (38, 0x62161da31d641d77a24b31ed614b91b3644cbed1f1b9c1a8fc62a2b29b929dc1) ∷ [])
+    0x2013e248c 0xad5598968f782eed606a18558025801600000000000000802a07770719ac7ad3 0)
+    (state ((6, 0xcceccf673f4e2dc2) ∷ (21, 0x225381ac4a367c9e) ∷ (28, 0x2641bb4) ∷
+    (38, 0xad5598968f782eed606a18558025801600000000000000802a07770719ac7ad3) ∷ [])
+    0x2013e2490 0xad5598968f782eed606a18558025801600000000000000802a07770719ac7ad3 0) ∷
+    executed (0x40 ∷ 0x01 ∷ 0x80 ∷ 0x2c ∷ []) 0x2021db014
+    (state ((10, 0x2021db014) ∷ (19, 0xf98f168deb6ad42e) ∷ (31, 0xb097eb71056f7dc1) ∷
+    (32, 0x88af377bcccb2db9f4b0a904332f908fa1b9b5bbc3021c216ef54a282a3051ed) ∷ [])
+    0x2013e629c 0xa908e4c507fe55d2336a52ec1d85023a0000000000007fffce838736b2e5f91d 0)
+    (state ((10, 0x2021db014) ∷ (19, 0xf98f168deb6ad42e) ∷ (31, 0xb097eb71056f7dc1) ∷
+    (32, 0xa908e4c507fe55d2336a52ec1d85023a0000000000007fffce838736b2e5f91d) ∷ [])
+    0x2013e62a0 0xa908e4c507fe55d2336a52ec1d85023a0000000000007fffce838736b2e5f91d 0) ∷
+    executed (0x02 ∷ 0xbe ∷ 0x8a ∷ 0x2c ∷ []) 0x274
+    (state ((6, 0x1) ∷ (16, 0xffffffffffffffc5) ∷ (17, 0xa396bc2dbcf2e31c) ∷
+    (28, 0x18d756668ca13d51) ∷
+    (34, 0xc0b3b60aec54a8be5db4c5c856798de886469d2d2ccf01095342278ce133e6af) ∷ [])
+    0x13eb6c8 0xbef00f0fc727bac9d91908ab6e8337b6ffffffffffffffffeb99047a52176f1f 0)
+    (state ((6, 0x1) ∷ (16, 0xffffffffffffffc5) ∷ (17, 0xa396bc2dbcf2e31c) ∷
+    (28, 0x18d756668ca13d51) ∷
+    (34, 0xbef00f0fc727bac9d91908ab6e8337b6ffffffffffffffffeb99047a52176f1f) ∷ [])
+    0x13eb6cc 0xbef00f0fc727bac9d91908ab6e8337b6ffffffffffffffffeb99047a52176f1f 0) ∷
+    executed (0x16 ∷ 0x48 ∷ 0x81 ∷ 0x2c ∷ []) 0x52
+    (state ((13, 0x37a0686f98799ac6) ∷ (21, 0xffffffff7fffffff) ∷ (24, 0x44738cda62b41710) ∷
+    (54, 0x35de841362e610791c1c5574cecc8e5ecb8fc02e8eb352827b4ba8b065e085e2) ∷ [])
+    0x2013efb8c 0x383b8ff169387f297695c6150dfb525f00000000800000004be2d9b60fbae6e2 0)
+    (state ((13, 0x37a0686f98799ac6) ∷ (21, 0xffffffff7fffffff) ∷ (24, 0x44738cda62b41710) ∷
+    (54, 0x383b8ff169387f297695c6150dfb525f00000000800000004be2d9b60fbae6e2) ∷ [])
+    0x2013efb90 0x383b8ff169387f297695c6150dfb525f00000000800000004be2d9b60fbae6e2 0) ∷
+    executed (0x1d ∷ 0xff ∷ 0x9f ∷ 0x2c ∷ []) 0x2028bd5ea
+    (state ((11, 0x80000000) ∷ (22, 0xc705e86de1cb8f90) ∷ (24, 0x2028bcdeb) ∷
+    (27, 0x362b24b114169b5c) ∷
+    (61, 0xc13b6573e02a3a0f4371c72ca0e5f63bff3fe463f40fccf40709faeb9c3aa674) ∷ [])
+    0x2013f1944 0x4842f10e2c9bc15a9169493e98824858ffffffff7fffffff1accdd20d74f70f4 0)
+    (state ((11, 0x80000000) ∷ (22, 0xc705e86de1cb8f90) ∷ (24, 0x2028bcdeb) ∷
+    (27, 0x362b24b114169b5c) ∷
+    (61, 0x4842f10e2c9bc15a9169493e98824858ffffffff7fffffff1accdd20d74f70f4) ∷ [])
+    0x2013f1948 0x4842f10e2c9bc15a9169493e98824858ffffffff7fffffff1accdd20d74f70f4 0) ∷
+    executed (0xe7 ∷ 0x00 ∷ 0x80 ∷ 0x2c ∷ []) 0x202b7b24b
+    (state ((1, 0xb1c505e22ca3d962) ∷ (7, 0x202b7b24b) ∷ (16, 0x1b95d555a779f016) ∷
+    (39, 0x12554607aaf264e9fd390b2b1b33065c2f277b5ec64fad0973d1b1993771f799) ∷ [])
+    0x4013f65d0 0x876674b2add7638ddc982db821ae6abc000000000000007fcee9833172b05074 0)
+    (state ((1, 0xb1c505e22ca3d962) ∷ (7, 0x202b7b24b) ∷ (16, 0x1b95d555a779f016) ∷
+    (39, 0x876674b2add7638ddc982db821ae6abc000000000000007fcee9833172b05074) ∷ [])
+    0x4013f65d4 0x876674b2add7638ddc982db821ae6abc000000000000007fcee9833172b05074 0) ∷
+    executed (0xfd ∷ 0xfe ∷ 0xbf ∷ 0x2c ∷ []) 0x4020700bf
+    (state ((6, 0x1b72b6f6671b6257) ∷ (17, 0x78db1cbf487dab49) ∷ (23, 0x4020700c0) ∷
+    (29, 0xffffffff80000000) ∷
+    (61, 0xb598fb5ec56afa91ffaa2995cbcaf586e22882ea08297d40551d0b573e0ece2a) ∷ [])
+    0x13fa79c 0x234605895c44124a363576206c93c1930000000000000001a03936aa9c79c1be 0)
+    (state ((6, 0x1b72b6f6671b6257) ∷ (17, 0x78db1cbf487dab49) ∷ (23, 0x4020700c0) ∷
+    (29, 0xffffffff80000000) ∷
+    (61, 0x234605895c44124a363576206c93c1930000000000000001a03936aa9c79c1be) ∷ [])
+    0x13fa7a0 0x234605895c44124a363576206c93c1930000000000000001a03936aa9c79c1be 0) ∷
+    executed (0x30 ∷ 0x01 ∷ 0xa0 ∷ 0x2c ∷ []) 0x27ac8c0
+    (state ((9, 0x27ad0c0) ∷ (12, 0x7fffffff) ∷ (15, 0xeddc3fe88533480e) ∷
+    (20, 0x90bb42c62836366b) ∷
+    (48, 0xa38add3876a02e41eb267fda54c94fe084bb67bd59caf3c1e6c9b46b53c55b14) ∷ [])
+    0x13fe13c 0xe69272ca804a17e99199b3e266d8e2eb7fffffffffffffff321219e9c3040077 0)
+    (state ((9, 0x27ad0c0) ∷ (12, 0x7fffffff) ∷ (15, 0xeddc3fe88533480e) ∷
+    (20, 0x90bb42c62836366b) ∷
+    (48, 0xe69272ca804a17e99199b3e266d8e2eb7fffffffffffffff321219e9c3040077) ∷ [])
+    0x13fe140 0xe69272ca804a17e99199b3e266d8e2eb7fffffffffffffff321219e9c3040077 0) ∷
+    executed (0x61 ∷ 0xfd ∷ 0x9f ∷ 0x2c ∷ []) 0x2aff723
+    (state ((3, 0x4a643ac49e267104) ∷ (11, 0x2afef24) ∷ (25, 0xe0569bfa7a8867f4) ∷
+    (29, 0x8000000000000000) ∷
+    (33, 0xcdacfd68a4bbf0618dc5db99ef390c8b511a7b285a5b917819ba7efdbdc93fb7) ∷ [])
+    0x1400484 0x131f526ba12f07d0fcbcd9af18109fea00000000ffffffffc542afa160bd1c4c 0)
+    (state ((3, 0x4a643ac49e267104) ∷ (11, 0x2afef24) ∷ (25, 0xe0569bfa7a8867f4) ∷
+    (29, 0x8000000000000000) ∷
+    (33, 0x131f526ba12f07d0fcbcd9af18109fea00000000ffffffffc542afa160bd1c4c) ∷ [])
+    0x1400488 0x131f526ba12f07d0fcbcd9af18109fea00000000ffffffffc542afa160bd1c4c 0) ∷
+    executed (0xa0 ∷ 0x03 ∷ 0x80 ∷ 0x2c ∷ []) 0x402ee3840
+    (state ((14, 0x9365a01cadbbdbd7) ∷ (16, 0xa59bfdf1c8a6e078) ∷ (29, 0x402ee3840) ∷
+    (32, 0x622194c1d4b8bc77ab392ecb1ef4551e6e243023c4d7ed21baa44097df8a09eb) ∷ [])
+    0x201407a74 0xc2d51972690405a9969d566ca06f01950000000000000080804762e40506867b 0)
+    (state ((14, 0x9365a01cadbbdbd7) ∷ (16, 0xa59bfdf1c8a6e078) ∷ (29, 0x402ee3840) ∷
+    (32, 0xc2d51972690405a9969d566ca06f01950000000000000080804762e40506867b) ∷ [])
+    0x201407a78 0xc2d51972690405a9969d566ca06f01950000000000000080804762e40506867b 0) ∷
+    executed (0x5d ∷ 0xe1 ∷ 0x90 ∷ 0x2c ∷ []) 0x1cf
+    (state ((9, 0xffffffff) ∷ (10, 0xfffffffffffffd97) ∷ (14, 0x71c7a3668c247d4d) ∷
+    (61, 0x4abb4528892b7f3d567b613227c6ed1de4bb9bd2506deaa356202bc48f4c8e0e) ∷ [])
+    0x201409948 0xcae8f712c9e0de203f4c8ecd838c1b610000000000007fffe88cedc6c108aa7b 0)
+    (state ((9, 0xffffffff) ∷ (10, 0xfffffffffffffd97) ∷ (14, 0x71c7a3668c247d4d) ∷
+    (61, 0xcae8f712c9e0de203f4c8ecd838c1b610000000000007fffe88cedc6c108aa7b) ∷ [])
+    0x20140994c 0xcae8f712c9e0de203f4c8ecd838c1b610000000000007fffe88cedc6c108aa7b 0) ∷
+    executed (0x02 ∷ 0x44 ∷ 0x97 ∷ 0x2c ∷ []) 0x5d1
+    (state ((4, 0x6eb1e90ad774ba82) ∷ (10, 0x9c2a98c88ab10ba2) ∷ (21, 0x7fffffffffffffff) ∷
+    (34, 0xdb941c44c9ee816f176547cb69a31135e7a2ca68a043adec1d5f1d906b9e2fb2) ∷ [])
+    0x140edc4 0x304734b3985f4c6d10fe5a6cf2e1e952ffffffffffffffffb8b9459919a3d30d 0)
+    (state ((4, 0x6eb1e90ad774ba82) ∷ (10, 0x9c2a98c88ab10ba2) ∷ (21, 0x7fffffffffffffff) ∷
+    (34, 0x304734b3985f4c6d10fe5a6cf2e1e952ffffffffffffffffb8b9459919a3d30d) ∷ [])
+    0x140edc8 0x304734b3985f4c6d10fe5a6cf2e1e952ffffffffffffffffb8b9459919a3d30d 0) ∷
+    executed (0x95 ∷ 0x76 ∷ 0xbc ∷ 0x2c ∷ []) 0x202205478
+    (state ((6, 0xcfb1f30351ee7345) ∷ (14, 0xbb3f8caf1f41c4c3) ∷ (20, 0x20220555b) ∷
+    (30, 0x56461d3c355e1beb) ∷
+    (53, 0xd26194e22fdb4bf24d0da61b0c2212e219efe26fc87771e976998aecb2964862) ∷ [])
+    0x141281c 0x99a8ea98a12f8e79799f7cbe701dc5f7a52505695c402b23ddaf70054c1c3eb2 0)
+    (state ((6, 0xcfb1f30351ee7345) ∷ (14, 0xbb3f8caf1f41c4c3) ∷ (20, 0x20220555b) ∷
+    (30, 0x56461d3c355e1beb) ∷
+    (53, 0x99a8ea98a12f8e79799f7cbe701dc5f7a52505695c402b23ddaf70054c1c3eb2) ∷ [])
+    0x1412820 0x99a8ea98a12f8e79799f7cbe701dc5f7a52505695c402b23ddaf70054c1c3eb2 0) ∷
+    executed (0x94 ∷ 0x8a ∷ 0xac ∷ 0x2c ∷ []) 0x23dcb2f
+    (state ((12, 0x93d776a2fce6c08a) ∷ (19, 0xe85f05ef1cb4c9ca) ∷ (20, 0x23dd00d) ∷
+    (52, 0xd2833257fce0207fd0407972c1a1ff3349023b54362eeb4ca4c5a0921e5c06ab) ∷ [])
+    0x201417224 0x129f6a1b456142cc80c2e0ffe3cea6529a3179bc98ec826ad82803aa25484bc6 0)
+    (state ((12, 0x93d776a2fce6c08a) ∷ (19, 0xe85f05ef1cb4c9ca) ∷ (20, 0x23dd00d) ∷
+    (52, 0x129f6a1b456142cc80c2e0ffe3cea6529a3179bc98ec826ad82803aa25484bc6) ∷ [])
+    0x201417228 0x129f6a1b456142cc80c2e0ffe3cea6529a3179bc98ec826ad82803aa25484bc6 0) ∷
+    executed (0xfd ∷ 0x42 ∷ 0x91 ∷ 0x2c ∷ []) 0x21034d6
+    (state ((3, 0x3c33682800ed20aa) ∷ (9, 0x95251470235467ae) ∷ (23, 0x2103086) ∷
+    (61, 0x44c75c1d82bb7014728ae816ff6624fe9f610ef0035657a0591c5a0981aa1aa9) ∷ [])
+    0x141aa7c 0xf5959a616c9bad89e60957b0d5c2a021b65016fca846e709825bc7a76f5c5f87 0)
+    (state ((3, 0x3c33682800ed20aa) ∷ (9, 0x95251470235467ae) ∷ (23, 0x2103086) ∷
+    (61, 0xf5959a616c9bad89e60957b0d5c2a021b65016fca846e709825bc7a76f5c5f87) ∷ [])
+    0x141aa80 0xf5959a616c9bad89e60957b0d5c2a021b65016fca846e709825bc7a76f5c5f87 0) ∷
+    executed (0x99 ∷ 0x7d ∷ 0xb8 ∷ 0x2c ∷ []) 0x402602e08
+    (state ((8, 0xbdcd293cf480ba66) ∷ (12, 0x402602fe9) ∷ (23, 0x80871e059a4a44d0) ∷
+    (57, 0x333fba220e27fa093b216aaf207f39e254354a27fa4d77ab8ffd0cfffc68ba23) ∷ [])
+    0x40141d720 0xbb831b3c3922375e92be62d8af71df6162237e17de38f7c77efffe2e37f9d420 0)
+    (state ((8, 0xbdcd293cf480ba66) ∷ (12, 0x402602fe9) ∷ (23, 0x80871e059a4a44d0) ∷
+    (57, 0xbb831b3c3922375e92be62d8af71df6162237e17de38f7c77efffe2e37f9d420) ∷ [])
+    0x40141d724 0xbb831b3c3922375e92be62d8af71df6162237e17de38f7c77efffe2e37f9d420 0) ∷
+    executed (0x05 ∷ 0xe9 ∷ 0xab ∷ 0x2c ∷ []) 0x202a5ec04
+    (state ((8, 0x202a5f10a) ∷ (10, 0xdf745307ac611090) ∷ (13, 0xecb86af514f5a8ef) ∷
+    (17, 0xe30dd32784b6b690) ∷
+    (37, 0xcf327d808dd9e1956797ef6eef4fce9a9deb80811cc3585578e2a073a52e011d) ∷ [])
+    0x401420520 0x6c4b714e852ba97cdce40404b0c69d2b2989a77bc09eab839336e32043eec012 0)
+    (state ((8, 0x202a5f10a) ∷ (10, 0xdf745307ac611090) ∷ (13, 0xecb86af514f5a8ef) ∷
+    (17, 0xe30dd32784b6b690) ∷
+    (37, 0x6c4b714e852ba97cdce40404b0c69d2b2989a77bc09eab839336e32043eec012) ∷ [])
+    0x401420524 0x6c4b714e852ba97cdce40404b0c69d2b2989a77bc09eab839336e32043eec012 0) ∷
+    executed (0x80 ∷ 0x38 ∷ 0xa2 ∷ 0x2c ∷ []) 0x40269dbe7
+    (state ((4, 0x40269e359) ∷ (13, 0xdd666850555b2a3b) ∷ (15, 0x94ab273ae2ae8798) ∷
+    (20, 0x9e83e51a9baaefda) ∷
+    (32, 0xff26badf20883319ef3cabba1705d89ae68cf22ccfac4817446b9b0bb8f1d8e9) ∷ [])
+    0x401425b4c 0x2e7b3410009f91d7a705f8a296bcfcc8fa2ce04a07687b7cb55426f9086d9df1 0)
+    (state ((4, 0x40269e359) ∷ (13, 0xdd666850555b2a3b) ∷ (15, 0x94ab273ae2ae8798) ∷
+    (20, 0x9e83e51a9baaefda) ∷
+    (32, 0x2e7b3410009f91d7a705f8a296bcfcc8fa2ce04a07687b7cb55426f9086d9df1) ∷ [])
+    0x401425b50 0x2e7b3410009f91d7a705f8a296bcfcc8fa2ce04a07687b7cb55426f9086d9df1 0) ∷
+    executed (0xa6 ∷ 0xab ∷ 0x99 ∷ 0x2c ∷ []) 0x609
+    (state ((1, 0x7d604d0e17606d2f) ∷ (8, 0x102fa27c7c948c66) ∷ (27, 0x71a89878f1454914) ∷
+    (29, 0xffffffffffffff9f) ∷
+    (38, 0x8127f906a0afce857bf6205cf8ae3a7e28027153e89638e2b8086907146a18a3) ∷ [])
+    0x1429b94 0xe198367ae7f56dc4e99c7843968c9d3a5354df4abd088bb25c12f984d85c4e72 0)
+    (state ((1, 0x7d604d0e17606d2f) ∷ (8, 0x102fa27c7c948c66) ∷ (27, 0x71a89878f1454914) ∷
+    (29, 0xffffffffffffff9f) ∷
+    (38, 0xe198367ae7f56dc4e99c7843968c9d3a5354df4abd088bb25c12f984d85c4e72) ∷ [])
+    0x1429b98 0xe198367ae7f56dc4e99c7843968c9d3a5354df4abd088bb25c12f984d85c4e72 0) ∷
+    executed (0x0c ∷ 0xc4 ∷ 0x84 ∷ 0x2c ∷ []) 0x131
+    (state ((3, 0x35e8d6374bb17671) ∷ (17, 0x2b22b69f70d11384) ∷ (31, 0x7c19660df618f80e) ∷
+    (44, 0xcabed239958ebca90a5962a37c6e9e1bc9385d42f3b135ef620fa048176ae7e0) ∷ [])
+    0x20142e8c4 0xa7ed189623e308900e036406ae6a07bea2ae7fd2252666a5476fe91ff5488956 0)
+    (state ((3, 0x35e8d6374bb17671) ∷ (17, 0x2b22b69f70d11384) ∷ (31, 0x7c19660df618f80e) ∷
+    (44, 0xa7ed189623e308900e036406ae6a07bea2ae7fd2252666a5476fe91ff5488956) ∷ [])
+    0x20142e8c8 0xa7ed189623e308900e036406ae6a07bea2ae7fd2252666a5476fe91ff5488956 0) ∷
+    executed (0xea ∷ 0xc5 ∷ 0xa1 ∷ 0x2c ∷ []) 0x402562ce9
+    (state ((12, 0x6d59923f3b6b8de5) ∷ (13, 0xd8424a8bd71d055) ∷ (15, 0x402563478) ∷
+    (42, 0xab03257482156b3ed807d0d0be1cd204d585b6fca4b14d74d7902b198e955030) ∷ [])
+    0x14332b0 0xfc5ea4b63ede7d7468fe687f4de76d6fcdd0fc96a3ef36b5f1defdab84924af3 0)
+    (state ((12, 0x6d59923f3b6b8de5) ∷ (13, 0xd8424a8bd71d055) ∷ (15, 0x402563478) ∷
+    (42, 0xfc5ea4b63ede7d7468fe687f4de76d6fcdd0fc96a3ef36b5f1defdab84924af3) ∷ [])
+    0x14332b4 0xfc5ea4b63ede7d7468fe687f4de76d6fcdd0fc96a3ef36b5f1defdab84924af3 0) ∷
+    executed (0x42 ∷ 0xe0 ∷ 0x88 ∷ 0x2c ∷ []) 0x40236e70b
+    (state ((2, 0x40236e4d3) ∷ (5, 0x988b95e455829e23) ∷
+    (34, 0x5f2202e30a32e30dfd90c04b1d1240e9ef73369737efe9d688c28e71b21852df) ∷ [])
+    0x201434ae0 0xfa14179d486fa3256b2010582c307bf8f87e742176829df26f8676e19a894542 0)
+    (state ((2, 0x40236e4d3) ∷ (5, 0x988b95e455829e23) ∷
+    (34, 0xfa14179d486fa3256b2010582c307bf8f87e742176829df26f8676e19a894542) ∷ [])
+    0x201434ae4 0xfa14179d486fa3256b2010582c307bf8f87e742176829df26f8676e19a894542 0) ∷
+    executed (0x3f ∷ 0xb4 ∷ 0xb8 ∷ 0x2c ∷ []) 0x402de2c58
+    (state ((1, 0x402de2e2b) ∷ (7, 0xcbf933c0d8721ba1) ∷ (12, 0x76a4f9e8d753f82f) ∷
+    (20, 0x6c4679d81bdc7160) ∷
+    (63, 0x4961555dd7958537489137b92482db85e990986633947dd469220b75f4caf703) ∷ [])
+    0x40143b200 0x8491ab915af2b90fdb0103199303a9390ef557f7cbaba1037bc5fb2417b9934c 0)
+    (state ((1, 0x402de2e2b) ∷ (7, 0xcbf933c0d8721ba1) ∷ (12, 0x76a4f9e8d753f82f) ∷
+    (20, 0x6c4679d81bdc7160) ∷
+    (63, 0x8491ab915af2b90fdb0103199303a9390ef557f7cbaba1037bc5fb2417b9934c) ∷ [])
+    0x40143b204 0x8491ab915af2b90fdb0103199303a9390ef557f7cbaba1037bc5fb2417b9934c 0) ∷
+    executed (0x72 ∷ 0xd0 ∷ 0xb5 ∷ 0x2c ∷ []) 0x202bea1dd
+    (state ((3, 0x202bea469) ∷ (7, 0xb03f7bbc39301617) ∷ (16, 0xec8c47eb207185f5) ∷
+    (22, 0x57918bab07f2bc7c) ∷
+    (50, 0x1baf6bcd4e6567d7aed13bb77642fd6fde0c54c2f80d437bab23133b737aa4bd) ∷ [])
+    0x143c51c 0x36a5f92492b45e76c37e1a779a48f49364f279da5891cf1a93ec9120d4dd5de2 0)
+    (state ((3, 0x202bea469) ∷ (7, 0xb03f7bbc39301617) ∷ (16, 0xec8c47eb207185f5) ∷
+    (22, 0x57918bab07f2bc7c) ∷
+    (50, 0x36a5f92492b45e76c37e1a779a48f49364f279da5891cf1a93ec9120d4dd5de2) ∷ [])
+    0x143c520 0x36a5f92492b45e76c37e1a779a48f49364f279da5891cf1a93ec9120d4dd5de2 0) ∷
+    executed (0x8f ∷ 0x0e ∷ 0x9e ∷ 0x2c ∷ []) 0x2024cd813
+    (state ((10, 0x748c0f6ecc1ed1ee) ∷ (16, 0x68ed6d044c3dc387) ∷ (18, 0xd401965dc983eeab) ∷
+    (20, 0x2024cd090) ∷
+    (47, 0xb620fff0bda6f787a407ea814ceebb01ea81396e12d9b373cb392f1e81f2b362) ∷ [])
+    0x401442c4c 0x96b45c1502bec197a957dfa888fc926000ee41f7db4f90615c2c3802dd8750a9 0)
+    (state ((10, 0x748c0f6ecc1ed1ee) ∷ (16, 0x68ed6d044c3dc387) ∷ (18, 0xd401965dc983eeab) ∷
+    (20, 0x2024cd090) ∷
+    (47, 0x96b45c1502bec197a957dfa888fc926000ee41f7db4f90615c2c3802dd8750a9) ∷ [])
+    0x401442c50 0x96b45c1502bec197a957dfa888fc926000ee41f7db4f90615c2c3802dd8750a9 0) ∷
+    executed (0x40 ∷ 0x3b ∷ 0xa6 ∷ 0x2c ∷ []) 0x202bcd02e
+    (state ((1, 0x4463dbc69ce8f1c9) ∷ (3, 0xeb59739f7f32c2c6) ∷ (10, 0xf1d87eaf4d37a484) ∷
+    (26, 0x202bcd6a0) ∷
+    (32, 0x2db4af78a2f0dcceebb546e12088e68953d37a5d7216b23e001b7a9615dc0a35) ∷ [])
+    0x4014479bc 0xddbb467a90463709b5cba819a4ec9139a9c39aef910f28b8e1674b599fe285f0 0)
+    (state ((1, 0x4463dbc69ce8f1c9) ∷ (3, 0xeb59739f7f32c2c6) ∷ (10, 0xf1d87eaf4d37a484) ∷
+    (26, 0x202bcd6a0) ∷
+    (32, 0xddbb467a90463709b5cba819a4ec9139a9c39aef910f28b8e1674b599fe285f0) ∷ [])
+    0x4014479c0 0xddbb467a90463709b5cba819a4ec9139a9c39aef910f28b8e1674b599fe285f0 0) ∷
+    executed (0x42 ∷ 0xf2 ∷ 0x8d ∷ 0x2c ∷ []) 0x7c
+    (state ((5, 0x3b114c9f88421315) ∷ (18, 0xfffffffffffffd00) ∷ (25, 0xccbb410df056626c) ∷
+    (34, 0xe6d2720f7847233ea894b8625c09e3f9c8371f8b44bdc23653f3182a1eaff8a0) ∷ [])
+    0x201449718 0x671b8fc513363c424bba98d1eb2836b10c5b44968c39b03e8c381ff58a8ada9b 0)
+    (state ((5, 0x3b114c9f88421315) ∷ (18, 0xfffffffffffffd00) ∷ (25, 0xccbb410df056626c) ∷
+    (34, 0x671b8fc513363c424bba98d1eb2836b10c5b44968c39b03e8c381ff58a8ada9b) ∷ [])
+    0x20144971c 0x671b8fc513363c424bba98d1eb2836b10c5b44968c39b03e8c381ff58a8ada9b 0) ∷
+    executed (0x0e ∷ 0xfc ∷ 0x96 ∷ 0x2c ∷ []) 0x5bf
+    (state ((2, 0xe3a95bfe896e058a) ∷ (23, 0xba93dd9467eb25cc) ∷ (25, 0xede986ed6450e887) ∷
+    (46, 0xdb8835388b05991d758ddf1e0bc60a576f0505682eb3e2e1bd2df4488dbbd49e) ∷ [])
+    0x144e7f4 0x2ccdd0ac013da7f65dba59366340d0dbb53a9437edb9a682015a5de15d27e021 0)
+    (state ((2, 0xe3a95bfe896e058a) ∷ (23, 0xba93dd9467eb25cc) ∷ (25, 0xede986ed6450e887) ∷
+    (46, 0x2ccdd0ac013da7f65dba59366340d0dbb53a9437edb9a682015a5de15d27e021) ∷ [])
+    0x144e7f8 0x2ccdd0ac013da7f65dba59366340d0dbb53a9437edb9a682015a5de15d27e021 0) ∷
+    executed (0x83 ∷ 0x0d ∷ 0x81 ∷ 0x2c ∷ []) 0x202054cb9
+    (state ((12, 0x202054c76) ∷ (15, 0xc1cd978ba0488d4b) ∷ (16, 0x2b62b2f4cc3b4041) ∷
+    (35, 0x4a95c12a2b3ccdbc21ce634f2ace90d687cf2196442fda069cc9459d769fd82e) ∷ [])
+    0x401451470 0x79d7675adf1708dafbe493ceee1d06ebf9407254c1396963446d29f96ef18fe8 0)
+    (state ((12, 0x202054c76) ∷ (15, 0xc1cd978ba0488d4b) ∷ (16, 0x2b62b2f4cc3b4041) ∷
+    (35, 0x79d7675adf1708dafbe493ceee1d06ebf9407254c1396963446d29f96ef18fe8) ∷ [])
+    0x401451474 0x79d7675adf1708dafbe493ceee1d06ebf9407254c1396963446d29f96ef18fe8 0) ∷
+    executed (0x21 ∷ 0xac ∷ 0x8e ∷ 0x2c ∷ []) 0x2027524b7
+    (state ((1, 0x20275210c) ∷ (11, 0x27559fa919b93cf9) ∷ (23, 0x7c755100c720de6b) ∷
+    (33, 0xbd237547a57bb64d82fc3d02773fdc17da46f60f2f1ffcc8f26ff432f5cd57ba) ∷ [])
+    0x201457a5c 0xac486fdc7b2d127f6b039944764e902ddcbfa9f00281df16a427fdde574c1d9e 0)
+    (state ((1, 0x20275210c) ∷ (11, 0x27559fa919b93cf9) ∷ (23, 0x7c755100c720de6b) ∷
+    (33, 0xac486fdc7b2d127f6b039944764e902ddcbfa9f00281df16a427fdde574c1d9e) ∷ [])
+    0x201457a60 0xac486fdc7b2d127f6b039944764e902ddcbfa9f00281df16a427fdde574c1d9e 0) ∷
+    executed (0x82 ∷ 0x61 ∷ 0x95 ∷ 0x2c ∷ []) 0x202cec3d3
+    (state ((4, 0xe7045fca7f850806) ∷ (12, 0x202cebe7b) ∷ (18, 0x16441483c5c66917) ∷
+    (34, 0x655d84424e0d41d40913fe49e47be3b1d925d8045e30f752392c23bbc795461a) ∷ [])
+    0x201458c00 0x30628fde26a19fdefb127c6ff4dafe75974336c232dcc5cdf0f2eda68fd0de8c 0)
+    (state ((4, 0xe7045fca7f850806) ∷ (12, 0x202cebe7b) ∷ (18, 0x16441483c5c66917) ∷
+    (34, 0x30628fde26a19fdefb127c6ff4dafe75974336c232dcc5cdf0f2eda68fd0de8c) ∷ [])
+    0x201458c04 0x30628fde26a19fdefb127c6ff4dafe75974336c232dcc5cdf0f2eda68fd0de8c 0) ∷
+    executed (0x01 ∷ 0x28 ∷ 0x98 ∷ 0x2c ∷ []) 0x60a
+    (state ((22, 0xa9f4c881758133b8) ∷ (25, 0x952c7eb3bde8ce4f) ∷ (31, 0x760b6bb6e6cd8ddf) ∷
+    (33, 0x332be66017fac2fe3913455e13baec4ff0efc2c5d0529e2159be5eb79c0de769) ∷ [])
+    0x145e71c 0xc4358dba2a94c322fc418feeabc4704eda5dc758f22e3349d25193a26015f132 0)
+    (state ((22, 0xa9f4c881758133b8) ∷ (25, 0x952c7eb3bde8ce4f) ∷ (31, 0x760b6bb6e6cd8ddf) ∷
+    (33, 0xc4358dba2a94c322fc418feeabc4704eda5dc758f22e3349d25193a26015f132) ∷ [])
+    0x145e720 0xc4358dba2a94c322fc418feeabc4704eda5dc758f22e3349d25193a26015f132 0) ∷
+    []) ∷
+    -- xvst
+    group 0x0 (
+    executed (0x7d ∷ 0x03 ∷ 0xc0 ∷ 0x2c ∷ []) 0x402e47435
+    (state ((18, 0x58c17cfe3ea2bd0f) ∷ (24, 0x7673dde32fe7f897) ∷ (27, 0x402e47435) ∷
+    (61, 0xcc91b962d1be094bdc9fb432dd24c0835be2c6e53e18cd8b333d132bc6916fb) ∷ [])
+    0x201461008 0x2875b20e3540c889f1fb2e7a569249d50000000000000000f168afdcba9c3fde 0)
+    (state ((18, 0x58c17cfe3ea2bd0f) ∷ (24, 0x7673dde32fe7f897) ∷ (27, 0x402e47435) ∷
+    (61, 0xcc91b962d1be094bdc9fb432dd24c0835be2c6e53e18cd8b333d132bc6916fb) ∷ [])
+    0x20146100c 0xcc91b962d1be094bdc9fb432dd24c0835be2c6e53e18cd8b333d132bc6916fb 0) ∷
+    executed (0x40 ∷ 0xfc ∷ 0xff ∷ 0x2c ∷ []) 0x2c0e9e2
+    (state ((2, 0x2c0e9e3) ∷ (9, 0x966dec496057d513) ∷ (20, 0xffffffff) ∷
+    (32, 0xbc0521a3c29e19dd24e87b21aa986cbf19fe128701ca5d0e96676e5548835f42) ∷ [])
+    0x1467910 0xd8db74b9ad56e75068d3b4e2931e2ea28000000000000000ee93f7eaac6016ea 0)
+    (state ((2, 0x2c0e9e3) ∷ (9, 0x966dec496057d513) ∷ (20, 0xffffffff) ∷
+    (32, 0xbc0521a3c29e19dd24e87b21aa986cbf19fe128701ca5d0e96676e5548835f42) ∷ [])
+    0x1467914 0xbc0521a3c29e19dd24e87b21aa986cbf19fe128701ca5d0e96676e5548835f42 0) ∷
+    executed (0x3c ∷ 0xb9 ∷ 0xdc ∷ 0x2c ∷ []) 0x317
+    (state ((8, 0x25d98720052387ae) ∷ (9, 0xfffffffffffffbe9) ∷ (20, 0x7fffffffffffffff) ∷
+    (60, 0x8866b941673c92fa2d010eedeeb8d7501a583d6d98e115cadfe6164b0dcec57f) ∷ [])
+    0x1469500 0x12f9910bf151c10ccd2e5a9482882652000000007fffffffed05736af0b0ccd9 0)
+    (state ((8, 0x25d98720052387ae) ∷ (9, 0xfffffffffffffbe9) ∷ (20, 0x7fffffffffffffff) ∷
+    (60, 0x8866b941673c92fa2d010eedeeb8d7501a583d6d98e115cadfe6164b0dcec57f) ∷ [])
+    0x1469504 0x8866b941673c92fa2d010eedeeb8d7501a583d6d98e115cadfe6164b0dcec57f 0) ∷
+    executed (0x15 ∷ 0x98 ∷ 0xc2 ∷ 0x2c ∷ []) 0xa6
+    (state ((20, 0x1) ∷ (22, 0x5f012c666f678b6c) ∷ (29, 0xb360ba6da5af1da3) ∷
+    (53, 0x8df2e89c3d76f80bfc2a136885d90f5fb463b3512972831525e04b0f73bbf234) ∷ [])
+    0x20146e62c 0x62e8f93076e6cb27223e3cd3568ad5d8ffffffff8000000084954c9fed21eeb5 0)
+    (state ((20, 0x1) ∷ (22, 0x5f012c666f678b6c) ∷ (29, 0xb360ba6da5af1da3) ∷
+    (53, 0x8df2e89c3d76f80bfc2a136885d90f5fb463b3512972831525e04b0f73bbf234) ∷ [])
+    0x20146e630 0x8df2e89c3d76f80bfc2a136885d90f5fb463b3512972831525e04b0f73bbf234 0) ∷
+    executed (0xec ∷ 0xff ∷ 0xdf ∷ 0x2c ∷ []) 0x2ad52d0
+    (state ((12, 0xffffffff7fffffff) ∷ (22, 0xd5c9fb3a8e234cc3) ∷ (31, 0x2ad4ad1) ∷
+    (44, 0xeeb2e9ed31bc0bc60f71a88cf651d6eaefdb8d5a7ce3232e73d343f8f444d4d1) ∷ [])
+    0x201473b24 0x4f922a74dd355186391e90ec20beb1b50000000000008000ada8367fcdb83069 0)
+    (state ((12, 0xffffffff7fffffff) ∷ (22, 0xd5c9fb3a8e234cc3) ∷ (31, 0x2ad4ad1) ∷
+    (44, 0xeeb2e9ed31bc0bc60f71a88cf651d6eaefdb8d5a7ce3232e73d343f8f444d4d1) ∷ [])
+    0x201473b28 0xeeb2e9ed31bc0bc60f71a88cf651d6eaefdb8d5a7ce3232e73d343f8f444d4d1 0) ∷
+    executed (0xde ∷ 0xff ∷ 0xff ∷ 0x2c ∷ []) 0x241f594
+    (state ((6, 0x98b97c49fa6f10a) ∷ (30, 0x241f595) ∷
+    (62, 0xc20ef1d4e3a5c73d8fdb9cc65b0801c8ee81bded4b045f26d10c275597c3bceb) ∷ [])
+    0x20147461c 0x3a3bf9805b87208161c21dcc3ee2e5970000000000000001999c188de8a71f9f 0)
+    (state ((6, 0x98b97c49fa6f10a) ∷ (30, 0x241f595) ∷
+    (62, 0xc20ef1d4e3a5c73d8fdb9cc65b0801c8ee81bded4b045f26d10c275597c3bceb) ∷ [])
+    0x201474620 0xc20ef1d4e3a5c73d8fdb9cc65b0801c8ee81bded4b045f26d10c275597c3bceb 0) ∷
+    executed (0x20 ∷ 0x07 ∷ 0xc0 ∷ 0x2c ∷ []) 0x402911a2c
+    (state ((5, 0x40722b6346df62e2) ∷ (17, 0x6ce58536c3ce040e) ∷ (19, 0xffffffffffffffff) ∷
+    (25, 0x402911a2b) ∷
+    (32, 0xc1819acfb71be7fb73e5dceaecdc07ad9eba6da9485c14df969adddfb415dcff) ∷ [])
+    0x14792f8 0x9bf356df74c06acc8c712758c27f819b7fffffffffffffff4ffcd3096552b470 0)
+    (state ((5, 0x40722b6346df62e2) ∷ (17, 0x6ce58536c3ce040e) ∷ (19, 0xffffffffffffffff) ∷
+    (25, 0x402911a2b) ∷
+    (32, 0xc1819acfb71be7fb73e5dceaecdc07ad9eba6da9485c14df969adddfb415dcff) ∷ [])
+    0x14792fc 0xc1819acfb71be7fb73e5dceaecdc07ad9eba6da9485c14df969adddfb415dcff 0) ∷
+    executed (0x70 ∷ 0x02 ∷ 0xe0 ∷ 0x2c ∷ []) 0x202ea933b
+    (state ((9, 0xffffffff80000000) ∷ (15, 0x508eb94cfa6fec84) ∷ (19, 0x202ea9b3b) ∷
+    (31, 0xa31c1b60802afeea) ∷
+    (48, 0x73384b15025b81c40f31513d4d6b1227fc1bec7931aa749521cbc34e80d4b302) ∷ [])
+    0x40147ec38 0x9d15abfd43e0792d01fb70fe613c339c00000000ffffffffb72cbff0e70d56f6 0)
+    (state ((9, 0xffffffff80000000) ∷ (15, 0x508eb94cfa6fec84) ∷ (19, 0x202ea9b3b) ∷
+    (31, 0xa31c1b60802afeea) ∷
+    (48, 0x73384b15025b81c40f31513d4d6b1227fc1bec7931aa749521cbc34e80d4b302) ∷ [])
+    0x40147ec3c 0x73384b15025b81c40f31513d4d6b1227fc1bec7931aa749521cbc34e80d4b302 0) ∷
+    executed (0x79 ∷ 0xfe ∷ 0xdf ∷ 0x2c ∷ []) 0x402aa4e0f
+    (state ((18, 0x8f8631718c9c63e7) ∷ (19, 0x402aa4610) ∷ (24, 0x7fffffff) ∷
+    (27, 0x1db6f4d79de291ca) ∷
+    (57, 0xc20a33257d956e8d592a786f38df0f193f986a2a323847362a0e6c63ff577a0e) ∷ [])
+    0x201482c94 0x1f65578d7e912fa5b9c99234161cd93d00000000000000809ff3f35153fab51b 0)
+    (state ((18, 0x8f8631718c9c63e7) ∷ (19, 0x402aa4610) ∷ (24, 0x7fffffff) ∷
+    (27, 0x1db6f4d79de291ca) ∷
+    (57, 0xc20a33257d956e8d592a786f38df0f193f986a2a323847362a0e6c63ff577a0e) ∷ [])
+    0x201482c98 0xc20a33257d956e8d592a786f38df0f193f986a2a323847362a0e6c63ff577a0e 0) ∷
+    executed (0x40 ∷ 0x03 ∷ 0xc0 ∷ 0x2c ∷ []) 0x40248b855
+    (state ((5, 0x8000000000000000) ∷ (26, 0x40248b855) ∷ (29, 0x4292c3b115cda4e4) ∷
+    (31, 0x9ca8967063ba509b) ∷
+    (32, 0xeb4320f93c98dbbe38135653f48b33ee7a9d0b09b629836b5f05d1666d0af3ab) ∷ [])
+    0x201486b6c 0x218360469cfdaca3755a55d739eba0500000000000007fffebd652d37056b50d 0)
+    (state ((5, 0x8000000000000000) ∷ (26, 0x40248b855) ∷ (29, 0x4292c3b115cda4e4) ∷
+    (31, 0x9ca8967063ba509b) ∷
+    (32, 0xeb4320f93c98dbbe38135653f48b33ee7a9d0b09b629836b5f05d1666d0af3ab) ∷ [])
+    0x201486b70 0xeb4320f93c98dbbe38135653f48b33ee7a9d0b09b629836b5f05d1666d0af3ab 0) ∷
+    executed (0x30 ∷ 0xe9 ∷ 0xdd ∷ 0x2c ∷ []) 0x725
+    (state ((7, 0x16344fb4eff626f0) ∷ (9, 0xffffffffffffffab) ∷ (12, 0x7baac3d40f5acedc) ∷
+    (22, 0x1) ∷ (48, 0xd4249d1cb1725c022a965f166a3cc73c89db8aa8eb447b759ea54a738e158dce) ∷ [])
+    0x201489424 0x5078a05a620b5f690065ba890921a89effffffffffffffff1e1adbd7528f1df0 0)
+    (state ((7, 0x16344fb4eff626f0) ∷ (9, 0xffffffffffffffab) ∷ (12, 0x7baac3d40f5acedc) ∷
+    (22, 0x1) ∷ (48, 0xd4249d1cb1725c022a965f166a3cc73c89db8aa8eb447b759ea54a738e158dce) ∷ [])
+    0x201489428 0xd4249d1cb1725c022a965f166a3cc73c89db8aa8eb447b759ea54a738e158dce 0) ∷
+    executed (0x02 ∷ 0xa4 ∷ 0xd2 ∷ 0x2c ∷ []) 0x4a9
+    (state ((10, 0x840ed4e4109ba9fe) ∷ (20, 0xffffffff7fffffff) ∷
+    (34, 0xb4b6e83170c6e9b66ccd5419fa4d05e0ff3de4041255820f1119b7962d93ae02) ∷ [])
+    0x40148d0bc 0x249194d3fa532fab714249a1919eed0600000000800000006baeb1560263685a 0)
+    (state ((10, 0x840ed4e4109ba9fe) ∷ (20, 0xffffffff7fffffff) ∷
+    (34, 0xb4b6e83170c6e9b66ccd5419fa4d05e0ff3de4041255820f1119b7962d93ae02) ∷ [])
+    0x40148d0c0 0xb4b6e83170c6e9b66ccd5419fa4d05e0ff3de4041255820f1119b7962d93ae02 0) ∷
+    executed (0x28 ∷ 0xfd ∷ 0xdf ∷ 0x2c ∷ []) 0x4024e6a81
+    (state ((3, 0x3042ec074a741e15) ∷ (4, 0x5950697b8c7613b9) ∷ (5, 0x80000000) ∷
+    (9, 0x4024e6282) ∷
+    (40, 0x4c2d0291f5520c90e317816c4c53bacd2060c25a9ffabe4e39a22cc67252c7aa) ∷ [])
+    0x201491f44 0xc0594267493eb09c665053b0aca40486ffffffff7fffffffad72298db400fd6e 0)
+    (state ((3, 0x3042ec074a741e15) ∷ (4, 0x5950697b8c7613b9) ∷ (5, 0x80000000) ∷
+    (9, 0x4024e6282) ∷
+    (40, 0x4c2d0291f5520c90e317816c4c53bacd2060c25a9ffabe4e39a22cc67252c7aa) ∷ [])
+    0x201491f48 0x4c2d0291f5520c90e317816c4c53bacd2060c25a9ffabe4e39a22cc67252c7aa 0) ∷
+    executed (0xb5 ∷ 0x02 ∷ 0xc0 ∷ 0x2c ∷ []) 0x202cd306d
+    (state ((14, 0x205bc238da40ed3) ∷ (21, 0x202cd306d) ∷ (28, 0xee1dac0a168c286b) ∷
+    (53, 0x2c705f5d866db4946a617deb36f07adcc937a0a2cd51417a066fdf95e31af289) ∷ [])
+    0x1494558 0xff7457f1296cb0f49a3ff3a93e569c08000000000000007fbf1773c8009c2e3f 0)
+    (state ((14, 0x205bc238da40ed3) ∷ (21, 0x202cd306d) ∷ (28, 0xee1dac0a168c286b) ∷
+    (53, 0x2c705f5d866db4946a617deb36f07adcc937a0a2cd51417a066fdf95e31af289) ∷ [])
+    0x149455c 0x2c705f5d866db4946a617deb36f07adcc937a0a2cd51417a066fdf95e31af289 0) ∷
+    executed (0xd0 ∷ 0xfd ∷ 0xff ∷ 0x2c ∷ []) 0x282d394
+    (state ((3, 0x6f57593f642225dc) ∷ (14, 0x282d395) ∷ (30, 0xffffffff80000000) ∷
+    (48, 0x582c71683cb39785d40c7bf8faacd03d278f06d3b7eef1e0f23c7f316d24e425) ∷ [])
+    0x2014986d0 0x5173f02659eba198f52d6b007a434bd20000000000000001d0a4cb8d107aab8b 0)
+    (state ((3, 0x6f57593f642225dc) ∷ (14, 0x282d395) ∷ (30, 0xffffffff80000000) ∷
+    (48, 0x582c71683cb39785d40c7bf8faacd03d278f06d3b7eef1e0f23c7f316d24e425) ∷ [])
+    0x2014986d4 0x582c71683cb39785d40c7bf8faacd03d278f06d3b7eef1e0f23c7f316d24e425 0) ∷
+    executed (0xef ∷ 0x03 ∷ 0xe0 ∷ 0x2c ∷ []) 0x2ae176d
+    (state ((11, 0x4503d0db0ab34581) ∷ (24, 0xa58fe61541fe04a9) ∷ (28, 0x7fffffff) ∷
+    (31, 0x2ae1f6d) ∷
+    (47, 0x967ab1ec13a56c216e9241fadd176614a4ff22a2407e180730b129c539c2c6e9) ∷ [])
+    0x40149f100 0x22c2012ddd9ef7f740d6e5c4033292a07fffffffffffffff1fdb7b937e7c18d4 0)
+    (state ((11, 0x4503d0db0ab34581) ∷ (24, 0xa58fe61541fe04a9) ∷ (28, 0x7fffffff) ∷
+    (31, 0x2ae1f6d) ∷
+    (47, 0x967ab1ec13a56c216e9241fadd176614a4ff22a2407e180730b129c539c2c6e9) ∷ [])
+    0x40149f104 0x967ab1ec13a56c216e9241fadd176614a4ff22a2407e180730b129c539c2c6e9 0) ∷
+    executed (0x9c ∷ 0xfd ∷ 0xdf ∷ 0x2c ∷ []) 0x2f3b2cb
+    (state ((12, 0x2f3aacc) ∷ (14, 0x8000000000000000) ∷ (25, 0xee5b804ac3fc495) ∷
+    (60, 0x805533dbe4da243de31c844945e56bb91a32675fa1959bbb6f18a91819856f53) ∷ [])
+    0x4014a13cc 0xe7392fb4bf862050ed9b5788e9773f3e00000000ffffffff462d340ccfb05490 0)
+    (state ((12, 0x2f3aacc) ∷ (14, 0x8000000000000000) ∷ (25, 0xee5b804ac3fc495) ∷
+    (60, 0x805533dbe4da243de31c844945e56bb91a32675fa1959bbb6f18a91819856f53) ∷ [])
+    0x4014a13d0 0x805533dbe4da243de31c844945e56bb91a32675fa1959bbb6f18a91819856f53 0) ∷
+    executed (0x00 ∷ 0x03 ∷ 0xc0 ∷ 0x2c ∷ []) 0x202fe1b06
+    (state ((20, 0xcbde6299a84143d8) ∷ (24, 0x202fe1b06) ∷
+    (32, 0xef9d1d1ea2258045dc0a6a50482d41ee5dfecd31ceb89d775adc04d281fd4ba1) ∷ [])
+    0x2014a546c 0xcc653e2450dcd4a12f3ff344a0b81cf40000000000000080d216edd096bc0c1e 0)
+    (state ((20, 0xcbde6299a84143d8) ∷ (24, 0x202fe1b06) ∷
+    (32, 0xef9d1d1ea2258045dc0a6a50482d41ee5dfecd31ceb89d775adc04d281fd4ba1) ∷ [])
+    0x2014a5470 0xef9d1d1ea2258045dc0a6a50482d41ee5dfecd31ceb89d775adc04d281fd4ba1 0) ∷
+    executed (0x92 ∷ 0x37 ∷ 0xc4 ∷ 0x2c ∷ []) 0x2c
+    (state ((10, 0x158d2976d2c93696) ∷ (12, 0xedba1b8624143c85) ∷ (21, 0xffffffff) ∷
+    (28, 0xffffffffffffff1f) ∷
+    (50, 0x6c4d9d37edaf7dfb68cf3ba3b2ede1fdc533df5e4e99b955c0a79016fd320ea) ∷ [])
+    0x14a87b4 0x55945c02579a957483baff665670dadc0000000000007fff570179ec6cc1a085 0)
+    (state ((10, 0x158d2976d2c93696) ∷ (12, 0xedba1b8624143c85) ∷ (21, 0xffffffff) ∷
+    (28, 0xffffffffffffff1f) ∷
+    (50, 0x6c4d9d37edaf7dfb68cf3ba3b2ede1fdc533df5e4e99b955c0a79016fd320ea) ∷ [])
+    0x14a87b8 0x6c4d9d37edaf7dfb68cf3ba3b2ede1fdc533df5e4e99b955c0a79016fd320ea 0) ∷
+    executed (0x14 ∷ 0x48 ∷ 0xce ∷ 0x2c ∷ []) 0x392
+    (state ((17, 0x7fffffffffffffff) ∷ (20, 0xb53a6de26f35d3be) ∷ (22, 0xbfeed941e5ccbed6) ∷
+    (52, 0x16650d88097b09d89299adf167cd298477e9557af919bc544fa7547b33f0cdba) ∷ [])
+    0x14aefc8 0x91b990a786c4c76ad176da55003c30c0ffffffffffffffff7a32d99d416a6f41 0)
+    (state ((17, 0x7fffffffffffffff) ∷ (20, 0xb53a6de26f35d3be) ∷ (22, 0xbfeed941e5ccbed6) ∷
+    (52, 0x16650d88097b09d89299adf167cd298477e9557af919bc544fa7547b33f0cdba) ∷ [])
+    0x14aefcc 0x16650d88097b09d89299adf167cd298477e9557af919bc544fa7547b33f0cdba 0) ∷
+    executed (0x21 ∷ 0x9b ∷ 0xd0 ∷ 0x2c ∷ []) 0x2028e15b7
+    (state ((12, 0x2a858bb08717da8c) ∷ (15, 0x8d564ae9308186af) ∷ (24, 0x7a8596807efab07f) ∷
+    (25, 0x2028e1191) ∷
+    (33, 0x849288a6e17ec10f52299c5e5ab5983ac27ea48e6ed78f41d4d39074d2a86410) ∷ [])
+    0x4014b0f70 0xee2be4e6bbb4ec317bdbea7d236c485d24b509679e1a079e1973fa581a2f46b3 0)
+    (state ((12, 0x2a858bb08717da8c) ∷ (15, 0x8d564ae9308186af) ∷ (24, 0x7a8596807efab07f) ∷
+    (25, 0x2028e1191) ∷
+    (33, 0x849288a6e17ec10f52299c5e5ab5983ac27ea48e6ed78f41d4d39074d2a86410) ∷ [])
+    0x4014b0f74 0x849288a6e17ec10f52299c5e5ab5983ac27ea48e6ed78f41d4d39074d2a86410 0) ∷
+    executed (0x10 ∷ 0xb2 ∷ 0xfd ∷ 0x2c ∷ []) 0x40203dd00
+    (state ((8, 0xbf69fa2bc65fbb5d) ∷ (16, 0x40203dd94) ∷ (26, 0xefd0090e86378f18) ∷
+    (48, 0x813d01a404a43ec78bcf3ff84d4658a44004f045ccbfc9e5e0a544b89551931c) ∷ [])
+    0x4014b7024 0xdd78d0e135b052e788f1fc5b89d2e0558c5b5d722e0649198a329e82baab7981 0)
+    (state ((8, 0xbf69fa2bc65fbb5d) ∷ (16, 0x40203dd94) ∷ (26, 0xefd0090e86378f18) ∷
+    (48, 0x813d01a404a43ec78bcf3ff84d4658a44004f045ccbfc9e5e0a544b89551931c) ∷ [])
+    0x4014b7028 0x813d01a404a43ec78bcf3ff84d4658a44004f045ccbfc9e5e0a544b89551931c 0) ∷
+    executed (0xb3 ∷ 0x6c ∷ 0xff ∷ 0x2c ∷ []) 0x402fe7c7d
+    (state ((5, 0x402fe7ca2) ∷ (14, 0xd89297da7ddfe212) ∷ (18, 0x458b432af5f66d0e) ∷
+    (24, 0x92d5b499bcccc4d8) ∷
+    (51, 0x4c27cf570dccd08a440890ab96af1b435c8459e0b7a1a499e63907f21770eee4) ∷ [])
+    0x2014b9e24 0xa59ecf9453ae507e590f54f6ea2d4abc300d7d63d431bb9f7730122864e63e3 0)
+    (state ((5, 0x402fe7ca2) ∷ (14, 0xd89297da7ddfe212) ∷ (18, 0x458b432af5f66d0e) ∷
+    (24, 0x92d5b499bcccc4d8) ∷
+    (51, 0x4c27cf570dccd08a440890ab96af1b435c8459e0b7a1a499e63907f21770eee4) ∷ [])
+    0x2014b9e28 0x4c27cf570dccd08a440890ab96af1b435c8459e0b7a1a499e63907f21770eee4 0) ∷
+    executed (0xbc ∷ 0x14 ∷ 0xd6 ∷ 0x2c ∷ []) 0x4028f6541
+    (state ((5, 0x4028f5fbc) ∷ (8, 0xdcb42a3d8dc6d111) ∷ (16, 0x17a93f6c5a5cafb2) ∷
+    (18, 0x833a672522d963) ∷
+    (60, 0x3f5372f33e290b24747894c6e840961ec249258ab112c2b9307e4c6290ff2a5c) ∷ [])
+    0x14beab0 0x87e1c3e9ff526011e7424d30ffbe50d32892ee1d448e320eb730f52fe49b939c 0)
+    (state ((5, 0x4028f5fbc) ∷ (8, 0xdcb42a3d8dc6d111) ∷ (16, 0x17a93f6c5a5cafb2) ∷
+    (18, 0x833a672522d963) ∷
+    (60, 0x3f5372f33e290b24747894c6e840961ec249258ab112c2b9307e4c6290ff2a5c) ∷ [])
+    0x14beab4 0x3f5372f33e290b24747894c6e840961ec249258ab112c2b9307e4c6290ff2a5c 0) ∷
+    executed (0xed ∷ 0x01 ∷ 0xc0 ∷ 0x2c ∷ []) 0x40201b2f9
+    (state ((6, 0xd1243c2c79f99b6) ∷ (8, 0x543cf3a7fd295b23) ∷ (15, 0x40201b2f9) ∷
+    (19, 0xcf12b3eb4b85d395) ∷
+    (45, 0x114f51429a23f0a9c173e2b240840cc6717dad4a1efcebf97d754c41ec67a686) ∷ [])
+    0x4014c0804 0x6b46722df167131698568cb09cc8c7c084e7580ee555be700131db967eba476 0)
+    (state ((6, 0xd1243c2c79f99b6) ∷ (8, 0x543cf3a7fd295b23) ∷ (15, 0x40201b2f9) ∷
+    (19, 0xcf12b3eb4b85d395) ∷
+    (45, 0x114f51429a23f0a9c173e2b240840cc6717dad4a1efcebf97d754c41ec67a686) ∷ [])
+    0x4014c0808 0x114f51429a23f0a9c173e2b240840cc6717dad4a1efcebf97d754c41ec67a686 0) ∷
+    executed (0x20 ∷ 0x71 ∷ 0xd4 ∷ 0x2c ∷ []) 0x2f51ea2
+    (state ((9, 0x2f51986) ∷ (10, 0x7a693d606d14de34) ∷ (16, 0x6bacb55d6dc1c5db) ∷
+    (26, 0x5d6184a05b025a07) ∷
+    (32, 0x90ba4c1bad08badfd3c3be74e642e35281305304a71b35915d5204707b3428e7) ∷ [])
+    0x14c4974 0xc970ab5b3702e1671dd68fae0e397a654fcb8a0890014f6dc7c88106d0c44ee4 0)
+    (state ((9, 0x2f51986) ∷ (10, 0x7a693d606d14de34) ∷ (16, 0x6bacb55d6dc1c5db) ∷
+    (26, 0x5d6184a05b025a07) ∷
+    (32, 0x90ba4c1bad08badfd3c3be74e642e35281305304a71b35915d5204707b3428e7) ∷ [])
+    0x14c4978 0x90ba4c1bad08badfd3c3be74e642e35281305304a71b35915d5204707b3428e7 0) ∷
+    executed (0xb5 ∷ 0x77 ∷ 0xcf ∷ 0x2c ∷ []) 0x5d
+    (state ((16, 0x4bd8ffd892b77fc3) ∷ (21, 0x58f6cd75b54ec868) ∷ (29, 0xfffffffffffffc80) ∷
+    (31, 0xe16a99d8f725dc32) ∷
+    (53, 0xf784b9c52cf354484f5c19213ae142e140dd0496fbf25a3e7a8fae937c17cd14) ∷ [])
+    0x4014caa8c 0x8f74e34d20eb0ae2387f931de2e476a3d1e936c3082830a27d56da4d2af1f282 0)
+    (state ((16, 0x4bd8ffd892b77fc3) ∷ (21, 0x58f6cd75b54ec868) ∷ (29, 0xfffffffffffffc80) ∷
+    (31, 0xe16a99d8f725dc32) ∷
+    (53, 0xf784b9c52cf354484f5c19213ae142e140dd0496fbf25a3e7a8fae937c17cd14) ∷ [])
+    0x4014caa90 0xf784b9c52cf354484f5c19213ae142e140dd0496fbf25a3e7a8fae937c17cd14 0) ∷
+    executed (0x04 ∷ 0xa0 ∷ 0xc1 ∷ 0x2c ∷ []) 0x68
+    (state ((4, 0x6f6bc2a22a871c41) ∷ (8, 0x941298dff52631d1) ∷ (9, 0xb5c2e95b2dd334cd) ∷
+    (36, 0xa967ba69c86674608d67cf08a6ebcf48a757ddc5fe55434f9092725d29638156) ∷ [])
+    0x4014cee64 0xa4c72416353340c3f1f0a62f153197edbb7a1d95ebd47e025f3c492cfe443aa4 0)
+    (state ((4, 0x6f6bc2a22a871c41) ∷ (8, 0x941298dff52631d1) ∷ (9, 0xb5c2e95b2dd334cd) ∷
+    (36, 0xa967ba69c86674608d67cf08a6ebcf48a757ddc5fe55434f9092725d29638156) ∷ [])
+    0x4014cee68 0xa967ba69c86674608d67cf08a6ebcf48a757ddc5fe55434f9092725d29638156 0) ∷
+    executed (0x97 ∷ 0xea ∷ 0xfc ∷ 0x2c ∷ []) 0x202164199
+    (state ((6, 0x4513196241ff0796) ∷ (20, 0x20216425f) ∷ (28, 0xb73182ea8fd42446) ∷
+    (29, 0x9cb32d2090c9f394) ∷
+    (55, 0xf34916f60004a3a15e9a8a48f912f3331fc1884b2f23a0a230a379eeaefd35e3) ∷ [])
+    0x14d1e48 0x4e7043a73be7bfcf072f1a08b68c27df8baa036d327a29ca5026f0ed590798d6 0)
+    (state ((6, 0x4513196241ff0796) ∷ (20, 0x20216425f) ∷ (28, 0xb73182ea8fd42446) ∷
+    (29, 0x9cb32d2090c9f394) ∷
+    (55, 0xf34916f60004a3a15e9a8a48f912f3331fc1884b2f23a0a230a379eeaefd35e3) ∷ [])
+    0x14d1e4c 0xf34916f60004a3a15e9a8a48f912f3331fc1884b2f23a0a230a379eeaefd35e3 0) ∷
+    executed (0x7b ∷ 0xe3 ∷ 0xc9 ∷ 0x2c ∷ []) 0x2021942e7
+    (state ((15, 0x857b4306a7a37f60) ∷ (27, 0x20219406f) ∷ (28, 0x3619c3ea0fd7c38d) ∷
+    (59, 0xd75761c7d2505072ec6f6a70c7ac4ea90c03c559b0ac106a733f721255c5343d) ∷ [])
+    0x2014d7ae4 0x5e915c64bca5668c609f53dfb9b2c174a0b9c9547f744298f61af55b7166dda1 0)
+    (state ((15, 0x857b4306a7a37f60) ∷ (27, 0x20219406f) ∷ (28, 0x3619c3ea0fd7c38d) ∷
+    (59, 0xd75761c7d2505072ec6f6a70c7ac4ea90c03c559b0ac106a733f721255c5343d) ∷ [])
+    0x2014d7ae8 0xd75761c7d2505072ec6f6a70c7ac4ea90c03c559b0ac106a733f721255c5343d 0) ∷
+    executed (0x29 ∷ 0xa0 ∷ 0xff ∷ 0x2c ∷ []) 0x402f53062
+    (state ((1, 0x402f5307a) ∷ (12, 0x1e09b0bf652041b3) ∷ (25, 0xbf8583929d5eeeac) ∷
+    (27, 0x8ce5ba2de2dca75f) ∷
+    (41, 0x870c4691f62601ecc8ad7a90b4243815a5dd25c04ce741d8811b0edda8cd3005) ∷ [])
+    0x14db234 0xb015ef37ba8d27d76ab2440ad431aba2da676d43fe9515c88a8d14856ebf33a0 0)
+    (state ((1, 0x402f5307a) ∷ (12, 0x1e09b0bf652041b3) ∷ (25, 0xbf8583929d5eeeac) ∷
+    (27, 0x8ce5ba2de2dca75f) ∷
+    (41, 0x870c4691f62601ecc8ad7a90b4243815a5dd25c04ce741d8811b0edda8cd3005) ∷ [])
+    0x14db238 0x870c4691f62601ecc8ad7a90b4243815a5dd25c04ce741d8811b0edda8cd3005 0) ∷
+    executed (0x05 ∷ 0xd5 ∷ 0xf8 ∷ 0x2c ∷ []) 0x2029d7d7f
+    (state ((8, 0x2029d7f4a) ∷ (11, 0x7a9059c3dea40112) ∷ (26, 0xb5c550b5a806c3f) ∷
+    (37, 0xee2cb3a2f3f86adc7a623a3196b9a6cfdaabb7b808e075a53f2417ed3d26c3e2) ∷ [])
+    0x14dd4f4 0x895c31ce3d09cee7b972ab5d3582bb4836069cbb04f5ce89a2f04b8feed2871b 0)
+    (state ((8, 0x2029d7f4a) ∷ (11, 0x7a9059c3dea40112) ∷ (26, 0xb5c550b5a806c3f) ∷
+    (37, 0xee2cb3a2f3f86adc7a623a3196b9a6cfdaabb7b808e075a53f2417ed3d26c3e2) ∷ [])
+    0x14dd4f8 0xee2cb3a2f3f86adc7a623a3196b9a6cfdaabb7b808e075a53f2417ed3d26c3e2 0) ∷
+    executed (0x4a ∷ 0xb0 ∷ 0xfe ∷ 0x2c ∷ []) 0x2a3de23
+    (state ((2, 0x2a3de77) ∷ (5, 0x204e637e0557d783) ∷ (19, 0xc978a95787a6eb45) ∷
+    (29, 0xdbfd06f5ce204fdb) ∷
+    (42, 0x81c62259b907e9be031a4ca03638f5054ce992dacd01253552dc366bee62bd82) ∷ [])
+    0x2014e0e48 0x9fbe6a86ff967067681dae94efb6189706c6a26fede991c6e87452f4f4c45ca1 0)
+    (state ((2, 0x2a3de77) ∷ (5, 0x204e637e0557d783) ∷ (19, 0xc978a95787a6eb45) ∷
+    (29, 0xdbfd06f5ce204fdb) ∷
+    (42, 0x81c62259b907e9be031a4ca03638f5054ce992dacd01253552dc366bee62bd82) ∷ [])
+    0x2014e0e4c 0x81c62259b907e9be031a4ca03638f5054ce992dacd01253552dc366bee62bd82 0) ∷
+    executed (0xc0 ∷ 0x26 ∷ 0xd5 ∷ 0x2c ∷ []) 0x2025128a5
+    (state ((4, 0xf251908e73ca091d) ∷ (7, 0x929d19e1492aebb7) ∷ (21, 0x32fe8995083a5571) ∷
+    (22, 0x20251235c) ∷
+    (32, 0x91a5789a7a298420f6b16dcce1d67591d1089d9b0109c6e71b437edceb5c1705) ∷ [])
+    0x4014e7678 0x49f56a8521f9975cee829bbf89fff7910ec56006f7cba8353d122a73a2d7e599 0)
+    (state ((4, 0xf251908e73ca091d) ∷ (7, 0x929d19e1492aebb7) ∷ (21, 0x32fe8995083a5571) ∷
+    (22, 0x20251235c) ∷
+    (32, 0x91a5789a7a298420f6b16dcce1d67591d1089d9b0109c6e71b437edceb5c1705) ∷ [])
+    0x4014e767c 0x91a5789a7a298420f6b16dcce1d67591d1089d9b0109c6e71b437edceb5c1705 0) ∷
+    executed (0x18 ∷ 0x8b ∷ 0xde ∷ 0x2c ∷ []) 0x38
+    (state ((7, 0x9631ff6df256ca0d) ∷ (8, 0xdb0722e3df88256) ∷ (24, 0xfffffffffffff896) ∷
+    (56, 0xde181870bd2c1a92efa9988236063e8efec8bf4df26dd8b4a1b4782ef84d73d3) ∷ [])
+    0x2014e9c04 0xe666d9205fd23cd47e954a2a7ba7a84ea96a88c93aff879003e2447a06c1f2dd 0)
+    (state ((7, 0x9631ff6df256ca0d) ∷ (8, 0xdb0722e3df88256) ∷ (24, 0xfffffffffffff896) ∷
+    (56, 0xde181870bd2c1a92efa9988236063e8efec8bf4df26dd8b4a1b4782ef84d73d3) ∷ [])
+    0x2014e9c08 0xde181870bd2c1a92efa9988236063e8efec8bf4df26dd8b4a1b4782ef84d73d3 0) ∷
+    executed (0x1a ∷ 0x1c ∷ 0xcd ∷ 0x2c ∷ []) 0x347
+    (state ((10, 0x6445c7a8a22a02e4) ∷ (17, 0x2387fb96668948b6) ∷ (30, 0x2210215cc73939dc) ∷
+    (58, 0xbe26dcfb2cd9e9d141a9d90c27bf0397cfc7b47741321ec86f1944521acf6ea4) ∷ [])
+    0x4014ed3ec 0xce657e5f4273344f0a957d8c2512af82bf79a093e1d2bb94c0291ef03096a735 0)
+    (state ((10, 0x6445c7a8a22a02e4) ∷ (17, 0x2387fb96668948b6) ∷ (30, 0x2210215cc73939dc) ∷
+    (58, 0xbe26dcfb2cd9e9d141a9d90c27bf0397cfc7b47741321ec86f1944521acf6ea4) ∷ [])
+    0x4014ed3f0 0xbe26dcfb2cd9e9d141a9d90c27bf0397cfc7b47741321ec86f1944521acf6ea4 0) ∷
+    executed (0x55 ∷ 0x45 ∷ 0xd8 ∷ 0x2c ∷ []) 0x202ba54d9
+    (state ((1, 0xdb1391c415701b8c) ∷ (10, 0x202ba4ec8) ∷ (19, 0xe08ce9dce2cab42d) ∷
+    (53, 0x6e8525ee2a630e3909956dfef928bef76b1deb916285de616457228cd32fe2ae) ∷ [])
+    0x14f0834 0xdb90e0a33f2ddbc144fe9d8b99a3a9188b629b876e763758c4f1ae2139911d11 0)
+    (state ((1, 0xdb1391c415701b8c) ∷ (10, 0x202ba4ec8) ∷ (19, 0xe08ce9dce2cab42d) ∷
+    (53, 0x6e8525ee2a630e3909956dfef928bef76b1deb916285de616457228cd32fe2ae) ∷ [])
+    0x14f0838 0x6e8525ee2a630e3909956dfef928bef76b1deb916285de616457228cd32fe2ae 0) ∷
+    executed (0x63 ∷ 0xa8 ∷ 0xd7 ∷ 0x2c ∷ []) 0x4025553f8
+    (state ((3, 0x402554e0e) ∷ (7, 0x3277dc0c8dbaf3de) ∷ (13, 0xe9292dbf5df73d2) ∷
+    (35, 0xc4f03a58e621e338b53451fb55ba37342f511035de87d4ef2a60340fdbbb3de5) ∷ [])
+    0x4014f6d98 0x42dccdcb0ae0aa742169eae481659b9afa1a32f9654b5d32a707cb3ea8a7b5dc 0)
+    (state ((3, 0x402554e0e) ∷ (7, 0x3277dc0c8dbaf3de) ∷ (13, 0xe9292dbf5df73d2) ∷
+    (35, 0xc4f03a58e621e338b53451fb55ba37342f511035de87d4ef2a60340fdbbb3de5) ∷ [])
+    0x4014f6d9c 0xc4f03a58e621e338b53451fb55ba37342f511035de87d4ef2a60340fdbbb3de5 0) ∷
+    executed (0x7e ∷ 0x09 ∷ 0xe3 ∷ 0x2c ∷ []) 0x2021906d5
+    (state ((1, 0xd269a147e036a6ed) ∷ (11, 0x202190e13) ∷ (20, 0xa9b098c0b5e4f057) ∷
+    (29, 0x4407efc9ecee7fd4) ∷
+    (62, 0x53eb9031872370d570542a69b1efd5c73276eff39d0859a8be234899262fd937) ∷ [])
+    0x2014fb804 0xbc2cd65913361fb4f3cf7c83e0b50d4f176bf204c57cd873e585cdaecda064a3 0)
+    (state ((1, 0xd269a147e036a6ed) ∷ (11, 0x202190e13) ∷ (20, 0xa9b098c0b5e4f057) ∷
+    (29, 0x4407efc9ecee7fd4) ∷
+    (62, 0x53eb9031872370d570542a69b1efd5c73276eff39d0859a8be234899262fd937) ∷ [])
+    0x2014fb808 0x53eb9031872370d570542a69b1efd5c73276eff39d0859a8be234899262fd937 0) ∷
+    executed (0xe7 ∷ 0x21 ∷ 0xc7 ∷ 0x2c ∷ []) 0x402ddd237
+    (state ((3, 0x2ec4986001d47703) ∷ (8, 0x291053d27e4ac165) ∷ (15, 0x402ddd06f) ∷
+    (24, 0x728e5399878cc4ee) ∷
+    (39, 0x8850e406ce5b28b34ef1cbefdf97798ff666748059c4563f55fbc74c422a35f9) ∷ [])
+    0x14ff48c 0xdca3072bb123bb95ceb8b17edf3c04aa4e121c55d24edb94a13698955e94164b 0)
+    (state ((3, 0x2ec4986001d47703) ∷ (8, 0x291053d27e4ac165) ∷ (15, 0x402ddd06f) ∷
+    (24, 0x728e5399878cc4ee) ∷
+    (39, 0x8850e406ce5b28b34ef1cbefdf97798ff666748059c4563f55fbc74c422a35f9) ∷ [])
+    0x14ff490 0x8850e406ce5b28b34ef1cbefdf97798ff666748059c4563f55fbc74c422a35f9 0) ∷
+    []) ∷
     []

@@ -23,7 +23,7 @@ use Rattle.linker_laws.proofs.Sums.{sum_below, lift}
 use Rattle.linker_laws.specs.LoongArchRewriteLaws.{word_of, behind, thread_offset, is_either, StoresTheSame}
 use Rattle.linker_laws.specs.LoongArchRewriteLaws as laws
 use Rattle.linker_laws.specs.LoongArchMachine.{State, AreAlikeBut, but_written, step, run, read, write, with_register, with_float, go_on, decode, execute, continue, next_pc, high_part, added, sum_of, add_d}
-use Rattle.linker_laws.specs.LoongArchMachine.{Action, action_of, used, adds, adds_word, loads, loads_signed, stores, loads_single, loads_double, stores_single, stores_double}
+use Rattle.linker_laws.specs.LoongArchMachine.{Action, action_of, used, adds, adds_word, loads, loads_signed, stores, loads_float, stores_float, preloads}
 use Rattle.linker_laws.specs.Machine.{wrapped, moved, extended, loaded, stored}
 use Rattle.linker_laws.proofs.AArch64Moves.{distance_is}
 use Rattle.linker_laws.proofs.AArch64Pairs.{word_made}
@@ -150,32 +150,20 @@ module _ (differing : ℕ → Bool) (r : ℕ) (s t : State) (h : AreAlikeBut dif
         floats = h.floats;
         memory = ap (λ v. stored n v sum s.memory) (h.registers r same) ∙ ap (stored n (read r t) sum) h.memory;
       }
-  used_alike loads_single sum same =
+  used_alike (loads_float n) sum same =
       record {
         registers = kept;
-        floats = ap (λ f. with_float r (f.widened (f.numbers r) (loaded 4 s.memory sum)) f) h.floats
-            ∙ ap (λ m. with_float r (t.floats.widened (t.floats.numbers r) (loaded 4 m sum)) t.floats) h.memory;
+        floats = ap (λ f. with_float r (f.widened n (f.numbers r) (loaded n s.memory sum)) f) h.floats
+            ∙ ap (λ m. with_float r (t.floats.widened n (t.floats.numbers r) (loaded n m sum)) t.floats) h.memory;
         memory = h.memory;
       }
-  used_alike loads_double sum same =
-      record {
-        registers = kept;
-        floats = ap (λ m. with_float r (loaded 8 m sum) s.floats) h.memory
-            ∙ ap (with_float r (loaded 8 t.memory sum)) h.floats;
-        memory = h.memory;
-      }
-  used_alike stores_single sum same =
+  used_alike (stores_float n) sum same =
       record {
         registers = kept;
         floats = h.floats;
-        memory = ap (λ f. stored 4 (f.numbers r) sum s.memory) h.floats ∙ ap (stored 4 (t.floats.numbers r) sum) h.memory;
+        memory = ap (λ f. stored n (f.numbers r) sum s.memory) h.floats ∙ ap (stored n (t.floats.numbers r) sum) h.memory;
       }
-  used_alike stores_double sum same =
-      record {
-        registers = kept;
-        floats = h.floats;
-        memory = ap (λ f. stored 8 (f.numbers r) sum s.memory) h.floats ∙ ap (stored 8 (t.floats.numbers r) sum) h.memory;
-      }
+  used_alike preloads sum same = record { registers = kept; floats = h.floats; memory = h.memory }
 
 -- An action doesn't jump.
 write_pc : (r v : ℕ) (s : State) → (write r v s).pc ≡ s.pc
@@ -191,10 +179,9 @@ used_pc adds_word r sum s = write_pc r (extended 32 (sum % 2 ^ 32)) s
 used_pc (loads n) r sum s = write_pc r (loaded n s.memory sum) s
 used_pc (loads_signed n) r sum s = write_pc r (extended (8 * n) (loaded n s.memory sum)) s
 used_pc (stores n) r sum s = refl
-used_pc loads_single r sum s = refl
-used_pc loads_double r sum s = refl
-used_pc stores_single r sum s = refl
-used_pc stores_double r sum s = refl
+used_pc (loads_float n) r sum s = refl
+used_pc (stores_float n) r sum s = refl
+used_pc preloads r sum s = refl
 
 step_action : (x op r : ℕ) (s : State) → x / 2 ^ 22 ≡ op → adds_low12 op ≡ true → rd_of x ≡ r
     → step x s ≡ Some (go_on (used (action_of op) r (sum_of x s) s))
@@ -228,7 +215,7 @@ adds_both thread x y s t lu12i add low base lu12i1 low1 base1 is small alike one
     let n2 = rd_of (word_of add) in
     let n3 = rd_of (word_of low) in
     let op = word_of low / 2 ^ 22 in
-    let bounded : word_of low / 2 ^ 22 < 0x0b0 = (low12_is (word_of low / 2 ^ 22) is.third).below in
+    let bounded : word_of low / 2 ^ 22 < 0x0b4 = (low12_is (word_of low / 2 ^ 22) is.third).below in
     let word = word_made (λ w. w - rj_of w * 2 ^ 5 + 2 * 2 ^ 5) low base (omega (arith, bounded)) made in
     let base_op : word_of base / 2 ^ 22 ≡ op = omega (arith, word) in
     let base_rd : rd_of (word_of base) ≡ n3 = omega (arith, word) in

@@ -16,12 +16,14 @@ use Rattle.linker_elf.proofs.Relocated.{plain_written}
 use Rattle.linker_elf.specs.Value.{sum_64}
 use Rattle.linker_elf.specs.declared.elf.value.Operands.{Operands}
 use Rattle.linker_elf.specs.declared.loongarch64.forms.LoongArch64Instruction.TheVariants.{Shift5, Shift10}
+use Rattle.linker_elf.specs.declared.loongarch64.relocations.LoongArch64Relocation.TheVariants as names
+use Rattle.linker_loongarch64.specs.declared.rewrites.RelaxationKind.TheVariants as kinds
 use Rattle.linker_base.proofs.Bits.{cast_negative}
 use Rattle.linker_laws.specs.LoongArchRelocationLaws as relocation_laws
 use Rattle.linker_laws.specs.Schemes.{IsAddress, symbol_address, entry_and_addend}
 use Rattle.linker_laws.specs.LoongArchRewriteLaws.{word_of, pair, behind, thread_offset}
 use Rattle.linker_laws.specs.LoongArchRewriteLaws as laws
-use Rattle.linker_laws.specs.LoongArchMachine.{State, AreAlikeBut, step, run, page_address, near_address, sum_of}
+use Rattle.linker_laws.specs.LoongArchMachine.{State, AreAlikeBut, EndSo, step, run, page_address, near_address, sum_of}
 use Rattle.linker_laws.specs.Machine.{wrapped, loaded}
 use Rattle.linker_laws.proofs.AArch64Pairs.{word_made}
 use Rattle.linker_laws.proofs.AArch64Steps.{address_is}
@@ -121,9 +123,9 @@ pub record Nears (n x value : ℕ) (t : State) : Type 0 where
   pub only : run (x ∷ []) t ≡ Some (set n (near_address x t) t)
   pub value_is : near_address x t ≡ value
 
-pub nears : (y : Operands) (n x : ℕ) (t : State) → IsHigh 0x0c n x → n ≢ 0 → t.pc ≡ y.place
-    → IsAddress (pos y.place +ℤ ((loongarch_form Shift5).machine x *ℤ pos 4)) (symbol_address y) → Nears n x (symbol_address y) t
-nears y n x t is named at leads =
+pub nears : (y : Operands) (n x target : ℕ) (t : State) → IsHigh 0x0c n x → n ≢ 0 → t.pc ≡ y.place
+    → IsAddress (pos y.place +ℤ ((loongarch_form Shift5).machine x *ℤ pos 4)) target → Nears n x target t
+nears y n x target t is named at leads =
     record {
       only = step_near x n t (decodes_near x is.opcode) is.rd_is named;
       value_is = ap (λ p. wrapped (pos p +ℤ ((loongarch_form Shift5).machine x *ℤ pos 4))) at ∙ address_is _ _ leads;
@@ -141,24 +143,73 @@ made_alike n u v w a b x y s t named alike at new_at is new_is =
       new_next = ap (λ p. sum_64 p 4) new_at;
     }
 
+-- `pcalau12i rd` and `addi.d rd, rd` that make one address in the old layout, and a `pcaddi rd` that
+-- makes another in the new one
+sum_to_pcaddi : (x y : Operands) (n a b : ℕ) (s t : State) (pcala1 addi1 pcaddi2 : List ℕ) → n ≢ 0 → AreAlikeBut laws.no_register s t
+    → s.pc ≡ x.place → t.pc ≡ y.place → IsHigh 0x0d n (word_of pcala1) → IsLow 0x00b n n (word_of addi1) → IsHigh 0x0c n (word_of pcaddi2)
+    → IsAddress (pcalau12i x.place (word_of pcala1) +ℤ signed 12 (field (word_of addi1) 10 22)) a
+    → IsAddress (pos y.place +ℤ ((loongarch_form Shift5).machine (word_of pcaddi2) *ℤ pos 4)) b
+    → EndSo (pair pcala1 addi1) s (word_of pcaddi2 ∷ []) t (laws.HaveMade n a b (sum_64 x.place 8) (sum_64 y.place 4))
+sum_to_pcaddi x y n a b s t pcala1 addi1 pcaddi2 named alike at new_at high low near leads new_leads =
+    let d = adds x n (word_of pcala1) (word_of addi1) a s high low named at leads in
+    let m = nears y n (word_of pcaddi2) b t near named new_at new_leads in
+    ends_so (pair pcala1 addi1) (word_of pcaddi2 ∷ []) s t _ _ (laws.HaveMade n a b (sum_64 x.place 8) (sum_64 y.place 4))
+    (run_pair (word_of pcala1) (word_of addi1) s _ _ d.first refl d.second) m.only
+    (made_alike n _ _ _ _ _ x y s t named alike at new_at d.value_is m.value_is)
+
+-- what the `pcaddi` is that a `pcalau12i` becomes
+record IsPcaddi (n : ℕ) (word : ℕ) : Type 0 where
+  opcode : word / 2 ^ 25 ≡ 0x0c
+  rd_is : rd_of word ≡ n
+
+pcaddi_of : (pcala pcaddi : List ℕ) → laws.IsRewritten kinds.PcalaToPcaddi pcala pcaddi → IsPcaddi (rd_of (word_of pcala)) (word_of pcaddi)
+pcaddi_of pcala pcaddi made =
+    let word = word_made (λ w. 0x18000000 + rd_of w) pcala pcaddi (omega arith) made in
+    record { opcode = omega arith; rd_is = omega arith }
+
 pub address_to_pcaddi : relocation_laws.RelativeAddresses → relocation_laws.Branches → laws.AddressToPcaddi
 address_to_pcaddi relative branches x y s t pcala addi pcaddi p small at alike made pcala1 addi1 pcaddi2 fits a1 d1 b2 =
     let one = p.one_register in
     let n = rd_of (word_of pcala) in
     let back = sym one.register in
-    let named : n ≢ 0 = λ e. one.into_own_source.not_zero (back ∙ e) in
-    let word = word_made (λ w. 0x18000000 + rd_of w) pcala pcaddi (omega arith) made in
-    let op : word_of pcaddi / 2 ^ 25 ≡ 0x0c = omega arith in
-    let rd : rd_of (word_of pcaddi) ≡ n = omega arith in
-    let d = adds x n (word_of pcala1) (word_of addi1) (symbol_address x) s
+    let is = pcaddi_of pcala pcaddi made in
+    sum_to_pcaddi x y n (symbol_address x) (symbol_address y) s t pcala1 addi1 pcaddi2
+    (λ e. one.into_own_source.not_zero (back ∙ e)) alike p.at at
     (high_after 12 0x0d n _ pcala pcala1 a1.written one.first refl)
-    (low_after 0x00b n n _ addi addi1 (low_written d1.value addi addi1 p.second_is d1.written) p.second_is back (one.into_own_source.same ∙ back)) named p.at
-    (relative.0 x p.small x.place pcala pcala1 a1 (subst (ValueIsWithin signed_32) a1.value_is fits) (sum_64 x.place 4) addi addi1 d1 (ap not (no_jirl (word_of addi) p.second_is))) in
-    let m = nears y n (word_of pcaddi2) t (high_after 2 0x0c n _ pcaddi pcaddi2 b2.written op rd) named at
-    (branches.3 y small y.place pcaddi pcaddi2 b2 tt) in
-    ends_so (pair pcala1 addi1) (word_of pcaddi2 ∷ []) s t _ _ (laws.HaveMade n (symbol_address x) (symbol_address y) (sum_64 x.place 8) (sum_64 y.place 4))
-    (run_pair (word_of pcala1) (word_of addi1) s _ _ d.first refl d.second) m.only
-    (made_alike n _ _ _ _ _ x y s t named alike p.at at d.value_is m.value_is)
+    (low_after 0x00b n n _ addi addi1 (low_written d1.value addi addi1 p.second_is d1.written) p.second_is back (one.into_own_source.same ∙ back))
+    (high_after 2 0x0c n _ pcaddi pcaddi2 b2.written is.opcode is.rd_is)
+    (relative.0 x p.small x.place pcala pcala1 a1 (subst (ValueIsWithin signed_32) a1.value_is fits) (sum_64 x.place 4) addi addi1 d1 (ap not (no_jirl (word_of addi) p.second_is)))
+    (branches.3 y small y.place pcaddi pcaddi2 b2 tt)
+
+pub local_entry_to_pcaddi : relocation_laws.RelativeAddresses → relocation_laws.Branches
+    → laws.EntryToPcaddi names.R_LARCH_TLS_LD_PC_HI20 names.R_LARCH_TLS_LD_PCREL20_S2
+local_entry_to_pcaddi relative branches x y s t pcala addi pcaddi p small at alike made pcala1 addi1 pcaddi2 old b2 =
+    let one = p.one_register in
+    let n = rd_of (word_of pcala) in
+    let back = sym one.register in
+    let is = pcaddi_of pcala pcaddi made in
+    sum_to_pcaddi x y n (entry_and_addend x) (entry_and_addend y) s t pcala1 addi1 pcaddi2
+    (λ e. one.into_own_source.not_zero (back ∙ e)) alike p.at at
+    (high_after 12 0x0d n _ pcala pcala1 old.first.written one.first refl)
+    (low_after 0x00b n n _ addi addi1 old.second.written p.second_is back (one.into_own_source.same ∙ back))
+    (high_after 2 0x0c n _ pcaddi pcaddi2 b2.written is.opcode is.rd_is)
+    (relative.2 x p.small x.place pcala pcala1 old.first (subst (ValueIsWithin signed_32) old.first.value_is old.fits) (sum_64 x.place 4) addi addi1 old.second tt)
+    (branches.4 y small y.place pcaddi pcaddi2 b2 tt)
+
+pub general_entry_to_pcaddi : relocation_laws.RelativeAddresses → relocation_laws.Branches
+    → laws.EntryToPcaddi names.R_LARCH_TLS_GD_PC_HI20 names.R_LARCH_TLS_GD_PCREL20_S2
+general_entry_to_pcaddi relative branches x y s t pcala addi pcaddi p small at alike made pcala1 addi1 pcaddi2 old b2 =
+    let one = p.one_register in
+    let n = rd_of (word_of pcala) in
+    let back = sym one.register in
+    let is = pcaddi_of pcala pcaddi made in
+    sum_to_pcaddi x y n (entry_and_addend x) (entry_and_addend y) s t pcala1 addi1 pcaddi2
+    (λ e. one.into_own_source.not_zero (back ∙ e)) alike p.at at
+    (high_after 12 0x0d n _ pcala pcala1 old.first.written one.first refl)
+    (low_after 0x00b n n _ addi addi1 old.second.written p.second_is back (one.into_own_source.same ∙ back))
+    (high_after 2 0x0c n _ pcaddi pcaddi2 b2.written is.opcode is.rd_is)
+    (relative.3 x p.small x.place pcala pcala1 old.first (subst (ValueIsWithin signed_32) old.first.value_is old.fits) (sum_64 x.place 4) addi addi1 old.second tt)
+    (branches.5 y small y.place pcaddi pcaddi2 b2 tt)
 
 pub got_to_pcaddi : relocation_laws.RelativeAddresses → relocation_laws.Branches → laws.GotToPcaddi
 got_to_pcaddi relative branches x y s t pcala ld pcaddi p holds small at alike made pcala1 ld1 pcaddi2 old b2 =
@@ -166,14 +217,12 @@ got_to_pcaddi relative branches x y s t pcala ld pcaddi p holds small at alike m
     let n = rd_of (word_of pcala) in
     let back = sym one.register in
     let named : n ≢ 0 = λ e. one.into_own_source.not_zero (back ∙ e) in
-    let word = word_made (λ w. 0x18000000 + rd_of w) pcala pcaddi (omega arith) made in
-    let op : word_of pcaddi / 2 ^ 25 ≡ 0x0c = omega arith in
-    let rd : rd_of (word_of pcaddi) ≡ n = omega arith in
+    let is = pcaddi_of pcala pcaddi made in
     let l = loads x n (word_of pcala1) (word_of ld1) (entry_and_addend x) s
     (high_after 12 0x0d n _ pcala pcala1 old.first.written one.first refl)
     (low_after 0x0a3 n n _ ld ld1 old.second.written p.second_is back (one.into_own_source.same ∙ back)) named p.at
     (relative.1 x p.small x.place pcala pcala1 old.first (subst (ValueIsWithin signed_32) old.first.value_is old.fits) (sum_64 x.place 4) ld ld1 old.second tt) in
-    let m = nears y n (word_of pcaddi2) t (high_after 2 0x0c n _ pcaddi pcaddi2 b2.written op rd) named at
+    let m = nears y n (word_of pcaddi2) (symbol_address y) t (high_after 2 0x0c n _ pcaddi pcaddi2 b2.written is.opcode is.rd_is) named at
     (branches.3 y small y.place pcaddi pcaddi2 b2 tt) in
     ends_so (pair pcala1 ld1) (word_of pcaddi2 ∷ []) s t _ _ (laws.HaveMade n (symbol_address x) (symbol_address y) (sum_64 x.place 8) (sum_64 y.place 4))
     (run_pair (word_of pcala1) (word_of ld1) s _ _ l.first refl l.second) m.only

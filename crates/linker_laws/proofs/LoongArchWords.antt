@@ -36,30 +36,23 @@ decodes_high x op =
 -- by their upper 10 bits
 pub record IsLow12 (op : ℕ) : Type 0 where
   pub is : (op < 12) ⊎ (0x0a0 ≤ op)
-  pub below : op < 0x0b0
+  pub below : op < 0x0b4
 
 pub low12_is : (op : ℕ) → adds_low12 op ≡ true → IsLow12 op
 low12_is op is =
-    elim (or_cases (op == 0x00a || op == 0x00b || nat_le 0x0a0 op && nat_le op 0x0aa) (nat_le 0x0ac op && nat_le op 0x0af) is) [
-      | inl first ↦ elim (or_cases (op == 0x00a || op == 0x00b) (nat_le 0x0a0 op && nat_le op 0x0aa) first) [
-        | inl sum ↦ elim (or_cases (op == 0x00a) (op == 0x00b) sum) [
-          | inl a ↦ let e = eqb-true op 0x00a a in record { is = inl (omega arith); below = omega arith }
-          | inr b ↦ let e = eqb-true op 0x00b b in record { is = inl (omega arith); below = omega arith }
-        ]
-        | inr between ↦
-            let p = and_parts (nat_le 0x0a0 op) (nat_le op 0x0aa) between in
-            let from = leb-true 0x0a0 op p.0 in
-            let to = leb-true op 0x0aa p.1 in
-            record { is = inr from; below = omega arith }
+    elim (or_cases (op == 0x00a || op == 0x00b) (nat_le 0x0a0 op && nat_le op 0x0b3) is) [
+      | inl sum ↦ elim (or_cases (op == 0x00a) (op == 0x00b) sum) [
+        | inl a ↦ let e = eqb-true op 0x00a a in record { is = inl (omega arith); below = omega arith }
+        | inr b ↦ let e = eqb-true op 0x00b b in record { is = inl (omega arith); below = omega arith }
       ]
       | inr between ↦
-          let p = and_parts (nat_le 0x0ac op) (nat_le op 0x0af) between in
-          let from = leb-true 0x0ac op p.0 in
-          let to = leb-true op 0x0af p.1 in
-          record { is = inr (omega arith); below = omega arith }
+          let p = and_parts (nat_le 0x0a0 op) (nat_le op 0x0b3) between in
+          let from = leb-true 0x0a0 op p.0 in
+          let to = leb-true op 0x0b3 p.1 in
+          record { is = inr from; below = omega arith }
     ]
 
-pub no_low12 : (op : ℕ) → 0x0af < op → adds_low12 op ≡ false
+pub no_low12 : (op : ℕ) → 0x0b3 < op → adds_low12 op ≡ false
 no_low12 op high = false_from_ne_true (adds_low12 op) (λ is. let below = (low12_is op is).below in omega arith)
 
 -- which isn't one of the first four

@@ -140,6 +140,10 @@ with_rex_prefix section old new o operands s before there matches held was is =
     (ap decode codes.1 ∙ after_rex_byte p (0x8d ∷ m ∷ is.rest) code.is_rex.is
     ∙ from_relative (rex_prefix p) 0x8d m is.rest code.after.relative)
 
+-- the same row
+pub of_any_load : DoesTheSame 3 (legacy 3 0x8b) names.R_X86_64_GOTPCREL kinds.MovIndirectToLea address
+of_any_load = with_rex_prefix
+
 pub with_rex2_prefix : DoesTheSame 4 (legacy 4 0x8b) names.R_X86_64_CODE_4_GOTPCRELX
     kinds.MovIndirectToLea address
 with_rex2_prefix section old new o operands s before there matches held was is =

@@ -15,11 +15,12 @@ use Rattle.linker_laws.specs.Machine.{Memory, wrapped, extended, loaded, stored}
 -- ---- the state
 
 pub record Floats : Type 0 where
-  -- the floating-point registers by their numbers
+  -- the vector registers of 256 bits by their numbers: their low 64 bits are the floating-point
+  -- registers, and their low 128 bits the registers of `vld` and `vst`
   pub numbers : ℕ → ℕ
-  -- What a register with a number has after a load of 32 bits. "FLD.S" says nothing of the bits
-  -- above.
-  pub widened : ℕ → ℕ → ℕ
+  -- What a register with a number has after a load of so many bytes. "FLD.{S/D}" and "VLD" say
+  -- nothing of the bits above.
+  pub widened : ℕ → ℕ → ℕ → ℕ
 
 abbrev pub with_float : ℕ → ℕ → Floats → Floats
 with_float r v f = record f { numbers = λ m. if m == r then v else f.numbers m }
@@ -69,11 +70,11 @@ pub data Action : Type 0 where
   loads : ℕ → Action
   loads_signed : ℕ → Action
   stores : ℕ → Action
-  -- of floating-point registers
-  loads_single : Action
-  loads_double : Action
-  stores_single : Action
-  stores_double : Action
+  -- of floating-point and vector registers
+  loads_float : ℕ → Action
+  stores_float : ℕ → Action
+  -- `preld`, which changes no register and no memory
+  preloads : Action
 
 -- by the upper 10 bits of a word, of those that `adds_low12` names
 abbrev pub action_of : ℕ → Action
@@ -91,9 +92,14 @@ action_of opcode =
     if opcode == 0x0a8 then loads 1 else (
     if opcode == 0x0a9 then loads 2 else (
     if opcode == 0x0aa then loads 4 else (
-    if opcode == 0x0ac then loads_single else (
-    if opcode == 0x0ad then stores_single else (
-    if opcode == 0x0ae then loads_double else stores_double)))))))))))))))
+    if opcode == 0x0ab then preloads else (
+    if opcode == 0x0ac then loads_float 4 else (
+    if opcode == 0x0ad then stores_float 4 else (
+    if opcode == 0x0ae then loads_float 8 else (
+    if opcode == 0x0af then stores_float 8 else (
+    if opcode == 0x0b0 then loads_float 16 else (
+    if opcode == 0x0b1 then stores_float 16 else (
+    if opcode == 0x0b2 then loads_float 32 else stores_float 32))))))))))))))))))))
 
 -- whether an integer register is written
 abbrev pub writes_register : Action → Bool
@@ -110,11 +116,10 @@ used adds_word r sum s = write r (extended 32 (sum % 2 ^ 32)) s
 used (loads n) r sum s = write r (loaded n s.memory sum) s
 used (loads_signed n) r sum s = write r (extended (8 * n) (loaded n s.memory sum)) s
 used (stores n) r sum s = store n (read r s) sum s
-used loads_single r sum s =
-    write_float r (s.floats.widened (s.floats.numbers r) (loaded 4 s.memory sum)) s
-used loads_double r sum s = write_float r (loaded 8 s.memory sum) s
-used stores_single r sum s = store 4 (s.floats.numbers r) sum s
-used stores_double r sum s = store 8 (s.floats.numbers r) sum s
+used (loads_float n) r sum s =
+    write_float r (s.floats.widened n (s.floats.numbers r) (loaded n s.memory sum)) s
+used (stores_float n) r sum s = store n (s.floats.numbers r) sum s
+used preloads r sum s = s
 
 -- ---- which instruction a word is
 

@@ -90,7 +90,7 @@ pub record IsPair (P : ℕ → Type 0) (o : Operands) (s : State) (pcala second 
 
 -- ---- the address of a symbol, by its GOT entry or by the distance to it
 
--- a pair that loads a GOT entry, with its relocations applied
+-- a pair that loads a GOT entry, or makes its address, with its relocations applied
 pub record LoadsEntry (high low : LoongArch64Relocation) (o : Operands)
     (pcala ld pcala_of_entry ld_of_entry : List ℕ) : Type 0 where
   pub fits : Fits32 high o
@@ -116,14 +116,15 @@ GotToAddress =
 abbrev pub thread_offset : Operands → ℕ
 thread_offset o = difference_64 (symbol_address o) o.tls_base
 
--- registers, floating-point registers, and bytes of memory by their addresses, that may differ
+-- registers, vector registers with the floating-point registers in them, and bytes of memory by
+-- their addresses, that may differ
 pub record Changes : Type 0 where
   pub registers : ℕ → Bool
   pub floats : ℕ → Bool
   pub memory : ℕ → Bool
 
--- The states differ in no more than these. What loads of 4 bytes leave above them in a
--- floating-point register is the same.
+-- The states differ in no more than these. What loads leave above their bytes in a vector
+-- register is the same.
 pub record AgreeBut (c : Changes) (s t : State) : Type 0 where
   pub registers : (n : ℕ) → c.registers n ≡ false → read n s ≡ read n t
   pub floats : (n : ℕ) → c.floats n ≡ false → s.floats.numbers n ≡ t.floats.numbers n
@@ -249,6 +250,25 @@ GotToPcaddi =
     → EndSo (pair pcala_of_entry ld_of_entry) s (word_of pcaddi_of_symbol ∷ []) t
     (HaveMade (rd_of (word_of pcala)) (symbol_address x) (symbol_address y) (sum_64 x.place 8)
     (sum_64 y.place 4))
+
+-- The address of a GOT entry for general- or local-dynamic. The relocation before is that of the
+-- `pcalau12i`, and the one after that of the `pcaddi`.
+abbrev pub EntryToPcaddi : LoongArch64Relocation → LoongArch64Relocation → Type 0
+EntryToPcaddi before after =
+    (x y : Operands) (s t : State) (pcala addi pcaddi : List ℕ) → IsPair IsAddi x s pcala addi
+    → AreAddresses y → t.pc ≡ y.place → AreAlikeBut no_register s t
+    → IsRewritten kinds.PcalaToPcaddi pcala pcaddi
+    → (pcala_of_entry addi_of_entry pcaddi_of_entry : List ℕ)
+    → LoadsEntry before names.R_LARCH_GOT_PC_LO12 x pcala addi pcala_of_entry addi_of_entry
+    → IsRelocated after y pcaddi pcaddi_of_entry
+    → EndSo (pair pcala_of_entry addi_of_entry) s (word_of pcaddi_of_entry ∷ []) t
+    (HaveMade (rd_of (word_of pcala)) (entry_and_addend x) (entry_and_addend y)
+    (sum_64 x.place 8) (sum_64 y.place 4))
+
+abbrev pub EntriesToPcaddi : Type 0
+EntriesToPcaddi =
+    EntryToPcaddi names.R_LARCH_TLS_LD_PC_HI20 names.R_LARCH_TLS_LD_PCREL20_S2
+    × EntryToPcaddi names.R_LARCH_TLS_GD_PC_HI20 names.R_LARCH_TLS_GD_PCREL20_S2
 
 -- ---- calls
 

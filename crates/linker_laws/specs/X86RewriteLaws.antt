@@ -70,9 +70,11 @@ abbrev pub address : Operands → ℕ
 address o = o.symbol
 
 -- `mov` from the GOT, and `lea`
+abbrev pub IsLoad : ℕ → X86_64Relocation → Type 0
+IsLoad n name = DoesTheSame n (legacy n 0x8b) name kinds.MovIndirectToLea address
+
 abbrev pub LoadsOfAddresses : Type 0
-LoadsOfAddresses =
-    EachPrefix (λ n name. DoesTheSame n (legacy n 0x8b) name kinds.MovIndirectToLea address)
+LoadsOfAddresses = EachPrefix IsLoad × IsLoad 3 names.R_X86_64_GOTPCREL
 
 -- ---- with an immediate in place of the GOT entry
 

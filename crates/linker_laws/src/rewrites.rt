@@ -106,12 +106,13 @@ pub fn riscv64()
     crate::relocations::riscv64();
 }
 
-/// LoongArch: the address of a symbol without its GOT entry, or by `pcaddi`; the offset of a
-/// variable from the thread pointer in the instructions, in one of them, or by its GOT entry in
-/// place of a descriptor's function; loads, stores and additions over the thread pointer; a call by
-/// `b` or `bl`. Each instruction of initial-exec and of a descriptor has a law of its own, of two runs,
-/// whatever stands between them. Where an instruction is deleted, the code before and after the rewrite may stand at
-/// different addresses, each with its relocations applied.
+/// LoongArch: the address of a symbol without its GOT entry, or by `pcaddi`, and so that of a GOT
+/// entry for general- or local-dynamic; the offset of a variable from the thread pointer in the
+/// instructions, in one of them, or by its GOT entry in place of a descriptor's function; loads,
+/// stores and additions over the thread pointer; a call by `b` or `bl`. Each instruction of
+/// initial-exec and of a descriptor has a law of its own, of two runs, whatever stands between them.
+/// Where an instruction is deleted, the code before and after the rewrite may stand at different
+/// addresses, each with its relocations applied.
 pub fn loongarch64()
     ensures got { loongarch_laws.GotToAddress }
     ensures high_half { loongarch_laws.HighHalfToLu12i larch_names.R_LARCH_TLS_IE_PC_HI20 }
@@ -120,6 +121,7 @@ pub fn loongarch64()
     ensures short_low_half { loongarch_laws.LowHalfToOriZero }
     ensures address { loongarch_laws.AddressToPcaddi }
     ensures near_got { loongarch_laws.GotToPcaddi }
+    ensures near_entries { loongarch_laws.EntriesToPcaddi }
     ensures calls { loongarch_laws.Calls }
     ensures shorter_local_exec { loongarch_laws.ShorterLocalExec }
     ensures descriptor_high_half { loongarch_laws.HighHalfToLu12i larch_names.R_LARCH_TLS_DESC_PC_HI20 }

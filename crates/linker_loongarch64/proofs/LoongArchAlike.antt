@@ -1,9 +1,10 @@
 -- The relocations of a pair or of a sequence are chosen alike: each by the same conditions of the place
 -- of the first.
-use Rattle.std.proofs.Common.{◌≡◌, ◌↔◌, ◌≤◌, inl, inr, ℕ, ◌+◌, ◌-◌, List, [], ◌∷◌, ap, ◌∙◌, sym, subst, slice_index_or, arith}
-use Rattle.linker_elf.specs.Choices.{facts_on}
+use Rattle.std.proofs.Common.{◌≡◌, ◌↔◌, Option, refl, ◌≤◌, inl, inr, ℕ, ◌+◌, ◌-◌, List, [], ◌∷◌, ap, ◌∙◌, sym, subst, slice_index_or, arith}
+use Rattle.linker_elf.specs.Choices.{facts_on, with_group, operands_before}
+use Rattle.linker_elf.specs.declared.elf.RelocationKindInfo.{RelocationKindInfo}
 use Rattle.linker_elf.specs.Choices.{AllHold, IsFirst, entry, choice, RowReaches, RowIsWithin}
-use Rattle.linker_loongarch64.specs.LoongArchRewrites.{LoongArchEntry, LoongArchChoice, LoongArchApplies, IsBehind, IsAmong, by_pcaddi, bound_by_pcaddi, bound_by_pages, page_to_initial_exec, to_initial_exec, ReachesEntry, to_local_exec, to_short_local_exec, signed_32, GotPairIsChosenAlike, AddressPairIsChosenAlike, InitialExecIsChosenAlike, DescriptorIsChosenAlike, erased, ThreadOffsetIsChosenAlike, loongarch_entries}
+use Rattle.linker_loongarch64.specs.LoongArchRewrites.{LoongArchEntry, LoongArchChoice, LoongArchApplies, IsBehind, IsAmong, by_pcaddi, bound_by_pcaddi, entry_by_pcaddi, bound_by_pages, page_to_initial_exec, to_initial_exec, ReachesEntry, to_local_exec, to_short_local_exec, signed_32, GotPairIsChosenAlike, EntryPairsAreChosenAlike, IsLoongArchChoice, AddressPairIsChosenAlike, InitialExecIsChosenAlike, DescriptorIsChosenAlike, erased, ThreadOffsetIsChosenAlike, loongarch_entries}
 use Rattle.linker_loongarch64.specs.LoongArchRewrites.{IsPair, IsAddi, IsLd}
 use Rattle.linker_elf.specs.LoongArchRelocations.{loongarch_row}
 use Rattle.linker_elf.specs.declared.elf.choice.LinkFacts.{LinkFacts}
@@ -35,6 +36,40 @@ two_alike A B d d' e e' m n a b f g (inl h) (inl k) = inl (both h.1 k.1)
 two_alike A B d d' e e' m n a b f g (inl h) (inr k) = absurd (k.0 (f.0 h.0))
 two_alike A B d d' e e' m n a b f g (inr h) (inl k) = absurd (h.0 (f.1 k.0))
 two_alike A B d d' e e' m n a b f g (inr h) (inr k) = inr (one_alike A B d' e' m n a b g h.1 k.1)
+
+-- The last of the second's entries doesn't apply where none of the first's does.
+left : (B : LoongArchEntry → Type 0) (e : LoongArchEntry) (n b : LoongArchChoice) → ¬ B e → IsFirst B (e ∷ []) n b → b ≡ n
+left B e n b never (inl k) = absurd (never k.0)
+left B e n b never (inr k) = k.1
+
+one_of_two : (A B : LoongArchEntry → Type 0) (d e e' : LoongArchEntry) (m n a b : LoongArchChoice) → (A d ↔ B e) → (¬ A d → ¬ B e')
+    → IsFirst A (d ∷ []) m a → IsFirst B (e ∷ e' ∷ []) n b
+    → IsAmong (a, b) ((choice d.kind d.relocation, choice e.kind e.relocation) ∷ (m, n) ∷ [])
+one_of_two A B d e e' m n a b f never (inl h) (inl k) = inl (both h.1 k.1)
+one_of_two A B d e e' m n a b f never (inl h) (inr k) = absurd (k.0 (f.0 h.0))
+one_of_two A B d e e' m n a b f never (inr h) (inl k) = absurd (h.0 (f.1 k.0))
+one_of_two A B d e e' m n a b f never (inr h) (inr k) = inr (inl (both h.1 (left B e' n b (never h.0) k.1)))
+
+two_of_three : (A B : LoongArchEntry → Type 0) (d d' e e' e'' : LoongArchEntry) (m n a b : LoongArchChoice) → (A d ↔ B e) → (A d' ↔ B e')
+    → (¬ A d → ¬ A d' → ¬ B e'') → IsFirst A (d ∷ d' ∷ []) m a → IsFirst B (e ∷ e' ∷ e'' ∷ []) n b
+    → IsAmong (a, b) ((choice d.kind d.relocation, choice e.kind e.relocation) ∷ (choice d'.kind d'.relocation, choice e'.kind e'.relocation) ∷ (m, n) ∷ [])
+two_of_three A B d d' e e' e'' m n a b f g never (inl h) (inl k) = inl (both h.1 k.1)
+two_of_three A B d d' e e' e'' m n a b f g never (inl h) (inr k) = absurd (k.0 (f.0 h.0))
+two_of_three A B d d' e e' e'' m n a b f g never (inr h) (inl k) = absurd (h.0 (f.1 k.0))
+two_of_three A B d d' e e' e'' m n a b f g never (inr h) (inr k) = inr (one_of_two A B d' e' e'' m n a b g (never h.0) h.1 k.1)
+
+-- Of the second's entries only the last may apply.
+with_last : (A B : LoongArchEntry → Type 0) (d e e' : LoongArchEntry) (m n a b : LoongArchChoice) → ¬ B e → (A d ↔ B e')
+    → IsFirst A (d ∷ []) m a → IsFirst B (e ∷ e' ∷ []) n b
+    → IsAmong (a, b) ((choice d.kind d.relocation, choice e'.kind e'.relocation) ∷ (m, n) ∷ [])
+with_last A B d e e' m n a b never f h (inl k) = absurd (never k.0)
+with_last A B d e e' m n a b never f h (inr k) = one_alike A B d e' m n a b f h k.1
+
+with_third : (A B : LoongArchEntry → Type 0) (d e e' e'' : LoongArchEntry) (m n a b : LoongArchChoice) → ¬ B e → ¬ B e' → (A d ↔ B e'')
+    → IsFirst A (d ∷ []) m a → IsFirst B (e ∷ e' ∷ e'' ∷ []) n b
+    → IsAmong (a, b) ((choice d.kind d.relocation, choice e''.kind e''.relocation) ∷ (m, n) ∷ [])
+with_third A B d e e' e'' m n a b never never' f h (inl k) = absurd (never k.0)
+with_third A B d e e' e'' m n a b never never' f h (inr k) = with_last A B d e' e'' m n a b never' f h k.1
 
 -- ---- the place of the first
 
@@ -76,16 +111,67 @@ bound_paged n facts small =
       λ h. (h.0, (h.1.0, (h.1.1.0, (λ known. subst fits e (h.1.1.1.0 known), h.1.1.1.1)))),
     )
 
+-- by rows that are the same
+entry_near : (name : LoongArch64Relocation) → loongarch_row name ≡ loongarch_row r.R_LARCH_TLS_GD_PCREL20_S2 → (n : ℕ) (facts : LinkFacts) → n ≤ 12
+    → AllHold loongarch_row facts.operands facts (entry_by_pcaddi name 0)
+    ↔ AllHold loongarch_row (facts_on n facts).operands (facts_on n facts) (entry_by_pcaddi r.R_LARCH_TLS_GD_PCREL20_S2 n)
+entry_near name same n facts small =
+    let here = λ (row : Option RelocationKindInfo). RowReaches row (operands_before 0 facts.operands) in
+    let reaches = RowReaches (loongarch_row r.R_LARCH_TLS_GD_PCREL20_S2) in
+    let e = same_reach n facts small in (
+      λ h. (h.0, (h.1.0, ((h.1.1.0.0, subst reaches (sym e) (subst here same h.1.1.0.1)), h.1.1.1))),
+      λ h. (h.0, (h.1.0, ((h.1.1.0.0, subst here (sym same) (subst reaches e h.1.1.0.1)), h.1.1.1))),
+    )
+
 -- ---- pairs
 
+-- `addi.d` is no `ld.d`
+other_pair : (s : List ℕ) (o : ℕ) → IsPair IsAddi s o → ¬ IsPair IsLd s o
+other_pair s o h k =
+    let sum = h.second in
+    let load = k.second in
+    omega (arith, sum, load)
+
+-- no GOT entry is loaded there
+none_loaded : (s : List ℕ) (o : ℕ) (facts : LinkFacts) → IsPair IsAddi s o
+    → IsLoongArchChoice r.R_LARCH_GOT_PC_HI20 s o facts (choice kinds.NoOp r.R_LARCH_GOT_PC_HI20)
+none_loaded s o facts is = inr ((λ h. other_pair s o is h.0), inr ((λ h. other_pair s o is h.0), refl))
+
 pub got_pair : GotPairIsChosenAlike
-got_pair s o facts a b small h k =
+got_pair s o facts a b group small h k =
     let there = behind 4 (IsPair IsLd) s o in
-    two_alike (LoongArchApplies r.R_LARCH_GOT_PC_HI20 s o facts) (LoongArchApplies r.R_LARCH_GOT_PC_LO12 s (o + 4) (facts_on 4 facts))
+    let sum = behind 4 (IsPair IsAddi) s o in
+    two_of_three (LoongArchApplies r.R_LARCH_GOT_PC_HI20 s o facts) (LoongArchApplies r.R_LARCH_GOT_PC_LO12 s (o + 4) (facts_on 4 facts))
     (entry kinds.PcalaToPcaddi r.R_LARCH_PCREL20_S2 (bound_by_pcaddi 0)) (entry kinds.NoOp r.R_LARCH_PCALA_HI20 (bound_by_pages 0))
     (entry kinds.Delete r.R_LARCH_NONE (bound_by_pcaddi 4)) (entry kinds.LdToAddi r.R_LARCH_PCALA_LO12 (bound_by_pages 4))
+    (entry kinds.DeleteAddi r.R_LARCH_NONE (entry_by_pcaddi r.R_LARCH_TLS_GD_PCREL20_S2 4))
     _ _ a b
-    (product there (bound_near 4 facts (omega arith))) (product there (bound_paged 4 facts (omega arith))) h k
+    (product there (bound_near 4 facts (omega arith))) (product there (bound_paged 4 facts (omega arith)))
+    (λ p q x. group x.1.1.0 (none_loaded s o (with_group facts) (sum.1 x.0))) h k
+
+entry_pair : (high near : LoongArch64Relocation) → loongarch_row near ≡ loongarch_row r.R_LARCH_TLS_GD_PCREL20_S2
+    → (s : List ℕ) (o : ℕ) (facts : LinkFacts) (a b : LoongArchChoice) → IsPair IsAddi s o
+    → IsFirst (λ e. IsPair IsAddi s o × AllHold loongarch_row facts.operands facts e.conditions)
+    (entry kinds.PcalaToPcaddi near (entry_by_pcaddi near 0) ∷ []) (choice kinds.NoOp high) a
+    → IsLoongArchChoice r.R_LARCH_GOT_PC_LO12 s (o + 4) (facts_on 4 facts) b
+    → IsAmong (a, b) ((choice kinds.PcalaToPcaddi near, choice kinds.DeleteAddi r.R_LARCH_NONE)
+    ∷ (choice kinds.NoOp high, choice kinds.NoOp r.R_LARCH_GOT_PC_LO12) ∷ [])
+entry_pair high near same s o facts a b is h k =
+    let there = behind 4 (IsPair IsLd) s o in
+    with_third (λ e. IsPair IsAddi s o × AllHold loongarch_row facts.operands facts e.conditions)
+    (LoongArchApplies r.R_LARCH_GOT_PC_LO12 s (o + 4) (facts_on 4 facts))
+    (entry kinds.PcalaToPcaddi near (entry_by_pcaddi near 0))
+    (entry kinds.Delete r.R_LARCH_NONE (bound_by_pcaddi 4)) (entry kinds.LdToAddi r.R_LARCH_PCALA_LO12 (bound_by_pages 4))
+    (entry kinds.DeleteAddi r.R_LARCH_NONE (entry_by_pcaddi r.R_LARCH_TLS_GD_PCREL20_S2 4))
+    _ _ a b
+    (λ x. other_pair s o is (there.1 x.0)) (λ x. other_pair s o is (there.1 x.0))
+    (product (behind 4 (IsPair IsAddi) s o) (entry_near near same 4 facts (omega arith))) h k
+
+pub entry_pairs : EntryPairsAreChosenAlike
+entry_pairs = (
+  λ s o facts a b is small h k. entry_pair r.R_LARCH_TLS_GD_PC_HI20 r.R_LARCH_TLS_GD_PCREL20_S2 refl s o facts a b is h k,
+  λ s o facts a b is small h k. entry_pair r.R_LARCH_TLS_LD_PC_HI20 r.R_LARCH_TLS_LD_PCREL20_S2 refl s o facts a b is h k,
+)
 
 pub address_pair : AddressPairIsChosenAlike
 address_pair s o facts a b small h k =

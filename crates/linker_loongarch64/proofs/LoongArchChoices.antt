@@ -62,7 +62,10 @@ AreMeant name s o (e ∷ es) = (IsAskedFor name e.kind s o → loongarch_matches
 
 meant : (name : LoongArch64Relocation) (s : List ℕ) (o : ℕ) → AreMeant name s o (loongarch_entries name)
 meant r.R_LARCH_GOT_PC_HI20 s o = (λ a. pair_of_either s o a, (λ a. tt, tt))
-meant r.R_LARCH_GOT_PC_LO12 s o = (λ a. ((second_of_pair IsLd s o a).0, tt), (λ a. second_of_pair IsLd s o a, tt))
+meant r.R_LARCH_GOT_PC_LO12 s o =
+    (λ a. ((second_of_pair IsLd s o a).0, tt), (λ a. second_of_pair IsLd s o a, (λ a. second_of_pair IsAddi s o a, tt)))
+meant r.R_LARCH_TLS_GD_PC_HI20 s o = (λ a. address_of_either s o a, tt)
+meant r.R_LARCH_TLS_LD_PC_HI20 s o = (λ a. address_of_either s o a, tt)
 meant r.R_LARCH_PCALA_HI20 s o = (λ a. address_of_either s o a, tt)
 meant r.R_LARCH_PCALA_LO12 s o = (λ a. ((second_of_pair IsAddi s o a).0, tt), tt)
 meant r.R_LARCH_CALL36 s o = (λ a. a, (λ a. a, tt))

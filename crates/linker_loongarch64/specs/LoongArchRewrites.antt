@@ -1,7 +1,8 @@
 -- LoongArch: its rewrites (LoongArch ELF psABI, relaxation and the sequences of thread-local
 -- storage; LoongArch Reference Manual, volume 1).
 use Rattle.std.specs.Prelude.{ℕ, ◌+◌, ◌-◌, ◌*◌, ◌^◌, List, [], ◌∷◌, Option, None, Some, ◌≡◌, ◌≢◌}
-use Rattle.std.specs.Prelude.{◌≤◌, ◌/◌, length, drop, Bool, ◌==◌, ◌||◌, ◌&&◌, nat_le, IsTrue, ⊤}
+use Rattle.std.specs.Prelude.{◌≤◌, ◌/◌, length, drop, Bool, true, ◌==◌, ◌||◌, ◌&&◌, nat_le, IsTrue}
+use Rattle.std.specs.Prelude.{⊤}
 use Rattle.std.specs.Prelude.{◌⊎◌, ◌<◌, ◌++◌, ℤ, pos, neg_ℤ}
 use Rattle.std.specs.Int.{w32, from_le_bytes, to_le_bytes}
 use Rattle.linker_base.specs.Bits.{field}
@@ -13,7 +14,7 @@ use Rattle.linker_base.specs.declared.rewrite.DeletedBytes.{DeletedBytes}
 use Rattle.linker_elf.specs.Originals.{HasWord}
 use Rattle.linker_elf.specs.Choices.{facts_on, Condition, bound, fixed_distance, executable, marked}
 use Rattle.linker_elf.specs.Choices.{addend, in_reach, within, within_if_known, Entry, entry}
-use Rattle.linker_elf.specs.Choices.{choice, Applies, IsFirst, Holds, group_fits}
+use Rattle.linker_elf.specs.Choices.{choice, Applies, IsFirst, Holds, group_fits, Fits}
 use Rattle.linker_elf.specs.LoongArchRelocations.{loongarch_row}
 use Rattle.linker_elf.specs.declared.elf.choice.Choice.{Choice}
 use Rattle.linker_elf.specs.declared.elf.choice.LinkFacts.{LinkFacts}
@@ -61,6 +62,7 @@ loongarch_rewrite kinds.LowToOriZero = Some (rewrites_word (λ word. 0x03800000 
 loongarch_rewrite kinds.BaseToTp =
     Some (rewrites_word (λ word. word - rj_of word * 2 ^ 5 + tp * 2 ^ 5))
 loongarch_rewrite kinds.Delete = None
+loongarch_rewrite kinds.DeleteAddi = None
 
 abbrev pub loongarch_modifier : RelaxationKind → RelocationModifier
 loongarch_modifier kind = Normal
@@ -73,6 +75,7 @@ abbrev pub loongarch_deleted : RelaxationKind → Option DeletedBytes
 loongarch_deleted kinds.CallToBl = deleted_from 4 4
 loongarch_deleted kinds.CallToB = deleted_from 4 4
 loongarch_deleted kinds.Delete = deleted_from 0 4
+loongarch_deleted kinds.DeleteAddi = deleted_from 0 4
 loongarch_deleted kind = None
 
 -- the rewrites by their numbers from 0 up
@@ -80,7 +83,7 @@ abbrev pub loongarch64_rewrites : List RelaxationKind
 loongarch64_rewrites =
     kinds.NoOp ∷ kinds.ReplaceWithNop ∷ kinds.LdToAddi ∷ kinds.AddiToLd ∷ kinds.PcalaToPcaddi ∷
     kinds.CallToBl ∷ kinds.CallToB ∷ kinds.PcalaToLu12i ∷ kinds.LowToOri ∷ kinds.LowToOriZero ∷
-    kinds.BaseToTp ∷ kinds.Delete ∷ []
+    kinds.BaseToTp ∷ kinds.Delete ∷ kinds.DeleteAddi ∷ []
 
 -- The instructions that each rewrite of LoongArch is meant for (LoongArch Reference Manual, volume
 -- 1; LoongArch ELF psABI, relaxation and the sequences of thread-local storage).
@@ -117,11 +120,12 @@ IsAddTp word = word / 2 ^ 10 ≡ 0x422
 
 -- The instruction adds a signed immediate of 12 bits to its first source register, by its opcode:
 -- `addi.w` and `addi.d`; `ld.b`, `ld.h`, `ld.w` and `ld.d`; `st.b`, `st.h`, `st.w` and `st.d`;
--- `ld.bu`, `ld.hu` and `ld.wu`; `fld.s`, `fst.s`, `fld.d` and `fst.d`.
+-- `ld.bu`, `ld.hu` and `ld.wu`; `preld`, which has a hint in place of a destination register;
+-- `fld.s`, `fst.s`, `fld.d` and `fst.d`; and `vld`, `vst`, `xvld` and `xvst` (LoongArch Reference
+-- Manual, volume 2).
 abbrev pub adds_low12 : ℕ → Bool
 adds_low12 opcode =
-    opcode == 0x00a || opcode == 0x00b || nat_le 0x0a0 opcode && nat_le opcode 0x0aa
-    || nat_le 0x0ac opcode && nat_le opcode 0x0af
+    opcode == 0x00a || opcode == 0x00b || nat_le 0x0a0 opcode && nat_le opcode 0x0b3
 
 -- ---- pairs
 
@@ -176,6 +180,8 @@ loongarch_matches kinds.LowToOriZero section o =
 loongarch_matches kinds.BaseToTp section o =
     HasWord section o (λ word. IsTrue (adds_low12 (word / 2 ^ 22)))
 loongarch_matches kinds.Delete section o = HasWord section o (λ _. ⊤)
+loongarch_matches kinds.DeleteAddi section o =
+    HasWord section o (λ word. IsAddi word × IsIntoOwnSource word)
 
 -- LoongArch: the rewrite that a linker chooses for a relocation (LoongArch ELF psABI, relaxation
 -- and the sequences of thread-local storage).
@@ -206,7 +212,10 @@ IsBehind back P section o = (back ≤ o) × P section (o - back)
 
 abbrev pub IsAskedFor : LoongArch64Relocation → RelaxationKind → List ℕ → ℕ → Type 0
 IsAskedFor r.R_LARCH_GOT_PC_HI20 kind = IsPair IsLd
+IsAskedFor r.R_LARCH_GOT_PC_LO12 kinds.DeleteAddi = IsBehind 4 (IsPair IsAddi)
 IsAskedFor r.R_LARCH_GOT_PC_LO12 kind = IsBehind 4 (IsPair IsLd)
+IsAskedFor r.R_LARCH_TLS_GD_PC_HI20 kind = IsPair IsAddi
+IsAskedFor r.R_LARCH_TLS_LD_PC_HI20 kind = IsPair IsAddi
 IsAskedFor r.R_LARCH_PCALA_HI20 kind = IsPair IsAddi
 IsAskedFor r.R_LARCH_PCALA_LO12 kind = IsBehind 4 (IsPair IsAddi)
 IsAskedFor r.R_LARCH_TLS_IE_PC_HI20 kind = IsSingle IsPcalau12i
@@ -244,6 +253,12 @@ by_pcaddi back = fixed_distance ∷ marked ∷ in_reach r.R_LARCH_PCREL20_S2 bac
 abbrev pub bound_by_pcaddi : ℕ → Conditions
 bound_by_pcaddi back =
     bound ∷ fixed_distance ∷ marked ∷ addend (pos 0) ∷ in_reach r.R_LARCH_PCREL20_S2 back ∷ []
+
+-- The GOT entry of general- or local-dynamic by `pcaddi`, which is so many bytes before. Its low
+-- half has the relocation of any GOT entry's: `group_fits` says that its high half can be
+-- rewritten.
+abbrev pub entry_by_pcaddi : LoongArch64Relocation → ℕ → Conditions
+entry_by_pcaddi name back = marked ∷ group_fits ∷ in_reach name back ∷ []
 
 -- the definition by the distance in pages from `pcalau12i`, which is so many bytes before
 abbrev pub bound_by_pages : ℕ → Conditions
@@ -291,7 +306,14 @@ loongarch_entries r.R_LARCH_GOT_PC_HI20 =
     ∷ entry kinds.NoOp r.R_LARCH_PCALA_HI20 (bound_by_pages 0) ∷ []
 loongarch_entries r.R_LARCH_GOT_PC_LO12 =
     entry kinds.Delete r.R_LARCH_NONE (bound_by_pcaddi 4)
-    ∷ entry kinds.LdToAddi r.R_LARCH_PCALA_LO12 (bound_by_pages 4) ∷ []
+    ∷ entry kinds.LdToAddi r.R_LARCH_PCALA_LO12 (bound_by_pages 4)
+    ∷ entry kinds.DeleteAddi r.R_LARCH_NONE (entry_by_pcaddi r.R_LARCH_TLS_GD_PCREL20_S2 4) ∷ []
+loongarch_entries r.R_LARCH_TLS_GD_PC_HI20 =
+    entry kinds.PcalaToPcaddi r.R_LARCH_TLS_GD_PCREL20_S2
+    (entry_by_pcaddi r.R_LARCH_TLS_GD_PCREL20_S2 0) ∷ []
+loongarch_entries r.R_LARCH_TLS_LD_PC_HI20 =
+    entry kinds.PcalaToPcaddi r.R_LARCH_TLS_LD_PCREL20_S2
+    (entry_by_pcaddi r.R_LARCH_TLS_LD_PCREL20_S2 0) ∷ []
 loongarch_entries r.R_LARCH_PCALA_HI20 =
     entry kinds.PcalaToPcaddi r.R_LARCH_PCREL20_S2 (by_pcaddi 0) ∷ []
 loongarch_entries r.R_LARCH_PCALA_LO12 = entry kinds.Delete r.R_LARCH_NONE (by_pcaddi 4) ∷ []
@@ -343,8 +365,17 @@ abbrev pub IsAmong : LoongArchChoice × LoongArchChoice → List (LoongArchChoic
 IsAmong x [] = ⊥
 IsAmong x (y ∷ ys) = (x ≡ y) ⊎ IsAmong x ys
 
--- Two relocations, n bytes apart, with the same facts but for the place: both choices are those of
--- one line, or both relocations are left.
+-- Two relocations, n bytes apart, with the same facts but for the place, where P holds: both
+-- choices are those of one line, or both relocations are left.
+abbrev pub AreChosenAlikeIf : (List ℕ → ℕ → LinkFacts → Type 0) → ℕ → LoongArch64Relocation
+    → LoongArch64Relocation → List (LoongArchChoice × LoongArchChoice) → Type 0
+AreChosenAlikeIf P n first second lines =
+    (section : List ℕ) (o : ℕ) (facts : LinkFacts) (a b : LoongArchChoice) → P section o facts
+    → o + n < 2 ^ 64 → IsLoongArchChoice first section o facts a
+    → IsLoongArchChoice second section (o + n) (facts_on n facts) b
+    → IsAmong (a, b) (lines ++ (choice kinds.NoOp first, choice kinds.NoOp second) ∷ [])
+
+-- the same everywhere
 abbrev pub AreChosenAlike : ℕ → LoongArch64Relocation → LoongArch64Relocation
     → List (LoongArchChoice × LoongArchChoice) → Type 0
 AreChosenAlike n first second lines =
@@ -353,11 +384,29 @@ AreChosenAlike n first second lines =
     → IsLoongArchChoice second section (o + n) (facts_on n facts) b
     → IsAmong (a, b) (lines ++ (choice kinds.NoOp first, choice kinds.NoOp second) ∷ [])
 
+-- `group_fits` is set only where this relocation, which is one of the group, fits.
+abbrev pub GroupHas : LoongArch64Relocation → List ℕ → ℕ → LinkFacts → Type 0
+GroupHas name section o facts =
+    facts.group_fits ≡ true
+    → Fits (IsLoongArchChoice name section o) (choice kinds.NoOp name) facts
+
 abbrev pub GotPairIsChosenAlike : Type 0
 GotPairIsChosenAlike =
-    AreChosenAlike 4 r.R_LARCH_GOT_PC_HI20 r.R_LARCH_GOT_PC_LO12
+    AreChosenAlikeIf (GroupHas r.R_LARCH_GOT_PC_HI20) 4 r.R_LARCH_GOT_PC_HI20
+    r.R_LARCH_GOT_PC_LO12
     ((choice kinds.PcalaToPcaddi r.R_LARCH_PCREL20_S2, choice kinds.Delete r.R_LARCH_NONE)
     ∷ (choice kinds.NoOp r.R_LARCH_PCALA_HI20, choice kinds.LdToAddi r.R_LARCH_PCALA_LO12) ∷ [])
+
+-- A pair of `pcalau12i rd` and `addi.d rd, rd` of a GOT entry for general- or local-dynamic
+abbrev pub EntryPairIsChosenAlike : LoongArch64Relocation → LoongArch64Relocation → Type 0
+EntryPairIsChosenAlike high near =
+    AreChosenAlikeIf (λ section o facts. IsPair IsAddi section o) 4 high r.R_LARCH_GOT_PC_LO12
+    ((choice kinds.PcalaToPcaddi near, choice kinds.DeleteAddi r.R_LARCH_NONE) ∷ [])
+
+abbrev pub EntryPairsAreChosenAlike : Type 0
+EntryPairsAreChosenAlike =
+    EntryPairIsChosenAlike r.R_LARCH_TLS_GD_PC_HI20 r.R_LARCH_TLS_GD_PCREL20_S2
+    × EntryPairIsChosenAlike r.R_LARCH_TLS_LD_PC_HI20 r.R_LARCH_TLS_LD_PCREL20_S2
 
 abbrev pub AddressPairIsChosenAlike : Type 0
 AddressPairIsChosenAlike =

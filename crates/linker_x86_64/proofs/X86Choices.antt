@@ -30,6 +30,7 @@ chosen_matches t name section o facts c =
 -- a relocation without entries at the opcode of `mov` has none at any
 unlisted : (name : X86_64Relocation) (opcode : ℕ) (Asked : RelaxationKind → List ℕ → ℕ → Type 0)
     → IsTableOf StandAt Asked [] (x86_64_table name 0x8b).entries → (x86_64_table name opcode).entries ≡ []
+unlisted r.R_X86_64_GOTPCREL opcode Asked none = absurd none
 unlisted r.R_X86_64_GOTPCRELX opcode Asked none = absurd none
 unlisted r.R_X86_64_REX_GOTPCRELX opcode Asked none = absurd none
 unlisted r.R_X86_64_CODE_4_GOTPCRELX opcode Asked none = absurd none

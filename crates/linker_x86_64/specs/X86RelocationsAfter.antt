@@ -15,6 +15,11 @@ after_got after r.R_X86_64_CODE_5_GOTPCRELX = Some after
 after_got after r.R_X86_64_CODE_6_GOTPCRELX = Some after
 after_got after before = None
 
+-- `lea` is in place of any `mov` from the GOT: no bit of a prefix changes
+abbrev pub after_load : X86_64Relocation → X86_64Relocation → Option X86_64Relocation
+after_load after r.R_X86_64_GOTPCREL = Some after
+after_load after before = after_got after before
+
 -- `mov` and `add` also take an offset from the thread pointer
 abbrev pub after_got_or_tp : X86_64Relocation → X86_64Relocation → Option X86_64Relocation
 after_got_or_tp after r.R_X86_64_GOTTPOFF = Some r.R_X86_64_TPOFF32
@@ -49,7 +54,7 @@ immediate_of n = if n == 2 then r.R_X86_64_32 else r.R_X86_64_32S
 
 -- by the relocation before; none where the rewrite is not for that, and for `NoOp`
 abbrev pub x86_64_relocation_after : RelaxationKind → X86_64Relocation → Option X86_64Relocation
-x86_64_relocation_after kinds.MovIndirectToLea before = after_got r.R_X86_64_PC32 before
+x86_64_relocation_after kinds.MovIndirectToLea before = after_load r.R_X86_64_PC32 before
 x86_64_relocation_after kinds.CallIndirectToRelative before = after_got r.R_X86_64_PC32 before
 x86_64_relocation_after kinds.JmpIndirectToRelative before = after_got r.R_X86_64_PC32 before
 x86_64_relocation_after kinds.MovIndirectToAbsolute before = after_got_or_tp r.R_X86_64_32 before

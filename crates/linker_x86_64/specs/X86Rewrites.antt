@@ -499,6 +499,13 @@ mov_table n =
     (address_by (mov_of n) (immediate_of n) (in_reach (immediate_of n) 0)
     ++ distance_by kinds.MovIndirectToLea ∷ [])
 
+-- `mov` of a GOT entry that no relocation marks for more: only a distance
+abbrev pub load_table : ℕ → Table
+load_table opcode =
+    if opcode == 0x8b
+    then table (legacy 3 0x8b) (distance_by kinds.MovIndirectToLea ∷ [])
+    else any_entry []
+
 abbrev pub operation_table : ℕ → RelaxationKind → Table
 operation_table n kind =
     any_entry (address_by kind (immediate_of n) (in_reach_if_known (immediate_of n) 0))
@@ -551,6 +558,7 @@ descriptor_table n =
 
 -- by the relocation's name, and the opcode, which is two bytes before the field
 abbrev pub x86_64_table : X86_64Relocation → ℕ → Table
+x86_64_table r.R_X86_64_GOTPCREL opcode = load_table opcode
 x86_64_table r.R_X86_64_GOTPCRELX opcode =
     if opcode == 0xff then branch_table else got_table 2 opcode
 x86_64_table r.R_X86_64_REX_GOTPCRELX opcode = got_table 3 opcode

@@ -196,6 +196,8 @@ static BRANCH: Table<RelaxationKind> = table_of!([
     JmpIndirectToRelative => R_X86_64_PC32, DISTANCE;
 ]);
 
+static LOAD: Table = table_of!([MovIndirectToLea at Legacy(3, 0x8b) => R_X86_64_PC32, DISTANCE]);
+
 /// The conditions on which an operand becomes the symbol's address, that of a definition or 0.
 macro_rules! address {
     ($fact:ident, $reach:ident $name:ident) => {
@@ -296,6 +298,7 @@ macro_rules! by_tables {
     ($name:expr, $opcode:expr, $table:ident => $use:expr) => {
         choices!(by_table(
             TABLES, $name, $table => $use;
+            Names::R_X86_64_GOTPCREL if $opcode == 0x8b => { let $table = LOAD; $use }
             Names::R_X86_64_GOTPCRELX if $opcode == 0xff => { let $table = BRANCH; $use }
             Names::R_X86_64_GOTPCRELX => by_opcode!(GOT_2, $opcode, $table => $use),
             Names::R_X86_64_REX_GOTPCRELX => by_opcode!(GOT_3, $opcode, $table => $use),

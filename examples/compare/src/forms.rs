@@ -146,10 +146,6 @@ fn loongarch_deletion(name: &str) -> Option<(Form, u32)> {
     may.then_some((deletes("Delete", 0, 4), NOTHING))
 }
 
-// types that `object` doesn't name
-const R_LARCH_TLS_LD_PCREL20_S2: u32 = 124;
-const R_LARCH_TLS_GD_PCREL20_S2: u32 = 125;
-
 fn loongarch(name: &str, before: u32, after: u32) -> Option<(Form, u32)> {
     let (rd, rj) = (31, 31 << 5);
     match name {
@@ -175,15 +171,6 @@ fn loongarch(name: &str, before: u32, after: u32) -> Option<(Form, u32)> {
         "R_LARCH_B26" => {
             let is_call = before >> 26 == 0x15; // or else a jump
             (after == 0x4c00_0000 | u32::from(is_call)).then_some((plain("CallToJirl"), NOTHING))
-        }
-        // its low half is deleted
-        "R_LARCH_TLS_LD_PC_HI20" | "R_LARCH_TLS_GD_PC_HI20" => {
-            let to = match name {
-                "R_LARCH_TLS_LD_PC_HI20" => R_LARCH_TLS_LD_PCREL20_S2,
-                _ => R_LARCH_TLS_GD_PCREL20_S2,
-            };
-            let is_pcaddi = after >> 25 == 0x0c && (before ^ after) & rd == 0;
-            is_pcaddi.then_some((plain("PcalaToPcaddi"), to))
         }
         _ => None,
     }

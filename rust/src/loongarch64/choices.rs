@@ -128,6 +128,13 @@ macro_rules! bound_by_pcaddi {
     };
 }
 
+/// The GOT entry of general- or local-dynamic by `pcaddi`, which is so many bytes before.
+macro_rules! entry_by_pcaddi {
+    ($name:ident, $back:expr) => {
+        conditions!(MARKED + GROUP_FITS, None, InReach($name, $back))
+    };
+}
+
 /// The definition by the distance in pages from `pcalau12i`, which is so many bytes before.
 macro_rules! bound_by_pages {
     ($back:expr) => {
@@ -194,9 +201,19 @@ macro_rules! choices {
             R_LARCH_GOT_PC_LO12: [
                 Delete at Load(4) => R_LARCH_NONE, bound_by_pcaddi!(4);
                 LdToAddi at Load(4) => R_LARCH_PCALA_LO12, bound_by_pages!(4);
+                DeleteAddi at Sum(4) => R_LARCH_NONE,
+                    entry_by_pcaddi!(R_LARCH_TLS_GD_PCREL20_S2, 4);
             ]
             R_LARCH_PCALA_HI20: [PcalaToPcaddi at Sum(0) => R_LARCH_PCREL20_S2, by_pcaddi!(0)]
             R_LARCH_PCALA_LO12: [Delete at Sum(4) => R_LARCH_NONE, by_pcaddi!(4)]
+            R_LARCH_TLS_GD_PC_HI20: [
+                PcalaToPcaddi at Sum(0) => R_LARCH_TLS_GD_PCREL20_S2,
+                    entry_by_pcaddi!(R_LARCH_TLS_GD_PCREL20_S2, 0)
+            ]
+            R_LARCH_TLS_LD_PC_HI20: [
+                PcalaToPcaddi at Sum(0) => R_LARCH_TLS_LD_PCREL20_S2,
+                    entry_by_pcaddi!(R_LARCH_TLS_LD_PCREL20_S2, 0)
+            ]
             R_LARCH_CALL36: [
                 CallToB => R_LARCH_B26, BY_BRANCH;
                 CallToBl => R_LARCH_B26, BY_BRANCH;
@@ -313,10 +330,11 @@ pub fn fits(name: LoongArch64Relocation, section: &[u8], offset: u64, facts: &Li
 }
 
 /// With the same facts, except that each has its own place, both relocations of a pair are
-/// rewritten alike or neither is: of a load of a GOT entry and of an address. And so are, wherever
-/// they are, where each is at an instruction that it asks for, a high and a low half of initial-exec;
-/// the four of a TLS descriptor, all for local-exec, all for initial-exec, or none, if the high half
-/// reaches the entry of initial-exec; and the `lu12i.w` of an offset from the thread pointer, its
-/// `add.d` and its low parts.
+/// rewritten alike or neither is: of a load of a GOT entry, if `group_fits` holds only where the
+/// high half fits; of `pcalau12i` and `addi.d` for the entry of general- or local-dynamic; and of
+/// an address. And so are, wherever they are, where each is at an instruction that it asks for, a
+/// high and a low half of initial-exec; the four of a TLS descriptor, all for local-exec, all for
+/// initial-exec, or none, if the high half reaches the entry of initial-exec; and the `lu12i.w` of
+/// an offset from the thread pointer, its `add.d` and its low parts.
 #[doc(hidden)]
 pub fn relocations_are_chosen_alike() {}

@@ -48,6 +48,9 @@ pub enum RelaxationKind {
     BaseToTp,
     /// Leaves the instruction as it is; the caller deletes it.
     Delete,
+    /// Leaves the `addi.d` of a pair, which adds to its own destination register, as it is; the
+    /// caller deletes it.
+    DeleteAddi,
 }
 
 /// The instruction at an offset of the section.
@@ -100,10 +103,7 @@ pub(super) fn is_ld(word: u32) -> bool {
 #[inline]
 fn adds_immediate(word: u32) -> bool {
     let opcode = word >> 22;
-    opcode == 0x00a
-        || opcode == 0x00b
-        || 0x0a0 <= opcode && opcode <= 0x0aa
-        || 0x0ac <= opcode && opcode <= 0x0af
+    opcode == 0x00a || opcode == 0x00b || 0x0a0 <= opcode && opcode <= 0x0b3
 }
 
 /// Whether the source register is the destination register, and isn't `zero`.
@@ -161,6 +161,7 @@ impl RelaxationKind {
             9 => RelaxationKind::LowToOriZero,
             10 => RelaxationKind::BaseToTp,
             11 => RelaxationKind::Delete,
+            12 => RelaxationKind::DeleteAddi,
             _ => return None,
         };
         Some(kind)
@@ -186,7 +187,7 @@ impl RelaxationKind {
         let _ = addend;
         let offset = *offset_in_section;
         match self {
-            RelaxationKind::NoOp | RelaxationKind::Delete => {}
+            RelaxationKind::NoOp | RelaxationKind::Delete | RelaxationKind::DeleteAddi => {}
             RelaxationKind::ReplaceWithNop => put_word(section_bytes, offset, 0x0340_0000),
             RelaxationKind::LdToAddi => {
                 let ld = window_at(section_bytes, offset);
@@ -229,13 +230,13 @@ impl RelaxationKind {
         window_is_in(section, offset, self.window())
     }
 
-    /// The bytes that `apply` writes: the 4 from the offset, and none for `NoOp` and `Delete`.
-    /// Those that are then deleted (`deleted`) may lie behind them.
+    /// The bytes that `apply` writes: the 4 from the offset, and none for `NoOp`, `Delete` and
+    /// `DeleteAddi`. Those that are then deleted (`deleted`) may lie behind them.
     #[must_use]
     #[inline]
     pub fn window(self) -> RewriteWindow {
         let len = match self {
-            RelaxationKind::NoOp | RelaxationKind::Delete => 0,
+            RelaxationKind::NoOp | RelaxationKind::Delete | RelaxationKind::DeleteAddi => 0,
             _ => 4,
         };
         RewriteWindow { back: 0, len }
@@ -244,8 +245,8 @@ impl RelaxationKind {
     /// Whether the instruction that begins at an offset of a section, or the pair, is one that the
     /// rewrite is meant for: `can_apply`, and the opcodes and registers. `NoOp` is meant for any
     /// offset, and `ReplaceWithNop` and `Delete` for any instruction in the section. `BaseToTp` is
-    /// meant for `addi.w`, `addi.d`, and loads and stores of integers and floating-point numbers
-    /// with a signed offset of 12 bits.
+    /// meant for `addi.w`, `addi.d`, `preld`, and loads and stores of integers, floating-point
+    /// numbers and vectors with a signed offset of 12 bits.
     #[must_use]
     #[inline]
     pub fn matches(self, section: &[u8], offset: u64) -> bool {
@@ -259,7 +260,9 @@ impl RelaxationKind {
         match self {
             RelaxationKind::NoOp | RelaxationKind::ReplaceWithNop | RelaxationKind::Delete => true,
             RelaxationKind::LdToAddi => is_ld(word) && is_into_own_source(word),
-            RelaxationKind::AddiToLd => is_addi(word) && is_into_own_source(word),
+            RelaxationKind::AddiToLd | RelaxationKind::DeleteAddi => {
+                is_addi(word) && is_into_own_source(word)
+            }
             RelaxationKind::PcalaToPcaddi => is_low_pair(section, offset),
             RelaxationKind::CallToBl => is_call(section, offset, 1),
             RelaxationKind::CallToB => is_call(section, offset, 0),
@@ -279,7 +282,7 @@ impl RelaxationKind {
     }
 
     /// The bytes to be deleted after the rewrite: the `jirl` of a call after `CallToBl` and
-    /// `CallToB`, and the instruction itself for `Delete`. `None` for the others.
+    /// `CallToB`, and the instruction itself for `Delete` and `DeleteAddi`. `None` for the others.
     ///
     /// ```
     /// use linker_utils::loongarch64::RelaxationKind;
@@ -295,7 +298,9 @@ impl RelaxationKind {
             RelaxationKind::CallToBl | RelaxationKind::CallToB => {
                 Some(DeletedBytes { start: 4, count: 4 })
             }
-            RelaxationKind::Delete => Some(DeletedBytes { start: 0, count: 4 }),
+            RelaxationKind::Delete | RelaxationKind::DeleteAddi => {
+                Some(DeletedBytes { start: 0, count: 4 })
+            }
             _ => None,
         }
     }

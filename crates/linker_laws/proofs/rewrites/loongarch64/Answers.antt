@@ -1,5 +1,6 @@
 -- The laws of LoongArch.
 use Rattle.linker_laws.proofs.LoongArchPairs.{got_to_address, address_to_pcaddi, got_to_pcaddi}
+use Rattle.linker_laws.proofs.LoongArchPairs.{local_entry_to_pcaddi, general_entry_to_pcaddi}
 use Rattle.linker_laws.proofs.LoongArchCalls.{call_to_bl, call_to_b}
 use Rattle.linker_laws.proofs.LoongArchHalves.{initial_exec_high, initial_exec_low}
 use Rattle.linker_laws.proofs.LoongArchHalves.{initial_exec_short_high, initial_exec_short_low}
@@ -30,6 +31,12 @@ returns-clause-address c =
 pub returns-clause-near_got : goal.returns-clause-near_got
 returns-clause-near_got c =
     got_to_pcaddi c.loongarch64.ensures.relative c.loongarch64.ensures.branches
+
+pub returns-clause-near_entries : goal.returns-clause-near_entries
+returns-clause-near_entries c = (
+  local_entry_to_pcaddi c.loongarch64.ensures.relative c.loongarch64.ensures.branches,
+  general_entry_to_pcaddi c.loongarch64.ensures.relative c.loongarch64.ensures.branches,
+)
 
 pub returns-clause-calls : goal.returns-clause-calls
 returns-clause-calls c = (

@@ -11,7 +11,8 @@ use Rattle.linker_laws.proofs.X86Threads as threads
 use Rattle.linker_laws.proofs.rewrites.x86_64.Goals as goal
 
 pub returns-clause-loads : goal.returns-clause-loads
-returns-clause-loads c = (loads.without_prefix, loads.with_rex_prefix, loads.with_rex2_prefix)
+returns-clause-loads c =
+    ((loads.without_prefix, loads.with_rex_prefix, loads.with_rex2_prefix), loads.of_any_load)
 
 pub returns-clause-absolute : goal.returns-clause-absolute
 returns-clause-absolute c = (

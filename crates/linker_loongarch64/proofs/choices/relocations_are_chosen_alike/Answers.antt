@@ -1,8 +1,11 @@
-use Rattle.linker_loongarch64.proofs.LoongArchAlike.{got_pair, address_pair, initial_exec_halves, descriptor_low, descriptor_load, descriptor_call, thread_offset}
+use Rattle.linker_loongarch64.proofs.LoongArchAlike.{got_pair, entry_pairs, address_pair, initial_exec_halves, descriptor_low, descriptor_load, descriptor_call, thread_offset}
 use Rattle.linker_loongarch64.proofs.choices.relocations_are_chosen_alike.Goals as goal
 
 pub returns-clause-got : goal.returns-clause-got
 returns-clause-got c = got_pair
+
+pub returns-clause-entry : goal.returns-clause-entry
+returns-clause-entry c = entry_pairs
 
 pub returns-clause-address : goal.returns-clause-address
 returns-clause-address c = address_pair

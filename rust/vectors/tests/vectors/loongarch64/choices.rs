@@ -4,7 +4,7 @@
 use super::relaxed::{ENTRY, IMAGE, SITES};
 use linker_utils::elf::{Architecture, LinkFacts, Operands};
 use linker_utils::loongarch64::{
-    LoongArch64Relocation as Name, RelaxationKind as Kind, choose, row,
+    LoongArch64Relocation as Name, RelaxationKind as Kind, choose, fits, row,
 };
 use linker_utils::utils::u32_from_slice;
 
@@ -117,6 +117,50 @@ fn thread_offsets_have_their_encodings() {
     ];
     for (name, words, at, facts, kind, want) in table {
         assert_eq!(rewritten(name, words, at, &facts), (kind, want), "{want:?}");
+    }
+}
+
+/// Instructions over `a1`, and as llvm-mc 19 writes them over `tp` with the offset 0x345.
+#[test]
+fn low_parts_of_vectors_and_of_preloads_are_over_tp() {
+    let facts = facts_of(0x1_2002_0345, 0x1_2002_0000, true);
+    let table = [
+        (0x2c00_00a4, 0x2c0d_1444), // vld $vr4
+        (0x2c40_00a4, 0x2c4d_1444), // vst $vr4
+        (0x2c80_00a4, 0x2c8d_1444), // xvld $xr4
+        (0x2cc0_00a4, 0x2ccd_1444), // xvst $xr4
+        (0x2ac0_00a8, 0x2acd_1448), // preld 8
+    ];
+    for (low, want) in table {
+        let words = [THREAD[0], THREAD[1], low, 0];
+        let made = rewritten(Name::R_LARCH_TLS_LE_LO12_R, words, 8, &facts);
+        assert_eq!(made, (Kind::BaseToTp, want), "{low:#x}");
+    }
+}
+
+/// `pcalau12i` and `addi.d` for the entries of general- and local-dynamic, as GNU ld 2.44 relaxes
+/// them.
+#[test]
+fn near_entries_are_made_by_pcaddi() {
+    let local = [0x1a00_0005, 0x02c0_00a5, 0, 0];
+    let table = [
+        (Name::R_LARCH_TLS_GD_PC_HI20, ADDRESS, 0x218, 0x1_ffe0, 0x180f_ee44),
+        (Name::R_LARCH_TLS_LD_PC_HI20, local, 0x21c, 0x1_fff0, 0x180f_eea5),
+    ];
+    for (high, words, place, got_entry, want) in table {
+        let operands = Operands { place, got_entry, ..Operands::default() };
+        let facts = LinkFacts {
+            is_marked: true,
+            has_addresses: true,
+            group_fits: true,
+            operands,
+            ..LinkFacts::default()
+        };
+        let made = |name, at| rewritten(name, words, at, &facts);
+        assert_eq!(made(high, 0), (Kind::PcalaToPcaddi, want));
+        assert_eq!(made(Name::R_LARCH_GOT_PC_LO12, 4), (Kind::DeleteAddi, words[1]));
+        // neither linker rewrites the address of another GOT entry
+        assert!(!fits(Name::R_LARCH_GOT_PC_HI20, &bytes_of(words), 0, &facts));
     }
 }
 

@@ -155,7 +155,7 @@ struct Instruction {
     free: [u8; 10],
 }
 
-static INSTRUCTIONS: [Instruction; 14] = [
+static INSTRUCTIONS: [Instruction; 15] = [
     // mov; or
     Instruction {
         name: X86_64Relocation::R_X86_64_REX_GOTPCRELX,
@@ -168,6 +168,13 @@ static INSTRUCTIONS: [Instruction; 14] = [
         offset: 4,
         bytes: [0xd5, 0x48, 0x8b, 0x1d, 0, 0, 0, 0, 0, 0],
         free: [0, 0x4c, 0x80, 0x38, 255, 255, 255, 255, 255, 255],
+    },
+    // mov alone
+    Instruction {
+        name: X86_64Relocation::R_X86_64_GOTPCREL,
+        offset: 3,
+        bytes: [0x48, 0x8b, 0x1d, 0, 0, 0, 0, 0, 0, 0],
+        free: [0x0c, 0, 0x38, 255, 255, 255, 255, 255, 255, 255],
     },
     // add; or, adc, and
     Instruction {
@@ -249,6 +256,39 @@ static INSTRUCTIONS: [Instruction; 14] = [
         free: [255; 10],
     },
 ];
+
+/// Loads from the GOT by `mov`, the address of each, and what GNU ld 2.40 makes of them at
+/// `R_X86_64_GOTPCREL`, where the symbol's address is 0x404000.
+#[test]
+fn loads_without_a_mark_become_lea() {
+    let table = [
+        ([0x48, 0x8b, 0x05], 0x401000, [0x48, 0x8d, 0x05, 0xf9, 0x2f, 0, 0]),
+        ([0x4c, 0x8b, 0x25], 0x401007, [0x4c, 0x8d, 0x25, 0xf2, 0x2f, 0, 0]),
+        ([0x44, 0x8b, 0x05], 0x401014, [0x44, 0x8d, 0x05, 0xe5, 0x2f, 0, 0]),
+    ];
+    for ([rex, opcode, modrm], address, want) in table {
+        let mut bytes = [rex, opcode, modrm, 0, 0, 0, 0];
+        let operands =
+            Operands { symbol: 0x404000, addend: -4, place: address + 3, ..Operands::default() };
+        // the address is an immediate only at relocations that mark the instruction
+        let facts = LinkFacts {
+            is_local: true,
+            has_fixed_address: true,
+            has_fixed_distance: true,
+            has_addresses: true,
+            operands,
+            ..LinkFacts::default()
+        };
+        let choice = choose(X86_64Relocation::R_X86_64_GOTPCREL, &bytes, 3, &facts);
+        assert_eq!(choice.relocation, X86_64Relocation::R_X86_64_PC32, "{want:x?}");
+        let (mut offset, mut addend) = (3, -4);
+        choice.kind.apply(&mut bytes, &mut offset, &mut addend);
+        let row = row(choice.relocation).expect("a row");
+        let value = row.value(&operands).expect("a value");
+        assert!(row.write(value, &mut bytes[3..]).is_ok(), "{want:x?}");
+        assert_eq!(bytes, want);
+    }
+}
 
 #[test]
 fn other_instructions_are_not_rewritten() {

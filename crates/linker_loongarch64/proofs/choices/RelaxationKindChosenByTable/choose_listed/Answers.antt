@@ -15,3 +15,13 @@ pub choice_by-requires-3-clause-table : goal.choice_by-requires-3-clause-table
 choice_by-requires-3-clause-table c =
     let is = c.in-R_LARCH_PCALA_HI20-by_table.is in
     rw is (refl, (first_asked c.args.name r.R_LARCH_PCALA_HI20 kinds.PcalaToPcaddi is, tt))
+
+pub choice_by-requires-5-clause-table : goal.choice_by-requires-5-clause-table
+choice_by-requires-5-clause-table c =
+    let is = c.in-R_LARCH_TLS_GD_PC_HI20-by_table.is in
+    rw is (refl, (first_asked c.args.name r.R_LARCH_TLS_GD_PC_HI20 kinds.PcalaToPcaddi is, tt))
+
+pub choice_by-requires-6-clause-table : goal.choice_by-requires-6-clause-table
+choice_by-requires-6-clause-table c =
+    let is = c.in-R_LARCH_TLS_LD_PC_HI20-by_table.is in
+    rw is (refl, (first_asked c.args.name r.R_LARCH_TLS_LD_PC_HI20 kinds.PcalaToPcaddi is, tt))

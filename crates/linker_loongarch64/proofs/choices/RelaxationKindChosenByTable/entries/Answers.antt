@@ -15,3 +15,13 @@ pub returns-in-R_LARCH_PCALA_HI20-by_table-clause-table : goal.returns-in-R_LARC
 returns-in-R_LARCH_PCALA_HI20-by_table-clause-table c =
     let is = c.in-R_LARCH_PCALA_HI20-by_table.is in
     rw is (refl, (first_asked c.args.name r.R_LARCH_PCALA_HI20 kinds.PcalaToPcaddi is, tt))
+
+pub returns-in-R_LARCH_TLS_GD_PC_HI20-by_table-clause-table : goal.returns-in-R_LARCH_TLS_GD_PC_HI20-by_table-clause-table
+returns-in-R_LARCH_TLS_GD_PC_HI20-by_table-clause-table c =
+    let is = c.in-R_LARCH_TLS_GD_PC_HI20-by_table.is in
+    rw is (refl, (first_asked c.args.name r.R_LARCH_TLS_GD_PC_HI20 kinds.PcalaToPcaddi is, tt))
+
+pub returns-in-R_LARCH_TLS_LD_PC_HI20-by_table-clause-table : goal.returns-in-R_LARCH_TLS_LD_PC_HI20-by_table-clause-table
+returns-in-R_LARCH_TLS_LD_PC_HI20-by_table-clause-table c =
+    let is = c.in-R_LARCH_TLS_LD_PC_HI20-by_table.is in
+    rw is (refl, (first_asked c.args.name r.R_LARCH_TLS_LD_PC_HI20 kinds.PcalaToPcaddi is, tt))
