@@ -1,5 +1,5 @@
 -- Which items of a relaxed run are never out of reach where they are packed.
-use Rattle.std.proofs.Common.{◌≡◌, ℕ, ◌<◌, ◌≤◌, false, List, length, subst, sym, ⊎_elim, arith}
+use Rattle.std.proofs.Common.{◌≡◌, ℕ, ◌<◌, ◌≤◌, ◌∙◌, false, List, length, subst, sym, ⊎_elim, arith}
 use Rattle.std.specs.Prelude.{◌⊎◌}
 use Rattle.std.proofs.lemmas.Bool.{cases_lt}
 use Rattle.std.proofs.lemmas.Bool.Decides.{nat_tests}
@@ -10,12 +10,12 @@ use Rattle.linker_runs.specs.Relaxing.{item_at, choice_of}
 use Rattle.linker_runs.specs.Choosing.{AreItems, IsRelaxation, IsSite}
 use Rattle.linker_runs.specs.Deleting.{deletions_of_run}
 use Rattle.linker_runs.specs.Origins.{HasItsInstructions}
-use Rattle.linker_runs.specs.Packing.{Section, section_of, is_fixed, IsUnwritable, IsCause, IsFirstRejected, KeepsEnd}
+use Rattle.linker_runs.specs.Packing.{Section, section_of, is_fixed, IsUnwritable, IsCause, KeepsEnd}
 use Rattle.linker_runs.specs.declared.packing.Machine.{Machine}
 use Rattle.linker_runs.specs.declared.packing.Machine.TheVariants.{RiscV64, LoongArch64}
 use Rattle.linker_runs.specs.declared.packing.ItemError.{ItemError}
 use Rattle.linker_runs.specs.declared.packing.ItemError.TheVariants.{OutOfReach, DeletedOutside}
-use Rattle.linker_runs.specs.Writable.{IsShortened, IsNear, IsNearCall36, IsNearAddress, IsNearSite, MayBePacked, NoneIsOutOfReach}
+use Rattle.linker_runs.specs.Writable.{IsShortened, IsNearCall36, IsNearAddress, IsNearSite, MayBePacked, NoneIsOutOfReach}
 use Rattle.linker_runs.proofs.LongAddresses.{near_addresses}
 use Rattle.linker_runs.proofs.LongCalls.{near_calls}
 use Rattle.linker_runs.proofs.LongCalls36.{near_calls_36}
