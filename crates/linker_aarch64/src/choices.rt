@@ -1,6 +1,6 @@
 //! The rewrites that a linker of AArch64 chooses.
 
-ghost use Rattle.std.specs.Prelude.{◌≡◌, ◌↔◌, ◌<◌, ◌+◌, ◌^◌, IsTrue, ◌≤◌, length};
+ghost use Rattle.std.specs.Prelude.{◌==◌, ◌≡◌, ◌↔◌, ◌<◌, ◌+◌, ◌^◌, IsTrue, ◌≤◌, length};
 ghost use Rattle.linker_base.specs.Rewrite.{CanRewrite};
 ghost use Rattle.linker_aarch64.specs.AArch64Rewrites.{aarch64_rewrite};
 ghost use Rattle.linker_aarch64.specs.AArch64Rewrites.{aarch64_matches};

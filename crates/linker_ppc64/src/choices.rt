@@ -1,6 +1,6 @@
 //! PowerPC64: which rewrite a linker chooses for a relocation.
 
-ghost use Rattle.std.specs.Prelude.{◌≤◌, ◌↔◌, IsTrue, length};
+ghost use Rattle.std.specs.Prelude.{◌==◌, ◌≤◌, ◌↔◌, IsTrue, length};
 ghost use Rattle.linker_base.specs.Rewrite.{CanRewrite};
 ghost use Rattle.linker_elf.specs.Choices.{Fits, choice};
 ghost use Rattle.linker_elf.proofs.SameNames.{equalities, exact_code};

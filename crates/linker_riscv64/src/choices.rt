@@ -1,6 +1,6 @@
 //! RISC-V: which rewrite a linker chooses for a relocation.
 
-ghost use Rattle.std.specs.Prelude.{◌≡◌, ◌≤◌, ◌↔◌, IsTrue, length};
+ghost use Rattle.std.specs.Prelude.{◌==◌, ◌≡◌, ◌≤◌, ◌↔◌, IsTrue, length};
 ghost use Rattle.std.specs.Int.{cast_unsigned, w64};
 ghost use Rattle.linker_base.specs.Rewrite.{CanRewrite};
 ghost use Rattle.linker_elf.specs.Choices.{Fits, choice};
