@@ -1,6 +1,6 @@
 //! Which rewrite is chosen for a relocation of x86-64.
 
-ghost use Rattle.std.specs.Prelude.{◌-◌, ◌≡◌, ◌≤◌, ◌↔◌, IsTrue, length, slice_index};
+ghost use Rattle.std.specs.Prelude.{◌==◌, ◌-◌, ◌≡◌, ◌≤◌, ◌↔◌, IsTrue, length, slice_index};
 ghost use Rattle.linker_elf.specs.Choices.{Fits, choice};
 ghost use Rattle.linker_elf.specs.Inner.ChoiceTables.{IsTableOf};
 ghost use Rattle.linker_elf.proofs.SameNames.{equalities, exact_code};
@@ -196,7 +196,8 @@ static BRANCH: Table<RelaxationKind> = table_of!([
     JmpIndirectToRelative => R_X86_64_PC32, DISTANCE;
 ]);
 
-static LOAD: Table = table_of!([MovIndirectToLea at Legacy(3, 0x8b) => R_X86_64_PC32, DISTANCE]);
+static LOAD: Table<RelaxationKind> =
+    table_of!([MovIndirectToLea at Legacy(3, 0x8b) => R_X86_64_PC32, DISTANCE]);
 
 /// The conditions on which an operand becomes the symbol's address, that of a definition or 0.
 macro_rules! address {
@@ -356,8 +357,12 @@ fn opcode_before(section: &[u8], offset: u64) -> u8
 impl ChosenByTable for RelaxationKind {
     #[inline(always)]
     fn is_listed(name: Names) -> bool {
-        // a relocation with a table of one of several opcodes has one of this
-        !matches!(entries_by(name, 0x8b), [])
+        choices!(is_listed(
+            name;
+            R_X86_64_GOTPCREL | R_X86_64_GOTPCRELX | R_X86_64_REX_GOTPCRELX
+            | R_X86_64_CODE_4_GOTPCRELX | R_X86_64_CODE_5_GOTPCRELX | R_X86_64_CODE_6_GOTPCRELX | R_X86_64_GOTTPOFF
+            | R_X86_64_CODE_4_GOTTPOFF | R_X86_64_CODE_5_GOTTPOFF | R_X86_64_CODE_6_GOTTPOFF
+        ))
     }
 
     #[inline(always)]
