@@ -344,8 +344,8 @@ const fn index(name: Ppc64Relocation) -> usize {
 }
 
 /// What a relocation means. It takes a name; `Ppc64Relocation::from_elf` gives the name of a code.
-/// Returns `None` for `Other`. The adjusted high halves (`_HA`) have a bias of 0x8000. Checked
-/// halves have a range of 16 signed bits.
+/// Returns `None` for `Other`. The adjusted parts (`_HA`, `_HIGHA`, `_HIGHERA`, `_HIGHESTA`) have a
+/// bias of 0x8000. Checked halves have a range of 16 signed bits.
 ///
 /// The PLT entry of `R_PPC64_PLT16_HA`, `R_PPC64_PLT16_LO_DS`, `R_PPC64_PLT_PCREL34` and its
 /// `_NOTOC` is the doubleword of `.plt` that holds the function's address. `R_PPC64_ENTRY`,
@@ -361,6 +361,11 @@ const fn index(name: Ppc64Relocation) -> usize {
 /// `R_PPC64_D34_HA30` and `R_PPC64_D34_LO`, and `R_PPC64_D34_HI30` with an unsigned low part, are
 /// the parts of a value of 64 bits. The 30 bits of a high part are written to an immediate of 34
 /// bits, of which the upper 4 become 0.
+///
+/// `_HIGHEST`, `_HIGHER`, `_HIGH` and `_LO` are the parts of 16 bits of a value of 64 bits, and
+/// `_HIGHESTA`, `_HIGHERA` and `_HIGHA` those above a signed low part. None of them is checked.
+/// `_HIGHER`, `_HIGH` and the like are for instructions that take them without a sign, as `ori` and
+/// `oris`.
 #[must_use]
 #[inline(always)]
 pub const fn row(name: Ppc64Relocation) -> Option<Row> {
@@ -374,12 +379,14 @@ impl RelocationName for Ppc64Relocation {
     }
 }
 
-/// What a relocation means, as `row` says, or `None` for those that PowerPC64 compilers write and
-/// the crate `linker-utils` has no name for: the GOT and PLT entries by two halves
-/// (`R_PPC64_GOT16_HA`, `R_PPC64_PLT16_HA` and their `_LO_DS`), `R_PPC64_ENTRY`, the marks of calls
-/// through the PLT (`R_PPC64_PLTSEQ`, `R_PPC64_PLTCALL` and their `_NOTOC`), and prefixed
-/// instructions with an address or a part of one (`R_PPC64_D34` and its like), a PLT entry
-/// (`R_PPC64_PLT_PCREL34` and its `_NOTOC`) or TLS (`R_PPC64_TPREL34` and those after it).
+/// What a relocation means, as `row` says, or `None` for those that the crate `linker-utils` has no
+/// name for: absolute branches (`R_PPC64_ADDR24`, `R_PPC64_ADDR14`), `R_PPC64_ADDR16`, the parts of
+/// 64 bits (`_HIGH`, `_HIGHER`, `_HIGHEST` and those with an A), `R_PPC64_TOC16_HI`,
+/// `R_PPC64_REL16_HI`, the GOT and PLT entries (`R_PPC64_GOT16` and `R_PPC64_PLT16` with what comes
+/// behind), `R_PPC64_ENTRY`, the marks of calls through the PLT (`R_PPC64_PLTSEQ`,
+/// `R_PPC64_PLTCALL` and their `_NOTOC`), and prefixed instructions with an address or a part of one
+/// (`R_PPC64_D34` and its like), a PLT entry (`R_PPC64_PLT_PCREL34` and its `_NOTOC`) or TLS
+/// (`R_PPC64_TPREL34` and those after it).
 #[must_use]
 #[inline(always)]
 pub const fn relocation_type_from_raw(name: Ppc64Relocation) -> Option<RelocationKindInfo> {
