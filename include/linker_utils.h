@@ -413,7 +413,11 @@ enum linker_utils_ppc64_rewrite {
      * that of the call, which stays. */
     LINKER_UTILS_PPC64_REWRITE_NOP_TO_RESTORE_TOC = 14,
     /* Leaves `addis rT,2` as it is; only the kind of its relocation changes. */
-    LINKER_UTILS_PPC64_REWRITE_KEEP_ADDIS = 15
+    LINKER_UTILS_PPC64_REWRITE_KEEP_ADDIS = 15,
+    /* Turns `addis 2,12`, at the entry of a function, into `lis 2,0`. */
+    LINKER_UTILS_PPC64_REWRITE_ADDIS_TO_LIS = 16,
+    /* Writes `addi 2,2,0` behind that. The addend is then 0. */
+    LINKER_UTILS_PPC64_REWRITE_ADDI_BEHIND_LIS = 17
 };
 
 /* Where `n` is marked it is the count of the instruction's bytes before the field: 2 without a
@@ -859,9 +863,12 @@ struct linker_utils_choice {
  *
  * Of others the linker has to see itself that all are rewritten or none is: of R_RISCV_HI20 and its
  * low parts; of R_RISCV_TPREL_HI20, R_RISCV_TPREL_ADD and its low parts; of the same of
- * R_LARCH_TLS_LE_HI20_R; and by `group_fits` of R_PPC64_TLS and the load of its entry, and of the
- * `lea` and the call of a descriptor on x86-64. AArch64's ADRP_ADD_TO_NOP_ADR erases the `adrp`
- * too, whose relocation has to be of the same symbol and addend as the `add`'s. */
+ * R_LARCH_TLS_LE_HI20_R; and by `group_fits` of R_PPC64_TLS and the load of its entry, of
+ * R_PPC64_REL16_HA and R_PPC64_REL16_LO, and of the `lea` and the call of a descriptor on x86-64.
+ * Those of R_PPC64_REL16_HA and R_PPC64_REL16_LO are at the entry of a function, where r12 has the
+ * address of the first; the second is 4 bytes behind it, of the same symbol, with 4 more in its
+ * addend. AArch64's ADRP_ADD_TO_NOP_ADR erases the `adrp` too, whose relocation has to be of the
+ * same symbol and addend as the `add`'s. */
 static inline uint32_t linker_utils_choose(uint16_t machine, uint32_t r_type,
                                            const uint8_t *section, size_t section_len,
                                            uint64_t offset,
@@ -1022,6 +1029,8 @@ static inline uint32_t linker_utils_choose(uint16_t machine, uint32_t r_type,
  *                                CALL_TO_ADD           NONE               (7)
  *   TLSLD                        CALL_TO_ADDI4096      NONE               (8)
  *   GOT_PCREL34                  PLD_TO_PADDI          PCREL34            (9)
+ *   REL16_LO                     ADDI_BEHIND_LIS       ADDR16_LO          (10)
+ *   REL16_HA                     ADDIS_TO_LIS          ADDR16_HA          (11)
  *   (1) may_change_toc
  *   (2) is_local, not is_ifunc, has_fixed_distance, TOC16_HA in reach if known
  *   (3) has_private_base, TOC16 in reach
@@ -1032,6 +1041,10 @@ static inline uint32_t linker_utils_choose(uint16_t machine, uint32_t r_type,
  *   (7) is_executable, group_fits, GOT_TPREL16_HA in reach if known
  *   (8) is_executable, group_fits
  *   (9) is_local, not is_ifunc, has_fixed_distance, PCREL34 in reach if known
+ *   (10) is_local, not is_ifunc, has_fixed_address, group_fits, addend 4, ADDR16_HA in reach if
+ *       known
+ *   (11) is_local, not is_ifunc, has_fixed_address, group_fits, addend 0, ADDR16_HA in reach if
+ *       known
  *
  * x86-64, with the prefixes R_X86_64_ and LINKER_UTILS_X86_64_REWRITE_:
  *   GOTPCREL      MOV_INDIRECT_TO_LEA            PC32      (1)

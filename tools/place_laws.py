@@ -219,6 +219,7 @@ ALONE = {
         ("NearInitialExecToLocalExec", "GOT_TPREL16_DS", is_over_toc),
         ("Arguments ArgumentToLocalExec NearArgumentToInitialExec", "GOT_TLSGD16", is_over_toc),
         ("Arguments ArgumentToModule", "GOT_TLSLD16", is_over_toc),
+        ("TocAtEntry", "REL16_HA REL16_LO", None),
     ],
 }
 # of x86-64, by relocations

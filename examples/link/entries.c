@@ -296,7 +296,7 @@ void read_relocations(struct section *s) {
             continue;
         if (machine == EM_PPC64) note_low_half(r, bytes, size);
         struct linker_utils_link_facts facts = early_facts(r);
-        if (o->stays)
+        if (o->stays && (machine != EM_PPC64 || sequence_of(r))) /* (ld.lld leaves REL16_HA) */
             facts.group_fits = !*stays(o, ADDRESS, 0) &&
                                !*stays(o, sequence_of(r), ELF64_R_SYM(elf[i].r_info));
         check(r, linker_utils_choose(machine, r->type, bytes, size, elf[i].r_offset, &facts,

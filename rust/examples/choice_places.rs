@@ -67,7 +67,7 @@ fn facts(addend: i64) -> LinkFacts {
 
 /// Whether a rewrite is chosen for the bytes at an offset, with an addend that is asked for.
 fn is_chosen(architecture: Architecture, code: u32, section: &[u8], offset: u64) -> bool {
-    [0, -4].into_iter().any(|addend| {
+    [0, -4, 4].into_iter().any(|addend| {
         let choice = architecture.choose(code, section, offset, &facts(addend));
         !choice.is_unchanged(code)
     })

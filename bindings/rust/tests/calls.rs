@@ -247,7 +247,7 @@ fn rejects_forms_and_values() {
             (Architecture::AArch64, 11),
             (Architecture::RiscV, 9),
             (Architecture::LoongArch64, 6),
-            (Architecture::Ppc64, 5),
+            (Architecture::Ppc64, 6),
         ] {
             let status = raw::linker_utils_window(architecture.machine(), forms, &mut len);
             assert_eq!((status, len), (Status::UnknownForm.number(), 9));
@@ -381,8 +381,8 @@ fn rejects_rewrites() {
     let unknown = [
         (Architecture::AArch64.machine(), 13),
         (Architecture::RiscV.machine(), 18),
-        (Architecture::LoongArch64.machine(), 13),
-        (Architecture::Ppc64.machine(), 16),
+        (Architecture::LoongArch64.machine(), 12),
+        (Architecture::Ppc64.machine(), 18),
         (Architecture::X86_64.machine(), 24),
         (0, 0),
     ];

@@ -47,12 +47,12 @@ const TABLES: [Table; 5] = [
         plt: &[64..=66, 110..=110, 127..=127],
         skipped: &[],
     },
-    // 64-bit ELF V2 ABI for Power: G, and the entries of GOT_TLSGD, GOT_TLSLD and GOT_TPREL; REL24,
-    // REL14, PLT16_HA, PLT16_LO_DS, REL24_NOTOC, PLT_PCREL34 and its _NOTOC
+    // 64-bit ELF V2 ABI for Power: G, and the entries of GOT_TLSGD, GOT_TLSLD and GOT_TPREL; ADDR24,
+    // ADDR14, REL24, REL14, PLT16_HA, PLT16_LO_DS, REL24_NOTOC, PLT_PCREL34 and its _NOTOC
     Table {
         architecture: Architecture::Ppc64,
-        got: &[17..=17, 59..=59, 79..=90, 133..=133, 148..=150],
-        plt: &[10..=11, 31..=31, 60..=60, 116..=116, 134..=135],
+        got: &[14..=17, 58..=59, 79..=90, 133..=133, 148..=150],
+        plt: &[2..=2, 7..=7, 10..=11, 31..=31, 60..=60, 116..=116, 134..=135],
         skipped: &[10..=10, 116..=116],
     },
     // x86-64 psABI: G, TLSGD, TLSLD, GOTTPOFF, GOTPC32_TLSDESC and the CODE_4, 5 and 6 of these; PLT32,

@@ -40,9 +40,10 @@ pub fn loongarch64()
     ensures steps { loongarch_executed.Agrees }
 {}
 
-/// PowerPC64: displacements, also those in units of 4 and 16 bytes, branches, `paddi`, and `addis`
-/// with `addi` or `ori`; and what the instructions of `linker_laws` do, but for `stfs` of a number
-/// that is too small for single precision.
+/// PowerPC64: displacements, also those in units of 4 and 16 bytes, branches, `paddi`, `ori` and
+/// `oris`, `addis` with `addi` or `ori`, and numbers of 64 bits by five instructions; and what the
+/// instructions of `linker_laws` do, but for `stfs` of a number that is too small for single
+/// precision.
 pub fn ppc64()
     ensures agrees { ppc64_table.Agrees }
     ensures steps { ppc64_executed.Agrees }

@@ -24,6 +24,7 @@ pub mod Ppc64Addresses
 pub mod Ppc64Calls
 pub mod Ppc64Copies
 pub mod Ppc64Direct
+pub mod Ppc64Entries
 pub mod Ppc64IndexedWords
 pub mod Ppc64Prefixed
 pub mod Ppc64Threads

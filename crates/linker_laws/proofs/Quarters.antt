@@ -1,9 +1,9 @@
 -- Numbers of 64 bits of PowerPC64 by parts of 16 bits.
-use Rattle.std.proofs.Common.{◌≡◌, ℕ, ◌+◌, ◌-◌, ◌*◌, ◌/◌, ◌%◌, ◌^◌, ◌<◌, Bool, true, refl, sym, ◌∙◌}
-use Rattle.std.proofs.Common.{ap, subst, arith, List, ℤ, pos, ◌+ℤ◌, Option, Some, None}
+use Rattle.std.proofs.Common.{◌≡◌, ℕ, ◌+◌, ◌-◌, ◌*◌, ◌/◌, ◌%◌, ◌^◌, ◌<◌, Bool, refl, sym, ◌∙◌}
+use Rattle.std.proofs.Common.{ap, subst, arith, List, pos, ◌+ℤ◌, Option, Some, None}
 use Rattle.std.specs.Int.{w64, cast_signed}
 use Rattle.std.proofs.lemmas.Nat.{mod_below, pow_pos}
-use Rattle.linker_base.specs.Bits.{field, signed}
+use Rattle.linker_base.specs.Bits.{field}
 use Rattle.linker_base.specs.Form.{window_of, place_sum, replaced}
 use Rattle.linker_base.proofs.ConsecutiveBits.{consecutive_bits_sum}
 use Rattle.linker_elf.specs.Elf.{IsWithin}

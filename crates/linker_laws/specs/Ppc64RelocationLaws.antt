@@ -175,8 +175,6 @@ Displacements =
     Single names.R_PPC64_ADDR16_DS zero Ds symbol_address
     × Single names.R_PPC64_TOC16 got_base D symbol_address
     × Single names.R_PPC64_TOC16_DS got_base Ds symbol_address
-    × Single names.R_PPC64_GOT16 got_base D entry_address
-    × Single names.R_PPC64_GOT16_DS got_base Ds entry_address
     × Single names.R_PPC64_GOT_TPREL16_DS got_base Ds entry_address
     × Single names.R_PPC64_GOT_TLSGD16 got_base D entry_address
     × Single names.R_PPC64_GOT_TLSLD16 got_base D entry_address
@@ -184,6 +182,8 @@ Displacements =
     × Single names.R_PPC64_TPREL16_DS tls_base Ds symbol_address
     × Single names.R_PPC64_DTPREL16 tls_base D symbol_address
     × Single names.R_PPC64_DTPREL16_DS tls_base Ds symbol_address
+    × Single names.R_PPC64_GOT16 got_base D entry_address
+    × Single names.R_PPC64_GOT16_DS got_base Ds entry_address
 
 -- ---- fields of data
 

@@ -6,7 +6,7 @@ use Rattle.std.specs.Int.{w32, w64, from_le_bytes}
 use Rattle.linker_ppc64.specs.Ppc64Rewrites.{is_addis_of_toc, is_ld, is_add_of_thread, is_call}
 use Rattle.linker_ppc64.specs.Ppc64Rewrites.{is_indexed, is_store, is_d_access, is_addi}
 use Rattle.linker_ppc64.specs.Ppc64Rewrites.{is_ds_access, is_indexed_word, is_pld}
-use Rattle.linker_ppc64.specs.Ppc64Rewrites.{is_vector_access}
+use Rattle.linker_ppc64.specs.Ppc64Rewrites.{is_vector_access, is_addis_of_entry, is_addi_of_toc}
 use Rattle.linker_elf.specs.Ppc64Relocations.{ppc64_row}
 use Rattle.linker_elf.specs.Relocate.{ppc64_reads}
 use Rattle.linker_ppc64.specs.Ppc64Rewrites.{ppc64_rewrite, opcode_of, rt_of, ra_of, access_of}
@@ -499,6 +499,28 @@ ArgumentToModule =
     → IsRewritten kinds.AddiToAddisThread addi addis_13 → IsRewritten kinds.CallToAddi4096 bl made
     → Leaves f (only (rt_of (word_of addi))) (one addis_13) s (rt_of (word_of addi))
     (λ n. CallLeaves f (two made (drop 4 made)) n (sum_64 (s.registers 13) 0x1000))
+
+-- ---- the TOC pointer at the entry of a function
+
+-- S + A of an instruction 4 bytes on, with 4 more in its addend
+abbrev pub four_on : Operands → Operands
+four_on o = record o { place = sum_64 o.place 4; symbol = sum_64 o.symbol 4 }
+
+-- `addis 2,12` and `addi 2,2` add the distance from the function's entry, which register 12 has, and
+-- `lis 2` and `addi 2,2` make the address: the same.
+abbrev pub TocAtEntry : Type 0
+TocAtEntry =
+    (f : Formats) (o : Operands) (s : State) (addis addi lis behind : List ℕ) → AreAddresses o
+    → s.registers 12 ≡ o.place
+    → IsTrue (is_addis_of_entry (word_of addis)) → IsTrue (is_addi_of_toc (word_of addi))
+    → IsRewritten kinds.AddisToLis addis lis → IsRewritten kinds.AddiBehindLis addi behind
+    → (at : ℕ) (addis_of_distance addi_of_distance lis_of_address addi_of_address : List ℕ)
+    → IsRelocated names.R_PPC64_REL16_HA o addis addis_of_distance
+    → IsRelocated names.R_PPC64_REL16_LO (four_on o) addi addi_of_distance
+    → IsRelocated names.R_PPC64_ADDR16_HA o lis lis_of_address
+    → IsRelocated names.R_PPC64_ADDR16_LO (at_place at o) behind addi_of_address
+    → RunAlikeBut f (λ _. false) (two addis_of_distance addi_of_distance)
+    (two lis_of_address addi_of_address) s
 
 -- ---- the TOC pointer after a call
 

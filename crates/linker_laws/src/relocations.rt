@@ -51,8 +51,9 @@ pub fn loongarch64()
 {}
 
 /// PowerPC64: `addis` with an instruction that has the low half, from the TOC base, the place, the
-/// thread pointer, a module's block or 0; branches, prefixed instructions and displacements of 16
-/// bits. A word of DQ-form is read without its low 4 bits.
+/// thread pointer, a module's block or 0; `lis`, `ori`, `sldi` by 32 and `oris` with such an
+/// instruction; branches, prefixed instructions and displacements of 16 bits. A word of DQ-form is
+/// read without its low 4 bits.
 pub fn ppc64()
     ensures absolute { ppc64_laws.AbsoluteAddresses }
     ensures relative { ppc64_laws.RelativeAddresses }

@@ -45,7 +45,7 @@ pub fn aarch64()
 /// the address of a variable, and loads and stores of it, by its offset from the thread pointer and not
 /// by a GOT entry or a call of `__tls_get_addr`; what is left in a register by one instruction of such a
 /// sequence, in the small code model and where the argument of `__tls_get_addr` is copied; the TOC
-/// pointer restored behind a call.
+/// pointer at the entry of a function, by its address, and restored behind a call.
 pub fn ppc64()
     ensures got { ppc64_laws.GotToAddress }
     ensures initial_exec { ppc64_laws.InitialExecToLocalExec }
@@ -65,6 +65,7 @@ pub fn ppc64()
     ensures access_near_toc { ppc64_laws.AccessNearToc }
     ensures word_access_near_toc { ppc64_laws.WordAccessNearToc }
     ensures vector_access_near_toc { ppc64_laws.VectorAccessNearToc }
+    ensures toc_at_entry { ppc64_laws.TocAtEntry }
     ensures toc { ppc64_laws.RestoresToc }
 {
     crate::relocations::ppc64();

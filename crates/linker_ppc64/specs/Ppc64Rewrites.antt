@@ -2,7 +2,7 @@
 -- and "TOC Optimizations"; Power ISA, "Instruction Formats"). Bits are numbered from the lowest, 0.
 use Rattle.std.specs.Prelude.{ℕ, ◌+◌, ◌*◌, ◌^◌, ◌==◌, if◌then◌else◌, List, [], ◌∷◌, drop, Option}
 use Rattle.std.specs.Prelude.{None, Some, true, Bool, ◌&&◌, ◌||◌, not, nat_lt, IsTrue, ⊤, ◌%◌, ◌≡◌}
-use Rattle.std.specs.Prelude.{◌⊎◌, ◌++◌, false}
+use Rattle.std.specs.Prelude.{◌⊎◌, ◌++◌, false, ℤ, pos}
 use Rattle.std.specs.Int.{w32, w64, from_le_bytes, to_le_bytes}
 use Rattle.linker_base.specs.Bits.{field}
 use Rattle.linker_base.specs.Rewrite.{Rewrite, replaces}
@@ -12,6 +12,7 @@ use Rattle.linker_base.specs.declared.relaxation.RelocationModifier.TheVariants.
 use Rattle.linker_ppc64.specs.declared.rewrites.RelaxationKind.{RelaxationKind}
 use Rattle.linker_elf.specs.Originals.{HasWord}
 use Rattle.linker_elf.specs.Choices.{Condition, bound, fixed_distance, executable, private_base}
+use Rattle.linker_elf.specs.Choices.{fixed_address, addend}
 use Rattle.linker_elf.specs.Choices.{changed_toc, group_fits, in_reach, in_reach_if_known}
 use Rattle.linker_elf.specs.Choices.{Entry, entry, choice, Applies, IsFirst}
 use Rattle.linker_elf.specs.Ppc64Relocations.{ppc64_row}
@@ -96,6 +97,10 @@ rewrites_call new =
       addend = λ a. a;
     }
 
+-- `addi 2,2,0`, whose relocation then has the addend 0
+abbrev pub addi_of_toc : Rewrite
+addi_of_toc = record (rewrites_word (λ _. 0x38420000)) { addend = λ _. pos 0 }
+
 -- `paddi rT,0,0,1` in place of `pld rT`
 abbrev pub paddi : List ℕ → List ℕ
 paddi window = two_words 0x06100000 (li_of (rt_of (from_le_bytes w32 (drop 4 window))))
@@ -121,6 +126,8 @@ ppc64_rewrite kinds.CallToAdd = Some (rewrites_call 0x7c636a14)
 ppc64_rewrite kinds.CallToAddi4096 = Some (rewrites_call 0x38631000)
 ppc64_rewrite kinds.NopToRestoreToc = Some (replaces 0 8 restores_toc)
 ppc64_rewrite kinds.KeepAddis = None
+ppc64_rewrite kinds.AddisToLis = Some (rewrites_word (λ _. 0x3c400000))
+ppc64_rewrite kinds.AddiBehindLis = Some addi_of_toc
 
 -- The relocation of the call itself is skipped where the call is gone.
 abbrev pub ppc64_modifier : RelaxationKind → RelocationModifier
@@ -135,7 +142,8 @@ ppc64_rewrites =
     kinds.NoOp ∷ kinds.AddisToNop ∷ kinds.BaseToToc ∷ kinds.LdToAddi ∷ kinds.PldToPaddi ∷
     kinds.LdToAddisThread ∷ kinds.AddToAddi ∷ kinds.IndexedToD ∷ kinds.IndexedToDs ∷
     kinds.AddiToAddisThread ∷ kinds.AddiToLd ∷ kinds.CallToAddi ∷ kinds.CallToAdd ∷
-    kinds.CallToAddi4096 ∷ kinds.NopToRestoreToc ∷ kinds.KeepAddis ∷ []
+    kinds.CallToAddi4096 ∷ kinds.NopToRestoreToc ∷ kinds.KeepAddis ∷ kinds.AddisToLis ∷
+    kinds.AddiBehindLis ∷ []
 
 -- The instructions that each rewrite of PowerPC64 is meant for (Power ISA, "Fixed-Point Facility"
 -- and "Floating-Point Facility"; 64-bit ELF V2 ABI for Power, "TLS Linkage Optimizations" and "TOC
@@ -146,6 +154,13 @@ ppc64_rewrites =
 -- `addis rT,2`
 abbrev pub is_addis_of_toc : ℕ → Bool
 is_addis_of_toc word = opcode_of word == 15 && ra_of word == 2
+
+-- `addis 2,12` and `addi 2,2`, at the entry of a function, whose address register 12 has
+abbrev pub is_addis_of_entry : ℕ → Bool
+is_addis_of_entry word = field word 16 32 == 0x3c4c
+
+abbrev pub is_addi_of_toc : ℕ → Bool
+is_addi_of_toc word = field word 16 32 == 0x3842
 
 -- `addi rT,rA`
 abbrev pub is_addi : ℕ → Bool
@@ -256,6 +271,8 @@ ppc64_matches kinds.CallToAdd = HasTwo is_call
 ppc64_matches kinds.CallToAddi4096 = HasTwo is_call
 ppc64_matches kinds.NopToRestoreToc = HasTwo is_call
 ppc64_matches kinds.KeepAddis = HasTest is_addis_of_toc
+ppc64_matches kinds.AddisToLis = HasTest is_addis_of_entry
+ppc64_matches kinds.AddiBehindLis = HasTest is_addi_of_toc
 
 -- Which rewrite of PowerPC64 is chosen (64-bit ELF V2 ABI for Power, "TOC Optimizations", "TLS
 -- Linkage Optimizations" and "The TOC Pointer Register"). No condition depends on the place of a
@@ -303,6 +320,11 @@ to_near_initial_exec =
 abbrev pub to_module : Conditions
 to_module = executable ∷ group_fits ∷ []
 
+-- the address in place of the distance from a function's entry, by the addend of the instruction
+abbrev pub to_address : ℤ → Conditions
+to_address a =
+    bound ∷ fixed_address ∷ group_fits ∷ addend a ∷ in_reach_if_known r.R_PPC64_ADDR16_HA 0 ∷ []
+
 -- ---- the table
 
 abbrev pub ppc64_entries : Ppc64Relocation → List (Entry RelaxationKind Ppc64Relocation)
@@ -347,6 +369,10 @@ ppc64_entries r.R_PPC64_TLSLD =
     entry kinds.CallToAddi4096 r.R_PPC64_NONE to_module ∷ []
 ppc64_entries r.R_PPC64_REL24 =
     entry kinds.NopToRestoreToc r.R_PPC64_REL24 (changed_toc ∷ []) ∷ []
+ppc64_entries r.R_PPC64_REL16_HA =
+    entry kinds.AddisToLis r.R_PPC64_ADDR16_HA (to_address (pos 0)) ∷ []
+ppc64_entries r.R_PPC64_REL16_LO =
+    entry kinds.AddiBehindLis r.R_PPC64_ADDR16_LO (to_address (pos 4)) ∷ []
 ppc64_entries name = []
 
 -- ---- which entry is chosen

@@ -16,8 +16,9 @@ ghost use Rattle.linker_ppc64.specs.declared.rewrites.RelaxationKind.TheVariants
 
 use super::rewrites::RelaxationKind;
 use linker_elf::elf::choice_table::{
-    BOUND, CHANGED_TOC, ChosenByTable, ChosenKind, Conditions, EXECUTABLE, FIXED_DISTANCE,
-    GROUP_FITS, PRIVATE_BASE, Table, all_tables, by_table, choice_by, conditions, is_listed,
+    BOUND, CHANGED_TOC, ChoiceEntry, ChosenKind, Conditions, EXECUTABLE, FIXED_ADDRESS,
+    FIXED_DISTANCE, GROUP_FITS, Originals, PRIVATE_BASE, all_tables, by_table, conditions,
+    first_entry,
 };
 use linker_elf::elf::{Choice, LinkFacts, Operands};
 use linker_elf::ppc64::{Ppc64Relocation, Ppc64Relocation as Names};
@@ -108,6 +109,20 @@ const TO_NEAR_INITIAL_EXEC: Conditions<Names> = conditions!(
 /// The module's block from the thread pointer.
 const TO_MODULE: Conditions<Names> = conditions!(EXECUTABLE + GROUP_FITS, None);
 
+/// The address in place of the distance from a function's entry, by the `addis` and by the `addi`
+/// behind it.
+const TO_ADDRESS_BY_ADDIS: Conditions<Names> = conditions!(
+    BOUND + FIXED_ADDRESS + GROUP_FITS,
+    Some(0),
+    InReachIfKnown(R_PPC64_ADDR16_HA, 0)
+);
+
+const TO_ADDRESS_BY_ADDI: Conditions<Names> = conditions!(
+    BOUND + FIXED_ADDRESS + GROUP_FITS,
+    Some(4),
+    InReachIfKnown(R_PPC64_ADDR16_HA, 0)
+);
+
 /// A call may change the TOC pointer.
 const AFTER_CALL: Conditions<Names> = conditions!(CHANGED_TOC, None);
 
@@ -151,6 +166,8 @@ macro_rules! choices {
             R_PPC64_GOT_TLSLD16: [AddiToAddisThread => R_PPC64_NONE, TO_MODULE]
             R_PPC64_TLSLD: [CallToAddi4096 => R_PPC64_NONE, TO_MODULE]
             R_PPC64_REL24: [NopToRestoreToc => R_PPC64_REL24, AFTER_CALL]
+            R_PPC64_REL16_HA: [AddisToLis => R_PPC64_ADDR16_HA, TO_ADDRESS_BY_ADDIS]
+            R_PPC64_REL16_LO: [AddiBehindLis => R_PPC64_ADDR16_LO, TO_ADDRESS_BY_ADDI]
         }
     };
 }
@@ -183,6 +200,11 @@ impl ChosenByTable for RelaxationKind {
 /// whose value is then written (64-bit ELF V2 ABI for Power, "TOC Optimizations" and "TLS Linkage
 /// Optimizations"). Where TLS becomes initial-exec, `got_entry` has to be the address of the entry
 /// for initial-exec.
+///
+/// The sequence of `R_PPC64_REL16_HA` and `R_PPC64_REL16_LO` is the pair at the entry of a function
+/// that computes the TOC pointer from the function's address, which register 12 has there (the same,
+/// "Function Prologue"): the second stands 4 bytes behind the first. A linker sets `group_fits` only
+/// where both are there, with the same symbol.
 ///
 /// ```
 /// use linker_utils::elf::LinkFacts;

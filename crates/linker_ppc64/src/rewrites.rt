@@ -10,7 +10,7 @@ ghost use Rattle.linker_base.specs.RewriteWindow.{window_of_rewrite};
 ghost use Rattle.linker_ppc64.specs.Ppc64Rewrites.{is_addis_of_toc, is_addi, is_ld, is_access};
 ghost use Rattle.linker_ppc64.specs.Ppc64Rewrites.{is_store, is_word_access, keeps_base};
 ghost use Rattle.linker_ppc64.specs.Ppc64Rewrites.{is_d_access, is_ds_access, is_vector_access};
-ghost use Rattle.linker_ppc64.specs.Ppc64Rewrites.{is_over_base};
+ghost use Rattle.linker_ppc64.specs.Ppc64Rewrites.{is_over_base, is_addis_of_entry, is_addi_of_toc};
 ghost use Rattle.linker_ppc64.specs.Ppc64Rewrites.{is_over_thread, is_add_of_thread, is_indexed};
 ghost use Rattle.linker_ppc64.specs.Ppc64Rewrites.{is_indexed_word, is_pld, is_call, HasTwo};
 ghost use Rattle.linker_ppc64.specs.Ppc64Rewrites.{ppc64_matches};
@@ -85,6 +85,10 @@ pub enum RelaxationKind {
     NopToRestoreToc,
     /// Leaves `addis rT,2` as it is; only the kind of its relocation changes.
     KeepAddis,
+    /// Turns `addis 2,12`, at the entry of a function, into `lis 2,0`.
+    AddisToLis,
+    /// Writes `addi 2,2,0` behind that. The addend is then 0.
+    AddiBehindLis,
 }
 
 const NOP: u32 = 0x6000_0000;
@@ -217,6 +221,22 @@ fn is_addis_of_toc(word: u32) -> bool
     ensures { result ≡ is_addis_of_toc word }
 {
     opcode(word) == 15 && base(word) == 2
+}
+
+/// `addis 2,12`.
+#[inline(always)]
+fn is_addis_of_entry(word: u32) -> bool
+    ensures { result ≡ is_addis_of_entry word }
+{
+    word >> 16 == 0x3c4c
+}
+
+/// `addi 2,2`.
+#[inline(always)]
+fn is_addi_of_toc(word: u32) -> bool
+    ensures { result ≡ is_addi_of_toc word }
+{
+    word >> 16 == 0x3842
 }
 
 /// `addi rT,rA`.
@@ -396,6 +416,8 @@ impl RelaxationKind {
             13 => RelaxationKind::CallToAddi4096,
             14 => RelaxationKind::NopToRestoreToc,
             15 => RelaxationKind::KeepAddis,
+            16 => RelaxationKind::AddisToLis,
+            17 => RelaxationKind::AddiBehindLis,
             _ => return None,
         };
         Some(kind)
@@ -409,9 +431,9 @@ impl RelaxationKind {
         self as u32
     }
 
-    /// Rewrites the instruction at an offset of a section. All other bytes and the addend are
-    /// unchanged. So is the offset, except that `CallToAddi`, `CallToAdd` and `CallToAddi4096` move
-    /// it 4 bytes on.
+    /// Rewrites the instruction at an offset of a section. All other bytes are unchanged. So are the
+    /// addend, except that it is 0 after `AddiBehindLis`, and the offset, except that `CallToAddi`,
+    /// `CallToAdd` and `CallToAddi4096` move it 4 bytes on.
     #[inline]
     pub fn apply(self, section_bytes: &mut [u8], offset_in_section: &mut u64, addend: &mut i64)
         requires { CanRewrite (ppc64_rewrite self) section_bytes.old offset_in_section.old }
@@ -421,7 +443,6 @@ impl RelaxationKind {
             ≡ offset_after (ppc64_rewrite self) offset_in_section.old }
         ensures addend { addend.new ≡ addend_after (ppc64_rewrite self) addend.old }
     {
-        let _ = addend;
         let offset = *offset_in_section;
         match self {
             RelaxationKind::NoOp | RelaxationKind::KeepAddis => {}
@@ -469,6 +490,11 @@ impl RelaxationKind {
             RelaxationKind::NopToRestoreToc => {
                 let call = word_at(section_bytes, offset);
                 put_two(section_bytes, offset, call, 0xe841_0018);
+            }
+            RelaxationKind::AddisToLis => put_word(section_bytes, offset, 0x3c40_0000),
+            RelaxationKind::AddiBehindLis => {
+                put_word(section_bytes, offset, 0x3842_0000);
+                *addend = 0;
             }
         }
     }
@@ -528,6 +554,8 @@ impl RelaxationKind {
             RelaxationKind::IndexedToD => offset % 4 == 0 && is_indexed(word),
             RelaxationKind::IndexedToDs => offset % 4 == 0 && is_indexed_word(word),
             RelaxationKind::AddiToAddisThread | RelaxationKind::AddiToLd => is_addi(word),
+            RelaxationKind::AddisToLis => is_addis_of_entry(word),
+            RelaxationKind::AddiBehindLis => is_addi_of_toc(word),
             RelaxationKind::CallToAddi
             | RelaxationKind::CallToAdd
             | RelaxationKind::CallToAddi4096

@@ -2,8 +2,8 @@
 
 use linker_utils::elf::Architecture;
 use object::elf::{
-    R_LARCH_TLS_LE_LO12, R_PPC64_ADDR16_HA, R_PPC64_ADDR16_LO, R_PPC64_TPREL16_LO,
-    R_PPC64_TPREL16_LO_DS, R_RISCV_LO12_I, R_RISCV_LO12_S, R_X86_64_TPOFF32,
+    R_LARCH_TLS_LE_LO12, R_PPC64_TPREL16_LO, R_PPC64_TPREL16_LO_DS, R_RISCV_LO12_I, R_RISCV_LO12_S,
+    R_X86_64_TPOFF32,
 };
 
 /// What a field counts from.
@@ -15,16 +15,6 @@ pub enum Base {
     GlobalPointer,
 }
 
-/// The addend after a rewrite.
-#[derive(Clone, Copy, PartialEq, Eq)]
-pub enum Addend {
-    Same,
-    /// The relocation's and this.
-    Plus(i64),
-    /// None: the field is of the symbol's own address.
-    Nothing,
-}
-
 /// A rewrite that the library doesn't list.
 #[derive(Clone, Copy)]
 pub struct Form {
@@ -32,7 +22,8 @@ pub struct Form {
     pub name: &'static str,
     /// Where deleted bytes begin, behind the relocation's offset, and how many they are.
     pub deleted: Option<(u64, u64)>,
-    pub addend: Addend,
+    /// What is added to the addend.
+    pub more: i64,
     pub base: Base,
     /// Whether the next relocation is part of it.
     pub skips_next: bool,
@@ -41,7 +32,7 @@ pub struct Form {
 const NOTHING: u32 = 0; // R_*_NONE of each architecture
 
 fn plain(name: &'static str) -> Form {
-    Form { name, deleted: None, addend: Addend::Same, base: Base::Nothing, skips_next: false }
+    Form { name, deleted: None, more: 0, base: Base::Nothing, skips_next: false }
 }
 
 fn deletes(name: &'static str, start: u64, count: u64) -> Form {
@@ -183,7 +174,6 @@ const RT: u32 = 31 << 21;
 fn ppc64(name: &str, code: u32, before: u32, after: u32) -> Option<(Form, u32)> {
     // GNU ld leaves `addis` with 0 away, and the next instruction counts from the thread pointer
     let is_from_thread = after & RA == 13 << 16;
-    let absolute = |name| Form { addend: Addend::Nothing, ..plain(name) };
     let call = |name| Form { skips_next: true, ..plain(name) };
     match name {
         "R_PPC64_TPREL16_HA" => (after == PPC64_NOP).then_some((plain("AddisToNop"), NOTHING)),
@@ -210,14 +200,6 @@ fn ppc64(name: &str, code: u32, before: u32, after: u32) -> Option<(Form, u32)> 
                 _ => ("IndexedToD, BaseToThread", R_PPC64_TPREL16_LO),
             };
             (is_it && is_from_thread).then_some((plain(name), to))
-        }
-        // the TOC pointer of a program that isn't moved
-        "R_PPC64_REL16_HA" => {
-            let is_lis = before >> 26 == 15 && (before & !RA ^ after) & 0xffff_0000 == 0;
-            is_lis.then_some((absolute("AddisToLis"), R_PPC64_ADDR16_HA))
-        }
-        "R_PPC64_REL16_LO" => {
-            ((before ^ after) & 0xffff_0000 == 0).then_some((absolute(""), R_PPC64_ADDR16_LO))
         }
         // of an undefined weak function
         "R_PPC64_REL24" => (after == PPC64_NOP).then_some((plain("CallToNop"), NOTHING)),
@@ -258,6 +240,6 @@ fn x86_64(name: &str, before: &[u8; 3], after: &[u8; 3]) -> Option<(Form, u32)> 
     let reg = modrm >> 3 & 7;
     let is_add = rex & 0xfb == 0x48 && before[1] == 0x03 && modrm & 0xc7 == 0x05;
     let lea = [rex | rex >> 2 & 1, 0x8d, 0x80 | reg << 3 | reg];
-    let form = Form { addend: Addend::Plus(4), ..plain("AddIndirectToLea") };
+    let form = Form { more: 4, ..plain("AddIndirectToLea") };
     (name == "R_X86_64_GOTTPOFF" && is_add && *after == lea).then_some((form, R_X86_64_TPOFF32))
 }

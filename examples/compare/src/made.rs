@@ -2,7 +2,7 @@
 //! that leads to.
 
 use crate::elf::{Relocation, Section};
-use crate::forms::{self, Addend, Base, Form};
+use crate::forms::{self, Base, Form};
 use linker_utils::architecture::Relaxation;
 use linker_utils::elf::{Architecture, InstructionRewrite, Operands, Row};
 use linker_utils::ppc64;
@@ -214,11 +214,7 @@ impl Before {
             }
             Kind::Own(form) => {
                 base = form.base;
-                match form.addend {
-                    Addend::Same => {}
-                    Addend::Plus(more) => addend = addend.wrapping_add(more),
-                    Addend::Nothing => addend = 0,
-                }
+                addend = addend.wrapping_add(form.more);
             }
         }
         if let Some((start, count)) = chosen.deleted() {

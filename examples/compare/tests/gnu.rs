@@ -186,7 +186,7 @@ const SAID: [(&str, &str, &str); 123] = [
     ("R_PPC64_GOT_TPREL16_LO_DS", "nop", "LdToNop"),
     ("R_PPC64_REL16_HA", "addis 2, 12, 1", "as it was (direct)"),
     ("R_PPC64_REL16_HA", "lis 2, N", "AddisToLis (direct)"),
-    ("R_PPC64_REL16_LO", "addi 2, 2, N", "as R_PPC64_ADDR16_LO (direct)"),
+    ("R_PPC64_REL16_LO", "addi 2, 2, N", "AddiBehindLis (direct)"),
     ("R_PPC64_REL16_LO", "addi 2, 2, N", "as it was (direct)"),
     ("R_PPC64_REL24", "addi 3, 13, N", "part of another's rewrite"),
     ("R_PPC64_REL24", "bl N", "NopToRestoreToc (direct)"),

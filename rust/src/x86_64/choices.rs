@@ -181,7 +181,8 @@ const BRANCH: Table<RelaxationKind> = table_of!([
     JmpIndirectToRelative => R_X86_64_PC32, DISTANCE;
 ]);
 
-const LOAD: Table = table_of!([MovIndirectToLea at Legacy(3, 0x8b) => R_X86_64_PC32, DISTANCE]);
+const LOAD: Table<RelaxationKind> =
+    table_of!([MovIndirectToLea at Legacy(3, 0x8b) => R_X86_64_PC32, DISTANCE]);
 
 /// The conditions on which an operand becomes the symbol's address, that of a definition or 0.
 macro_rules! address {
@@ -331,8 +332,8 @@ impl ChosenByTable for RelaxationKind {
     fn is_listed(name: Names) -> bool {
         choices!(is_listed(
             name;
-            R_X86_64_GOTPCRELX | R_X86_64_REX_GOTPCRELX | R_X86_64_CODE_4_GOTPCRELX
-            | R_X86_64_CODE_5_GOTPCRELX | R_X86_64_CODE_6_GOTPCRELX | R_X86_64_GOTTPOFF
+            R_X86_64_GOTPCREL | R_X86_64_GOTPCRELX | R_X86_64_REX_GOTPCRELX
+            | R_X86_64_CODE_4_GOTPCRELX | R_X86_64_CODE_5_GOTPCRELX | R_X86_64_CODE_6_GOTPCRELX | R_X86_64_GOTTPOFF
             | R_X86_64_CODE_4_GOTTPOFF | R_X86_64_CODE_5_GOTTPOFF | R_X86_64_CODE_6_GOTTPOFF
         ))
     }

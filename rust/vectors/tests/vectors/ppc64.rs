@@ -320,6 +320,21 @@ fn d_words_match_assemblers() {
     }
 }
 
+/// `ori 3,3,VALUE` and `oris 3,3,VALUE` by llvm-mc 19.
+#[test]
+fn unsigned_words_match_assemblers() {
+    for (before, value, after) in [
+        (0x6063_0000, 0, 0x6063_0000),
+        (0x6063_0000, 0x7fff, 0x6063_7fff),
+        (0x6063_0000, 0x8000, 0x6063_8000),
+        (0x6463_0000, 0xffff, 0x6463_ffff),
+    ] {
+        assert_eq!(written(Ppc64Instruction::DUnsigned, value, before), after, "{value:?}");
+        let read = Ppc64Instruction::DUnsigned.read_value(&after.to_le_bytes());
+        assert_eq!(read, (value, false));
+    }
+}
+
 #[test]
 fn ds_words_match_assemblers() {
     for &(before, value, after, machine) in &DS_WORDS {
@@ -414,7 +429,7 @@ fn relocations_have_their_meaning() {
         (Ppc64Relocation::R_PPC64_ADDR32, info(RelocationKind::Absolute, word, mixed, 1, 0)),
         (Ppc64Relocation::R_PPC64_REL24, info(RelocationKind::Relative, branch, distances, 4, 0)),
         (Ppc64Relocation::R_PPC64_TPREL16_HA, info(RelocationKind::TpOff, high, all, 1, 0x8000)),
-        (Ppc64Relocation::Other(7), None),
+        (Ppc64Relocation::Other(9), None),
     ] {
         assert_eq!(relocation_type_from_raw(name), meaning, "{name:?}");
     }

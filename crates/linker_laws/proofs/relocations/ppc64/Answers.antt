@@ -163,12 +163,12 @@ returns-clause-displacements c = (
   adds entry_from_got refl refl (λ o. refl),
   adds entry_from_got refl refl (λ o. refl),
   adds entry_from_got refl refl (λ o. refl),
+  adds symbol_from_tls refl refl (λ o. refl),
+  adds symbol_from_tls refl refl (λ o. refl),
+  adds symbol_from_tls refl refl (λ o. refl),
+  adds symbol_from_tls refl refl (λ o. refl),
   adds entry_from_got refl refl (λ o. refl),
   adds entry_from_got refl refl (λ o. refl),
-  adds symbol_from_tls refl refl (λ o. refl),
-  adds symbol_from_tls refl refl (λ o. refl),
-  adds symbol_from_tls refl refl (λ o. refl),
-  adds symbol_from_tls refl refl (λ o. refl),
 )
 
 pub returns-clause-fields : goal.returns-clause-fields

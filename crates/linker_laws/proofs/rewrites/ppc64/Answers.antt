@@ -8,6 +8,7 @@ use Rattle.linker_laws.proofs.Ppc64Direct.{access_near_toc, access_to_local_exec
 use Rattle.linker_laws.proofs.Ppc64WholeWords.{word_access_near_toc}
 use Rattle.linker_laws.proofs.Ppc64IndexedWords.{word_access_to_local_exec}
 use Rattle.linker_laws.proofs.Ppc64Threads.{general_to_local, general_to_initial, local_dynamic}
+use Rattle.linker_laws.proofs.Ppc64Entries.{toc_at_entry}
 use Rattle.linker_laws.proofs.Ppc64Prefixed.{pld_to_paddi}
 use Rattle.linker_laws.proofs.Ppc64Vectors.{vector_access_near_toc}
 use Rattle.linker_laws.proofs.rewrites.ppc64.Goals as goal
@@ -34,5 +35,6 @@ returns c =
       prefixed = pld_to_paddi laws.prefixed;
       near_toc = addi_near_toc laws.toc laws.displacements;
       vector_access_near_toc = vector_access_near_toc laws.toc laws.displacements;
+      toc_at_entry = toc_at_entry laws.relative laws.absolute;
       toc = restores_toc;
     }

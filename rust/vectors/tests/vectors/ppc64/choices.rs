@@ -438,3 +438,47 @@ fn words_match_linkers() {
         assert_eq!(made, words_of(after), "{r_type:?}, {place:?}");
     }
 }
+
+/// `addis 2,12` and `addi 2,2` at the entry of a function, at 0x100000b0, with the TOC pointer
+/// 0x10018000: what GNU ld 2.40 makes of them in a program that is not position-independent, and that
+/// nothing is chosen in one that is.
+#[test]
+fn the_toc_pointer_at_an_entry_is_that_of_gnu_ld() {
+    let entry = |addend, place| LinkFacts {
+        is_local: true,
+        has_fixed_address: true,
+        group_fits: true,
+        has_addresses: true,
+        operands: Operands {
+            symbol: 0x1001_8000,
+            addend,
+            place,
+            ..Operands::default()
+        },
+        ..LinkFacts::default()
+    };
+    let halves = [
+        (Ppc64Relocation::R_PPC64_REL16_HA, 0x3c4c_0000u32, 0, 0x3c40_1002),
+        (Ppc64Relocation::R_PPC64_REL16_LO, 0x3842_0000, 4, 0x3842_8000),
+    ];
+    for (name, word, addend, wanted) in halves {
+        let facts = entry(addend, 0x1000_00b0 + addend as u64);
+        let mut section = word.to_le_bytes();
+        let chosen = choose(name, &section, 0, &facts);
+        let (mut offset, mut operands) = (0, facts.operands);
+        chosen.kind.apply(&mut section, &mut offset, &mut operands.addend);
+        let row = row(chosen.relocation).expect("a row");
+        let value = row.value(&operands).expect("it has a value");
+        row.write(value, &mut section).expect("the value is in reach");
+        assert_eq!(u32::from_le_bytes(section), wanted);
+        let others = [
+            LinkFacts { has_fixed_address: false, ..facts },
+            LinkFacts { group_fits: false, ..facts },
+            entry(addend + 4, facts.operands.place),
+        ];
+        for facts in others {
+            let chosen = choose(name, &word.to_le_bytes(), 0, &facts);
+            assert!(chosen.is_unchanged(name));
+        }
+    }
+}
