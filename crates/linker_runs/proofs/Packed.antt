@@ -1,6 +1,5 @@
 -- Which items of a relaxed run are never out of reach where they are packed.
 use Rattle.std.proofs.Common.{◌≡◌, ℕ, ◌<◌, ◌≤◌, ◌∙◌, false, List, length, subst, sym, ⊎_elim, arith}
-use Rattle.std.specs.Prelude.{◌⊎◌}
 use Rattle.std.proofs.lemmas.Bool.{cases_lt}
 use Rattle.std.proofs.lemmas.Bool.Decides.{nat_tests}
 use Rattle.linker_runs.specs.declared.relaxation.Item.{Item}
