@@ -6,6 +6,7 @@ pub mod Read
 pub mod Same
 pub mod Tables
 pub mod WindowBits
+pub mod Words
 pub mod Written
 pub mod WrittenBits
 pub mod WrittenLeft

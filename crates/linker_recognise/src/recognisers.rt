@@ -23,7 +23,7 @@ ghost use Rattle.linker_riscv64.specs.contracts.rewrites.RelaxationKind as riscv
 ghost use Rattle.linker_x86_64.proofs.X86Choices.{chosen_matches as x86_64_chosen};
 ghost use Rattle.linker_x86_64.specs.contracts.rewrites.RelaxationKind as x86_64_kind;
 
-use crate::engine::{Recognised, choice_at};
+use crate::engine::{Choices, Recognised, choices_of};
 use linker_utils::aarch64::{self, AArch64Relocation};
 use linker_utils::architecture::Relaxation;
 use linker_utils::elf::{Choice, LinkFacts};
@@ -52,9 +52,9 @@ impl Recognised for AArch64Relocation {
         aarch64::choose(self, original, offset, facts)
     }
 
-    fn listed(self, _section: &[u8], _at: u64, index: usize) -> Option<Choice<Self::Kind, Self>> {
-        let no_op = aarch64::RelaxationKind::NoOp;
-        choice_at(aarch64::entries(self), no_op, self, index)
+    #[inline(always)]
+    fn listed(self, _section: &[u8], _at: u64) -> Choices<Self::Kind, Self> {
+        choices_of(aarch64::entries(self), aarch64::RelaxationKind::NoOp, self)
     }
 }
 
@@ -78,9 +78,9 @@ impl Recognised for RiscVRelocation {
         riscv64::choose(self, original, offset, facts)
     }
 
-    fn listed(self, _section: &[u8], _at: u64, index: usize) -> Option<Choice<Self::Kind, Self>> {
-        let no_op = riscv64::RelaxationKind::NoOp;
-        choice_at(riscv64::entries(self), no_op, self, index)
+    #[inline(always)]
+    fn listed(self, _section: &[u8], _at: u64) -> Choices<Self::Kind, Self> {
+        choices_of(riscv64::entries(self), riscv64::RelaxationKind::NoOp, self)
     }
 }
 
@@ -104,9 +104,13 @@ impl Recognised for LoongArch64Relocation {
         loongarch64::choose(self, original, offset, facts)
     }
 
-    fn listed(self, _section: &[u8], _at: u64, index: usize) -> Option<Choice<Self::Kind, Self>> {
-        let no_op = loongarch64::RelaxationKind::NoOp;
-        choice_at(loongarch64::entries(self), no_op, self, index)
+    #[inline(always)]
+    fn listed(self, _section: &[u8], _at: u64) -> Choices<Self::Kind, Self> {
+        choices_of(
+            loongarch64::entries(self),
+            loongarch64::RelaxationKind::NoOp,
+            self,
+        )
     }
 }
 
@@ -130,9 +134,9 @@ impl Recognised for Ppc64Relocation {
         ppc64::choose(self, original, offset, facts)
     }
 
-    fn listed(self, _section: &[u8], _at: u64, index: usize) -> Option<Choice<Self::Kind, Self>> {
-        let no_op = ppc64::RelaxationKind::NoOp;
-        choice_at(ppc64::entries(self), no_op, self, index)
+    #[inline(always)]
+    fn listed(self, _section: &[u8], _at: u64) -> Choices<Self::Kind, Self> {
+        choices_of(ppc64::entries(self), ppc64::RelaxationKind::NoOp, self)
     }
 }
 
@@ -156,10 +160,10 @@ impl Recognised for X86_64Relocation {
         x86_64::choose(self, original, offset, facts)
     }
 
-    fn listed(self, section: &[u8], at: u64, index: usize) -> Option<Choice<Self::Kind, Self>> {
+    #[inline(always)]
+    fn listed(self, section: &[u8], at: u64) -> Choices<Self::Kind, Self> {
         let entries = x86_64::entries(self, x86_64::opcode_before(section, at));
-        let no_op = x86_64::RelaxationKind::NoOp;
-        choice_at(entries, no_op, self, index)
+        choices_of(entries, x86_64::RelaxationKind::NoOp, self)
     }
 }
 

@@ -1,7 +1,7 @@
 // Made by tools/erase of crates/linker_recognise/src/recognisers.rt.
 //! What is recognised of each architecture.
 
-use crate::linker_recognise::engine::{Recognised, choice_at};
+use crate::linker_recognise::engine::{Choices, Recognised, choices_of};
 use crate::aarch64::{self, AArch64Relocation};
 use crate::architecture::Relaxation;
 use crate::elf::{Choice, LinkFacts};
@@ -25,9 +25,9 @@ impl Recognised for AArch64Relocation {
         aarch64::choose(self, original, offset, facts)
     }
 
-    fn listed(self, _section: &[u8], _at: u64, index: usize) -> Option<Choice<Self::Kind, Self>> {
-        let no_op = aarch64::RelaxationKind::NoOp;
-        choice_at(aarch64::entries(self), no_op, self, index)
+    #[inline(always)]
+    fn listed(self, _section: &[u8], _at: u64) -> Choices<Self::Kind, Self> {
+        choices_of(aarch64::entries(self), aarch64::RelaxationKind::NoOp, self)
     }
 }
 
@@ -46,9 +46,9 @@ impl Recognised for RiscVRelocation {
         riscv64::choose(self, original, offset, facts)
     }
 
-    fn listed(self, _section: &[u8], _at: u64, index: usize) -> Option<Choice<Self::Kind, Self>> {
-        let no_op = riscv64::RelaxationKind::NoOp;
-        choice_at(riscv64::entries(self), no_op, self, index)
+    #[inline(always)]
+    fn listed(self, _section: &[u8], _at: u64) -> Choices<Self::Kind, Self> {
+        choices_of(riscv64::entries(self), riscv64::RelaxationKind::NoOp, self)
     }
 }
 
@@ -67,9 +67,13 @@ impl Recognised for LoongArch64Relocation {
         loongarch64::choose(self, original, offset, facts)
     }
 
-    fn listed(self, _section: &[u8], _at: u64, index: usize) -> Option<Choice<Self::Kind, Self>> {
-        let no_op = loongarch64::RelaxationKind::NoOp;
-        choice_at(loongarch64::entries(self), no_op, self, index)
+    #[inline(always)]
+    fn listed(self, _section: &[u8], _at: u64) -> Choices<Self::Kind, Self> {
+        choices_of(
+            loongarch64::entries(self),
+            loongarch64::RelaxationKind::NoOp,
+            self,
+        )
     }
 }
 
@@ -88,9 +92,9 @@ impl Recognised for Ppc64Relocation {
         ppc64::choose(self, original, offset, facts)
     }
 
-    fn listed(self, _section: &[u8], _at: u64, index: usize) -> Option<Choice<Self::Kind, Self>> {
-        let no_op = ppc64::RelaxationKind::NoOp;
-        choice_at(ppc64::entries(self), no_op, self, index)
+    #[inline(always)]
+    fn listed(self, _section: &[u8], _at: u64) -> Choices<Self::Kind, Self> {
+        choices_of(ppc64::entries(self), ppc64::RelaxationKind::NoOp, self)
     }
 }
 
@@ -109,10 +113,10 @@ impl Recognised for X86_64Relocation {
         x86_64::choose(self, original, offset, facts)
     }
 
-    fn listed(self, section: &[u8], at: u64, index: usize) -> Option<Choice<Self::Kind, Self>> {
+    #[inline(always)]
+    fn listed(self, section: &[u8], at: u64) -> Choices<Self::Kind, Self> {
         let entries = x86_64::entries(self, x86_64::opcode_before(section, at));
-        let no_op = x86_64::RelaxationKind::NoOp;
-        choice_at(entries, no_op, self, index)
+        choices_of(entries, x86_64::RelaxationKind::NoOp, self)
     }
 }
 
