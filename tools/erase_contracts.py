@@ -26,7 +26,8 @@ IN_OTHER_WORDS = {
 LATER = {"merge_additional": "insert_ascending", "merge_all": "insert_ascending"}
 # Requirements that only the call itself tests, in words, by function and name: its addition overflows.
 IN_WORDS = {"output_to_input_counted.fits": "the input offset is at most `u64::MAX`, or an addition overflows",
-            "deletions.items": "the items are in order, as `are_items` accepts them"}
+            "deletions.items": "the items are in order, as `are_items` accepts them",
+            "choice_by.table": "the entries are those of the table of the relocation at the offset"}
 COMPARISONS = {"≡": "==", "≤": "<=", "<": "<"}
 
 
@@ -111,7 +112,7 @@ class Contracts:
         if power := re.fullmatch(r"2 \^ (\d\d?)", text):
             return f"1 << {power[1]}", "power"
         length = re.fullmatch(rf"{PRELUDE}\.length (\w+)", text)
-        if length and re.match(r"&(mut)?\[|&?Vec<", function.parameters.get(length[1], "")):
+        if length and re.match(r"&(mut)?\[|&?Vec<|Table<", function.parameters.get(length[1], "")):
             return f"{length[1]}.len()", "usize"
         name, _, end = text.partition(".")
         of = r"Range<(.+)>" if end in ("start", "end") else "(.+)" if not end else "-"

@@ -7,7 +7,7 @@
 mod choices;
 mod rewrites;
 
-pub use choices::{choose, entries, fits, relocations_are_chosen_alike};
+pub use choices::{choose, fits, relocations_are_chosen_alike};
 pub use crate::linker_elf::ppc64::{
     Ppc64Instruction, Ppc64Relocation, relocation_type_from_raw, row, write_ha_lo,
 };

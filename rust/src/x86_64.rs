@@ -6,6 +6,6 @@
 mod choices;
 mod rewrites;
 
-pub use choices::{choose, entries, fits, opcode_before};
+pub use choices::{choose, fits};
 pub use crate::linker_elf::x86_64::{X86_64Relocation, relocation_from_raw, row};
 pub use rewrites::{RelaxationKind, may_be_skipped};

@@ -117,15 +117,6 @@ nop_matches back s o small h =
 
 -- ---- what is chosen
 
-pub chosen : (name : AArch64Relocation) (section : List ℕ) (o : ℕ) (facts : LinkFacts)
-    → (es : List (ChoiceEntry AskedFor RelaxationKind AArch64Relocation)) (c : AArch64Choice)
-    → IsTableOf IsThere (λ kind section o. aarch64_matches kind section o × IsAskedFor name section o) es (aarch64_entries name)
-    → IsFirstOf (EntryApplies IsThere aarch64_row (λ (kind : RelaxationKind) (o : ℕ) (operands : Operands). operands) section o facts) es (choice NoOp name) c
-    → IsAArch64Choice name section o facts c
-chosen name section o facts es c =
-    first_of_table IsThere (λ kind section o. aarch64_matches kind section o × IsAskedFor name section o) aarch64_row
-    (λ (kind : RelaxationKind) (o : ℕ) (operands : Operands). operands) section o facts es (aarch64_entries name) (choice NoOp name) c
-
 pub chosen_matches : (name : AArch64Relocation) (section : List ℕ) (o : ℕ) (facts : LinkFacts) (c : AArch64Choice)
     → IsAArch64Choice name section o facts c → aarch64_matches c.kind section o
 chosen_matches name section o facts c =
@@ -140,11 +131,3 @@ can_rewrite kind section o matches = search rules
 pub chosen_rewritable : (name : AArch64Relocation) (section : List ℕ) (o : ℕ) (facts : LinkFacts) (c : AArch64Choice)
     → IsAArch64Choice name section o facts c → CanRewrite (aarch64_rewrite c.kind) section o
 chosen_rewritable name section o facts c is = can_rewrite c.kind section o (chosen_matches name section o facts c is)
-
-pub chosen_fits : (name : AArch64Relocation) (section : List ℕ) (o : ℕ) (facts : LinkFacts) (c : AArch64Choice) (is : Bool)
-    → IsAArch64Choice name section o (with_group facts) c
-    → (IsTrue is ↔ ((c.kind ≡ NoOp) × AreSame names (λ x y. x.0 == y.0, tt) c.relocation name))
-    → IsTrue (not is) ↔ Fits (IsAArch64Choice name section o) (choice NoOp name) facts
-chosen_fits name section o facts c is first known =
-    isnt_last (AArch64Applies name section o (with_group facts)) (aarch64_entries name) (choice NoOp name) c is first
-    (unchanged_is names (λ x y. x.0 == y.0, tt) (exact_code, tt) NoOp name c is known)

@@ -10,10 +10,11 @@ ghost use Rattle.linker_aarch64.specs.AArch64Rewrites.{IsAArch64Choice, aarch64_
 ghost use Rattle.linker_aarch64.specs.AArch64Rewrites.{GotPairIsChosenAlike};
 ghost use Rattle.linker_aarch64.specs.AArch64Rewrites.{InitialExecIsChosenAlike};
 ghost use Rattle.linker_aarch64.specs.AArch64Rewrites.{DescriptorIsChosenAlike};
-ghost use Rattle.linker_aarch64.specs.Inner.Choices.{IsThere};
+ghost use Rattle.linker_aarch64.specs.Inner.Choices.{IsThere, aarch64_tables};
 ghost use Rattle.linker_aarch64.specs.declared.rewrites.RelaxationKind.TheVariants as kinds;
 ghost use Rattle.linker_elf.specs.Choices.{Fits, choice, operands_after};
-ghost use Rattle.linker_elf.specs.Inner.ChoiceTables.{IsTableOf};
+ghost use Rattle.linker_elf.proofs.SameNames.{equalities, exact_code};
+ghost use Rattle.linker_elf.specs.contracts.aarch64.relocations.AArch64Relocation.{enum as names};
 
 use super::rewrites::{
     RelaxationKind, are_of_one_register, destination, is_add64, is_adrp, is_ldr64, source, word_at,
@@ -21,8 +22,8 @@ use super::rewrites::{
 use linker_base::rewrite::has_window;
 use linker_elf::aarch64::{AArch64Relocation, AArch64Relocation as Names};
 use linker_elf::elf::choice_table::{
-    BOUND, ChoiceEntry, ChosenKind, Conditions, EXECUTABLE, FIXED_DISTANCE, GROUP_FITS, Originals,
-    WEAK_ZERO, all_tables, by_table, conditions, first_entry,
+    BOUND, ChosenByTable, ChosenKind, Conditions, EXECUTABLE, FIXED_DISTANCE, GROUP_FITS, Table,
+    WEAK_ZERO, all_tables, by_table, choice_by, conditions, is_listed,
 };
 use linker_elf::elf::{Choice, LinkFacts, Operands};
 
@@ -91,13 +92,26 @@ pub enum AskedFor {
     B,
 }
 
-impl Originals<RelaxationKind> for AskedFor {
+impl ChosenKind for RelaxationKind {
+    type Relocation = Names;
+
+    type Originals = AskedFor;
+
     ghost are_at = { IsThere };
 
+    ghost tables = { aarch64_tables };
+
+    ghost laws = { equalities kinds.NoOp names (λ x y. x.0 == y.0, tt) (exact_code, tt) };
+
     #[inline(always)]
-    fn stand_at(&self, kind: RelaxationKind, section: &[u8], offset: u64) -> bool {
-        match *self {
-            AskedFor::OfRewrite => kind.matches(section, offset),
+    fn none() -> Self {
+        RelaxationKind::NoOp
+    }
+
+    #[inline(always)]
+    fn stand_at(self, originals: &AskedFor, section: &[u8], offset: u64) -> bool {
+        match *originals {
+            AskedFor::OfRewrite => self.matches(section, offset),
             AskedFor::AdrpOfPair => is_entry_load(section, offset),
             AskedFor::LdrOfPair => 4 <= offset && is_entry_load(section, offset - 4),
             AskedFor::OfDescriptor(back) => {
@@ -108,11 +122,6 @@ impl Originals<RelaxationKind> for AskedFor {
             AskedFor::B => word_at(section, offset) >> 26 == 0x05,
         }
     }
-}
-
-impl ChosenKind for RelaxationKind {
-    // no rewrite moves the place or changes the addend
-    ghost after = { λ kind o operands. operands };
 
     #[inline(always)]
     fn operands_after(self, offset: u64, operands: &Operands) -> Operands
@@ -205,61 +214,33 @@ macro_rules! choices {
     };
 }
 
-type Table = &'static [ChoiceEntry<AskedFor, RelaxationKind, Names>];
+static TABLES: &[Table<RelaxationKind>] = choices!(all_tables());
 
-static TABLES: &[Table] = choices!(all_tables());
+impl ChosenByTable for RelaxationKind {
+    #[inline(always)]
+    fn is_listed(name: Names) -> bool {
+        choices!(is_listed(name))
+    }
 
-/// The entries of a relocation.
-#[inline(always)]
-pub fn entries(name: AArch64Relocation) -> Table
-    ensures table { IsTableOf IsThere
-        (λ kind section o. aarch64_matches kind section o × IsAskedFor name section o)
-        result.now (aarch64_entries name) }
-    ensures few { length result.now ≤ 5 }
-{
-    choices!(by_table(TABLES, name, table => table))
-}
+    #[inline(always)]
+    fn entries(name: Names, _section: &[u8], _offset: u64) -> Table<Self> {
+        choices!(by_table(TABLES, name, table => table))
+    }
 
-/// The choice by a table of a name.
-#[inline(always)]
-fn choice_by(
-    table: Table,
-    name: AArch64Relocation,
-    section: &[u8],
-    offset: u64,
-    facts: &LinkFacts,
-) -> Choice<RelaxationKind, AArch64Relocation>
-    requires table { IsTableOf IsThere
-        (λ kind section o. aarch64_matches kind section o × IsAskedFor name section o)
-        table.now (aarch64_entries name) }
-    requires few { length table.now ≤ 5 }
-    ensures { IsAArch64Choice name section.now offset facts.now result }
-{
-    let unchanged = Choice {
-        kind: RelaxationKind::NoOp,
-        relocation: name,
-    };
-    first_entry(table, section, offset, facts, unchanged)
-}
-
-/// The choice for a relocation that is listed.
-#[inline(never)]
-fn choose_listed(
-    name: AArch64Relocation,
-    section: &[u8],
-    offset: u64,
-    facts: &LinkFacts,
-) -> Choice<RelaxationKind, AArch64Relocation>
-    ensures { IsAArch64Choice name section.now offset facts.now result }
-{
-    choices!(by_table(TABLES, name, table => choice_by(table, name, section, offset, facts)))
+    #[inline(never)]
+    fn choose_listed(
+        name: Names,
+        section: &[u8],
+        offset: u64,
+        facts: &LinkFacts,
+    ) -> Choice<Self, Names> {
+        choices!(by_table(TABLES, name, table => choice_by(table, name, section, offset, facts)))
+    }
 }
 
 /// The rewrite that a linker chooses for a relocation at an offset of a section, and the relocation
 /// after it (ELF for the Arm 64-bit Architecture, "Relocation optimization" and the sequences of
-/// thread-local storage). It is the first entry of the relocation in the table of choices whose
-/// instructions are there and whose conditions hold, and else `NoOp` and the same relocation, as
-/// for any name that isn't listed and for an offset that isn't in the section.
+/// thread-local storage).
 ///
 /// ```
 /// use linker_utils::aarch64::{AArch64Relocation, RelaxationKind, choose};
@@ -288,18 +269,11 @@ pub fn choose(
     ensures matches { aarch64_matches result.kind section.now offset }
     ensures rewritable { CanRewrite (aarch64_rewrite result.kind) section.now offset }
 {
-    if let [] = entries(name) {
-        return Choice {
-            kind: RelaxationKind::NoOp,
-            relocation: name,
-        };
-    }
-    choose_listed(name, section, offset, facts)
+    RelaxationKind::choose(name, section, offset, facts)
 }
 
 /// Whether a relocation can be rewritten, if all others of its sequence can: whether `choose` with
-/// `group_fits` changes it. A linker asks this for each relocation of a sequence before it chooses
-/// for any of them, with the facts of each, and sets `group_fits` only if it is true of all.
+/// `group_fits` changes it.
 ///
 /// ```
 /// use linker_utils::aarch64::{AArch64Relocation, fits};
@@ -318,11 +292,7 @@ pub fn fits(name: AArch64Relocation, section: &[u8], offset: u64, facts: &LinkFa
     ensures { IsTrue result
         ↔ Fits (IsAArch64Choice name section.now offset) (choice kinds.NoOp name) facts.now }
 {
-    let facts = LinkFacts {
-        group_fits: true,
-        ..*facts
-    };
-    !choose(name, section, offset, &facts).is_unchanged(name)
+    RelaxationKind::fits(name, section, offset, facts)
 }
 
 /// With the same facts, except that each has its own place, both relocations of a load of a GOT

@@ -5,9 +5,7 @@ mod choices;
 mod rewrites;
 mod sequences;
 
-pub use choices::{
-    choose, entries, fits, is_tls_descriptor_sequence, relocations_are_chosen_alike,
-};
+pub use choices::{choose, fits, is_tls_descriptor_sequence, relocations_are_chosen_alike};
 pub use linker_elf::aarch64::{
     AArch64Instruction, AArch64Relocation, relocation_type_from_raw, row,
 };

@@ -5,7 +5,7 @@ use Rattle.std.proofs.lemmas.Bool.{eqb-true, eq-eqb}
 use Rattle.std.proofs.Common.{◌≡◌, ◌↔◌, ◌+◌, ◌<◌, ◌≤◌, ◌++◌, ℕ, ℤ, List, [], ◌∷◌, Option, Some, None, Bool, true, false, if◌then◌else◌, not, ◌&&◌, ◌||◌, ◌==◌, zero, suc, IsTrue, refl, sym, ap, ◌∙◌, subst, arith, inl, inr, bit_and, length, drop, get_or, IfSome, true≢false}
 use Rattle.std.specs.Bool.{⊤}
 use Rattle.linker_elf.specs.Choices.{Condition, Entry, Holds, AllHold, choice, Applies, IsFirst, bound, weak_zero, fixed_address, fixed_distance, executable, local_exec_base, compressible, marked, label_marked, got_high_part, private_base, changed_toc, without_plt, group_fits}
-use Rattle.linker_elf.specs.Inner.ChoiceTables.{with_fact, fact_conditions, is_held, facts_hold, value_condition, value_conditions, ValuesHold, addend_condition, conditions_of, EntryApplies, IsFirstOf, IsChoiceAt, IsTableOf}
+use Rattle.linker_elf.specs.Inner.ChoiceTables.{with_fact, fact_conditions, is_held, facts_hold, value_condition, value_conditions, ValuesHold, addend_condition, conditions_of, EntryApplies, IsFirstOf, IsChoiceAt, IsTableOf, AreEqualities}
 use Rattle.linker_elf.specs.declared.elf.RelocationKindInfo.{RelocationKindInfo}
 use Rattle.linker_elf.specs.declared.elf.choice.Choice.{Choice}
 use Rattle.linker_elf.specs.declared.elf.choice.LinkFacts.{LinkFacts}
@@ -264,3 +264,13 @@ isnt_last A es otherwise chosen true first known =
     (λ h. absurd (true≢false (sym h)), λ fits. absurd (fits (subst (IsFirst A es otherwise) (known.0 refl) first)))
 isnt_last A es otherwise chosen false first known =
     (λ h. λ last. true≢false (sym (known.1 (only_one A es otherwise chosen otherwise first last))), λ fits. refl)
+
+-- the choice that changes nothing is the last one
+pub unchanged_is : {K R : Type 0} → {none : K} {IsNoOp : K → Type 0} {equal : R → R → Bool} → AreEqualities none IsNoOp equal
+    → (name : R) (c : Choice K R) (is : Bool) → (IsTrue is ↔ (IsNoOp c.kind × IsTrue (equal c.relocation name)))
+    → IsTrue is ↔ (c ≡ choice none name)
+unchanged_is {K} {R} {none} laws name c is known = (
+  λ h. subst (λ k. c ≡ choice k name) ((laws.kinds c.kind).0 (known.0 h).0)
+      (subst (λ r. c ≡ choice c.kind r) ((laws.names c.relocation name).0 (known.0 h).1) refl),
+  λ e. known.1 ((laws.kinds c.kind).1 (ap (λ x. x.kind) e), (laws.names c.relocation name).1 (ap (λ x. x.relocation) e)),
+)

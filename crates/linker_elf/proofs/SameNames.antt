@@ -1,8 +1,7 @@
--- Names of relocations: a derived `==` is equality, and so a choice is unchanged where it says so.
+-- Names of relocations: a derived `==` is equality.
 use Rattle.std.proofs.Common.{ℕ, List, [], ◌∷◌, Bool, true, false, ◌≡◌, ◌↔◌, ◌==◌, IsTrue, subst, refl, sym, ap, ◌∙◌, true≢false, inl, inr}
 use Rattle.std.proofs.lemmas.Bool.{eqb-true, eq-eqb}
-use Rattle.linker_elf.specs.Choices.{choice}
-use Rattle.linker_elf.specs.declared.elf.choice.Choice.{Choice as Chosen}
+use Rattle.linker_elf.specs.Inner.ChoiceTables.{AreEqualities}
 use denote.Struct.Field.{Field}
 use denote.Struct.Values.{Values}
 use denote.Enum.Declared.{Choice, Record, values_one}
@@ -62,13 +61,7 @@ same_value N tests exact a b = (
 pub exact_code : (x y : ℕ × Unit {0}) → IsTrue (x.0 == y.0) ↔ (x ≡ y)
 exact_code x y = (λ h. ap (λ n. (n, tt)) (eqb-true x.0 y.0 h), λ e. eq-eqb x.0 y.0 (ap (λ v. v.0) e))
 
--- the choice with a name is the last one
-pub unchanged_is : {K : Type 0} → (N : Record) (tests : Tests N.parts) → AreExact N.parts tests
-    → (none : K) (name : N.D) (c : Chosen K N.D) (is : Bool)
-    → (IsTrue is ↔ ((c.kind ≡ none) × AreSame N tests c.relocation name))
-    → IsTrue is ↔ (c ≡ choice none name)
-unchanged_is N tests exact none name c is known =
-    let same = same_value N tests exact c.relocation name in (
-      λ h. subst (λ k. c ≡ choice k name) (known.0 h).0 (subst (λ r. c ≡ choice c.kind r) (same.0 (known.0 h).1) refl),
-      λ e. known.1 (ap (λ x. x.kind) e, same.1 (ap (λ x. x.relocation) e)),
-    )
+-- what an architecture's rewrites and names keep
+pub equalities : {K : Type 0} (none : K) (N : Record) (tests : Tests N.parts) → AreExact N.parts tests
+    → AreEqualities none (λ kind. kind ≡ none) (λ (a b : N.D). by false false N.parts (each_by N.parts tests) (N.as_values a) (N.as_values b))
+equalities none N tests exact = record { kinds = λ kind. (λ h. h, λ h. h); names = same_value N tests exact }

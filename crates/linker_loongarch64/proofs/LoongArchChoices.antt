@@ -90,15 +90,6 @@ can_rewrite : (kind : RelaxationKind) (s : List ℕ) (o : ℕ) → loongarch_mat
 can_rewrite kinds.NoOp s o matches = tt
 can_rewrite kind s o matches = search rules
 
-pub chosen : (name : LoongArch64Relocation) (s : List ℕ) (o : ℕ) (facts : LinkFacts)
-    → (es : List (ChoiceEntry AskedFor RelaxationKind LoongArch64Relocation)) (c : LoongArchChoice)
-    → IsTableOf is_asked_by (IsAskedFor name) es (loongarch_entries name)
-    → IsFirstOf (EntryApplies is_asked_by loongarch_row (λ (kind : RelaxationKind) (o : ℕ) (operands : Operands). operands) s o facts) es (choice kinds.NoOp name) c
-    → IsLoongArchChoice name s o facts c
-chosen name s o facts es c =
-    first_of_table is_asked_by (IsAskedFor name) loongarch_row
-    (λ (kind : RelaxationKind) (o : ℕ) (operands : Operands). operands) s o facts es (loongarch_entries name) (choice kinds.NoOp name) c
-
 pub chosen_matches : (name : LoongArch64Relocation) (s : List ℕ) (o : ℕ) (facts : LinkFacts) (c : LoongArchChoice)
     → IsLoongArchChoice name s o facts c → loongarch_matches c.kind s o
 chosen_matches name s o facts c =
@@ -107,11 +98,3 @@ chosen_matches name s o facts c =
 pub chosen_rewritable : (name : LoongArch64Relocation) (s : List ℕ) (o : ℕ) (facts : LinkFacts) (c : LoongArchChoice)
     → IsLoongArchChoice name s o facts c → CanRewrite (loongarch_rewrite c.kind) s o
 chosen_rewritable name s o facts c is = can_rewrite c.kind s o (chosen_matches name s o facts c is)
-
-pub chosen_fits : (name : LoongArch64Relocation) (section : List ℕ) (o : ℕ) (facts : LinkFacts) (c : LoongArchChoice) (is : Bool)
-    → IsLoongArchChoice name section o (with_group facts) c
-    → (IsTrue is ↔ ((c.kind ≡ kinds.NoOp) × AreSame names (λ x y. x.0 == y.0, tt) c.relocation name))
-    → IsTrue (not is) ↔ Fits (IsLoongArchChoice name section o) (choice kinds.NoOp name) facts
-chosen_fits name section o facts c is first known =
-    isnt_last (LoongArchApplies name section o (with_group facts)) (loongarch_entries name) (choice kinds.NoOp name) c is first
-    (unchanged_is names (λ x y. x.0 == y.0, tt) (exact_code, tt) kinds.NoOp name c is known)

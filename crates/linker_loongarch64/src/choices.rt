@@ -3,8 +3,9 @@
 ghost use Rattle.std.specs.Prelude.{◌↔◌, ◌≤◌, IsTrue, length};
 ghost use Rattle.linker_base.specs.Rewrite.{CanRewrite};
 ghost use Rattle.linker_elf.specs.Choices.{Fits, choice};
-ghost use Rattle.linker_elf.specs.Inner.ChoiceTables.{IsTableOf};
-ghost use Rattle.linker_loongarch64.specs.Inner.AskedFor.{is_asked_by};
+ghost use Rattle.linker_elf.proofs.SameNames.{equalities, exact_code};
+ghost use Rattle.linker_elf.specs.contracts.loongarch64.relocations.LoongArch64Relocation.{enum as names};
+ghost use Rattle.linker_loongarch64.specs.Inner.AskedFor.{is_asked_by, loongarch_tables};
 ghost use Rattle.linker_loongarch64.specs.LoongArchRewrites.{IsAskedFor, IsPageOfDescriptor};
 ghost use Rattle.linker_loongarch64.specs.LoongArchRewrites.{IsLowOfDescriptor};
 ghost use Rattle.linker_loongarch64.specs.LoongArchRewrites.{IsLoongArchChoice, loongarch_entries};
@@ -23,8 +24,8 @@ use super::rewrites::{
 };
 use linker_base::rewrite::has_window;
 use linker_elf::elf::choice_table::{
-    BOUND, ChoiceEntry, ChosenKind, Conditions, EXECUTABLE, FIXED_DISTANCE, GROUP_FITS, MARKED,
-    Originals, all_tables, by_table, conditions, first_entry,
+    BOUND, ChosenByTable, ChosenKind, Conditions, EXECUTABLE, FIXED_DISTANCE, GROUP_FITS, MARKED,
+    Table, all_tables, by_table, choice_by, conditions, is_listed,
 };
 use linker_elf::elf::{Choice, LinkFacts, Operands};
 use linker_elf::loongarch64::{LoongArch64Relocation, LoongArch64Relocation as Names};
@@ -100,13 +101,26 @@ pub enum AskedFor {
     AddTp,
 }
 
-impl Originals<RelaxationKind> for AskedFor {
+impl ChosenKind for RelaxationKind {
+    type Relocation = Names;
+
+    type Originals = AskedFor;
+
     ghost are_at = { is_asked_by };
 
+    ghost tables = { loongarch_tables };
+
+    ghost laws = { equalities kinds.NoOp names (λ x y. x.0 == y.0, tt) (exact_code, tt) };
+
     #[inline(always)]
-    fn stand_at(&self, kind: RelaxationKind, section: &[u8], offset: u64) -> bool {
-        match *self {
-            AskedFor::OfRewrite => kind.matches(section, offset),
+    fn none() -> Self {
+        RelaxationKind::NoOp
+    }
+
+    #[inline(always)]
+    fn stand_at(self, originals: &AskedFor, section: &[u8], offset: u64) -> bool {
+        match *originals {
+            AskedFor::OfRewrite => self.matches(section, offset),
             AskedFor::Load(back) => back <= offset && is_load(section, offset - back),
             AskedFor::Sum(back) => back <= offset && is_sum(section, offset - back),
             _ if !has_window(section, offset, 0, 4) => false,
@@ -120,11 +134,6 @@ impl Originals<RelaxationKind> for AskedFor {
             AskedFor::AddTp => word_at(section, offset) >> 10 == 0x422,
         }
     }
-}
-
-impl ChosenKind for RelaxationKind {
-    // no rewrite moves the offset or the addend
-    ghost after = { λ kind o operands. operands };
 
     #[inline(always)]
     fn operands_after(self, _offset: u64, operands: &Operands) -> Operands {
@@ -254,57 +263,33 @@ macro_rules! choices {
     };
 }
 
-type Table = &'static [ChoiceEntry<AskedFor, RelaxationKind, Names>];
+static TABLES: &[Table<RelaxationKind>] = choices!(all_tables());
 
-static TABLES: &[Table] = choices!(all_tables());
+impl ChosenByTable for RelaxationKind {
+    #[inline(always)]
+    fn is_listed(name: Names) -> bool {
+        choices!(is_listed(name))
+    }
 
-/// The entries of a relocation.
-#[inline(always)]
-pub fn entries(name: LoongArch64Relocation) -> Table
-    ensures table { IsTableOf is_asked_by (IsAskedFor name) result.now (loongarch_entries name) }
-    ensures few { length result.now ≤ 5 }
-{
-    choices!(by_table(TABLES, name, table => table))
-}
+    #[inline(always)]
+    fn entries(name: Names, _section: &[u8], _offset: u64) -> Table<Self> {
+        choices!(by_table(TABLES, name, table => table))
+    }
 
-/// The choice by a table of a name.
-#[inline(always)]
-fn choice_by(
-    table: Table,
-    name: LoongArch64Relocation,
-    section: &[u8],
-    offset: u64,
-    facts: &LinkFacts,
-) -> Choice<RelaxationKind, LoongArch64Relocation>
-    requires table { IsTableOf is_asked_by (IsAskedFor name) table.now (loongarch_entries name) }
-    requires few { length table.now ≤ 5 }
-    ensures { IsLoongArchChoice name section.now offset facts.now result }
-{
-    let unchanged = Choice {
-        kind: RelaxationKind::NoOp,
-        relocation: name,
-    };
-    first_entry(table, section, offset, facts, unchanged)
-}
-
-/// The choice for a relocation that is listed.
-#[inline(never)]
-fn choose_listed(
-    name: LoongArch64Relocation,
-    section: &[u8],
-    offset: u64,
-    facts: &LinkFacts,
-) -> Choice<RelaxationKind, LoongArch64Relocation>
-    ensures { IsLoongArchChoice name section.now offset facts.now result }
-{
-    choices!(by_table(TABLES, name, table => choice_by(table, name, section, offset, facts)))
+    #[inline(never)]
+    fn choose_listed(
+        name: Names,
+        section: &[u8],
+        offset: u64,
+        facts: &LinkFacts,
+    ) -> Choice<Self, Names> {
+        choices!(by_table(TABLES, name, table => choice_by(table, name, section, offset, facts)))
+    }
 }
 
 /// Which rewrite a linker may make of the instruction or the pair at a relocation's offset, and the
 /// relocation whose value is then written (LoongArch ELF psABI, relaxation and the sequences of
-/// thread-local storage). It is the first entry of the relocation in the table of choices whose
-/// instructions are there and whose conditions hold, and else `NoOp` and the same relocation, as
-/// for any name that isn't listed and for an offset that isn't in the section.
+/// thread-local storage).
 ///
 /// ```
 /// use linker_utils::elf::{LinkFacts, Operands};
@@ -334,18 +319,11 @@ pub fn choose(
     ensures matches { loongarch_matches result.kind section.now offset }
     ensures rewritable { CanRewrite (loongarch_rewrite result.kind) section.now offset }
 {
-    if let [] = entries(name) {
-        return Choice {
-            kind: RelaxationKind::NoOp,
-            relocation: name,
-        };
-    }
-    choose_listed(name, section, offset, facts)
+    RelaxationKind::choose(name, section, offset, facts)
 }
 
 /// Whether a relocation can be rewritten, if all others of its sequence can: whether `choose` with
-/// `group_fits` changes it. A linker asks this for each relocation of a sequence before it chooses
-/// for any of them, with the facts of each, and sets `group_fits` only if it is true of all.
+/// `group_fits` changes it.
 ///
 /// ```
 /// use linker_utils::elf::LinkFacts;
@@ -364,11 +342,7 @@ pub fn fits(name: LoongArch64Relocation, section: &[u8], offset: u64, facts: &Li
     ensures { IsTrue result
         ↔ Fits (IsLoongArchChoice name section.now offset) (choice kinds.NoOp name) facts.now }
 {
-    let facts = LinkFacts {
-        group_fits: true,
-        ..*facts
-    };
-    !choose(name, section, offset, &facts).is_unchanged(name)
+    RelaxationKind::fits(name, section, offset, facts)
 }
 
 /// With the same facts, except that each has its own place, both relocations of a pair are

@@ -5,7 +5,7 @@
 mod choices;
 mod rewrites;
 
-pub use choices::{choose, entries, fits, relocations_are_chosen_alike};
+pub use choices::{choose, fits, relocations_are_chosen_alike};
 pub use linker_elf::loongarch64::{
     LoongArch64Instruction, LoongArch64Relocation, highest_relocation_with_bias,
     relocation_type_from_raw, row, write_address_sequence,

@@ -24,15 +24,6 @@ can_rewrite : (kind : RelaxationKind) (section : List ℕ) (o : ℕ) → ppc64_m
 can_rewrite kinds.NoOp section o matches = tt
 can_rewrite kind section o matches = search rules
 
-pub chosen : (name : Ppc64Relocation) (section : List ℕ) (o : ℕ) (facts : LinkFacts)
-    → (es : List (ChoiceEntry AskedFor RelaxationKind Ppc64Relocation)) (c : Choice RelaxationKind Ppc64Relocation)
-    → IsTableOf (λ (originals : AskedFor). ppc64_matches) ppc64_matches es (ppc64_entries name)
-    → IsFirstOf (EntryApplies (λ (originals : AskedFor). ppc64_matches) ppc64_row (λ (kind : RelaxationKind) (o : ℕ) (operands : Operands). operands) section o facts) es (choice kinds.NoOp name) c
-    → IsPpc64Choice name section o facts c
-chosen name section o facts es c =
-    first_of_table (λ (originals : AskedFor). ppc64_matches) ppc64_matches ppc64_row
-    (λ (kind : RelaxationKind) (o : ℕ) (operands : Operands). operands) section o facts es (ppc64_entries name) (choice kinds.NoOp name) c
-
 pub chosen_matches : (name : Ppc64Relocation) (section : List ℕ) (o : ℕ) (facts : LinkFacts) (c : Choice RelaxationKind Ppc64Relocation)
     → IsPpc64Choice name section o facts c → ppc64_matches c.kind section o
 chosen_matches name section o facts c =
@@ -42,11 +33,3 @@ chosen_matches name section o facts c =
 pub chosen_rewritable : (name : Ppc64Relocation) (section : List ℕ) (o : ℕ) (facts : LinkFacts) (c : Choice RelaxationKind Ppc64Relocation)
     → IsPpc64Choice name section o facts c → CanRewrite (ppc64_rewrite c.kind) section o
 chosen_rewritable name section o facts c is = can_rewrite c.kind section o (chosen_matches name section o facts c is)
-
-pub chosen_fits : (name : Ppc64Relocation) (section : List ℕ) (o : ℕ) (facts : LinkFacts) (c : Choice RelaxationKind Ppc64Relocation) (is : Bool)
-    → IsPpc64Choice name section o (with_group facts) c
-    → (IsTrue is ↔ ((c.kind ≡ kinds.NoOp) × AreSame names (λ x y. x.0 == y.0, tt) c.relocation name))
-    → IsTrue (not is) ↔ Fits (IsPpc64Choice name section o) (choice kinds.NoOp name) facts
-chosen_fits name section o facts c is first known =
-    isnt_last (Ppc64Applies section o (with_group facts)) (ppc64_entries name) (choice kinds.NoOp name) c is first
-    (unchanged_is names (λ x y. x.0 == y.0, tt) (exact_code, tt) kinds.NoOp name c is known)

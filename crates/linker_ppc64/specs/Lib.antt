@@ -1,1 +1,2 @@
 pub mod Ppc64Rewrites
+pub mod Inner

@@ -3,7 +3,9 @@
 ghost use Rattle.std.specs.Prelude.{◌≤◌, ◌↔◌, IsTrue, length};
 ghost use Rattle.linker_base.specs.Rewrite.{CanRewrite};
 ghost use Rattle.linker_elf.specs.Choices.{Fits, choice};
-ghost use Rattle.linker_elf.specs.Inner.ChoiceTables.{IsTableOf};
+ghost use Rattle.linker_elf.proofs.SameNames.{equalities, exact_code};
+ghost use Rattle.linker_elf.specs.contracts.ppc64.relocations.Ppc64Relocation.{enum as names};
+ghost use Rattle.linker_ppc64.specs.Inner.Choices.{AreThere, ppc64_tables};
 ghost use Rattle.linker_ppc64.specs.Ppc64Rewrites.{TocPairsAreChosenAlike, GotPairIsChosenAlike};
 ghost use Rattle.linker_ppc64.specs.Ppc64Rewrites.{InitialExecPairIsChosenAlike};
 ghost use Rattle.linker_ppc64.specs.Ppc64Rewrites.{GeneralDynamicIsChosenAlike};
@@ -14,8 +16,8 @@ ghost use Rattle.linker_ppc64.specs.declared.rewrites.RelaxationKind.TheVariants
 
 use super::rewrites::RelaxationKind;
 use linker_elf::elf::choice_table::{
-    BOUND, CHANGED_TOC, ChoiceEntry, ChosenKind, Conditions, EXECUTABLE, FIXED_DISTANCE,
-    GROUP_FITS, Originals, PRIVATE_BASE, all_tables, by_table, conditions, first_entry,
+    BOUND, CHANGED_TOC, ChosenByTable, ChosenKind, Conditions, EXECUTABLE, FIXED_DISTANCE,
+    GROUP_FITS, PRIVATE_BASE, Table, all_tables, by_table, choice_by, conditions, is_listed,
 };
 use linker_elf::elf::{Choice, LinkFacts, Operands};
 use linker_elf::ppc64::{Ppc64Relocation, Ppc64Relocation as Names};
@@ -26,18 +28,26 @@ pub enum AskedFor {
     OfRewrite,
 }
 
-impl Originals<RelaxationKind> for AskedFor {
-    ghost are_at = { λ originals. ppc64_matches };
+impl ChosenKind for RelaxationKind {
+    type Relocation = Names;
+
+    type Originals = AskedFor;
+
+    ghost are_at = { AreThere };
+
+    ghost tables = { ppc64_tables };
+
+    ghost laws = { equalities kinds.NoOp names (λ x y. x.0 == y.0, tt) (exact_code, tt) };
 
     #[inline(always)]
-    fn stand_at(&self, kind: RelaxationKind, section: &[u8], offset: u64) -> bool {
-        kind.matches(section, offset)
+    fn none() -> Self {
+        RelaxationKind::NoOp
     }
-}
 
-impl ChosenKind for RelaxationKind {
-    // no condition is on what counts from a place that a rewrite moves
-    ghost after = { λ kind o operands. operands };
+    #[inline(always)]
+    fn stand_at(self, originals: &AskedFor, section: &[u8], offset: u64) -> bool {
+        self.matches(section, offset)
+    }
 
     #[inline(always)]
     fn operands_after(self, _offset: u64, operands: &Operands) -> Operands {
@@ -145,62 +155,34 @@ macro_rules! choices {
     };
 }
 
-type Table = &'static [ChoiceEntry<AskedFor, RelaxationKind, Names>];
+static TABLES: &[Table<RelaxationKind>] = choices!(all_tables());
 
-static TABLES: &[Table] = choices!(all_tables());
+impl ChosenByTable for RelaxationKind {
+    #[inline(always)]
+    fn is_listed(name: Names) -> bool {
+        choices!(is_listed(name))
+    }
 
-/// The entries of a relocation.
-#[inline(always)]
-pub fn entries(
-    name: Ppc64Relocation,
-) -> &'static [ChoiceEntry<AskedFor, RelaxationKind, Ppc64Relocation>]
-    ensures table { IsTableOf (λ (originals : AskedFor). ppc64_matches) ppc64_matches result.now
-        (ppc64_entries name) }
-    ensures few { length result.now ≤ 5 }
-{
-    choices!(by_table(TABLES, name, table => table))
-}
+    #[inline(always)]
+    fn entries(name: Names, _section: &[u8], _offset: u64) -> Table<Self> {
+        choices!(by_table(TABLES, name, table => table))
+    }
 
-/// The choice by a table of a name.
-#[inline(always)]
-fn choice_by(
-    table: Table,
-    name: Ppc64Relocation,
-    section: &[u8],
-    offset: u64,
-    facts: &LinkFacts,
-) -> Choice<RelaxationKind, Ppc64Relocation>
-    requires table { IsTableOf (λ (originals : AskedFor). ppc64_matches) ppc64_matches table.now
-        (ppc64_entries name) }
-    requires few { length table.now ≤ 5 }
-    ensures { IsPpc64Choice name section.now offset facts.now result }
-{
-    let unchanged = Choice {
-        kind: RelaxationKind::NoOp,
-        relocation: name,
-    };
-    first_entry(table, section, offset, facts, unchanged)
-}
-
-/// The choice for a relocation that is listed.
-#[inline(never)]
-fn choose_listed(
-    name: Ppc64Relocation,
-    section: &[u8],
-    offset: u64,
-    facts: &LinkFacts,
-) -> Choice<RelaxationKind, Ppc64Relocation>
-    ensures { IsPpc64Choice name section.now offset facts.now result }
-{
-    choices!(by_table(TABLES, name, table => choice_by(table, name, section, offset, facts)))
+    #[inline(never)]
+    fn choose_listed(
+        name: Names,
+        section: &[u8],
+        offset: u64,
+        facts: &LinkFacts,
+    ) -> Choice<Self, Names> {
+        choices!(by_table(TABLES, name, table => choice_by(table, name, section, offset, facts)))
+    }
 }
 
 /// Which rewrite a linker may make of the instruction at a relocation's offset, and the relocation
 /// whose value is then written (64-bit ELF V2 ABI for Power, "TOC Optimizations" and "TLS Linkage
-/// Optimizations"). It is the first entry of the relocation in the table of choices whose
-/// instructions are there and whose conditions hold, and else `NoOp` and the same relocation, as
-/// for any name that isn't listed and for an offset that isn't in the section. Where TLS becomes
-/// initial-exec, `got_entry` has to be the address of the entry for initial-exec.
+/// Optimizations"). Where TLS becomes initial-exec, `got_entry` has to be the address of the entry
+/// for initial-exec.
 ///
 /// ```
 /// use linker_utils::elf::LinkFacts;
@@ -233,18 +215,11 @@ pub fn choose(
     ensures matches { ppc64_matches result.kind section.now offset }
     ensures rewritable { CanRewrite (ppc64_rewrite result.kind) section.now offset }
 {
-    if let [] = entries(name) {
-        return Choice {
-            kind: RelaxationKind::NoOp,
-            relocation: name,
-        };
-    }
-    choose_listed(name, section, offset, facts)
+    RelaxationKind::choose(name, section, offset, facts)
 }
 
 /// Whether a relocation can be rewritten, if all others of its sequence can: whether `choose` with
-/// `group_fits` changes it. A linker asks this for each relocation of a sequence before it chooses
-/// for any of them, with the facts of each, and sets `group_fits` only if it is true of all.
+/// `group_fits` changes it.
 ///
 /// ```
 /// use linker_utils::elf::LinkFacts;
@@ -264,11 +239,7 @@ pub fn fits(name: Ppc64Relocation, section: &[u8], offset: u64, facts: &LinkFact
     ensures { IsTrue result
         ↔ Fits (IsPpc64Choice name section.now offset) (choice kinds.NoOp name) facts.now }
 {
-    let facts = LinkFacts {
-        group_fits: true,
-        ..*facts
-    };
-    !choose(name, section, offset, &facts).is_unchanged(name)
+    RelaxationKind::fits(name, section, offset, facts)
 }
 
 /// With the same facts, except that each has its own place, and each at an instruction that its

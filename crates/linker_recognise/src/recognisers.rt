@@ -24,6 +24,7 @@ ghost use Rattle.linker_x86_64.proofs.X86Choices.{chosen_matches as x86_64_chose
 ghost use Rattle.linker_x86_64.specs.contracts.rewrites.RelaxationKind as x86_64_kind;
 
 use crate::engine::{Choices, Recognised, choices_of};
+use linker_elf::elf::choice_table::ChosenByTable;
 use linker_utils::aarch64::{self, AArch64Relocation};
 use linker_utils::architecture::Relaxation;
 use linker_utils::elf::{Choice, LinkFacts};
@@ -53,8 +54,9 @@ impl Recognised for AArch64Relocation {
     }
 
     #[inline(always)]
-    fn listed(self, _section: &[u8], _at: u64) -> Choices<Self::Kind, Self> {
-        choices_of(aarch64::entries(self), aarch64::RelaxationKind::NoOp, self)
+    fn listed(self, section: &[u8], at: u64) -> Choices<Self::Kind, Self> {
+        let entries = Self::Kind::entries(self, section, at);
+        choices_of(entries, aarch64::RelaxationKind::NoOp, self)
     }
 }
 
@@ -79,8 +81,9 @@ impl Recognised for RiscVRelocation {
     }
 
     #[inline(always)]
-    fn listed(self, _section: &[u8], _at: u64) -> Choices<Self::Kind, Self> {
-        choices_of(riscv64::entries(self), riscv64::RelaxationKind::NoOp, self)
+    fn listed(self, section: &[u8], at: u64) -> Choices<Self::Kind, Self> {
+        let entries = Self::Kind::entries(self, section, at);
+        choices_of(entries, riscv64::RelaxationKind::NoOp, self)
     }
 }
 
@@ -105,12 +108,9 @@ impl Recognised for LoongArch64Relocation {
     }
 
     #[inline(always)]
-    fn listed(self, _section: &[u8], _at: u64) -> Choices<Self::Kind, Self> {
-        choices_of(
-            loongarch64::entries(self),
-            loongarch64::RelaxationKind::NoOp,
-            self,
-        )
+    fn listed(self, section: &[u8], at: u64) -> Choices<Self::Kind, Self> {
+        let entries = Self::Kind::entries(self, section, at);
+        choices_of(entries, loongarch64::RelaxationKind::NoOp, self)
     }
 }
 
@@ -135,8 +135,9 @@ impl Recognised for Ppc64Relocation {
     }
 
     #[inline(always)]
-    fn listed(self, _section: &[u8], _at: u64) -> Choices<Self::Kind, Self> {
-        choices_of(ppc64::entries(self), ppc64::RelaxationKind::NoOp, self)
+    fn listed(self, section: &[u8], at: u64) -> Choices<Self::Kind, Self> {
+        let entries = Self::Kind::entries(self, section, at);
+        choices_of(entries, ppc64::RelaxationKind::NoOp, self)
     }
 }
 
@@ -162,7 +163,7 @@ impl Recognised for X86_64Relocation {
 
     #[inline(always)]
     fn listed(self, section: &[u8], at: u64) -> Choices<Self::Kind, Self> {
-        let entries = x86_64::entries(self, x86_64::opcode_before(section, at));
+        let entries = Self::Kind::entries(self, section, at);
         choices_of(entries, x86_64::RelaxationKind::NoOp, self)
     }
 }

@@ -30,14 +30,6 @@ CodeEntry = ChoiceEntry AskedFor RelaxationKind RiscVRelocation
 pub same : (P : Type 0) → P ↔ P
 same P = (λ h. h, λ h. h)
 
-pub chosen : (name : RiscVRelocation) (section : List ℕ) (o : ℕ) (facts : LinkFacts) (es : List CodeEntry) (c : RiscVChoice)
-    → IsTableOf IsThere (IsAskedFor name) es (riscv_entries name)
-    → IsFirstOf (EntryApplies IsThere riscv_row_of (λ (kind : RelaxationKind) (o : ℕ) (operands : Operands). operands) section o facts) es (choice kinds.NoOp name) c
-    → IsRiscVChoice name section o facts c
-chosen name section o facts es c =
-    first_of_table IsThere (IsAskedFor name) riscv_row_of (λ (kind : RelaxationKind) (o : ℕ) (operands : Operands). operands)
-    section o facts es (riscv_entries name) (choice kinds.NoOp name) c
-
 -- ---- what holds of the choice of each entry that applies
 
 abbrev OfEach : (RiscVEntry → Type 0) → (RiscVChoice → Type 0) → List RiscVEntry → Type 0
@@ -101,11 +93,3 @@ pub chosen_compressed : (name : RiscVRelocation) (section : List ℕ) (o : ℕ) 
 chosen_compressed name section o facts c =
     of_chosen (AppliesToRiscV (IsAskedFor name) section o facts) (IsFit facts) (riscv_entries name) (choice kinds.NoOp name) c
     (each_fits name section o facts) (search rules)
-
-pub chosen_fits : (name : RiscVRelocation) (section : List ℕ) (o : ℕ) (facts : LinkFacts) (c : RiscVChoice) (is : Bool)
-    → IsRiscVChoice name section o (with_group facts) c
-    → (IsTrue is ↔ ((c.kind ≡ kinds.NoOp) × AreSame names (λ x y. x.0 == y.0, tt) c.relocation name))
-    → IsTrue (not is) ↔ Fits (IsRiscVChoice name section o) (choice kinds.NoOp name) facts
-chosen_fits name section o facts c is first known =
-    isnt_last (AppliesToRiscV (IsAskedFor name) section o (with_group facts)) (riscv_entries name) (choice kinds.NoOp name) c is first
-    (unchanged_is names (λ x y. x.0 == y.0, tt) (exact_code, tt) kinds.NoOp name c is known)

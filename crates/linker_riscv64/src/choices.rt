@@ -4,9 +4,10 @@ ghost use Rattle.std.specs.Prelude.{◌≡◌, ◌≤◌, ◌↔◌, IsTrue, len
 ghost use Rattle.std.specs.Int.{cast_unsigned, w64};
 ghost use Rattle.linker_base.specs.Rewrite.{CanRewrite};
 ghost use Rattle.linker_elf.specs.Choices.{Fits, choice};
-ghost use Rattle.linker_elf.specs.Inner.ChoiceTables.{IsTableOf};
+ghost use Rattle.linker_elf.proofs.SameNames.{equalities, exact_code};
+ghost use Rattle.linker_elf.specs.contracts.riscv64.relocations.RiscVRelocation.{enum as names};
 ghost use Rattle.linker_elf.specs.Value.{sum_64};
-ghost use Rattle.linker_riscv64.specs.Inner.Choices.{IsThere};
+ghost use Rattle.linker_riscv64.specs.Inner.Choices.{IsThere, riscv_tables};
 ghost use Rattle.linker_riscv64.specs.RiscVRewrites.{DescriptorIsChosenAlike, GotPairIsChosenAlike};
 ghost use Rattle.linker_riscv64.specs.RiscVRewrites.{AbsoluteIsChosenAlike, ThreadOffsetIsChosenAlike};
 ghost use Rattle.linker_riscv64.specs.RiscVRewrites.{IsAskedFor, IsRiscVChoice, riscv_entries};
@@ -18,9 +19,9 @@ use super::rewrites::{is_add_tp, is_addi_to_a0, is_auipc, is_ld, is_lui, word_at
 use super::{RelaxationKind, RiscVRelocation, RiscVRelocation as Names};
 use linker_base::rewrite::has_window;
 use linker_elf::elf::choice_table::{
-    BOUND, COMPRESSIBLE, ChoiceEntry, ChosenKind, Conditions, EXECUTABLE, FIXED_ADDRESS,
-    FIXED_DISTANCE, GOT_HIGH_PART, LABEL_MARKED, MARKED, Originals, WITHOUT_PLT, all_tables,
-    by_table, conditions, first_entry,
+    BOUND, COMPRESSIBLE, ChosenByTable, ChosenKind, Conditions, EXECUTABLE, FIXED_ADDRESS,
+    FIXED_DISTANCE, GOT_HIGH_PART, LABEL_MARKED, MARKED, Table, WITHOUT_PLT, all_tables, by_table,
+    choice_by, conditions, is_listed,
 };
 use linker_elf::elf::{Choice, LinkFacts, Operands};
 
@@ -34,13 +35,26 @@ pub enum AskedFor {
     AddiToA0,
 }
 
-impl Originals<RelaxationKind> for AskedFor {
+impl ChosenKind for RelaxationKind {
+    type Relocation = Names;
+
+    type Originals = AskedFor;
+
     ghost are_at = { IsThere };
 
+    ghost tables = { riscv_tables };
+
+    ghost laws = { equalities kinds.NoOp names (λ x y. x.0 == y.0, tt) (exact_code, tt) };
+
     #[inline(always)]
-    fn stand_at(&self, kind: RelaxationKind, section: &[u8], offset: u64) -> bool {
-        match self {
-            AskedFor::OfRewrite => kind.matches(section, offset),
+    fn none() -> Self {
+        RelaxationKind::NoOp
+    }
+
+    #[inline(always)]
+    fn stand_at(self, originals: &AskedFor, section: &[u8], offset: u64) -> bool {
+        match originals {
+            AskedFor::OfRewrite => self.matches(section, offset),
             _ if !has_window(section, offset, 0, 4) => false,
             AskedFor::Lui => is_lui(word_at(section, offset)),
             AskedFor::AddTp => is_add_tp(word_at(section, offset)),
@@ -49,11 +63,6 @@ impl Originals<RelaxationKind> for AskedFor {
             AskedFor::AddiToA0 => is_addi_to_a0(word_at(section, offset)),
         }
     }
-}
-
-impl ChosenKind for RelaxationKind {
-    // no rewrite moves the place or the addend
-    ghost after = { λ kind o operands. operands };
 
     #[inline(always)]
     fn operands_after(self, _offset: u64, operands: &Operands) -> Operands {
@@ -185,56 +194,32 @@ macro_rules! choices {
     };
 }
 
-type Table = &'static [ChoiceEntry<AskedFor, RelaxationKind, Names>];
+static TABLES: &[Table<RelaxationKind>] = choices!(all_tables());
 
-static TABLES: &[Table] = choices!(all_tables());
+impl ChosenByTable for RelaxationKind {
+    #[inline(always)]
+    fn is_listed(name: Names) -> bool {
+        choices!(is_listed(name))
+    }
 
-/// The entries of a relocation.
-#[inline(always)]
-pub fn entries(name: RiscVRelocation) -> Table
-    ensures table { IsTableOf IsThere (IsAskedFor name) result.now (riscv_entries name) }
-    ensures few { length result.now ≤ 5 }
-{
-    choices!(by_table(TABLES, name, table => table))
-}
+    #[inline(always)]
+    fn entries(name: Names, _section: &[u8], _offset: u64) -> Table<Self> {
+        choices!(by_table(TABLES, name, table => table))
+    }
 
-/// The choice by a table of a name.
-#[inline(always)]
-fn choice_by(
-    table: Table,
-    name: RiscVRelocation,
-    section: &[u8],
-    offset: u64,
-    facts: &LinkFacts,
-) -> Choice<RelaxationKind, RiscVRelocation>
-    requires table { IsTableOf IsThere (IsAskedFor name) table.now (riscv_entries name) }
-    requires few { length table.now ≤ 5 }
-    ensures { IsRiscVChoice name section.now offset facts.now result }
-{
-    let unchanged = Choice {
-        kind: RelaxationKind::NoOp,
-        relocation: name,
-    };
-    first_entry(table, section, offset, facts, unchanged)
-}
-
-/// The choice for a relocation that is listed.
-#[inline(never)]
-fn choose_listed(
-    name: RiscVRelocation,
-    section: &[u8],
-    offset: u64,
-    facts: &LinkFacts,
-) -> Choice<RelaxationKind, RiscVRelocation>
-    ensures { IsRiscVChoice name section.now offset facts.now result }
-{
-    choices!(by_table(TABLES, name, table => choice_by(table, name, section, offset, facts)))
+    #[inline(never)]
+    fn choose_listed(
+        name: Names,
+        section: &[u8],
+        offset: u64,
+        facts: &LinkFacts,
+    ) -> Choice<Self, Names> {
+        choices!(by_table(TABLES, name, table => choice_by(table, name, section, offset, facts)))
+    }
 }
 
 /// Which rewrite a linker may make of the instruction or the pair at a relocation's offset, and the
-/// relocation whose value is then written (RISC-V ELF psABI, "Linker Relaxation"). It is the first
-/// entry of the relocation in the table of choices whose instructions are there and whose
-/// conditions hold, and else `NoOp` and the same relocation.
+/// relocation whose value is then written (RISC-V ELF psABI, "Linker Relaxation").
 ///
 /// ```
 /// use linker_utils::elf::{LinkFacts, Operands};
@@ -278,18 +263,11 @@ pub fn choose(
         → FitsClui (sum_64 facts.now.operands.symbol
         (cast_unsigned w64 facts.now.operands.addend)) }
 {
-    if let [] = entries(name) {
-        return Choice {
-            kind: RelaxationKind::NoOp,
-            relocation: name,
-        };
-    }
-    choose_listed(name, section, offset, facts)
+    RelaxationKind::choose(name, section, offset, facts)
 }
 
 /// Whether a relocation can be rewritten, if all others of its sequence can: whether `choose` with
-/// `group_fits` changes it. A linker asks this for each relocation of a sequence before it chooses
-/// for any of them, with the facts of each, and sets `group_fits` only if it is true of all.
+/// `group_fits` changes it.
 ///
 /// ```
 /// use linker_utils::elf::LinkFacts;
@@ -313,11 +291,7 @@ pub fn fits(name: RiscVRelocation, section: &[u8], offset: u64, facts: &LinkFact
     ensures { IsTrue result
         ↔ Fits (IsRiscVChoice name section.now offset) (choice kinds.NoOp name) facts.now }
 {
-    let facts = LinkFacts {
-        group_fits: true,
-        ..*facts
-    };
-    !choose(name, section, offset, &facts).is_unchanged(name)
+    RelaxationKind::fits(name, section, offset, facts)
 }
 
 /// With the same facts, all four relocations of a TLS descriptor are rewritten for local-exec, all

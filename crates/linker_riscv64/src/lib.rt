@@ -12,7 +12,7 @@ pub use calls::{
     Call, CallError, JAL_MAX, JAL_MIN, JumpError, LinkRegister, distance_fits_jal, is_plain_call,
     jal_site, jal_site_with, relax_call, relax_call_over,
 };
-pub use choices::{choose, entries, fits, relocations_are_chosen_alike};
+pub use choices::{choose, fits, relocations_are_chosen_alike};
 pub use linker_base::rewrite::DeletedBytes;
 pub use linker_elf::riscv64::{
     RiscVInstruction, RiscVRelocation, clui_row, relocation_type_from_raw, row,

@@ -18,14 +18,6 @@ use Rattle.linker_x86_64.specs.declared.choices.AskedFor.{AskedFor}
 use Rattle.linker_x86_64.specs.declared.rewrites.RelaxationKind.{RelaxationKind}
 use Rattle.linker_x86_64.specs.declared.rewrites.RelaxationKind.TheVariants as kinds
 
-pub chosen : (t : Table) (name : X86_64Relocation) (section : List ℕ) (o : ℕ) (facts : LinkFacts)
-    → (es : List (ChoiceEntry AskedFor RelaxationKind X86_64Relocation)) (c : Choice RelaxationKind X86_64Relocation)
-    → IsTableOf StandAt (IsAskedFor t.instructions) es t.entries
-    → IsFirstOf (EntryApplies StandAt x86_64_row x86_64_after section o facts) es (choice kinds.NoOp name) c
-    → IsByTable t name section o facts c
-chosen t name section o facts es c =
-    first_of_table StandAt (IsAskedFor t.instructions) x86_64_row x86_64_after section o facts es t.entries (choice kinds.NoOp name) c
-
 no_op_matches : (section : List ℕ) (o : ℕ) → x86_64_matches kinds.NoOp section o
 no_op_matches section o = search rules
 
@@ -65,12 +57,3 @@ chosen_none name section o facts none =
     let t = x86_64_table name (slice_index section (o - 2)) in
     subst (λ es. IsFirst (Applies (IsAskedFor t.instructions) x86_64_row x86_64_after section o facts) es (choice kinds.NoOp name) (choice kinds.NoOp name))
     (sym (unlisted name (slice_index section (o - 2)) (IsAskedFor (x86_64_table name 0x8b).instructions) none)) refl
-
-pub chosen_fits : (name : X86_64Relocation) (section : List ℕ) (o : ℕ) (facts : LinkFacts) (c : Choice RelaxationKind X86_64Relocation) (is : Bool)
-    → IsX86Choice name section o (with_group facts) c
-    → (IsTrue is ↔ ((c.kind ≡ kinds.NoOp) × AreSame names (λ x y. x.0 == y.0, tt) c.relocation name))
-    → IsTrue (not is) ↔ Fits (IsX86Choice name section o) (choice kinds.NoOp name) facts
-chosen_fits name section o facts c is first known =
-    let t = x86_64_table name (slice_index section (o - 2)) in
-    isnt_last (Applies (IsAskedFor t.instructions) x86_64_row x86_64_after section o (with_group facts)) t.entries (choice kinds.NoOp name) c is first
-    (unchanged_is names (λ x y. x.0 == y.0, tt) (exact_code, tt) kinds.NoOp name c is known)

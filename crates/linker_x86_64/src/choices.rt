@@ -3,8 +3,10 @@
 ghost use Rattle.std.specs.Prelude.{◌-◌, ◌≡◌, ◌≤◌, ◌↔◌, IsTrue, length, slice_index};
 ghost use Rattle.linker_elf.specs.Choices.{Fits, choice};
 ghost use Rattle.linker_elf.specs.Inner.ChoiceTables.{IsTableOf};
-ghost use Rattle.linker_x86_64.specs.Inner.X86Tables.{StandAt};
-ghost use Rattle.linker_x86_64.specs.X86Rewrites.{IsX86Choice, IsAskedFor, x86_64_after};
+ghost use Rattle.linker_elf.proofs.SameNames.{equalities, exact_code};
+ghost use Rattle.linker_elf.specs.contracts.x86_64.relocations.X86_64Relocation.{enum as names};
+ghost use Rattle.linker_x86_64.specs.Inner.X86Tables.{StandAt, x86_64_tables};
+ghost use Rattle.linker_x86_64.specs.X86Rewrites.{IsX86Choice, IsAskedFor};
 ghost use Rattle.linker_x86_64.specs.X86Rewrites.{x86_64_table};
 ghost use Rattle.linker_x86_64.specs.X86Rewrites.{x86_64_matches};
 ghost use Rattle.linker_x86_64.specs.declared.rewrites.RelaxationKind.TheVariants as kinds;
@@ -12,9 +14,9 @@ ghost use Rattle.linker_x86_64.specs.declared.rewrites.RelaxationKind.TheVariant
 use super::rewrites::{is_lea_of_descriptor, is_legacy};
 use super::{RelaxationKind, X86_64Relocation, X86_64Relocation as Names};
 use linker_elf::elf::choice_table::{
-    BOUND, ChoiceEntry, ChosenKind, Conditions, EXECUTABLE, FIXED_ADDRESS, FIXED_DISTANCE,
-    GROUP_FITS, LOCAL_EXEC_BASE, Originals, WEAK_ZERO, all_tables, by_table, conditions,
-    first_entry, table_of,
+    BOUND, ChosenByTable, ChosenKind, Conditions, EXECUTABLE, FIXED_ADDRESS, FIXED_DISTANCE,
+    GROUP_FITS, LOCAL_EXEC_BASE, Table, WEAK_ZERO, all_tables, by_table, choice_by, conditions,
+    is_listed, table_of,
 };
 use linker_elf::elf::{Choice, LinkFacts, Operands};
 
@@ -29,86 +31,67 @@ pub enum AskedFor {
     LeaOfDescriptor(u8),
 }
 
-impl Originals<RelaxationKind> for AskedFor {
+impl ChosenKind for RelaxationKind {
+    type Relocation = Names;
+
+    type Originals = AskedFor;
+
     ghost are_at = { StandAt };
 
+    ghost tables = { x86_64_tables };
+
+    ghost laws = { equalities kinds.NoOp names (λ x y. x.0 == y.0, tt) (exact_code, tt) };
+
     #[inline(always)]
-    fn stand_at(&self, kind: RelaxationKind, section: &[u8], offset: u64) -> bool {
-        let are_asked = match *self {
+    fn none() -> Self {
+        RelaxationKind::NoOp
+    }
+
+    #[inline(always)]
+    fn stand_at(self, originals: &AskedFor, section: &[u8], offset: u64) -> bool {
+        let are_asked = match *originals {
             AskedFor::OfRewrite => true,
             AskedFor::Legacy(n, opcode) => is_legacy(section, offset, n, opcode),
             AskedFor::LeaOfDescriptor(n) => is_lea_of_descriptor(section, offset, n),
         };
-        are_asked && kind.matches(section, offset)
+        are_asked && self.matches(section, offset)
     }
-}
-
-impl ChosenKind for RelaxationKind {
-    ghost after = { x86_64_after };
 
     #[inline(always)]
     fn operands_after(self, offset: u64, operands: &Operands) -> Operands {
         let place = operands.place;
-        match self {
+        let place = match self {
+            RelaxationKind::JmpIndirectToRelative => {
+                let before = offset.saturating_sub(1);
+                place.wrapping_add(before).wrapping_sub(offset)
+            }
+            RelaxationKind::TlsLdToLocalExec | RelaxationKind::TlsLdToLocalExecNoPlt => {
+                place.wrapping_add(5)
+            }
+            RelaxationKind::TlsGdToLocalExec | RelaxationKind::TlsGdToInitialExec => {
+                place.wrapping_add(8)
+            }
+            RelaxationKind::TlsGdToLocalExecLarge => place.wrapping_add(9),
+            RelaxationKind::TlsLdToLocalExec64 => place.wrapping_add(15),
+            _ => place,
+        };
+        let addend = match self {
             RelaxationKind::NoOp
             | RelaxationKind::MovIndirectToLea
             | RelaxationKind::CallIndirectToRelative
+            | RelaxationKind::JmpIndirectToRelative
+            | RelaxationKind::TlsLdToLocalExec
+            | RelaxationKind::TlsLdToLocalExecNoPlt
+            | RelaxationKind::TlsLdToLocalExec64
+            | RelaxationKind::TlsGdToInitialExec
             | RelaxationKind::TlsDescToInitialExec
-            | RelaxationKind::SkipTlsDescCall => *operands,
-            RelaxationKind::JmpIndirectToRelative => {
-                let before = offset.saturating_sub(1);
-                Operands {
-                    place: place.wrapping_add(before).wrapping_sub(offset),
-                    ..*operands
-                }
-            }
-            RelaxationKind::TlsGdToLocalExec => {
-                Operands {
-                    place: place.wrapping_add(8),
-                    addend: 0,
-                    ..*operands
-                }
-            }
-            RelaxationKind::TlsGdToLocalExecLarge => {
-                Operands {
-                    place: place.wrapping_add(9),
-                    addend: 0,
-                    ..*operands
-                }
-            }
-            RelaxationKind::TlsGdToInitialExec => {
-                Operands {
-                    place: place.wrapping_add(8),
-                    ..*operands
-                }
-            }
-            RelaxationKind::TlsLdToLocalExec | RelaxationKind::TlsLdToLocalExecNoPlt => {
-                Operands {
-                    place: place.wrapping_add(5),
-                    ..*operands
-                }
-            }
-            RelaxationKind::TlsLdToLocalExec64 => {
-                Operands {
-                    place: place.wrapping_add(15),
-                    ..*operands
-                }
-            }
-            RelaxationKind::MovIndirectToAbsolute
-            | RelaxationKind::RexMovIndirectToAbsolute(_)
-            | RelaxationKind::RexAddIndirectToAbsolute(_)
-            | RelaxationKind::RexSubIndirectToAbsolute(_)
-            | RelaxationKind::RexCmpIndirectToAbsolute(_)
-            | RelaxationKind::TlsDescToLocalExec(_)
-            | RelaxationKind::RexAdcIndirectToAbsolute(_)
-            | RelaxationKind::RexAndIndirectToAbsolute(_)
-            | RelaxationKind::RexOrIndirectToAbsolute(_)
-            | RelaxationKind::RexSbbIndirectToAbsolute(_)
-            | RelaxationKind::RexXorIndirectToAbsolute(_)
-            | RelaxationKind::RexTestIndirectToAbsolute(_) => Operands {
-                addend: 0,
-                ..*operands
-            },
+            | RelaxationKind::SkipTlsDescCall => operands.addend,
+            _ => 0,
+        };
+        Operands {
+            place,
+            addend,
+            ..*operands
         }
     }
 }
@@ -204,13 +187,11 @@ macro_rules! choices {
     };
 }
 
-type Table = &'static [ChoiceEntry<AskedFor, RelaxationKind, Names>];
+static TABLES: &[Table<RelaxationKind>] = choices!(all_tables());
 
-static TABLES: &[Table] = choices!(all_tables());
+static OTHERS: Table<RelaxationKind> = &[];
 
-static OTHERS: Table = &[];
-
-static BRANCH: Table = table_of!([
+static BRANCH: Table<RelaxationKind> = table_of!([
     CallIndirectToRelative => R_X86_64_PC32, DISTANCE;
     JmpIndirectToRelative => R_X86_64_PC32, DISTANCE;
 ]);
@@ -256,15 +237,19 @@ macro_rules! operations {
     };
 }
 
-static GOT_2: [Table; 10] = operations!(2, MovIndirectToAbsolute => R_X86_64_32);
+static GOT_2: [Table<RelaxationKind>; 10] = operations!(2, MovIndirectToAbsolute => R_X86_64_32);
 
-static GOT_3: [Table; 10] = operations!(3, RexMovIndirectToAbsolute(3) => R_X86_64_32S);
+static GOT_3: [Table<RelaxationKind>; 10] =
+    operations!(3, RexMovIndirectToAbsolute(3) => R_X86_64_32S);
 
-static GOT_4: [Table; 10] = operations!(4, RexMovIndirectToAbsolute(4) => R_X86_64_32S);
+static GOT_4: [Table<RelaxationKind>; 10] =
+    operations!(4, RexMovIndirectToAbsolute(4) => R_X86_64_32S);
 
-static GOT_5: [Table; 10] = operations!(5, RexMovIndirectToAbsolute(5) => R_X86_64_32S);
+static GOT_5: [Table<RelaxationKind>; 10] =
+    operations!(5, RexMovIndirectToAbsolute(5) => R_X86_64_32S);
 
-static GOT_6: [Table; 10] = operations!(6, RexMovIndirectToAbsolute(6) => R_X86_64_32S);
+static GOT_6: [Table<RelaxationKind>; 10] =
+    operations!(6, RexMovIndirectToAbsolute(6) => R_X86_64_32S);
 
 /// The entries of initial-exec accesses, by the count of the bytes before the field.
 macro_rules! accesses {
@@ -276,13 +261,13 @@ macro_rules! accesses {
     };
 }
 
-static GOTTPOFF_3: [Table; 2] = accesses!(3);
+static GOTTPOFF_3: [Table<RelaxationKind>; 2] = accesses!(3);
 
-static GOTTPOFF_4: [Table; 2] = accesses!(4);
+static GOTTPOFF_4: [Table<RelaxationKind>; 2] = accesses!(4);
 
-static GOTTPOFF_5: [Table; 2] = accesses!(5);
+static GOTTPOFF_5: [Table<RelaxationKind>; 2] = accesses!(5);
 
-static GOTTPOFF_6: [Table; 2] = accesses!(6);
+static GOTTPOFF_6: [Table<RelaxationKind>; 2] = accesses!(6);
 
 /// What the table of an operation is used for, or with `access` that of an initial-exec access.
 macro_rules! by_opcode {
@@ -327,7 +312,7 @@ macro_rules! by_tables {
 
 /// The entries of a relocation, by the opcode, which is two bytes before the field.
 #[inline(always)]
-pub fn entries(name: X86_64Relocation, opcode: u8) -> Table
+fn entries_by(name: Names, opcode: u8) -> Table<RelaxationKind>
     ensures table { IsTableOf StandAt (IsAskedFor (x86_64_table name opcode).instructions)
         result.now (x86_64_table name opcode).entries }
     ensures few { length result.now ≤ 5 }
@@ -337,30 +322,26 @@ pub fn entries(name: X86_64Relocation, opcode: u8) -> Table
 
 /// The choice by a table of a name and an opcode.
 #[inline(always)]
-fn choice_by(
-    table: Table,
-    name: X86_64Relocation,
+fn choice_by_opcode(
+    table: Table<RelaxationKind>,
+    name: Names,
     opcode: u8,
     section: &[u8],
     offset: u64,
     facts: &LinkFacts,
-) -> Choice<RelaxationKind, X86_64Relocation>
+) -> Choice<RelaxationKind, Names>
     requires table { IsTableOf StandAt (IsAskedFor (x86_64_table name opcode).instructions)
         table.now (x86_64_table name opcode).entries }
     requires few { length table.now ≤ 5 }
     requires opcode { opcode ≡ slice_index section.now (offset - 2) }
     ensures { IsX86Choice name section.now offset facts.now result }
 {
-    let unchanged = Choice {
-        kind: RelaxationKind::NoOp,
-        relocation: name,
-    };
-    first_entry(table, section, offset, facts, unchanged)
+    choice_by(table, name, section, offset, facts)
 }
 
 /// The byte two before an offset, which is the opcode of an instruction whose field is there.
 #[inline(always)]
-pub fn opcode_before(section: &[u8], offset: u64) -> u8
+fn opcode_before(section: &[u8], offset: u64) -> u8
     ensures { result ≡ slice_index section.now (offset - 2) }
 {
     section
@@ -369,26 +350,35 @@ pub fn opcode_before(section: &[u8], offset: u64) -> u8
         .unwrap_or(0)
 }
 
-/// The choice for a relocation that is listed.
-#[inline(never)]
-fn choose_listed(
-    name: X86_64Relocation,
-    section: &[u8],
-    offset: u64,
-    facts: &LinkFacts,
-) -> Choice<RelaxationKind, X86_64Relocation>
-    ensures { IsX86Choice name section.now offset facts.now result }
-{
-    let opcode = opcode_before(section, offset);
-    by_tables!(name, opcode, table => choice_by(table, name, opcode, section, offset, facts))
+impl ChosenByTable for RelaxationKind {
+    #[inline(always)]
+    fn is_listed(name: Names) -> bool {
+        // a relocation with a table of one of several opcodes has one of this
+        !matches!(entries_by(name, 0x8b), [])
+    }
+
+    #[inline(always)]
+    fn entries(name: Names, section: &[u8], offset: u64) -> Table<Self> {
+        entries_by(name, opcode_before(section, offset))
+    }
+
+    #[inline(never)]
+    fn choose_listed(
+        name: Names,
+        section: &[u8],
+        offset: u64,
+        facts: &LinkFacts,
+    ) -> Choice<Self, Names> {
+        let opcode = opcode_before(section, offset);
+        by_tables!(name, opcode, table
+            => choice_by_opcode(table, name, opcode, section, offset, facts))
+    }
 }
 
 /// The rewrite that a linker makes of the instruction or the sequence with a relocation, and the
 /// relocation whose value it then writes (x86-64 psABI, "Optimize GOTPCRELX Relocations" and "ELF
-/// Handling For Thread-Local Storage"). It is the first entry of the relocation in the table of
-/// choices whose instructions are there and whose conditions hold, and else `NoOp` and the same
-/// relocation. The offset is that of the relocation in the section. Any bytes and any offset may be
-/// passed, and the rewrite can be applied there.
+/// Handling For Thread-Local Storage"). The offset is that of the relocation in the section. Any
+/// bytes and any offset may be passed, and the rewrite can be applied there.
 ///
 /// ```
 /// use linker_utils::elf::{LinkFacts, Operands};
@@ -429,19 +419,11 @@ pub fn choose(
     ensures chosen { IsX86Choice name section.now offset facts.now result }
     ensures matches { x86_64_matches result.kind section.now offset }
 {
-    // a relocation with a table of one of several opcodes has one of this
-    if let [] = entries(name, 0x8b) {
-        return Choice {
-            kind: RelaxationKind::NoOp,
-            relocation: name,
-        };
-    }
-    choose_listed(name, section, offset, facts)
+    RelaxationKind::choose(name, section, offset, facts)
 }
 
 /// Whether a relocation can be rewritten, if all others of its sequence can: whether `choose` with
-/// `group_fits` changes it. A linker asks this for each relocation of a sequence before it chooses
-/// for any of them, with the facts of each, and sets `group_fits` only if it is true of all.
+/// `group_fits` changes it.
 ///
 /// ```
 /// use linker_utils::elf::{LinkFacts, Operands};
@@ -461,9 +443,5 @@ pub fn fits(name: X86_64Relocation, section: &[u8], offset: u64, facts: &LinkFac
     ensures { IsTrue result
         ↔ Fits (IsX86Choice name section.now offset) (choice kinds.NoOp name) facts.now }
 {
-    let facts = LinkFacts {
-        group_fits: true,
-        ..*facts
-    };
-    !choose(name, section, offset, &facts).is_unchanged(name)
+    RelaxationKind::fits(name, section, offset, facts)
 }

@@ -7,8 +7,8 @@ use super::rewrites::{
 use crate::linker_base::rewrite::has_window;
 use crate::linker_elf::aarch64::{AArch64Relocation, AArch64Relocation as Names};
 use crate::linker_elf::elf::choice_table::{
-    BOUND, ChoiceEntry, ChosenKind, Conditions, EXECUTABLE, FIXED_DISTANCE, GROUP_FITS, Originals,
-    WEAK_ZERO, all_tables, by_table, conditions, first_entry,
+    BOUND, ChosenByTable, ChosenKind, Conditions, EXECUTABLE, FIXED_DISTANCE, GROUP_FITS, Table,
+    WEAK_ZERO, all_tables, by_table, choice_by, conditions, is_listed,
 };
 use crate::linker_elf::elf::{Choice, LinkFacts, Operands};
 
@@ -73,11 +73,20 @@ pub enum AskedFor {
     B,
 }
 
-impl Originals<RelaxationKind> for AskedFor {
+impl ChosenKind for RelaxationKind {
+    type Relocation = Names;
+
+    type Originals = AskedFor;
+
     #[inline(always)]
-    fn stand_at(&self, kind: RelaxationKind, section: &[u8], offset: u64) -> bool {
-        match *self {
-            AskedFor::OfRewrite => kind.matches(section, offset),
+    fn none() -> Self {
+        RelaxationKind::NoOp
+    }
+
+    #[inline(always)]
+    fn stand_at(self, originals: &AskedFor, section: &[u8], offset: u64) -> bool {
+        match *originals {
+            AskedFor::OfRewrite => self.matches(section, offset),
             AskedFor::AdrpOfPair => is_entry_load(section, offset),
             AskedFor::LdrOfPair => 4 <= offset && is_entry_load(section, offset - 4),
             AskedFor::OfDescriptor(back) => {
@@ -88,9 +97,7 @@ impl Originals<RelaxationKind> for AskedFor {
             AskedFor::B => word_at(section, offset) >> 26 == 0x05,
         }
     }
-}
 
-impl ChosenKind for RelaxationKind {
     #[inline(always)]
     fn operands_after(self, offset: u64, operands: &Operands) -> Operands {
         let _ = offset;
@@ -178,50 +185,33 @@ macro_rules! choices {
     };
 }
 
-type Table = &'static [ChoiceEntry<AskedFor, RelaxationKind, Names>];
+const TABLES: &[Table<RelaxationKind>] = choices!(all_tables());
 
-const TABLES: &[Table] = choices!(all_tables());
+impl ChosenByTable for RelaxationKind {
+    #[inline(always)]
+    fn is_listed(name: Names) -> bool {
+        choices!(is_listed(name))
+    }
 
-/// The entries of a relocation.
-#[doc(hidden)]
-#[must_use]
-#[inline(always)]
-pub fn entries(name: AArch64Relocation) -> Table {
-    choices!(by_table(TABLES, name, table => table))
-}
+    #[inline(always)]
+    fn entries(name: Names, _section: &[u8], _offset: u64) -> Table<Self> {
+        choices!(by_table(TABLES, name, table => table))
+    }
 
-/// The choice by a table of a name.
-#[cfg_attr(not(debug_assertions), inline(always))]
-fn choice_by(
-    table: Table,
-    name: AArch64Relocation,
-    section: &[u8],
-    offset: u64,
-    facts: &LinkFacts,
-) -> Choice<RelaxationKind, AArch64Relocation> {
-    let unchanged = Choice {
-        kind: RelaxationKind::NoOp,
-        relocation: name,
-    };
-    first_entry(table, section, offset, facts, unchanged)
-}
-
-/// The choice for a relocation that is listed.
-#[inline(never)]
-fn choose_listed(
-    name: AArch64Relocation,
-    section: &[u8],
-    offset: u64,
-    facts: &LinkFacts,
-) -> Choice<RelaxationKind, AArch64Relocation> {
-    choices!(by_table(TABLES, name, table => choice_by(table, name, section, offset, facts)))
+    #[inline(never)]
+    fn choose_listed(
+        name: Names,
+        section: &[u8],
+        offset: u64,
+        facts: &LinkFacts,
+    ) -> Choice<Self, Names> {
+        choices!(by_table(TABLES, name, table => choice_by(table, name, section, offset, facts)))
+    }
 }
 
 /// The rewrite that a linker chooses for a relocation at an offset of a section, and the relocation
 /// after it (ELF for the Arm 64-bit Architecture, "Relocation optimization" and the sequences of
-/// thread-local storage). It is the first entry of the relocation in the table of choices whose
-/// instructions are there and whose conditions hold, and else `NoOp` and the same relocation, as
-/// for any name that isn't listed and for an offset that isn't in the section.
+/// thread-local storage).
 ///
 /// ```
 /// use linker_utils::aarch64::{AArch64Relocation, RelaxationKind, choose};
@@ -249,18 +239,11 @@ pub fn choose(
     offset: u64,
     facts: &LinkFacts,
 ) -> Choice<RelaxationKind, AArch64Relocation> {
-    if let [] = entries(name) {
-        return Choice {
-            kind: RelaxationKind::NoOp,
-            relocation: name,
-        };
-    }
-    choose_listed(name, section, offset, facts)
+    RelaxationKind::choose(name, section, offset, facts)
 }
 
 /// Whether a relocation can be rewritten, if all others of its sequence can: whether `choose` with
-/// `group_fits` changes it. A linker asks this for each relocation of a sequence before it chooses
-/// for any of them, with the facts of each, and sets `group_fits` only if it is true of all.
+/// `group_fits` changes it.
 ///
 /// ```
 /// use linker_utils::aarch64::{AArch64Relocation, fits};
@@ -276,12 +259,9 @@ pub fn choose(
 /// assert!(!fits(AArch64Relocation::R_AARCH64_ADR_GOT_PAGE, &section, 0, &facts));
 /// ```
 #[must_use]
+#[doc = include_str!("../../doc/choices/fits.md")]
 pub fn fits(name: AArch64Relocation, section: &[u8], offset: u64, facts: &LinkFacts) -> bool {
-    let facts = LinkFacts {
-        group_fits: true,
-        ..*facts
-    };
-    !choose(name, section, offset, &facts).is_unchanged(name)
+    RelaxationKind::fits(name, section, offset, facts)
 }
 
 /// With the same facts, except that each has its own place, both relocations of a load of a GOT

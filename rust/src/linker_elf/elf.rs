@@ -5,7 +5,6 @@
 mod choice;
 pub mod choice_table;
 pub(crate) mod engine;
-#[doc(hidden)]
 mod entries;
 mod instruction;
 mod numbers;

@@ -2,6 +2,7 @@
 //! What is recognised of each architecture.
 
 use crate::linker_recognise::engine::{Choices, Recognised, choices_of};
+use crate::linker_elf::elf::choice_table::ChosenByTable;
 use crate::aarch64::{self, AArch64Relocation};
 use crate::architecture::Relaxation;
 use crate::elf::{Choice, LinkFacts};
@@ -26,8 +27,9 @@ impl Recognised for AArch64Relocation {
     }
 
     #[inline(always)]
-    fn listed(self, _section: &[u8], _at: u64) -> Choices<Self::Kind, Self> {
-        choices_of(aarch64::entries(self), aarch64::RelaxationKind::NoOp, self)
+    fn listed(self, section: &[u8], at: u64) -> Choices<Self::Kind, Self> {
+        let entries = Self::Kind::entries(self, section, at);
+        choices_of(entries, aarch64::RelaxationKind::NoOp, self)
     }
 }
 
@@ -47,8 +49,9 @@ impl Recognised for RiscVRelocation {
     }
 
     #[inline(always)]
-    fn listed(self, _section: &[u8], _at: u64) -> Choices<Self::Kind, Self> {
-        choices_of(riscv64::entries(self), riscv64::RelaxationKind::NoOp, self)
+    fn listed(self, section: &[u8], at: u64) -> Choices<Self::Kind, Self> {
+        let entries = Self::Kind::entries(self, section, at);
+        choices_of(entries, riscv64::RelaxationKind::NoOp, self)
     }
 }
 
@@ -68,12 +71,9 @@ impl Recognised for LoongArch64Relocation {
     }
 
     #[inline(always)]
-    fn listed(self, _section: &[u8], _at: u64) -> Choices<Self::Kind, Self> {
-        choices_of(
-            loongarch64::entries(self),
-            loongarch64::RelaxationKind::NoOp,
-            self,
-        )
+    fn listed(self, section: &[u8], at: u64) -> Choices<Self::Kind, Self> {
+        let entries = Self::Kind::entries(self, section, at);
+        choices_of(entries, loongarch64::RelaxationKind::NoOp, self)
     }
 }
 
@@ -93,8 +93,9 @@ impl Recognised for Ppc64Relocation {
     }
 
     #[inline(always)]
-    fn listed(self, _section: &[u8], _at: u64) -> Choices<Self::Kind, Self> {
-        choices_of(ppc64::entries(self), ppc64::RelaxationKind::NoOp, self)
+    fn listed(self, section: &[u8], at: u64) -> Choices<Self::Kind, Self> {
+        let entries = Self::Kind::entries(self, section, at);
+        choices_of(entries, ppc64::RelaxationKind::NoOp, self)
     }
 }
 
@@ -115,7 +116,7 @@ impl Recognised for X86_64Relocation {
 
     #[inline(always)]
     fn listed(self, section: &[u8], at: u64) -> Choices<Self::Kind, Self> {
-        let entries = x86_64::entries(self, x86_64::opcode_before(section, at));
+        let entries = Self::Kind::entries(self, section, at);
         choices_of(entries, x86_64::RelaxationKind::NoOp, self)
     }
 }

@@ -6,8 +6,8 @@ use super::rewrites::{
 };
 use crate::linker_base::rewrite::has_window;
 use crate::linker_elf::elf::choice_table::{
-    BOUND, ChoiceEntry, ChosenKind, Conditions, EXECUTABLE, FIXED_DISTANCE, GROUP_FITS, MARKED,
-    Originals, all_tables, by_table, conditions, first_entry,
+    BOUND, ChosenByTable, ChosenKind, Conditions, EXECUTABLE, FIXED_DISTANCE, GROUP_FITS, MARKED,
+    Table, all_tables, by_table, choice_by, conditions, is_listed,
 };
 use crate::linker_elf::elf::{Choice, LinkFacts, Operands};
 use crate::linker_elf::loongarch64::{LoongArch64Relocation, LoongArch64Relocation as Names};
@@ -76,11 +76,20 @@ pub enum AskedFor {
     AddTp,
 }
 
-impl Originals<RelaxationKind> for AskedFor {
+impl ChosenKind for RelaxationKind {
+    type Relocation = Names;
+
+    type Originals = AskedFor;
+
     #[inline(always)]
-    fn stand_at(&self, kind: RelaxationKind, section: &[u8], offset: u64) -> bool {
-        match *self {
-            AskedFor::OfRewrite => kind.matches(section, offset),
+    fn none() -> Self {
+        RelaxationKind::NoOp
+    }
+
+    #[inline(always)]
+    fn stand_at(self, originals: &AskedFor, section: &[u8], offset: u64) -> bool {
+        match *originals {
+            AskedFor::OfRewrite => self.matches(section, offset),
             AskedFor::Load(back) => back <= offset && is_load(section, offset - back),
             AskedFor::Sum(back) => back <= offset && is_sum(section, offset - back),
             _ if !has_window(section, offset, 0, 4) => false,
@@ -94,9 +103,7 @@ impl Originals<RelaxationKind> for AskedFor {
             AskedFor::AddTp => word_at(section, offset) >> 10 == 0x422,
         }
     }
-}
 
-impl ChosenKind for RelaxationKind {
     #[inline(always)]
     fn operands_after(self, _offset: u64, operands: &Operands) -> Operands {
         *operands
@@ -225,50 +232,33 @@ macro_rules! choices {
     };
 }
 
-type Table = &'static [ChoiceEntry<AskedFor, RelaxationKind, Names>];
+const TABLES: &[Table<RelaxationKind>] = choices!(all_tables());
 
-const TABLES: &[Table] = choices!(all_tables());
+impl ChosenByTable for RelaxationKind {
+    #[inline(always)]
+    fn is_listed(name: Names) -> bool {
+        choices!(is_listed(name))
+    }
 
-/// The entries of a relocation.
-#[doc(hidden)]
-#[must_use]
-#[inline(always)]
-pub fn entries(name: LoongArch64Relocation) -> Table {
-    choices!(by_table(TABLES, name, table => table))
-}
+    #[inline(always)]
+    fn entries(name: Names, _section: &[u8], _offset: u64) -> Table<Self> {
+        choices!(by_table(TABLES, name, table => table))
+    }
 
-/// The choice by a table of a name.
-#[cfg_attr(not(debug_assertions), inline(always))]
-fn choice_by(
-    table: Table,
-    name: LoongArch64Relocation,
-    section: &[u8],
-    offset: u64,
-    facts: &LinkFacts,
-) -> Choice<RelaxationKind, LoongArch64Relocation> {
-    let unchanged = Choice {
-        kind: RelaxationKind::NoOp,
-        relocation: name,
-    };
-    first_entry(table, section, offset, facts, unchanged)
-}
-
-/// The choice for a relocation that is listed.
-#[inline(never)]
-fn choose_listed(
-    name: LoongArch64Relocation,
-    section: &[u8],
-    offset: u64,
-    facts: &LinkFacts,
-) -> Choice<RelaxationKind, LoongArch64Relocation> {
-    choices!(by_table(TABLES, name, table => choice_by(table, name, section, offset, facts)))
+    #[inline(never)]
+    fn choose_listed(
+        name: Names,
+        section: &[u8],
+        offset: u64,
+        facts: &LinkFacts,
+    ) -> Choice<Self, Names> {
+        choices!(by_table(TABLES, name, table => choice_by(table, name, section, offset, facts)))
+    }
 }
 
 /// Which rewrite a linker may make of the instruction or the pair at a relocation's offset, and the
 /// relocation whose value is then written (LoongArch ELF psABI, relaxation and the sequences of
-/// thread-local storage). It is the first entry of the relocation in the table of choices whose
-/// instructions are there and whose conditions hold, and else `NoOp` and the same relocation, as
-/// for any name that isn't listed and for an offset that isn't in the section.
+/// thread-local storage).
 ///
 /// ```
 /// use linker_utils::elf::{LinkFacts, Operands};
@@ -297,18 +287,11 @@ pub fn choose(
     offset: u64,
     facts: &LinkFacts,
 ) -> Choice<RelaxationKind, LoongArch64Relocation> {
-    if let [] = entries(name) {
-        return Choice {
-            kind: RelaxationKind::NoOp,
-            relocation: name,
-        };
-    }
-    choose_listed(name, section, offset, facts)
+    RelaxationKind::choose(name, section, offset, facts)
 }
 
 /// Whether a relocation can be rewritten, if all others of its sequence can: whether `choose` with
-/// `group_fits` changes it. A linker asks this for each relocation of a sequence before it chooses
-/// for any of them, with the facts of each, and sets `group_fits` only if it is true of all.
+/// `group_fits` changes it.
 ///
 /// ```
 /// use linker_utils::elf::LinkFacts;
@@ -324,12 +307,9 @@ pub fn choose(
 /// assert!(!fits(LoongArch64Relocation::R_LARCH_GOT_PC_HI20, &section, 0, &facts));
 /// ```
 #[must_use]
+#[doc = include_str!("../../doc/choices/fits.md")]
 pub fn fits(name: LoongArch64Relocation, section: &[u8], offset: u64, facts: &LinkFacts) -> bool {
-    let facts = LinkFacts {
-        group_fits: true,
-        ..*facts
-    };
-    !choose(name, section, offset, &facts).is_unchanged(name)
+    RelaxationKind::fits(name, section, offset, facts)
 }
 
 /// With the same facts, except that each has its own place, both relocations of a pair are

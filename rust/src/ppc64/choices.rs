@@ -3,8 +3,8 @@
 
 use super::rewrites::RelaxationKind;
 use crate::linker_elf::elf::choice_table::{
-    BOUND, CHANGED_TOC, ChoiceEntry, ChosenKind, Conditions, EXECUTABLE, FIXED_DISTANCE,
-    GROUP_FITS, Originals, PRIVATE_BASE, all_tables, by_table, conditions, first_entry,
+    BOUND, CHANGED_TOC, ChosenByTable, ChosenKind, Conditions, EXECUTABLE, FIXED_DISTANCE,
+    GROUP_FITS, PRIVATE_BASE, Table, all_tables, by_table, choice_by, conditions, is_listed,
 };
 use crate::linker_elf::elf::{Choice, LinkFacts, Operands};
 use crate::linker_elf::ppc64::{Ppc64Relocation, Ppc64Relocation as Names};
@@ -16,14 +16,21 @@ pub enum AskedFor {
     OfRewrite,
 }
 
-impl Originals<RelaxationKind> for AskedFor {
-    #[inline(always)]
-    fn stand_at(&self, kind: RelaxationKind, section: &[u8], offset: u64) -> bool {
-        kind.matches(section, offset)
-    }
-}
-
 impl ChosenKind for RelaxationKind {
+    type Relocation = Names;
+
+    type Originals = AskedFor;
+
+    #[inline(always)]
+    fn none() -> Self {
+        RelaxationKind::NoOp
+    }
+
+    #[inline(always)]
+    fn stand_at(self, originals: &AskedFor, section: &[u8], offset: u64) -> bool {
+        self.matches(section, offset)
+    }
+
     #[inline(always)]
     fn operands_after(self, _offset: u64, operands: &Operands) -> Operands {
         *operands
@@ -130,53 +137,34 @@ macro_rules! choices {
     };
 }
 
-type Table = &'static [ChoiceEntry<AskedFor, RelaxationKind, Names>];
+const TABLES: &[Table<RelaxationKind>] = choices!(all_tables());
 
-const TABLES: &[Table] = choices!(all_tables());
+impl ChosenByTable for RelaxationKind {
+    #[inline(always)]
+    fn is_listed(name: Names) -> bool {
+        choices!(is_listed(name))
+    }
 
-/// The entries of a relocation.
-#[doc(hidden)]
-#[must_use]
-#[inline(always)]
-pub fn entries(
-    name: Ppc64Relocation,
-) -> &'static [ChoiceEntry<AskedFor, RelaxationKind, Ppc64Relocation>] {
-    choices!(by_table(TABLES, name, table => table))
-}
+    #[inline(always)]
+    fn entries(name: Names, _section: &[u8], _offset: u64) -> Table<Self> {
+        choices!(by_table(TABLES, name, table => table))
+    }
 
-/// The choice by a table of a name.
-#[cfg_attr(not(debug_assertions), inline(always))]
-fn choice_by(
-    table: Table,
-    name: Ppc64Relocation,
-    section: &[u8],
-    offset: u64,
-    facts: &LinkFacts,
-) -> Choice<RelaxationKind, Ppc64Relocation> {
-    let unchanged = Choice {
-        kind: RelaxationKind::NoOp,
-        relocation: name,
-    };
-    first_entry(table, section, offset, facts, unchanged)
-}
-
-/// The choice for a relocation that is listed.
-#[inline(never)]
-fn choose_listed(
-    name: Ppc64Relocation,
-    section: &[u8],
-    offset: u64,
-    facts: &LinkFacts,
-) -> Choice<RelaxationKind, Ppc64Relocation> {
-    choices!(by_table(TABLES, name, table => choice_by(table, name, section, offset, facts)))
+    #[inline(never)]
+    fn choose_listed(
+        name: Names,
+        section: &[u8],
+        offset: u64,
+        facts: &LinkFacts,
+    ) -> Choice<Self, Names> {
+        choices!(by_table(TABLES, name, table => choice_by(table, name, section, offset, facts)))
+    }
 }
 
 /// Which rewrite a linker may make of the instruction at a relocation's offset, and the relocation
 /// whose value is then written (64-bit ELF V2 ABI for Power, "TOC Optimizations" and "TLS Linkage
-/// Optimizations"). It is the first entry of the relocation in the table of choices whose
-/// instructions are there and whose conditions hold, and else `NoOp` and the same relocation, as
-/// for any name that isn't listed and for an offset that isn't in the section. Where TLS becomes
-/// initial-exec, `got_entry` has to be the address of the entry for initial-exec.
+/// Optimizations"). Where TLS becomes initial-exec, `got_entry` has to be the address of the entry
+/// for initial-exec.
 ///
 /// ```
 /// use linker_utils::elf::LinkFacts;
@@ -208,18 +196,11 @@ pub fn choose(
     offset: u64,
     facts: &LinkFacts,
 ) -> Choice<RelaxationKind, Ppc64Relocation> {
-    if let [] = entries(name) {
-        return Choice {
-            kind: RelaxationKind::NoOp,
-            relocation: name,
-        };
-    }
-    choose_listed(name, section, offset, facts)
+    RelaxationKind::choose(name, section, offset, facts)
 }
 
 /// Whether a relocation can be rewritten, if all others of its sequence can: whether `choose` with
-/// `group_fits` changes it. A linker asks this for each relocation of a sequence before it chooses
-/// for any of them, with the facts of each, and sets `group_fits` only if it is true of all.
+/// `group_fits` changes it.
 ///
 /// ```
 /// use linker_utils::elf::LinkFacts;
@@ -236,12 +217,9 @@ pub fn choose(
 /// assert_eq!(fit, [true, true, false]);
 /// ```
 #[must_use]
+#[doc = include_str!("../../doc/choices/fits.md")]
 pub fn fits(name: Ppc64Relocation, section: &[u8], offset: u64, facts: &LinkFacts) -> bool {
-    let facts = LinkFacts {
-        group_fits: true,
-        ..*facts
-    };
-    !choose(name, section, offset, &facts).is_unchanged(name)
+    RelaxationKind::fits(name, section, offset, facts)
 }
 
 /// With the same facts, except that each has its own place, and each at an instruction that its

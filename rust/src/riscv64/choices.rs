@@ -5,9 +5,9 @@ use super::rewrites::{is_add_tp, is_addi_to_a0, is_auipc, is_ld, is_lui, word_at
 use super::{RelaxationKind, RiscVRelocation, RiscVRelocation as Names};
 use crate::linker_base::rewrite::has_window;
 use crate::linker_elf::elf::choice_table::{
-    BOUND, COMPRESSIBLE, ChoiceEntry, ChosenKind, Conditions, EXECUTABLE, FIXED_ADDRESS,
-    FIXED_DISTANCE, GOT_HIGH_PART, LABEL_MARKED, MARKED, Originals, WITHOUT_PLT, all_tables,
-    by_table, conditions, first_entry,
+    BOUND, COMPRESSIBLE, ChosenByTable, ChosenKind, Conditions, EXECUTABLE, FIXED_ADDRESS,
+    FIXED_DISTANCE, GOT_HIGH_PART, LABEL_MARKED, MARKED, Table, WITHOUT_PLT, all_tables, by_table,
+    choice_by, conditions, is_listed,
 };
 use crate::linker_elf::elf::{Choice, LinkFacts, Operands};
 
@@ -22,11 +22,20 @@ pub enum AskedFor {
     AddiToA0,
 }
 
-impl Originals<RelaxationKind> for AskedFor {
+impl ChosenKind for RelaxationKind {
+    type Relocation = Names;
+
+    type Originals = AskedFor;
+
     #[inline(always)]
-    fn stand_at(&self, kind: RelaxationKind, section: &[u8], offset: u64) -> bool {
-        match self {
-            AskedFor::OfRewrite => kind.matches(section, offset),
+    fn none() -> Self {
+        RelaxationKind::NoOp
+    }
+
+    #[inline(always)]
+    fn stand_at(self, originals: &AskedFor, section: &[u8], offset: u64) -> bool {
+        match originals {
+            AskedFor::OfRewrite => self.matches(section, offset),
             _ if !has_window(section, offset, 0, 4) => false,
             AskedFor::Lui => is_lui(word_at(section, offset)),
             AskedFor::AddTp => is_add_tp(word_at(section, offset)),
@@ -35,9 +44,7 @@ impl Originals<RelaxationKind> for AskedFor {
             AskedFor::AddiToA0 => is_addi_to_a0(word_at(section, offset)),
         }
     }
-}
 
-impl ChosenKind for RelaxationKind {
     #[inline(always)]
     fn operands_after(self, _offset: u64, operands: &Operands) -> Operands {
         *operands
@@ -168,49 +175,32 @@ macro_rules! choices {
     };
 }
 
-type Table = &'static [ChoiceEntry<AskedFor, RelaxationKind, Names>];
+const TABLES: &[Table<RelaxationKind>] = choices!(all_tables());
 
-const TABLES: &[Table] = choices!(all_tables());
+impl ChosenByTable for RelaxationKind {
+    #[inline(always)]
+    fn is_listed(name: Names) -> bool {
+        choices!(is_listed(name))
+    }
 
-/// The entries of a relocation.
-#[doc(hidden)]
-#[must_use]
-#[inline(always)]
-pub fn entries(name: RiscVRelocation) -> Table {
-    choices!(by_table(TABLES, name, table => table))
-}
+    #[inline(always)]
+    fn entries(name: Names, _section: &[u8], _offset: u64) -> Table<Self> {
+        choices!(by_table(TABLES, name, table => table))
+    }
 
-/// The choice by a table of a name.
-#[cfg_attr(not(debug_assertions), inline(always))]
-fn choice_by(
-    table: Table,
-    name: RiscVRelocation,
-    section: &[u8],
-    offset: u64,
-    facts: &LinkFacts,
-) -> Choice<RelaxationKind, RiscVRelocation> {
-    let unchanged = Choice {
-        kind: RelaxationKind::NoOp,
-        relocation: name,
-    };
-    first_entry(table, section, offset, facts, unchanged)
-}
-
-/// The choice for a relocation that is listed.
-#[inline(never)]
-fn choose_listed(
-    name: RiscVRelocation,
-    section: &[u8],
-    offset: u64,
-    facts: &LinkFacts,
-) -> Choice<RelaxationKind, RiscVRelocation> {
-    choices!(by_table(TABLES, name, table => choice_by(table, name, section, offset, facts)))
+    #[inline(never)]
+    fn choose_listed(
+        name: Names,
+        section: &[u8],
+        offset: u64,
+        facts: &LinkFacts,
+    ) -> Choice<Self, Names> {
+        choices!(by_table(TABLES, name, table => choice_by(table, name, section, offset, facts)))
+    }
 }
 
 /// Which rewrite a linker may make of the instruction or the pair at a relocation's offset, and the
-/// relocation whose value is then written (RISC-V ELF psABI, "Linker Relaxation"). It is the first
-/// entry of the relocation in the table of choices whose instructions are there and whose
-/// conditions hold, and else `NoOp` and the same relocation.
+/// relocation whose value is then written (RISC-V ELF psABI, "Linker Relaxation").
 ///
 /// ```
 /// use linker_utils::elf::{LinkFacts, Operands};
@@ -249,18 +239,11 @@ pub fn choose(
     offset: u64,
     facts: &LinkFacts,
 ) -> Choice<RelaxationKind, RiscVRelocation> {
-    if let [] = entries(name) {
-        return Choice {
-            kind: RelaxationKind::NoOp,
-            relocation: name,
-        };
-    }
-    choose_listed(name, section, offset, facts)
+    RelaxationKind::choose(name, section, offset, facts)
 }
 
 /// Whether a relocation can be rewritten, if all others of its sequence can: whether `choose` with
-/// `group_fits` changes it. A linker asks this for each relocation of a sequence before it chooses
-/// for any of them, with the facts of each, and sets `group_fits` only if it is true of all.
+/// `group_fits` changes it.
 ///
 /// ```
 /// use linker_utils::elf::LinkFacts;
@@ -281,12 +264,9 @@ pub fn choose(
 /// assert!(!fits(RiscVRelocation::R_RISCV_PCREL_LO12_I, &section, 0, &facts));
 /// ```
 #[must_use]
+#[doc = include_str!("../../doc/choices/fits.md")]
 pub fn fits(name: RiscVRelocation, section: &[u8], offset: u64, facts: &LinkFacts) -> bool {
-    let facts = LinkFacts {
-        group_fits: true,
-        ..*facts
-    };
-    !choose(name, section, offset, &facts).is_unchanged(name)
+    RelaxationKind::fits(name, section, offset, facts)
 }
 
 /// With the same facts, all four relocations of a TLS descriptor are rewritten for local-exec, all

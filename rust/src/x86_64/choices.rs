@@ -4,9 +4,9 @@
 use super::rewrites::{is_lea_of_descriptor, is_legacy};
 use super::{RelaxationKind, X86_64Relocation, X86_64Relocation as Names};
 use crate::linker_elf::elf::choice_table::{
-    BOUND, ChoiceEntry, ChosenKind, Conditions, EXECUTABLE, FIXED_ADDRESS, FIXED_DISTANCE,
-    GROUP_FITS, LOCAL_EXEC_BASE, Originals, WEAK_ZERO, all_tables, by_table, conditions,
-    first_entry, table_of,
+    BOUND, ChosenByTable, ChosenKind, Conditions, EXECUTABLE, FIXED_ADDRESS, FIXED_DISTANCE,
+    GROUP_FITS, LOCAL_EXEC_BASE, Table, WEAK_ZERO, all_tables, by_table, choice_by, conditions,
+    is_listed, table_of,
 };
 use crate::linker_elf::elf::{Choice, LinkFacts, Operands};
 
@@ -22,82 +22,61 @@ pub enum AskedFor {
     LeaOfDescriptor(u8),
 }
 
-impl Originals<RelaxationKind> for AskedFor {
+impl ChosenKind for RelaxationKind {
+    type Relocation = Names;
+
+    type Originals = AskedFor;
+
     #[inline(always)]
-    fn stand_at(&self, kind: RelaxationKind, section: &[u8], offset: u64) -> bool {
-        let are_asked = match *self {
+    fn none() -> Self {
+        RelaxationKind::NoOp
+    }
+
+    #[inline(always)]
+    fn stand_at(self, originals: &AskedFor, section: &[u8], offset: u64) -> bool {
+        let are_asked = match *originals {
             AskedFor::OfRewrite => true,
             AskedFor::Legacy(n, opcode) => is_legacy(section, offset, n, opcode),
             AskedFor::LeaOfDescriptor(n) => is_lea_of_descriptor(section, offset, n),
         };
-        are_asked && kind.matches(section, offset)
+        are_asked && self.matches(section, offset)
     }
-}
 
-impl ChosenKind for RelaxationKind {
     #[inline(always)]
     fn operands_after(self, offset: u64, operands: &Operands) -> Operands {
         let place = operands.place;
-        match self {
+        let place = match self {
+            RelaxationKind::JmpIndirectToRelative => {
+                let before = offset.saturating_sub(1);
+                place.wrapping_add(before).wrapping_sub(offset)
+            }
+            RelaxationKind::TlsLdToLocalExec | RelaxationKind::TlsLdToLocalExecNoPlt => {
+                place.wrapping_add(5)
+            }
+            RelaxationKind::TlsGdToLocalExec | RelaxationKind::TlsGdToInitialExec => {
+                place.wrapping_add(8)
+            }
+            RelaxationKind::TlsGdToLocalExecLarge => place.wrapping_add(9),
+            RelaxationKind::TlsLdToLocalExec64 => place.wrapping_add(15),
+            _ => place,
+        };
+        let addend = match self {
             RelaxationKind::NoOp
             | RelaxationKind::MovIndirectToLea
             | RelaxationKind::CallIndirectToRelative
+            | RelaxationKind::JmpIndirectToRelative
+            | RelaxationKind::TlsLdToLocalExec
+            | RelaxationKind::TlsLdToLocalExecNoPlt
+            | RelaxationKind::TlsLdToLocalExec64
+            | RelaxationKind::TlsGdToInitialExec
             | RelaxationKind::TlsDescToInitialExec
-            | RelaxationKind::SkipTlsDescCall => *operands,
-            RelaxationKind::JmpIndirectToRelative => {
-                let before = offset.saturating_sub(1);
-                Operands {
-                    place: place.wrapping_add(before).wrapping_sub(offset),
-                    ..*operands
-                }
-            }
-            RelaxationKind::TlsGdToLocalExec => {
-                Operands {
-                    place: place.wrapping_add(8),
-                    addend: 0,
-                    ..*operands
-                }
-            }
-            RelaxationKind::TlsGdToLocalExecLarge => {
-                Operands {
-                    place: place.wrapping_add(9),
-                    addend: 0,
-                    ..*operands
-                }
-            }
-            RelaxationKind::TlsGdToInitialExec => {
-                Operands {
-                    place: place.wrapping_add(8),
-                    ..*operands
-                }
-            }
-            RelaxationKind::TlsLdToLocalExec | RelaxationKind::TlsLdToLocalExecNoPlt => {
-                Operands {
-                    place: place.wrapping_add(5),
-                    ..*operands
-                }
-            }
-            RelaxationKind::TlsLdToLocalExec64 => {
-                Operands {
-                    place: place.wrapping_add(15),
-                    ..*operands
-                }
-            }
-            RelaxationKind::MovIndirectToAbsolute
-            | RelaxationKind::RexMovIndirectToAbsolute(_)
-            | RelaxationKind::RexAddIndirectToAbsolute(_)
-            | RelaxationKind::RexSubIndirectToAbsolute(_)
-            | RelaxationKind::RexCmpIndirectToAbsolute(_)
-            | RelaxationKind::TlsDescToLocalExec(_)
-            | RelaxationKind::RexAdcIndirectToAbsolute(_)
-            | RelaxationKind::RexAndIndirectToAbsolute(_)
-            | RelaxationKind::RexOrIndirectToAbsolute(_)
-            | RelaxationKind::RexSbbIndirectToAbsolute(_)
-            | RelaxationKind::RexXorIndirectToAbsolute(_)
-            | RelaxationKind::RexTestIndirectToAbsolute(_) => Operands {
-                addend: 0,
-                ..*operands
-            },
+            | RelaxationKind::SkipTlsDescCall => operands.addend,
+            _ => 0,
+        };
+        Operands {
+            place,
+            addend,
+            ..*operands
         }
     }
 }
@@ -193,13 +172,11 @@ macro_rules! choices {
     };
 }
 
-type Table = &'static [ChoiceEntry<AskedFor, RelaxationKind, Names>];
+const TABLES: &[Table<RelaxationKind>] = choices!(all_tables());
 
-const TABLES: &[Table] = choices!(all_tables());
+const OTHERS: Table<RelaxationKind> = &[];
 
-const OTHERS: Table = &[];
-
-const BRANCH: Table = table_of!([
+const BRANCH: Table<RelaxationKind> = table_of!([
     CallIndirectToRelative => R_X86_64_PC32, DISTANCE;
     JmpIndirectToRelative => R_X86_64_PC32, DISTANCE;
 ]);
@@ -245,15 +222,19 @@ macro_rules! operations {
     };
 }
 
-const GOT_2: &[Table; 10] = &operations!(2, MovIndirectToAbsolute => R_X86_64_32);
+const GOT_2: &[Table<RelaxationKind>; 10] = &operations!(2, MovIndirectToAbsolute => R_X86_64_32);
 
-const GOT_3: &[Table; 10] = &operations!(3, RexMovIndirectToAbsolute(3) => R_X86_64_32S);
+const GOT_3: &[Table<RelaxationKind>; 10] =
+    &operations!(3, RexMovIndirectToAbsolute(3) => R_X86_64_32S);
 
-const GOT_4: &[Table; 10] = &operations!(4, RexMovIndirectToAbsolute(4) => R_X86_64_32S);
+const GOT_4: &[Table<RelaxationKind>; 10] =
+    &operations!(4, RexMovIndirectToAbsolute(4) => R_X86_64_32S);
 
-const GOT_5: &[Table; 10] = &operations!(5, RexMovIndirectToAbsolute(5) => R_X86_64_32S);
+const GOT_5: &[Table<RelaxationKind>; 10] =
+    &operations!(5, RexMovIndirectToAbsolute(5) => R_X86_64_32S);
 
-const GOT_6: &[Table; 10] = &operations!(6, RexMovIndirectToAbsolute(6) => R_X86_64_32S);
+const GOT_6: &[Table<RelaxationKind>; 10] =
+    &operations!(6, RexMovIndirectToAbsolute(6) => R_X86_64_32S);
 
 /// The entries of initial-exec accesses, by the count of the bytes before the field.
 macro_rules! accesses {
@@ -265,13 +246,13 @@ macro_rules! accesses {
     };
 }
 
-const GOTTPOFF_3: &[Table; 2] = &accesses!(3);
+const GOTTPOFF_3: &[Table<RelaxationKind>; 2] = &accesses!(3);
 
-const GOTTPOFF_4: &[Table; 2] = &accesses!(4);
+const GOTTPOFF_4: &[Table<RelaxationKind>; 2] = &accesses!(4);
 
-const GOTTPOFF_5: &[Table; 2] = &accesses!(5);
+const GOTTPOFF_5: &[Table<RelaxationKind>; 2] = &accesses!(5);
 
-const GOTTPOFF_6: &[Table; 2] = &accesses!(6);
+const GOTTPOFF_6: &[Table<RelaxationKind>; 2] = &accesses!(6);
 
 /// What the table of an operation is used for, or with `access` that of an initial-exec access.
 macro_rules! by_opcode {
@@ -315,59 +296,62 @@ macro_rules! by_tables {
 }
 
 /// The entries of a relocation, by the opcode, which is two bytes before the field.
-#[doc(hidden)]
-#[must_use]
 #[inline(always)]
-pub fn entries(name: X86_64Relocation, opcode: u8) -> Table {
+fn entries_by(name: Names, opcode: u8) -> Table<RelaxationKind> {
     by_tables!(name, opcode, table => table)
 }
 
 /// The choice by a table of a name and an opcode.
 #[cfg_attr(not(debug_assertions), inline(always))]
-fn choice_by(
-    table: Table,
-    name: X86_64Relocation,
+fn choice_by_opcode(
+    table: Table<RelaxationKind>,
+    name: Names,
     opcode: u8,
     section: &[u8],
     offset: u64,
     facts: &LinkFacts,
-) -> Choice<RelaxationKind, X86_64Relocation> {
-    let unchanged = Choice {
-        kind: RelaxationKind::NoOp,
-        relocation: name,
-    };
-    first_entry(table, section, offset, facts, unchanged)
+) -> Choice<RelaxationKind, Names> {
+    choice_by(table, name, section, offset, facts)
 }
 
 /// The byte two before an offset, which is the opcode of an instruction whose field is there.
-#[doc(hidden)]
-#[must_use]
 #[inline(always)]
-pub fn opcode_before(section: &[u8], offset: u64) -> u8 {
+fn opcode_before(section: &[u8], offset: u64) -> u8 {
     section
         .get(offset.saturating_sub(2) as usize)
         .copied()
         .unwrap_or(0)
 }
 
-/// The choice for a relocation that is listed.
-#[inline(never)]
-fn choose_listed(
-    name: X86_64Relocation,
-    section: &[u8],
-    offset: u64,
-    facts: &LinkFacts,
-) -> Choice<RelaxationKind, X86_64Relocation> {
-    let opcode = opcode_before(section, offset);
-    by_tables!(name, opcode, table => choice_by(table, name, opcode, section, offset, facts))
+impl ChosenByTable for RelaxationKind {
+    #[inline(always)]
+    fn is_listed(name: Names) -> bool {
+        // a relocation with a table of one of several opcodes has one of this
+        !matches!(entries_by(name, 0x8b), [])
+    }
+
+    #[inline(always)]
+    fn entries(name: Names, section: &[u8], offset: u64) -> Table<Self> {
+        entries_by(name, opcode_before(section, offset))
+    }
+
+    #[inline(never)]
+    fn choose_listed(
+        name: Names,
+        section: &[u8],
+        offset: u64,
+        facts: &LinkFacts,
+    ) -> Choice<Self, Names> {
+        let opcode = opcode_before(section, offset);
+        by_tables!(name, opcode, table
+            => choice_by_opcode(table, name, opcode, section, offset, facts))
+    }
 }
 
 /// The rewrite that a linker makes of the instruction or the sequence with a relocation, and the
 /// relocation whose value it then writes (x86-64 psABI, "Optimize GOTPCRELX Relocations" and "ELF
-/// Handling For Thread-Local Storage"). It is the first entry of the relocation in the table of
-/// choices whose instructions are there and whose conditions hold, and else `NoOp` and the same
-/// relocation. The offset is that of the relocation in the section. Any bytes and any offset may be
-/// passed, and the rewrite can be applied there.
+/// Handling For Thread-Local Storage"). The offset is that of the relocation in the section. Any
+/// bytes and any offset may be passed, and the rewrite can be applied there.
 ///
 /// ```
 /// use linker_utils::elf::{LinkFacts, Operands};
@@ -408,19 +392,11 @@ pub fn choose(
     offset: u64,
     facts: &LinkFacts,
 ) -> Choice<RelaxationKind, X86_64Relocation> {
-    // a relocation with a table of one of several opcodes has one of this
-    if let [] = entries(name, 0x8b) {
-        return Choice {
-            kind: RelaxationKind::NoOp,
-            relocation: name,
-        };
-    }
-    choose_listed(name, section, offset, facts)
+    RelaxationKind::choose(name, section, offset, facts)
 }
 
 /// Whether a relocation can be rewritten, if all others of its sequence can: whether `choose` with
-/// `group_fits` changes it. A linker asks this for each relocation of a sequence before it chooses
-/// for any of them, with the facts of each, and sets `group_fits` only if it is true of all.
+/// `group_fits` changes it.
 ///
 /// ```
 /// use linker_utils::elf::{LinkFacts, Operands};
@@ -437,10 +413,7 @@ pub fn choose(
 /// assert!(!fits(X86_64Relocation::R_X86_64_TLSDESC_CALL, &[0xff, 0x11], 0, &facts));
 /// ```
 #[must_use]
+#[doc = include_str!("../../doc/choices/fits.md")]
 pub fn fits(name: X86_64Relocation, section: &[u8], offset: u64, facts: &LinkFacts) -> bool {
-    let facts = LinkFacts {
-        group_fits: true,
-        ..*facts
-    };
-    !choose(name, section, offset, &facts).is_unchanged(name)
+    RelaxationKind::fits(name, section, offset, facts)
 }

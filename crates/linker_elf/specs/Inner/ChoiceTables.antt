@@ -1,7 +1,7 @@
 -- Entries of the tables of choices, as the code has them.
 use Rattle.std.specs.Prelude.{◌≡◌, ◌==◌, ◌++◌, ◌⊎◌, ◌↔◌, ℕ, ℤ, ⊤, Bool, not, ◌&&◌, ◌||◌, bit_and}
-use Rattle.std.specs.Prelude.{if◌then◌else◌, List, [], ◌∷◌, Option, None, Some, suc, zero}
-use Rattle.linker_elf.specs.Choices.{Condition, Entry, entry, choice, Applies, AllHold}
+use Rattle.std.specs.Prelude.{if◌then◌else◌, List, [], ◌∷◌, Option, None, Some, suc, zero, IsTrue}
+use Rattle.linker_elf.specs.Choices.{Condition, Entry, entry, choice, Applies, AllHold, IsFirst}
 use Rattle.linker_elf.specs.Choices.{bound, weak_zero, fixed_address, fixed_distance, executable}
 use Rattle.linker_elf.specs.Choices.{local_exec_base, compressible, marked, label_marked}
 use Rattle.linker_elf.specs.Choices.{got_high_part, private_base, changed_toc, without_plt}
@@ -131,3 +131,30 @@ IsTableOf are_at Asked [] [] = ⊤
 IsTableOf are_at Asked (e ∷ es) (d ∷ ds) =
     (entry_of e ≡ d) × (AreAsked are_at Asked e.originals e.kind × IsTableOf are_at Asked es ds)
 IsTableOf are_at Asked es ds = ⊥
+
+-- ---- what an architecture brings
+
+-- The tables of choices of an architecture. K are its rewrites, R the names of its relocations.
+pub record Tables (K R : Type 0) : Type 1 where
+  -- the entries of a relocation at an offset of a section
+  pub entries : R → List ℕ → ℕ → List (Entry K R)
+  -- what these require at an offset of a section, for a rewrite
+  pub required : R → List ℕ → ℕ → K → List ℕ → ℕ → Type 0
+  -- the operands after a rewrite, at an offset
+  pub after : K → ℕ → Operands → Operands
+  -- the rewrite that changes nothing
+  pub no_op : K
+
+-- The choice at a relocation: that of the first of its entries that applies, and else to leave the
+-- instruction and the relocation.
+abbrev pub IsChoice : {K R : Type 0} → Tables K R → (R → Option RelocationKindInfo) → R → List ℕ → ℕ
+    → LinkFacts → Choice K R → Type 0
+IsChoice it row name section o facts chosen =
+    IsFirst (Applies (it.required name section o) row it.after section o facts)
+    (it.entries name section o) (choice it.no_op name) chosen
+
+-- what changes nothing is equal to one rewrite, and `==` of relocations' names is equality
+pub record AreEqualities {K R : Type 0} (no_op : K) (IsNoOp : K → Type 0) (equal : R → R → Bool)
+    : Type 0 where
+  pub kinds : (kind : K) → IsNoOp kind ↔ (kind ≡ no_op)
+  pub names : (a b : R) → IsTrue (equal a b) ↔ (a ≡ b)

@@ -1,17 +1,18 @@
 //! Tables of the rewrites that a linker chooses.
 
-ghost use Rattle.std.specs.Prelude.{◌≡◌, ◌↔◌, ◌≤◌, ℕ, List, Option, IsTrue, IfSome, length};
-ghost use Rattle.linker_elf.specs.Choices.{Holds};
+ghost use Rattle.std.specs.Prelude.{◌≡◌, ◌↔◌, ◌≤◌, ℕ, List, [], Option, IsTrue, IfSome, false, length};
+ghost use Rattle.linker_elf.specs.Choices.{Fits, Holds, choice};
 ghost use Rattle.linker_elf.specs.Inner.ChoiceTables.{is_held, facts_hold, value_condition};
 ghost use Rattle.linker_elf.specs.Inner.ChoiceTables.{ValuesHold, EntryApplies, IsFirstOf, IsChoiceAt};
+ghost use Rattle.linker_elf.specs.Inner.ChoiceTables.{IsTableOf, Tables, IsChoice, AreEqualities};
 ghost use Rattle.linker_elf.specs.declared.elf.RelocationKindInfo.{RelocationKindInfo};
 ghost use Rattle.linker_elf.specs.declared.elf.value.Operands.{Operands};
 
-use crate::elf::{Choice, LinkFacts, Operands, Row};
+use crate::elf::{Choice, InstructionRewrite, LinkFacts, Operands, Row};
 
 /// The definition in this output is what is used at run time, and is no indirect function: `is_local`
 /// and not `is_ifunc`. This and the constants below are the facts of `LinkFacts` that an entry may
-/// ask for, each a bit of a mask.
+/// require, each a bit of a mask.
 pub const BOUND: u32 = 1 << 0;
 
 /// `is_undefined_weak`.
@@ -53,7 +54,7 @@ pub const WITHOUT_PLT: u32 = 1 << 12;
 /// `group_fits`.
 pub const GROUP_FITS: u32 = 1 << 13;
 
-/// What an entry asks of the value of a relocation, so many bytes before the place, or of S + A.
+/// What an entry requires of the value of a relocation, so many bytes before the place, or of S + A.
 #[derive(Clone, Copy)]
 pub enum ValueCondition<R> {
     /// S + A is known, and is a number of 12 bits in two's complement.
@@ -68,7 +69,7 @@ pub enum ValueCondition<R> {
     WithinIfKnown(R, (i64, i64), u64),
 }
 
-/// What an entry asks of what the linker knows.
+/// What an entry requires of what the linker knows.
 pub struct Conditions<R: 'static> {
     /// The facts that have to hold.
     pub facts: u32,
@@ -100,27 +101,99 @@ pub trait RelocationName: Copy {
         ensures { result ≡ row_of self };
 }
 
-/// A rewrite of an architecture.
-pub trait ChosenKind: Copy {
-    // the operands after it, at an offset
-    ghost after: { Self → ℕ → Operands → Operands };
+/// The rewrites of an architecture, as entries of its tables have them.
+pub trait ChosenKind: InstructionRewrite {
+    /// The names of its relocations.
+    type Relocation: RelocationName + PartialEq;
+
+    /// The instructions that an entry may be for.
+    type Originals;
+
+    // where they are in a section, for a rewrite
+    ghost are_at: { Self.Originals → Self → List ℕ → ℕ → Type 0 };
+
+    // the tables
+    ghost tables: { Tables Self Self.Relocation };
+
+    /// `NoOp`.
+    fn none() -> Self
+        ensures { result ≡ tables.no_op };
+
+    /// Whether the instructions that an entry with this rewrite is for are at an offset of a section.
+    fn stand_at(self, originals: &Self::Originals, section: &[u8], offset: u64) -> bool
+        ensures { IsTrue result ↔ are_at originals.now self section.now offset };
 
     /// The operands of the relocation after the rewrite at an offset, from those before it.
     fn operands_after(self, offset: u64, operands: &Operands) -> Operands
-        ensures { result ≡ after self offset operands.now };
+        ensures { result ≡ tables.after self offset operands.now };
+
+    // only `NoOp` changes nothing, and `==` of names is equality
+    ghost laws: { AreEqualities tables.no_op Self.no_op Self.Relocation.eq };
 }
 
-/// The instructions that an entry is for.
-pub trait Originals<K> {
-    // where they are in a section
-    ghost are_at: { Self → K → List ℕ → ℕ → Type 0 };
+/// The entries of a relocation of an architecture.
+pub type Table<K> = &'static [ChoiceEntry<
+    <K as ChosenKind>::Originals,
+    K,
+    <K as ChosenKind>::Relocation,
+>];
 
-    /// Whether they are at an offset of a section, where the entry has a rewrite.
-    fn stand_at(&self, kind: K, section: &[u8], offset: u64) -> bool
-        ensures { IsTrue result ↔ are_at self.now kind section.now offset };
+/// The rewrites of an architecture, which are chosen by tables.
+pub trait ChosenByTable: ChosenKind {
+    /// Whether a relocation may have entries.
+    fn is_listed(name: Self::Relocation) -> bool
+        ensures { (result ≡ false) → (section : List ℕ) (o : ℕ)
+            → Self.tables.entries name section o ≡ [] };
+
+    /// The entries of a relocation at an offset of a section.
+    fn entries(name: Self::Relocation, section: &[u8], offset: u64) -> Table<Self>
+        ensures table { IsTableOf Self.are_at (Self.tables.required name section.now offset)
+            result.now (Self.tables.entries name section.now offset) }
+        ensures few { length result.now ≤ 5 };
+
+    /// The choice for a relocation that is listed: `choice_by` of its table, which is a constant in an
+    /// arm for each name.
+    fn choose_listed(
+        name: Self::Relocation,
+        section: &[u8],
+        offset: u64,
+        facts: &LinkFacts,
+    ) -> Choice<Self, Self::Relocation>
+        ensures { IsChoice Self.tables Self.Relocation.row_of name section.now offset facts.now
+            result };
+
+    /// The choice for a relocation. It is inlined, so that one that isn't listed costs no call.
+    #[inline(always)]
+    fn choose(
+        name: Self::Relocation,
+        section: &[u8],
+        offset: u64,
+        facts: &LinkFacts,
+    ) -> Choice<Self, Self::Relocation>
+        ensures { IsChoice Self.tables Self.Relocation.row_of name section.now offset facts.now
+            result }
+    {
+        if Self::is_listed(name) {
+            Self::choose_listed(name, section, offset, facts)
+        } else {
+            unchanged(name)
+        }
+    }
+
+    /// Whether `choose` with `group_fits` changes a relocation.
+    fn fits(name: Self::Relocation, section: &[u8], offset: u64, facts: &LinkFacts) -> bool
+        ensures { IsTrue result ↔ Fits (IsChoice Self.tables Self.Relocation.row_of name
+            section.now offset) (choice Self.tables.no_op name) facts.now }
+    {
+        let facts = LinkFacts {
+            group_fits: true,
+            ..*facts
+        };
+        !Self::choose(name, section, offset, &facts).is_unchanged(name)
+    }
 }
 
-/// Whether a fact holds, if it is asked for.
+/// Whether a fact holds, if a mask has its bit.
 #[inline(always)]
 fn is_held(asked: u32, fact: u32, holds: bool) -> bool
     ensures { result ≡ is_held asked fact holds }
@@ -210,7 +283,7 @@ fn all_hold<R: RelocationName>(
     }
 }
 
-/// Whether the addend is the one that is asked for, if any.
+/// Whether the addend is the required one, if any.
 #[inline(always)]
 fn has_addend(addend: Option<i64>, facts: &LinkFacts) -> bool
     ensures { IsTrue result ↔ IfSome addend (λ a. facts.now.operands.addend ≡ a) }
@@ -221,43 +294,46 @@ fn has_addend(addend: Option<i64>, facts: &LinkFacts) -> bool
     }
 }
 
-impl<O: Originals<K>, K: ChosenKind, R: RelocationName> ChoiceEntry<O, K, R> {
-    /// Whether its instructions are at an offset of a section, and its conditions hold.
-    #[inline(always)]
-    fn applies(&self, section: &[u8], offset: u64, facts: &LinkFacts) -> bool
-        ensures { IsTrue result ↔ EntryApplies O.are_at R.row_of K.after section.now offset
-            facts.now self.now }
-    {
-        let conditions = &self.conditions;
-        if !facts.hold(conditions.facts) {
-            return false;
-        }
-        if !has_addend(conditions.addend, facts) {
-            return false;
-        }
-        if !self.originals.stand_at(self.kind, section, offset) {
-            return false;
-        }
-        let after = self.kind.operands_after(offset, &facts.operands);
-        all_hold(conditions.values, facts, &after)
+/// Whether an entry's instructions are at an offset of a section, and its conditions hold.
+#[inline(always)]
+fn applies<K: ChosenKind>(
+    entry: &'static ChoiceEntry<K::Originals, K, K::Relocation>,
+    section: &[u8],
+    offset: u64,
+    facts: &LinkFacts,
+) -> bool
+    ensures { IsTrue result ↔ EntryApplies K.are_at K.Relocation.row_of K.tables.after section.now
+        offset facts.now entry.now }
+{
+    let conditions = &entry.conditions;
+    if !facts.hold(conditions.facts) {
+        return false;
     }
+    if !has_addend(conditions.addend, facts) {
+        return false;
+    }
+    if !entry.kind.stand_at(&entry.originals, section, offset) {
+        return false;
+    }
+    let after = entry.kind.operands_after(offset, &facts.operands);
+    all_hold(conditions.values, facts, &after)
 }
 
 /// The choice of the entry with an index, if there is one and it applies.
 #[inline(always)]
-fn choice_at<O: Originals<K>, K: ChosenKind, R: RelocationName>(
-    entries: &'static [ChoiceEntry<O, K, R>],
+fn choice_at<K: ChosenKind>(
+    entries: Table<K>,
     index: usize,
     section: &[u8],
     offset: u64,
     facts: &LinkFacts,
-) -> Option<Choice<K, R>>
-    ensures { IsChoiceAt (EntryApplies O.are_at R.row_of K.after section.now offset facts.now)
+) -> Option<Choice<K, K::Relocation>>
+    ensures { IsChoiceAt (EntryApplies K.are_at K.Relocation.row_of K.tables.after section.now offset facts.now)
         entries.now index result }
 {
     if index < entries.len() {
         let entry = &entries[index];
-        if entry.applies(section, offset, facts) {
+        if applies(entry, section, offset, facts) {
             return Some(Choice {
                 kind: entry.kind,
                 relocation: entry.relocation,
@@ -267,19 +343,30 @@ fn choice_at<O: Originals<K>, K: ChosenKind, R: RelocationName>(
     None
 }
 
-/// The choice of the first entry that applies, and else another. Of a constant table the compiler
-/// leaves the tests that its entries ask for: so it is inlined, and has no loop.
+/// The choice that leaves the instruction and the relocation.
 #[inline(always)]
-pub fn first_entry<O: Originals<K>, K: ChosenKind, R: RelocationName>(
-    entries: &'static [ChoiceEntry<O, K, R>],
+fn unchanged<K: ChosenKind>(relocation: K::Relocation) -> Choice<K, K::Relocation>
+    ensures { result ≡ choice K.tables.no_op relocation }
+{
+    Choice {
+        kind: K::none(),
+        relocation,
+    }
+}
+
+/// The choice of the first entry that applies, and else another. Of a constant table the compiler
+/// leaves the tests that its entries require: so it is inlined, and has no loop.
+#[inline(always)]
+fn first_entry<K: ChosenKind>(
+    entries: Table<K>,
     section: &[u8],
     offset: u64,
     facts: &LinkFacts,
-    otherwise: Choice<K, R>,
-) -> Choice<K, R>
+    otherwise: Choice<K, K::Relocation>,
+) -> Choice<K, K::Relocation>
     requires { length entries.now ≤ 5 }
-    ensures { IsFirstOf (EntryApplies O.are_at R.row_of K.after section.now offset facts.now)
-        entries.now otherwise result }
+    ensures { IsFirstOf (EntryApplies K.are_at K.Relocation.row_of K.tables.after section.now offset
+        facts.now) entries.now otherwise result }
 {
     if let Some(chosen) = choice_at(entries, 0, section, offset, facts) {
         return chosen;
@@ -299,9 +386,34 @@ pub fn first_entry<O: Originals<K>, K: ChosenKind, R: RelocationName>(
     otherwise
 }
 
+/// The choice by the entries of a relocation.
+#[inline(always)]
+pub fn choice_by<K: ChosenKind>(
+    entries: Table<K>,
+    name: K::Relocation,
+    section: &[u8],
+    offset: u64,
+    facts: &LinkFacts,
+) -> Choice<K, K::Relocation>
+    requires table { IsTableOf K.are_at (K.tables.required name section.now offset) entries.now
+        (K.tables.entries name section.now offset) }
+    requires few { length entries.now ≤ 5 }
+    ensures { IsChoice K.tables K.Relocation.row_of name section.now offset facts.now result }
+{
+    first_entry(entries, section, offset, facts, unchanged(name))
+}
+
 // The macros below make an architecture's tables of its `choices!`, which lists for each relocation,
 // or for several with `|` between, its entries in brackets. The module that calls them has the enums
 // `RelaxationKind`, `AskedFor` and, by the name `Names`, that of the relocations.
+
+/// Whether a name is listed.
+#[macro_export]
+macro_rules! is_listed {
+    (($name:expr) $($($listed:ident)|+: $entries:tt)*) => {
+        matches!($name, $($(Names::$listed)|+)|*)
+    };
+}
 
 /// Conditions: facts, the addend, and what holds of values, each as a `ValueCondition` with the name
 /// of a relocation.
@@ -391,5 +503,6 @@ macro_rules! by_table {
 pub use all_tables;
 pub use by_table;
 pub use conditions;
+pub use is_listed;
 pub use originals;
 pub use table_of;

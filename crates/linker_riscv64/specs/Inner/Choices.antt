@@ -1,11 +1,14 @@
 -- The instructions that the entries of RISC-V's tables of choices are for.
 use Rattle.std.specs.Prelude.{ℕ, List}
+use Rattle.linker_elf.specs.Inner.ChoiceTables.{Tables}
 use Rattle.linker_elf.specs.Originals.{HasWord}
 use Rattle.linker_riscv64.specs.RiscVRewrites.{riscv_matches, IsLui, IsAuipc, IsLd, IsAddTp}
-use Rattle.linker_riscv64.specs.RiscVRewrites.{IsAddiToA0}
+use Rattle.linker_riscv64.specs.RiscVRewrites.{IsAddiToA0, IsAskedFor, riscv_entries}
 use Rattle.linker_riscv64.specs.declared.choices.AskedFor.{AskedFor}
 use Rattle.linker_riscv64.specs.declared.choices.AskedFor.TheVariants as originals
 use Rattle.linker_riscv64.specs.declared.rewrites.RelaxationKind.{RelaxationKind}
+use Rattle.linker_riscv64.specs.declared.rewrites.RelaxationKind.TheVariants as kinds
+use Rattle.linker_elf.specs.declared.riscv64.relocations.RiscVRelocation.{RiscVRelocation}
 
 -- what an entry with a rewrite is for is at an offset of a section
 abbrev pub IsThere : AskedFor → RelaxationKind → List ℕ → ℕ → Type 0
@@ -15,3 +18,13 @@ IsThere originals.AddTp kind section o = HasWord section o IsAddTp
 IsThere originals.Auipc kind section o = HasWord section o IsAuipc
 IsThere originals.Ld kind section o = HasWord section o IsLd
 IsThere originals.AddiToA0 kind section o = HasWord section o IsAddiToA0
+
+-- the tables; no rewrite moves the place or changes the addend
+abbrev pub riscv_tables : Tables RelaxationKind RiscVRelocation
+riscv_tables =
+    record {
+      entries = λ name section o. riscv_entries name;
+      required = λ name at p. IsAskedFor name;
+      after = λ kind o operands. operands;
+      no_op = kinds.NoOp;
+    }

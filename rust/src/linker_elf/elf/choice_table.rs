@@ -1,11 +1,11 @@
 // Made by tools/erase of crates/linker_elf/src/elf/choice_table.rt.
 //! Tables of the rewrites that a linker chooses.
 
-use crate::linker_elf::elf::{Choice, LinkFacts, Operands, Row};
+use crate::linker_elf::elf::{Choice, InstructionRewrite, LinkFacts, Operands, Row};
 
 /// The definition in this output is what is used at run time, and is no indirect function: `is_local`
 /// and not `is_ifunc`. This and the constants below are the facts of `LinkFacts` that an entry may
-/// ask for, each a bit of a mask.
+/// require, each a bit of a mask.
 pub const BOUND: u32 = 1 << 0;
 
 /// `is_undefined_weak`.
@@ -47,7 +47,7 @@ pub const WITHOUT_PLT: u32 = 1 << 12;
 /// `group_fits`.
 pub const GROUP_FITS: u32 = 1 << 13;
 
-/// What an entry asks of the value of a relocation, so many bytes before the place, or of S + A.
+/// What an entry requires of the value of a relocation, so many bytes before the place, or of S + A.
 #[derive(Clone, Copy)]
 pub enum ValueCondition<R> {
     /// S + A is known, and is a number of 12 bits in two's complement.
@@ -62,7 +62,7 @@ pub enum ValueCondition<R> {
     WithinIfKnown(R, (i64, i64), u64),
 }
 
-/// What an entry asks of what the linker knows.
+/// What an entry requires of what the linker knows.
 pub struct Conditions<R: 'static> {
     /// The facts that have to hold.
     pub facts: u32,
@@ -92,23 +92,84 @@ pub trait RelocationName: Copy {
     fn find_row(self) -> Option<Row>;
 }
 
-/// A rewrite of an architecture.
+/// The rewrites of an architecture, as entries of its tables have them.
 #[doc(hidden)]
-pub trait ChosenKind: Copy {
+pub trait ChosenKind: InstructionRewrite {
+    /// The names of its relocations.
+    type Relocation: RelocationName + PartialEq;
+
+    /// The instructions that an entry may be for.
+    type Originals;
+
+    /// `NoOp`.
+    #[must_use]
+    fn none() -> Self;
+
+    /// Whether the instructions that an entry with this rewrite is for are at an offset of a section.
+    #[must_use]
+    fn stand_at(self, originals: &Self::Originals, section: &[u8], offset: u64) -> bool;
+
     /// The operands of the relocation after the rewrite at an offset, from those before it.
     #[must_use]
     fn operands_after(self, offset: u64, operands: &Operands) -> Operands;
 }
 
-/// The instructions that an entry is for.
+/// The entries of a relocation of an architecture.
+pub type Table<K> = &'static [ChoiceEntry<
+    <K as ChosenKind>::Originals,
+    K,
+    <K as ChosenKind>::Relocation,
+>];
+
+/// The rewrites of an architecture, which are chosen by tables.
 #[doc(hidden)]
-pub trait Originals<K> {
-    /// Whether they are at an offset of a section, where the entry has a rewrite.
+pub trait ChosenByTable: ChosenKind {
+    /// Whether a relocation may have entries.
     #[must_use]
-    fn stand_at(&self, kind: K, section: &[u8], offset: u64) -> bool;
+    fn is_listed(name: Self::Relocation) -> bool;
+
+    /// The entries of a relocation at an offset of a section.
+    #[must_use]
+    fn entries(name: Self::Relocation, section: &[u8], offset: u64) -> Table<Self>;
+
+    /// The choice for a relocation that is listed: `choice_by` of its table, which is a constant in an
+    /// arm for each name.
+    #[must_use]
+    fn choose_listed(
+        name: Self::Relocation,
+        section: &[u8],
+        offset: u64,
+        facts: &LinkFacts,
+    ) -> Choice<Self, Self::Relocation>;
+
+    /// The choice for a relocation. It is inlined, so that one that isn't listed costs no call.
+    #[must_use]
+    #[inline(always)]
+    fn choose(
+        name: Self::Relocation,
+        section: &[u8],
+        offset: u64,
+        facts: &LinkFacts,
+    ) -> Choice<Self, Self::Relocation> {
+        if Self::is_listed(name) {
+            Self::choose_listed(name, section, offset, facts)
+        } else {
+            unchanged(name)
+        }
+    }
+
+    /// Whether `choose` with `group_fits` changes a relocation.
+    #[must_use]
+    fn fits(name: Self::Relocation, section: &[u8], offset: u64, facts: &LinkFacts) -> bool {
+        let facts = LinkFacts {
+            group_fits: true,
+            ..*facts
+        };
+        !Self::choose(name, section, offset, &facts).is_unchanged(name)
+    }
 }
 
-/// Whether a fact holds, if it is asked for.
+/// Whether a fact holds, if a mask has its bit.
 #[inline(always)]
 fn is_held(asked: u32, fact: u32, holds: bool) -> bool {
     asked & fact == 0 || holds
@@ -187,7 +248,7 @@ fn all_hold<R: RelocationName>(
     }
 }
 
-/// Whether the addend is the one that is asked for, if any.
+/// Whether the addend is the required one, if any.
 #[inline(always)]
 fn has_addend(addend: Option<i64>, facts: &LinkFacts) -> bool {
     match addend {
@@ -196,37 +257,40 @@ fn has_addend(addend: Option<i64>, facts: &LinkFacts) -> bool {
     }
 }
 
-impl<O: Originals<K>, K: ChosenKind, R: RelocationName> ChoiceEntry<O, K, R> {
-    /// Whether its instructions are at an offset of a section, and its conditions hold.
-    #[inline(always)]
-    fn applies(&self, section: &[u8], offset: u64, facts: &LinkFacts) -> bool {
-        let conditions = &self.conditions;
-        if !facts.hold(conditions.facts) {
-            return false;
-        }
-        if !has_addend(conditions.addend, facts) {
-            return false;
-        }
-        if !self.originals.stand_at(self.kind, section, offset) {
-            return false;
-        }
-        let after = self.kind.operands_after(offset, &facts.operands);
-        all_hold(conditions.values, facts, &after)
+/// Whether an entry's instructions are at an offset of a section, and its conditions hold.
+#[inline(always)]
+fn applies<K: ChosenKind>(
+    entry: &'static ChoiceEntry<K::Originals, K, K::Relocation>,
+    section: &[u8],
+    offset: u64,
+    facts: &LinkFacts,
+) -> bool {
+    let conditions = &entry.conditions;
+    if !facts.hold(conditions.facts) {
+        return false;
     }
+    if !has_addend(conditions.addend, facts) {
+        return false;
+    }
+    if !entry.kind.stand_at(&entry.originals, section, offset) {
+        return false;
+    }
+    let after = entry.kind.operands_after(offset, &facts.operands);
+    all_hold(conditions.values, facts, &after)
 }
 
 /// The choice of the entry with an index, if there is one and it applies.
 #[cfg_attr(not(debug_assertions), inline(always))]
-fn choice_at<O: Originals<K>, K: ChosenKind, R: RelocationName>(
-    entries: &'static [ChoiceEntry<O, K, R>],
+fn choice_at<K: ChosenKind>(
+    entries: Table<K>,
     index: usize,
     section: &[u8],
     offset: u64,
     facts: &LinkFacts,
-) -> Option<Choice<K, R>> {
+) -> Option<Choice<K, K::Relocation>> {
     if index < entries.len() {
         let entry = &entries[index];
-        if entry.applies(section, offset, facts) {
+        if applies(entry, section, offset, facts) {
             return Some(Choice {
                 kind: entry.kind,
                 relocation: entry.relocation,
@@ -236,23 +300,25 @@ fn choice_at<O: Originals<K>, K: ChosenKind, R: RelocationName>(
     None
 }
 
-/// The choice of the first entry that applies, and else another. Of a constant table the compiler
-/// leaves the tests that its entries ask for: so it is inlined, and has no loop.
-///
-/// # Requires
-///
-/// - `entries.len() <= 5`
-#[must_use]
-#[cfg_attr(debug_assertions, track_caller)]
+/// The choice that leaves the instruction and the relocation.
 #[inline(always)]
-pub fn first_entry<O: Originals<K>, K: ChosenKind, R: RelocationName>(
-    entries: &'static [ChoiceEntry<O, K, R>],
+fn unchanged<K: ChosenKind>(relocation: K::Relocation) -> Choice<K, K::Relocation> {
+    Choice {
+        kind: K::none(),
+        relocation,
+    }
+}
+
+/// The choice of the first entry that applies, and else another. Of a constant table the compiler
+/// leaves the tests that its entries require: so it is inlined, and has no loop.
+#[cfg_attr(not(debug_assertions), inline(always))]
+fn first_entry<K: ChosenKind>(
+    entries: Table<K>,
     section: &[u8],
     offset: u64,
     facts: &LinkFacts,
-    otherwise: Choice<K, R>,
-) -> Choice<K, R> {
-    debug_assert!(entries.len() <= 5);
+    otherwise: Choice<K, K::Relocation>,
+) -> Choice<K, K::Relocation> {
     if let Some(chosen) = choice_at(entries, 0, section, offset, facts) {
         return chosen;
     }
@@ -271,9 +337,36 @@ pub fn first_entry<O: Originals<K>, K: ChosenKind, R: RelocationName>(
     otherwise
 }
 
+/// The choice by the entries of a relocation.
+///
+/// # Requires
+///
+/// - table: the entries are those of the table of the relocation at the offset
+/// - few: `entries.len() <= 5`
+#[must_use]
+#[cfg_attr(debug_assertions, track_caller)]
+#[inline(always)]
+pub fn choice_by<K: ChosenKind>(
+    entries: Table<K>,
+    name: K::Relocation,
+    section: &[u8],
+    offset: u64,
+    facts: &LinkFacts,
+) -> Choice<K, K::Relocation> {
+    debug_assert!(entries.len() <= 5);
+    first_entry(entries, section, offset, facts, unchanged(name))
+}
+
 // The macros below make an architecture's tables of its `choices!`, which lists for each relocation,
 // or for several with `|` between, its entries in brackets. The module that calls them has the enums
 // `RelaxationKind`, `AskedFor` and, by the name `Names`, that of the relocations.
+
+/// Whether a name is listed.
+macro_rules! is_listed {
+    (($name:expr) $($($listed:ident)|+: $entries:tt)*) => {
+        matches!($name, $($(Names::$listed)|+)|*)
+    };
+}
 
 /// Conditions: facts, the addend, and what holds of values, each as a `ValueCondition` with the name
 /// of a relocation.
@@ -358,5 +451,6 @@ macro_rules! by_table {
 pub(crate) use all_tables;
 pub(crate) use by_table;
 pub(crate) use conditions;
+pub(crate) use is_listed;
 pub(crate) use originals;
 pub(crate) use table_of;

@@ -3,8 +3,8 @@ use Rattle.linker_ppc64.proofs.choices.choose.Goals as goal
 
 pub returns-clause-matches : goal.returns-clause-matches
 returns-clause-matches c =
-    chosen_matches c.args.name c.args.section.now c.args.offset c.args.facts.now c.choose_listed.result c.choose_listed.ensures
+    chosen_matches c.args.name c.args.section.now c.args.offset c.args.facts.now c.choose.result c.choose.ensures
 
 pub returns-clause-rewritable : goal.returns-clause-rewritable
 returns-clause-rewritable c =
-    chosen_rewritable c.args.name c.args.section.now c.args.offset c.args.facts.now c.choose_listed.result c.choose_listed.ensures
+    chosen_rewritable c.args.name c.args.section.now c.args.offset c.args.facts.now c.choose.result c.choose.ensures

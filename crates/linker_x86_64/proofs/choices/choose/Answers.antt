@@ -5,4 +5,4 @@ use Rattle.linker_x86_64.proofs.choices.choose.Goals as goal
 
 pub returns-clause-matches : goal.returns-clause-matches
 returns-clause-matches c =
-    chosen_matches (x86_64_table c.args.name (slice_index c.args.section.now (c.args.offset - 2))) c.args.name c.args.section.now c.args.offset c.args.facts.now c.choose_listed.result c.choose_listed.ensures
+    chosen_matches (x86_64_table c.args.name (slice_index c.args.section.now (c.args.offset - 2))) c.args.name c.args.section.now c.args.offset c.args.facts.now c.choose.result c.choose.ensures

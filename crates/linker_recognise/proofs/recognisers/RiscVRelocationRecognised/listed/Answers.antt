@@ -7,4 +7,5 @@ use Rattle.linker_recognise.proofs.recognisers.RiscVRelocationRecognised.listed.
 pub returns-clause-choices : goal.returns-clause-choices
 returns-clause-choices c =
     c.choices_of.ensures.choices
-    ∙ same_choices _ _ c.entries.result.now (riscv.entries c.args.self c.args._section.now c.args._at) (choice riscv.no_op c.args.self) c.entries.ensures.table
+    ∙ same_choices _ _ c.entries-entries.result.now (riscv.entries c.args.self c.args.section.now c.args.at) (choice riscv.no_op c.args.self)
+    c.entries-entries.ensures.table

@@ -1,6 +1,6 @@
 use Rattle.std.proofs.Common.{refl}
 use Rattle.linker_riscv64.proofs.RiscVChoices.{same}
-use Rattle.linker_riscv64.proofs.choices.choose_listed.Goals as goal
+use Rattle.linker_riscv64.proofs.choices.RelaxationKindChosenByTable.choose_listed.Goals as goal
 
 pub choice_by-requires-10-clause-table : goal.choice_by-requires-10-clause-table
 choice_by-requires-10-clause-table c =

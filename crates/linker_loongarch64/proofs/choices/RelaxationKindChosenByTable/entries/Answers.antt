@@ -2,16 +2,16 @@ use Rattle.std.proofs.Common.{refl}
 use Rattle.linker_elf.specs.declared.loongarch64.relocations.LoongArch64Relocation.TheVariants as r
 use Rattle.linker_loongarch64.specs.declared.rewrites.RelaxationKind.TheVariants as kinds
 use Rattle.linker_loongarch64.proofs.LoongArchChoices.{first_asked}
-use Rattle.linker_loongarch64.proofs.choices.choose_listed.Goals as goal
+use Rattle.linker_loongarch64.proofs.choices.RelaxationKindChosenByTable.entries.Goals as goal
 
-pub choice_by-requires-clause-table : goal.choice_by-requires-clause-table
-choice_by-requires-clause-table c =
+pub returns-in-R_LARCH_GOT_PC_HI20-by_table-clause-table : goal.returns-in-R_LARCH_GOT_PC_HI20-by_table-clause-table
+returns-in-R_LARCH_GOT_PC_HI20-by_table-clause-table c =
     let is = c.in-R_LARCH_GOT_PC_HI20-by_table.is in
     let near = first_asked c.args.name r.R_LARCH_GOT_PC_HI20 kinds.PcalaToPcaddi is in
     let paged = first_asked c.args.name r.R_LARCH_GOT_PC_HI20 kinds.NoOp is in
     rw is (refl, (near, (refl, (paged, tt))))
 
-pub choice_by-requires-3-clause-table : goal.choice_by-requires-3-clause-table
-choice_by-requires-3-clause-table c =
+pub returns-in-R_LARCH_PCALA_HI20-by_table-clause-table : goal.returns-in-R_LARCH_PCALA_HI20-by_table-clause-table
+returns-in-R_LARCH_PCALA_HI20-by_table-clause-table c =
     let is = c.in-R_LARCH_PCALA_HI20-by_table.is in
     rw is (refl, (first_asked c.args.name r.R_LARCH_PCALA_HI20 kinds.PcalaToPcaddi is, tt))

@@ -1,6 +1,6 @@
 use Rattle.std.proofs.Common.{refl}
 use Rattle.linker_riscv64.proofs.RiscVChoices.{same}
-use Rattle.linker_riscv64.proofs.choices.entries.Goals as goal
+use Rattle.linker_riscv64.proofs.choices.RelaxationKindChosenByTable.entries.Goals as goal
 
 pub returns-in-R_RISCV_TLSDESC_HI20-by_table-clause-table : goal.returns-in-R_RISCV_TLSDESC_HI20-by_table-clause-table
 returns-in-R_RISCV_TLSDESC_HI20-by_table-clause-table c =

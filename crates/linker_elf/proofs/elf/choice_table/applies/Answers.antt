@@ -1,0 +1,25 @@
+use Rattle.std.proofs.Common.{◌↔◌, IsTrue, true≢false, sym, ◌∙◌, subst}
+use Rattle.linker_elf.specs.Inner.ChoiceTables.{ValuesHold}
+use Rattle.linker_elf.proofs.ChoiceTables.{without_fact, without_addend, by_values}
+use Rattle.linker_elf.proofs.elf.choice_table.applies.Goals as goal
+
+pub returns-then-not-hold : goal.returns-then-not-hold
+returns-then-not-hold g c =
+    without_fact g.K.Relocation.RelocationName.row_of (g.K.ChosenKind.tables.after c.args.entry.now.kind c.args.offset c.args.facts.now.operands)
+    c.args.facts.now c.args.entry.now (g.K.ChosenKind.are_at c.args.entry.now.originals c.args.entry.now.kind c.args.section.now c.args.offset)
+    (sym c.hold.ensures ∙ c.if-not-hold.true)
+
+pub returns-then-not-has_addend : goal.returns-then-not-has_addend
+returns-then-not-has_addend g c =
+    without_addend g.K.Relocation.RelocationName.row_of (g.K.ChosenKind.tables.after c.args.entry.now.kind c.args.offset c.args.facts.now.operands)
+    c.args.facts.now c.args.entry.now (g.K.ChosenKind.are_at c.args.entry.now.originals c.args.entry.now.kind c.args.section.now c.args.offset)
+    (λ h. true≢false (sym (c.has_addend.ensures.1 h) ∙ c.if-not-has_addend.true))
+
+pub returns : goal.returns
+returns g c =
+    by_values g.K.Relocation.RelocationName.row_of (g.K.ChosenKind.tables.after c.args.entry.now.kind c.args.offset c.args.facts.now.operands)
+    c.args.facts.now c.args.entry.now (g.K.ChosenKind.are_at c.args.entry.now.originals c.args.entry.now.kind c.args.section.now c.args.offset)
+    c.all_hold.result (sym c.hold.ensures ∙ c.if-not-hold.false)
+    (c.has_addend.ensures.0 c.if-not-has_addend.false) (c.stand_at.ensures.0 c.if-not-stand_at.false)
+    (subst (λ o. IsTrue c.all_hold.result ↔ ValuesHold g.K.Relocation.RelocationName.row_of o c.args.facts.now c.args.entry.now.conditions.values.now)
+    c.operands_after-after.ensures c.all_hold.ensures)
