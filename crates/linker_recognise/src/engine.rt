@@ -1,6 +1,6 @@
 //! Which choices of a table leave the linked bytes, and what then stands in the field.
 
-ghost use Rattle.std.specs.Prelude.{◌≡◌, ℕ, ◌-◌, ◌^◌, ◌≤◌, ◌↔◌, IsTrue, IfSome, IfNone};
+ghost use Rattle.std.specs.Prelude.{◌≡◌, ℕ, ◌-◌, ◌^◌, ◌<◌, ◌≤◌, ◌↔◌, IsTrue, IfSome, IfNone};
 ghost use Rattle.std.specs.Prelude.{length, min, slice_get, take, Option, Some};
 ghost use Rattle.linker_base.specs.declared.rewrite.DeletedBytes.{DeletedBytes};
 ghost use Rattle.linker_elf.specs.Choices.{choice};
