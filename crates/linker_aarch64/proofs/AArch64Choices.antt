@@ -1,26 +1,19 @@
 -- Which rewrite of AArch64 is chosen: words at offsets, operands after a rewrite, and what follows from
 -- a choice.
-use Rattle.std.proofs.Common.{◌≡◌, ◌<◌, ◌≤◌, ℕ, ℤ, ◌+◌, ◌-◌, ◌%◌, ◌^◌, List, [], ◌∷◌, take, ap, ◌∙◌, refl, subst, arith, rules, Bool, IsTrue, not, ◌↔◌, ◌==◌}
+use Rattle.std.proofs.Common.{◌≡◌, ◌<◌, ◌≤◌, ℕ, ℤ, ◌+◌, ◌-◌, ◌%◌, ◌^◌, List, [], ◌∷◌, take, ap, ◌∙◌, refl, subst, arith, rules, ◌↔◌, ◌==◌}
 use Rattle.std.specs.Prelude.{⊤}
 use Rattle.std.specs.Int.{w32, from_le_bytes}
 use Rattle.linker_base.specs.Rewrite.{CanRewrite, offset_after, addend_after}
 use Rattle.linker_aarch64.specs.AArch64Rewrites.{aarch64_rewrite, rd_of, rn_of}
-use Rattle.linker_aarch64.specs.AArch64Rewrites.{AreOfDescriptor, IsOfDescriptor, IsEntryLoad, IsAskedFor, AArch64Applies, AArch64Choice, IsAArch64Choice, aarch64_entries}
-use Rattle.linker_aarch64.specs.Inner.Choices.{IsThere}
+use Rattle.linker_aarch64.specs.AArch64Rewrites.{AreOfDescriptor, IsOfDescriptor, IsEntryLoad, AArch64Applies, AArch64Choice, IsAArch64Choice, aarch64_entries}
 use Rattle.linker_aarch64.specs.AArch64Rewrites.{IsAdrp, IsLdr64, aarch64_matches}
-use Rattle.linker_elf.specs.AArch64Relocations.{aarch64_row}
-use Rattle.linker_elf.specs.Choices.{choice, operands_after, Fits, with_group}
-use Rattle.linker_elf.specs.Inner.ChoiceTables.{IsTableOf, IsFirstOf, EntryApplies}
+use Rattle.linker_elf.specs.Choices.{choice, operands_after}
 use Rattle.linker_elf.specs.Originals.{HasWord}
 use Rattle.linker_elf.specs.Value.{sum_64, difference_64}
-use Rattle.linker_elf.proofs.ChoiceTables.{first_of_table, holds_of_first, isnt_last}
-use Rattle.linker_elf.proofs.SameNames.{AreSame, unchanged_is, exact_code}
-use Rattle.linker_elf.specs.contracts.aarch64.relocations.AArch64Relocation.{enum as names}
+use Rattle.linker_elf.proofs.ChoiceTables.{holds_of_first}
 use Rattle.linker_elf.specs.declared.aarch64.relocations.AArch64Relocation.{AArch64Relocation}
 use Rattle.linker_elf.specs.declared.elf.choice.LinkFacts.{LinkFacts}
-use Rattle.linker_elf.specs.declared.elf.choice_table.ChoiceEntry.{ChoiceEntry}
 use Rattle.linker_elf.specs.declared.elf.value.Operands.{Operands}
-use Rattle.linker_aarch64.specs.declared.choices.AskedFor.{AskedFor}
 use Rattle.linker_aarch64.specs.declared.rewrites.RelaxationKind.{RelaxationKind}
 use Rattle.linker_aarch64.specs.declared.rewrites.RelaxationKind.TheVariants.{NoOp, ReplaceWithNop, MovzX0Lsl16, MovkX0, MovzXnLsl16, MovkXn, AdrpToAdr, AdrpX0, LdrX0, AddToAdr, LdrToAdr, LdrToAdd, AdrpAddToNopAdr}
 

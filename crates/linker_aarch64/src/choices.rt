@@ -1,12 +1,12 @@
 //! The rewrites that a linker of AArch64 chooses.
 
-ghost use Rattle.std.specs.Prelude.{◌≡◌, ◌↔◌, ◌<◌, ◌+◌, ◌^◌, IsTrue, ◌≤◌, length};
+ghost use Rattle.std.specs.Prelude.{◌==◌, ◌≡◌, ◌↔◌, ◌<◌, ◌+◌, ◌^◌, IsTrue};
 ghost use Rattle.linker_base.specs.Rewrite.{CanRewrite};
 ghost use Rattle.linker_aarch64.specs.AArch64Rewrites.{aarch64_rewrite};
 ghost use Rattle.linker_aarch64.specs.AArch64Rewrites.{aarch64_matches};
 ghost use Rattle.linker_aarch64.specs.AArch64Rewrites.{IsEntryLoad, IsDescriptorSequence};
-ghost use Rattle.linker_aarch64.specs.AArch64Rewrites.{AreOfDescriptor, IsAskedFor};
-ghost use Rattle.linker_aarch64.specs.AArch64Rewrites.{IsAArch64Choice, aarch64_entries};
+ghost use Rattle.linker_aarch64.specs.AArch64Rewrites.{AreOfDescriptor};
+ghost use Rattle.linker_aarch64.specs.AArch64Rewrites.{IsAArch64Choice};
 ghost use Rattle.linker_aarch64.specs.AArch64Rewrites.{GotPairIsChosenAlike};
 ghost use Rattle.linker_aarch64.specs.AArch64Rewrites.{InitialExecIsChosenAlike};
 ghost use Rattle.linker_aarch64.specs.AArch64Rewrites.{DescriptorIsChosenAlike};

@@ -1,24 +1,15 @@
 -- What is chosen on LoongArch matches, and can be rewritten.
-use Rattle.std.proofs.Common.{◌≡◌, ◌↔◌, ◌⊎◌, ℕ, ◌+◌, ◌-◌, List, [], ◌∷◌, inl, inr, subst, sym, ◌∙◌, arith, rules, Bool, IsTrue, not, ◌==◌}
+use Rattle.std.proofs.Common.{◌≡◌, ◌↔◌, ◌⊎◌, ℕ, ◌+◌, ◌-◌, List, [], ◌∷◌, inl, inr, subst, sym, ◌∙◌, arith, rules, ◌==◌}
 use Rattle.std.specs.Bool.{⊤}
 use Rattle.linker_base.specs.Rewrite.{CanRewrite}
-use Rattle.linker_elf.specs.Choices.{choice, IsFirst, Fits, with_group}
-use Rattle.linker_elf.specs.Inner.ChoiceTables.{IsTableOf, IsFirstOf, EntryApplies}
-use Rattle.linker_elf.specs.LoongArchRelocations.{loongarch_row}
+use Rattle.linker_elf.specs.Choices.{choice, IsFirst}
 use Rattle.linker_elf.specs.Originals.{HasWord}
-use Rattle.linker_elf.proofs.ChoiceTables.{first_of_table, isnt_last}
-use Rattle.linker_elf.proofs.SameNames.{AreSame, unchanged_is, exact_code}
-use Rattle.linker_elf.specs.contracts.loongarch64.relocations.LoongArch64Relocation.{enum as names}
 use Rattle.linker_elf.specs.declared.elf.choice.LinkFacts.{LinkFacts}
-use Rattle.linker_elf.specs.declared.elf.choice_table.ChoiceEntry.{ChoiceEntry}
-use Rattle.linker_elf.specs.declared.elf.value.Operands.{Operands}
 use Rattle.linker_elf.specs.declared.loongarch64.relocations.LoongArch64Relocation.{LoongArch64Relocation}
 use Rattle.linker_elf.specs.declared.loongarch64.relocations.LoongArch64Relocation.TheVariants as r
-use Rattle.linker_loongarch64.specs.Inner.AskedFor.{is_asked_by}
 use Rattle.linker_loongarch64.specs.LoongArchRewrites.{LoongArchChoice, LoongArchEntry, LoongArchApplies, IsLoongArchChoice, loongarch_entries, IsAskedFor, IsBehind, IsSingle, IsLowOfDescriptor}
 use Rattle.linker_loongarch64.specs.LoongArchRewrites.{loongarch_matches, IsPair, IsAddi, IsLd, IsIntoOwnSource, word_at}
 use Rattle.linker_loongarch64.specs.LoongArchRewrites.{loongarch_rewrite}
-use Rattle.linker_loongarch64.specs.declared.choices.AskedFor.{AskedFor}
 use Rattle.linker_loongarch64.specs.declared.rewrites.RelaxationKind.{RelaxationKind}
 use Rattle.linker_loongarch64.specs.declared.rewrites.RelaxationKind.TheVariants as kinds
 

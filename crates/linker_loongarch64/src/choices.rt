@@ -1,14 +1,14 @@
 //! LoongArch: which rewrite a linker chooses for a relocation.
 
-ghost use Rattle.std.specs.Prelude.{◌↔◌, ◌≤◌, IsTrue, length};
+ghost use Rattle.std.specs.Prelude.{◌==◌, ◌↔◌, IsTrue};
 ghost use Rattle.linker_base.specs.Rewrite.{CanRewrite};
 ghost use Rattle.linker_elf.specs.Choices.{Fits, choice};
 ghost use Rattle.linker_elf.proofs.SameNames.{equalities, exact_code};
 ghost use Rattle.linker_elf.specs.contracts.loongarch64.relocations.LoongArch64Relocation.{enum as names};
 ghost use Rattle.linker_loongarch64.specs.Inner.AskedFor.{is_asked_by, loongarch_tables};
-ghost use Rattle.linker_loongarch64.specs.LoongArchRewrites.{IsAskedFor, IsPageOfDescriptor};
+ghost use Rattle.linker_loongarch64.specs.LoongArchRewrites.{IsPageOfDescriptor};
 ghost use Rattle.linker_loongarch64.specs.LoongArchRewrites.{IsLowOfDescriptor};
-ghost use Rattle.linker_loongarch64.specs.LoongArchRewrites.{IsLoongArchChoice, loongarch_entries};
+ghost use Rattle.linker_loongarch64.specs.LoongArchRewrites.{IsLoongArchChoice};
 ghost use Rattle.linker_loongarch64.specs.LoongArchRewrites.{GotPairIsChosenAlike};
 ghost use Rattle.linker_loongarch64.specs.LoongArchRewrites.{AddressPairIsChosenAlike};
 ghost use Rattle.linker_loongarch64.specs.LoongArchRewrites.{InitialExecIsChosenAlike};

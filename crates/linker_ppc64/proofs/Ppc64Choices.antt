@@ -1,21 +1,14 @@
 -- What is chosen on PowerPC64 matches, and can be rewritten.
-use Rattle.std.proofs.Common.{ℕ, List, Bool, IsTrue, not, ◌≡◌, ◌↔◌, ◌==◌, rules}
+use Rattle.std.proofs.Common.{ℕ, List, ◌≡◌, ◌↔◌, ◌==◌, rules}
 use Rattle.linker_base.specs.Rewrite.{CanRewrite}
-use Rattle.linker_elf.specs.Choices.{choice, Fits, with_group}
-use Rattle.linker_elf.specs.Inner.ChoiceTables.{IsTableOf, IsFirstOf, EntryApplies}
-use Rattle.linker_elf.proofs.ChoiceTables.{first_of_table, holds_of_first, isnt_last}
-use Rattle.linker_elf.proofs.SameNames.{AreSame, unchanged_is, exact_code}
-use Rattle.linker_elf.specs.Ppc64Relocations.{ppc64_row}
-use Rattle.linker_elf.specs.contracts.ppc64.relocations.Ppc64Relocation.{enum as names}
+use Rattle.linker_elf.specs.Choices.{choice}
+use Rattle.linker_elf.proofs.ChoiceTables.{holds_of_first}
 use Rattle.linker_elf.specs.declared.elf.choice.Choice.{Choice}
 use Rattle.linker_elf.specs.declared.elf.choice.LinkFacts.{LinkFacts}
-use Rattle.linker_elf.specs.declared.elf.choice_table.ChoiceEntry.{ChoiceEntry}
-use Rattle.linker_elf.specs.declared.elf.value.Operands.{Operands}
 use Rattle.linker_elf.specs.declared.ppc64.relocations.Ppc64Relocation.{Ppc64Relocation}
 use Rattle.linker_ppc64.specs.Ppc64Rewrites.{ppc64_entries, Ppc64Applies, IsPpc64Choice}
 use Rattle.linker_ppc64.specs.Ppc64Rewrites.{ppc64_matches}
 use Rattle.linker_ppc64.specs.Ppc64Rewrites.{ppc64_rewrite}
-use Rattle.linker_ppc64.specs.declared.choices.AskedFor.{AskedFor}
 use Rattle.linker_ppc64.specs.declared.rewrites.RelaxationKind.{RelaxationKind}
 use Rattle.linker_ppc64.specs.declared.rewrites.RelaxationKind.TheVariants as kinds
 

@@ -1,6 +1,6 @@
 //! PowerPC64: which rewrite a linker chooses for a relocation.
 
-ghost use Rattle.std.specs.Prelude.{◌≤◌, ◌↔◌, IsTrue, length};
+ghost use Rattle.std.specs.Prelude.{◌==◌, ◌↔◌, IsTrue};
 ghost use Rattle.linker_base.specs.Rewrite.{CanRewrite};
 ghost use Rattle.linker_elf.specs.Choices.{Fits, choice};
 ghost use Rattle.linker_elf.proofs.SameNames.{equalities, exact_code};
@@ -10,7 +10,7 @@ ghost use Rattle.linker_ppc64.specs.Ppc64Rewrites.{TocPairsAreChosenAlike, GotPa
 ghost use Rattle.linker_ppc64.specs.Ppc64Rewrites.{InitialExecPairIsChosenAlike};
 ghost use Rattle.linker_ppc64.specs.Ppc64Rewrites.{GeneralDynamicIsChosenAlike};
 ghost use Rattle.linker_ppc64.specs.Ppc64Rewrites.{LocalDynamicIsChosenAlike};
-ghost use Rattle.linker_ppc64.specs.Ppc64Rewrites.{IsPpc64Choice, ppc64_entries};
+ghost use Rattle.linker_ppc64.specs.Ppc64Rewrites.{IsPpc64Choice};
 ghost use Rattle.linker_ppc64.specs.Ppc64Rewrites.{ppc64_matches, ppc64_rewrite};
 ghost use Rattle.linker_ppc64.specs.declared.rewrites.RelaxationKind.TheVariants as kinds;
 

@@ -1,21 +1,15 @@
 -- What is chosen on RISC-V matches, and can be rewritten.
-use Rattle.std.proofs.Common.{ℕ, List, [], ◌∷◌, ◌≡◌, ◌↔◌, sym, subst, inl, inr, rules, Bool, IsTrue, not, ◌==◌}
+use Rattle.std.proofs.Common.{ℕ, List, [], ◌∷◌, ◌≡◌, ◌↔◌, sym, subst, inl, inr, rules, ◌==◌}
 use Rattle.std.specs.Bool.{⊤}
 use Rattle.std.specs.Int.{cast_unsigned, w64}
 use Rattle.linker_base.specs.Rewrite.{CanRewrite}
-use Rattle.linker_elf.specs.Choices.{IsFirst, choice, Fits, with_group}
-use Rattle.linker_elf.specs.Inner.ChoiceTables.{IsTableOf, IsFirstOf, EntryApplies}
+use Rattle.linker_elf.specs.Choices.{IsFirst, choice}
 use Rattle.linker_elf.specs.Value.{sum_64}
-use Rattle.linker_elf.proofs.ChoiceTables.{first_of_table, isnt_last}
-use Rattle.linker_elf.proofs.SameNames.{AreSame, unchanged_is, exact_code}
-use Rattle.linker_elf.specs.contracts.riscv64.relocations.RiscVRelocation.{enum as names}
 use Rattle.linker_elf.specs.declared.elf.choice.LinkFacts.{LinkFacts}
 use Rattle.linker_elf.specs.declared.elf.choice_table.ChoiceEntry.{ChoiceEntry}
-use Rattle.linker_elf.specs.declared.elf.value.Operands.{Operands}
 use Rattle.linker_elf.specs.declared.riscv64.relocations.RiscVRelocation.{RiscVRelocation}
 use Rattle.linker_elf.specs.declared.riscv64.relocations.RiscVRelocation.TheVariants as r
-use Rattle.linker_riscv64.specs.Inner.Choices.{IsThere}
-use Rattle.linker_riscv64.specs.RiscVRewrites.{RiscVEntry, RiscVChoice, AppliesToRiscV, IsAskedFor, IsRiscVChoice, riscv_row_of, riscv_entries}
+use Rattle.linker_riscv64.specs.RiscVRewrites.{RiscVEntry, RiscVChoice, AppliesToRiscV, IsAskedFor, IsRiscVChoice, riscv_entries}
 use Rattle.linker_riscv64.specs.RiscVRewrites.{riscv_matches}
 use Rattle.linker_riscv64.specs.RiscVRewrites.{riscv_rewrite, FitsClui}
 use Rattle.linker_riscv64.specs.declared.choices.AskedFor.{AskedFor}

@@ -1,6 +1,6 @@
 //! RISC-V: which rewrite a linker chooses for a relocation.
 
-ghost use Rattle.std.specs.Prelude.{◌≡◌, ◌≤◌, ◌↔◌, IsTrue, length};
+ghost use Rattle.std.specs.Prelude.{◌==◌, ◌≡◌, ◌↔◌, IsTrue};
 ghost use Rattle.std.specs.Int.{cast_unsigned, w64};
 ghost use Rattle.linker_base.specs.Rewrite.{CanRewrite};
 ghost use Rattle.linker_elf.specs.Choices.{Fits, choice};
@@ -10,7 +10,7 @@ ghost use Rattle.linker_elf.specs.Value.{sum_64};
 ghost use Rattle.linker_riscv64.specs.Inner.Choices.{IsThere, riscv_tables};
 ghost use Rattle.linker_riscv64.specs.RiscVRewrites.{DescriptorIsChosenAlike, GotPairIsChosenAlike};
 ghost use Rattle.linker_riscv64.specs.RiscVRewrites.{AbsoluteIsChosenAlike, ThreadOffsetIsChosenAlike};
-ghost use Rattle.linker_riscv64.specs.RiscVRewrites.{IsAskedFor, IsRiscVChoice, riscv_entries};
+ghost use Rattle.linker_riscv64.specs.RiscVRewrites.{IsRiscVChoice};
 ghost use Rattle.linker_riscv64.specs.RiscVRewrites.{riscv_matches};
 ghost use Rattle.linker_riscv64.specs.RiscVRewrites.{riscv_rewrite, FitsClui};
 ghost use Rattle.linker_riscv64.specs.declared.rewrites.RelaxationKind.TheVariants as kinds;

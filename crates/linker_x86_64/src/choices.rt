@@ -1,6 +1,6 @@
 //! Which rewrite is chosen for a relocation of x86-64.
 
-ghost use Rattle.std.specs.Prelude.{◌-◌, ◌≡◌, ◌≤◌, ◌↔◌, IsTrue, length, slice_index};
+ghost use Rattle.std.specs.Prelude.{◌==◌, ◌-◌, ◌≡◌, ◌≤◌, ◌↔◌, IsTrue, length, slice_index};
 ghost use Rattle.linker_elf.specs.Choices.{Fits, choice};
 ghost use Rattle.linker_elf.specs.Inner.ChoiceTables.{IsTableOf};
 ghost use Rattle.linker_elf.proofs.SameNames.{equalities, exact_code};
@@ -353,8 +353,12 @@ fn opcode_before(section: &[u8], offset: u64) -> u8
 impl ChosenByTable for RelaxationKind {
     #[inline(always)]
     fn is_listed(name: Names) -> bool {
-        // a relocation with a table of one of several opcodes has one of this
-        !matches!(entries_by(name, 0x8b), [])
+        choices!(is_listed(
+            name;
+            R_X86_64_GOTPCRELX | R_X86_64_REX_GOTPCRELX | R_X86_64_CODE_4_GOTPCRELX
+            | R_X86_64_CODE_5_GOTPCRELX | R_X86_64_CODE_6_GOTPCRELX | R_X86_64_GOTTPOFF
+            | R_X86_64_CODE_4_GOTTPOFF | R_X86_64_CODE_5_GOTTPOFF | R_X86_64_CODE_6_GOTTPOFF
+        ))
     }
 
     #[inline(always)]

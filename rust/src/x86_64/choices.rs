@@ -326,8 +326,12 @@ fn opcode_before(section: &[u8], offset: u64) -> u8 {
 impl ChosenByTable for RelaxationKind {
     #[inline(always)]
     fn is_listed(name: Names) -> bool {
-        // a relocation with a table of one of several opcodes has one of this
-        !matches!(entries_by(name, 0x8b), [])
+        choices!(is_listed(
+            name;
+            R_X86_64_GOTPCRELX | R_X86_64_REX_GOTPCRELX | R_X86_64_CODE_4_GOTPCRELX
+            | R_X86_64_CODE_5_GOTPCRELX | R_X86_64_CODE_6_GOTPCRELX | R_X86_64_GOTTPOFF
+            | R_X86_64_CODE_4_GOTTPOFF | R_X86_64_CODE_5_GOTTPOFF | R_X86_64_CODE_6_GOTTPOFF
+        ))
     }
 
     #[inline(always)]
