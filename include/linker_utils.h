@@ -1523,7 +1523,8 @@ enum linker_utils_shapes_name {
  * LINKER_UTILS_UNKNOWN_SHAPES. */
 uint32_t linker_utils_named_shapes(uint32_t number, struct linker_utils_shapes *shapes);
 
-/* What an item is. Every other number is that of a limited alignment, too. */
+/* What an item is. Every other number is that of a limited alignment, too. The library writes
+ * none of these. */
 enum linker_utils_item_kind {
     LINKER_UTILS_ITEM_SITE = 0,
     LINKER_UTILS_ITEM_ALIGNMENT = 1,

@@ -5,7 +5,7 @@ use Rattle.std.proofs.lemmas.List.{get_or-set_same, get_or-set_other, length-set
 use Rattle.linker_elf.specs.Choices.{choice}
 use Rattle.linker_elf.specs.declared.elf.choice.Choice.{Choice}
 use Rattle.linker_reading.proofs.Tables.{behind}
-use Rattle.linker_reading.specs.Inner.Found.{IsMeant, AreFoundOfFirst, IsBefore}
+use Rattle.linker_reading.specs.Inner.Found.{IsMeant, AreFoundOfFirst, IsRepeated}
 use Rattle.linker_reading.specs.Recognised.{Recogniser, choices_at, IsChosen, IsMade, IsFound, IsOneOf, AreThose, ArePlaced, IsFirstPlace, AreDistinct}
 use Rattle.linker_elf.specs.declared.elf.choice.LinkFacts.{LinkFacts}
 use Rattle.linker_reading.proofs.Chosen.{first_is_listed}
@@ -42,16 +42,6 @@ one_of a [] i e = absurd (not_none None a refl e)
 one_of a (x ∷ xs) zero e = inl (some_same x a e)
 one_of a (x ∷ xs) (suc i) e = inr (one_of a xs i e)
 
-pub inside : {A : Type 0} (a : A) (xs : List (Option A)) (i : ℕ) → get_or xs i None ≡ Some a → i < length xs
-inside a [] i e = absurd (not_none None a refl e)
-inside a (x ∷ xs) zero e = omega arith
-inside a (x ∷ xs) (suc i) e = let h = inside a xs i e in omega arith
-
-pub not_behind : {A : Type 0} (xs : List A) (i : ℕ) → slice_get xs i ≡ None → length xs ≤ i
-not_behind [] i e = omega arith
-not_behind (x ∷ xs) zero e = absurd (not_none (Some x) x e refl)
-not_behind (x ∷ xs) (suc i) e = let h = not_behind xs i e in omega arith
-
 no_some : {A : Type 0} (n i : ℕ) (a : A) → get_or (replicate n None) i None ≡ Some a → ⊥
 no_some zero i a e = not_none None a refl e
 no_some (suc n) zero a e = not_none None a refl e
@@ -70,36 +60,23 @@ module _ {A B : Type 0} (of : B → A) (IsSo : B → Type 0) (choices : List A) 
         all = λ i b h e is. absurd (omega (arith, h));
       }
 
-  -- nothing more is found where what is so of the next choice was found before
-  found_before : (found : List (Option B)) (n : ℕ) (c : A) → AreFoundOfFirst of IsSo choices found n → slice_get choices n ≡ Some c
-      → ((b : B) → of b ≡ c → IsSo b → (j : ℕ) × (get_or found j None ≡ Some b)) → AreFoundOfFirst of IsSo choices found (n + 1)
-  found_before found n c were at before =
+  -- the same choice has a place before
+  pub same_again : (found : List (Option B)) (n : ℕ) → AreFoundOfFirst of IsSo choices found n → IsRepeated choices n
+      → AreFoundOfFirst of IsSo choices found (n + 1)
+  same_again found n were again =
       record {
         lengths = were.lengths;
         first = λ i b e. let h = were.first i b e in omega arith;
         placed = were.placed;
         so = were.so;
         all = λ i b h e is. ⊎_elim (λ below. were.all i b below e is)
-            (λ from.
-            let same : i ≡ n = omega (arith, h, from) in
-            before b (sym (some_same c (of b) (sym at ∙ ap (slice_get choices) (sym same) ∙ e))) is)
+            (λ from. were.all again.0 b again.1 (again.2 ∙ ap (slice_get choices) (let same : n ≡ i = omega (arith, h, from) in same) ∙ e) is)
             (cases_lt i n);
       }
 
-  -- the same choice is listed before
-  pub same_again : (found : List (Option B)) (n : ℕ) (c : A) → AreFoundOfFirst of IsSo choices found n → slice_get choices n ≡ Some c
-      → IsBefore c choices n → AreFoundOfFirst of IsSo choices found (n + 1)
-  same_again found n c were at before =
-      found_before found n c were at (λ b e is. were.all before.0 b before.1 (before.2 ∙ ap Some (sym e)) is)
-
-  -- it isn't so
-  pub not_so : (found : List (Option B)) (n : ℕ) (c : A) → AreFoundOfFirst of IsSo choices found n → slice_get choices n ≡ Some c
-      → ((b : B) → of b ≡ c → IsSo b → ⊥) → AreFoundOfFirst of IsSo choices found (n + 1)
-  not_so found n c were at never = found_before found n c were at (λ b e is. absurd (never b e is))
-
   -- what is so of the next choice, if anything is
   pub one_more : (found : List (Option B)) (n : ℕ) (c : A) (y : Option B) → AreFoundOfFirst of IsSo choices found n → slice_get choices n ≡ Some c
-      → (IsBefore c choices n → ⊥)
+      → (IsRepeated choices n → ⊥)
       → n < 6 → ((b : B) → (y ≡ Some b) ↔ ((of b ≡ c) × IsSo b)) → AreFoundOfFirst of IsSo choices (set found n y) (n + 1)
   one_more found n c y were at apart room test =
       record {
@@ -126,7 +103,7 @@ module _ {A B : Type 0} (of : B → A) (IsSo : B → Type 0) (choices : List A) 
       first_here : (i : ℕ) (b : B) → i ≡ n → y ≡ Some b → IsFirstPlace (of b) choices i
       first_here i b same is = record {
         here = ap (slice_get choices) same ∙ at ∙ ap Some (sym ((test b).0 is).0);
-        not_before = λ j below there. apart (j, omega (arith, below, same), there ∙ ap Some ((test b).0 is).0);
+        not_before = λ j below there. apart (j, omega (arith, below, same), there ∙ ap Some ((test b).0 is).0 ∙ sym at);
       }
 
   -- ---- all of them

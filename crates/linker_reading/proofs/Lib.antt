@@ -15,6 +15,7 @@ pub mod Same
 pub mod Shifts
 pub mod Tables
 pub mod WindowBits
+pub mod Words
 pub mod Written
 pub mod WrittenBits
 pub mod WrittenChoices

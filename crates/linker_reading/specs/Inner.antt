@@ -2,3 +2,4 @@ pub mod Equality
 pub mod Found
 pub mod Laws
 pub mod Masks
+pub mod Words

@@ -6,7 +6,8 @@ ghost use Rattle.linker_runs.specs.Relocations.{AreMade, AreWellFormed, IsFirstM
 ghost use Rattle.linker_runs.specs.RiscVItems.{RiscVMakes, IsRiscVFormed};
 ghost use Rattle.linker_runs.specs.LoongArchItems.{LoongArchMakes, IsLoongArchFormed};
 ghost use Rattle.linker_utils_c.specs.Relaxing.{item_of, items_in};
-ghost use Rattle.linker_utils_c.specs.SectionItems.{relocation_of, relocations_in, IsNotMade};
+ghost use Rattle.linker_utils_c.specs.SectionItems.{relocation_of, relocations_in, HaveKinds};
+ghost use Rattle.linker_utils_c.specs.SectionItems.{IsNotMade};
 ghost use Rattle.linker_utils_c.specs.Status.{code};
 
 use crate::relaxing::ItemNumbers;
@@ -76,7 +77,8 @@ fn relocations_of(
 
 #[inline]
 fn numbers_of(item: &Item) -> ItemNumbers
-    ensures { item_of result ≡ item.now }
+    ensures item { item_of result ≡ item.now }
+    ensures kind { result.kind ≤ 2 }
 {
     match item {
         Item::Site(site) => ItemNumbers {
@@ -109,6 +111,7 @@ fn numbers_of(item: &Item) -> ItemNumbers
 fn write_items(made: &[Item], items: &mut [ItemNumbers])
     requires { length made.now ≤ length items.old }
     ensures written { items_in (take (length made.now) items.new) ≡ made.now }
+    ensures kinds { HaveKinds (length made.now) items.new }
     ensures others_stay { (k : ℕ) (item : ItemNumbers) → length made.now ≤ k
         → slice_index_or items.new k item ≡ slice_index_or items.old k item }
 {
@@ -128,6 +131,7 @@ fn put(
     ensures outcome { MatchResult made
         (λ made. (result ≡ code Status.Success) × (items_in (take len.new items.new) ≡ made.items))
         (IsNotMade faulty.new result) }
+    ensures kinds { result ≡ code Status.Success → HaveKinds len.new items.new }
     ensures others_stay { (k : ℕ) (item : ItemNumbers) → result ≡ code Status.Success → len.new ≤ k
         → slice_index_or items.new k item ≡ slice_index_or items.old k item }
     ensures unchanged { result ≢ code Status.Success
@@ -176,6 +180,7 @@ pub extern "C" fn linker_utils_riscv_items_nonnull(
     ensures made { result ≡ code Status.Success
         → AreMade (RiscVMakes section.now base (relocations_in relocations.now))
         (length relocations.now) (items_in (take len.new items.new)) }
+    ensures kinds { result ≡ code Status.Success → HaveKinds len.new items.new }
     ensures formed { result ≡ code Status.Success
         → AreWellFormed (IsRiscVFormed section.now)
         (relocations_in relocations.now) (length relocations.now) }
@@ -223,6 +228,7 @@ pub extern "C" fn linker_utils_loongarch_items_nonnull(
     ensures made { result ≡ code Status.Success
         → AreMade (LoongArchMakes section.now base (relocations_in relocations.now))
         (length relocations.now) (items_in (take len.new items.new)) }
+    ensures kinds { result ≡ code Status.Success → HaveKinds len.new items.new }
     ensures formed { result ≡ code Status.Success → AreWellFormed (IsLoongArchFormed section.now)
         (relocations_in relocations.now) (length relocations.now) }
     ensures malformed { result ≡ code Status.MalformedRelocation

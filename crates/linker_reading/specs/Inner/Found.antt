@@ -18,9 +18,9 @@ abbrev pub choices_in : {O K R : Type 0} → List (ChoiceEntry O K R) → Choice
 choices_in [] otherwise = otherwise ∷ []
 choices_in (e ∷ es) otherwise = choice_in e ∷ choices_in es otherwise
 
--- It has a place before that one.
-abbrev pub IsBefore : {A : Type 0} → A → List A → ℕ → Type 0
-IsBefore a list n = (i : ℕ) × (i < n) × (slice_get list i ≡ Some a)
+-- What is at that place of a list has a place before it, too.
+abbrev pub IsRepeated : {A : Type 0} → List A → ℕ → Type 0
+IsRepeated list n = (i : ℕ) × (i < n) × (slice_get list i ≡ slice_get list n)
 
 -- The rewrite is meant for what is at the offset, and the choice was made.
 abbrev pub IsMeant : {K R : Type 0} → Recogniser K R → List ℕ → ℕ → List FieldBits → List ℕ → Made K R

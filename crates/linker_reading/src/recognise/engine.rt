@@ -1,14 +1,14 @@
 //! Which choices of a table leave the linked bytes, and what then stands in the field.
 
-ghost use Rattle.std.specs.Prelude.{◌≡◌, ℕ, ◌-◌, ◌^◌, ◌≤◌, ◌↔◌, IsTrue, IfSome, IfNone};
-ghost use Rattle.std.specs.Prelude.{length, min, slice_get, Option, Some};
+ghost use Rattle.std.specs.Prelude.{◌≡◌, ℕ, ◌-◌, ◌^◌, ◌<◌, ◌≤◌, ◌↔◌, IsTrue, IfSome, IfNone};
+ghost use Rattle.std.specs.Prelude.{length, min, slice_get, take, Option, Some};
 ghost use Rattle.linker_base.specs.declared.rewrite.DeletedBytes.{DeletedBytes};
 ghost use Rattle.linker_elf.specs.Choices.{choice};
 ghost use Rattle.linker_elf.specs.ElfNames.{code_of};
 ghost use Rattle.linker_elf.specs.declared.elf.choice.Choice.{Choice};
 ghost use Rattle.linker_elf.specs.declared.elf.choice.LinkFacts.{LinkFacts};
 ghost use Rattle.linker_reading.specs.FieldsOfBytes.{is_in, is_in_field};
-ghost use Rattle.linker_reading.specs.Inner.Found.{IsMeant, IsBefore, choices_in};
+ghost use Rattle.linker_reading.specs.Inner.Found.{IsMeant, IsRepeated, choices_in};
 ghost use Rattle.linker_reading.specs.Inner.Laws.{AreLawsOf};
 ghost use Rattle.linker_reading.specs.Recognised.{HasField, AreLeft, deleted_start, deleted_count};
 ghost use Rattle.linker_reading.specs.Recognised.{linked_offset, value_at, Recogniser, choices_at};
@@ -30,6 +30,9 @@ pub const CANDIDATES: usize = 6;
 /// How long the windows of original bytes may be.
 pub const MAX_WINDOW: usize = 64;
 
+/// The choices of a table, in its order, and how many they are.
+pub type Choices<K, R> = ([Choice<K, R>; CANDIDATES], usize);
+
 /// A choice that leaves the linked bytes, and what stands in the field of its relocation there.
 #[derive(Debug, Clone, Copy, PartialEq, Eq)]
 pub struct Made<K, R> {
@@ -46,6 +49,7 @@ pub struct Made<K, R> {
 
 /// The bits of a relocation's field at an offset, if its window is there. A relocation without a
 /// row has no bits.
+#[inline(always)]
 #[tactic(auto, using(crate::proofs::Same::in_none))]
 fn field_at(row: &Option<Row>, at: u64, bytes: &[u8]) -> Option<FieldBits>
     ensures some { IfSome result (λ field. HasField row.now at bytes.now
@@ -72,6 +76,7 @@ fn deleted_at(deleted: Option<DeletedBytes>, offset: u64) -> (u64, u64)
 
 /// Whether the linked bytes are those after a rewrite, without the deleted ones, but for the field
 /// of a row and some other bits.
+#[inline(always)]
 fn are_left(
     after: &[u8],
     at: u64,
@@ -104,6 +109,7 @@ fn linked_offset(deleted: Option<DeletedBytes>, offset: u64, at: u64) -> u64
 }
 
 /// What stands in the field of a relocation at an offset of the linked bytes.
+#[inline(always)]
 fn value_at(row: &Option<Row>, at: u64, linked: &[u8]) -> Option<FieldValue>
     ensures { result ≡ value_at row.now at linked.now }
 {
@@ -134,40 +140,41 @@ pub trait Recognised: RelocationName + PartialEq {
     fn choose(self, original: &[u8], offset: u64, facts: &LinkFacts) -> Choice<Self::Kind, Self>
         ensures { IsChosen Self.how self original.now offset facts.now result };
 
-    /// The choice with an index in its table, behind which is the one that changes nothing.
-    fn listed(self, section: &[u8], at: u64, index: usize) -> Option<Choice<Self::Kind, Self>>
-        ensures choice { result ≡ slice_get (choices_at Self.how self section.now at) index }
-        ensures few { length (choices_at Self.how self section.now at) ≤ 6 };
+    /// The choices of its table. The last of them changes nothing.
+    fn listed(self, section: &[u8], at: u64) -> Choices<Self::Kind, Self>
+        ensures choices { take result.1 result.0 ≡ choices_at Self.how self section.now at }
+        ensures few { result.1 ≤ 6 };
 
     ghost laws: { AreLawsOf Self.how Self.row_of Self.Kind.eq Self.eq };
 }
 
-/// The choice with an index: that of an entry, and behind these the one that changes nothing.
+/// The choices of entries, and behind these another.
 #[inline(always)]
-pub(crate) fn choice_at<O, K: Copy, R: Copy>(
+pub(crate) fn choices_of<O, K: Copy, R: Copy>(
     entries: &'static [ChoiceEntry<O, K, R>],
     kind: K,
     relocation: R,
-    index: usize,
-) -> Option<Choice<K, R>>
-    ensures { result ≡ slice_get (choices_in entries.now (choice kind relocation)) index }
+) -> Choices<K, R>
+    requires { length entries.now ≤ 5 }
+    ensures choices { take result.1 result.0 ≡ choices_in entries.now (choice kind relocation) }
+    ensures few { result.1 ≤ 6 }
 {
-    if index < entries.len() {
+    let mut choices = [Choice { kind, relocation }; CANDIDATES];
+    for index in 0..entries.len() {
         let ChoiceEntry {
             kind,
             relocation,
             ..
         } = entries[index];
-        Some(Choice { kind, relocation })
-    } else if index == entries.len() {
-        Some(Choice { kind, relocation })
-    } else {
-        None
+        choices[index] = Choice { kind, relocation };
     }
+    (choices, entries.len() + 1)
 }
 
 /// A choice with what stands in its field, if its rewrite is meant for what is at the offset and it
-/// leaves the linked bytes, as `recognise` says.
+/// leaves the linked bytes, as `recognise` says. In a loop LLVM would compute for every rewrite what
+/// some need.
+#[inline(never)]
 fn recognise_one<N: Recognised>(
     choice: Choice<N::Kind, N>,
     original: &[u8],
@@ -201,22 +208,23 @@ fn recognise_one<N: Recognised>(
     })
 }
 
-/// Whether a choice is listed before an index.
-fn is_listed_before<N: Recognised>(
-    choice: &Choice<N::Kind, N>,
+/// The choice at an index, if it has no place before it.
+#[inline(always)]
+fn first_at<N: Recognised>(
+    choices: &[Choice<N::Kind, N>; CANDIDATES],
     index: usize,
-    name: N,
-    section: &[u8],
-    at: u64,
-) -> bool
-    ensures { IsTrue result ↔ IsBefore choice.now (choices_at N.how name section.now at) index }
+) -> Option<Choice<N::Kind, N>>
+    requires { index < 6 }
+    ensures some { IfSome result (λ choice. (slice_get choices.now index ≡ Some choice)
+        × (IsRepeated choices.now index → ⊥)) }
+    ensures none { IfNone result (IsRepeated choices.now index) }
 {
     for earlier in 0..index {
-        if name.listed(section, at, earlier) == Some(*choice) {
-            return true;
+        if choices[earlier] == choices[index] {
+            return None;
         }
     }
-    false
+    Some(choices[index])
 }
 
 /// Which rewrites, and relocations after them, a linker may have made at the relocation with a
@@ -278,14 +286,11 @@ pub fn recognise<N: Recognised>(
     ensures placed { ArePlaced (choices_at N.how name original.now offset) result }
     ensures once { AreDistinct result }
 {
+    let (choices, count) = name.listed(original, offset);
     let mut found = [None; CANDIDATES];
-    for index in 0..CANDIDATES {
-        let Some(choice) = name.listed(original, offset, index) else {
-            break;
-        };
-        let made = recognise_one(choice, original, offset, others, linked);
-        if made.is_some() && !is_listed_before(&choice, index, name, original, offset) {
-            found[index] = made;
+    for index in 0..count {
+        if let Some(choice) = first_at(&choices, index) {
+            found[index] = recognise_one(choice, original, offset, others, linked);
         }
     }
     found

@@ -1,15 +1,17 @@
 //! The bits of a relocation's field, and bytes that differ in such bits only.
 
-ghost use Rattle.std.specs.Prelude.{◌≡◌, ◌<◌, ◌≤◌, ◌+◌, ◌^◌, ◌==◌, ◌||◌, ◌↔◌, ℕ, IsTrue, IfSome};
+ghost use Rattle.std.specs.Prelude.{◌≡◌, ◌<◌, ◌≤◌, ◌+◌, ◌*◌, ◌^◌, ◌==◌, ◌↔◌, ℕ, IsTrue, IfSome};
 ghost use Rattle.std.specs.Prelude.{IfNone, length};
 ghost use Rattle.std.specs.Int.{bit_at};
 ghost use Rattle.linker_elf.specs.Relocate.{window_len};
 ghost use Rattle.linker_elf.specs.declared.elf.RelocationKindInfo.{RelocationKindInfo};
-ghost use Rattle.linker_reading.specs.FieldsOfBytes.{is_field_bit, is_in, is_in_one, is_in_row, IsSameBut};
-ghost use Rattle.linker_reading.specs.FieldsOfBytes.{AreSameBut, AreSameButFor, kept_index};
+ghost use Rattle.linker_reading.specs.FieldsOfBytes.{is_field_bit, is_in, is_in_row, AreSameBut};
+ghost use Rattle.linker_reading.specs.FieldsOfBytes.{AreSameButFor};
 ghost use Rattle.linker_reading.specs.Inner.Masks.{bytes_mask, number_mask, field_mask};
+ghost use Rattle.linker_reading.specs.Inner.Words.{IsSameWordBut, AreSameFrom};
 ghost use Rattle.linker_reading.specs.WrittenRows.{ChangesField};
 
+use linker_base::utils::u32_from_slice;
 use linker_elf::elf::{RelocationKind, RelocationSize, Row};
 
 /// Some of the bits of the eight bytes from an offset of a window on.
@@ -90,6 +92,7 @@ impl FieldBits {
     /// let field = FieldBits::of_row(&row, 2, &jal).unwrap();
     /// assert_eq!((field.offset, field.bits), (2, 0xffff_f000));
     /// ```
+    #[inline]
     #[tactic(auto, using(crate::proofs::Same::in_row))]
     pub fn of_row(row: &Row, offset: u64, window: &[u8]) -> Option<FieldBits>
         ensures some { IfSome result (λ field. (offset + window_len row.now ≤ length window.now)
@@ -106,43 +109,79 @@ impl FieldBits {
         })
     }
 
-    /// Which bits of a byte of the window are these, as the lowest eight bits. The byte counts from
-    /// the window's first one.
+    /// Which of the 64 bits from a byte of the window on are these. The byte counts from the
+    /// window's first one.
     #[inline(always)]
-    fn of_byte(&self, byte: u64) -> u64
-        ensures { (j : ℕ) → j < 8 → (bit_at result j == 1) ≡ is_in self.now byte j }
+    fn from_byte(&self, byte: u64) -> u64
+        ensures { (i j : ℕ) → i < 8 → j < 8
+            → (bit_at result (8 * i + j) == 1) ≡ is_in self.now (byte + i) j }
     {
-        if byte < self.offset || byte - self.offset >= 8 {
-            return 0;
+        if byte < self.offset {
+            let above = self.offset - byte;
+            if above < 8 {
+                self.bits << (8 * above)
+            } else {
+                0
+            }
+        } else {
+            let below = byte - self.offset;
+            if below < 8 {
+                self.bits >> (8 * below)
+            } else {
+                0
+            }
         }
-        self.bits >> (8 * (byte - self.offset))
     }
 }
 
-/// Whether two bytes that are at the same place of a window differ in some bits only.
-#[inline(always)]
-fn is_same_but(field: &FieldBits, others: &[FieldBits], byte: u64, a: u8, b: u8) -> bool
-    ensures { IsTrue result
-        ↔ IsSameBut (λ j. is_in field.now byte j || is_in_one others.now byte j) a b }
+/// Whether the four bytes from a byte of a window on differ in some bits only in two windows. In a
+/// loop LLVM would compute the shifts for every word.
+#[inline(never)]
+fn differ_in(field: &FieldBits, others: &[FieldBits], byte: u64, a: u32, b: u32) -> bool
+    ensures { IsTrue result ↔ IsSameWordBut field.now others.now byte a b }
 {
-    let mut ignored = field.of_byte(byte);
+    let mut ignored = field.from_byte(byte);
     for other in others {
-        ignored |= other.of_byte(byte);
+        ignored |= other.from_byte(byte);
     }
     u64::from(a ^ b) & !ignored == 0
 }
 
-/// The index of a byte before `count` bytes from `start` on were deleted.
+/// The same, where they are mostly equal.
 #[inline(always)]
-fn kept_index(start: u64, count: u64, index: u64) -> u64
-    requires { index + count < 2 ^ 64 }
-    ensures { result ≡ kept_index start count index }
+fn is_same_but(field: &FieldBits, others: &[FieldBits], byte: u64, a: u32, b: u32) -> bool
+    ensures { IsTrue result ↔ IsSameWordBut field.now others.now byte a b }
 {
-    if index < start { index } else { index + count }
+    a == b || differ_in(field, others, byte, a, b)
+}
+
+/// Whether bytes that begin at a byte of a window differ in some bits only.
+#[inline(always)]
+fn are_same_from(field: &FieldBits, others: &[FieldBits], from: u64, a: &[u8], b: &[u8]) -> bool
+    requires lengths { length a.now ≡ length b.now }
+    requires room { from + length a.now < 2 ^ 64 }
+    ensures { IsTrue result ↔ AreSameFrom field.now others.now from a.now b.now (length b.now) }
+{
+    let words = b.len() / 4;
+    for word in 0..words {
+        let at = 4 * word;
+        let (one, other) = (u32_from_slice(&a[at..]), u32_from_slice(&b[at..]));
+        if !is_same_but(field, others, from + at as u64, one, other) {
+            return false;
+        }
+    }
+    for at in 4 * words..b.len() {
+        let (one, other) = (u32::from(a[at]), u32::from(b[at]));
+        if !is_same_but(field, others, from + at as u64, one, other) {
+            return false;
+        }
+    }
+    true
 }
 
 /// Whether a window differs from another, of which `count` bytes from `start` on are deleted, in
 /// some bits only.
+#[inline(always)]
 pub(crate) fn are_same_but(
     field: &FieldBits,
     others: &[FieldBits],
@@ -152,16 +191,13 @@ pub(crate) fn are_same_but(
     b: &[u8],
 ) -> bool
     requires lengths { length b.now + count ≡ length a.now }
+    requires start { start ≤ length b.now }
     ensures { IsTrue result
         ↔ AreSameBut (is_in field.now) others.now start count a.now b.now }
 {
-    for (index, byte) in b.iter().enumerate() {
-        let at = kept_index(start, count, index as u64);
-        if !is_same_but(field, others, at, a[at as usize], *byte) {
-            return false;
-        }
-    }
-    true
+    let (split, end) = (start as usize, (start + count) as usize);
+    (split == 0 || are_same_from(field, others, 0, &a[..split], &b[..split]))
+        && are_same_from(field, others, start + count, &a[end..], &b[split..])
 }
 
 /// Whether two windows of the same length differ in the field of a row only, which is at their

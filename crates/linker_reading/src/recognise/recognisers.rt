@@ -23,7 +23,7 @@ ghost use Rattle.linker_riscv64.specs.contracts.rewrites.RelaxationKind as riscv
 ghost use Rattle.linker_x86_64.proofs.X86Choices.{chosen_matches as x86_64_chosen};
 ghost use Rattle.linker_x86_64.specs.contracts.rewrites.RelaxationKind as x86_64_kind;
 
-use crate::recognise::engine::{Recognised, choice_at};
+use crate::recognise::engine::{Choices, Recognised, choices_of};
 use linker_elf::elf::choice_table::ChosenByTable;
 use linker_utils::aarch64::{self, AArch64Relocation};
 use linker_utils::architecture::Relaxation;
@@ -53,9 +53,10 @@ impl Recognised for AArch64Relocation {
         aarch64::choose(self, original, offset, facts)
     }
 
-    fn listed(self, section: &[u8], at: u64, index: usize) -> Option<Choice<Self::Kind, Self>> {
-        let no_op = aarch64::RelaxationKind::NoOp;
-        choice_at(Self::Kind::entries(self, section, at), no_op, self, index)
+    #[inline(always)]
+    fn listed(self, section: &[u8], at: u64) -> Choices<Self::Kind, Self> {
+        let entries = Self::Kind::entries(self, section, at);
+        choices_of(entries, aarch64::RelaxationKind::NoOp, self)
     }
 }
 
@@ -79,9 +80,10 @@ impl Recognised for RiscVRelocation {
         riscv64::choose(self, original, offset, facts)
     }
 
-    fn listed(self, section: &[u8], at: u64, index: usize) -> Option<Choice<Self::Kind, Self>> {
-        let no_op = riscv64::RelaxationKind::NoOp;
-        choice_at(Self::Kind::entries(self, section, at), no_op, self, index)
+    #[inline(always)]
+    fn listed(self, section: &[u8], at: u64) -> Choices<Self::Kind, Self> {
+        let entries = Self::Kind::entries(self, section, at);
+        choices_of(entries, riscv64::RelaxationKind::NoOp, self)
     }
 }
 
@@ -105,9 +107,10 @@ impl Recognised for LoongArch64Relocation {
         loongarch64::choose(self, original, offset, facts)
     }
 
-    fn listed(self, section: &[u8], at: u64, index: usize) -> Option<Choice<Self::Kind, Self>> {
-        let no_op = loongarch64::RelaxationKind::NoOp;
-        choice_at(Self::Kind::entries(self, section, at), no_op, self, index)
+    #[inline(always)]
+    fn listed(self, section: &[u8], at: u64) -> Choices<Self::Kind, Self> {
+        let entries = Self::Kind::entries(self, section, at);
+        choices_of(entries, loongarch64::RelaxationKind::NoOp, self)
     }
 }
 
@@ -131,9 +134,10 @@ impl Recognised for Ppc64Relocation {
         ppc64::choose(self, original, offset, facts)
     }
 
-    fn listed(self, section: &[u8], at: u64, index: usize) -> Option<Choice<Self::Kind, Self>> {
-        let no_op = ppc64::RelaxationKind::NoOp;
-        choice_at(Self::Kind::entries(self, section, at), no_op, self, index)
+    #[inline(always)]
+    fn listed(self, section: &[u8], at: u64) -> Choices<Self::Kind, Self> {
+        let entries = Self::Kind::entries(self, section, at);
+        choices_of(entries, ppc64::RelaxationKind::NoOp, self)
     }
 }
 
@@ -157,9 +161,10 @@ impl Recognised for X86_64Relocation {
         x86_64::choose(self, original, offset, facts)
     }
 
-    fn listed(self, section: &[u8], at: u64, index: usize) -> Option<Choice<Self::Kind, Self>> {
-        let no_op = x86_64::RelaxationKind::NoOp;
-        choice_at(Self::Kind::entries(self, section, at), no_op, self, index)
+    #[inline(always)]
+    fn listed(self, section: &[u8], at: u64) -> Choices<Self::Kind, Self> {
+        let entries = Self::Kind::entries(self, section, at);
+        choices_of(entries, x86_64::RelaxationKind::NoOp, self)
     }
 }
 

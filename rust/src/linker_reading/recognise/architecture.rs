@@ -25,6 +25,7 @@ macro_rules! of_name {
 }
 
 /// The same with the rewrite as one of all architectures', and the relocation's code.
+#[inline(always)]
 fn coded<N: Recognised>(found: Option<Made<N::Kind, N>>) -> Option<Made<Relaxation, u32>> {
     let made = found?;
     Some(Made {
@@ -41,8 +42,13 @@ fn coded<N: Recognised>(found: Option<Made<N::Kind, N>>) -> Option<Made<Relaxati
 fn all_by_code<N: Recognised>(
     found: [Option<Made<N::Kind, N>>; CANDIDATES],
 ) -> [Option<Made<Relaxation, u32>>; CANDIDATES] {
-    let [a, b, c, d, e, f] = found;
-    [coded(a), coded(b), coded(c), coded(d), coded(e), coded(f)]
+    let mut by_code = [None; CANDIDATES];
+    for index in 0..CANDIDATES {
+        if found[index].is_some() {
+            by_code[index] = coded(found[index]);
+        }
+    }
+    by_code
 }
 
 /// Which rewrites, and relocations after them, a linker may have made at the relocation with a

@@ -16,6 +16,9 @@ pub const CANDIDATES: usize = 6;
 /// How long the windows of original bytes may be.
 pub const MAX_WINDOW: usize = 64;
 
+/// The choices of a table, in its order, and how many they are.
+pub type Choices<K, R> = ([Choice<K, R>; CANDIDATES], usize);
+
 /// A choice that leaves the linked bytes, and what stands in the field of its relocation there.
 #[derive(Debug, Clone, Copy, PartialEq, Eq)]
 pub struct Made<K, R> {
@@ -32,6 +35,7 @@ pub struct Made<K, R> {
 
 /// The bits of a relocation's field at an offset, if its window is there. A relocation without a
 /// row has no bits.
+#[inline(always)]
 fn field_at(row: &Option<Row>, at: u64, bytes: &[u8]) -> Option<FieldBits> {
     match row {
         Some(row) => FieldBits::of_row(row, at, bytes),
@@ -50,6 +54,7 @@ fn deleted_at(deleted: Option<DeletedBytes>, offset: u64) -> (u64, u64) {
 
 /// Whether the linked bytes are those after a rewrite, without the deleted ones, but for the field
 /// of a row and some other bits.
+#[inline(always)]
 fn are_left(
     after: &[u8],
     at: u64,
@@ -78,6 +83,7 @@ fn linked_offset(deleted: Option<DeletedBytes>, offset: u64, at: u64) -> u64 {
 }
 
 /// What stands in the field of a relocation at an offset of the linked bytes.
+#[inline(always)]
 fn value_at(row: &Option<Row>, at: u64, linked: &[u8]) -> Option<FieldValue> {
     let Some(row) = row else {
         return None;
@@ -103,35 +109,34 @@ pub trait Recognised: RelocationName + PartialEq {
     #[must_use]
     fn choose(self, original: &[u8], offset: u64, facts: &LinkFacts) -> Choice<Self::Kind, Self>;
 
-    /// The choice with an index in its table, behind which is the one that changes nothing.
+    /// The choices of its table. The last of them changes nothing.
     #[must_use]
-    fn listed(self, section: &[u8], at: u64, index: usize) -> Option<Choice<Self::Kind, Self>>;
+    fn listed(self, section: &[u8], at: u64) -> Choices<Self::Kind, Self>;
 }
 
-/// The choice with an index: that of an entry, and behind these the one that changes nothing.
-#[cfg_attr(not(debug_assertions), inline(always))]
-pub(crate) fn choice_at<O, K: Copy, R: Copy>(
+/// The choices of entries, and behind these another.
+#[inline(always)]
+pub(crate) fn choices_of<O, K: Copy, R: Copy>(
     entries: &'static [ChoiceEntry<O, K, R>],
     kind: K,
     relocation: R,
-    index: usize,
-) -> Option<Choice<K, R>> {
-    if index < entries.len() {
+) -> Choices<K, R> {
+    let mut choices = [Choice { kind, relocation }; CANDIDATES];
+    for index in 0..entries.len() {
         let ChoiceEntry {
             kind,
             relocation,
             ..
         } = entries[index];
-        Some(Choice { kind, relocation })
-    } else if index == entries.len() {
-        Some(Choice { kind, relocation })
-    } else {
-        None
+        choices[index] = Choice { kind, relocation };
     }
+    (choices, entries.len() + 1)
 }
 
 /// A choice with what stands in its field, if its rewrite is meant for what is at the offset and it
-/// leaves the linked bytes, as `recognise` says.
+/// leaves the linked bytes, as `recognise` says. In a loop LLVM would compute for every rewrite what
+/// some need.
+#[inline(never)]
 fn recognise_one<N: Recognised>(
     choice: Choice<N::Kind, N>,
     original: &[u8],
@@ -161,20 +166,18 @@ fn recognise_one<N: Recognised>(
     })
 }
 
-/// Whether a choice is listed before an index.
-fn is_listed_before<N: Recognised>(
-    choice: &Choice<N::Kind, N>,
+/// The choice at an index, if it has no place before it.
+#[inline(always)]
+fn first_at<N: Recognised>(
+    choices: &[Choice<N::Kind, N>; CANDIDATES],
     index: usize,
-    name: N,
-    section: &[u8],
-    at: u64,
-) -> bool {
+) -> Option<Choice<N::Kind, N>> {
     for earlier in 0..index {
-        if name.listed(section, at, earlier) == Some(*choice) {
-            return true;
+        if choices[earlier] == choices[index] {
+            return None;
         }
     }
-    false
+    Some(choices[index])
 }
 
 /// Which rewrites, and relocations after them, a linker may have made at the relocation with a
@@ -234,14 +237,11 @@ pub fn recognise<N: Recognised>(
     linked: &[u8],
 ) -> [Option<Made<N::Kind, N>>; CANDIDATES] {
     debug_assert!(original.len() <= 64);
+    let (choices, count) = name.listed(original, offset);
     let mut found = [None; CANDIDATES];
-    for index in 0..CANDIDATES {
-        let Some(choice) = name.listed(original, offset, index) else {
-            break;
-        };
-        let made = recognise_one(choice, original, offset, others, linked);
-        if made.is_some() && !is_listed_before(&choice, index, name, original, offset) {
-            found[index] = made;
+    for index in 0..count {
+        if let Some(choice) = first_at(&choices, index) {
+            found[index] = recognise_one(choice, original, offset, others, linked);
         }
     }
     found

@@ -1,6 +1,7 @@
 // Made by tools/erase of crates/linker_reading/src/recognise/fields.rt.
 //! The bits of a relocation's field, and bytes that differ in such bits only.
 
+use crate::linker_base::utils::u32_from_slice;
 use crate::linker_elf::elf::{RelocationKind, RelocationSize, Row};
 
 /// Some of the bits of the eight bytes from an offset of a window on.
@@ -81,6 +82,7 @@ impl FieldBits {
     /// assert_eq!((field.offset, field.bits), (2, 0xffff_f000));
     /// ```
     #[must_use]
+    #[inline]
     pub fn of_row(row: &Row, offset: u64, window: &[u8]) -> Option<FieldBits> {
         let row_window = row.window();
         if window.len() < row_window || offset > (window.len() - row_window) as u64 {
@@ -92,35 +94,68 @@ impl FieldBits {
         })
     }
 
-    /// Which bits of a byte of the window are these, as the lowest eight bits. The byte counts from
-    /// the window's first one.
+    /// Which of the 64 bits from a byte of the window on are these. The byte counts from the
+    /// window's first one.
     #[inline(always)]
-    fn of_byte(&self, byte: u64) -> u64 {
-        if byte < self.offset || byte - self.offset >= 8 {
-            return 0;
+    fn from_byte(&self, byte: u64) -> u64 {
+        if byte < self.offset {
+            let above = self.offset - byte;
+            if above < 8 {
+                self.bits << (8 * above)
+            } else {
+                0
+            }
+        } else {
+            let below = byte - self.offset;
+            if below < 8 {
+                self.bits >> (8 * below)
+            } else {
+                0
+            }
         }
-        self.bits >> (8 * (byte - self.offset))
     }
 }
 
-/// Whether two bytes that are at the same place of a window differ in some bits only.
-#[inline(always)]
-fn is_same_but(field: &FieldBits, others: &[FieldBits], byte: u64, a: u8, b: u8) -> bool {
-    let mut ignored = field.of_byte(byte);
+/// Whether the four bytes from a byte of a window on differ in some bits only in two windows. In a
+/// loop LLVM would compute the shifts for every word.
+#[inline(never)]
+fn differ_in(field: &FieldBits, others: &[FieldBits], byte: u64, a: u32, b: u32) -> bool {
+    let mut ignored = field.from_byte(byte);
     for other in others {
-        ignored |= other.of_byte(byte);
+        ignored |= other.from_byte(byte);
     }
     u64::from(a ^ b) & !ignored == 0
 }
 
-/// The index of a byte before `count` bytes from `start` on were deleted.
+/// The same, where they are mostly equal.
 #[inline(always)]
-fn kept_index(start: u64, count: u64, index: u64) -> u64 {
-    if index < start { index } else { index + count }
+fn is_same_but(field: &FieldBits, others: &[FieldBits], byte: u64, a: u32, b: u32) -> bool {
+    a == b || differ_in(field, others, byte, a, b)
+}
+
+/// Whether bytes that begin at a byte of a window differ in some bits only.
+#[inline(always)]
+fn are_same_from(field: &FieldBits, others: &[FieldBits], from: u64, a: &[u8], b: &[u8]) -> bool {
+    let words = b.len() / 4;
+    for word in 0..words {
+        let at = 4 * word;
+        let (one, other) = (u32_from_slice(&a[at..]), u32_from_slice(&b[at..]));
+        if !is_same_but(field, others, from + at as u64, one, other) {
+            return false;
+        }
+    }
+    for at in 4 * words..b.len() {
+        let (one, other) = (u32::from(a[at]), u32::from(b[at]));
+        if !is_same_but(field, others, from + at as u64, one, other) {
+            return false;
+        }
+    }
+    true
 }
 
 /// Whether a window differs from another, of which `count` bytes from `start` on are deleted, in
 /// some bits only.
+#[inline(always)]
 pub(crate) fn are_same_but(
     field: &FieldBits,
     others: &[FieldBits],
@@ -129,13 +164,9 @@ pub(crate) fn are_same_but(
     a: &[u8],
     b: &[u8],
 ) -> bool {
-    for (index, byte) in b.iter().enumerate() {
-        let at = kept_index(start, count, index as u64);
-        if !is_same_but(field, others, at, a[at as usize], *byte) {
-            return false;
-        }
-    }
-    true
+    let (split, end) = (start as usize, (start + count) as usize);
+    (split == 0 || are_same_from(field, others, 0, &a[..split], &b[..split]))
+        && are_same_from(field, others, start + count, &a[end..], &b[split..])
 }
 
 /// Whether two windows of the same length differ in the field of a row only, which is at their

@@ -1,7 +1,7 @@
 // Made by tools/erase of crates/linker_reading/src/recognise/recognisers.rt.
 //! What is recognised of each architecture.
 
-use crate::linker_reading::recognise::engine::{Recognised, choice_at};
+use crate::linker_reading::recognise::engine::{Choices, Recognised, choices_of};
 use crate::linker_elf::elf::choice_table::ChosenByTable;
 use crate::aarch64::{self, AArch64Relocation};
 use crate::architecture::Relaxation;
@@ -26,9 +26,10 @@ impl Recognised for AArch64Relocation {
         aarch64::choose(self, original, offset, facts)
     }
 
-    fn listed(self, section: &[u8], at: u64, index: usize) -> Option<Choice<Self::Kind, Self>> {
-        let no_op = aarch64::RelaxationKind::NoOp;
-        choice_at(Self::Kind::entries(self, section, at), no_op, self, index)
+    #[inline(always)]
+    fn listed(self, section: &[u8], at: u64) -> Choices<Self::Kind, Self> {
+        let entries = Self::Kind::entries(self, section, at);
+        choices_of(entries, aarch64::RelaxationKind::NoOp, self)
     }
 }
 
@@ -47,9 +48,10 @@ impl Recognised for RiscVRelocation {
         riscv64::choose(self, original, offset, facts)
     }
 
-    fn listed(self, section: &[u8], at: u64, index: usize) -> Option<Choice<Self::Kind, Self>> {
-        let no_op = riscv64::RelaxationKind::NoOp;
-        choice_at(Self::Kind::entries(self, section, at), no_op, self, index)
+    #[inline(always)]
+    fn listed(self, section: &[u8], at: u64) -> Choices<Self::Kind, Self> {
+        let entries = Self::Kind::entries(self, section, at);
+        choices_of(entries, riscv64::RelaxationKind::NoOp, self)
     }
 }
 
@@ -68,9 +70,10 @@ impl Recognised for LoongArch64Relocation {
         loongarch64::choose(self, original, offset, facts)
     }
 
-    fn listed(self, section: &[u8], at: u64, index: usize) -> Option<Choice<Self::Kind, Self>> {
-        let no_op = loongarch64::RelaxationKind::NoOp;
-        choice_at(Self::Kind::entries(self, section, at), no_op, self, index)
+    #[inline(always)]
+    fn listed(self, section: &[u8], at: u64) -> Choices<Self::Kind, Self> {
+        let entries = Self::Kind::entries(self, section, at);
+        choices_of(entries, loongarch64::RelaxationKind::NoOp, self)
     }
 }
 
@@ -89,9 +92,10 @@ impl Recognised for Ppc64Relocation {
         ppc64::choose(self, original, offset, facts)
     }
 
-    fn listed(self, section: &[u8], at: u64, index: usize) -> Option<Choice<Self::Kind, Self>> {
-        let no_op = ppc64::RelaxationKind::NoOp;
-        choice_at(Self::Kind::entries(self, section, at), no_op, self, index)
+    #[inline(always)]
+    fn listed(self, section: &[u8], at: u64) -> Choices<Self::Kind, Self> {
+        let entries = Self::Kind::entries(self, section, at);
+        choices_of(entries, ppc64::RelaxationKind::NoOp, self)
     }
 }
 
@@ -110,9 +114,10 @@ impl Recognised for X86_64Relocation {
         x86_64::choose(self, original, offset, facts)
     }
 
-    fn listed(self, section: &[u8], at: u64, index: usize) -> Option<Choice<Self::Kind, Self>> {
-        let no_op = x86_64::RelaxationKind::NoOp;
-        choice_at(Self::Kind::entries(self, section, at), no_op, self, index)
+    #[inline(always)]
+    fn listed(self, section: &[u8], at: u64) -> Choices<Self::Kind, Self> {
+        let entries = Self::Kind::entries(self, section, at);
+        choices_of(entries, x86_64::RelaxationKind::NoOp, self)
     }
 }
 

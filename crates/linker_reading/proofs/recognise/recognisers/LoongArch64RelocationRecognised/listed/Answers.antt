@@ -1,11 +1,11 @@
-use Rattle.linker_reading.proofs.Tables.{listed_at, few_listed}
+use Rattle.std.proofs.Common.{◌∙◌}
+use Rattle.linker_elf.specs.Choices.{choice}
+use Rattle.linker_reading.proofs.Tables.{same_choices}
 use Rattle.linker_reading.specs.Recognisers.{loongarch}
 use Rattle.linker_reading.proofs.recognise.recognisers.LoongArch64RelocationRecognised.listed.Goals as goal
 
-pub returns-clause-choice : goal.returns-clause-choice
-returns-clause-choice c =
-    listed_at loongarch c.args.self c.args.section.now c.args.at _ _ c.entries.result.now c.entries.ensures.table c.args.index c.choice_at.result c.choice_at.ensures
-
-pub returns-clause-few : goal.returns-clause-few
-returns-clause-few c =
-    few_listed loongarch c.args.self c.args.section.now c.args.at _ _ c.entries.result.now c.entries.ensures.table c.entries.ensures.few
+pub returns-clause-choices : goal.returns-clause-choices
+returns-clause-choices c =
+    c.choices_of.ensures.choices
+    ∙ same_choices _ _ c.entries-entries.result.now (loongarch.entries c.args.self c.args.section.now c.args.at) (choice loongarch.no_op c.args.self)
+    c.entries-entries.ensures.table

@@ -1,12 +1,11 @@
-use Rattle.linker_reading.proofs.Tables.{listed_at, few_listed}
+use Rattle.std.proofs.Common.{◌∙◌}
+use Rattle.linker_elf.specs.Choices.{choice}
+use Rattle.linker_reading.proofs.Tables.{same_choices}
 use Rattle.linker_reading.specs.Recognisers.{x86_64}
 use Rattle.linker_reading.proofs.recognise.recognisers.X86_64RelocationRecognised.listed.Goals as goal
 
-pub returns-clause-choice : goal.returns-clause-choice
-returns-clause-choice c =
-    listed_at x86_64 c.args.self c.args.section.now c.args.at _ _ c.entries.result.now c.entries.ensures.table
-    c.args.index c.choice_at.result c.choice_at.ensures
-
-pub returns-clause-few : goal.returns-clause-few
-returns-clause-few c =
-    few_listed x86_64 c.args.self c.args.section.now c.args.at _ _ c.entries.result.now c.entries.ensures.table c.entries.ensures.few
+pub returns-clause-choices : goal.returns-clause-choices
+returns-clause-choices c =
+    c.choices_of.ensures.choices
+    ∙ same_choices _ _ c.entries-entries.result.now (x86_64.entries c.args.self c.args.section.now c.args.at) (choice x86_64.no_op c.args.self)
+    c.entries-entries.ensures.table

@@ -1,0 +1,5 @@
+use Rattle.std.proofs.Common.{◌≡◌, ℕ, ◌<◌, slice_get}
+use Rattle.linker_reading.proofs.recognise.engine.first_at.Given as goal
+
+abbrev pub invariant-loop-earlier : goal.invariant-loop-earlier
+invariant-loop-earlier g l = (i : ℕ) → i < l.earlier → slice_get l.choices i ≡ slice_get l.choices l.index → ⊥
