@@ -16,9 +16,9 @@ ghost use Rattle.linker_ppc64.specs.declared.rewrites.RelaxationKind.TheVariants
 
 use super::rewrites::RelaxationKind;
 use linker_elf::elf::choice_table::{
-    BOUND, CHANGED_TOC, ChoiceEntry, ChosenKind, Conditions, EXECUTABLE, FIXED_ADDRESS,
-    FIXED_DISTANCE, GROUP_FITS, Originals, PRIVATE_BASE, all_tables, by_table, conditions,
-    first_entry,
+    BOUND, CHANGED_TOC, ChosenByTable, ChosenKind, Conditions, EXECUTABLE, FIXED_ADDRESS,
+    FIXED_DISTANCE, GROUP_FITS, PRIVATE_BASE, Table, all_tables, by_table, choice_by, conditions,
+    is_listed,
 };
 use linker_elf::elf::{Choice, LinkFacts, Operands};
 use linker_elf::ppc64::{Ppc64Relocation, Ppc64Relocation as Names};
