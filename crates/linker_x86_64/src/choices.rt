@@ -357,12 +357,20 @@ fn opcode_before(section: &[u8], offset: u64) -> u8
 impl ChosenByTable for RelaxationKind {
     #[inline(always)]
     fn is_listed(name: Names) -> bool {
-        choices!(is_listed(
-            name;
-            R_X86_64_GOTPCREL | R_X86_64_GOTPCRELX | R_X86_64_REX_GOTPCRELX
-            | R_X86_64_CODE_4_GOTPCRELX | R_X86_64_CODE_5_GOTPCRELX | R_X86_64_CODE_6_GOTPCRELX | R_X86_64_GOTTPOFF
-            | R_X86_64_CODE_4_GOTTPOFF | R_X86_64_CODE_5_GOTTPOFF | R_X86_64_CODE_6_GOTTPOFF
-        ))
+        choices!(is_listed(name))
+            || matches!(
+                name,
+                Names::R_X86_64_GOTPCREL
+                    | Names::R_X86_64_GOTPCRELX
+                    | Names::R_X86_64_REX_GOTPCRELX
+                    | Names::R_X86_64_CODE_4_GOTPCRELX
+                    | Names::R_X86_64_CODE_5_GOTPCRELX
+                    | Names::R_X86_64_CODE_6_GOTPCRELX
+                    | Names::R_X86_64_GOTTPOFF
+                    | Names::R_X86_64_CODE_4_GOTTPOFF
+                    | Names::R_X86_64_CODE_5_GOTTPOFF
+                    | Names::R_X86_64_CODE_6_GOTTPOFF
+            )
     }
 
     #[inline(always)]

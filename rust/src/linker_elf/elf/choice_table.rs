@@ -361,10 +361,10 @@ pub fn choice_by<K: ChosenKind>(
 // or for several with `|` between, its entries in brackets. The module that calls them has the enums
 // `RelaxationKind`, `AskedFor` and, by the name `Names`, that of the relocations.
 
-/// Whether a name is listed, or is one of others.
+/// Whether a name is listed.
 macro_rules! is_listed {
-    (($name:expr $(; $($other:ident)|+)?) $($($listed:ident)|+: $entries:tt)*) => {
-        matches!($name, $($(Names::$listed)|+)|* $(| $(Names::$other)|+)?)
+    (($name:expr) $($($listed:ident)|+: $entries:tt)*) => {
+        matches!($name, $($(Names::$listed)|+)|*)
     };
 }
 
