@@ -877,8 +877,8 @@ static inline uint32_t linker_utils_choose(uint16_t machine, uint32_t r_type,
 
 /* ---- The tables of choices, made by tools/choice_tables.
  * The first entry of a relocation is chosen whose instructions are at its offset and whose
- * conditions hold, and else NO_OP and the same relocation. Conditions are on struct
- * linker_utils_link_facts, and on values by these words:
+ * conditions hold, and else NO_OP and the same relocation, as for any relocation that isn't listed.
+ * Conditions are on struct linker_utils_link_facts, and on values by these words:
  * - R in reach: the value of the relocation R, after the rewrite, is known and can be written.
  * - R in a..b: that value is known, and is from a up, below b.
  * - R at -4: that value of a place 4 bytes before.

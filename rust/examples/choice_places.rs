@@ -9,6 +9,7 @@
 //! where it isn't.
 
 use linker_utils::aarch64::{self, AArch64Relocation};
+use linker_utils::choice_table::ChosenByTable;
 use linker_utils::elf::{Architecture, LinkFacts, Operands};
 use linker_utils::loongarch64::{self, LoongArch64Relocation};
 use linker_utils::ppc64::{self, Ppc64Relocation};
@@ -20,16 +21,15 @@ use std::io::{self, BufReader, BufWriter, ErrorKind, Read, Write};
 /// Whether the table of choices has entries for a relocation.
 fn has_choices(architecture: Architecture, code: u32) -> bool {
     match architecture {
-        Architecture::AArch64 => !aarch64::entries(AArch64Relocation::from_elf(code)).is_empty(),
-        Architecture::RiscV => !riscv64::entries(RiscVRelocation::from_elf(code)).is_empty(),
+        Architecture::AArch64 => {
+            aarch64::RelaxationKind::is_listed(AArch64Relocation::from_elf(code))
+        }
+        Architecture::RiscV => riscv64::RelaxationKind::is_listed(RiscVRelocation::from_elf(code)),
         Architecture::LoongArch64 => {
-            !loongarch64::entries(LoongArch64Relocation::from_elf(code)).is_empty()
+            loongarch64::RelaxationKind::is_listed(LoongArch64Relocation::from_elf(code))
         }
-        Architecture::Ppc64 => !ppc64::entries(Ppc64Relocation::from_elf(code)).is_empty(),
-        Architecture::X86_64 => {
-            let name = X86_64Relocation::from_elf(code);
-            (0..=u8::MAX).any(|opcode| !x86_64::entries(name, opcode).is_empty())
-        }
+        Architecture::Ppc64 => ppc64::RelaxationKind::is_listed(Ppc64Relocation::from_elf(code)),
+        Architecture::X86_64 => x86_64::RelaxationKind::is_listed(X86_64Relocation::from_elf(code)),
         _ => false,
     }
 }

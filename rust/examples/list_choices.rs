@@ -13,11 +13,14 @@
 use linker_utils::aarch64::{self, AArch64Relocation};
 use linker_utils::architecture::Relaxation;
 use linker_utils::choice_table::{
-    ChoiceEntry, ChosenKind, Conditions, Originals, RelocationName, ValueCondition, first_entry,
+    ChoiceEntry, ChosenByTable, ChosenKind, Conditions, RelocationName, ValueCondition, choice_by,
 };
-use linker_utils::elf::{Architecture, Choice, InstructionRewrite, LinkFacts, Operands, Row};
+use linker_utils::elf::{
+    Architecture, InstructionRewrite, LinkFacts, Operands, RewriteWindow, Row,
+};
 use linker_utils::loongarch64::{self, LoongArch64Relocation};
 use linker_utils::ppc64::{self, Ppc64Relocation};
+use linker_utils::relaxation::RelocationModifier;
 use linker_utils::riscv64::{self, RiscVRelocation};
 use linker_utils::x86_64::{self, X86_64Relocation};
 use std::collections::BTreeMap;
@@ -55,18 +58,43 @@ statements! {
 
 /// The instructions, the rewrite and the relocation of an entry that asks for facts alone; or of
 /// none.
-#[derive(Clone, Copy)]
+#[derive(Clone, Copy, PartialEq)]
 struct Probe {
     is_entry: bool,
 }
 
-impl Originals<Probe> for Probe {
-    fn stand_at(&self, _: Probe, _: &[u8], _: u64) -> bool {
+impl InstructionRewrite for Probe {
+    fn apply(self, _: &mut [u8], _: &mut u64, _: &mut i64) {}
+
+    fn can_apply(self, _: &[u8], _: u64) -> bool {
         true
+    }
+
+    fn window(self) -> RewriteWindow {
+        RewriteWindow { back: 0, len: 0 }
+    }
+
+    fn next_modifier(&self) -> RelocationModifier {
+        RelocationModifier::Normal
+    }
+
+    fn is_no_op(self) -> bool {
+        !self.is_entry
     }
 }
 
 impl ChosenKind for Probe {
+    type Relocation = Probe;
+    type Originals = Probe;
+
+    fn none() -> Probe {
+        Probe { is_entry: false }
+    }
+
+    fn stand_at(self, _: &Probe, _: &[u8], _: u64) -> bool {
+        true
+    }
+
     fn operands_after(self, _: u64, operands: &Operands) -> Operands {
         *operands
     }
@@ -80,20 +108,19 @@ impl RelocationName for Probe {
 
 /// What a bit of a mask of facts asks for: statements, each with how it is said.
 fn asked_for(bit: u32) -> Vec<&'static str> {
-    let (entry, none) = (Probe { is_entry: true }, Probe { is_entry: false });
+    let entry = Probe { is_entry: true };
     let table: &'static [_] = Box::leak(Box::new([ChoiceEntry {
         originals: entry,
         kind: entry,
         relocation: entry,
         conditions: Conditions { facts: bit, addend: None, values: &[] },
     }]));
-    let otherwise = Choice { kind: none, relocation: none };
     let holds = |state: &u32| {
         let mut facts = LinkFacts::default();
         for (at, (_, _, set)) in STATEMENTS.iter().enumerate() {
             set(&mut facts, state >> at & 1 == 1);
         }
-        first_entry(table, &[], 0, &facts, otherwise).kind.is_entry
+        choice_by::<Probe>(table, entry, &[], 0, &facts).kind.is_entry
     };
     let states: Vec<u32> = (0..1 << STATEMENTS.len()).filter(holds).collect();
     let (all, any) = states.iter().fold((!0, 0), |(all, any), state| (all & state, any | state));
@@ -283,31 +310,31 @@ fn main() {
         list(
             Architecture::AArch64,
             AArch64Relocation::ALL,
-            |name, _| aarch64::entries(name),
+            |name, _| aarch64::RelaxationKind::entries(name, &[], 0),
             Relaxation::AArch64,
         ),
         list(
             Architecture::RiscV,
             RiscVRelocation::ALL,
-            |name, _| riscv64::entries(name),
+            |name, _| riscv64::RelaxationKind::entries(name, &[], 0),
             Relaxation::RiscV,
         ),
         list(
             Architecture::LoongArch64,
             LoongArch64Relocation::ALL,
-            |name, _| loongarch64::entries(name),
+            |name, _| loongarch64::RelaxationKind::entries(name, &[], 0),
             Relaxation::LoongArch64,
         ),
         list(
             Architecture::Ppc64,
             Ppc64Relocation::ALL,
-            |name, _| ppc64::entries(name),
+            |name, _| ppc64::RelaxationKind::entries(name, &[], 0),
             Relaxation::Ppc64,
         ),
         list(
             Architecture::X86_64,
             X86_64Relocation::ALL,
-            x86_64::entries,
+            |name, opcode| x86_64::RelaxationKind::entries(name, &[opcode, 0], 2),
             Relaxation::X86_64,
         ),
     ];

@@ -6,6 +6,7 @@ use Rattle.linker_loongarch64.proofs.choices.RelaxationKindChosenByTable.choose_
 
 pub choice_by-requires-clause-table : goal.choice_by-requires-clause-table
 choice_by-requires-clause-table c =
+    λ κs.
     let is = c.in-R_LARCH_GOT_PC_HI20-by_table.is in
     let near = first_asked c.args.name r.R_LARCH_GOT_PC_HI20 kinds.PcalaToPcaddi is in
     let paged = first_asked c.args.name r.R_LARCH_GOT_PC_HI20 kinds.NoOp is in
@@ -13,15 +14,18 @@ choice_by-requires-clause-table c =
 
 pub choice_by-requires-3-clause-table : goal.choice_by-requires-3-clause-table
 choice_by-requires-3-clause-table c =
+    λ κs.
     let is = c.in-R_LARCH_PCALA_HI20-by_table.is in
     rw is (refl, (first_asked c.args.name r.R_LARCH_PCALA_HI20 kinds.PcalaToPcaddi is, tt))
 
 pub choice_by-requires-5-clause-table : goal.choice_by-requires-5-clause-table
 choice_by-requires-5-clause-table c =
+    λ κs.
     let is = c.in-R_LARCH_TLS_GD_PC_HI20-by_table.is in
     rw is (refl, (first_asked c.args.name r.R_LARCH_TLS_GD_PC_HI20 kinds.PcalaToPcaddi is, tt))
 
 pub choice_by-requires-6-clause-table : goal.choice_by-requires-6-clause-table
 choice_by-requires-6-clause-table c =
+    λ κs.
     let is = c.in-R_LARCH_TLS_LD_PC_HI20-by_table.is in
     rw is (refl, (first_asked c.args.name r.R_LARCH_TLS_LD_PC_HI20 kinds.PcalaToPcaddi is, tt))
