@@ -57,7 +57,7 @@ extern "C" {
 
 /* What a call returns: names, numbers and `linker_utils_status_text`. 11 and 16 are unused. */
 #define LINKER_UTILS_STATUSES(STATUS) \
-    STATUS(OK, 0, "The call did what it says.") \
+    STATUS(OK, 0, "Success.") \
     STATUS(UNKNOWN_ARCHITECTURE, 1, \
            "No architecture has this machine number, or the call isn't for this architecture.") \
     STATUS(UNKNOWN_FORM, 2, "The architecture has no form with this number.") \
@@ -108,27 +108,27 @@ extern "C" {
     STATUS(SHAPE_TOO_LONG, 37, "A shape keeps more bytes than the site has.") \
     STATUS(SHAPES_NOT_ASCENDING, 38, \
            "A short shape keeps no fewer bytes than the next shape.") \
-    STATUS(BAD_UNIT, 39, \
-           "The unit of a short shape is not a power of two, or not a multiple of the next " \
-           "one's.") \
+    STATUS(BAD_GRANULARITY, 39, \
+           "The granularity of a short shape is not a power of two, or not a multiple of the " \
+           "next one's.") \
     STATUS(BAD_REACH, 40, \
            "A short shape does not reach its own offset, or reaches farther than the next short " \
            "one.") \
-    STATUS(BAD_POWER, 41, "The alignment is not a power of two.") \
+    STATUS(BAD_ALIGNMENT, 41, "The alignment is not a power of two.") \
     STATUS(UNEVEN_SHAPE, 42, \
-           "A shape frees bytes that are not a multiple of the run's greatest unit.") \
-    STATUS(POWER_BELOW_UNIT, 43, \
-           "The alignment is not a multiple of the run's greatest unit, and may keep other nops " \
+           "A shape frees bytes that are not a multiple of the run's granularity.") \
+    STATUS(ALIGNMENT_BELOW_GRANULARITY, 43, \
+           "The alignment is not a multiple of the run's granularity, and may keep other nops " \
            "in other layouts.") \
     STATUS(UNEVEN_END, 44, \
-           "The address behind the nops is not a multiple of the run's greatest unit, and the " \
+           "The address behind the nops is not a multiple of the run's granularity, and the " \
            "alignment may keep other nops in other layouts.") \
     STATUS(TOO_FEW_NOPS, 45, \
-           "The alignment has a limit, and there are fewer nops than it less the unit, and fewer " \
-           "than may stay.") \
+           "The alignment has a limit, and there are fewer nops than it less the granularity, " \
+           "and fewer than may stay.") \
     STATUS(UNEVEN_NOPS, 46, \
-           "The alignment has a limit, and its nops are not a multiple of the run's greatest " \
-           "unit.") \
+           "The alignment has a limit, and its nops are not a multiple of the run's " \
+           "granularity.") \
     STATUS(TARGET_INSIDE, 47, "The target is strictly inside the bytes that an item may lose.") \
     STATUS(HOLDS_NO_VALUE, 48, "The relocation's field does not hold bits of its value.") \
     STATUS(BAD_FIELD_VALUE, 49, \
@@ -261,7 +261,8 @@ static inline uint32_t linker_utils_read(uint16_t machine, uint32_t form, const 
 
 /* ---- Rewrites: instructions in place of others.
  *
- * A machine, a number of its enum of rewrites and `n` name a rewrite; `n` matters only to those of
+ * A machine, a number of its enum of rewrites and `opcode_len` name a rewrite; `opcode_len` matters only
+ * to those of
  * x86-64 that are marked. The offset is that of the relocation that belongs to the instruction. The
  * statuses LINKER_UTILS_UNKNOWN_ARCHITECTURE and LINKER_UTILS_UNKNOWN_REWRITE come first. */
 
@@ -420,8 +421,8 @@ enum linker_utils_ppc64_rewrite {
     LINKER_UTILS_PPC64_REWRITE_ADDI_BEHIND_LIS = 17
 };
 
-/* Where `n` is marked it is the count of the instruction's bytes before the field: 2 without a
- * prefix, 3 with REX, 4 with REX2 and 6 with EVEX. The relocation of the field afterwards is in the
+/* Where `opcode_len` is marked it is the count of the instruction's bytes before the field: 2 without
+ * a prefix, 3 with REX, 4 with REX2 and 6 with EVEX. The relocation of the field afterwards is in the
  * tables of choices below. */
 enum linker_utils_x86_64_rewrite {
     /* Turns `mov x@GOTPCREL(%rip), %reg` into `lea x(%rip), %reg`. */
@@ -429,13 +430,13 @@ enum linker_utils_x86_64_rewrite {
     /* Turns `mov x@GOTPCREL(%rip), %reg` into `mov $x, %reg`, where no prefix names the
      * register. */
     LINKER_UTILS_X86_64_REWRITE_MOV_INDIRECT_TO_ABSOLUTE = 1,
-    /* n: turns `mov x@GOTPCREL(%rip), %reg` into `mov $x, %reg`. */
+    /* opcode_len: turns `mov x@GOTPCREL(%rip), %reg` into `mov $x, %reg`. */
     LINKER_UTILS_X86_64_REWRITE_REX_MOV_INDIRECT_TO_ABSOLUTE = 2,
-    /* n: turns `add x@GOTPCREL(%rip), %reg` into `add $x, %reg`. */
+    /* opcode_len: turns `add x@GOTPCREL(%rip), %reg` into `add $x, %reg`. */
     LINKER_UTILS_X86_64_REWRITE_REX_ADD_INDIRECT_TO_ABSOLUTE = 3,
-    /* n: turns `sub x@GOTPCREL(%rip), %reg` into `sub $x, %reg`. */
+    /* opcode_len: turns `sub x@GOTPCREL(%rip), %reg` into `sub $x, %reg`. */
     LINKER_UTILS_X86_64_REWRITE_REX_SUB_INDIRECT_TO_ABSOLUTE = 4,
-    /* n: turns `cmp x@GOTPCREL(%rip), %reg` into `cmp $x, %reg`. */
+    /* opcode_len: turns `cmp x@GOTPCREL(%rip), %reg` into `cmp $x, %reg`. */
     LINKER_UTILS_X86_64_REWRITE_REX_CMP_INDIRECT_TO_ABSOLUTE = 5,
     /* Turns `call *x@GOTPCREL(%rip)` into `addr32 call x`. */
     LINKER_UTILS_X86_64_REWRITE_CALL_INDIRECT_TO_RELATIVE = 6,
@@ -455,23 +456,23 @@ enum linker_utils_x86_64_rewrite {
     LINKER_UTILS_X86_64_REWRITE_TLS_LD_TO_LOCAL_EXEC64 = 13,
     /* Turns a general-dynamic TLS sequence into an initial-exec one. */
     LINKER_UTILS_X86_64_REWRITE_TLS_GD_TO_INITIAL_EXEC = 14,
-    /* n: turns the `lea` of a TLS descriptor into `mov $x, %reg`. */
+    /* opcode_len: turns the `lea` of a TLS descriptor into `mov $x, %reg`. */
     LINKER_UTILS_X86_64_REWRITE_TLS_DESC_TO_LOCAL_EXEC = 15,
     /* Turns the `lea` of a TLS descriptor into `mov x@GOTTPOFF(%rip), %reg`. */
     LINKER_UTILS_X86_64_REWRITE_TLS_DESC_TO_INITIAL_EXEC = 16,
     /* Turns the call through a TLS descriptor into a `nop` of two bytes. */
     LINKER_UTILS_X86_64_REWRITE_SKIP_TLS_DESC_CALL = 17,
-    /* n: turns `adc x@GOTPCREL(%rip), %reg` into `adc $x, %reg`. */
+    /* opcode_len: turns `adc x@GOTPCREL(%rip), %reg` into `adc $x, %reg`. */
     LINKER_UTILS_X86_64_REWRITE_REX_ADC_INDIRECT_TO_ABSOLUTE = 18,
-    /* n: turns `and x@GOTPCREL(%rip), %reg` into `and $x, %reg`. */
+    /* opcode_len: turns `and x@GOTPCREL(%rip), %reg` into `and $x, %reg`. */
     LINKER_UTILS_X86_64_REWRITE_REX_AND_INDIRECT_TO_ABSOLUTE = 19,
-    /* n: turns `or x@GOTPCREL(%rip), %reg` into `or $x, %reg`. */
+    /* opcode_len: turns `or x@GOTPCREL(%rip), %reg` into `or $x, %reg`. */
     LINKER_UTILS_X86_64_REWRITE_REX_OR_INDIRECT_TO_ABSOLUTE = 20,
-    /* n: turns `sbb x@GOTPCREL(%rip), %reg` into `sbb $x, %reg`. */
+    /* opcode_len: turns `sbb x@GOTPCREL(%rip), %reg` into `sbb $x, %reg`. */
     LINKER_UTILS_X86_64_REWRITE_REX_SBB_INDIRECT_TO_ABSOLUTE = 21,
-    /* n: turns `xor x@GOTPCREL(%rip), %reg` into `xor $x, %reg`. */
+    /* opcode_len: turns `xor x@GOTPCREL(%rip), %reg` into `xor $x, %reg`. */
     LINKER_UTILS_X86_64_REWRITE_REX_XOR_INDIRECT_TO_ABSOLUTE = 22,
-    /* n: turns `test %reg, x@GOTPCREL(%rip)` into `test $x, %reg`. */
+    /* opcode_len: turns `test %reg, x@GOTPCREL(%rip)` into `test $x, %reg`. */
     LINKER_UTILS_X86_64_REWRITE_REX_TEST_INDIRECT_TO_ABSOLUTE = 23
 };
 
@@ -489,7 +490,8 @@ enum linker_utils_modifier {
  * LINKER_UTILS_AARCH64_REWRITE_MOVK_XN and LINKER_UTILS_AARCH64_REWRITE_LDR_TO_ADD the word there.
  * It does not test whether the instruction is one that the rewrite is meant for:
  * `linker_utils_matches` does. */
-static inline uint32_t linker_utils_can_apply(uint16_t machine, uint32_t rewrite, uint8_t n,
+static inline uint32_t linker_utils_can_apply(uint16_t machine, uint32_t rewrite,
+                                              uint8_t opcode_len,
                                               const uint8_t *section, size_t section_len,
                                               uint64_t offset);
 
@@ -498,13 +500,13 @@ static inline uint32_t linker_utils_can_apply(uint16_t machine, uint32_t rewrite
  * LINKER_UTILS_DOES_NOT_MATCH. Where it returns LINKER_UTILS_OK, so does `linker_utils_can_apply`.
  * Whether the rewrite is right for the symbol and the value is the caller's to test
  * (`linker_utils_hi20_fits_clui`). Any bytes match a rewrite that writes a `nop` or nothing. */
-static inline uint32_t linker_utils_matches(uint16_t machine, uint32_t rewrite, uint8_t n,
+static inline uint32_t linker_utils_matches(uint16_t machine, uint32_t rewrite, uint8_t opcode_len,
                                             const uint8_t *section, size_t section_len,
                                             uint64_t offset);
 
 /* Rewrites the instruction at an offset of a section, and sets the offset and the addend to those
  * of the relocation that is then to be applied. LINKER_UTILS_CANNOT_APPLY. */
-static inline uint32_t linker_utils_apply(uint16_t machine, uint32_t rewrite, uint8_t n,
+static inline uint32_t linker_utils_apply(uint16_t machine, uint32_t rewrite, uint8_t opcode_len,
                                           uint8_t *section, size_t section_len, uint64_t *offset,
                                           int64_t *addend);
 
@@ -518,11 +520,11 @@ struct linker_utils_window_bounds {
  * rewrites whose windows have a byte in common write over each other. On x86-64 the field of the
  * relocation after a rewrite may lie behind the window: a general-dynamic TLS sequence has 16
  * bytes, which are the window's 12 and the field's 4. */
-uint32_t linker_utils_rewrite_window(uint16_t machine, uint32_t rewrite, uint8_t n,
+uint32_t linker_utils_rewrite_window(uint16_t machine, uint32_t rewrite, uint8_t opcode_len,
                                      struct linker_utils_window_bounds *window);
 
 /* What happens to the next relocation, into `modifier`, by `enum linker_utils_modifier`. */
-uint32_t linker_utils_next_modifier(uint16_t machine, uint32_t rewrite, uint8_t n,
+uint32_t linker_utils_next_modifier(uint16_t machine, uint32_t rewrite, uint8_t opcode_len,
                                     uint32_t *modifier);
 
 /* ---- Relocations.
@@ -782,17 +784,17 @@ struct linker_utils_link_facts {
      * rewritten to local-exec, so that the base is the thread pointer. */
     uint8_t has_local_exec_base;
     uint8_t may_compress; /* RISC-V: the code may use instructions of the C extension. */
-    uint8_t is_marked; /* R_RISCV_RELAX or R_LARCH_RELAX is at the same offset. */
+    uint8_t is_relaxable; /* R_RISCV_RELAX or R_LARCH_RELAX is at the same offset. */
     /* RISC-V: the high part whose label an R_RISCV_PCREL_LO12_I names has R_RISCV_GOT_HI20. */
     uint8_t has_got_high_part;
     /* RISC-V: the load from the GOT may be relaxed: R_RISCV_RELAX is at the offset of the
      * R_RISCV_GOT_HI20 and at that of every R_RISCV_PCREL_LO12_I that names its label. Today's
      * compilers (GNU as 2.40, LLVM 19) mark the low parts only: it is 0 for what they make. */
-    uint8_t is_label_marked;
+    uint8_t is_label_relaxable;
     /* PowerPC64: the register through which the instruction gets the high part of its address, and
      * which an `addis` has set, is read only by instructions whose relocation is of the same symbol
      * and addend. Linkers assume this, as the ABI requires of compilers. */
-    uint8_t has_private_base;
+    uint8_t toc_base_is_exclusive;
     /* PowerPC64: the function that is called may return with another TOC pointer in register 2,
      * since it is called through a PLT entry or its symbol's st_other says so. */
     uint8_t may_change_toc;
@@ -830,7 +832,7 @@ struct linker_utils_choice {
     int64_t other_offset;
     uint32_t other_relocation;
     uint8_t has_other; /* 1 where there is another; else 0. */
-    uint8_t n; /* The rewrite's `n`. */
+    uint8_t opcode_len; /* that of the rewrite */
     /* Where `modifier` says that a relocation is skipped: how many bytes on from the offset it is.
      * On x86-64 the field of the call is there, or that of the `movabs` of its address; on
      * PowerPC64 and RISC-V it is at the same offset. Else 0. */
@@ -853,9 +855,9 @@ struct linker_utils_choice {
  * nothing else reads or writes `a0` and `ra`, and nothing reads `ra` behind them; what a high half
  * left is read by low halves of that symbol and addend alone, or copied. So compilers emit them. On
  * RISC-V the instructions of a descriptor, and the `auipc` and `ld` of a GOT entry, may be apart:
- * each is chosen by the facts of the high part that its label names, `is_marked` of a descriptor's
- * R_RISCV_TLSDESC_HI20 among them; the `auipc` and `ld` by `is_label_marked`, and not by
- * `is_marked` of either. After ADDI_TO_AUIPC the place of R_RISCV_TLS_GOT_HI20, and of the
+ * each is chosen by the facts of the high part that its label names, `is_relaxable` of a descriptor's
+ * R_RISCV_TLSDESC_HI20 among them; the `auipc` and `ld` by `is_label_relaxable`, and not by
+ * `is_relaxable` of either. After ADDI_TO_AUIPC the place of R_RISCV_TLS_GOT_HI20, and of the
  * R_RISCV_PCREL_LO12_I that CALL_TO_LD leaves, is that of the `addi`, and S of the latter is the
  * GOT entry. On PowerPC64 too each instruction is chosen by itself: those of a pair and of
  * `__tls_get_addr` are chosen alike by the same facts but for `place`, where each is one that its
@@ -941,22 +943,22 @@ static inline uint32_t linker_utils_choose(uint16_t machine, uint32_t r_type,
  *   TLSDESC_CALL                CALL_TO_ADDI_ZERO      TPREL_LO12_I  (14)
  *                               CALL_TO_ADDI           TPREL_LO12_I  (10)
  *                               CALL_TO_LD             PCREL_LO12_I  (12)
- *   (1) has_fixed_distance, may_compress, is_marked, plt_entry is symbol, RVC_JUMP in reach
- *   (2) has_fixed_distance, is_marked, plt_entry is symbol, JAL in reach
- *   (3) is_local, not is_ifunc, has_fixed_distance, is_label_marked, addend 0, PCREL_HI20 in reach
- *       if known
- *   (4) is_local, not is_ifunc, has_fixed_distance, is_label_marked, has_got_high_part, addend 0,
- *       PCREL_HI20 in reach if known
- *   (5) has_fixed_address, is_marked, S + A in 12 bits
- *   (6) has_fixed_address, may_compress, is_marked, RVC_LUI in reach
- *   (7) is_marked, TPREL_LO12_I in -0x800..0x800
+ *   (1) has_fixed_distance, may_compress, is_relaxable, plt_entry is symbol, RVC_JUMP in reach
+ *   (2) has_fixed_distance, is_relaxable, plt_entry is symbol, JAL in reach
+ *   (3) is_local, not is_ifunc, has_fixed_distance, is_label_relaxable, addend 0, PCREL_HI20 in
+ *       reach if known
+ *   (4) is_local, not is_ifunc, has_fixed_distance, is_label_relaxable, has_got_high_part, addend
+ *       0, PCREL_HI20 in reach if known
+ *   (5) has_fixed_address, is_relaxable, S + A in 12 bits
+ *   (6) has_fixed_address, may_compress, is_relaxable, RVC_LUI in reach
+ *   (7) is_relaxable, TPREL_LO12_I in -0x800..0x800
  *   (8) has_fixed_address, S + A in 12 bits
- *   (9) is_local, not is_ifunc, is_executable, is_marked, addend 0, TPREL_HI20 in reach if known
+ *   (9) is_local, not is_ifunc, is_executable, is_relaxable, addend 0, TPREL_HI20 in reach if known
  *   (10) is_local, not is_ifunc, is_executable, addend 0, TPREL_HI20 in reach if known
- *   (11) is_executable, is_marked, TLS_GOT_HI20 in reach if known
+ *   (11) is_executable, is_relaxable, TLS_GOT_HI20 in reach if known
  *   (12) is_executable, TLS_GOT_HI20 in reach if known
- *   (13) is_local, not is_ifunc, is_executable, is_marked, addend 0, TPREL_HI20 in reach if known,
- *       TPREL_LO12_I in -0x800..0x800
+ *   (13) is_local, not is_ifunc, is_executable, is_relaxable, addend 0, TPREL_HI20 in reach if
+ *       known, TPREL_LO12_I in -0x800..0x800
  *   (14) is_local, not is_ifunc, is_executable, addend 0, TPREL_HI20 in reach if known,
  *       TPREL_LO12_I in -0x800..0x800
  *
@@ -985,24 +987,25 @@ static inline uint32_t linker_utils_choose(uint16_t machine, uint32_t r_type,
  *   TLS_LE_HI20_R     DELETE            NONE               (15)
  *   TLS_LE_ADD_R      DELETE            NONE               (15)
  *   TLS_LE_LO12_R     BASE_TO_TP        TLS_LE_LO12_R      (15)
- *   (1) has_fixed_distance, is_marked, PCREL20_S2 in reach
- *   (2) has_fixed_distance, is_marked, PCREL20_S2 at -4 in reach
- *   (3) is_local, not is_ifunc, has_fixed_distance, is_marked, addend 0, PCREL20_S2 in reach
+ *   (1) has_fixed_distance, is_relaxable, PCREL20_S2 in reach
+ *   (2) has_fixed_distance, is_relaxable, PCREL20_S2 at -4 in reach
+ *   (3) is_local, not is_ifunc, has_fixed_distance, is_relaxable, addend 0, PCREL20_S2 in reach
  *   (4) is_local, not is_ifunc, has_fixed_distance, addend 0, PCALA_HI20 in -0x80000000..0x80000000
  *       if known
- *   (5) is_local, not is_ifunc, has_fixed_distance, is_marked, addend 0, PCREL20_S2 at -4 in reach
+ *   (5) is_local, not is_ifunc, has_fixed_distance, is_relaxable, addend 0, PCREL20_S2 at -4 in
+ *       reach
  *   (6) is_local, not is_ifunc, has_fixed_distance, addend 0, PCALA_HI20 at -4 in
  *       -0x80000000..0x80000000 if known
- *   (7) is_marked, group_fits, TLS_GD_PCREL20_S2 at -4 in reach
+ *   (7) is_relaxable, group_fits, TLS_GD_PCREL20_S2 at -4 in reach
  *   (8) is_local, not is_ifunc, is_executable, group_fits, addend 0, TLS_LE_LO12 in 0x0..0x1000
  *   (9) is_local, not is_ifunc, is_executable, group_fits, addend 0, TLS_LE_HI20 in
  *       -0x80000000..0x80000000 if known
- *   (10) is_marked, group_fits, TLS_LD_PCREL20_S2 in reach
- *   (11) is_marked, group_fits, TLS_GD_PCREL20_S2 in reach
- *   (12) has_fixed_distance, is_marked, B26 in reach
+ *   (10) is_relaxable, group_fits, TLS_LD_PCREL20_S2 in reach
+ *   (11) is_relaxable, group_fits, TLS_GD_PCREL20_S2 in reach
+ *   (12) has_fixed_distance, is_relaxable, B26 in reach
  *   (13) is_executable, group_fits, TLS_IE_PC_HI20 in -0x80000000..0x80000000 if known
  *   (14) is_executable, group_fits
- *   (15) is_marked, TLS_LE_LO12_R in -0x800..0x800
+ *   (15) is_relaxable, TLS_LE_LO12_R in -0x800..0x800
  *
  * PowerPC64, with the prefixes R_PPC64_ and LINKER_UTILS_PPC64_REWRITE_:
  *   REL24                        NOP_TO_RESTORE_TOC    REL24              (1)
@@ -1033,7 +1036,7 @@ static inline uint32_t linker_utils_choose(uint16_t machine, uint32_t r_type,
  *   REL16_HA                     ADDIS_TO_LIS          ADDR16_HA          (11)
  *   (1) may_change_toc
  *   (2) is_local, not is_ifunc, has_fixed_distance, TOC16_HA in reach if known
- *   (3) has_private_base, TOC16 in reach
+ *   (3) toc_base_is_exclusive, TOC16 in reach
  *   (4) is_local, not is_ifunc, is_executable, group_fits, TPREL16_HA in reach if known
  *   (5) is_local, not is_ifunc, is_executable, group_fits, TPREL16_HA in reach if known,
  *       TPREL16_LO_DS in reach if known
@@ -1325,7 +1328,7 @@ static inline uint32_t linker_utils_read_uleb128(const uint8_t *bytes, size_t by
  * ascend, none reaches past the offset of the next, and each ends at 2^64 - 1 or below. Otherwise
  * LINKER_UTILS_INVALID_DELETIONS, and `faulty` is the first that ends past that or is not past the
  * one before it. */
-static inline uint32_t linker_utils_deltas_is_valid(const struct linker_utils_deletion *deletions,
+static inline uint32_t linker_utils_deletions_valid(const struct linker_utils_deletion *deletions,
                                                     size_t deletions_len, size_t *faulty);
 
 /* Writes the deltas of the deletions, one for each. LINKER_UTILS_INVALID_DELETIONS, with `faulty`
@@ -1348,7 +1351,7 @@ static inline uint32_t linker_utils_deltas_create_in_one_pass(
  * descend take one pass besides the searches in the deltas; others take up to k searches for each
  * 1,024 of them, which are sorted on the stack, in 16 KB, and for each longer run that ascends or
  * descends. */
-static inline uint32_t linker_utils_deltas_is_mergeable(
+static inline uint32_t linker_utils_deletions_mergeable(
     const struct linker_utils_delta *deltas, size_t deltas_len,
     const struct linker_utils_deletion *additional, size_t additional_len);
 
@@ -1361,7 +1364,7 @@ static inline uint32_t linker_utils_deltas_is_mergeable(
  * doesn't allocate where the additional deletions ascend and can be merged. Else it sorts a copy of
  * them, of 8 bytes each, and where 8 bytes are too few or can't be allocated, of 16 bytes each. To
  * find the first that can't be merged, it allocates further copies, of the first of them. Where an
- * allocation fails, those deletions are tested as linker_utils_deltas_is_mergeable tests them. */
+ * allocation fails, those deletions are tested as linker_utils_deletions_mergeable tests them. */
 static inline uint32_t linker_utils_deltas_merge(
     const struct linker_utils_delta *deltas, size_t deltas_len,
     const struct linker_utils_deletion *additional, size_t additional_len,
@@ -1493,13 +1496,13 @@ static inline uint32_t linker_utils_shrink_calls(
  * alignment whose nops no file has. Deletions that are decided already are sites with one shape. */
 
 /* A form of a site's instructions. It reaches a target at an output offset that lies at most
- * `behind` below its own, or less than `ahead` above it, or at it, and whose distance is a multiple
- * of `unit`, a power of two. */
+ * `max_backward` below its own, or less than `max_forward` above it, or at it, and whose distance is a
+ * multiple of `granularity`, a power of two. */
 struct linker_utils_shape {
-    uint64_t behind;
-    uint64_t ahead;
+    uint64_t max_backward;
+    uint64_t max_forward;
     uint32_t kept; /* how many of the site's bytes stay, from the first one on */
-    uint32_t unit;
+    uint32_t granularity;
 };
 
 /* The forms that the instructions of a site can have, by ascending length. The last one reaches
@@ -1521,7 +1524,7 @@ enum linker_utils_shapes_name {
 
 /* Writes the shapes that a number of `enum linker_utils_shapes_name` names.
  * LINKER_UTILS_UNKNOWN_SHAPES. */
-uint32_t linker_utils_named_shapes(uint32_t number, struct linker_utils_shapes *shapes);
+uint32_t linker_utils_standard_shapes(uint32_t number, struct linker_utils_shapes *shapes);
 
 /* What an item is. Every other number is that of a limited alignment, too. The library writes
  * none of these. */
@@ -1536,16 +1539,16 @@ struct linker_utils_item {
     uint64_t offset; /* the input offset of its first byte */
     uint64_t target; /* of a site: the input offset that it has to reach; it means nothing where
                         there are no shorter shapes */
-    uint64_t power; /* of an alignment: what the output address behind it is a multiple of */
-    uint64_t most; /* of a limited alignment: how many bytes of nops may stay; where more are
-                      needed, none stay */
+    uint64_t alignment; /* of an alignment: what the output address behind it is a multiple of */
+    uint64_t max_skip; /* of a limited alignment: how many bytes of nops may stay; where more are
+                          needed, none stay */
     uint32_t len; /* how many bytes it has: of an alignment, its nops */
     uint32_t kind; /* by `enum linker_utils_item_kind` */
     struct linker_utils_shapes shapes; /* of a site: what it can become */
 };
 
 /* A relocation of a section, and what it refers to in a run. */
-struct linker_utils_section_relocation {
+struct linker_utils_rela {
     uint64_t offset; /* r_offset, in the section */
     uint64_t target; /* the input offset in the run that it refers to: S + A, or the PLT entry */
     int64_t addend; /* r_addend */
@@ -1579,7 +1582,7 @@ struct linker_utils_section_relocation {
  * isn't a multiple of 2 from 0 up, below 2^32, of bytes in the section. */
 static inline uint32_t linker_utils_riscv_items(
     const uint8_t *section, size_t section_len, uint64_t base,
-    const struct linker_utils_section_relocation *relocations, size_t relocations_len,
+    const struct linker_utils_rela *relocations, size_t relocations_len,
     struct linker_utils_item *items, size_t items_len, size_t *len, size_t *faulty);
 
 /* The same of a LoongArch section, where R_LARCH_RELAX is the relocation that has to be next.
@@ -1598,11 +1601,11 @@ static inline uint32_t linker_utils_riscv_items(
  * a multiple of 4, reach past the section's end or have 2^32 bytes or more. */
 static inline uint32_t linker_utils_loongarch_items(
     const uint8_t *section, size_t section_len, uint64_t base,
-    const struct linker_utils_section_relocation *relocations, size_t relocations_len,
+    const struct linker_utils_rela *relocations, size_t relocations_len,
     struct linker_utils_item *items, size_t items_len, size_t *len, size_t *faulty);
 
 /* Whether `linker_utils_relax` accepts the items of a run whose address is `start`: the statuses from
- * LINKER_UTILS_ITEMS_OVERLAP on say what is asked of them. The run's greatest unit is that of all
+ * LINKER_UTILS_ITEMS_OVERLAP on say what is asked of them. The run's granularity is the greatest of
  * its short shapes, and 1 where there are none.
  *
  * LINKER_UTILS_OUT_OF_MEMORY where a copy of the items can't be allocated. Else the first fault of
@@ -1611,14 +1614,14 @@ static inline uint32_t linker_utils_loongarch_items(
  * where no item has one of those before. O(n log n) for n items.
  *
  * LINKER_UTILS_MAY_BE_MISALIGNED: an alignment without a limit needs as many nops as it is itself
- * less the unit. Fewer are accepted, as many as it less w, a power of two, where w divides the
+ * less the granularity. Fewer are accepted, as many as it less w, a power of two, where w divides the
  * address of the first nop in every layout: where it divides the alignment without a limit before it,
  * or `start`, and the bytes from there, and what lies between loses only multiples of w. So the begin
  * of a section is an item, too: an alignment.
  *
- * LINKER_UTILS_POWER_BELOW_UNIT and LINKER_UTILS_UNEVEN_END aren't of an alignment without a limit
- * that divides the unit, and has exactly the nops that its input address needs, or a multiple of the
- * unit more: these are the same in every layout. */
+ * LINKER_UTILS_ALIGNMENT_BELOW_GRANULARITY and LINKER_UTILS_UNEVEN_END aren't of an alignment without
+ * a limit that divides the granularity, and has exactly the nops that its input address needs, or a
+ * multiple of the granularity more: these are the same in every layout. */
 static inline uint32_t linker_utils_items_relaxable(
     const struct linker_utils_item *items, size_t items_len, uint64_t start, size_t *faulty);
 

@@ -44,23 +44,24 @@ static inline uint32_t linker_utils_read(uint16_t machine, uint32_t form, const 
                                      bytes_len, value, negative);
 }
 
-uint32_t linker_utils_can_apply_nonnull(uint16_t machine, uint32_t rewrite, uint8_t n,
+uint32_t linker_utils_can_apply_nonnull(uint16_t machine, uint32_t rewrite, uint8_t opcode_len,
                                         const uint8_t *section, size_t section_len,
                                         uint64_t offset);
-static inline uint32_t linker_utils_can_apply(uint16_t machine, uint32_t rewrite, uint8_t n,
+static inline uint32_t linker_utils_can_apply(uint16_t machine, uint32_t rewrite,
+                                              uint8_t opcode_len,
                                               const uint8_t *section, size_t section_len,
                                               uint64_t offset) {
-    return linker_utils_can_apply_nonnull(machine, rewrite, n,
+    return linker_utils_can_apply_nonnull(machine, rewrite, opcode_len,
                                           LINKER_UTILS_SLICE(const uint8_t, section), section_len,
                                           offset);
 }
 
-uint32_t linker_utils_matches_nonnull(uint16_t machine, uint32_t rewrite, uint8_t n,
+uint32_t linker_utils_matches_nonnull(uint16_t machine, uint32_t rewrite, uint8_t opcode_len,
                                       const uint8_t *section, size_t section_len, uint64_t offset);
-static inline uint32_t linker_utils_matches(uint16_t machine, uint32_t rewrite, uint8_t n,
+static inline uint32_t linker_utils_matches(uint16_t machine, uint32_t rewrite, uint8_t opcode_len,
                                             const uint8_t *section, size_t section_len,
                                             uint64_t offset) {
-    return linker_utils_matches_nonnull(machine, rewrite, n,
+    return linker_utils_matches_nonnull(machine, rewrite, opcode_len,
                                         LINKER_UTILS_SLICE(const uint8_t, section), section_len,
                                         offset);
 }
@@ -90,12 +91,13 @@ static inline bool linker_utils_relocation_fits(uint16_t machine, uint32_t r_typ
                                                 section_len, offset, facts);
 }
 
-uint32_t linker_utils_apply_nonnull(uint16_t machine, uint32_t rewrite, uint8_t n, uint8_t *section,
+uint32_t linker_utils_apply_nonnull(uint16_t machine, uint32_t rewrite,
+                                    uint8_t opcode_len, uint8_t *section,
                                     size_t section_len, uint64_t *offset, int64_t *addend);
-static inline uint32_t linker_utils_apply(uint16_t machine, uint32_t rewrite, uint8_t n,
+static inline uint32_t linker_utils_apply(uint16_t machine, uint32_t rewrite, uint8_t opcode_len,
                                           uint8_t *section, size_t section_len, uint64_t *offset,
                                           int64_t *addend) {
-    return linker_utils_apply_nonnull(machine, rewrite, n, LINKER_UTILS_SLICE(uint8_t, section),
+    return linker_utils_apply_nonnull(machine, rewrite, opcode_len, LINKER_UTILS_SLICE(uint8_t, section),
                                       section_len, offset, addend);
 }
 
@@ -226,7 +228,7 @@ static inline uint32_t linker_utils_read_uleb128(const uint8_t *bytes, size_t by
 
 uint32_t linker_utils_deltas_is_valid_nonnull(const struct linker_utils_deletion *deletions,
                                               size_t deletions_len, size_t *faulty);
-static inline uint32_t linker_utils_deltas_is_valid(const struct linker_utils_deletion *deletions,
+static inline uint32_t linker_utils_deletions_valid(const struct linker_utils_deletion *deletions,
                                                     size_t deletions_len, size_t *faulty) {
     size_t ignored;
     return linker_utils_deltas_is_valid_nonnull(
@@ -261,7 +263,7 @@ static inline uint32_t linker_utils_deltas_create_in_one_pass(
 
 uint32_t linker_utils_deltas_is_mergeable_nonnull(const struct linker_utils_delta *deltas,
     size_t deltas_len, const struct linker_utils_deletion *additional, size_t additional_len);
-static inline uint32_t linker_utils_deltas_is_mergeable(const struct linker_utils_delta *deltas,
+static inline uint32_t linker_utils_deletions_mergeable(const struct linker_utils_delta *deltas,
     size_t deltas_len, const struct linker_utils_deletion *additional, size_t additional_len) {
     return linker_utils_deltas_is_mergeable_nonnull(
         LINKER_UTILS_SLICE(const struct linker_utils_delta, deltas), deltas_len,
@@ -430,32 +432,32 @@ static inline uint32_t linker_utils_shrink_calls(const struct linker_utils_delta
 
 uint32_t linker_utils_riscv_items_nonnull(
     const uint8_t *section, size_t section_len, uint64_t base,
-    const struct linker_utils_section_relocation *relocations, size_t relocations_len,
+    const struct linker_utils_rela *relocations, size_t relocations_len,
     struct linker_utils_item *items, size_t items_len, size_t *len, size_t *faulty);
 static inline uint32_t linker_utils_riscv_items(
     const uint8_t *section, size_t section_len, uint64_t base,
-    const struct linker_utils_section_relocation *relocations, size_t relocations_len,
+    const struct linker_utils_rela *relocations, size_t relocations_len,
     struct linker_utils_item *items, size_t items_len, size_t *len, size_t *faulty) {
     size_t ignored;
     return linker_utils_riscv_items_nonnull(
         LINKER_UTILS_SLICE(const uint8_t, section), section_len, base,
-        LINKER_UTILS_SLICE(const struct linker_utils_section_relocation, relocations),
+        LINKER_UTILS_SLICE(const struct linker_utils_rela, relocations),
         relocations_len, LINKER_UTILS_SLICE(struct linker_utils_item, items), items_len, len,
         faulty ? faulty : &ignored);
 }
 
 uint32_t linker_utils_loongarch_items_nonnull(
     const uint8_t *section, size_t section_len, uint64_t base,
-    const struct linker_utils_section_relocation *relocations, size_t relocations_len,
+    const struct linker_utils_rela *relocations, size_t relocations_len,
     struct linker_utils_item *items, size_t items_len, size_t *len, size_t *faulty);
 static inline uint32_t linker_utils_loongarch_items(
     const uint8_t *section, size_t section_len, uint64_t base,
-    const struct linker_utils_section_relocation *relocations, size_t relocations_len,
+    const struct linker_utils_rela *relocations, size_t relocations_len,
     struct linker_utils_item *items, size_t items_len, size_t *len, size_t *faulty) {
     size_t ignored;
     return linker_utils_loongarch_items_nonnull(
         LINKER_UTILS_SLICE(const uint8_t, section), section_len, base,
-        LINKER_UTILS_SLICE(const struct linker_utils_section_relocation, relocations),
+        LINKER_UTILS_SLICE(const struct linker_utils_rela, relocations),
         relocations_len, LINKER_UTILS_SLICE(struct linker_utils_item, items), items_len, len,
         faulty ? faulty : &ignored);
 }

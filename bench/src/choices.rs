@@ -32,7 +32,7 @@ impl Site {
         sathunne::LinkFacts {
             is_local: facts.is_local,
             has_fixed_distance: facts.has_fixed_distance,
-            is_marked: facts.is_marked,
+            is_relaxable: facts.is_relaxable,
             has_addresses: facts.has_addresses,
             operands: self.operands(),
             ..sathunne::LinkFacts::default()
@@ -148,7 +148,7 @@ fn facts(site: &Site) -> LinkFacts {
     LinkFacts {
         is_local: true,
         has_fixed_distance: true,
-        is_marked: true,
+        is_relaxable: true,
         has_addresses: true,
         operands: operands(site),
         ..LinkFacts::default()
@@ -177,7 +177,7 @@ fn by_exports(machine: u16, sites: &[Site], section: &mut [u8], chooses: bool) -
             let numbers = sathunne::raw::LinkFacts {
                 is_local: known.is_local.into(),
                 has_fixed_distance: known.has_fixed_distance.into(),
-                is_marked: known.is_marked.into(),
+                is_relaxable: known.is_relaxable.into(),
                 has_addresses: known.has_addresses.into(),
                 operands: of,
                 ..sathunne::raw::LinkFacts::default()
@@ -196,7 +196,7 @@ fn by_exports(machine: u16, sites: &[Site], section: &mut [u8], chooses: bool) -
                 ) | linker_utils_apply_nonnull(
                     machine,
                     choice.rewrite,
-                    choice.n,
+                    choice.opcode_len,
                     bytes,
                     len,
                     &mut offset,

@@ -319,9 +319,9 @@ fn instructions(report: &mut Report, random: &mut Random) {
     let mut shapes = sathunne::Shapes::default();
     line(
         report,
-        "`linker_utils_named_shapes`",
+        "`linker_utils_standard_shapes`",
         values,
-        |&value| unsafe { linker_utils_named_shapes((value % 5) as u32, &mut shapes) },
+        |&value| unsafe { linker_utils_standard_shapes((value % 5) as u32, &mut shapes) },
     );
 }
 
@@ -513,7 +513,7 @@ fn lists(report: &mut Report, random: &mut Random) {
     assert_eq!(sathunne::deltas_create(&list, &mut deltas), Ok(()));
     whole(
         report,
-        "`linker_utils_deltas_is_valid`, 100000 deletions",
+        "`linker_utils_deletions_valid`, 100000 deletions",
         COUNT,
         || unsafe { linker_utils_deltas_is_valid_nonnull(list.as_ptr(), list.len(), &mut 0) },
     );
@@ -589,7 +589,7 @@ fn runs(report: &mut Report, random: &mut Random) {
         let mut relocations = Vec::new();
         for call_of in calls_apart(random, COUNT, 64) {
             let (site, at) = (call_of.site, call_of.site as usize);
-            let relocation = |offset, target, addend, r_type| sathunne::SectionRelocation {
+            let relocation = |offset, target, addend, r_type| sathunne::Rela {
                 offset,
                 target,
                 addend,

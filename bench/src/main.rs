@@ -768,7 +768,7 @@ fn lists(report: &mut Report) {
 fn merge_tests(report: &mut Report, random: &mut Random) {
     const COUNT: usize = 20_000;
     report.heading(
-        "Tests of merges by `linker_utils_deltas_is_mergeable`, a deletion",
+        "Tests of merges by `linker_utils_deletions_mergeable`, a deletion",
         Beside::Nothing,
     );
     let (list, _) = deletions(random, COUNT);
@@ -788,7 +788,7 @@ fn merge_tests(report: &mut Report, random: &mut Random) {
             .iter()
             .map(|&(offset, bytes)| sathunne::Deletion { offset, bytes })
             .collect();
-        let tested = || u64::from(sathunne::deltas_is_mergeable(&[], &given).is_ok());
+        let tested = || u64::from(sathunne::deletions_mergeable(&[], &given).is_ok());
         let erased = Side::number(|| u64::from(none.is_mergeable(&pairs)));
         let sides = [Some(Side::number(tested)), None, Some(erased), None];
         report.line(&format!("{COUNT} {order}"), COUNT, true, sides);

@@ -5,7 +5,7 @@ use crate::inputs::Random;
 use crate::measure::{Beside, Report, Side};
 use erased_crate::runs::relaxation as erased;
 use erased_crate::runs::shapes::riscv64::CALL;
-use sathunne::{Item, Relaxed, ShapesName, named_shapes};
+use sathunne::{Item, Relaxed, ShapesName, standard_shapes};
 
 /// What is written: shapes, kept bytes, places and freed bytes.
 type Arrays = (Vec<u8>, Vec<u64>, Vec<usize>, Vec<u64>);
@@ -23,7 +23,7 @@ impl Run {
     }
 
     fn call(&mut self, offset: u64, target: u64) {
-        let shapes = named_shapes(ShapesName::RiscVCall);
+        let shapes = standard_shapes(ShapesName::RiscVCall);
         self.exports.push(Item::site(offset, 8, target, shapes));
         let (len, shapes) = (8, CALL);
         self.erased.push(erased::Item::Site(erased::Site {
@@ -36,14 +36,14 @@ impl Run {
 
     /// Nops of 14 bytes, which align to 16.
     fn align(&mut self, offset: u64) {
-        let (nops, power, most) = (14, 16, None);
+        let (nops, alignment, max_skip) = (14, 16, None);
         self.exports
-            .push(Item::alignment(offset, nops, power, most));
+            .push(Item::alignment(offset, nops, alignment, max_skip));
         self.erased.push(erased::Item::Aligned(erased::Alignment {
             offset,
             nops,
-            power,
-            most,
+            alignment,
+            max_skip,
         }));
     }
 

@@ -42,7 +42,7 @@ int main(void) {
     /* a deletion that reaches into the next one */
     const struct linker_utils_deletion faulty[3] = {{0, 2}, {8, 9}, {16, 4}};
     size_t at;
-    status = linker_utils_deltas_is_valid(faulty, 3, &at);
+    status = linker_utils_deletions_valid(faulty, 3, &at);
     if (status != LINKER_UTILS_INVALID_DELETIONS) return 1;
     printf("%zu: %s\n", at, linker_utils_status_text(status));
     return 0;

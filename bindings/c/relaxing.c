@@ -18,7 +18,7 @@ int main(void) {
     /* auipc ra, 0; jalr ra; nop; c.nop; ret: the call is of the ret, at a multiple of 8 */
     const uint8_t section[18] = {0x97, 0x00, 0x00, 0x00, 0xe7, 0x80, 0x00, 0x00, 0x13,
                                  0x00, 0x00, 0x00, 0x01, 0x00, 0x67, 0x80, 0x00, 0x00};
-    struct linker_utils_section_relocation relocations[RELOCATIONS];
+    struct linker_utils_rela relocations[RELOCATIONS];
     struct linker_utils_item items[RELOCATIONS];
     struct linker_utils_delta deltas[RELOCATIONS];
     uint8_t shapes[RELOCATIONS], packed[18];

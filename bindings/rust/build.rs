@@ -58,7 +58,7 @@ const SPELLED: [(&str, &str); 10] = [
 
 /// How many bytes hold any name, how many rewrites a relocation may have, and for each of the header's enums a macro of its name:
 /// `ENUM! { MACRO START }` is `MACRO! { START { CONSTANTS } }`. A constant is
-/// `#[doc = "COMMENT"] NAME = NUMBER,` or, where its comment begins with `n: `, the same with `NAME(n)`,
+/// `#[doc = "COMMENT"] NAME = NUMBER,` or, where its comment begins with `opcode_len: `, the same with `NAME(n)`,
 /// and a status `NAME = NUMBER "TEXT",`.
 fn constants(header: &str) -> String {
     let mut code = String::new();
@@ -99,7 +99,7 @@ fn entries(of_enum: &str, body: &str) -> String {
         let (name, number) = constant.split_once(" = ").expect("a number");
         let (name, number) = (variant(of_enum, name), number.trim_end_matches(','));
         let text = comment.trim();
-        let (text, n) = match text.strip_prefix("n: ") {
+        let (text, n) = match text.strip_prefix("opcode_len: ") {
             Some(text) => (text, "(n)"),
             None => (text, ""),
         };

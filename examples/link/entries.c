@@ -96,7 +96,7 @@ void rewrite(const struct relocation *r, uint8_t *bytes, uint64_t len, uint64_t 
              int64_t *addend, uint32_t *type, const struct linker_utils_link_facts *facts) {
     struct linker_utils_choice choice;
     check(r, linker_utils_choose(machine, *type, bytes, len, *offset, facts, &choice));
-    check(r, linker_utils_apply(machine, choice.rewrite, choice.n, bytes, len, offset, addend));
+    check(r, linker_utils_apply(machine, choice.rewrite, choice.opcode_len, bytes, len, offset, addend));
     *type = choice.relocation;
     change_other(r, &choice);
 }
@@ -152,9 +152,9 @@ static struct entry *entry_of(const struct relocation *r, uint32_t kind) {
 /* Whether a relocation is left for when addresses are known. On AArch64 those of the GOT are, so
  * that the GOT is as ld.lld's; on LoongArch those that R_LARCH_RELAX doesn't mark. */
 static bool waits(const struct row *row, const Elf64_Rela *r, const Elf64_Rela *next) {
-    bool is_marked = next && next->r_offset == r->r_offset && next->r_info == LARCH_RELAX;
+    bool is_relaxable = next && next->r_offset == r->r_offset && next->r_info == LARCH_RELAX;
     return row->info.kind && row->info.kind < LINKER_UTILS_KIND_TLS_GD &&
-           (machine == EM_AARCH64 || (machine == EM_LOONGARCH && !is_marked));
+           (machine == EM_AARCH64 || (machine == EM_LOONGARCH && !is_relaxable));
 }
 
 /* PowerPC64: the section `.toc` of the same object that a relocation refers to, and the offset
@@ -311,7 +311,7 @@ void read_relocations(struct section *s) {
     for (size_t i = 0; i < len; i++, r++) {
         uint64_t offset = r->offset - s->offset;
         if (choices[i].rewrite != UINT32_MAX) {
-            check(r, linker_utils_apply(machine, choices[i].rewrite, choices[i].n, bytes, size,
+            check(r, linker_utils_apply(machine, choices[i].rewrite, choices[i].opcode_len, bytes, size,
                                         &offset, &r->addend));
             r->offset = s->offset + (offset < size ? offset : size);
             r->restores_toc = machine == EM_PPC64 && choices[i].rewrite ==

@@ -147,7 +147,7 @@ static void align_next(struct place *p, struct output *o, uint64_t align) {
         uint64_t address = p->run->start + p->at;
         if (align < unit) align = unit;
         len = round_up(address + align - unit, unit) - address;
-        o->before = (struct linker_utils_item){.offset = p->at, .target = p->at, .power = align,
+        o->before = (struct linker_utils_item){.offset = p->at, .target = p->at, .alignment = align,
                                                .len = (uint32_t)len,
                                                .kind = LINKER_UTILS_ITEM_ALIGNMENT};
     }

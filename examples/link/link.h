@@ -186,7 +186,7 @@ struct section *toc_section(const struct relocation *r, uint64_t *offset);
 bool add_thunks(void);
 void rewrite(const struct relocation *r, uint8_t *bytes, uint64_t len, uint64_t *offset,
              int64_t *addend, uint32_t *type, const struct linker_utils_link_facts *facts);
-bool is_marked(const struct output *o, const struct relocation *r);
+bool is_relaxable(const struct output *o, const struct relocation *r);
 void relax(void), relocate(struct output *o);
 struct relocation *high_part(const struct output *o, const struct relocation *low);
 int64_t value_of(const struct output *o, const struct relocation *r);

@@ -5,7 +5,7 @@
 #include "link.h"
 
 /* Whether an instruction may be relaxed. */
-bool is_marked(const struct output *o, const struct relocation *r) {
+bool is_relaxable(const struct output *o, const struct relocation *r) {
     uint32_t mark = machine == EM_RISCV ? R_RISCV_RELAX : LARCH_RELAX;
     const struct relocation *next = r + 1, *end = o->relocations + o->relocations_len;
     return relaxes && next < end && next->type == mark && next->offset == r->offset;
@@ -13,11 +13,11 @@ bool is_marked(const struct output *o, const struct relocation *r) {
 
 /* What the library is told of a relocation: its target, if that is in the same run. Between a
  * symbol in code and what is some bytes behind it code may become shorter. */
-static struct linker_utils_section_relocation seen(const struct output *o,
+static struct linker_utils_rela seen(const struct output *o,
                                                    const struct relocation *r) {
     const struct symbol *s = r->symbol; /* null where the linker aligns a section */
     const struct output *to = s ? s->output : NULL;
-    struct linker_utils_section_relocation seen = {
+    struct linker_utils_rela seen = {
         .offset = r->offset, .addend = r->addend, .r_type = r->type,
         .has_symbol = r->section && s != *r->section->object->symbols,
         .may_compress = r->section && r->section->object->flags & EF_RISCV_RVC};
@@ -37,9 +37,9 @@ static struct linker_utils_choice choose_offset(const struct output *o, struct r
     const struct relocation *high = r;
     if (is_descriptor && r->type != RISCV_TLSDESC_HI20) high = high_part(o, r);
     const struct symbol *s = high->symbol;
-    if (!s || !s->output || !(s->output->flags & SHF_TLS) || !is_marked(o, high)) return choice;
+    if (!s || !s->output || !(s->output->flags & SHF_TLS) || !is_relaxable(o, high)) return choice;
     struct linker_utils_link_facts facts = {
-        .is_local = 1, .is_executable = is_descriptor, .is_marked = 1, .has_addresses = 1,
+        .is_local = 1, .is_executable = is_descriptor, .is_relaxable = 1, .has_addresses = 1,
         .operands = {.symbol = address_of(s->output, s->offset), .addend = high->addend,
                      .tls_base = tls.thread, .got_entry = NO_ENTRY}};
     check(r, linker_utils_choose(machine, r->type, o->bytes, r->section->end, r->offset, &facts,
@@ -64,7 +64,7 @@ static bool makes(const struct relocation *r, uint32_t kind) {
 static size_t add_items(struct output *o, struct linker_utils_item *items, struct relocation **of) {
     size_t all = o->relocations_len, found_len = 0, len = 0, k = 0, at = SIZE_MAX;
     struct linker_utils_choice *choices = take(all, sizeof *choices);
-    struct linker_utils_section_relocation *relocations = take(all, sizeof *relocations);
+    struct linker_utils_rela *relocations = take(all, sizeof *relocations);
     struct linker_utils_item *found = take(all, sizeof *found);
     uint32_t status;
     for (size_t i = 0; i < all; i++) choices[i] = choose_offset(o, &o->relocations[i]);
@@ -72,7 +72,7 @@ static size_t add_items(struct output *o, struct linker_utils_item *items, struc
         struct relocation *r = &o->relocations[i];
         uint64_t offset = r->offset;
         if (choices[i].rewrite)
-            check(r, linker_utils_apply(machine, choices[i].rewrite, choices[i].n, o->bytes,
+            check(r, linker_utils_apply(machine, choices[i].rewrite, choices[i].opcode_len, o->bytes,
                                         r->section->end, &offset, &r->addend));
         r->type = choices[i].relocation;
         relocations[i] = seen(o, r);
@@ -88,7 +88,7 @@ static size_t add_items(struct output *o, struct linker_utils_item *items, struc
     for (size_t i = 0; i < all; i++) { /* the items are in the order of the relocations */
         struct relocation *r = &o->relocations[i];
         uint64_t offset = o->base + r->offset + choices[i].deleted_start;
-        bool may_be_site = relocations[i].has_target && is_marked(o, r);
+        bool may_be_site = relocations[i].has_target && is_relaxable(o, r);
         of[len] = r;
         if (choices[i].deleted_len)
             items[len++] = (struct linker_utils_item){
@@ -157,7 +157,7 @@ static void relax_run(struct run *run) {
     /* one more at the end, which says the unit of the code where there is no site */
     items[len++] = (struct linker_utils_item){
         .offset = end, .target = end, .len = unit, .kind = LINKER_UTILS_ITEM_SITE,
-        .shapes = {.shorter = {{.ahead = 1, .unit = unit}}, .longest = unit, .count = 1}};
+        .shapes = {.shorter = {{.max_forward = 1, .granularity = unit}}, .longest = unit, .count = 1}};
     uint64_t *kept = take(len, sizeof *kept), *freed = take(len + 1, sizeof *freed);
     size_t *places = take(len, sizeof *places);
     uint8_t *shapes = take(len, 1);

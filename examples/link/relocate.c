@@ -100,7 +100,7 @@ static void rewrite_ppc64(struct output *o, struct relocation *r) {
             r->type = type;
         }
     }
-    facts.has_private_base = !s->object->has_other_low_halves;
+    facts.toc_base_is_exclusive = !s->object->has_other_low_halves;
     facts.operands.symbol = address_of(r->symbol->output, r->symbol->offset);
     facts.operands.addend = r->addend;
     rewrite(r, bytes, len, &at, &r->addend, &r->type, &facts);
@@ -138,7 +138,7 @@ static struct linker_utils_link_facts facts_of(const struct output *o,
     return (struct linker_utils_link_facts){
         .is_local = s->output != NULL || is_nowhere, .has_fixed_distance = 1, .is_executable = 1,
         .has_got_high_part = is_load, .has_addresses = 1,
-        .is_label_marked = is_load && !high->keeps_entry,
+        .is_label_relaxable = is_load && !high->keeps_entry,
         .operands = {.symbol = is_nowhere ? tls.thread : address_of(s->output, s->offset),
                      .addend = high->addend, .place = address_of(o, high->offset),
                      .tls_base = tls.thread, .got_entry = NO_ENTRY}};
@@ -150,7 +150,7 @@ static void rewrite_riscv(struct output *o) {
     struct relocation *end = o->relocations + o->relocations_len, *high;
     struct linker_utils_link_facts facts;
     for (struct relocation *r = o->relocations; r < end; r++)
-        if ((high = entry_part(o, r)) && high->type == R_RISCV_GOT_HI20 && !is_marked(o, r))
+        if ((high = entry_part(o, r)) && high->type == R_RISCV_GOT_HI20 && !is_relaxable(o, r))
             high->keeps_entry = true;
     for (struct relocation *r = o->relocations; r < end; r++) {
         if (!(high = entry_part(o, r))) continue;

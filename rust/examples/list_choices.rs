@@ -52,7 +52,7 @@ macro_rules! statements {
 
 statements! {
     is_local is_ifunc is_undefined_weak has_fixed_address has_fixed_distance is_executable
-    has_local_exec_base may_compress is_marked has_got_high_part is_label_marked has_private_base
+    has_local_exec_base may_compress is_relaxable has_got_high_part is_label_relaxable toc_base_is_exclusive
     may_change_toc has_addresses group_fits
 }
 

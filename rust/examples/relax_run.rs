@@ -62,8 +62,8 @@ fn main() -> Result<(), Box<dyn Error>> {
             ["alignment", offset, nops, power] => others.push(Item::Aligned(Alignment {
                 offset: offset.parse()?,
                 nops: nops.parse()?,
-                power: power.parse()?,
-                most: None,
+                alignment: power.parse()?,
+                max_skip: None,
             })),
             _ => return Err(format!("not a line: {line}").into()),
         }

@@ -46,7 +46,7 @@ pub mod recognise {
         FieldBits, field_bits, same_but_for, writes_change_fields,
     };
     pub use crate::linker_reading::recognise::{
-        CANDIDATES, MAX_WINDOW, Made, Recognised, recognise, recognise_chosen,
+        CANDIDATES, MAX_WINDOW, Recognised, RecognisedName, recognise, recognise_chosen,
         written_choices_are_left,
     };
 }

@@ -426,10 +426,10 @@ impl Architecture {
     }
 
     /// The rewrite with a number, its place in the enum of its architecture's rewrites. None above
-    /// the last. Those of x86-64 that have a number of bytes before the field take `n`.
+    /// the last. Those of x86-64 that have a number of bytes before the field take `opcode_len`.
     #[must_use]
     #[inline(always)]
-    pub fn rewrite(self, number: u32, n: u8) -> Option<Relaxation> {
+    pub fn rewrite(self, number: u32, opcode_len: u8) -> Option<Relaxation> {
         match self {
             Architecture::AArch64 => {
                 aarch64::RelaxationKind::from_number(number).map(Relaxation::AArch64)
@@ -444,7 +444,7 @@ impl Architecture {
                 ppc64::RelaxationKind::from_number(number).map(Relaxation::Ppc64)
             }
             Architecture::X86_64 => {
-                x86_64::RelaxationKind::from_number(number, n).map(Relaxation::X86_64)
+                x86_64::RelaxationKind::from_number(number, opcode_len).map(Relaxation::X86_64)
             }
         }
     }

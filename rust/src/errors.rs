@@ -139,7 +139,7 @@ impl Display for Fault {
             Fault::TooManyShapes => "the site has more than two short shapes",
             Fault::ShapeTooLong => "a shape keeps more bytes than the site has",
             Fault::ShapesNotAscending => "a short shape keeps no fewer bytes than the next shape",
-            Fault::BadUnit => {
+            Fault::BadGranularity => {
                 "the unit of a short shape is not a power of two, or not a multiple of the next \
                  one's"
             }
@@ -147,11 +147,11 @@ impl Display for Fault {
                 "a short shape does not reach its own offset, or reaches farther than the next \
                  short one"
             }
-            Fault::BadPower => "the alignment is not a power of two",
+            Fault::BadAlignment => "the alignment is not a power of two",
             Fault::UnevenShape => {
                 "a shape frees bytes that are not a multiple of the run's greatest unit"
             }
-            Fault::PowerBelowUnit => {
+            Fault::AlignmentBelowGranularity => {
                 "the alignment is not a multiple of the run's greatest unit, and may keep other \
                  nops in other layouts"
             }

@@ -322,7 +322,7 @@ fn strings_are_not_read() {
 #[test]
 fn runs_are_not_relaxed() {
     let call = Item::Site(Site { offset: 0, len: 8, target: 22, shapes: CALL });
-    let aligned = Item::Aligned(Alignment { offset: 8, nops: 14, power: 16, most: None });
+    let aligned = Item::Aligned(Alignment { offset: 8, nops: 14, alignment: 16, max_skip: None });
     let (count, plan) = each_fails(|| relax(&[call, aligned], 0), |_| {});
     // the four arrays, the pairs of the deletions and the deltas
     assert_eq!((count, plan.kept), (6, vec![4, 12]));

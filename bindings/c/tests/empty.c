@@ -44,10 +44,10 @@ int main(void) {
     EXPECT(TOO_SHORT, read_u32(NULL, 0, &word, &count));
     EXPECT(ULEB128_ENDED, read_uleb128(NULL, 0, &value, &count));
     EXPECT(ULEB128_ENDED, write_uleb128(NULL, 0, 0));
-    EXPECT(OK, deltas_is_valid(NULL, 0, NULL));
+    EXPECT(OK, deletions_valid(NULL, 0, NULL));
     EXPECT(OK, deltas_create(NULL, 0, NULL, 0, NULL));
     EXPECT(OK, deltas_create_in_one_pass(NULL, 0, NULL, 0, NULL));
-    EXPECT(OK, deltas_is_mergeable(NULL, 0, NULL, 0));
+    EXPECT(OK, deletions_mergeable(NULL, 0, NULL, 0));
     EXPECT(OK, deltas_merge(NULL, 0, NULL, 0, NULL, 0, NULL));
     if (!linker_utils_has_valid_deltas(NULL, 0)) failures++;
     if (linker_utils_deltas_total_deleted(NULL, 0) != 0) failures++;

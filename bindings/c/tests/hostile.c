@@ -609,7 +609,7 @@ static void call_is_unchanged(void) {
     struct buffer *given = place(READ, 1, sizeof(struct linker_utils_choice));
     struct linker_utils_choice *choice = filled(given);
     *choice = (struct linker_utils_choice){
-        .rewrite = rewrite, .relocation = type, .n = (uint8_t)any()};
+        .rewrite = rewrite, .relocation = type, .opcode_len = (uint8_t)any()};
     uint32_t r_type = once_in(2) ? type : any_relocation_type();
     bool is = CALL(is_unchanged, machine, r_type, given->given);
     uint32_t no_op = machine == LINKER_UTILS_X86_64 ? LINKER_UTILS_X86_64_REWRITE_NO_OP : 0;
@@ -857,20 +857,20 @@ static void call_write_uleb128(void) {
 
 #define DELETIONS(buffer) (buffer)->given, LEN(buffer, struct linker_utils_deletion)
 
-/* `deltas_is_valid`, and `deltas_create` where that says that it will do. */
+/* `deletions_valid`, and `deltas_create` where that says that it will do. */
 static void call_deltas_create(void) {
     size_t count = any_count();
     struct buffer *raw = deletions(count);
     size_t deltas_len = once_in(8) ? any_count() : count;
     struct buffer *made = place(WRITTEN, deltas_len, sizeof(struct linker_utils_delta));
     size_t *faulty = any_faulty();
-    uint32_t valid = CALL(deltas_is_valid, DELETIONS(raw), faulty);
+    uint32_t valid = CALL(deletions_valid, DELETIONS(raw), faulty);
     expect_status(valid, 0 OR(INVALID_DELETIONS));
     finish_faulty(faulty, valid != LINKER_UTILS_OK, count);
     finish_buffers(false);
     uint32_t status = CALL(deltas_create, DELETIONS(raw), DELTAS(made), faulty);
     expect((valid == LINKER_UTILS_OK) == (status != LINKER_UTILS_INVALID_DELETIONS),
-           "`deltas_is_valid` and `deltas_create` differ");
+           "`deletions_valid` and `deltas_create` differ");
     expect((status == LINKER_UTILS_OK) == (valid == LINKER_UTILS_OK && deltas_len == count),
            "a wrong status");
     finish_faulty(faulty, status == LINKER_UTILS_INVALID_DELETIONS, count);
@@ -884,11 +884,11 @@ static void call_deltas_create_in_one_pass(void) {
     size_t deltas_len = once_in(8) ? any_count() : count;
     struct buffer *made = place(WRITTEN, deltas_len, sizeof(struct linker_utils_delta));
     size_t *faulty = any_faulty();
-    uint32_t valid = CALL(deltas_is_valid, DELETIONS(raw), NULL);
+    uint32_t valid = CALL(deletions_valid, DELETIONS(raw), NULL);
     finish_buffers(false);
     uint32_t status = CALL(deltas_create_in_one_pass, DELETIONS(raw), DELTAS(made), faulty);
     expect((valid == LINKER_UTILS_OK) == (status != LINKER_UTILS_INVALID_DELETIONS),
-           "`deltas_is_valid` and `deltas_create_in_one_pass` differ");
+           "`deletions_valid` and `deltas_create_in_one_pass` differ");
     expect((status == LINKER_UTILS_OK) == (valid == LINKER_UTILS_OK && deltas_len == count),
            "a wrong status");
     finish_faulty(faulty, status == LINKER_UTILS_INVALID_DELETIONS, count);
@@ -896,7 +896,7 @@ static void call_deltas_create_in_one_pass(void) {
     finish(status != LINKER_UTILS_DIFFERENT_LENGTHS && deltas_len == count);
 }
 
-/* `deltas_is_mergeable`, and `deltas_merge` where that says that it will do. */
+/* `deletions_mergeable`, and `deltas_merge` where that says that it will do. */
 static void call_deltas_merge(void) {
     size_t count = any_count(), additional_len = any_count();
     struct buffer *listed = deltas(count), *additional = deletions(additional_len);
@@ -909,7 +909,7 @@ static void call_deltas_merge(void) {
     size_t merged_len = once_in(8) ? any_count() : count + additional_len;
     struct buffer *merged = place(WRITTEN, merged_len, sizeof(struct linker_utils_delta));
     size_t *faulty = any_faulty();
-    uint32_t can = CALL(deltas_is_mergeable, DELTAS(listed), DELETIONS(additional));
+    uint32_t can = CALL(deletions_mergeable, DELTAS(listed), DELETIONS(additional));
     expect_status(can, 0 OR(INVALID_DELETIONS) OR(NOT_MERGEABLE));
     expect(allocations == 0, "allocates");
     finish_buffers(false);
@@ -923,7 +923,7 @@ static void call_deltas_merge(void) {
         expect(status == (refused_allocation == 1 ? LINKER_UTILS_OK : LINKER_UTILS_OUT_OF_MEMORY),
                "merges without memory");
     } else {
-        expect(status == can, "`deltas_is_mergeable` and `deltas_merge` differ");
+        expect(status == can, "`deletions_mergeable` and `deltas_merge` differ");
     }
     bool is_of_delta = status == LINKER_UTILS_INVALID_DELETIONS;
     finish_faulty(faulty, is_of_delta || status == LINKER_UTILS_NOT_MERGEABLE,
@@ -1074,9 +1074,9 @@ static void call_shrink_calls(void) {
     finish_with(status, 0 OR(DIFFERENT_LENGTHS) OR(CALLS_NOT_SHRINKABLE));
 }
 
-static void call_named_shapes(void) {
+static void call_standard_shapes(void) {
     struct linker_utils_shapes *shapes = output(sizeof(struct linker_utils_shapes));
-    uint32_t status = CALL(named_shapes, any_of_enum(), shapes);
+    uint32_t status = CALL(standard_shapes, any_of_enum(), shapes);
     expect(status != LINKER_UTILS_OK || (shapes->count <= 2 && shapes->longest == 8), "no shapes");
     finish_with(status, 0 OR(UNKNOWN_SHAPES));
 }
@@ -1086,13 +1086,13 @@ static struct linker_utils_shapes any_shapes(bool is_riscv) {
     struct linker_utils_shapes shapes = {.longest = (uint32_t)below(9)};
     uint32_t name = (uint32_t)(is_riscv ? LINKER_UTILS_SHAPES_RISCV_CALL + below(3)
                                         : LINKER_UTILS_SHAPES_LOONGARCH_CALL36 + below(2));
-    if (!once_in(8)) linker_utils_named_shapes(name, &shapes);
+    if (!once_in(8)) linker_utils_standard_shapes(name, &shapes);
     struct linker_utils_shape *shape = &shapes.shorter[below(2)];
     if (once_in(64)) shapes.count = (uint8_t)(once_in(2) ? below(4) : any());
     if (once_in(64)) shape->kept = (uint32_t)(once_in(2) ? below(10) : any_number());
-    if (once_in(64)) shape->unit = (uint32_t)(once_in(2) ? below(5) : any_number());
-    if (once_in(64)) shape->behind = any_number();
-    if (once_in(64)) shape->ahead = any_number();
+    if (once_in(64)) shape->granularity = (uint32_t)(once_in(2) ? below(5) : any_number());
+    if (once_in(64)) shape->max_backward = any_number();
+    if (once_in(64)) shape->max_forward = any_number();
     return shapes;
 }
 
@@ -1105,13 +1105,13 @@ static struct buffer *run_items(size_t count) {
     for (size_t i = 0; i < count; i++) {
         struct linker_utils_item item = {.offset = offset,
                                          .target = 4 * below(8 * count + 1),
-                                         .power = (uint64_t)(once_in(16) ? 2 : 4) << below(4),
-                                         .most = 2 * below(16),
+                                         .alignment = (uint64_t)(once_in(16) ? 2 : 4) << below(4),
+                                         .max_skip = 2 * below(16),
                                          .len = 8,
                                          .kind = LINKER_UTILS_ITEM_SITE,
                                          .shapes = any_shapes(is_riscv)};
         if (once_in(3)) {
-            item.len = item.power > 2 ? (uint32_t)item.power - (once_in(4) ? 4 : 2)
+            item.len = item.alignment > 2 ? (uint32_t)item.alignment - (once_in(4) ? 4 : 2)
                                       : 2 * (uint32_t)below(2);
             item.kind = once_in(4) ? (uint32_t)any() : (uint32_t)below(3);
         }
@@ -1121,8 +1121,8 @@ static struct buffer *run_items(size_t count) {
             switch (below(6)) {
             case 0: item.offset = is_small ? offset - 1 + below(3) : changed; break;
             case 1: item.target = changed; break;
-            case 2: item.power = changed; break;
-            case 3: item.most = changed; break;
+            case 2: item.alignment = changed; break;
+            case 3: item.max_skip = changed; break;
             case 4: item.len = (uint32_t)changed; break;
             default: item.kind = (uint32_t)changed; break;
             }
@@ -1136,8 +1136,8 @@ static struct buffer *run_items(size_t count) {
 #define ITEMS(buffer) (buffer)->given, LEN(buffer, struct linker_utils_item)
 #define FAULTS \
     OR(ITEMS_OVERLAP) OR(ENDS_TOO_HIGH) OR(TOO_MANY_SHAPES) OR(SHAPE_TOO_LONG) \
-    OR(SHAPES_NOT_ASCENDING) OR(BAD_UNIT) OR(BAD_REACH) OR(BAD_POWER) OR(UNEVEN_SHAPE) \
-    OR(POWER_BELOW_UNIT) OR(UNEVEN_END) OR(TOO_FEW_NOPS) OR(UNEVEN_NOPS) OR(MAY_BE_MISALIGNED) \
+    OR(SHAPES_NOT_ASCENDING) OR(BAD_GRANULARITY) OR(BAD_REACH) OR(BAD_ALIGNMENT) OR(UNEVEN_SHAPE) \
+    OR(ALIGNMENT_BELOW_GRANULARITY) OR(UNEVEN_END) OR(TOO_FEW_NOPS) OR(UNEVEN_NOPS) OR(MAY_BE_MISALIGNED) \
     OR(TARGET_INSIDE)
 
 /* `items_relaxable`, and `relax` where that says that it will do. */
@@ -1213,12 +1213,12 @@ static void call_run_deltas(void) {
 static void call_section_items(bool is_riscv) {
     size_t section_len = any_section_len(), count = any_len(8);
     struct buffer *section = bytes(READ, section_len);
-    struct buffer *given = place(READ, count, sizeof(struct linker_utils_section_relocation));
-    struct linker_utils_section_relocation *at = filled(given);
+    struct buffer *given = place(READ, count, sizeof(struct linker_utils_rela));
+    struct linker_utils_rela *at = filled(given);
     static const uint32_t types[2][5] = {{110, 71, 100, 72, 102}, {18, 19, 51, 43, 0}};
     uint64_t offset = 0;
     for (size_t i = 0; i < count; i++) {
-        at[i] = (struct linker_utils_section_relocation){
+        at[i] = (struct linker_utils_rela){
             .offset = once_in(32) ? any_number() : offset,
             .target = any_number(),
             .addend = once_in(8) ? (int64_t)any_number() : (int64_t)(2 * below(16)),
@@ -1296,7 +1296,7 @@ static void call_pack_run(void) {
         item[i] = (struct linker_utils_item){
             .offset = once_in(32) ? any_number() : offset,
             .target = once_in(8) ? any_number() : base + 2 * below(64),
-            .power = 8,
+            .alignment = 8,
             .len = once_in(32) ? (uint32_t)any_number() : len,
             .kind = is_call ? LINKER_UTILS_ITEM_SITE : 1 + (uint32_t)below(2),
             .shapes = any_shapes(is_riscv),
@@ -1510,7 +1510,7 @@ static void (*const all[])(void) = {
     call_deltas_create, call_deltas_create_in_one_pass,
     call_deltas_merge, call_has_valid_deltas, call_deltas_total_deleted, call_translations,
     call_deltas_translate_all,
-    call_deltas_heads, call_pack, call_shrink_calls, call_named_shapes, call_relax, call_run_deltas,
+    call_deltas_heads, call_pack, call_shrink_calls, call_standard_shapes, call_relax, call_run_deltas,
     call_riscv_items, call_loongarch_items, call_has_its_instructions, call_pack_run,
     call_read_value, call_solve, call_join, call_field_bits, call_same_but_for,
     call_recognise, call_recognise_chosen,

@@ -23,7 +23,7 @@ static struct linker_utils_block_head heads[DELETIONS / 64 + 1];
 static uint64_t queries[DELETIONS];
 static uint8_t code[LENGTH];
 static struct linker_utils_call calls[CALLS];
-static struct linker_utils_section_relocation relocations[3 * CALLS];
+static struct linker_utils_rela relocations[3 * CALLS];
 static struct linker_utils_link_facts facts;
 static const uint8_t got_load[8] = {0x90, 0x48, 0x8b, 0x1d, 0x00, 0x00, 0x00, 0x00};
 
@@ -95,7 +95,7 @@ static void run(uint8_t *part, struct results *to) {
     uint64_t offset = 4;
     int64_t addend = -4;
     memcpy(linked, got_load, sizeof linked);
-    EXPECT(apply(x86_64, to->choice.rewrite, to->choice.n, linked, 8, &offset, &addend));
+    EXPECT(apply(x86_64, to->choice.rewrite, to->choice.opcode_len, linked, 8, &offset, &addend));
     EXPECT(recognise(x86_64, R_X86_64_REX_GOTPCRELX, got_load, 8, 4, NULL, 0, linked, 8, to->found,
                      LINKER_UTILS_CANDIDATES, &to->count));
     failures += to->count == 0;
@@ -149,7 +149,7 @@ int main(void) {
             relocations[count].may_compress = 1;
         }
     }
-    facts.is_local = facts.has_fixed_distance = facts.is_marked = facts.has_addresses = 1;
+    facts.is_local = facts.has_fixed_distance = facts.is_relaxable = facts.has_addresses = 1;
     facts.operands.symbol = 0x8000;
     facts.operands.addend = -4;
     facts.operands.place = 0x4000;

@@ -135,10 +135,10 @@ pub struct LinkFacts {
     pub is_executable: bool,
     pub has_local_exec_base: bool,
     pub may_compress: bool,
-    pub is_marked: bool,
+    pub is_relaxable: bool,
     pub has_got_high_part: bool,
-    pub is_label_marked: bool,
-    pub has_private_base: bool,
+    pub is_label_relaxable: bool,
+    pub toc_base_is_exclusive: bool,
     pub may_change_toc: bool,
     pub has_addresses: bool,
     pub group_fits: bool,
@@ -156,10 +156,10 @@ impl From<&LinkFacts> for raw::LinkFacts {
             is_executable: facts.is_executable.into(),
             has_local_exec_base: facts.has_local_exec_base.into(),
             may_compress: facts.may_compress.into(),
-            is_marked: facts.is_marked.into(),
+            is_relaxable: facts.is_relaxable.into(),
             has_got_high_part: facts.has_got_high_part.into(),
-            is_label_marked: facts.is_label_marked.into(),
-            has_private_base: facts.has_private_base.into(),
+            is_label_relaxable: facts.is_label_relaxable.into(),
+            toc_base_is_exclusive: facts.toc_base_is_exclusive.into(),
             may_change_toc: facts.may_change_toc.into(),
             has_addresses: facts.has_addresses.into(),
             group_fits: facts.group_fits.into(),
@@ -189,11 +189,11 @@ impl Choice {
     /// Whether the choice at the relocation of an ELF type leaves it and its instruction as they
     /// are: the rewrite is `NoOp`, and the relocation after it has the same type.
     pub fn is_unchanged(&self, r_type: u32) -> bool {
-        let (machine, rewrite, n) = self.rewrite.numbers();
+        let (machine, rewrite, opcode_len) = self.rewrite.numbers();
         let choice = raw::Choice {
             rewrite,
             relocation: self.relocation,
-            n,
+            opcode_len,
             ..raw::Choice::default()
         };
         unsafe { raw::linker_utils_is_unchanged(machine, r_type, &choice) }
@@ -233,10 +233,10 @@ pub struct Relocation {
 #[repr(C)]
 #[derive(Debug, Clone, Copy, Default, PartialEq, Eq)]
 pub struct Shape {
-    pub behind: u64,
-    pub ahead: u64,
+    pub max_backward: u64,
+    pub max_forward: u64,
     pub kept: u32,
-    pub unit: u32,
+    pub granularity: u32,
 }
 
 /// The forms that the instructions of a site can have, by ascending length. Of `short` the first
@@ -253,10 +253,10 @@ impl Shapes {
     /// A deletion that is decided already, of all bytes of the site but the first `kept`.
     pub const fn fixed(kept: u32) -> Shapes {
         const NONE: Shape = Shape {
-            behind: 0,
-            ahead: 0,
+            max_backward: 0,
+            max_forward: 0,
             kept: 0,
-            unit: 0,
+            granularity: 0,
         };
         Shapes {
             short: [NONE; 2],
@@ -273,8 +273,8 @@ impl Shapes {
 pub struct Item {
     pub offset: u64,
     pub target: u64,
-    pub power: u64,
-    pub most: u64,
+    pub alignment: u64,
+    pub max_skip: u64,
     pub len: u32,
     pub kind: u32,
     pub shapes: Shapes,
@@ -294,15 +294,15 @@ impl Item {
     }
 
     /// Nops that align what follows them to a power of two, of which at most so many bytes may stay.
-    pub fn alignment(offset: u64, nops: u32, power: u64, most: Option<u64>) -> Item {
-        let kind = match most {
+    pub fn alignment(offset: u64, nops: u32, alignment: u64, max_skip: Option<u64>) -> Item {
+        let kind = match max_skip {
             None => ItemKind::Alignment,
             Some(_) => ItemKind::LimitedAlignment,
         };
         Item {
             offset,
-            power,
-            most: most.unwrap_or_default(),
+            alignment,
+            max_skip: max_skip.unwrap_or_default(),
             len: nops,
             kind: kind.number(),
             ..Item::default()
@@ -315,7 +315,7 @@ impl Item {
 /// extension.
 #[repr(C)]
 #[derive(Debug, Clone, Copy, Default, PartialEq, Eq)]
-pub struct SectionRelocation {
+pub struct Rela {
     pub offset: u64,
     pub target: u64,
     pub addend: i64,
@@ -501,19 +501,19 @@ pub fn read(form: impl Into<Form>, bytes: &[u8]) -> Result<(u64, bool), Status> 
 
 /// Whether `apply` at this offset would succeed.
 pub fn can_apply(rewrite: impl Into<Rewrite>, section: &[u8], offset: u64) -> Result<(), Status> {
-    let (machine, rewrite, n) = rewrite.into().numbers();
+    let (machine, rewrite, opcode_len) = rewrite.into().numbers();
     let (at, len) = (section.as_ptr(), section.len());
     let status =
-        unsafe { raw::linker_utils_can_apply_nonnull(machine, rewrite, n, at, len, offset) };
+        unsafe { raw::linker_utils_can_apply_nonnull(machine, rewrite, opcode_len, at, len, offset) };
     result_of(status, ())
 }
 
 /// Whether the bytes at an offset of a section are an instruction that the rewrite is meant for.
 /// `apply` at this offset then succeeds.
 pub fn matches(rewrite: impl Into<Rewrite>, section: &[u8], offset: u64) -> Result<(), Status> {
-    let (machine, rewrite, n) = rewrite.into().numbers();
+    let (machine, rewrite, opcode_len) = rewrite.into().numbers();
     let (at, len) = (section.as_ptr(), section.len());
-    let status = unsafe { raw::linker_utils_matches_nonnull(machine, rewrite, n, at, len, offset) };
+    let status = unsafe { raw::linker_utils_matches_nonnull(machine, rewrite, opcode_len, at, len, offset) };
     result_of(status, ())
 }
 
@@ -524,26 +524,26 @@ pub fn apply(
     offset: &mut u64,
     addend: &mut i64,
 ) -> Result<(), Status> {
-    let (machine, rewrite, n) = rewrite.into().numbers();
+    let (machine, rewrite, opcode_len) = rewrite.into().numbers();
     let (at, len) = (section.as_mut_ptr(), section.len());
     let status =
-        unsafe { raw::linker_utils_apply_nonnull(machine, rewrite, n, at, len, offset, addend) };
+        unsafe { raw::linker_utils_apply_nonnull(machine, rewrite, opcode_len, at, len, offset, addend) };
     result_of(status, ())
 }
 
 /// The window of a rewrite: the bytes that `apply` writes at an offset of a section.
 pub fn rewrite_window(rewrite: impl Into<Rewrite>) -> Result<RewriteWindow, Status> {
-    let (machine, rewrite, n) = rewrite.into().numbers();
+    let (machine, rewrite, opcode_len) = rewrite.into().numbers();
     let mut window = RewriteWindow::default();
-    let status = unsafe { raw::linker_utils_rewrite_window(machine, rewrite, n, &mut window) };
+    let status = unsafe { raw::linker_utils_rewrite_window(machine, rewrite, opcode_len, &mut window) };
     result_of(status, window)
 }
 
 /// What becomes of the relocation after that of the rewritten instruction.
 pub fn next_modifier(rewrite: impl Into<Rewrite>) -> Result<Modifier, Status> {
-    let (machine, rewrite, n) = rewrite.into().numbers();
+    let (machine, rewrite, opcode_len) = rewrite.into().numbers();
     let mut modifier = 0;
-    let status = unsafe { raw::linker_utils_next_modifier(machine, rewrite, n, &mut modifier) };
+    let status = unsafe { raw::linker_utils_next_modifier(machine, rewrite, opcode_len, &mut modifier) };
     let modifier = Modifier::from_number(modifier).expect("a modifier of the library's");
     result_of(status, modifier)
 }
@@ -584,7 +584,7 @@ pub fn relocation_fits(
 /// A choice for an architecture.
 fn choice_of(architecture: Architecture, choice: &raw::Choice) -> Choice {
     Choice {
-        rewrite: Rewrite::from_numbers(architecture, choice.rewrite, choice.n)
+        rewrite: Rewrite::from_numbers(architecture, choice.rewrite, choice.opcode_len)
             .expect("a rewrite of the library's"),
         relocation: choice.relocation,
         modifier: Modifier::from_number(choice.modifier).expect("a modifier of the library's"),
@@ -835,7 +835,7 @@ pub fn write_uleb128(dest: &mut [u8], value: u64) -> Result<(), Status> {
 }
 
 /// Whether `deltas_create` takes the deletions.
-pub fn deltas_is_valid(deletions: &[Deletion]) -> Result<(), ArrayError> {
+pub fn deletions_valid(deletions: &[Deletion]) -> Result<(), ArrayError> {
     let (at, len) = (deletions.as_ptr(), deletions.len());
     result_over(|faulty| unsafe { raw::linker_utils_deltas_is_valid_nonnull(at, len, faulty) })
 }
@@ -871,7 +871,7 @@ pub fn deltas_create_in_one_pass(
 }
 
 /// Whether `deltas_merge` takes the additional deletions.
-pub fn deltas_is_mergeable(deltas: &[Delta], additional: &[Deletion]) -> Result<(), Status> {
+pub fn deletions_mergeable(deltas: &[Delta], additional: &[Deletion]) -> Result<(), Status> {
     let status = unsafe {
         raw::linker_utils_deltas_is_mergeable_nonnull(
             deltas.as_ptr(),
@@ -1069,9 +1069,9 @@ pub fn shrink_calls(deltas: &[Delta], calls: &[Call], chosen: &mut [u8]) -> Resu
 }
 
 /// The shapes of an architecture's instructions.
-pub fn named_shapes(name: ShapesName) -> Shapes {
+pub fn standard_shapes(name: ShapesName) -> Shapes {
     let mut shapes = Shapes::default();
-    let status = unsafe { raw::linker_utils_named_shapes(name.number(), &mut shapes) };
+    let status = unsafe { raw::linker_utils_standard_shapes(name.number(), &mut shapes) };
     result_of(status, shapes).expect("the library has them")
 }
 
@@ -1090,7 +1090,7 @@ fn of_section(error: ArrayError) -> ArrayError {
 pub fn riscv_items(
     section: &[u8],
     base: u64,
-    relocations: &[SectionRelocation],
+    relocations: &[Rela],
     items: &mut [Item],
 ) -> Result<usize, ArrayError> {
     let mut len = 0;
@@ -1115,7 +1115,7 @@ pub fn riscv_items(
 pub fn loongarch_items(
     section: &[u8],
     base: u64,
-    relocations: &[SectionRelocation],
+    relocations: &[Rela],
     items: &mut [Item],
 ) -> Result<usize, ArrayError> {
     let mut len = 0;

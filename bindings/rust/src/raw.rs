@@ -2,7 +2,7 @@
 //! requires of pointers and counts, and does, is said there. No pointer to a slice may be null.
 
 pub use crate::{BlockHead, Call, Deletion, Delta, FieldBits, FieldValue, Item, Operands};
-pub use crate::{Relocation, RewriteWindow, SectionRelocation, Shape, Shapes};
+pub use crate::{Relocation, RewriteWindow, Rela, Shape, Shapes};
 use std::ffi::c_char;
 
 /// `struct linker_utils_relocation_info`.
@@ -47,10 +47,10 @@ pub struct LinkFacts {
     pub is_executable: u8,
     pub has_local_exec_base: u8,
     pub may_compress: u8,
-    pub is_marked: u8,
+    pub is_relaxable: u8,
     pub has_got_high_part: u8,
-    pub is_label_marked: u8,
-    pub has_private_base: u8,
+    pub is_label_relaxable: u8,
+    pub toc_base_is_exclusive: u8,
     pub may_change_toc: u8,
     pub has_addresses: u8,
     pub group_fits: u8,
@@ -69,7 +69,7 @@ pub struct Choice {
     pub other_offset: i64,
     pub other_relocation: u32,
     pub has_other: u8,
-    pub n: u8,
+    pub opcode_len: u8,
     pub skipped_offset: u8,
 }
 
@@ -112,7 +112,7 @@ extern "C" {
     pub fn linker_utils_can_apply_nonnull(
         machine: u16,
         rewrite: u32,
-        n: u8,
+        opcode_len: u8,
         section: *const u8,
         section_len: usize,
         offset: u64,
@@ -120,7 +120,7 @@ extern "C" {
     pub fn linker_utils_matches_nonnull(
         machine: u16,
         rewrite: u32,
-        n: u8,
+        opcode_len: u8,
         section: *const u8,
         section_len: usize,
         offset: u64,
@@ -128,7 +128,7 @@ extern "C" {
     pub fn linker_utils_apply_nonnull(
         machine: u16,
         rewrite: u32,
-        n: u8,
+        opcode_len: u8,
         section: *mut u8,
         section_len: usize,
         offset: *mut u64,
@@ -137,10 +137,10 @@ extern "C" {
     pub fn linker_utils_rewrite_window(
         machine: u16,
         rewrite: u32,
-        n: u8,
+        opcode_len: u8,
         window: *mut RewriteWindow,
     ) -> u32;
-    pub fn linker_utils_next_modifier(machine: u16, rewrite: u32, n: u8, modifier: *mut u32)
+    pub fn linker_utils_next_modifier(machine: u16, rewrite: u32, opcode_len: u8, modifier: *mut u32)
         -> u32;
     pub fn linker_utils_relocation_name_nonnull(
         machine: u16,
@@ -386,12 +386,12 @@ extern "C" {
         output_offset: u64,
         input_offset: *mut u64,
     ) -> u32;
-    pub fn linker_utils_named_shapes(number: u32, shapes: *mut Shapes) -> u32;
+    pub fn linker_utils_standard_shapes(number: u32, shapes: *mut Shapes) -> u32;
     pub fn linker_utils_riscv_items_nonnull(
         section: *const u8,
         section_len: usize,
         base: u64,
-        relocations: *const SectionRelocation,
+        relocations: *const Rela,
         relocations_len: usize,
         items: *mut Item,
         items_len: usize,
@@ -402,7 +402,7 @@ extern "C" {
         section: *const u8,
         section_len: usize,
         base: u64,
-        relocations: *const SectionRelocation,
+        relocations: *const Rela,
         relocations_len: usize,
         items: *mut Item,
         items_len: usize,

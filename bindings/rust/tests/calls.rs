@@ -48,7 +48,7 @@ fn deletions(pairs: &[(u64, u32)]) -> Vec<Deletion> {
 fn deltas(pairs: &[(u64, u32)]) -> Vec<Delta> {
     let deletions = deletions(pairs);
     let mut deltas = vec![Delta::default(); deletions.len()];
-    assert_eq!(deltas_is_valid(&deletions), Ok(()));
+    assert_eq!(deletions_valid(&deletions), Ok(()));
     assert_eq!(deltas_create(&deletions, &mut deltas), Ok(()));
     let mut in_one_pass = vec![Delta::default(); deletions.len()];
     let created = deltas_create_in_one_pass(&deletions, &mut in_one_pass);
@@ -490,7 +490,7 @@ fn choices_are_by_what_the_linker_knows() {
         ..Operands::default()
     };
     facts.has_addresses = true;
-    facts.is_marked = true;
+    facts.is_relaxable = true;
     facts.may_compress = true;
     let jump = Choice {
         rewrite: RiscVRewrite::TailToCJ.into(),
@@ -1130,7 +1130,7 @@ fn tests_and_lists_deletions() {
     for (pairs, index) in invalid {
         let list = deletions(pairs);
         let error = Err(at(index, Status::InvalidDeletions));
-        assert_eq!(deltas_is_valid(&list), error, "{pairs:?}");
+        assert_eq!(deletions_valid(&list), error, "{pairs:?}");
         assert_eq!(deltas_create(&list, &mut places), error, "{pairs:?}");
         let mut written = vec![Delta::default(); list.len()];
         let created = deltas_create_in_one_pass(&list, &mut written);
@@ -1150,7 +1150,7 @@ fn tests_and_lists_deletions() {
 fn merges_deletions() {
     let old = deltas(&[(8, 4)]);
     let more = deletions(&[(16, 4), (0, 2)]);
-    assert_eq!(deltas_is_mergeable(&old, &more), Ok(()));
+    assert_eq!(deletions_mergeable(&old, &more), Ok(()));
     let mut merged = [Delta::default(); 3];
     assert_eq!(deltas_merge(&old, &more, &mut merged), Ok(()));
     assert_eq!(merged.to_vec(), deltas(&[(0, 2), (8, 4), (16, 4)]));
@@ -1160,10 +1160,10 @@ fn merges_deletions() {
 
     let one = deltas(&[(4, 4)]);
     let mut places = [Delta::default(); 2];
-    assert_eq!(deltas_is_mergeable(&one, &deletions(&[(8, 0)])), Ok(()));
+    assert_eq!(deletions_mergeable(&one, &deletions(&[(8, 0)])), Ok(()));
     for pair in [(6, 1), (4, 0), (u64::MAX, 1)] {
         let more = deletions(&[pair]);
-        assert_eq!(deltas_is_mergeable(&one, &more), Err(Status::NotMergeable));
+        assert_eq!(deletions_mergeable(&one, &more), Err(Status::NotMergeable));
         assert_eq!(
             deltas_merge(&one, &more, &mut places),
             Err(at(0, Status::NotMergeable))
@@ -1183,7 +1183,7 @@ fn merges_deletions() {
         },
     ];
     assert_eq!(
-        deltas_is_mergeable(&falling, &[]),
+        deletions_mergeable(&falling, &[]),
         Err(Status::InvalidDeletions)
     );
     let error = at(1, Status::InvalidDeletions);
@@ -1314,7 +1314,7 @@ fn many_deletions_are_merged_and_translated() {
     let odd: Vec<_> = (0..1000).rev().map(|k| pair(2 * k + 1)).collect();
     let (even, odd) = (deltas(&even), deletions(&odd));
     let mut all = vec![Delta::default(); 2000];
-    assert_eq!(deltas_is_mergeable(&even, &odd), Ok(()));
+    assert_eq!(deletions_mergeable(&even, &odd), Ok(()));
     assert_eq!(deltas_merge(&even, &odd, &mut all), Ok(()));
     assert_eq!(deltas_total_deleted(&all), 8000);
     let created = deltas(&(0..2000).map(pair).collect::<Vec<_>>());
@@ -1401,7 +1401,7 @@ fn shrinks_calls() {
 
 #[test]
 fn makes_items_of_relocations() {
-    let relocation = |offset, r_type, addend, target: Option<u64>| SectionRelocation {
+    let relocation = |offset, r_type, addend, target: Option<u64>| Rela {
         offset,
         target: target.unwrap_or_default(),
         addend,
@@ -1427,8 +1427,8 @@ fn makes_items_of_relocations() {
     assert_eq!(
         items,
         [
-            Item::site(64, 8, 4096, named_shapes(ShapesName::RiscVCall)),
-            Item::site(72, 8, 8192, named_shapes(ShapesName::RiscVTailC)),
+            Item::site(64, 8, 4096, standard_shapes(ShapesName::RiscVCall)),
+            Item::site(72, 8, 8192, standard_shapes(ShapesName::RiscVTailC)),
             Item {
                 shapes: Shapes {
                     short: items[2].shapes.short,
@@ -1444,7 +1444,7 @@ fn makes_items_of_relocations() {
     relocations[2].may_compress = 0;
     let made = riscv_items(&section, 64, &relocations, &mut items);
     assert_eq!(made, Ok(3));
-    assert_eq!(items[1].shapes, named_shapes(ShapesName::RiscVCall));
+    assert_eq!(items[1].shapes, standard_shapes(ShapesName::RiscVCall));
     // five bytes are no nops
     relocations[4].addend = 5;
     let made = riscv_items(&section, 64, &relocations, &mut items);
@@ -1473,8 +1473,8 @@ fn makes_items_of_relocations() {
         loongarch_items(&section, 0, &relocations, &mut items),
         Ok(3)
     );
-    let call = Item::site(0, 8, 4096, named_shapes(ShapesName::LoongArchCall36));
-    let address = Item::site(8, 8, 8192, named_shapes(ShapesName::LoongArchPcala));
+    let call = Item::site(0, 8, 4096, standard_shapes(ShapesName::LoongArchCall36));
+    let address = Item::site(8, 8, 8192, standard_shapes(ShapesName::LoongArchPcala));
     assert_eq!(items[..2], [call, address]);
     let aligned = Item {
         shapes: items[2].shapes,
@@ -1488,14 +1488,14 @@ fn makes_items_of_relocations() {
 
 #[test]
 fn relaxes_runs() {
-    let call = named_shapes(ShapesName::RiscVCall);
+    let call = standard_shapes(ShapesName::RiscVCall);
     // `jal` reaches even distances from -1048576 to 1048574. The address behind the nops is a multiple
     // of 16, where the `jal` has 4 bytes and 12 bytes of nops stay.
     let jal = Shape {
-        behind: 1048576,
-        ahead: 1048576,
+        max_backward: 1048576,
+        max_forward: 1048576,
         kept: 4,
-        unit: 2,
+        granularity: 2,
     };
     assert_eq!((call.short[0], call.longest, call.count), (jal, 8, 1));
     let items = [
@@ -1524,7 +1524,7 @@ fn relaxes_runs() {
     // each kind of fault, of the second item
     let site = |offset, target, shapes| Item::site(offset, 8, target, shapes);
     let changed = |change: fn(&mut Shapes)| {
-        let mut shapes = named_shapes(ShapesName::RiscVTailC);
+        let mut shapes = standard_shapes(ShapesName::RiscVTailC);
         change(&mut shapes);
         site(16, 0, shapes)
     };
@@ -1537,11 +1537,11 @@ fn relaxes_runs() {
             changed(|it| it.short[0].kept = 4),
             Status::ShapesNotAscending,
         ),
-        (changed(|it| it.short[0].unit = 3), Status::BadUnit),
-        (changed(|it| it.short[0].ahead = 0), Status::BadReach),
-        (Item::alignment(16, 4, 6, None), Status::BadPower),
+        (changed(|it| it.short[0].granularity = 3), Status::BadGranularity),
+        (changed(|it| it.short[0].max_forward = 0), Status::BadReach),
+        (Item::alignment(16, 4, 6, None), Status::BadAlignment),
         (changed(|it| it.short[0].kept = 3), Status::UnevenShape),
-        (Item::alignment(16, 3, 1, None), Status::PowerBelowUnit),
+        (Item::alignment(16, 3, 1, None), Status::AlignmentBelowGranularity),
         (Item::alignment(16, 3, 4, None), Status::UnevenEnd),
         (Item::alignment(16, 4, 16, Some(9)), Status::TooFewNops),
         (Item::alignment(15, 5, 4, Some(3)), Status::UnevenNops),
@@ -1577,8 +1577,8 @@ fn packs_sections_of_runs() {
     ];
     let linked = [0xef, 0x00, 0x80, 0x00, 0x11, 0xa0, 0x01, 0x00, 0x82, 0x80];
     let (base, start, f) = (0x100, 0xff00, 0x116);
-    let call = named_shapes(ShapesName::RiscVCall);
-    let tail = named_shapes(ShapesName::RiscVTailC);
+    let call = standard_shapes(ShapesName::RiscVCall);
+    let tail = standard_shapes(ShapesName::RiscVTailC);
     let items = [
         Item::site(0x100, 8, f, call),
         Item::site(0x108, 8, f, tail),
@@ -1645,7 +1645,7 @@ fn packs_sections_of_runs() {
     // a call that links `ra` can't be `c.j`; shapes without C; nops; outside of the section
     for item in [
         Item::site(0x100, 8, f, tail),
-        Item::site(0x100, 8, f, named_shapes(ShapesName::LoongArchCall36)),
+        Item::site(0x100, 8, f, standard_shapes(ShapesName::LoongArchCall36)),
         Item::site(0x10c, 8, f, call),
         Item::site(0x100, 4, f, call),
         Item::site(0xff, 8, f, call),
@@ -1678,7 +1678,7 @@ fn packs_sections_of_loongarch() {
         0x0340_0000,
         0x4c00_0020,
     ];
-    let call = named_shapes(ShapesName::LoongArchCall36);
+    let call = standard_shapes(ShapesName::LoongArchCall36);
     let items = [
         Item::site(0, 8, 28, call),
         Item::site(8, 8, 28, call),

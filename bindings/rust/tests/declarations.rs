@@ -109,7 +109,7 @@ fn type_of_c(text: &str) -> String {
         "struct linker_utils_shape" => "Shape",
         "struct linker_utils_shapes" => "Shapes",
         "struct linker_utils_item" => "Item",
-        "struct linker_utils_section_relocation" => "SectionRelocation",
+        "struct linker_utils_rela" => "Rela",
         "struct linker_utils_field_value" => "FieldValue",
         "struct linker_utils_window_bits" => "FieldBits",
         "struct linker_utils_recognised" => "Recognised",
@@ -379,7 +379,7 @@ fn c_element(kind: &str, element: &str) -> String {
         "BlockHead" => "struct linker_utils_block_head".to_string(),
         "Relocation" => "struct linker_utils_relocation_entry".to_string(),
         "Item" => "struct linker_utils_item".to_string(),
-        "SectionRelocation" => "struct linker_utils_section_relocation".to_string(),
+        "Rela" => "struct linker_utils_rela".to_string(),
         "FieldBits" => "struct linker_utils_window_bits".to_string(),
         "Recognised" => "struct linker_utils_recognised".to_string(),
         "usize" => "size_t".to_string(),
@@ -732,8 +732,8 @@ fn the_structs_are_those_of_the_library() {
         }
         "linker_utils_link_facts": raw::LinkFacts {
             is_local, is_ifunc, is_undefined_weak, has_fixed_address, has_fixed_distance,
-            is_executable, has_local_exec_base, may_compress, is_marked, has_got_high_part,
-            is_label_marked, has_private_base, may_change_toc, has_addresses, group_fits,
+            is_executable, has_local_exec_base, may_compress, is_relaxable, has_got_high_part,
+            is_label_relaxable, toc_base_is_exclusive, may_change_toc, has_addresses, group_fits,
             operands,
         }
         "linker_utils_choice": raw::Choice {
@@ -743,10 +743,10 @@ fn the_structs_are_those_of_the_library() {
         "linker_utils_window_bounds": RewriteWindow { back, len, }
         "linker_utils_relocation_reach": raw::Reach { min, max, has_range, }
         "linker_utils_relocation_entry": Relocation { offset, value, r_type, }
-        "linker_utils_shape": Shape { behind, ahead, kept, unit, }
+        "linker_utils_shape": Shape { max_backward, max_forward, kept, granularity, }
         "linker_utils_shapes": Shapes { short, longest, count, }
-        "linker_utils_item": Item { offset, target, power, most, len, kind, shapes, }
-        "linker_utils_section_relocation": SectionRelocation {
+        "linker_utils_item": Item { offset, target, alignment, max_skip, len, kind, shapes, }
+        "linker_utils_rela": Rela {
             offset, target, addend, r_type, has_symbol, has_target, may_compress,
         }
         "linker_utils_field_value": FieldValue { bits, rounding, first_bit, end_bit, }
@@ -780,7 +780,7 @@ fn the_structs_are_those_of_the_library() {
         ("linker_utils_shape", "Shape"),
         ("linker_utils_shapes", "Shapes"),
         ("linker_utils_item", "ItemNumbers"),
-        ("linker_utils_section_relocation", "SectionRelocation"),
+        ("linker_utils_rela", "Rela"),
         ("linker_utils_field_value", "FieldValueNumbers"),
         ("linker_utils_window_bits", "FieldBits"),
         ("linker_utils_recognised", "RecognisedNumbers"),

@@ -52,7 +52,7 @@ fn merge_too_many() {
         ),
     ] {
         deletions[COUNT - 1].offset = offset;
-        assert_eq!(deltas_is_mergeable(&[], deletions), mergeable);
+        assert_eq!(deletions_mergeable(&[], deletions), mergeable);
         assert_eq!(
             deltas_merge(&[], deletions, merged),
             Err(ArrayError { status, index })
@@ -68,7 +68,7 @@ fn merge_too_many() {
 fn relax_too_many() {
     const COUNT: usize = 6_000_000;
     let items: &mut [Item] = zeros(COUNT);
-    let relocations: &mut [SectionRelocation] = zeros(COUNT);
+    let relocations: &mut [Rela] = zeros(COUNT);
     let (shapes, kept) = (zeros::<u8>(COUNT), zeros::<u64>(COUNT));
     let (places, freed) = (zeros::<usize>(COUNT), zeros::<u64>(COUNT + 1));
     let refused = Err(ArrayError::from(Status::OutOfMemory));

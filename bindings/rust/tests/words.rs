@@ -296,7 +296,7 @@ fn choices_of_riscv_match_lld() {
             ..Operands::default()
         };
         let mut facts = facts_with(flags & 2 != 0, operands);
-        facts.is_marked = flags & 1 != 0;
+        facts.is_relaxable = flags & 1 != 0;
         let mut section = bytes_of([before, 0]);
         let chosen = link(Architecture::RiscV, r_type, &mut section, 0, &facts);
         let is_deleted = chosen == RiscVRewrite::Delete.into();
@@ -327,7 +327,7 @@ fn choices_of_loongarch_match_gnu_ld() {
             ..Operands::default()
         };
         let mut facts = facts_with(symbol != 0, operands);
-        facts.is_marked = true;
+        facts.is_relaxable = true;
         facts.group_fits = true;
         let mut section: [u8; 16] = words
             .map(u32::to_le_bytes)
@@ -366,7 +366,7 @@ fn choices_of_powerpc64_match_linkers() {
         };
         let mut facts = facts_with(flags == 1, operands);
         facts.may_change_toc = flags == 2;
-        facts.has_private_base = true;
+        facts.toc_base_is_exclusive = true;
         facts.group_fits = true;
         let mut section = before.to_le_bytes();
         link(Architecture::Ppc64, r_type, &mut section, 0, &facts);

@@ -25,8 +25,8 @@ use super::rewrites::{
 };
 use linker_base::rewrite::has_window;
 use linker_elf::elf::choice_table::{
-    BOUND, ChosenByTable, ChosenKind, Conditions, EXECUTABLE, FIXED_DISTANCE, GROUP_FITS, MARKED,
-    Table, all_tables, by_table, choice_by, conditions, is_listed,
+    BOUND, ChosenByTable, ChosenKind, Conditions, EXECUTABLE, FIXED_DISTANCE, GROUP_FITS,
+    RELAXABLE, Table, all_tables, by_table, choice_by, conditions, is_listed,
 };
 use linker_elf::elf::{Choice, LinkFacts, Operands};
 use linker_elf::loongarch64::{LoongArch64Relocation, LoongArch64Relocation as Names};
@@ -145,7 +145,7 @@ impl ChosenKind for RelaxationKind {
 /// By `pcaddi` alone, which is so many bytes before.
 macro_rules! by_pcaddi {
     ($back:expr) => {
-        conditions!(FIXED_DISTANCE + MARKED, None, InReach(R_LARCH_PCREL20_S2, $back))
+        conditions!(FIXED_DISTANCE + RELAXABLE, None, InReach(R_LARCH_PCREL20_S2, $back))
     };
 }
 
@@ -153,7 +153,7 @@ macro_rules! by_pcaddi {
 macro_rules! bound_by_pcaddi {
     ($back:expr) => {
         conditions!(
-            BOUND + FIXED_DISTANCE + MARKED,
+            BOUND + FIXED_DISTANCE + RELAXABLE,
             Some(0),
             InReach(R_LARCH_PCREL20_S2, $back)
         )
@@ -163,7 +163,7 @@ macro_rules! bound_by_pcaddi {
 /// The GOT entry of general- or local-dynamic by `pcaddi`, which is so many bytes before.
 macro_rules! entry_by_pcaddi {
     ($name:ident, $back:expr) => {
-        conditions!(MARKED + GROUP_FITS, None, InReach($name, $back))
+        conditions!(RELAXABLE + GROUP_FITS, None, InReach($name, $back))
     };
 }
 
@@ -187,7 +187,7 @@ const SIGNED_12: (i64, i64) = (-0x800, 0x800);
 
 /// By `b` or `bl`.
 const BY_BRANCH: Conditions<Names> = conditions!(
-    FIXED_DISTANCE + MARKED,
+    FIXED_DISTANCE + RELAXABLE,
     None,
     InReach(R_LARCH_B26, 0)
 );
@@ -216,7 +216,7 @@ const TO_INITIAL_EXEC: Conditions<Names> = conditions!(EXECUTABLE + GROUP_FITS, 
 
 /// The offset from the thread pointer in 12 signed bits.
 const BY_LOW_PART: Conditions<Names> = conditions!(
-    MARKED,
+    RELAXABLE,
     None,
     Within(R_LARCH_TLS_LE_LO12_R, SIGNED_12, 0)
 );
@@ -317,7 +317,7 @@ impl ChosenByTable for RelaxationKind {
 /// let call = [0x01, 0x00, 0x00, 0x1e, 0x21, 0x00, 0x00, 0x4c];
 /// let facts = LinkFacts {
 ///     has_fixed_distance: true,
-///     is_marked: true,
+///     is_relaxable: true,
 ///     has_addresses: true,
 ///     operands: Operands { plt_entry: 0x2000, place: 0x1000, ..Operands::default() },
 ///     ..LinkFacts::default()

@@ -16,8 +16,8 @@ ghost use Rattle.linker_ppc64.specs.declared.rewrites.RelaxationKind.TheVariants
 
 use super::rewrites::RelaxationKind;
 use linker_elf::elf::choice_table::{
-    BOUND, CHANGED_TOC, ChosenByTable, ChosenKind, Conditions, EXECUTABLE, FIXED_ADDRESS,
-    FIXED_DISTANCE, GROUP_FITS, PRIVATE_BASE, Table, all_tables, by_table, choice_by, conditions,
+    BOUND, CHANGED_TOC, ChosenByTable, ChosenKind, Conditions, EXCLUSIVE_TOC_BASE, EXECUTABLE,
+    FIXED_ADDRESS, FIXED_DISTANCE, GROUP_FITS, Table, all_tables, by_table, choice_by, conditions,
     is_listed,
 };
 use linker_elf::elf::{Choice, LinkFacts, Operands};
@@ -58,7 +58,7 @@ impl ChosenKind for RelaxationKind {
 
 /// The high part of the distance from the TOC pointer is 0.
 const WITHOUT_HIGH_PART: Conditions<Names> = conditions!(
-    PRIVATE_BASE,
+    EXCLUSIVE_TOC_BASE,
     None,
     InReach(R_PPC64_TOC16, 0)
 );

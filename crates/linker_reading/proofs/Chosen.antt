@@ -3,7 +3,7 @@ use Rattle.std.proofs.Common.{◌≡◌, ◌↔◌, List, [], ◌∷◌, Option,
 use Rattle.linker_elf.specs.Choices.{Entry, IsFirst}
 use Rattle.linker_elf.specs.declared.elf.choice.Choice.{Choice}
 use Rattle.linker_reading.specs.Recognised.{IsOneOf, choices_of}
-use Rattle.linker_reading.specs.declared.recognise.engine.Made.{Made}
+use Rattle.linker_reading.specs.declared.recognise.engine.Recognised.{Recognised}
 
 pub first_is_listed : {K R : Type 0} (Applies : Entry K R → Type 0) (es : List (Entry K R)) (otherwise c : Choice K R)
     → IsFirst Applies es otherwise c → IsOneOf c (choices_of es otherwise)
@@ -21,10 +21,10 @@ first_is_same Applies (e ∷ es) otherwise c d (inr one) (inl other) = absurd (o
 first_is_same Applies (e ∷ es) otherwise c d (inr one) (inr other) = first_is_same Applies es otherwise c d one.1 other.1
 
 -- what was made of a choice that is meant is what was made of the one that is chosen
-pub chosen_made : {K R : Type 0} (IsChoice : Choice K R → Type 0) (Matches : Choice K R → Type 0) (P : Made K R → Type 0) (chosen : Choice K R) (found : Option (Made K R))
+pub chosen_made : {K R : Type 0} (IsChoice : Choice K R → Type 0) (Matches : Choice K R → Type 0) (P : Recognised K R → Type 0) (chosen : Choice K R) (found : Option (Recognised K R))
     → IsChoice chosen → ((d : Choice K R) → IsChoice d → chosen ≡ d) → ((d : Choice K R) → IsChoice d → Matches d)
-    → ((m : Made K R) → (found ≡ Some m) ↔ ((m.choice ≡ chosen) × (Matches m.choice × P m)))
-    → (m : Made K R) → (found ≡ Some m) ↔ (IsChoice m.choice × P m)
+    → ((m : Recognised K R) → (found ≡ Some m) ↔ ((m.choice ≡ chosen) × (Matches m.choice × P m)))
+    → (m : Recognised K R) → (found ≡ Some m) ↔ (IsChoice m.choice × P m)
 chosen_made IsChoice Matches P chosen found is unique matches test m = (
   (λ e. let both = (test m).0 e in (subst IsChoice (sym both.0) is, both.1.1)),
   (λ both. (test m).1 (sym (unique m.choice both.0), (matches m.choice both.0, both.1))),

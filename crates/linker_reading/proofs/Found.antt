@@ -11,7 +11,7 @@ use Rattle.linker_elf.specs.declared.elf.choice.LinkFacts.{LinkFacts}
 use Rattle.linker_reading.proofs.Chosen.{first_is_listed}
 use Rattle.linker_reading.specs.Inner.Laws.{ChosenMatches}
 use Rattle.linker_reading.specs.declared.recognise.fields.FieldBits.{FieldBits}
-use Rattle.linker_reading.specs.declared.recognise.engine.Made.{Made}
+use Rattle.linker_reading.specs.declared.recognise.engine.Recognised.{Recognised}
 
 -- ---- places in lists
 
@@ -121,7 +121,7 @@ module _ {A B : Type 0} (of : B → A) (IsSo : B → Type 0) (choices : List A) 
 -- ---- of a table
 
 -- no two have the same choice
-pub are_distinct : {K R : Type 0} (choices : List (Choice K R)) (found : List (Option (Made K R))) → ArePlaced choices found → AreDistinct found
+pub are_distinct : {K R : Type 0} (choices : List (Choice K R)) (found : List (Option (Recognised K R))) → ArePlaced choices found → AreDistinct found
 are_distinct choices found placed i j m n e f same =
     ⊎_elim
     (λ before. absurd ((placed j n f).not_before i before ((placed i m e).here ∙ ap Some same)))
@@ -131,21 +131,21 @@ are_distinct choices found placed i j m n e f same =
     (cases_lt j i))
     (cases_lt i j)
 
-pub found_in_table : {K R : Type 0} (it : Recogniser K R) (name : R) (original : List ℕ) (o : ℕ) (others : List FieldBits) (linked : List ℕ) (found : List (Option (Made K R))) (n : ℕ)
-    → AreFoundOfFirst (λ (m : Made K R). m.choice) (IsMeant it original o others linked) (choices_at it name original o) found n
+pub found_in_table : {K R : Type 0} (it : Recogniser K R) (name : R) (original : List ℕ) (o : ℕ) (others : List FieldBits) (linked : List ℕ) (found : List (Option (Recognised K R))) (n : ℕ)
+    → AreFoundOfFirst (λ (m : Recognised K R). m.choice) (IsMeant it original o others linked) (choices_at it name original o) found n
     → length (choices_at it name original o) ≤ n → AreThose (IsFound it name original o others linked) found
 found_in_table {K} {R} it name original o others linked found n were end =
-    let those = those_found (λ (m : Made K R). m.choice) (IsMeant it original o others linked) (choices_at it name original o) found n were end in
+    let those = those_found (λ (m : Recognised K R). m.choice) (IsMeant it original o others linked) (choices_at it name original o) found n were end in
     record {
       only = λ m h. let is = those.only m h in record { listed = is.0; matches = is.1.0; made = is.1.1 };
       all = λ m is. those.all m (is.listed, (is.matches, is.made));
     }
 
 -- what is chosen is one of those that were found
-pub chosen_found : {K R : Type 0} (it : Recogniser K R) (name : R) (original : List ℕ) (o : ℕ) (others : List FieldBits) (linked : List ℕ) (found : List (Option (Made K R)))
+pub chosen_found : {K R : Type 0} (it : Recogniser K R) (name : R) (original : List ℕ) (o : ℕ) (others : List FieldBits) (linked : List ℕ) (found : List (Option (Recognised K R)))
     → ChosenMatches it
     → AreThose (IsFound it name original o others linked) found
-    → (facts : LinkFacts) (m : Made K R) → IsChosen it name original o facts m.choice → IsMade it original o others linked m → IsOneOf (Some m) found
+    → (facts : LinkFacts) (m : Recognised K R) → IsChosen it name original o facts m.choice → IsMade it original o others linked m → IsOneOf (Some m) found
 chosen_found it name original o others linked found chosen_matches those facts m is made =
     those.all m (record {
       listed = first_is_listed (it.applies name original o facts) (it.entries name original o) (choice it.no_op name) m.choice is;

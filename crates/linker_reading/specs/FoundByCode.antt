@@ -6,7 +6,7 @@ use Rattle.linker_elf.specs.declared.elf.choice.LinkFacts.{LinkFacts}
 use Rattle.linker_reading.specs.Recognised.{Recogniser, IsChosen, IsMade, IsFound}
 use Rattle.linker_reading.specs.Recognised.{AreThose, ArePlaced, choices_at}
 use Rattle.linker_reading.specs.Recognisers.{aarch64, riscv, loongarch, ppc64, x86_64}
-use Rattle.linker_reading.specs.declared.recognise.engine.Made.{Made}
+use Rattle.linker_reading.specs.declared.recognise.engine.Recognised.{Recognised}
 use Rattle.linker_reading.specs.declared.recognise.fields.FieldBits.{FieldBits}
 use Rattle.linker_utils.specs.Architectures.{of_some}
 use Rattle.linker_utils.specs.declared.architecture.Relaxation.{Relaxation}
@@ -15,7 +15,7 @@ use Rattle.linker_utils.specs.declared.elf.Architecture.TheVariants.{Ppc64, X86_
 use Rattle.linker_utils.specs.declared.elf.Architecture.{Architecture}
 
 -- the same with the rewrite as one of all architectures', and the relocation's code
-abbrev pub by_code : {K R : Type 0} → Recogniser K R → Made K R → Made Relaxation ℕ
+abbrev pub by_code : {K R : Type 0} → Recogniser K R → Recognised K R → Recognised Relaxation ℕ
 by_code it m =
     record {
       choice = choice (it.relaxation m.choice.kind) (code_of (it.elf_name m.choice.relocation));
@@ -25,10 +25,10 @@ by_code it m =
 
 -- Those that were found for the name of a code, in their order.
 pub record AreFoundBy {K R : Type 0} (it : Recogniser K R) (code : ℕ) (original : List ℕ) (o : ℕ)
-    (others : List FieldBits) (linked : List ℕ) (found : List (Option (Made Relaxation ℕ)))
+    (others : List FieldBits) (linked : List ℕ) (found : List (Option (Recognised Relaxation ℕ)))
     : Type 0 where
   pub name : R
-  pub named : List (Option (Made K R))
+  pub named : List (Option (Recognised K R))
   pub is_name : IsNameOf it.elf_name code name
   pub those : AreThose (IsFound it name original o others linked) named
   pub placed : ArePlaced (choices_at it name original o) named
@@ -36,7 +36,7 @@ pub record AreFoundBy {K R : Type 0} (it : Recogniser K R) (code : ℕ) (origina
 
 -- of an architecture
 abbrev pub AreFound : Architecture → ℕ → List ℕ → ℕ → List FieldBits → List ℕ
-    → List (Option (Made Relaxation ℕ)) → Type 0
+    → List (Option (Recognised Relaxation ℕ)) → Type 0
 AreFound AArch64 = AreFoundBy aarch64
 AreFound RiscV = AreFoundBy riscv
 AreFound LoongArch64 = AreFoundBy loongarch
@@ -47,17 +47,17 @@ AreFound X86_64 = AreFoundBy x86_64
 -- bytes, and what is read of its relocation.
 pub record IsFoundBy {K R : Type 0} (it : Recogniser K R) (code : ℕ) (original : List ℕ) (o : ℕ)
     (others : List FieldBits) (linked : List ℕ) (facts : LinkFacts)
-    (found : Option (Made Relaxation ℕ)) : Type 0 where
+    (found : Option (Recognised Relaxation ℕ)) : Type 0 where
   pub name : R
-  pub named : Option (Made K R)
+  pub named : Option (Recognised K R)
   pub is_name : IsNameOf it.elf_name code name
-  pub exactly : (m : Made K R) → (named ≡ Some m)
+  pub exactly : (m : Recognised K R) → (named ≡ Some m)
       ↔ (IsChosen it name original o facts m.choice × IsMade it original o others linked m)
   pub found_is : found ≡ of_some (by_code it) named
 
 -- of an architecture
 abbrev pub IsFoundChosen : Architecture → ℕ → List ℕ → ℕ → List FieldBits → List ℕ → LinkFacts
-    → Option (Made Relaxation ℕ) → Type 0
+    → Option (Recognised Relaxation ℕ) → Type 0
 IsFoundChosen AArch64 = IsFoundBy aarch64
 IsFoundChosen RiscV = IsFoundBy riscv
 IsFoundChosen LoongArch64 = IsFoundBy loongarch

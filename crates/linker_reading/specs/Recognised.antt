@@ -7,7 +7,7 @@ use Rattle.linker_elf.specs.declared.elf.RelocationKindInfo.{RelocationKindInfo}
 use Rattle.linker_reading.specs.Reading.{value_read}
 use Rattle.linker_reading.specs.declared.fields.FieldValue.{FieldValue}
 use Rattle.linker_reading.specs.FieldsOfBytes.{is_in_field, AreSameBut}
-use Rattle.linker_reading.specs.declared.recognise.engine.Made.{Made}
+use Rattle.linker_reading.specs.declared.recognise.engine.Recognised.{Recognised}
 use Rattle.linker_reading.specs.declared.recognise.fields.FieldBits.{FieldBits}
 use Rattle.linker_elf.specs.Choices.{Entry, IsFirst, choice}
 use Rattle.linker_elf.specs.ElfNames.{ElfName}
@@ -118,7 +118,7 @@ IsChosen it name original o facts c =
 -- The choice leaves the linked bytes, its field is at that offset of them, and that is known of the
 -- value.
 pub record IsMade {K R : Type 0} (it : Recogniser K R) (original : List ℕ) (o : ℕ)
-    (others : List FieldBits) (linked : List ℕ) (m : Made K R) : Type 0 where
+    (others : List FieldBits) (linked : List ℕ) (m : Recognised K R) : Type 0 where
   pub leaves :
       IsLeft (it.relaxation m.choice.kind) (it.row m.choice.relocation) original o others linked
   pub reads :
@@ -126,7 +126,7 @@ pub record IsMade {K R : Type 0} (it : Recogniser K R) (original : List ℕ) (o 
 
 -- It is one of the choices at a relocation, its rewrite is meant for what is there, and it was made.
 pub record IsFound {K R : Type 0} (it : Recogniser K R) (name : R) (original : List ℕ) (o : ℕ)
-    (others : List FieldBits) (linked : List ℕ) (m : Made K R) : Type 0 where
+    (others : List FieldBits) (linked : List ℕ) (m : Recognised K R) : Type 0 where
   pub listed : IsOneOf m.choice (choices_at it name original o)
   pub matches : relaxation_matches (it.relaxation m.choice.kind) original o
   pub made : IsMade it original o others linked m
@@ -142,12 +142,12 @@ pub record IsFirstPlace {A : Type 0} (a : A) (list : List A) (i : ℕ) : Type 0 
   pub not_before : (j : ℕ) → j < i → slice_get list j ≢ Some a
 
 -- Each of those that were found has the first place of its choice.
-abbrev pub ArePlaced : {K R : Type 0} → List (Choice K R) → List (Option (Made K R)) → Type 0
+abbrev pub ArePlaced : {K R : Type 0} → List (Choice K R) → List (Option (Recognised K R)) → Type 0
 ArePlaced {K} {R} choices found =
-    (i : ℕ) (m : Made K R) → slice_index_or found i None ≡ Some m → IsFirstPlace m.choice choices i
+    (i : ℕ) (m : Recognised K R) → slice_index_or found i None ≡ Some m → IsFirstPlace m.choice choices i
 
 -- No two of those that were found have the same choice.
-abbrev pub AreDistinct : {K R : Type 0} → List (Option (Made K R)) → Type 0
+abbrev pub AreDistinct : {K R : Type 0} → List (Option (Recognised K R)) → Type 0
 AreDistinct {K} {R} found =
-    (i j : ℕ) (m n : Made K R) → slice_index_or found i None ≡ Some m
+    (i j : ℕ) (m n : Recognised K R) → slice_index_or found i None ≡ Some m
     → slice_index_or found j None ≡ Some n → m.choice ≡ n.choice → i ≡ j

@@ -6,5 +6,7 @@ mod engine;
 pub mod fields;
 mod recognisers;
 
-pub use self::engine::{CANDIDATES, MAX_WINDOW, Made, Recognised, recognise, recognise_chosen};
+pub use self::engine::{
+    CANDIDATES, MAX_WINDOW, Recognised, RecognisedName, recognise, recognise_chosen,
+};
 pub use self::recognisers::written_choices_are_left;

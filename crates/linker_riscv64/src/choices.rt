@@ -20,8 +20,8 @@ use super::{RelaxationKind, RiscVRelocation, RiscVRelocation as Names};
 use linker_base::rewrite::has_window;
 use linker_elf::elf::choice_table::{
     BOUND, COMPRESSIBLE, ChosenByTable, ChosenKind, Conditions, EXECUTABLE, FIXED_ADDRESS,
-    FIXED_DISTANCE, GOT_HIGH_PART, LABEL_MARKED, MARKED, Table, WITHOUT_PLT, all_tables, by_table,
-    choice_by, conditions, is_listed,
+    FIXED_DISTANCE, GOT_HIGH_PART, LABEL_RELAXABLE, RELAXABLE, Table, WITHOUT_PLT, all_tables,
+    by_table, choice_by, conditions, is_listed,
 };
 use linker_elf::elf::{Choice, LinkFacts, Operands};
 
@@ -75,14 +75,14 @@ const SIGNED_12: (i64, i64) = (-0x800, 0x800);
 
 /// A `jal` reaches the symbol.
 const BY_JUMP: Conditions<Names> = conditions!(
-    FIXED_DISTANCE + MARKED + WITHOUT_PLT,
+    FIXED_DISTANCE + RELAXABLE + WITHOUT_PLT,
     None,
     InReach(R_RISCV_JAL, 0)
 );
 
 /// A `c.j` reaches it.
 const BY_SHORT_JUMP: Conditions<Names> = conditions!(
-    FIXED_DISTANCE + COMPRESSIBLE + MARKED + WITHOUT_PLT,
+    FIXED_DISTANCE + COMPRESSIBLE + RELAXABLE + WITHOUT_PLT,
     None,
     InReach(R_RISCV_RVC_JUMP, 0)
 );
@@ -91,18 +91,18 @@ const BY_SHORT_JUMP: Conditions<Names> = conditions!(
 const WITH_LOW_PART: Conditions<Names> = conditions!(FIXED_ADDRESS, None, Low12);
 
 /// And instructions may be deleted.
-const BY_LOW_PART: Conditions<Names> = conditions!(FIXED_ADDRESS + MARKED, None, Low12);
+const BY_LOW_PART: Conditions<Names> = conditions!(FIXED_ADDRESS + RELAXABLE, None, Low12);
 
 /// A `c.lui` holds the high part.
 const BY_SHORT_HIGH_PART: Conditions<Names> = conditions!(
-    FIXED_ADDRESS + COMPRESSIBLE + MARKED,
+    FIXED_ADDRESS + COMPRESSIBLE + RELAXABLE,
     None,
     InReach(R_RISCV_RVC_LUI, 0)
 );
 
 /// 12 signed bits hold the offset from the thread pointer.
 const BY_LOW_OFFSET: Conditions<Names> = conditions!(
-    MARKED,
+    RELAXABLE,
     None,
     Within(R_RISCV_TPREL_LO12_I, SIGNED_12, 0)
 );
@@ -137,7 +137,7 @@ macro_rules! to_initial_exec {
 macro_rules! without_got {
     ($($fact:ident)?) => {
         conditions!(
-            BOUND + FIXED_DISTANCE + LABEL_MARKED $(+ $fact)?,
+            BOUND + FIXED_DISTANCE + LABEL_RELAXABLE $(+ $fact)?,
             Some(0),
             InReachIfKnown(R_RISCV_PCREL_HI20, 0)
         )
@@ -166,19 +166,19 @@ macro_rules! choices {
             R_RISCV_TPREL_LO12_I: [BaseToTp => R_RISCV_TPREL_LO12_I, BY_LOW_OFFSET]
             R_RISCV_TPREL_LO12_S: [BaseToTp => R_RISCV_TPREL_LO12_S, BY_LOW_OFFSET]
             R_RISCV_TLSDESC_HI20: [
-                Delete at Auipc => R_RISCV_NONE, to_local_exec!(MARKED);
+                Delete at Auipc => R_RISCV_NONE, to_local_exec!(RELAXABLE);
                 ReplaceWithLongNop at Auipc => R_RISCV_NONE, to_local_exec!();
-                Delete at Auipc => R_RISCV_NONE, to_initial_exec!(MARKED);
+                Delete at Auipc => R_RISCV_NONE, to_initial_exec!(RELAXABLE);
                 ReplaceWithLongNop at Auipc => R_RISCV_NONE, to_initial_exec!();
             ]
             R_RISCV_TLSDESC_LOAD_LO12: [
-                Delete at Ld => R_RISCV_NONE, to_local_exec!(MARKED);
+                Delete at Ld => R_RISCV_NONE, to_local_exec!(RELAXABLE);
                 ReplaceWithLongNop at Ld => R_RISCV_NONE, to_local_exec!();
-                Delete at Ld => R_RISCV_NONE, to_initial_exec!(MARKED);
+                Delete at Ld => R_RISCV_NONE, to_initial_exec!(RELAXABLE);
                 ReplaceWithLongNop at Ld => R_RISCV_NONE, to_initial_exec!();
             ]
             R_RISCV_TLSDESC_ADD_LO12: [
-                Delete at AddiToA0 => R_RISCV_NONE, to_short_local_exec!(MARKED);
+                Delete at AddiToA0 => R_RISCV_NONE, to_short_local_exec!(RELAXABLE);
                 ReplaceWithLongNop at AddiToA0 => R_RISCV_NONE, to_short_local_exec!();
                 AddiToLui => R_RISCV_TPREL_HI20, to_local_exec!();
                 AddiToAuipc => R_RISCV_TLS_GOT_HI20, to_initial_exec!();
@@ -230,7 +230,7 @@ impl ChosenByTable for RelaxationKind {
 /// let target = 0x2000;
 /// let mut facts = LinkFacts {
 ///     has_fixed_distance: true,
-///     is_marked: true,
+///     is_relaxable: true,
 ///     has_addresses: true,
 ///     operands: Operands {
 ///         symbol: target,
@@ -278,7 +278,7 @@ pub fn choose(
 /// let facts = LinkFacts {
 ///     is_local: true,
 ///     has_fixed_distance: true,
-///     is_label_marked: true,
+///     is_label_relaxable: true,
 ///     ..LinkFacts::default()
 /// };
 /// assert!(fits(RiscVRelocation::R_RISCV_GOT_HI20, &section, 0, &facts));

@@ -15,7 +15,7 @@ use Rattle.linker_runs.proofs.Layouts.{freed_next, freed_none, freed_fits, ends_
 use Rattle.linker_runs.proofs.Multiples.{Multiple, multiple_of, needed_fills, needed_below}
 use Rattle.linker_runs.proofs.Nearer.{multiple_between}
 
--- the next multiple is a unit away
+-- the next multiple is a granularity away
 pub next_multiple : (a b u : ℕ) → a * u < b * u → a * u + u ≤ b * u
 next_multiple a b u below = ⊎_elim
     (λ (less : a < b). let h : u * (a + 1) ≤ u * b = mul-le-mul_left u (omega arith) in omega arith)
@@ -35,7 +35,7 @@ padding_none need limit h = grind (arith, nat_tests)
 -- An alignment without a limit, before which so many bytes are freed, has as many nops as it needs.
 abbrev pub HoldsAt : ℕ → Item → ℕ → Type 0
 HoldsAt start (Site site) freed = ⊤
-HoldsAt start (Aligned alignment) freed = MatchOption alignment.most (needed alignment.power (start + alignment.offset - freed) ≤ alignment.nops) (λ most. ⊤)
+HoldsAt start (Aligned alignment) freed = MatchOption alignment.max_skip (needed alignment.alignment (start + alignment.offset - freed) ≤ alignment.nops) (λ most. ⊤)
 
 -- a multiple of a multiple, and the difference of two
 of_multiple : (w power x : ℕ) → Multiple w power → Multiple power x → Multiple w x
@@ -61,10 +61,10 @@ behind_anchor : (w start o : ℕ) (item : Item) (k freed : ℕ) → IsSound item
 behind_anchor w start o (Site site) k freed sound below past holds anchor = absurd anchor
 behind_anchor w start o (Aligned alignment) k freed sound below past holds anchor =
     let at = start + alignment.offset - freed in
-    let need = needed alignment.power at in
-    let kept : kept_by start (Aligned alignment) k freed ≡ need = keeps_need alignment.nops need alignment.most anchor.0 holds in
-    let enough = need_fits alignment.nops need alignment.most anchor.0 holds in
-    let filled = of_multiple w alignment.power (need + at) (multiple_of w alignment.power anchor.1) (needed_fills alignment.power at sound) in
+    let need = needed alignment.alignment at in
+    let kept : kept_by start (Aligned alignment) k freed ≡ need = keeps_need alignment.nops need alignment.max_skip anchor.0 holds in
+    let enough = need_fits alignment.nops need alignment.max_skip anchor.0 holds in
+    let filled = of_multiple w alignment.alignment (need + at) (multiple_of w alignment.alignment anchor.1) (needed_fills alignment.alignment at sound) in
     let rest = multiple_of w (o - (alignment.offset + alignment.nops)) anchor.2 in
     same_multiple w (need + at + (o - (alignment.offset + alignment.nops))) (start + o - (freed + (alignment.nops - kept_by start (Aligned alignment) k freed))) (omega arith)
     (more_multiple w (need + at) (o - (alignment.offset + alignment.nops)) filled rest)
@@ -82,11 +82,11 @@ behind_multiple w start o (Site site) k freed sound below past frees before =
     (less_multiple w (start + o - freed) gone before (multiple_of w gone (frees k)))
 behind_multiple w start o (Aligned alignment) k freed sound below past frees before =
     let at = start + alignment.offset - freed in
-    let need = needed alignment.power at in
-    let limit = limit_of alignment.nops alignment.most in
-    let power = multiple_of w alignment.power frees.1 in
+    let need = needed alignment.alignment at in
+    let limit = limit_of alignment.nops alignment.max_skip in
+    let power = multiple_of w alignment.alignment frees.1 in
     let here : Multiple w at = same_multiple w (start + o - freed - (o - alignment.offset)) at (omega arith) (less_multiple w (start + o - freed) (o - alignment.offset) before (multiple_of w (o - alignment.offset) frees.0)) in
-    let filled = of_multiple w alignment.power (need + at) power (needed_fills alignment.power at sound) in
+    let filled = of_multiple w alignment.alignment (need + at) power (needed_fills alignment.alignment at sound) in
     let needs : Multiple w need = same_multiple w (need + at - at) need (omega arith) (less_multiple w (need + at) at filled here) in
     let kept : Multiple w (padding need limit) = ⊎_elim
     (λ (above : limit < need). same_multiple w 0 (padding need limit) (sym (padding_none need limit above)) (0, omega arith))

@@ -6,7 +6,7 @@ use Rattle.linker_runs.specs.declared.relaxation.Shapes.{Shapes}
 use Rattle.linker_runs.specs.declared.relaxation.Item.{Item}
 use Rattle.linker_runs.specs.declared.relaxation.Item.TheVariants.{Site, Aligned}
 use Rattle.linker_runs.specs.Relaxing.{len_of, target_of, item_at, is_reached, short_shape, freed_before, place_of, item_reaches, shape_reaches, IsSound}
-use Rattle.linker_runs.specs.Choosing.{least_len, run_unit, AreItems, AreNested, IsFormed, cautious_before}
+use Rattle.linker_runs.specs.Choosing.{least_len, run_granularity, AreItems, AreNested, IsFormed, cautious_before}
 use Rattle.linker_runs.specs.Inner.Relaxing.{IsAlwaysInReach}
 use Rattle.linker_runs.proofs.Bounds.{all_nearer, len_fits, is_short, is_past}
 use Rattle.linker_runs.proofs.Choices.{place_is, cautious_frees}
@@ -26,15 +26,15 @@ multiple_of_divisor less more d whole none =
 next_reaches : (shapes : Shapes) → AreNested shapes → 1 < shapes.count → (from to : ℕ) → is_reached (short_shape shapes 0) from to ≡ true → is_reached (short_shape shapes 1) from to ≡ true
 next_reaches shapes nested two from to reached =
     let wider = nested.reaches 0 two in
-    let unit = nested.units 0 two in
-    let divides = power_divides (short_shape shapes 1).unit (short_shape shapes 0).unit (nested.powers 1 two).power (nested.powers 0 (omega arith)).power unit in
+    let granularity = nested.units 0 two in
+    let divides = power_divides (short_shape shapes 1).granularity (short_shape shapes 0).granularity (nested.powers 1 two).power (nested.powers 0 (omega arith)).power granularity in
     ⊎_elim
     (λ (down : to < from).
     let old = below_is (short_shape shapes 0) from to down reached in
-    is_below (short_shape shapes 1) from to down (omega (arith, wider.0, old.0)) (multiple_of_divisor (short_shape shapes 1).unit (short_shape shapes 0).unit (from - to) divides old.1))
+    is_below (short_shape shapes 1) from to down (omega (arith, wider.0, old.0)) (multiple_of_divisor (short_shape shapes 1).granularity (short_shape shapes 0).granularity (from - to) divides old.1))
     (λ (up : from ≤ to).
     let old = above_is (short_shape shapes 0) from to up reached in
-    is_above (short_shape shapes 1) from to up (omega (arith, wider.1, old.0)) (multiple_of_divisor (short_shape shapes 1).unit (short_shape shapes 0).unit (to - from) divides old.1))
+    is_above (short_shape shapes 1) from to up (omega (arith, wider.1, old.0)) (multiple_of_divisor (short_shape shapes 1).granularity (short_shape shapes 0).granularity (to - from) divides old.1))
     (cases_lt to from)
 
 -- a target that the shortest shape of a site reaches is reached by each
@@ -69,9 +69,9 @@ always_in_reach start items are i within reached = record {
   cautiously = λ choice. nearer (cautious_before items choice) (choice i) (cautious_frees start items choice are);
 }
   where
-    nearer : (more : ℕ → ℕ) (k : ℕ) → Frees (run_unit items) items more → item_reaches (item_at items i) k (more i) (more (place_of items (target_of (item_at items i)))) ≡ true
+    nearer : (more : ℕ → ℕ) (k : ℕ) → Frees (run_granularity items) items more → item_reaches (item_at items i) k (more i) (more (place_of items (target_of (item_at items i)))) ≡ true
     nearer more k frees =
-        let nothing : Frees (run_unit items) items (λ n. 0) = record {
+        let nothing : Frees (run_granularity items) items (λ n. 0) = record {
           none = refl;
           step = λ j there. (0, omega arith, (let h = least_fits (item_at items j) (are.in_order.sound j there) in omega arith));
         } in

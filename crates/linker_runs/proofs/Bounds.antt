@@ -8,7 +8,7 @@ use Rattle.linker_runs.specs.declared.relaxation.Shapes.{Shapes}
 use Rattle.linker_runs.specs.declared.relaxation.Item.{Item}
 use Rattle.linker_runs.specs.declared.relaxation.Item.TheVariants.{Site, Aligned}
 use Rattle.linker_runs.specs.Relaxing.{offset_of, end_of, target_of, item_at, is_reached, shape_len, short_shape, freed_before, place_of, item_reaches, shape_reaches, is_in_reach, lengthened}
-use Rattle.linker_runs.specs.Choosing.{least_len, run_unit, AreItems}
+use Rattle.linker_runs.specs.Choosing.{least_len, run_granularity, AreItems}
 use Rattle.linker_runs.specs.Inner.Validity.{ShapesSuit, ItemSuits}
 use Rattle.linker_runs.proofs.Units.{item_suits}
 use Rattle.linker_runs.proofs.Layouts.{lengthened_in, lengthened_out}
@@ -41,12 +41,12 @@ is_past k count past = grind (arith, nat_tests)
 
 -- an item that reaches its target where less is freed reaches it where more is freed
 pub item_nearer : (u start : ℕ) (item : Item) → ItemSuits u start item → (k less_here less_there here there : ℕ)
-    → ((shape : Shape) → 0 < shape.ahead → Multiple shape.unit u → is_reached shape (offset_of item - less_here) (target_of item - less_there) ≡ true → is_reached shape (offset_of item - here) (target_of item - there) ≡ true)
+    → ((shape : Shape) → 0 < shape.max_forward → Multiple shape.granularity u → is_reached shape (offset_of item - less_here) (target_of item - less_there) ≡ true → is_reached shape (offset_of item - here) (target_of item - there) ≡ true)
     → item_reaches item k less_here less_there ≡ true → item_reaches item k here there ≡ true
 item_nearer u start (Aligned alignment) fit k less_here less_there here there nearer reached = refl
 item_nearer u start (Site site) fit k less_here less_there here there nearer reached = by_target (target_of (Site site)) nearer reached
   where
-    by_target : (target : ℕ) → ((shape : Shape) → 0 < shape.ahead → Multiple shape.unit u → is_reached shape (site.offset - less_here) (target - less_there) ≡ true → is_reached shape (site.offset - here) (target - there) ≡ true)
+    by_target : (target : ℕ) → ((shape : Shape) → 0 < shape.max_forward → Multiple shape.granularity u → is_reached shape (site.offset - less_here) (target - less_there) ≡ true → is_reached shape (site.offset - here) (target - there) ≡ true)
         → shape_reaches site.shapes k (site.offset - less_here) (target - less_there) ≡ true → shape_reaches site.shapes k (site.offset - here) (target - there) ≡ true
     by_target target nearer reached = ⊎_elim
         (λ (below : k < site.shapes.count).
@@ -54,13 +54,13 @@ item_nearer u start (Site site) fit k less_here less_there here there nearer rea
         let test = is_short k site.shapes.count below in
         let was = sym (ap (λ b. cond b (is_reached shape (site.offset - less_here) (target - less_there)) true) test) ∙ reached in
         ap (λ b. cond b (is_reached shape (site.offset - here) (target - there)) true) test
-        ∙ nearer shape (fit.ahead k below) (multiple_of shape.unit u (fit.units k below)) was)
+        ∙ nearer shape (fit.ahead k below) (multiple_of shape.granularity u (fit.units k below)) was)
         (λ (past : site.shapes.count ≤ k).
         ap (λ b. cond b (is_reached (short_shape site.shapes k) (site.offset - here) (target - there)) true) (is_past k site.shapes.count past))
         (cases_lt k site.shapes.count)
 
 -- what is in reach where less is freed is in reach where more is
-pub all_nearer : (start : ℕ) (items : List Item) (less more : ℕ → ℕ) (k : ℕ) → AreItems start items → Frees (run_unit items) items less → Frees (run_unit items) items more → FreesLess items less more
+pub all_nearer : (start : ℕ) (items : List Item) (less more : ℕ → ℕ) (k : ℕ) → AreItems start items → Frees (run_granularity items) items less → Frees (run_granularity items) items more → FreesLess items less more
     → ((t : ℕ) → IsPlace items t (place_of items t)) → (i : ℕ) → i < length items
     → item_reaches (item_at items i) k (less i) (less (place_of items (target_of (item_at items i)))) ≡ true
     → item_reaches (item_at items i) k (more i) (more (place_of items (target_of (item_at items i)))) ≡ true
@@ -73,14 +73,14 @@ all_nearer start items less more k are g f no_more places i within reached =
     ⊎_elim (λ (h : t ≤ offset_of (item_at items p) + least_len (item_at items p)). h)
     (λ (h : end_of (item_at items p) ≤ t). let o = place.others p (omega arith) below in absurd (omega arith))
     (are.clear i p within below) in
-    item_nearer (run_unit items) start item (item_suits start items are i within) k (less i) (less p) (more i) (more p)
-    (λ shape some d. shape_nearer start (run_unit items) items less more are.in_order g f no_more shape some d i t p within place clear)
+    item_nearer (run_granularity items) start item (item_suits start items are i within) k (less i) (less p) (more i) (more p)
+    (λ shape some d. shape_nearer start (run_granularity items) items less more are.in_order g f no_more shape some d i t p within place clear)
     reached
 
 -- While a choice is no longer than another, which is in reach where less is freed, so is the next.
 -- The place of each target is given.
 pub bound_next : (start : ℕ) (items : List Item) (choice other : ℕ → ℕ) (less : ℕ → ℕ) → AreItems start items
-    → Frees (run_unit items) items less → Frees (run_unit items) items (freed_before start items choice) → FreesLess items less (freed_before start items choice)
+    → Frees (run_granularity items) items less → Frees (run_granularity items) items (freed_before start items choice) → FreesLess items less (freed_before start items choice)
     → ((t : ℕ) → IsPlace items t (place_of items t))
     → ((i : ℕ) → i < length items → choice i ≤ other i)
     → ((i : ℕ) → i < length items → item_reaches (item_at items i) (other i) (less i) (less (place_of items (target_of (item_at items i)))) ≡ true)

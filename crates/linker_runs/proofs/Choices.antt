@@ -8,7 +8,7 @@ use Rattle.linker_runs.specs.declared.relaxation.Item.{Item}
 use Rattle.linker_runs.specs.declared.relaxation.Item.TheVariants.{Site, Aligned}
 use Rattle.linker_runs.specs.Relaxing.{len_of, end_of, item_at, no_item, shape_len, kept_by, freed_before, place_of, after_rounds, target_of, choice_of, item_reaches, IsSound, AreInOrder, AreRelaxed}
 use Rattle.linker_runs.specs.Inner.Relaxing.{is_in_reach_cautiously, AreForced}
-use Rattle.linker_runs.specs.Choosing.{run_unit, AreItems, IsSite, HaveNoAlignment, freed_cautiously, cautious_before, IsInReachCautiously, IsInReachExactly, AreNotLonger}
+use Rattle.linker_runs.specs.Choosing.{run_granularity, AreItems, IsSite, HaveNoAlignment, freed_cautiously, cautious_before, IsInReachCautiously, IsInReachExactly, AreNotLonger}
 use Rattle.linker_runs.specs.Inner.Validity.{ItemSuits}
 use Rattle.linker_runs.proofs.Units.{item_suits}
 use Rattle.linker_runs.proofs.Layouts.{freed_next, freed_none, ends_ascend, count_point}
@@ -75,7 +75,7 @@ place_is start items order offset =
         let e = ap end_of (get_or_default items k d no_item within) in
         let g : offset < end_of (get_or items k d) = omega arith in grind (arith, nat_tests)
 
--- where alignments keep all, items free multiples of the unit too
+-- where alignments keep all, items free multiples of the granularity too
 cautious_item : (u start : ℕ) (item : Item) (k : ℕ) → ItemSuits u start item → IsSound item → ItemFrees u item (freed_cautiously item k)
 cautious_item u start (Site site) k fit sound =
     let m = multiple_of u (site.len - shape_len site.shapes k) (fit.freed k) in
@@ -95,11 +95,11 @@ pub cautious_none : (items : List Item) (choice : ℕ → ℕ) → cautious_befo
 unfolding cautious_before
 cautious_none items choice = refl
 
-pub cautious_frees : (start : ℕ) (items : List Item) (choice : ℕ → ℕ) → AreItems start items → Frees (run_unit items) items (cautious_before items choice)
+pub cautious_frees : (start : ℕ) (items : List Item) (choice : ℕ → ℕ) → AreItems start items → Frees (run_granularity items) items (cautious_before items choice)
 cautious_frees start items choice are = record {
   none = cautious_none items choice;
   step = λ j within.
-      let here = cautious_item (run_unit items) start (item_at items j) (choice j) (item_suits start items are j within) (are.in_order.sound j within) in
+      let here = cautious_item (run_granularity items) start (item_at items j) (choice j) (item_suits start items are j within) (are.in_order.sound j within) in
       (here.0, cautious_next items choice j ∙ ap (λ x. cautious_before items choice j + x) here.1, here.2);
 }
 
@@ -116,7 +116,7 @@ pub cautious_less : (start : ℕ) (items : List Item) (choice other : ℕ → �
 cautious_less start items choice other are bound j within =
     let a = cautious_next items other j in
     let b = freed_next start items choice j in
-    let c = item_less (run_unit items) start (item_at items j) (choice j) (other j) (freed_before start items choice j) (item_suits start items are j within) (bound j within) in
+    let c = item_less (run_granularity items) start (item_at items j) (choice j) (other j) (freed_before start items choice j) (item_suits start items are j within) (bound j within) in
     omega arith
 
 -- without alignments a choice frees no more than one that is no longer
@@ -128,7 +128,7 @@ exact_less : (start : ℕ) (items : List Item) (choice other : ℕ → ℕ) → 
 exact_less start items choice other are sites bound j within =
     let a = freed_next start items other j in
     let b = freed_next start items choice j in
-    let c = site_less (run_unit items) start (item_at items j) (choice j) (other j) (freed_before start items choice j) (freed_before start items other j) (item_suits start items are j within) (sites j within) (bound j within) in
+    let c = site_less (run_granularity items) start (item_at items j) (choice j) (other j) (freed_before start items choice j) (freed_before start items other j) (item_suits start items are j within) (sites j within) (bound j within) in
     omega arith
 
 -- no round is longer than a choice in reach where alignments keep all
@@ -168,7 +168,7 @@ both_less : (start : ℕ) (items : List Item) (choice other : ℕ → ℕ) → A
 both_less start items choice other are bound j within =
     let a = cautious_next items other j in
     let b = cautious_next items choice j in
-    let c = kept_less (run_unit items) start (item_at items j) (choice j) (other j) (item_suits start items are j within) (bound j within) in
+    let c = kept_less (run_granularity items) start (item_at items j) (choice j) (other j) (item_suits start items are j within) (bound j within) in
     omega arith
 
 -- A site that is out of reach has a longer shape in each choice in reach.

@@ -43,12 +43,12 @@ kept_most start (Site site) k freed sound = ⊎_elim
     omega (arith, e, sound.1))
     (cases_Bool (nat_lt k site.shapes.count))
 kept_most start (Aligned alignment) k freed sound =
-    let need = needed alignment.power (start + alignment.offset - freed) in
-    let limit = limit_of alignment.nops alignment.most in
+    let need = needed alignment.alignment (start + alignment.offset - freed) in
+    let limit = limit_of alignment.nops alignment.max_skip in
     ⊎_elim
     (λ (fits : nat_le need limit ≡ true).
     let e = cond-true (nat_le need limit) need 0 fits in
-    omega (arith, e, leb-true need limit fits, limited alignment.most))
+    omega (arith, e, leb-true need limit fits, limited alignment.max_skip))
     (λ (more : nat_le need limit ≡ false). let e = cond-false (nat_le need limit) need 0 more in omega (arith, e))
     (cases_Bool (nat_le need limit))
   where

@@ -4,7 +4,7 @@ use Rattle.linker_runs.specs.declared.relaxation.Shape.{Shape}
 use Rattle.linker_runs.specs.declared.relaxation.Shapes.{Shapes}
 use Rattle.linker_runs.specs.declared.relaxation.Alignment.{Alignment}
 use Rattle.linker_runs.specs.declared.relaxation.faults.Fault.{Fault}
-use Rattle.linker_runs.specs.declared.relaxation.faults.Fault.TheVariants.{Overlaps, TooHigh, TooManyShapes, ShapeTooLong, ShapesNotAscending, BadUnit, BadReach, BadPower, UnevenShape, PowerBelowUnit, UnevenEnd, TooFewNops, UnevenNops, TargetInside, MayBeMisaligned}
+use Rattle.linker_runs.specs.declared.relaxation.faults.Fault.TheVariants.{Overlaps, TooHigh, TooManyShapes, ShapeTooLong, ShapesNotAscending, BadGranularity, BadReach, BadAlignment, UnevenShape, AlignmentBelowGranularity, UnevenEnd, TooFewNops, UnevenNops, TargetInside, MayBeMisaligned}
 use Rattle.linker_runs.specs.Relaxing.{short_shape}
 use Rattle.linker_runs.specs.Faults.{number_of, ShapesMeet, AlignmentMeets}
 
@@ -14,18 +14,18 @@ fails r P test not_met met = let yes = test.1 met in cc
 
 -- what shapes meet of the faults below a number
 pub shapes_upto : (shapes : Shapes) (len n : ℕ) → (2 < n → ShapesMeet shapes len TooManyShapes) → (3 < n → ShapesMeet shapes len ShapeTooLong) → (4 < n → ShapesMeet shapes len ShapesNotAscending)
-    → (5 < n → ShapesMeet shapes len BadUnit) → (6 < n → ShapesMeet shapes len BadReach) → (fault : Fault) → number_of fault < n → ShapesMeet shapes len fault
+    → (5 < n → ShapesMeet shapes len BadGranularity) → (6 < n → ShapesMeet shapes len BadReach) → (fault : Fault) → number_of fault < n → ShapesMeet shapes len fault
 shapes_upto shapes len n few within ascending units reaches TooManyShapes below = few below
 shapes_upto shapes len n few within ascending units reaches ShapeTooLong below = within below
 shapes_upto shapes len n few within ascending units reaches ShapesNotAscending below = ascending below
-shapes_upto shapes len n few within ascending units reaches BadUnit below = units below
+shapes_upto shapes len n few within ascending units reaches BadGranularity below = units below
 shapes_upto shapes len n few within ascending units reaches BadReach below = reaches below
 shapes_upto shapes len n few within ascending units reaches other below = tt
 
 -- and an alignment
-pub alignment_upto : (u start : ℕ) (alignment : Alignment) (n : ℕ) → (9 < n → AlignmentMeets u start alignment PowerBelowUnit) → (10 < n → AlignmentMeets u start alignment UnevenEnd)
+pub alignment_upto : (u start : ℕ) (alignment : Alignment) (n : ℕ) → (9 < n → AlignmentMeets u start alignment AlignmentBelowGranularity) → (10 < n → AlignmentMeets u start alignment UnevenEnd)
     → (11 < n → AlignmentMeets u start alignment TooFewNops) → (12 < n → AlignmentMeets u start alignment UnevenNops) → (fault : Fault) → number_of fault < n → AlignmentMeets u start alignment fault
-alignment_upto u start alignment n power end enough even PowerBelowUnit below = power below
+alignment_upto u start alignment n power end enough even AlignmentBelowGranularity below = power below
 alignment_upto u start alignment n power end enough even UnevenEnd below = end below
 alignment_upto u start alignment n power end enough even TooFewNops below = enough below
 alignment_upto u start alignment n power end enough even UnevenNops below = even below
@@ -38,11 +38,11 @@ numbers TooHigh = omega arith
 numbers TooManyShapes = omega arith
 numbers ShapeTooLong = omega arith
 numbers ShapesNotAscending = omega arith
-numbers BadUnit = omega arith
+numbers BadGranularity = omega arith
 numbers BadReach = omega arith
-numbers BadPower = omega arith
+numbers BadAlignment = omega arith
 numbers UnevenShape = omega arith
-numbers PowerBelowUnit = omega arith
+numbers AlignmentBelowGranularity = omega arith
 numbers UnevenEnd = omega arith
 numbers TooFewNops = omega arith
 numbers UnevenNops = omega arith
@@ -55,7 +55,7 @@ of_both shapes P few first second zero within = first within
 of_both shapes P few first second (suc zero) within = second within
 of_both shapes P few first second (suc (suc k)) within = absurd (omega arith)
 
--- the next of them has no greater unit
-pub next_unit : (shapes : Shapes) → shapes.count ≤ 2 → (1 < shapes.count → (short_shape shapes 1).unit ≤ (short_shape shapes 0).unit) → (k : ℕ) → k + 1 < shapes.count → (short_shape shapes (k + 1)).unit ≤ (short_shape shapes k).unit
+-- the next of them has no greater granularity
+pub next_unit : (shapes : Shapes) → shapes.count ≤ 2 → (1 < shapes.count → (short_shape shapes 1).granularity ≤ (short_shape shapes 0).granularity) → (k : ℕ) → k + 1 < shapes.count → (short_shape shapes (k + 1)).granularity ≤ (short_shape shapes k).granularity
 next_unit shapes few first zero within = first (omega arith)
 next_unit shapes few first (suc k) within = absurd (omega arith)

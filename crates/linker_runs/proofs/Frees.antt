@@ -1,4 +1,4 @@
--- What runs that can be relaxed free: multiples of their unit. What their alignments keep.
+-- What runs that can be relaxed free: multiples of their granularity. What their alignments keep.
 use Rattle.std.proofs.Common.{◌≡◌, ℕ, zero, suc, ◌+◌, ◌-◌, ◌*◌, ◌%◌, ◌<◌, ◌≤◌, ◌∙◌, List, length, refl, ap, sym, ⊎_elim, arith}
 use Rattle.std.proofs.Common.{subst, below_more}
 use Rattle.std.specs.Prelude.{◌⊎◌, Option, None, Some, min, MatchOption, ⊤}
@@ -9,7 +9,7 @@ use Rattle.linker_runs.specs.declared.relaxation.Alignment.{Alignment}
 use Rattle.linker_runs.specs.declared.relaxation.Item.{Item}
 use Rattle.linker_runs.specs.declared.relaxation.Item.TheVariants.{Site, Aligned}
 use Rattle.linker_runs.specs.Relaxing.{offset_of, len_of, item_at, shape_len, needed, limit_of, kept_by, freed_before, IsSound}
-use Rattle.linker_runs.specs.Choosing.{least_len, AlignmentFits, run_unit, AreItems, IsExactItem, IsExact, IsStill, IsFormed, IsAlwaysMultiple, AreAlwaysEnough, HasItsNops}
+use Rattle.linker_runs.specs.Choosing.{least_len, AlignmentFits, run_granularity, AreItems, IsExactItem, IsExact, IsStill, IsFormed, IsAlwaysMultiple, AreAlwaysEnough, HasItsNops}
 use Rattle.linker_runs.specs.Inner.Validity.{ItemSuits}
 use Rattle.linker_runs.proofs.Units.{item_suits}
 use Rattle.linker_runs.proofs.Layouts.{freed_next, freed_none, freed_fits}
@@ -26,7 +26,7 @@ record Needs (u : ℕ) (power nops input freed need : ℕ) : Type 0 where
   pub behind : Multiple u (input + nops)
   pub filled : Multiple u (need + (input - freed))
 
--- where the nops are as many as the power less the unit, there are enough
+-- where the nops are as many as the power less the granularity, there are enough
 enough_nops : (u power nops input freed need : ℕ) → Needs u power nops input freed need → power ≤ nops + u → need ≤ nops
 enough_nops u power nops input freed need n many = ⊎_elim
     (λ (short : nops < need).
@@ -40,7 +40,7 @@ enough_nops u power nops input freed need n many = ⊎_elim
     (λ (done : need ≤ nops). done)
     (cases_lt nops need)
 
--- and then what is freed is a multiple of the unit
+-- and then what is freed is a multiple of the granularity
 rest_multiple : (u power nops input freed need : ℕ) → Needs u power nops input freed need → need ≤ nops → Multiple u (nops - need)
 rest_multiple u power nops input freed need n enough =
     let a = n.gone.1 in
@@ -87,13 +87,13 @@ padding_exact u power nops input freed need (Some most) n many kept is = (
   (λ above. is ∙ padding_none need (min most nops) (omega arith)),
 )
 
-needs : (u start : ℕ) (alignment : Alignment) (freed : ℕ) → AlignmentFits u start alignment → 0 < alignment.power → freed ≤ alignment.offset → Multiple u freed → Needs u alignment.power alignment.nops (start + alignment.offset) freed (needed alignment.power (start + alignment.offset - freed))
+needs : (u start : ℕ) (alignment : Alignment) (freed : ℕ) → AlignmentFits u start alignment → 0 < alignment.alignment → freed ≤ alignment.offset → Multiple u freed → Needs u alignment.alignment alignment.nops (start + alignment.offset) freed (needed alignment.alignment (start + alignment.offset - freed))
 needs u start alignment freed fit some within gone =
     let at = start + alignment.offset - freed in
-    let whole = needed_fills alignment.power at some in
-    let power = multiple_of u alignment.power fit.power in
+    let whole = needed_fills alignment.alignment at some in
+    let power = multiple_of u alignment.alignment fit.power in
     record {
-      below = needed_below alignment.power at some;
+      below = needed_below alignment.alignment at some;
       fits = omega arith;
       gone = gone;
       behind = multiple_of u (start + alignment.offset + alignment.nops) fit.behind;
@@ -118,10 +118,10 @@ still_keeps : (nops need here : ℕ) (most : Option ℕ) → most ≡ None → n
 still_keeps nops need here None none enough same = padding_all here nops (omega arith) ∙ same
 still_keeps nops need here (Some most) none enough same = cc
 
-still_padding : (u start : ℕ) (alignment : Alignment) (freed : ℕ) → IsStill u start alignment → freed ≤ alignment.offset → Multiple u freed → padding (needed alignment.power (start + alignment.offset - freed)) (limit_of alignment.nops alignment.most) ≡ needed alignment.power (start + alignment.offset)
+still_padding : (u start : ℕ) (alignment : Alignment) (freed : ℕ) → IsStill u start alignment → freed ≤ alignment.offset → Multiple u freed → padding (needed alignment.alignment (start + alignment.offset - freed)) (limit_of alignment.nops alignment.max_skip) ≡ needed alignment.alignment (start + alignment.offset)
 still_padding u start alignment freed still within gone =
-    still_keeps alignment.nops (needed alignment.power (start + alignment.offset)) (needed alignment.power (start + alignment.offset - freed)) alignment.most still.unlimited still.enough
-    (still_need u alignment.power (start + alignment.offset) freed still.divides (omega arith) gone)
+    still_keeps alignment.nops (needed alignment.alignment (start + alignment.offset)) (needed alignment.alignment (start + alignment.offset - freed)) alignment.max_skip still.unlimited still.enough
+    (still_need u alignment.alignment (start + alignment.offset) freed still.divides (omega arith) gone)
 
 -- what one item frees
 abbrev pub ItemFrees : ℕ → Item → ℕ → Type 0
@@ -138,21 +138,21 @@ item_frees u start (Site site) k freed fit sound within gone holds =
     (m.0, e, omega arith)
 item_frees u start (Aligned alignment) k freed fit sound within gone holds = ⊎_elim
     (λ (fits : AlignmentFits u start alignment).
-    let need = needed alignment.power (start + alignment.offset - freed) in
-    let h = padding_frees u alignment.power alignment.nops (start + alignment.offset) freed need alignment.most (needs u start alignment freed fits sound within gone)
-    (enough_at u alignment.power alignment.nops need alignment.most fits.limited holds) in
+    let need = needed alignment.alignment (start + alignment.offset - freed) in
+    let h = padding_frees u alignment.alignment alignment.nops (start + alignment.offset) freed need alignment.max_skip (needs u start alignment freed fits sound within gone)
+    (enough_at u alignment.alignment alignment.nops need alignment.max_skip fits.limited holds) in
     let e = h.0.1 in
     (h.0.0, e, omega arith))
     (λ (still : IsStill u start alignment).
     let is = still_padding u start alignment freed still within gone in
-    let m = multiple_of u (alignment.nops - needed alignment.power (start + alignment.offset)) still.others in
+    let m = multiple_of u (alignment.nops - needed alignment.alignment (start + alignment.offset)) still.others in
     let e = m.1 in
     (m.0, ap (λ k. alignment.nops - k) is ∙ e, omega arith))
     fit
 
--- Up to an index the items free a multiple of the unit, and each alignment has its nops.
+-- Up to an index the items free a multiple of the granularity, and each alignment has its nops.
 record Upto (start : ℕ) (items : List Item) (choice : ℕ → ℕ) (i : ℕ) : Type 0 where
-  multiple : Multiple (run_unit items) (freed_before start items choice i)
+  multiple : Multiple (run_granularity items) (freed_before start items choice i)
   holds : (j : ℕ) → j < i → HoldsAt start (item_at items j) (freed_before start items choice j)
 
 -- an alignment has its nops where it has them in every layout
@@ -160,38 +160,38 @@ item_holds : (start : ℕ) (items : List Item) (choice : ℕ → ℕ) → AreIte
 item_holds start items choice are i within upto = by_item (item_at items i) refl (item_suits start items are i within) (are.in_order.sound i within) (are.formed i within) (freed_fits start items choice are.in_order i within) (are.enough i within)
   where
     u : ℕ
-    u = run_unit items
+    u = run_granularity items
 
     freed : ℕ
     freed = freed_before start items choice i
 
     by_item : (item : Item) → item_at items i ≡ item → ItemSuits u start item → IsSound item → IsFormed item → freed ≤ offset_of item → HasItsNops u start items i item → HoldsAt start item freed
     by_item (Site site) is fit sound formed below enough = tt
-    by_item (Aligned alignment) is fit sound formed below enough = by_limit alignment.most enough
+    by_item (Aligned alignment) is fit sound formed below enough = by_limit alignment.max_skip enough
       where
         need : ℕ
-        need = needed alignment.power (start + alignment.offset - freed)
+        need = needed alignment.alignment (start + alignment.offset - freed)
 
         by_limit : (most : Option ℕ) → MatchOption most (AreAlwaysEnough u start items i alignment) (λ most. ⊤) → MatchOption most (need ≤ alignment.nops) (λ most. ⊤)
         by_limit (Some most) enough = tt
         by_limit None enough = ⊎_elim
-            (λ (many : alignment.power ≤ alignment.nops + u). ⊎_elim
-            (λ (fits : AlignmentFits u start alignment). enough_nops u alignment.power alignment.nops (start + alignment.offset) freed need (needs u start alignment freed fits sound below upto.multiple) many)
+            (λ (many : alignment.alignment ≤ alignment.nops + u). ⊎_elim
+            (λ (fits : AlignmentFits u start alignment). enough_nops u alignment.alignment alignment.nops (start + alignment.offset) freed need (needs u start alignment freed fits sound below upto.multiple) many)
             (λ (still : IsStill u start alignment).
-            let same = still_need u alignment.power (start + alignment.offset) freed still.divides (omega arith) upto.multiple in
+            let same = still_need u alignment.alignment (start + alignment.offset) freed still.divides (omega arith) upto.multiple in
             let enough = still.enough in
             omega arith)
             fit)
-            (λ (other : (w : ℕ) × IsNextPowerOfTwo (alignment.power - alignment.nops) w × IsAlwaysMultiple w start alignment.offset items i).
+            (λ (other : (w : ℕ) × IsNextPowerOfTwo (alignment.alignment - alignment.nops) w × IsAlwaysMultiple w start alignment.offset items i).
             let o = ap offset_of is in
-            let address = address_multiple start items choice are other.0 alignment.offset (next_positive (alignment.power - alignment.nops) other.0 other.1) i (omega arith) (λ j before. (let s = ends_by start items are.in_order i j within before in omega arith)) upto.holds other.2 in
-            filled_by alignment.power alignment.nops other.0 (start + alignment.offset - freed) formed other.1 address)
+            let address = address_multiple start items choice are other.0 alignment.offset (next_positive (alignment.alignment - alignment.nops) other.0 other.1) i (omega arith) (λ j before. (let s = ends_by start items are.in_order i j within before in omega arith)) upto.holds other.2 in
+            filled_by alignment.alignment alignment.nops other.0 (start + alignment.offset - freed) formed other.1 address)
             enough
 
 upto_next : (start : ℕ) (items : List Item) (choice : ℕ → ℕ) → AreItems start items → (i : ℕ) → i < length items → Upto start items choice i → Upto start items choice (i + 1)
 upto_next start items choice are i within upto =
     let holds = item_holds start items choice are i within upto in
-    let here = item_frees (run_unit items) start (item_at items i) (choice i) (freed_before start items choice i) (item_suits start items are i within) (are.in_order.sound i within) (freed_fits start items choice are.in_order i within) upto.multiple holds in
+    let here = item_frees (run_granularity items) start (item_at items i) (choice i) (freed_before start items choice i) (item_suits start items are i within) (are.in_order.sound i within) (freed_fits start items choice are.in_order i within) upto.multiple holds in
     let next = freed_next start items choice i in
     let e = upto.multiple.1 in
     let f = here.1 in
@@ -206,12 +206,12 @@ all_upto start items choice are (suc i) within =
     let z : i + 1 ≡ suc i = omega arith in
     subst (Upto start items choice) z (upto_next start items choice are i (omega arith) (all_upto start items choice are i (omega arith)))
 
-pub exact_frees : (start : ℕ) (items : List Item) (choice : ℕ → ℕ) → AreItems start items → Frees (run_unit items) items (freed_before start items choice)
+pub exact_frees : (start : ℕ) (items : List Item) (choice : ℕ → ℕ) → AreItems start items → Frees (run_granularity items) items (freed_before start items choice)
 exact_frees start items choice are = record {
   none = freed_none start items choice;
   step = λ j within.
       let upto = all_upto start items choice are j (omega arith) in
-      let here = item_frees (run_unit items) start (item_at items j) (choice j) (freed_before start items choice j) (item_suits start items are j within) (are.in_order.sound j within) (freed_fits start items choice are.in_order j within) upto.multiple (item_holds start items choice are j within upto) in
+      let here = item_frees (run_granularity items) start (item_at items j) (choice j) (freed_before start items choice j) (item_suits start items are j within) (are.in_order.sound j within) (freed_fits start items choice are.in_order j within) upto.multiple (item_holds start items choice are j within upto) in
       (here.0, freed_next start items choice j ∙ ap (λ x. freed_before start items choice j + x) here.1, here.2);
 }
 
@@ -220,18 +220,18 @@ item_exact : (u start : ℕ) (item : Item) (k freed kept : ℕ) → ItemSuits u 
 item_exact u start (Site site) k freed kept fit sound within gone holds is = tt
 item_exact u start (Aligned alignment) k freed kept fit sound within gone holds is = ⊎_elim
     (λ (fits : AlignmentFits u start alignment).
-    let need = needed alignment.power (start + alignment.offset - freed) in
-    padding_exact u alignment.power alignment.nops (start + alignment.offset) freed need alignment.most (needs u start alignment freed fits sound within gone)
-    (enough_at u alignment.power alignment.nops need alignment.most fits.limited holds) kept is)
+    let need = needed alignment.alignment (start + alignment.offset - freed) in
+    padding_exact u alignment.alignment alignment.nops (start + alignment.offset) freed need alignment.max_skip (needs u start alignment freed fits sound within gone)
+    (enough_at u alignment.alignment alignment.nops need alignment.max_skip fits.limited holds) kept is)
     (λ (still : IsStill u start alignment).
-    still_exact alignment.most still.unlimited (is ∙ still_padding u start alignment freed still within gone ∙ sym (still_need u alignment.power (start + alignment.offset) freed still.divides (omega arith) gone)))
+    still_exact alignment.max_skip still.unlimited (is ∙ still_padding u start alignment freed still within gone ∙ sym (still_need u alignment.alignment (start + alignment.offset) freed still.divides (omega arith) gone)))
     fit
   where
-    still_exact : (most : Option ℕ) → most ≡ None → kept ≡ needed alignment.power (start + alignment.offset - freed) → IsExact (record alignment { most = most }) (needed alignment.power (start + alignment.offset - freed)) kept
+    still_exact : (most : Option ℕ) → most ≡ None → kept ≡ needed alignment.alignment (start + alignment.offset - freed) → IsExact (record alignment { most = most }) (needed alignment.alignment (start + alignment.offset - freed)) kept
     still_exact None none same = same
     still_exact (Some most) none same = cc
 
 pub all_exact : (start : ℕ) (items : List Item) (choice : ℕ → ℕ) → AreItems start items → (i : ℕ) → i < length items → (kept : ℕ) → kept ≡ kept_by start (item_at items i) (choice i) (freed_before start items choice i) → IsExactItem (item_at items i) start (freed_before start items choice i) kept
 all_exact start items choice are i within kept is =
     let upto = all_upto start items choice are i (omega arith) in
-    item_exact (run_unit items) start (item_at items i) (choice i) (freed_before start items choice i) kept (item_suits start items are i within) (are.in_order.sound i within) (freed_fits start items choice are.in_order i within) upto.multiple (item_holds start items choice are i within upto) is
+    item_exact (run_granularity items) start (item_at items i) (choice i) (freed_before start items choice i) kept (item_suits start items are i within) (are.in_order.sound i within) (freed_fits start items choice are.in_order i within) upto.multiple (item_holds start items choice are i within upto) is

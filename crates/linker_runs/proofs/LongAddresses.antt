@@ -144,7 +144,7 @@ module _ (bytes : List ℕ) (base : ℕ) (d : List (ℕ × ℕ)) (start : ℕ) w
           has.3
         where
           apart : CALL36 ≡ PCALA → ⊥
-          apart e = differ (short_shape CALL36 0).behind (short_shape PCALA 0).behind refl refl (ap (λ t. (short_shape t 0).behind) e)
+          apart e = differ (short_shape CALL36 0).max_backward (short_shape PCALA 0).max_backward refl refl (ap (λ t. (short_shape t 0).max_backward) e)
 
       low : rank d site.offset < 2 ^ 31 - 2 ^ 13
       low = let b = near.offset in omega (arith, at)

@@ -14,7 +14,7 @@ use Rattle.linker_runs.specs.declared.relaxation.Item.{Item}
 use Rattle.linker_runs.specs.declared.relaxation.Item.TheVariants.{Site, Aligned}
 use Rattle.linker_runs.specs.declared.shapes.loongarch64.TheConstants.{CALL36, PCALA}
 use Rattle.linker_runs.specs.Relaxing.{offset_of, target_of, item_at, short_shape, kept_by, freed_before, choice_of, place_of}
-use Rattle.linker_runs.specs.Choosing.{run_unit}
+use Rattle.linker_runs.specs.Choosing.{run_granularity}
 use Rattle.linker_runs.specs.Deleting.{deletions_of_run}
 use Rattle.linker_runs.specs.Inner.Validity.{ItemSuits}
 use Rattle.linker_runs.proofs.Choices.{place_is}
@@ -113,7 +113,7 @@ module _ (bytes : List ℕ) (base : ℕ) (d : List (ℕ × ℕ)) (start u : ℕ)
       some = subst (λ t. 0 < t.count) (sym near.shapes) (omega arith)
 
       words : u % 4 ≡ 0
-      words = subst (λ t. u % (short_shape t 0).unit ≡ 0) near.shapes (suits.units 0 some)
+      words = subst (λ t. u % (short_shape t 0).granularity ≡ 0) near.shapes (suits.units 0 some)
 
       target : target_of (Site site) ≡ site.target
       target = cond-true (nat_lt 0 site.shapes.count) site.target site.offset (grind (arith, nat_tests, some))
@@ -130,7 +130,7 @@ module _ (bytes : List ℕ) (base : ℕ) (d : List (ℕ × ℕ)) (start u : ℕ)
           has.3
         where
           apart : CALL36 ≡ PCALA → ⊥
-          apart e = differ (short_shape CALL36 0).behind (short_shape PCALA 0).behind refl refl (ap (λ t. (short_shape t 0).behind) e)
+          apart e = differ (short_shape CALL36 0).max_backward (short_shape PCALA 0).max_backward refl refl (ap (λ t. (short_shape t 0).max_backward) e)
 
       from_words : rank d site.offset % 4 ≡ 0
       from_words = let a = words_of u here words m in let b = near.offset_in_words in omega (arith, at)
@@ -167,7 +167,7 @@ pub near_calls_36 : NearCalls36AreWritable
 near_calls_36 start base items shapes kept freed bytes are is i within near has error unwritable =
     let item = item_at items i in
     let choice = choice_of shapes in
-    let u = run_unit items in
+    let u = run_granularity items in
     let first = first_bytes start items shapes kept freed are is i within in
     let places = translations_exact start items shapes kept freed are is i within in
     let frees = exact_frees start items choice are in

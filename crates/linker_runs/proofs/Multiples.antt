@@ -1,4 +1,4 @@
--- Multiples of a unit, and what alignments need.
+-- Multiples of a granularity, and what alignments need.
 use Rattle.std.proofs.Common.{◌≡◌, ℕ, zero, suc, ◌+◌, ◌-◌, ◌*◌, ◌/◌, ◌%◌, ◌<◌, ◌∙◌, refl, ap, inl, inr, ⊎_elim, arith}
 use Rattle.std.specs.Prelude.{◌⊎◌}
 use Rattle.std.proofs.Math.Nat.{mul-mod_left, mod_self, mod-lt, mod-eq_of_lt}

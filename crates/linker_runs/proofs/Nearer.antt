@@ -63,39 +63,39 @@ between_fits start u items freed order f i (suc d) within =
     let apart = order.apart (i + d) (omega arith) in
     omega arith
 
--- a distance less a multiple of the unit is a multiple of it where that was one
-multiple_less : (unit far near e : ℕ) → far ≡ near + e → Multiple unit e → far % unit ≡ 0 → near % unit ≡ 0
-multiple_less unit far near e is m none =
-    sym (add-mul-mod_self_right near m.0 unit) ∙ ap (λ n. n % unit) (let k = m.1 in let h : near + m.0 * unit ≡ far = omega arith in h) ∙ none
+-- a distance less a multiple of the granularity is a multiple of it where that was one
+multiple_less : (granularity far near e : ℕ) → far ≡ near + e → Multiple granularity e → far % granularity ≡ 0 → near % granularity ≡ 0
+multiple_less granularity far near e is m none =
+    sym (add-mul-mod_self_right near m.0 granularity) ∙ ap (λ n. n % granularity) (let k = m.1 in let h : near + m.0 * granularity ≡ far = omega arith in h) ∙ none
 
 -- what it is that a shape reaches a target above, or one below
-pub above_is : (shape : Shape) (from to : ℕ) → from ≤ to → is_reached shape from to ≡ true → (to - from < shape.ahead) × ((to - from) % shape.unit ≡ 0)
+pub above_is : (shape : Shape) (from to : ℕ) → from ≤ to → is_reached shape from to ≡ true → (to - from < shape.max_forward) × ((to - from) % shape.granularity ≡ 0)
 above_is shape from to up reached = (grind (arith, nat_tests), grind (arith, nat_tests))
 
-pub is_above : (shape : Shape) (from to : ℕ) → from ≤ to → to - from < shape.ahead → (to - from) % shape.unit ≡ 0 → is_reached shape from to ≡ true
+pub is_above : (shape : Shape) (from to : ℕ) → from ≤ to → to - from < shape.max_forward → (to - from) % shape.granularity ≡ 0 → is_reached shape from to ≡ true
 is_above shape from to up ahead none = grind (arith, nat_tests)
 
-pub below_is : (shape : Shape) (from to : ℕ) → to < from → is_reached shape from to ≡ true → (from - to ≤ shape.behind) × ((from - to) % shape.unit ≡ 0)
+pub below_is : (shape : Shape) (from to : ℕ) → to < from → is_reached shape from to ≡ true → (from - to ≤ shape.max_backward) × ((from - to) % shape.granularity ≡ 0)
 below_is shape from to down reached = (grind (arith, nat_tests), grind (arith, nat_tests))
 
-pub is_below : (shape : Shape) (from to : ℕ) → to < from → from - to ≤ shape.behind → (from - to) % shape.unit ≡ 0 → is_reached shape from to ≡ true
+pub is_below : (shape : Shape) (from to : ℕ) → to < from → from - to ≤ shape.max_backward → (from - to) % shape.granularity ≡ 0 → is_reached shape from to ≡ true
 is_below shape from to down behind none = grind (arith, nat_tests)
 
 -- a nearer target above is reached too, and one below
-reached_above : (shape : Shape) (from to from' to' : ℕ) → from ≤ to → from' ≤ to' → to' - from' ≤ to - from → Multiple shape.unit ((to - from) - (to' - from')) → is_reached shape from to ≡ true → is_reached shape from' to' ≡ true
+reached_above : (shape : Shape) (from to from' to' : ℕ) → from ≤ to → from' ≤ to' → to' - from' ≤ to - from → Multiple shape.granularity ((to - from) - (to' - from')) → is_reached shape from to ≡ true → is_reached shape from' to' ≡ true
 reached_above shape from to from' to' up up' near m reached =
     let old = above_is shape from to up reached in
-    let rest = multiple_less shape.unit (to - from) (to' - from') ((to - from) - (to' - from')) (omega arith) m old.1 in
-    let ahead : to' - from' < shape.ahead = omega (arith, old.0) in
+    let rest = multiple_less shape.granularity (to - from) (to' - from') ((to - from) - (to' - from')) (omega arith) m old.1 in
+    let ahead : to' - from' < shape.max_forward = omega (arith, old.0) in
     is_above shape from' to' up' ahead rest
 
-reached_below : (shape : Shape) (from to from' to' : ℕ) → to ≤ from → to' ≤ from' → from' - to' ≤ from - to → 0 < shape.ahead → Multiple shape.unit ((from - to) - (from' - to')) → is_reached shape from to ≡ true → is_reached shape from' to' ≡ true
+reached_below : (shape : Shape) (from to from' to' : ℕ) → to ≤ from → to' ≤ from' → from' - to' ≤ from - to → 0 < shape.max_forward → Multiple shape.granularity ((from - to) - (from' - to')) → is_reached shape from to ≡ true → is_reached shape from' to' ≡ true
 reached_below shape from to from' to' down down' near some m reached =
     ⊎_elim
     (λ (strict : to' < from').
     let old = below_is shape from to (omega arith) reached in
-    let rest = multiple_less shape.unit (from - to) (from' - to') ((from - to) - (from' - to')) (omega arith) m old.1 in
-    let behind : from' - to' ≤ shape.behind = omega (arith, old.0) in
+    let rest = multiple_less shape.granularity (from - to) (from' - to') ((from - to) - (from' - to')) (omega arith) m old.1 in
+    let behind : from' - to' ≤ shape.max_backward = omega (arith, old.0) in
     is_below shape from' to' strict behind rest)
     (λ (level : from' ≤ to'). is_level from' to' (omega arith))
     (cases_lt to' from')
@@ -103,25 +103,25 @@ reached_below shape from to from' to' down down' near some m reached =
     is_level : (from to : ℕ) → from ≡ to → is_reached shape from to ≡ true
     is_level from to same =
         let e : to - from ≡ 0 = omega arith in
-        let none : (to - from) % shape.unit ≡ 0 = ap (λ n. n % shape.unit) e ∙ zero-mod shape.unit in
-        let ahead : to - from < shape.ahead = omega arith in
+        let none : (to - from) % shape.granularity ≡ 0 = ap (λ n. n % shape.granularity) e ∙ zero-mod shape.granularity in
+        let ahead : to - from < shape.max_forward = omega arith in
         is_above shape from to (omega arith) ahead none
 
 -- the difference of two multiples of u is a multiple of what divides u
-pub multiple_between : (u unit a b : ℕ) → Multiple unit u → Multiple u a → Multiple u b → Multiple unit (a - b)
-multiple_between u unit a b d m n = (
+pub multiple_between : (u granularity a b : ℕ) → Multiple granularity u → Multiple u a → Multiple u b → Multiple granularity (a - b)
+multiple_between u granularity a b d m n = (
   (m.0 - n.0) * d.0,
   (ap (λ x. x - b) m.1 ∙ ap (λ y. m.0 * u - y) n.1 ∙ ap (λ x. x - n.0 * u) (mul_comm m.0 u) ∙ ap (λ x. u * m.0 - x) (mul_comm n.0 u)
-      ∙ sym (mul-sub u m.0 n.0) ∙ mul_comm u (m.0 - n.0) ∙ ap (λ x. (m.0 - n.0) * x) d.1 ∙ sym (mul_assoc (m.0 - n.0) d.0 unit)),
+      ∙ sym (mul-sub u m.0 n.0) ∙ mul_comm u (m.0 - n.0) ∙ ap (λ x. (m.0 - n.0) * x) d.1 ∙ sym (mul_assoc (m.0 - n.0) d.0 granularity)),
 )
 
 -- the same over what is freed before a site (i) and before its target (p)
-nearer_above : (shape : Shape) (o t fi fp gi gp : ℕ) → fi ≤ o → fp ≤ t → gi ≤ o → gp ≤ t → o + fp ≤ t + fi → gp + fi ≤ fp + gi → Multiple shape.unit ((fp + gi) - (gp + fi)) → is_reached shape (o - gi) (t - gp) ≡ true → is_reached shape (o - fi) (t - fp) ≡ true
+nearer_above : (shape : Shape) (o t fi fp gi gp : ℕ) → fi ≤ o → fp ≤ t → gi ≤ o → gp ≤ t → o + fp ≤ t + fi → gp + fi ≤ fp + gi → Multiple shape.granularity ((fp + gi) - (gp + fi)) → is_reached shape (o - gi) (t - gp) ≡ true → is_reached shape (o - fi) (t - fp) ≡ true
 nearer_above shape o t fi fp gi gp a b c d up less m reached =
     let same : (fp + gi) - (gp + fi) ≡ ((t - gp) - (o - gi)) - ((t - fp) - (o - fi)) = omega arith in
     reached_above shape (o - gi) (t - gp) (o - fi) (t - fp) (omega arith) (omega arith) (omega arith) (m.0, (let e = m.1 in omega arith)) reached
 
-nearer_below : (shape : Shape) (o t fi fp gi gp : ℕ) → fi ≤ o → fp ≤ t → gi ≤ o → gp ≤ t → t + fi ≤ o + fp → gi + fp ≤ fi + gp → 0 < shape.ahead → Multiple shape.unit ((fi + gp) - (gi + fp)) → is_reached shape (o - gi) (t - gp) ≡ true → is_reached shape (o - fi) (t - fp) ≡ true
+nearer_below : (shape : Shape) (o t fi fp gi gp : ℕ) → fi ≤ o → fp ≤ t → gi ≤ o → gp ≤ t → t + fi ≤ o + fp → gi + fp ≤ fi + gp → 0 < shape.max_forward → Multiple shape.granularity ((fi + gp) - (gi + fp)) → is_reached shape (o - gi) (t - gp) ≡ true → is_reached shape (o - fi) (t - fp) ≡ true
 nearer_below shape o t fi fp gi gp a b c d down less some m reached =
     let same : (fi + gp) - (gi + fp) ≡ ((o - gi) - (t - gp)) - ((o - fi) - (t - fp)) = omega arith in
     reached_below shape (o - gi) (t - gp) (o - fi) (t - fp) (omega arith) (omega arith) (omega arith) some (m.0, (let e = m.1 in omega arith)) reached
@@ -203,11 +203,11 @@ less_to items less more f i p up within =
     omega arith
 
 -- the difference between what the one frees between two indices and what the other frees
-multiple_difference : (u unit : ℕ) (items : List Item) (less more : ℕ → ℕ) → Multiple unit u → Frees u items less → Frees u items more → (i p : ℕ) → i ≤ p → p ≤ length items → Multiple unit ((more p + less i) - (less p + more i))
-multiple_difference u unit items less more d g f i p up within =
+multiple_difference : (u granularity : ℕ) (items : List Item) (less more : ℕ → ℕ) → Multiple granularity u → Frees u items less → Frees u items more → (i p : ℕ) → i ≤ p → p ≤ length items → Multiple granularity ((more p + less i) - (less p + more i))
+multiple_difference u granularity items less more d g f i p up within =
     let a = multiple_to u items more f i p up within in
     let b = multiple_to u items less g i p up within in
-    let m = multiple_between u unit (a.0 * u) (b.0 * u) d (a.0, refl) (b.0, refl) in
+    let m = multiple_between u granularity (a.0 * u) (b.0 * u) d (a.0, refl) (b.0, refl) in
     let e = m.1 in
     let x = a.1 in
     let y = b.1 in
@@ -216,7 +216,7 @@ multiple_difference u unit items less more d g f i p up within =
 
 -- a shape that reaches a target where less is freed reaches it where more is freed
 pub shape_nearer : (start u : ℕ) (items : List Item) (less more : ℕ → ℕ) → AreInOrder start items → Frees u items less → Frees u items more → FreesLess items less more
-    → (shape : Shape) → 0 < shape.ahead → Multiple shape.unit u → (i t p : ℕ) → i < length items → IsPlace items t p → (p < length items → t ≤ offset_of (item_at items p) + least_len (item_at items p))
+    → (shape : Shape) → 0 < shape.max_forward → Multiple shape.granularity u → (i t p : ℕ) → i < length items → IsPlace items t p → (p < length items → t ≤ offset_of (item_at items p) + least_len (item_at items p))
     → is_reached shape (offset_of (item_at items i) - less i) (t - less p) ≡ true → is_reached shape (offset_of (item_at items i) - more i) (t - more p) ≡ true
 shape_nearer start u items less more order g f no_more shape some d i t p within at clear reached =
     let o = offset_of (item_at items i) in
@@ -243,7 +243,7 @@ shape_nearer start u items less more order g f no_more shape some d i t p within
     let up : p ≤ i = omega arith in
     let upto : i ≤ length items = omega arith in
     let fewer = less_to items less more no_more p i up upto in
-    nearer_below shape o t (more i) (more p) (less i) (less p) fi fp gi gp (omega arith) (omega arith) some (multiple_difference u shape.unit items less more d g f p i up upto) reached)
+    nearer_below shape o t (more i) (more p) (less i) (less p) fi fp gi gp (omega arith) (omega arith) some (multiple_difference u shape.granularity items less more d g f p i up upto) reached)
     (λ (above : i < p).
     let z : i + (p - i - 1) + 1 ≡ p = omega arith in
     let w : i + (p - i - 1) < length items = omega arith in
@@ -252,5 +252,5 @@ shape_nearer start u items less more order g f no_more shape some d i t p within
     let last = at.below (i + (p - i - 1)) (omega arith) in
     let up : i ≤ p = omega arith in
     let fewer = less_to items less more no_more i p up end in
-    nearer_above shape o t (more i) (more p) (less i) (less p) fi fp gi gp (omega arith) (omega arith) (multiple_difference u shape.unit items less more d g f i p up end) reached))
+    nearer_above shape o t (more i) (more p) (less i) (less p) fi fp gi gp (omega arith) (omega arith) (multiple_difference u shape.granularity items less more d g f i p up end) reached))
     (cases_order p i)

@@ -57,7 +57,7 @@ fourth_distance from to = ⊎_elim
 
 module _ (kept half : ℕ) where
   abbrev halved : Shape
-  halved = record { kept = kept; behind = 2 * half; ahead = 2 * half; unit = 2 }
+  halved = record { kept = kept; max_backward = 2 * half; max_forward = 2 * half; granularity = 2 }
 
   halved_is : (from to : ℕ) → is_reached halved from to ≡ true → ((to + from) % 2 ≡ 0) × (to < from + 2 * half) × (from ≤ to + 2 * half)
   halved_is from to h = ⊎_elim
@@ -105,7 +105,7 @@ module _ (kept half : ℕ) where
 
 module _ (kept size : ℕ) where
   abbrev fourth : Shape
-  fourth = record { kept = kept; behind = size; ahead = size; unit = 4 }
+  fourth = record { kept = kept; max_backward = size; max_forward = size; granularity = 4 }
 
   fourth_is : (from to : ℕ) → is_reached fourth from to ≡ true → ((to + 3 * from) % 4 ≡ 0) × (to < from + size) × (from ≤ to + size)
   fourth_is from to h = ⊎_elim

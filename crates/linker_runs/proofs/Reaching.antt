@@ -81,13 +81,13 @@ even_sum x y = elim (cases_lt x y) [
     evens : (n : ℕ) → n % 2 ≡ 1 → IsEven (negsuc n)
     evens n h = ap (λ m. pos (1 - m)) h
 
-reached_is : (from to : ℕ) → is_reached (record { kept = 4; behind = 1048576; ahead = 1048576; unit = 2 }) from to ≡ true → ((to + from) % 2 ≡ 0) × (to < from + 1048576) × (from ≤ to + 1048576)
+reached_is : (from to : ℕ) → is_reached (record { kept = 4; max_backward = 1048576; max_forward = 1048576; granularity = 2 }) from to ≡ true → ((to + from) % 2 ≡ 0) × (to < from + 1048576) × (from ≤ to + 1048576)
 reached_is from to h = ⊎_elim
     (λ (down : to < from). (let a : (from - to) % 2 ≡ 0 = grind (arith, nat_tests) in let b : from - to ≤ 1048576 = grind (arith, nat_tests) in (omega arith, omega arith, omega arith)))
     (λ (up : from ≤ to). (let a : (to - from) % 2 ≡ 0 = grind (arith, nat_tests) in let b : to - from < 1048576 = grind (arith, nat_tests) in (omega arith, omega arith, omega arith)))
     (cases_lt to from)
 
-is_within : (from to : ℕ) → (to + from) % 2 ≡ 0 → to < from + 1048576 → from ≤ to + 1048576 → is_reached (record { kept = 4; behind = 1048576; ahead = 1048576; unit = 2 }) from to ≡ true
+is_within : (from to : ℕ) → (to + from) % 2 ≡ 0 → to < from + 1048576 → from ≤ to + 1048576 → is_reached (record { kept = 4; max_backward = 1048576; max_forward = 1048576; granularity = 2 }) from to ≡ true
 is_within from to even above below = ⊎_elim
     (λ (down : to < from). (let a : (from - to) % 2 ≡ 0 = omega arith in let b : from - to ≤ 1048576 = omega arith in grind (arith, nat_tests)))
     (λ (up : from ≤ to). (let a : (to - from) % 2 ≡ 0 = omega arith in let b : to - from < 1048576 = omega arith in grind (arith, nat_tests)))

@@ -8,19 +8,19 @@ use Rattle.linker_runs.specs.declared.relaxation.Shape.{Shape}
 use Rattle.linker_runs.specs.declared.relaxation.Shapes.{Shapes}
 
 abbrev shape_eq : Shape → Shape → Bool
-shape_eq a b = eqb a.behind b.behind && (eqb a.ahead b.ahead && (eqb a.kept b.kept && eqb a.unit b.unit))
+shape_eq a b = eqb a.max_backward b.max_backward && (eqb a.max_forward b.max_forward && (eqb a.kept b.kept && eqb a.granularity b.granularity))
 
 pub shape_decides : (a b : Shape) → Decides (shape_eq a b) (a ≡ b)
 shape_decides a b = (
   λ h.
-      let p = and_parts (eqb a.behind b.behind) (eqb a.ahead b.ahead && (eqb a.kept b.kept && eqb a.unit b.unit)) h in
-      let q = and_parts (eqb a.ahead b.ahead) (eqb a.kept b.kept && eqb a.unit b.unit) p.1 in
-      let r = and_parts (eqb a.kept b.kept) (eqb a.unit b.unit) q.1 in
-      let behind = eqb-true a.behind b.behind p.0 in
-      let ahead = eqb-true a.ahead b.ahead q.0 in
+      let p = and_parts (eqb a.max_backward b.max_backward) (eqb a.max_forward b.max_forward && (eqb a.kept b.kept && eqb a.granularity b.granularity)) h in
+      let q = and_parts (eqb a.max_forward b.max_forward) (eqb a.kept b.kept && eqb a.granularity b.granularity) p.1 in
+      let r = and_parts (eqb a.kept b.kept) (eqb a.granularity b.granularity) q.1 in
+      let behind = eqb-true a.max_backward b.max_backward p.0 in
+      let ahead = eqb-true a.max_forward b.max_forward q.0 in
       let kept = eqb-true a.kept b.kept r.0 in
-      let unit = eqb-true a.unit b.unit r.1 in
-      λ i. record { behind = behind i; ahead = ahead i; kept = kept i; unit = unit i },
+      let granularity = eqb-true a.granularity b.granularity r.1 in
+      λ i. record { max_backward = behind i; max_forward = ahead i; kept = kept i; granularity = granularity i },
   λ e. subst (λ c. shape_eq a c ≡ true) e (same a),
 )
   where

@@ -4,7 +4,7 @@ use Rattle.std.specs.Prelude.{◌⊎◌}
 use Rattle.std.proofs.lemmas.Bool.{cases_order}
 use Rattle.linker_runs.specs.declared.relaxation.Item.{Item}
 use Rattle.linker_runs.specs.Relaxing.{item_at, choice_of}
-use Rattle.linker_runs.specs.Choosing.{run_unit, AreItems, freed_cautiously, cautious_before}
+use Rattle.linker_runs.specs.Choosing.{run_granularity, AreItems, freed_cautiously, cautious_before}
 use Rattle.linker_runs.specs.Inner.Relaxing.{AreCautious, AreForced, is_in_reach_cautiously}
 use Rattle.linker_runs.proofs.Units.{item_suits}
 use Rattle.linker_runs.proofs.Choices.{kept_less, forced_next, cautious_agrees, cautious_changed, cautious_up, cautious_end}
@@ -25,7 +25,7 @@ module _ (start : ℕ) (items : List Item) (old new : List ℕ) (i : ℕ) (are :
     above = λ j high inside.
         let was = laid.above j high inside in
         let change = cautious_changed items (choice_of new) (choice_of old) i j others (omega arith) in
-        let less = kept_less (run_unit items) start (item_at items i) (choice_of old i) (choice_of old i + 1) (item_suits start items are i within) (omega arith) in
+        let less = kept_less (run_granularity items) start (item_at items i) (choice_of old i) (choice_of old i + 1) (item_suits start items are i within) (omega arith) in
         let same = ap (freed_cautiously (item_at items i)) here in
         omega arith;
   }

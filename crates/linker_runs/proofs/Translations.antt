@@ -8,7 +8,7 @@ use Rattle.linker_base.proofs.Rank.{removed, removed_by, rank-removed}
 use Rattle.linker_runs.specs.declared.relaxation.Item.{Item}
 use Rattle.linker_runs.specs.declared.relaxation.Item.TheVariants.{Site, Aligned}
 use Rattle.linker_runs.specs.Relaxing.{offset_of, len_of, end_of, target_of, item_at, kept_by, freed_before, place_of, choice_of, AreInOrder}
-use Rattle.linker_runs.specs.Choosing.{least_len, run_unit, AreItems}
+use Rattle.linker_runs.specs.Choosing.{least_len, run_granularity, AreItems}
 use Rattle.linker_runs.specs.Inner.Validity.{ItemSuits}
 use Rattle.linker_runs.proofs.Units.{item_suits}
 use Rattle.linker_runs.specs.Deleting.{deletion_at, deletions_before, TranslationsAreExact}
@@ -111,7 +111,7 @@ translations_of start items choice kept are keeps i within =
       translated start items choice kept order keeps target (place_of items target) place.within place.below
           (λ j h there. ⊎_elim
           (λ (into : target ≤ offset_of (item_at items j) + least_len (item_at items j)).
-          let least = keeps_least (run_unit items) start (item_at items j) (choice j) (freed_before start items choice j) (item_suits start items are j there) in
+          let least = keeps_least (run_granularity items) start (item_at items j) (choice j) (freed_before start items choice j) (item_suits start items are j there) in
           let e = keeps j there in
           omega arith)
           (λ (ended : end_of (item_at items j) ≤ target). let o = place.others j h there in absurd (omega arith))

@@ -1,4 +1,4 @@
--- The unit of a run, and what runs that can be relaxed suit.
+-- The granularity of a run, and what runs that can be relaxed suit.
 use Rattle.std.proofs.Common.{◌≡◌, ℕ, zero, suc, ◌+◌, ◌-◌, ◌*◌, ◌%◌, ◌^◌, ◌<◌, ◌≤◌, ◌∙◌, List, [], ◌∷◌, length, refl, ap, sym, subst, ⊎_elim, arith}
 use Rattle.std.specs.Prelude.{max}
 use Rattle.std.specs.Int.{IsPowerOfTwo}
@@ -11,7 +11,7 @@ use Rattle.linker_runs.specs.declared.relaxation.Shapes.{Shapes}
 use Rattle.linker_runs.specs.declared.relaxation.Item.{Item}
 use Rattle.linker_runs.specs.declared.relaxation.Item.TheVariants.{Site, Aligned}
 use Rattle.linker_runs.specs.Relaxing.{item_at, shape_len, short_shape, IsSound}
-use Rattle.linker_runs.specs.Choosing.{AreNested, IsFormed, ItemFits, shapes_unit, item_unit, run_unit, AreItems}
+use Rattle.linker_runs.specs.Choosing.{AreNested, IsFormed, ItemFits, shapes_granularity, item_granularity, run_granularity, AreItems}
 use Rattle.linker_runs.specs.Inner.Validity.{ItemSuits}
 
 -- of two powers of two the less divides the other
@@ -33,51 +33,51 @@ max_power a b pa pb = ⊎_elim
     (λ (more : b ≤ a). let e : max a b ≡ a = grind (arith, nat_tests) in subst IsPowerOfTwo (sym e) pa)
     (cases_lt a b)
 
--- the greatest unit of so many items is a power of two, and no less than that before nor than each
-record IsUnitOf (before : ℕ) (items : List Item) (unit : ℕ) : Type 0 where
-  power : IsPowerOfTwo unit
-  least : before ≤ unit
-  each : (i : ℕ) → i < length items → item_unit (item_at items i) ≤ unit
+-- the greatest granularity of so many items is a power of two, and no less than that before nor than each
+record IsUnitOf (before : ℕ) (items : List Item) (granularity : ℕ) : Type 0 where
+  power : IsPowerOfTwo granularity
+  least : before ≤ granularity
+  each : (i : ℕ) → i < length items → item_granularity (item_at items i) ≤ granularity
 
 abbrev unit_from : ℕ → List Item → ℕ
-unit_from before items = fold (λ unit item. max unit (item_unit item)) before items
+unit_from before items = fold (λ granularity item. max granularity (item_granularity item)) before items
 
-fold_unit : (before : ℕ) (items : List Item) → IsPowerOfTwo before → ((i : ℕ) → i < length items → IsPowerOfTwo (item_unit (item_at items i))) → IsUnitOf before items (unit_from before items)
+fold_unit : (before : ℕ) (items : List Item) → IsPowerOfTwo before → ((i : ℕ) → i < length items → IsPowerOfTwo (item_granularity (item_at items i))) → IsUnitOf before items (unit_from before items)
 fold_unit before [] power powers = record { power = power; least = omega arith; each = λ i within. absurd (omega arith) }
 fold_unit before (item ∷ items) power powers =
-    let rest = fold_unit (max before (item_unit item)) items (max_power before (item_unit item) power (powers 0 (omega arith))) (λ i within. powers (suc i) (omega arith)) in
+    let rest = fold_unit (max before (item_granularity item)) items (max_power before (item_granularity item) power (powers 0 (omega arith))) (λ i within. powers (suc i) (omega arith)) in
     let least = rest.least in
     record {
       power = rest.power;
       least = omega arith;
-      each = each (item_unit item) (unit_from (max before (item_unit item)) items) (omega arith) rest.each;
+      each = each (item_granularity item) (unit_from (max before (item_granularity item)) items) (omega arith) rest.each;
     }
   where
-    each : (first unit : ℕ) → item_unit item ≤ unit → ((i : ℕ) → i < length items → item_unit (item_at items i) ≤ unit) → (i : ℕ) → i < length (item ∷ items) → item_unit (item_at (item ∷ items) i) ≤ unit
-    each first unit here others zero within = here
-    each first unit here others (suc i) within = others i (omega arith)
+    each : (first granularity : ℕ) → item_granularity item ≤ granularity → ((i : ℕ) → i < length items → item_granularity (item_at items i) ≤ granularity) → (i : ℕ) → i < length (item ∷ items) → item_granularity (item_at (item ∷ items) i) ≤ granularity
+    each first granularity here others zero within = here
+    each first granularity here others (suc i) within = others i (omega arith)
 
-shapes_power : (shapes : Shapes) → AreNested shapes → IsPowerOfTwo (shapes_unit shapes)
+shapes_power : (shapes : Shapes) → AreNested shapes → IsPowerOfTwo (shapes_granularity shapes)
 shapes_power shapes nested = ⊎_elim
     (λ (two : 1 < shapes.count).
-    let e : shapes_unit shapes ≡ max (short_shape shapes 0).unit (short_shape shapes 1).unit = grind (arith, nat_tests) in
-    subst IsPowerOfTwo (sym e) (max_power (short_shape shapes 0).unit (short_shape shapes 1).unit (nested.powers 0 (omega arith)).power (nested.powers 1 two).power))
+    let e : shapes_granularity shapes ≡ max (short_shape shapes 0).granularity (short_shape shapes 1).granularity = grind (arith, nat_tests) in
+    subst IsPowerOfTwo (sym e) (max_power (short_shape shapes 0).granularity (short_shape shapes 1).granularity (nested.powers 0 (omega arith)).power (nested.powers 1 two).power))
     (λ (fewer : shapes.count ≤ 1). ⊎_elim
     (λ (one : 0 < shapes.count).
-    let e : shapes_unit shapes ≡ (short_shape shapes 0).unit = grind (arith, nat_tests) in
+    let e : shapes_granularity shapes ≡ (short_shape shapes 0).granularity = grind (arith, nat_tests) in
     subst IsPowerOfTwo (sym e) (nested.powers 0 one).power)
     (λ (none : shapes.count ≤ 0).
-    let e : shapes_unit shapes ≡ 1 = grind (arith, nat_tests) in
+    let e : shapes_granularity shapes ≡ 1 = grind (arith, nat_tests) in
     subst IsPowerOfTwo (sym e) (0, refl))
     (cases_lt 0 shapes.count))
     (cases_lt 1 shapes.count)
 
-item_power : (item : Item) → IsFormed item → IsPowerOfTwo (item_unit item)
+item_power : (item : Item) → IsFormed item → IsPowerOfTwo (item_granularity item)
 item_power (Site site) formed = shapes_power site.shapes formed
 item_power (Aligned alignment) formed = (0, refl)
 
--- each short shape's unit is at most that of all
-shape_below : (shapes : Shapes) → shapes.count ≤ 2 → (k : ℕ) → k < shapes.count → (short_shape shapes k).unit ≤ shapes_unit shapes
+-- each short shape's granularity is at most that of all
+shape_below : (shapes : Shapes) → shapes.count ≤ 2 → (k : ℕ) → k < shapes.count → (short_shape shapes k).granularity ≤ shapes_granularity shapes
 shape_below shapes few zero within = ⊎_elim
     (λ (two : 1 < shapes.count). grind (arith, nat_tests))
     (λ (one : shapes.count ≤ 1). grind (arith, nat_tests))
@@ -92,18 +92,18 @@ ascends shapes nested k = ⊎_elim
     (λ (past : shapes.count ≤ k). grind (arith, nat_tests))
     (cases_lt k shapes.count)
 
-pub item_suits : (start : ℕ) (items : List Item) → AreItems start items → (i : ℕ) → i < length items → ItemSuits (run_unit items) start (item_at items i)
+pub item_suits : (start : ℕ) (items : List Item) → AreItems start items → (i : ℕ) → i < length items → ItemSuits (run_granularity items) start (item_at items i)
 item_suits start items are i within =
     let whole = fold_unit 1 items (0, refl) (λ j there. item_power (item_at items j) (are.formed j there)) in
-    suits (run_unit items) (item_at items i) whole.power (whole.each i within) (are.in_order.sound i within) (are.formed i within) (are.fit i within)
+    suits (run_granularity items) (item_at items i) whole.power (whole.each i within) (are.in_order.sound i within) (are.formed i within) (are.fit i within)
   where
-    suits : (u : ℕ) (item : Item) → IsPowerOfTwo u → item_unit item ≤ u → IsSound item → IsFormed item → ItemFits u start item → ItemSuits u start item
+    suits : (u : ℕ) (item : Item) → IsPowerOfTwo u → item_granularity item ≤ u → IsSound item → IsFormed item → ItemFits u start item → ItemSuits u start item
     suits u (Site site) power most sound formed fit = record {
       freed = fit;
       ascending = ascends site.shapes formed;
       ahead = formed.ahead;
       units = λ k short.
           let h = shape_below site.shapes sound.0 k short in
-          power_divides (short_shape site.shapes k).unit u (formed.powers k short).power power (omega arith);
+          power_divides (short_shape site.shapes k).granularity u (formed.powers k short).power power (omega arith);
     }
     suits u (Aligned alignment) power most sound formed fit = fit

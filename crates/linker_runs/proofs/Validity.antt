@@ -6,10 +6,10 @@ use Rattle.std.proofs.lemmas.Nat.{pow_pos}
 use Rattle.linker_runs.specs.declared.relaxation.Item.{Item}
 use Rattle.linker_runs.specs.declared.relaxation.Item.TheVariants.{Site, Aligned}
 use Rattle.linker_runs.specs.declared.relaxation.faults.Fault.{Fault}
-use Rattle.linker_runs.specs.declared.relaxation.faults.Fault.TheVariants.{Overlaps, TooHigh, TooManyShapes, ShapeTooLong, ShapesNotAscending, BadUnit, BadReach, BadPower, UnevenShape, PowerBelowUnit, UnevenEnd, TooFewNops, UnevenNops, TargetInside, MayBeMisaligned}
+use Rattle.linker_runs.specs.declared.relaxation.faults.Fault.TheVariants.{Overlaps, TooHigh, TooManyShapes, ShapeTooLong, ShapesNotAscending, BadGranularity, BadReach, BadAlignment, UnevenShape, AlignmentBelowGranularity, UnevenEnd, TooFewNops, UnevenNops, TargetInside, MayBeMisaligned}
 use Rattle.linker_runs.specs.declared.relaxation.faults.ItemFault.{ItemFault}
 use Rattle.linker_runs.specs.Relaxing.{offset_of, end_of, target_of, item_at, place_of, IsSound, AreInOrder}
-use Rattle.linker_runs.specs.Choosing.{least_len, run_unit, IsFormed, ItemFits, AlignmentFits, IsStill, AreItems, IsClear, HasItsNops}
+use Rattle.linker_runs.specs.Choosing.{least_len, run_granularity, IsFormed, ItemFits, AlignmentFits, IsStill, AreItems, IsClear, HasItsNops}
 use Rattle.linker_runs.specs.declared.relaxation.Alignment.{Alignment}
 use Rattle.linker_runs.specs.Faults.{number_of, ItemMeets, OwnMeets, AlignmentMeets, UnitMeets, RunMeets, AreSound, Meets, IsFirstOf, IsFirstAt, IsFirstFault}
 use Rattle.linker_runs.specs.Inner.Validity.{IsClearRun}
@@ -51,29 +51,29 @@ item_sound (Site site) met = (
   met TooManyShapes,
   (met ShapeTooLong).0,
   (met ShapeTooLong).1,
-  λ k short. (let power = ((met BadUnit).0 k short).power in let some = pow_pos power.0 in let e = power.1 in omega arith),
+  λ k short. (let power = ((met BadGranularity).0 k short).power in let some = pow_pos power.0 in let e = power.1 in omega arith),
 )
-item_sound (Aligned alignment) met = let power = met BadPower in let some = pow_pos power.0 in let e = power.1 in omega arith
+item_sound (Aligned alignment) met = let power = met BadAlignment in let some = pow_pos power.0 in let e = power.1 in omega arith
 
 item_formed : (item : Item) → ((fault : Fault) → ItemMeets item fault) → IsFormed item
 item_formed (Site site) met = record {
   ascending = met ShapesNotAscending;
-  powers = (met BadUnit).0;
-  units = (met BadUnit).1;
+  powers = (met BadGranularity).0;
+  units = (met BadGranularity).1;
   ahead = (met BadReach).0;
   reaches = (met BadReach).1;
 }
-item_formed (Aligned alignment) met = met BadPower
+item_formed (Aligned alignment) met = met BadAlignment
 
 -- and the reverse
 item_meets : (item : Item) → IsSound item → IsFormed item → (fault : Fault) → ItemMeets item fault
 item_meets (Site site) sound formed TooManyShapes = sound.0
 item_meets (Site site) sound formed ShapeTooLong = (sound.1, sound.2)
 item_meets (Site site) sound formed ShapesNotAscending = formed.ascending
-item_meets (Site site) sound formed BadUnit = (formed.powers, formed.units)
+item_meets (Site site) sound formed BadGranularity = (formed.powers, formed.units)
 item_meets (Site site) sound formed BadReach = (formed.ahead, formed.reaches)
 item_meets (Site site) sound formed other = tt
-item_meets (Aligned alignment) sound formed BadPower = formed
+item_meets (Aligned alignment) sound formed BadAlignment = formed
 item_meets (Aligned alignment) sound formed other = tt
 
 -- what an item meets by its place aside
@@ -113,7 +113,7 @@ in_order start items sound = record {
   sound = λ i within. item_sound (item_at items i) (own_item start items i (sound i within));
 }
 
--- what an item meets in a run of a unit is what fits
+-- what an item meets in a run of a granularity is what fits
 limited : (u power nops : ℕ) (most : Option ℕ) → MatchOption most ⊤ (λ most. (power ≤ nops + u) ⊎ (most ≤ nops)) → MatchOption most ⊤ (λ most. nops % u ≡ 0)
     → MatchOption most ⊤ (λ most. (nops % u ≡ 0) × ((power ≤ nops + u) ⊎ (most ≤ nops)))
 limited u power nops None many even = tt
@@ -129,16 +129,16 @@ even_nops u power nops (Some most) fits = fits.0
 
 alignment_fits : (u start : ℕ) (alignment : Alignment) → ((fault : Fault) → AlignmentMeets u start alignment fault) → AlignmentFits u start alignment ⊎ IsStill u start alignment
 alignment_fits u start alignment met = ⊎_elim
-    (λ (power : alignment.power % u ≡ 0). ⊎_elim
+    (λ (power : alignment.alignment % u ≡ 0). ⊎_elim
     (λ (behind : (start + alignment.offset + alignment.nops) % u ≡ 0). inl (record {
       power = power;
       behind = behind;
-      limited = limited u alignment.power alignment.nops alignment.most (met TooFewNops) (met UnevenNops);
+      limited = limited u alignment.alignment alignment.nops alignment.max_skip (met TooFewNops) (met UnevenNops);
     }))
     (λ (still : IsStill u start alignment). inr still)
     (met UnevenEnd))
     (λ (still : IsStill u start alignment). inr still)
-    (met PowerBelowUnit)
+    (met AlignmentBelowGranularity)
 
 item_fits : (u start : ℕ) (item : Item) → ((fault : Fault) → UnitMeets u start item fault) → ItemFits u start item
 item_fits u start (Site site) met = met UnevenShape
@@ -150,17 +150,17 @@ no_limit u power nops None none = (tt, tt)
 no_limit u power nops (Some most) none = cc
 
 pub still_meets : (u start : ℕ) (alignment : Alignment) → IsStill u start alignment → (fault : Fault) → AlignmentMeets u start alignment fault
-still_meets u start alignment still PowerBelowUnit = inr still
+still_meets u start alignment still AlignmentBelowGranularity = inr still
 still_meets u start alignment still UnevenEnd = inr still
-still_meets u start alignment still TooFewNops = (no_limit u alignment.power alignment.nops alignment.most still.unlimited).0
-still_meets u start alignment still UnevenNops = (no_limit u alignment.power alignment.nops alignment.most still.unlimited).1
+still_meets u start alignment still TooFewNops = (no_limit u alignment.alignment alignment.nops alignment.max_skip still.unlimited).0
+still_meets u start alignment still UnevenNops = (no_limit u alignment.alignment alignment.nops alignment.max_skip still.unlimited).1
 still_meets u start alignment still other = tt
 
 fits_meets : (u start : ℕ) (alignment : Alignment) → AlignmentFits u start alignment → (fault : Fault) → AlignmentMeets u start alignment fault
-fits_meets u start alignment fit PowerBelowUnit = inl fit.power
+fits_meets u start alignment fit AlignmentBelowGranularity = inl fit.power
 fits_meets u start alignment fit UnevenEnd = inl fit.behind
-fits_meets u start alignment fit TooFewNops = many_nops u alignment.power alignment.nops alignment.most fit.limited
-fits_meets u start alignment fit UnevenNops = even_nops u alignment.power alignment.nops alignment.most fit.limited
+fits_meets u start alignment fit TooFewNops = many_nops u alignment.alignment alignment.nops alignment.max_skip fit.limited
+fits_meets u start alignment fit UnevenNops = even_nops u alignment.alignment alignment.nops alignment.max_skip fit.limited
 fits_meets u start alignment fit other = tt
 
 unit_meets : (u start : ℕ) (item : Item) → ItemFits u start item → (fault : Fault) → UnitMeets u start item fault
@@ -199,18 +199,18 @@ run_earlier u start items i n met few clear other below = met other
 pub clear_met : (u start : ℕ) (items : List Item) (i : ℕ) → AreInOrder start items → IsClearRun items (target_of (item_at items i)) → RunMeets u start items i TargetInside
 clear_met u start items i order clear = clear_all start items (target_of (item_at items i)) order clear
 
--- an item's own fault in a run of a unit comes before those
+-- an item's own fault in a run of a granularity comes before those
 few : (u start : ℕ) (item : Item) (fault : Fault) → ¬ UnitMeets u start item fault → number_of fault < 13
 few u start item Overlaps not_met = omega arith
 few u start item TooHigh not_met = omega arith
 few u start item TooManyShapes not_met = omega arith
 few u start item ShapeTooLong not_met = omega arith
 few u start item ShapesNotAscending not_met = omega arith
-few u start item BadUnit not_met = omega arith
+few u start item BadGranularity not_met = omega arith
 few u start item BadReach not_met = omega arith
-few u start item BadPower not_met = omega arith
+few u start item BadAlignment not_met = omega arith
 few u start item UnevenShape not_met = omega arith
-few u start item PowerBelowUnit not_met = omega arith
+few u start item AlignmentBelowGranularity not_met = omega arith
 few u start item UnevenEnd not_met = omega arith
 few u start item TooFewNops not_met = omega arith
 few u start item UnevenNops not_met = omega arith
@@ -233,19 +233,19 @@ first_unit u start items i fault first = record {
     run_before MayBeMisaligned below met = absurd (omega arith)
     run_before other below met = met
 
-pub all_items : (start : ℕ) (items : List Item) → AreSound start items → ((i : ℕ) → i < length items → (fault : Fault) → RunMeets (run_unit items) start items i fault) → AreItems start items
+pub all_items : (start : ℕ) (items : List Item) → AreSound start items → ((i : ℕ) → i < length items → (fault : Fault) → RunMeets (run_granularity items) start items i fault) → AreItems start items
 all_items start items sound run = record {
   in_order = in_order start items sound;
   formed = λ i within. item_formed (item_at items i) (own_item start items i (sound i within));
-  fit = λ i within. item_fits (run_unit items) start (item_at items i) (of_unit (run_unit items) start items i (run i within));
+  fit = λ i within. item_fits (run_granularity items) start (item_at items i) (of_unit (run_granularity items) start items i (run i within));
   clear = λ i j within there. run i within TargetInside j there;
   enough = λ i within. run i within MayBeMisaligned;
 }
 
-run_meets : (start : ℕ) (items : List Item) → AreItems start items → (i : ℕ) → i < length items → (fault : Fault) → RunMeets (run_unit items) start items i fault
+run_meets : (start : ℕ) (items : List Item) → AreItems start items → (i : ℕ) → i < length items → (fault : Fault) → RunMeets (run_granularity items) start items i fault
 run_meets start items are i within TargetInside = λ j there. are.clear i j within there
 run_meets start items are i within MayBeMisaligned = are.enough i within
-run_meets start items are i within other = unit_meets (run_unit items) start (item_at items i) (are.fit i within) other
+run_meets start items are i within other = unit_meets (run_granularity items) start (item_at items i) (are.fit i within) other
 
 pub all_met : (start : ℕ) (items : List Item) → AreItems start items → (i : ℕ) → i < length items → (fault : Fault) → Meets start items i fault
 all_met start items are i within fault = (own_meets start items are i within fault, λ _. run_meets start items are i within fault)
@@ -263,7 +263,7 @@ own_first start items found first =
       };
     }
 
-run_first : (start : ℕ) (items : List Item) (found : ItemFault) → AreSound start items → IsFirstAt (RunMeets (run_unit items) start items) (length items) found → IsFirstFault start items found
+run_first : (start : ℕ) (items : List Item) (found : ItemFault) → AreSound start items → IsFirstAt (RunMeets (run_granularity items) start items) (length items) found → IsFirstFault start items found
 run_first start items found sound first =
     let inside = first.within in
     record {
@@ -276,7 +276,7 @@ run_first start items found sound first =
     }
 
 pub first_of_run : (start : ℕ) (items : List Item) (found : Option ItemFault) → AreSound start items
-    → MatchOption found ((i : ℕ) → i < length items → (fault : Fault) → RunMeets (run_unit items) start items i fault) (IsFirstAt (RunMeets (run_unit items) start items) (length items))
+    → MatchOption found ((i : ℕ) → i < length items → (fault : Fault) → RunMeets (run_granularity items) start items i fault) (IsFirstAt (RunMeets (run_granularity items) start items) (length items))
     → MatchOption found (AreItems start items) (IsFirstFault start items)
 first_of_run start items None sound run = all_items start items sound run
 first_of_run start items (Some found) sound first = run_first start items found sound first

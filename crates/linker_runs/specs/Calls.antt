@@ -11,7 +11,7 @@ use Rattle.linker_riscv64.specs.Shrinking.{IsChosen, IsGreatest}
 -- `jal`, and the call as it stands
 abbrev pub call_shapes : Shapes
 call_shapes = record {
-  short = record { kept = 4; behind = 1048576; ahead = 1048576; unit = 2 } ∷ no_shape ∷ [];
+  short = record { kept = 4; max_backward = 1048576; max_forward = 1048576; granularity = 2 } ∷ no_shape ∷ [];
   count = 1;
   longest = 8;
 }

@@ -1,4 +1,4 @@
--- Which runs keep every distance a multiple of its unit, and what the choice for these is compared
+-- Which runs keep every distance a multiple of its granularity, and what the choice for these is compared
 -- with.
 use Rattle.std.specs.Prelude.{◌≡◌, ℕ, zero, suc, ◌+◌, ◌-◌, ◌%◌, ◌<◌, ◌≤◌, ◌⊎◌, List, length}
 use Rattle.std.specs.Prelude.{true, if◌then◌else◌, nat_lt, max, MatchOption, None, ⊤, slice_index_or}
@@ -16,39 +16,39 @@ use Rattle.linker_runs.specs.Relaxing.{choice_of, after_rounds, most_rounds, Are
 use Rattle.linker_runs.specs.Relaxing.{AreRelaxed}
 use Rattle.linker_runs.specs.Relaxing.{AreKeptBytes, AreFreed}
 
--- the greatest unit of short shapes, of an item and of a run
-abbrev pub shapes_unit : Shapes → ℕ
-shapes_unit shapes = if nat_lt 1 shapes.count
-    then max (short_shape shapes 0).unit (short_shape shapes 1).unit
-    else if nat_lt 0 shapes.count then (short_shape shapes 0).unit else 1
+-- the greatest granularity of short shapes, of an item and of a run
+abbrev pub shapes_granularity : Shapes → ℕ
+shapes_granularity shapes = if nat_lt 1 shapes.count
+    then max (short_shape shapes 0).granularity (short_shape shapes 1).granularity
+    else if nat_lt 0 shapes.count then (short_shape shapes 0).granularity else 1
 
-abbrev pub item_unit : Item → ℕ
-item_unit (Site site) = shapes_unit site.shapes
-item_unit (Aligned alignment) = 1
+abbrev pub item_granularity : Item → ℕ
+item_granularity (Site site) = shapes_granularity site.shapes
+item_granularity (Aligned alignment) = 1
 
-abbrev pub run_unit : List Item → ℕ
-run_unit items = fold (λ unit item. max unit (item_unit item)) 1 items
+abbrev pub run_granularity : List Item → ℕ
+run_granularity items = fold (λ granularity item. max granularity (item_granularity item)) 1 items
 
--- the unit of a short shape is a power of two
+-- the granularity of a short shape is a power of two
 pub record HasUnit (shape : Shape) : Type 0 where
-  pub power : IsPowerOfTwo shape.unit
+  pub power : IsPowerOfTwo shape.granularity
 
 -- Short shapes by themselves. Each keeps fewer bytes than the next, reaches its own offset, and its
--- unit is a power of two. It reaches no farther than the next short one, and its unit is no less.
+-- granularity is a power of two. It reaches no farther than the next short one, and its granularity is no less.
 pub record AreNested (shapes : Shapes) : Type 0 where
   pub ascending : (k : ℕ) → k < shapes.count → shape_len shapes k < shape_len shapes (k + 1)
   pub powers : (k : ℕ) → k < shapes.count → HasUnit (short_shape shapes k)
   pub units : (k : ℕ) → k + 1 < shapes.count
-      → (short_shape shapes (k + 1)).unit ≤ (short_shape shapes k).unit
-  pub ahead : (k : ℕ) → k < shapes.count → 0 < (short_shape shapes k).ahead
+      → (short_shape shapes (k + 1)).granularity ≤ (short_shape shapes k).granularity
+  pub ahead : (k : ℕ) → k < shapes.count → 0 < (short_shape shapes k).max_forward
   pub reaches : (k : ℕ) → k + 1 < shapes.count
-      → ((short_shape shapes k).behind ≤ (short_shape shapes (k + 1)).behind)
-      × ((short_shape shapes k).ahead ≤ (short_shape shapes (k + 1)).ahead)
+      → ((short_shape shapes k).max_backward ≤ (short_shape shapes (k + 1)).max_backward)
+      × ((short_shape shapes k).max_forward ≤ (short_shape shapes (k + 1)).max_forward)
 
 -- an item by itself
 abbrev pub IsFormed : Item → Type 0
 IsFormed (Site site) = AreNested site.shapes
-IsFormed (Aligned alignment) = IsPowerOfTwo alignment.power
+IsFormed (Aligned alignment) = IsPowerOfTwo alignment.alignment
 
 -- each shape of a site of so many bytes frees a multiple of u
 abbrev pub ShapesFit : ℕ → ℕ → Shapes → Type 0
@@ -58,19 +58,19 @@ ShapesFit u len shapes = (k : ℕ) → (len - shape_len shapes k) % u ≡ 0
 -- with a limit has enough nops, or no more may stay than there are; since all may go, they are a
 -- multiple of u.
 pub record AlignmentFits (u start : ℕ) (alignment : Alignment) : Type 0 where
-  pub power : alignment.power % u ≡ 0
+  pub power : alignment.alignment % u ≡ 0
   pub behind : (start + alignment.offset + alignment.nops) % u ≡ 0
-  pub limited : MatchOption alignment.most ⊤ (λ most. (alignment.nops % u ≡ 0)
-      × ((alignment.power ≤ alignment.nops + u) ⊎ (most ≤ alignment.nops)))
+  pub limited : MatchOption alignment.max_skip ⊤ (λ most. (alignment.nops % u ≡ 0)
+      × ((alignment.alignment ≤ alignment.nops + u) ⊎ (most ≤ alignment.nops)))
 
 -- An alignment that divides u keeps the same nops in each layout, since no address changes modulo u:
 -- those that its input address needs. It has these, and the others are a multiple of u.
 pub record IsStill (u start : ℕ) (alignment : Alignment) : Type 0 where
-  pub divides : u % alignment.power ≡ 0
-  pub unlimited : alignment.most ≡ None
-  pub enough : needed alignment.power (start + alignment.offset) ≤ alignment.nops
+  pub divides : u % alignment.alignment ≡ 0
+  pub unlimited : alignment.max_skip ≡ None
+  pub enough : needed alignment.alignment (start + alignment.offset) ≤ alignment.nops
   pub others :
-      (alignment.nops - needed alignment.power (start + alignment.offset)) % u ≡ 0
+      (alignment.nops - needed alignment.alignment (start + alignment.offset)) % u ≡ 0
 
 abbrev pub ItemFits : ℕ → ℕ → Item → Type 0
 ItemFits u start (Site site) = ShapesFit u site.len site.shapes
@@ -80,14 +80,14 @@ ItemFits u start (Aligned alignment) = AlignmentFits u start alignment ⊎ IsSti
 -- offset o.
 abbrev pub IsAnchor : ℕ → ℕ → Item → Type 0
 IsAnchor w o (Site site) = ⊥
-IsAnchor w o (Aligned alignment) = (alignment.most ≡ None) × (alignment.power % w ≡ 0)
+IsAnchor w o (Aligned alignment) = (alignment.max_skip ≡ None) × (alignment.alignment % w ≡ 0)
     × ((o - (alignment.offset + alignment.nops)) % w ≡ 0)
 
 -- Where w divides the output address of o less what an item frees, it divides what the item frees.
 abbrev pub FreesMultiples : ℕ → ℕ → Item → Type 0
 FreesMultiples w o (Site site) = ShapesFit w site.len site.shapes
 FreesMultiples w o (Aligned alignment) = ((o - alignment.offset) % w ≡ 0)
-    × (alignment.power % w ≡ 0) × (alignment.nops % w ≡ 0)
+    × (alignment.alignment % w ≡ 0) × (alignment.nops % w ≡ 0)
 
 -- In each layout w divides the output address of the offset o. The last items before it tell: it is
 -- aligned by one of them, or is what the run's address makes it, and no item in between changes that.
@@ -99,14 +99,14 @@ IsAlwaysMultiple w start o items (suc i) = IsAnchor w o (item_at items i)
 -- In each layout an alignment without a limit has as many nops as it needs: w is the least power of
 -- two that leaves no more to fill than there are nops.
 abbrev pub AreAlwaysEnough : ℕ → ℕ → List Item → ℕ → Alignment → Type 0
-AreAlwaysEnough u start items i alignment = (alignment.power ≤ alignment.nops + u)
-    ⊎ ((w : ℕ) × IsNextPowerOfTwo (alignment.power - alignment.nops) w
+AreAlwaysEnough u start items i alignment = (alignment.alignment ≤ alignment.nops + u)
+    ⊎ ((w : ℕ) × IsNextPowerOfTwo (alignment.alignment - alignment.nops) w
     × IsAlwaysMultiple w start alignment.offset items i)
 
 abbrev pub HasItsNops : ℕ → ℕ → List Item → ℕ → Item → Type 0
 HasItsNops u start items i (Site site) = ⊤
 HasItsNops u start items i (Aligned alignment) =
-    MatchOption alignment.most (AreAlwaysEnough u start items i alignment) (λ most. ⊤)
+    MatchOption alignment.max_skip (AreAlwaysEnough u start items i alignment) (λ most. ⊤)
 
 -- how many bytes of an item stay in each choice
 abbrev pub least_len : Item → ℕ
@@ -121,22 +121,22 @@ IsClear item offset = (offset ≤ offset_of item + least_len item) ⊎ (end_of i
 pub record AreItems (start : ℕ) (items : List Item) : Type 0 where
   pub in_order : AreInOrder start items
   pub formed : (i : ℕ) → i < length items → IsFormed (item_at items i)
-  pub fit : (i : ℕ) → i < length items → ItemFits (run_unit items) start (item_at items i)
+  pub fit : (i : ℕ) → i < length items → ItemFits (run_granularity items) start (item_at items i)
   pub clear : (i j : ℕ) → i < length items → j < length items
       → IsClear (item_at items j) (target_of (item_at items i))
   pub enough : (i : ℕ) → i < length items
-      → HasItsNops (run_unit items) start items i (item_at items i)
+      → HasItsNops (run_granularity items) start items i (item_at items i)
 
 -- An alignment keeps exactly the bytes that are needed, and none where more are needed than it may
 -- keep.
 abbrev pub IsExact : Alignment → ℕ → ℕ → Type 0
-IsExact alignment need kept = MatchOption alignment.most (kept ≡ need)
+IsExact alignment need kept = MatchOption alignment.max_skip (kept ≡ need)
     (λ most. (need ≤ most → kept ≡ need) × (most < need → kept ≡ 0))
 
 abbrev pub IsExactItem : Item → ℕ → ℕ → ℕ → Type 0
 IsExactItem (Site site) start freed kept = ⊤
 IsExactItem (Aligned alignment) start freed kept =
-    IsExact alignment (needed alignment.power (start + alignment.offset - freed)) kept
+    IsExact alignment (needed alignment.alignment (start + alignment.offset - freed)) kept
 
 -- each alignment of the run is exact at its output address
 abbrev pub AreAligned : ℕ → List Item → List ℕ → List ℕ → Type 0

@@ -11,9 +11,9 @@ use Rattle.linker_runs.specs.declared.relaxation.faults.Fault.TheVariants.{Overl
 use Rattle.linker_runs.specs.declared.relaxation.faults.Fault.TheVariants.{TooManyShapes}
 use Rattle.linker_runs.specs.declared.relaxation.faults.Fault.TheVariants.{ShapeTooLong}
 use Rattle.linker_runs.specs.declared.relaxation.faults.Fault.TheVariants.{ShapesNotAscending}
-use Rattle.linker_runs.specs.declared.relaxation.faults.Fault.TheVariants.{BadUnit, BadReach}
-use Rattle.linker_runs.specs.declared.relaxation.faults.Fault.TheVariants.{BadPower, UnevenShape}
-use Rattle.linker_runs.specs.declared.relaxation.faults.Fault.TheVariants.{PowerBelowUnit}
+use Rattle.linker_runs.specs.declared.relaxation.faults.Fault.TheVariants.{BadGranularity, BadReach}
+use Rattle.linker_runs.specs.declared.relaxation.faults.Fault.TheVariants.{BadAlignment, UnevenShape}
+use Rattle.linker_runs.specs.declared.relaxation.faults.Fault.TheVariants.{AlignmentBelowGranularity}
 use Rattle.linker_runs.specs.declared.relaxation.faults.Fault.TheVariants.{UnevenEnd, TooFewNops}
 use Rattle.linker_runs.specs.declared.relaxation.faults.Fault.TheVariants.{UnevenNops}
 use Rattle.linker_runs.specs.declared.relaxation.faults.Fault.TheVariants.{TargetInside}
@@ -21,7 +21,7 @@ use Rattle.linker_runs.specs.declared.relaxation.faults.Fault.TheVariants.{MayBe
 use Rattle.linker_runs.specs.declared.relaxation.faults.ItemFault.{ItemFault}
 use Rattle.linker_runs.specs.Relaxing.{offset_of, end_of, target_of, item_at, shape_len}
 use Rattle.linker_runs.specs.Relaxing.{short_shape}
-use Rattle.linker_runs.specs.Choosing.{run_unit, HasUnit, IsClear, HasItsNops, IsStill}
+use Rattle.linker_runs.specs.Choosing.{run_granularity, HasUnit, IsClear, HasItsNops, IsStill}
 
 -- the order in which faults are told: of an item that has several, the one with the least number
 abbrev pub number_of : Fault → ℕ
@@ -30,11 +30,11 @@ number_of TooHigh = 1
 number_of TooManyShapes = 2
 number_of ShapeTooLong = 3
 number_of ShapesNotAscending = 4
-number_of BadUnit = 5
+number_of BadGranularity = 5
 number_of BadReach = 6
-number_of BadPower = 7
+number_of BadAlignment = 7
 number_of UnevenShape = 8
-number_of PowerBelowUnit = 9
+number_of AlignmentBelowGranularity = 9
 number_of UnevenEnd = 10
 number_of TooFewNops = 11
 number_of UnevenNops = 12
@@ -48,21 +48,21 @@ ShapesMeet shapes len ShapeTooLong = (shapes.longest ≤ len)
     × ((k : ℕ) → k < shapes.count → (short_shape shapes k).kept ≤ len)
 ShapesMeet shapes len ShapesNotAscending =
     (k : ℕ) → k < shapes.count → shape_len shapes k < shape_len shapes (k + 1)
-ShapesMeet shapes len BadUnit =
+ShapesMeet shapes len BadGranularity =
     ((k : ℕ) → k < shapes.count → HasUnit (short_shape shapes k))
     × ((k : ℕ) → k + 1 < shapes.count
-    → (short_shape shapes (k + 1)).unit ≤ (short_shape shapes k).unit)
+    → (short_shape shapes (k + 1)).granularity ≤ (short_shape shapes k).granularity)
 ShapesMeet shapes len BadReach =
-    ((k : ℕ) → k < shapes.count → 0 < (short_shape shapes k).ahead)
+    ((k : ℕ) → k < shapes.count → 0 < (short_shape shapes k).max_forward)
     × ((k : ℕ) → k + 1 < shapes.count
-    → ((short_shape shapes k).behind ≤ (short_shape shapes (k + 1)).behind)
-    × ((short_shape shapes k).ahead ≤ (short_shape shapes (k + 1)).ahead))
+    → ((short_shape shapes k).max_backward ≤ (short_shape shapes (k + 1)).max_backward)
+    × ((short_shape shapes k).max_forward ≤ (short_shape shapes (k + 1)).max_forward))
 ShapesMeet shapes len other = ⊤
 
 -- what an item meets by itself that doesn't have the fault
 abbrev pub ItemMeets : Item → Fault → Type 0
 ItemMeets (Site site) fault = ShapesMeet site.shapes site.len fault
-ItemMeets (Aligned alignment) BadPower = IsPowerOfTwo alignment.power
+ItemMeets (Aligned alignment) BadAlignment = IsPowerOfTwo alignment.alignment
 ItemMeets (Aligned alignment) other = ⊤
 
 -- what the item at an index meets by itself and by its place
@@ -72,17 +72,17 @@ OwnMeets start items i Overlaps =
 OwnMeets start items i TooHigh = start + end_of (item_at items i) < 2 ^ 64
 OwnMeets start items i other = ItemMeets (item_at items i) other
 
--- what an alignment meets in a run of unit u at an address
+-- what an alignment meets in a run of granularity u at an address
 abbrev pub AlignmentMeets : ℕ → ℕ → Alignment → Fault → Type 0
-AlignmentMeets u start alignment PowerBelowUnit =
-    (alignment.power % u ≡ 0) ⊎ IsStill u start alignment
+AlignmentMeets u start alignment AlignmentBelowGranularity =
+    (alignment.alignment % u ≡ 0) ⊎ IsStill u start alignment
 AlignmentMeets u start alignment UnevenEnd =
     ((start + alignment.offset + alignment.nops) % u ≡ 0) ⊎ IsStill u start alignment
 AlignmentMeets u start alignment TooFewNops =
-    MatchOption alignment.most ⊤
-    (λ most. (alignment.power ≤ alignment.nops + u) ⊎ (most ≤ alignment.nops))
+    MatchOption alignment.max_skip ⊤
+    (λ most. (alignment.alignment ≤ alignment.nops + u) ⊎ (most ≤ alignment.nops))
 AlignmentMeets u start alignment UnevenNops =
-    MatchOption alignment.most ⊤ (λ most. alignment.nops % u ≡ 0)
+    MatchOption alignment.max_skip ⊤ (λ most. alignment.nops % u ≡ 0)
 AlignmentMeets u start alignment other = ⊤
 
 -- what an item meets there
@@ -107,7 +107,7 @@ AreSound start items = (i : ℕ) → i < length items → (fault : Fault) → Ow
 -- no item has one by itself or by its place.
 abbrev pub Meets : ℕ → List Item → ℕ → Fault → Type 0
 Meets start items i fault = OwnMeets start items i fault
-    × (AreSound start items → RunMeets (run_unit items) start items i fault)
+    × (AreSound start items → RunMeets (run_granularity items) start items i fault)
 
 -- the first fault, by number, of what is to be met
 pub record IsFirstOf (Met : Fault → Type 0) (fault : Fault) : Type 0 where

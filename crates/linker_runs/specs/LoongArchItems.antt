@@ -55,8 +55,8 @@ pub record IsLoongArchAlignment (section : List ℕ) (base : ℕ) (relocation : 
   pub addend : ℕ
   pub place : alignment.offset ≡ base + relocation.offset
   pub some : 0 < alignment.nops
-  pub nops : AreLoongArchNops section relocation addend alignment.nops alignment.power
-  pub limit : alignment.most ≡ stated_limit relocation.has_symbol addend alignment.nops
+  pub nops : AreLoongArchNops section relocation addend alignment.nops alignment.alignment
+  pub limit : alignment.max_skip ≡ stated_limit relocation.has_symbol addend alignment.nops
 
 -- ---- sites
 

@@ -32,7 +32,7 @@ no_item = Site (record {
 })
 
 abbrev pub no_shape : Shape
-no_shape = record { kept = 0; behind = 0; ahead = 0; unit = 1 }
+no_shape = record { kept = 0; max_backward = 0; max_forward = 0; granularity = 1 }
 
 abbrev pub item_at : List Item → ℕ → Item
 item_at items i = slice_index_or items i no_item
@@ -59,8 +59,8 @@ limit_of nops (Some most) = min most nops
 -- where more are needed than it may keep
 abbrev pub padding_at : Alignment → ℕ → ℕ
 padding_at alignment address =
-    if nat_le (needed alignment.power address) (limit_of alignment.nops alignment.most)
-    then needed alignment.power address
+    if nat_le (needed alignment.alignment address) (limit_of alignment.nops alignment.max_skip)
+    then needed alignment.alignment address
     else 0
 
 -- how many bytes of an item stay that has the shape at an index, where the items before it free so
@@ -81,17 +81,17 @@ freed_before start items choice (suc i) = freed_before start items choice i
 abbrev pub place_of : List Item → ℕ → ℕ
 place_of items offset = count_by (λ item. nat_le (end_of item) offset) items
 
--- whether a distance is a multiple of a unit
+-- whether a distance is a multiple of a granularity
 abbrev pub is_multiple : ℕ → ℕ → Bool
-is_multiple unit distance = nat_eq (distance % unit) 0
+is_multiple granularity distance = nat_eq (distance % granularity) 0
 
--- whether a shape at an output offset reaches another: it lies at most `behind` below, or less than
--- `ahead` above, and the distance is a multiple of the unit
+-- whether a shape at an output offset reaches another: it lies at most `max_backward` below, or less than
+-- `max_forward` above, and the distance is a multiple of the granularity
 abbrev pub is_reached : Shape → ℕ → ℕ → Bool
 is_reached shape from to =
     if nat_le from to
-    then nat_lt (to - from) shape.ahead && is_multiple shape.unit (to - from)
-    else nat_le (from - to) shape.behind && is_multiple shape.unit (from - to)
+    then nat_lt (to - from) shape.max_forward && is_multiple shape.granularity (to - from)
+    else nat_le (from - to) shape.max_backward && is_multiple shape.granularity (from - to)
 
 -- whether the shape at an index does. The longest one reaches everything.
 abbrev pub shape_reaches : Shapes → ℕ → ℕ → ℕ → Bool
@@ -153,12 +153,12 @@ pub record AreKeptBytes (start : ℕ) (items : List Item) (shapes kept : List �
       → slice_index_or kept i 0 ≡ kept_by start (item_at items i) (choice_of shapes i)
       (freed_before start items (choice_of shapes) i)
 
--- a site's shapes keep no more bytes than it has, and each unit is at least 1
+-- a site's shapes keep no more bytes than it has, and each granularity is at least 1
 abbrev pub IsSound : Item → Type 0
 IsSound (Site site) = (site.shapes.count ≤ 2) × (site.shapes.longest ≤ site.len)
     × ((k : ℕ) → k < site.shapes.count → (short_shape site.shapes k).kept ≤ site.len)
-    × ((k : ℕ) → k < site.shapes.count → 0 < (short_shape site.shapes k).unit)
-IsSound (Aligned alignment) = 0 < alignment.power
+    × ((k : ℕ) → k < site.shapes.count → 0 < (short_shape site.shapes k).granularity)
+IsSound (Aligned alignment) = 0 < alignment.alignment
 
 -- The items ascend and none reaches past the next, the address behind each is one of 64 bits, and
 -- each by itself is sound.

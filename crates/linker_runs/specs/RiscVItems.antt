@@ -45,8 +45,8 @@ pub record IsRiscVAlignment (section : List ℕ) (base : ℕ) (relocation : Relo
   pub place : alignment.offset ≡ base + relocation.offset
   pub some : 0 < alignment.nops
   pub nops : AreRiscVNops section relocation alignment.nops
-  pub power : IsNextPowerOfTwo (alignment.nops + 1) alignment.power
-  pub no_limit : alignment.most ≡ None
+  pub power : IsNextPowerOfTwo (alignment.nops + 1) alignment.alignment
+  pub no_limit : alignment.max_skip ≡ None
 
 -- an `R_RISCV_ALIGN` that has nops
 abbrev pub Aligns : Relocation → Type 0

@@ -69,8 +69,8 @@ fn limit_of(has_symbol: bool, addend: u64, nops: u64) -> Option<u64>
 fn stated_alignment(section: &[u8], relocation: &Relocation, offset: u64) -> Option<Alignment>
     ensures place { IfSome result (λ alignment. alignment.offset ≡ offset) }
     ensures some { IfSome result (λ alignment. (addend : ℕ)
-        × AreLoongArchNops section.now relocation.now addend alignment.nops alignment.power
-        × (alignment.most ≡ stated_limit relocation.now.has_symbol addend alignment.nops)) }
+        × AreLoongArchNops section.now relocation.now addend alignment.nops alignment.alignment
+        × (alignment.max_skip ≡ stated_limit relocation.now.has_symbol addend alignment.nops)) }
     ensures none { IfNone result ((addend nops power : ℕ)
         → ¬ AreLoongArchNops section.now relocation.now addend nops power) }
 {
@@ -82,8 +82,8 @@ fn stated_alignment(section: &[u8], relocation: &Relocation, offset: u64) -> Opt
     Some(Alignment {
         offset,
         nops: nops as u32,
-        power,
-        most: limit_of(relocation.has_symbol, addend, nops),
+        alignment: power,
+        max_skip: limit_of(relocation.has_symbol, addend, nops),
     })
 }
 

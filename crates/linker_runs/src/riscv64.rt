@@ -59,14 +59,14 @@ fn nops_of(section: &[u8], relocation: &Relocation) -> Option<u32>
 fn alignment_of(nops: u32, offset: u64) -> Alignment
     ensures place { result.offset ≡ offset }
     ensures nops { result.nops ≡ nops }
-    ensures power { IsNextPowerOfTwo (nops + 1) result.power }
-    ensures no_limit { result.most ≡ None }
+    ensures power { IsNextPowerOfTwo (nops + 1) result.alignment }
+    ensures no_limit { result.max_skip ≡ None }
 {
     Alignment {
         offset,
         nops,
-        power: (u64::from(nops) + 1).next_power_of_two(),
-        most: None,
+        alignment: (u64::from(nops) + 1).next_power_of_two(),
+        max_skip: None,
     }
 }
 

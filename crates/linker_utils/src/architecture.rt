@@ -471,10 +471,10 @@ impl Architecture {
     }
 
     /// The rewrite with a number, its place in the enum of its architecture's rewrites. None above
-    /// the last. Those of x86-64 that have a number of bytes before the field take `n`.
+    /// the last. Those of x86-64 that have a number of bytes before the field take `opcode_len`.
     #[inline(always)]
-    pub fn rewrite(self, number: u32, n: u8) -> Option<Relaxation>
-        ensures { result ≡ rewrite_of_number self number n }
+    pub fn rewrite(self, number: u32, opcode_len: u8) -> Option<Relaxation>
+        ensures { result ≡ rewrite_of_number self number opcode_len }
     {
         match self {
             Architecture::AArch64 => {
@@ -490,7 +490,7 @@ impl Architecture {
                 ppc64::RelaxationKind::from_number(number).map(Relaxation::Ppc64)
             }
             Architecture::X86_64 => {
-                x86_64::RelaxationKind::from_number(number, n).map(Relaxation::X86_64)
+                x86_64::RelaxationKind::from_number(number, opcode_len).map(Relaxation::X86_64)
             }
         }
     }

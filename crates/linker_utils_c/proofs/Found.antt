@@ -1,13 +1,13 @@
 -- What was found, in the numbers that C sees.
 use Rattle.std.proofs.Common.{◌≡◌, ℕ, ◌+◌, ◌<◌, List, [], ◌∷◌, ◌++◌, length, get_or, take, set, ap, refl, Option, Some, None}
 use Rattle.std.proofs.lemmas.List.{take_more, take_more_set}
-use Rattle.linker_reading.specs.declared.recognise.engine.Made.{Made}
+use Rattle.linker_reading.specs.declared.recognise.engine.Recognised.{Recognised}
 use Rattle.linker_utils.specs.declared.architecture.Relaxation.{Relaxation}
 use Rattle.linker_utils_c.specs.Recognising.{AreInNumbers, IsMadeInNumbers, present}
 use Rattle.linker_utils_c.specs.declared.recognising.RecognisedNumbers.{RecognisedNumbers}
 
 -- one more at the end of both
-pub one_more : (ms : List (Made Relaxation ℕ)) (ns : List RecognisedNumbers) (m : Made Relaxation ℕ) (n : RecognisedNumbers) → AreInNumbers ms ns → IsMadeInNumbers m n → AreInNumbers (ms ++ m ∷ []) (ns ++ n ∷ [])
+pub one_more : (ms : List (Recognised Relaxation ℕ)) (ns : List RecognisedNumbers) (m : Recognised Relaxation ℕ) (n : RecognisedNumbers) → AreInNumbers ms ns → IsMadeInNumbers m n → AreInNumbers (ms ++ m ∷ []) (ns ++ n ∷ [])
 one_more [] [] m n are is = (is, are)
 one_more [] (o ∷ ns) m n are is = absurd are
 one_more (l ∷ ms) [] m n are is = absurd are
@@ -24,12 +24,12 @@ present_none (None ∷ xs) = present_none xs
 present_none (Some x ∷ xs) = ap (λ ys. x ∷ ys) (present_none xs)
 
 -- the next place has one, which is written
-pub found_more : (made : List (Option (Made Relaxation ℕ))) (found : List RecognisedNumbers) (i count : ℕ) (m : Made Relaxation ℕ) (n : RecognisedNumbers) → i < length made → count < length found → get_or made i None ≡ Some m → IsMadeInNumbers m n → AreInNumbers (present (take i made)) (take count found) → AreInNumbers (present (take (i + 1) made)) (take (count + 1) (set found count n))
+pub found_more : (made : List (Option (Recognised Relaxation ℕ))) (found : List RecognisedNumbers) (i count : ℕ) (m : Recognised Relaxation ℕ) (n : RecognisedNumbers) → i < length made → count < length found → get_or made i None ≡ Some m → IsMadeInNumbers m n → AreInNumbers (present (take i made)) (take count found) → AreInNumbers (present (take (i + 1) made)) (take (count + 1) (set found count n))
 found_more made found i count m n within room here is before =
     rw (take_more made i None within, here, present_some (take i made) m, take_more_set found count n room)
     (one_more (present (take i made)) (take count found) m n before is)
 
 -- it has none
-pub none_more : (made : List (Option (Made Relaxation ℕ))) (i : ℕ) (ns : List RecognisedNumbers) → i < length made → get_or made i None ≡ None → AreInNumbers (present (take i made)) ns → AreInNumbers (present (take (i + 1) made)) ns
+pub none_more : (made : List (Option (Recognised Relaxation ℕ))) (i : ℕ) (ns : List RecognisedNumbers) → i < length made → get_or made i None ≡ None → AreInNumbers (present (take i made)) ns → AreInNumbers (present (take (i + 1) made)) ns
 none_more made i ns within here before =
     rw (take_more made i None within, here, present_none (take i made)) before

@@ -20,8 +20,8 @@ abbrev pub no_numbers : ItemNumbers
 no_numbers = record {
   offset = 0;
   target = 0;
-  power = 0;
-  most = 0;
+  alignment = 0;
+  max_skip = 0;
   len = 0;
   kind = 0;
   shapes = record { short = []; longest = 0; count = 0 };

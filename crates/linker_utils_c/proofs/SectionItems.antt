@@ -10,12 +10,12 @@ use Rattle.linker_runs.specs.declared.items.ItemsError.{ItemsError}
 use Rattle.linker_runs.specs.Relocations.{AreMade}
 use Rattle.linker_runs.specs.Relocations.AreMade.{none, left_out, made}
 use Rattle.linker_utils_c.specs.declared.relaxing.ItemNumbers.{ItemNumbers}
-use Rattle.linker_utils_c.specs.declared.section_items.SectionRelocation.{SectionRelocation}
+use Rattle.linker_utils_c.specs.declared.section_items.Rela.{Rela}
 use Rattle.linker_utils_c.specs.Relaxing.{item_of, items_in}
 use Rattle.linker_utils_c.specs.SectionItems.{HaveKinds}
 
 -- what a read past the end gives
-abbrev pub no_numbers : SectionRelocation
+abbrev pub no_numbers : Rela
 no_numbers = record { offset = 0; target = 0; addend = pos 0; r_type = 0; has_symbol = 0; has_target = 0; may_compress = 0 }
 
 -- there are no more items than relocations

@@ -30,10 +30,10 @@ facts_of facts =
       is_executable = is_set facts.is_executable;
       has_local_exec_base = is_set facts.has_local_exec_base;
       may_compress = is_set facts.may_compress;
-      is_marked = is_set facts.is_marked;
+      is_relaxable = is_set facts.is_relaxable;
       has_got_high_part = is_set facts.has_got_high_part;
-      is_label_marked = is_set facts.is_label_marked;
-      has_private_base = is_set facts.has_private_base;
+      is_label_relaxable = is_set facts.is_label_relaxable;
+      toc_base_is_exclusive = is_set facts.toc_base_is_exclusive;
       may_change_toc = is_set facts.may_change_toc;
       group_fits = is_set facts.group_fits;
       has_addresses = is_set facts.has_addresses;
@@ -62,7 +62,7 @@ IsSkippedAt (Some offset) numbers = numbers.skipped_offset ≡ offset
 -- a choice for an architecture, in numbers
 pub record IsChoiceInNumbers (architecture : Architecture) (chosen : Choice Relaxation ℕ)
     (numbers : ChoiceNumbers) : Type 0 where
-  pub rewrite : rewrite_of_number architecture numbers.rewrite numbers.n ≡ Some chosen.kind
+  pub rewrite : rewrite_of_number architecture numbers.rewrite numbers.opcode_len ≡ Some chosen.kind
   pub relocation : numbers.relocation ≡ chosen.relocation
   pub modifier : numbers.modifier ≡ modifier_number (relaxation_modifier chosen.kind)
   pub skipped : IsSkippedAt (relaxation_skipped chosen.kind) numbers
@@ -77,4 +77,4 @@ IsNoOp (Err status) = ⊥
 -- a choice at a relocation, in numbers, leaves it and its instruction as they are
 abbrev pub IsUnchanged : ℕ → ℕ → ChoiceNumbers → Type 0
 IsUnchanged machine r_type choice =
-    IsNoOp (named_rewrite machine choice.rewrite choice.n) × (choice.relocation ≡ r_type)
+    IsNoOp (named_rewrite machine choice.rewrite choice.opcode_len) × (choice.relocation ≡ r_type)

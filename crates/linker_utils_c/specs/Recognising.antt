@@ -7,7 +7,7 @@ use Rattle.linker_elf.specs.declared.elf.RelocationKindInfo.{RelocationKindInfo}
 use Rattle.linker_reading.specs.declared.fields.FieldValue.{FieldValue}
 use Rattle.linker_reading.specs.FieldsOfBytes.{is_field_bit, AreSameButFor}
 use Rattle.linker_reading.specs.FoundByCode.{AreFound, IsFoundChosen}
-use Rattle.linker_reading.specs.declared.recognise.engine.Made.{Made}
+use Rattle.linker_reading.specs.declared.recognise.engine.Recognised.{Recognised}
 use Rattle.linker_reading.specs.declared.recognise.fields.FieldBits.{FieldBits}
 use Rattle.linker_utils.specs.Architectures.{relaxation_architecture}
 use Rattle.linker_utils.specs.declared.architecture.Relaxation.{Relaxation}
@@ -46,14 +46,14 @@ abbrev pub field_or_none : Option FieldValue → FieldValue
 field_or_none None = record { known = record { start = 0; end = 0 }; bits = 0; rounding = 0 }
 field_or_none (Some f) = f
 
-pub record IsMadeInNumbers (m : Made Relaxation ℕ) (numbers : RecognisedNumbers) : Type 0 where
+pub record IsMadeInNumbers (m : Recognised Relaxation ℕ) (numbers : RecognisedNumbers) : Type 0 where
   pub choice :
       IsChoiceInNumbers (relaxation_architecture m.choice.kind) m.choice numbers.choice
   pub offset : numbers.offset ≡ m.offset
   pub value : field_of numbers.value ≡ field_or_none m.value
 
 -- each of a list, in its order
-abbrev pub AreInNumbers : List (Made Relaxation ℕ) → List RecognisedNumbers → Type 0
+abbrev pub AreInNumbers : List (Recognised Relaxation ℕ) → List RecognisedNumbers → Type 0
 AreInNumbers [] [] = ⊤
 AreInNumbers [] (numbers ∷ others) = ⊥
 AreInNumbers (m ∷ ms) [] = ⊥
@@ -68,7 +68,7 @@ present (Some a ∷ found) = a ∷ present found
 -- ---- recognising
 
 -- what was found is written first, and how many it is; the others stay
-pub record AreWritten (found : List (Option (Made Relaxation ℕ)))
+pub record AreWritten (found : List (Option (Recognised Relaxation ℕ)))
     (old new : List RecognisedNumbers) (count : ℕ) : Type 0 where
   pub written : AreInNumbers (present found) (take count new)
   pub others_stay : (k : ℕ) (numbers : RecognisedNumbers) → count ≤ k
@@ -83,11 +83,11 @@ pub record AreRecognised (architecture : Architecture) (r_type : ℕ) (original 
   pub long : length old ≡ 6 → 64 < length original
       → (status ≡ code WindowTooLong) × (new ≡ old) × (count ≡ old_count)
   pub found : length old ≡ 6 → length original ≤ 64 → (status ≡ code Success)
-      × (made : List (Option (Made Relaxation ℕ)))
+      × (made : List (Option (Recognised Relaxation ℕ)))
       × AreFound architecture r_type original o others linked made × AreWritten made old new count
 
 -- what was found of the choice, or that it leaves other bytes
-abbrev pub IsChosenInNumbers : Option (Made Relaxation ℕ) → RecognisedNumbers → RecognisedNumbers
+abbrev pub IsChosenInNumbers : Option (Recognised Relaxation ℕ) → RecognisedNumbers → RecognisedNumbers
     → ℕ → Type 0
 IsChosenInNumbers None old new status = (status ≡ code LeavesOtherBytes) × (new ≡ old)
 IsChosenInNumbers (Some m) old new status = (status ≡ code Success) × IsMadeInNumbers m new
@@ -96,6 +96,6 @@ pub record IsRecognised (architecture : Architecture) (r_type : ℕ) (original :
     (others : List FieldBits) (linked : List ℕ) (facts : LinkFacts) (old new : RecognisedNumbers)
     (status : ℕ) : Type 0 where
   pub long : 64 < length original → (status ≡ code WindowTooLong) × (new ≡ old)
-  pub found : length original ≤ 64 → (made : Option (Made Relaxation ℕ))
+  pub found : length original ≤ 64 → (made : Option (Recognised Relaxation ℕ))
       × IsFoundChosen architecture r_type original o others linked facts made
       × IsChosenInNumbers made old new status

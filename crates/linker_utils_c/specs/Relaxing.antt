@@ -13,9 +13,9 @@ use Rattle.linker_utils_c.specs.declared.relaxing.ItemNumbers.{ItemNumbers}
 use Rattle.linker_utils_c.specs.declared.status.Status.{Status}
 use Rattle.linker_utils_c.specs.declared.status.Status.TheVariants.{ItemsOverlap, EndsTooHigh}
 use Rattle.linker_utils_c.specs.declared.status.Status.TheVariants.{TooManyShapes, ShapeTooLong}
-use Rattle.linker_utils_c.specs.declared.status.Status.TheVariants.{ShapesNotAscending, BadUnit}
-use Rattle.linker_utils_c.specs.declared.status.Status.TheVariants.{BadReach, BadPower, UnevenShape}
-use Rattle.linker_utils_c.specs.declared.status.Status.TheVariants.{PowerBelowUnit, UnevenEnd}
+use Rattle.linker_utils_c.specs.declared.status.Status.TheVariants.{ShapesNotAscending, BadGranularity}
+use Rattle.linker_utils_c.specs.declared.status.Status.TheVariants.{BadReach, BadAlignment, UnevenShape}
+use Rattle.linker_utils_c.specs.declared.status.Status.TheVariants.{AlignmentBelowGranularity, UnevenEnd}
 use Rattle.linker_utils_c.specs.declared.status.Status.TheVariants.{TooFewNops, UnevenNops}
 use Rattle.linker_utils_c.specs.declared.status.Status.TheVariants.{TargetInside}
 use Rattle.linker_utils_c.specs.declared.status.Status.TheVariants.{MayBeMisaligned}
@@ -34,16 +34,16 @@ item_of item = if item.kind == 0
     else Aligned (record {
       offset = item.offset;
       nops = item.len;
-      power = item.power;
-      most = if item.kind == 1 then None else Some item.most;
+      alignment = item.alignment;
+      max_skip = if item.kind == 1 then None else Some item.max_skip;
     })
 
 abbrev pub items_in : List ItemNumbers → List Item
 items_in items = map item_of items
 
 -- the shapes that a number names
-abbrev pub named_shapes : ℕ → Option Shapes
-named_shapes number =
+abbrev pub standard_shapes : ℕ → Option Shapes
+standard_shapes number =
     if number == 0 then Some riscv.CALL
     else if number == 1 then Some riscv.TAIL_C
     else if number == 2 then Some riscv.CALL_WITHOUT_C
@@ -57,11 +57,11 @@ fault_status faults.TooHigh = EndsTooHigh
 fault_status faults.TooManyShapes = TooManyShapes
 fault_status faults.ShapeTooLong = ShapeTooLong
 fault_status faults.ShapesNotAscending = ShapesNotAscending
-fault_status faults.BadUnit = BadUnit
+fault_status faults.BadGranularity = BadGranularity
 fault_status faults.BadReach = BadReach
-fault_status faults.BadPower = BadPower
+fault_status faults.BadAlignment = BadAlignment
 fault_status faults.UnevenShape = UnevenShape
-fault_status faults.PowerBelowUnit = PowerBelowUnit
+fault_status faults.AlignmentBelowGranularity = AlignmentBelowGranularity
 fault_status faults.UnevenEnd = UnevenEnd
 fault_status faults.TooFewNops = TooFewNops
 fault_status faults.UnevenNops = UnevenNops

@@ -5,14 +5,14 @@ use Rattle.linker_runs.specs.declared.items.Relocation.{Relocation}
 use Rattle.linker_runs.specs.declared.items.ItemsError.{ItemsError}
 use Rattle.linker_runs.specs.declared.items.ItemsError.TheVariants as errors
 use Rattle.linker_utils_c.specs.declared.relaxing.ItemNumbers.{ItemNumbers}
-use Rattle.linker_utils_c.specs.declared.section_items.SectionRelocation.{SectionRelocation}
+use Rattle.linker_utils_c.specs.declared.section_items.Rela.{Rela}
 use Rattle.linker_utils_c.specs.declared.status.Status.TheVariants.{OutOfMemory}
 use Rattle.linker_utils_c.specs.declared.status.Status.TheVariants.{MalformedRelocation}
 use Rattle.linker_utils_c.specs.Choices.{is_set}
 use Rattle.linker_utils_c.specs.Status.{code}
 
 -- the relocation that C's struct is
-abbrev pub relocation_of : SectionRelocation → Relocation
+abbrev pub relocation_of : Rela → Relocation
 relocation_of relocation = record {
   offset = relocation.offset;
   code = relocation.r_type;
@@ -22,7 +22,7 @@ relocation_of relocation = record {
   may_compress = is_set relocation.may_compress;
 }
 
-abbrev pub relocations_in : List SectionRelocation → List Relocation
+abbrev pub relocations_in : List Rela → List Relocation
 relocations_in relocations = map relocation_of relocations
 
 -- the kinds of the first n items are those that `item_of` names: 0, 1 and, with a limit, 2

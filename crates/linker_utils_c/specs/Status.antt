@@ -21,9 +21,9 @@ use Rattle.linker_utils_c.specs.declared.status.Status.TheVariants.{UnknownShape
 use Rattle.linker_utils_c.specs.declared.status.Status.TheVariants.{MalformedRelocation}
 use Rattle.linker_utils_c.specs.declared.status.Status.TheVariants.{ItemsOverlap, EndsTooHigh}
 use Rattle.linker_utils_c.specs.declared.status.Status.TheVariants.{TooManyShapes, ShapeTooLong}
-use Rattle.linker_utils_c.specs.declared.status.Status.TheVariants.{ShapesNotAscending, BadUnit}
-use Rattle.linker_utils_c.specs.declared.status.Status.TheVariants.{BadReach, BadPower, UnevenShape}
-use Rattle.linker_utils_c.specs.declared.status.Status.TheVariants.{PowerBelowUnit, UnevenEnd}
+use Rattle.linker_utils_c.specs.declared.status.Status.TheVariants.{ShapesNotAscending, BadGranularity}
+use Rattle.linker_utils_c.specs.declared.status.Status.TheVariants.{BadReach, BadAlignment, UnevenShape}
+use Rattle.linker_utils_c.specs.declared.status.Status.TheVariants.{AlignmentBelowGranularity, UnevenEnd}
 use Rattle.linker_utils_c.specs.declared.status.Status.TheVariants.{TooFewNops, UnevenNops}
 use Rattle.linker_utils_c.specs.declared.status.Status.TheVariants.{TargetInside}
 use Rattle.linker_utils_c.specs.declared.status.Status.TheVariants.{HoldsNoValue, BadFieldValue}
@@ -75,11 +75,11 @@ code EndsTooHigh = 35
 code TooManyShapes = 36
 code ShapeTooLong = 37
 code ShapesNotAscending = 38
-code BadUnit = 39
+code BadGranularity = 39
 code BadReach = 40
-code BadPower = 41
+code BadAlignment = 41
 code UnevenShape = 42
-code PowerBelowUnit = 43
+code AlignmentBelowGranularity = 43
 code UnevenEnd = 44
 code TooFewNops = 45
 code UnevenNops = 46

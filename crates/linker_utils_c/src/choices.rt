@@ -27,10 +27,10 @@ pub struct LinkFactNumbers {
     pub is_executable: u8,
     pub has_local_exec_base: u8,
     pub may_compress: u8,
-    pub is_marked: u8,
+    pub is_relaxable: u8,
     pub has_got_high_part: u8,
-    pub is_label_marked: u8,
-    pub has_private_base: u8,
+    pub is_label_relaxable: u8,
+    pub toc_base_is_exclusive: u8,
     pub may_change_toc: u8,
     pub has_addresses: u8,
     pub group_fits: u8,
@@ -58,7 +58,7 @@ pub struct ChoiceNumbers {
     /// 1 if there is one; else 0, as are both numbers.
     pub has_other: u8,
     /// The rewrite's count of bytes before the field; 0 if it has none.
-    pub n: u8,
+    pub opcode_len: u8,
     /// Where the relocation is that is skipped, from the offset on; 0 where none is.
     pub skipped_offset: u8,
 }
@@ -77,10 +77,10 @@ impl LinkFactNumbers {
             is_executable: self.is_executable != 0,
             has_local_exec_base: self.has_local_exec_base != 0,
             may_compress: self.may_compress != 0,
-            is_marked: self.is_marked != 0,
+            is_relaxable: self.is_relaxable != 0,
             has_got_high_part: self.has_got_high_part != 0,
-            is_label_marked: self.is_label_marked != 0,
-            has_private_base: self.has_private_base != 0,
+            is_label_relaxable: self.is_label_relaxable != 0,
+            toc_base_is_exclusive: self.toc_base_is_exclusive != 0,
             may_change_toc: self.may_change_toc != 0,
             group_fits: self.group_fits != 0,
             has_addresses: self.has_addresses != 0,
@@ -93,7 +93,7 @@ impl LinkFactNumbers {
 pub(crate) fn in_numbers(chosen: Choice<Relaxation, u32>) -> ChoiceNumbers
     ensures { IsChoiceInNumbers (relaxation_architecture chosen.kind) chosen result }
 {
-    let (rewrite, n) = chosen.kind.number();
+    let (rewrite, opcode_len) = chosen.kind.number();
     let (deleted_start, deleted_len) = match chosen.kind.deleted() {
         Some(bytes) => (bytes.start, bytes.count),
         None => (0, 0),
@@ -115,7 +115,7 @@ pub(crate) fn in_numbers(chosen: Choice<Relaxation, u32>) -> ChoiceNumbers
         other_offset,
         other_relocation,
         has_other,
-        n,
+        opcode_len,
         skipped_offset,
     }
 }
@@ -179,7 +179,7 @@ pub extern "C" fn linker_utils_is_unchanged(
     let Some(architecture) = Architecture::from_machine(machine) else {
         return false;
     };
-    let Some(kind) = architecture.rewrite(choice.rewrite, choice.n) else {
+    let Some(kind) = architecture.rewrite(choice.rewrite, choice.opcode_len) else {
         return false;
     };
     let relocation = choice.relocation;

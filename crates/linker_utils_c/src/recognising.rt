@@ -18,7 +18,7 @@ use crate::status::Status;
 use linker_reading::fields::FieldValue;
 use linker_reading::recognise::architecture::{recognise, recognise_chosen};
 use linker_reading::recognise::fields::{FieldBits, field_bits, same_but_for};
-use linker_reading::recognise::{CANDIDATES, MAX_WINDOW, Made};
+use linker_reading::recognise::{CANDIDATES, MAX_WINDOW, Recognised};
 use linker_utils::architecture::Relaxation;
 use linker_utils::elf::{Architecture, Row};
 
@@ -110,7 +110,7 @@ fn known_of(value: Option<FieldValue>) -> FieldValueNumbers
 }
 
 #[inline]
-fn numbers_of(made: Made<Relaxation, u32>) -> RecognisedNumbers
+fn numbers_of(made: Recognised<Relaxation, u32>) -> RecognisedNumbers
     ensures { IsMadeInNumbers made result }
 {
     RecognisedNumbers {
@@ -121,7 +121,10 @@ fn numbers_of(made: Made<Relaxation, u32>) -> RecognisedNumbers
 }
 
 /// Writes what was found, and returns how many it is.
-fn write_found(made: &[Option<Made<Relaxation, u32>>], found: &mut [RecognisedNumbers]) -> usize
+fn write_found(
+    made: &[Option<Recognised<Relaxation, u32>>],
+    found: &mut [RecognisedNumbers],
+) -> usize
     requires { length made.now ≤ length found.old }
     ensures { AreWritten made.now found.old found.new result }
 {
@@ -238,7 +241,7 @@ pub extern "C" fn linker_utils_recognise_chosen_nonnull(
 }
 
 #[inline(always)]
-fn put_chosen(made: Option<Made<Relaxation, u32>>, found: &mut RecognisedNumbers) -> u32
+fn put_chosen(made: Option<Recognised<Relaxation, u32>>, found: &mut RecognisedNumbers) -> u32
     ensures { IsChosenInNumbers made found.old found.new result }
 {
     match made {

@@ -6,7 +6,7 @@ ghost use Rattle.linker_runs.specs.Relaxing.{AreInOrder};
 ghost use Rattle.linker_runs.specs.Choosing.{AreItems, IsRelaxation};
 ghost use Rattle.linker_runs.specs.Deleting.{deletions_of_run};
 ghost use Rattle.linker_utils_c.specs.Deltas.{AreDeltasOf};
-ghost use Rattle.linker_utils_c.specs.Relaxing.{item_of, items_in, named_shapes, fault_status};
+ghost use Rattle.linker_utils_c.specs.Relaxing.{item_of, items_in, standard_shapes, fault_status};
 ghost use Rattle.linker_utils_c.specs.Relaxing.{IsRunFault, HaveLengths};
 ghost use Rattle.linker_utils_c.specs.Status.{code};
 
@@ -27,10 +27,10 @@ pub struct ItemNumbers {
     pub target: u64,
     /// What the output address behind an alignment is a multiple of: a power of two. Of a site it
     /// means nothing.
-    pub power: u64,
+    pub alignment: u64,
     /// How many bytes of nops of an alignment with a limit may stay. Where more are needed, none
     /// stay.
-    pub most: u64,
+    pub max_skip: u64,
     /// How many bytes it has.
     pub len: u32,
     /// 0 is a site, 1 an alignment without limit, any other number an alignment with a limit.
@@ -55,11 +55,11 @@ impl ItemNumbers {
             Item::Aligned(Alignment {
                 offset: self.offset,
                 nops: self.len,
-                power: self.power,
-                most: if self.kind == 1 {
+                alignment: self.alignment,
+                max_skip: if self.kind == 1 {
                     None
                 } else {
-                    Some(self.most)
+                    Some(self.max_skip)
                 },
             })
         }
@@ -76,11 +76,11 @@ fn status_of(fault: Fault) -> u32
         Fault::TooManyShapes => Status::TooManyShapes,
         Fault::ShapeTooLong => Status::ShapeTooLong,
         Fault::ShapesNotAscending => Status::ShapesNotAscending,
-        Fault::BadUnit => Status::BadUnit,
+        Fault::BadGranularity => Status::BadGranularity,
         Fault::BadReach => Status::BadReach,
-        Fault::BadPower => Status::BadPower,
+        Fault::BadAlignment => Status::BadAlignment,
         Fault::UnevenShape => Status::UnevenShape,
-        Fault::PowerBelowUnit => Status::PowerBelowUnit,
+        Fault::AlignmentBelowGranularity => Status::AlignmentBelowGranularity,
         Fault::UnevenEnd => Status::UnevenEnd,
         Fault::TooFewNops => Status::TooFewNops,
         Fault::UnevenNops => Status::UnevenNops,
@@ -103,7 +103,7 @@ pub(crate) fn items_of(alloc: Global, items: &[ItemNumbers]) -> Result<Vec<Item>
 
 #[inline]
 fn shapes_named(number: u32) -> Option<Shapes>
-    ensures { result ≡ named_shapes number }
+    ensures { result ≡ standard_shapes number }
 {
     if number == 0 {
         Some(CALL)
@@ -124,10 +124,10 @@ fn shapes_named(number: u32) -> Option<Shapes>
 /// may be used, 2 a call or tail call where it isn't; 3 `R_LARCH_CALL36`, 4 `R_LARCH_PCALA_HI20` and
 /// `_LO12`. The error is `UnknownShapes`, and `shapes` is unchanged then.
 #[unsafe(no_mangle)]
-pub extern "C" fn linker_utils_named_shapes(number: u32, shapes: &mut Shapes) -> u32
-    ensures known { IfSome (named_shapes number)
+pub extern "C" fn linker_utils_standard_shapes(number: u32, shapes: &mut Shapes) -> u32
+    ensures known { IfSome (standard_shapes number)
         (λ named. (result ≡ code Status.Success) × (shapes.new ≡ named)) }
-    ensures unknown { IfNone (named_shapes number)
+    ensures unknown { IfNone (standard_shapes number)
         ((result ≡ code Status.UnknownShapes) × (shapes.new ≡ shapes.old)) }
 {
     match shapes_named(number) {

@@ -86,20 +86,26 @@ fn apply_riscv(rewrite: u32, section: &mut [u8], offset: &mut u64, addend: &mut 
 // Applies a rewrite of x86-64. It isn't inlined, so that `linker_utils_apply` stays small. In this
 // order the rewrite and the offset stay in the registers that they have there.
 #[inline(never)]
-fn apply_x86_64(n: u8, rewrite: u32, section: &mut [u8], addend: &mut i64, offset: &mut u64) -> u32
-    ensures known { IfOk (named_rewrite 62 rewrite n)
+fn apply_x86_64(
+    opcode_len: u8,
+    rewrite: u32,
+    section: &mut [u8],
+    addend: &mut i64,
+    offset: &mut u64,
+) -> u32
+    ensures known { IfOk (named_rewrite 62 rewrite opcode_len)
         (λ named. TakesRewrite (relaxation_rewrite named) section.old offset.old result) }
-    ensures rewritten { IfOk (named_rewrite 62 rewrite n)
+    ensures rewritten { IfOk (named_rewrite 62 rewrite opcode_len)
         (λ named. result ≡ code Status.Success
         → IsRewritten (relaxation_rewrite named) section.old section.new
         offset.old offset.new addend.old addend.new) }
-    ensures unknown { IfErr (named_rewrite 62 rewrite n) (λ status. result ≡ code status) }
+    ensures unknown { IfErr (named_rewrite 62 rewrite opcode_len) (λ status. result ≡ code status) }
     ensures section_stays { result ≢ code Status.Success → section.new ≡ section.old }
     ensures offset_stays { result ≢ code Status.Success → offset.new ≡ offset.old }
     ensures addend_stays { result ≢ code Status.Success → addend.new ≡ addend.old }
 {
     apply_by(
-        x86_64::RelaxationKind::from_number(rewrite, n),
+        x86_64::RelaxationKind::from_number(rewrite, opcode_len),
         section,
         offset,
         addend,
@@ -112,18 +118,18 @@ fn apply_x86_64(n: u8, rewrite: u32, section: &mut [u8], addend: &mut i64, offse
 fn apply_of(
     machine: u16,
     rewrite: u32,
-    n: u8,
+    opcode_len: u8,
     section: &mut [u8],
     offset: &mut u64,
     addend: &mut i64,
 ) -> u32
-    ensures known { IfOk (named_rewrite machine rewrite n)
+    ensures known { IfOk (named_rewrite machine rewrite opcode_len)
         (λ named. TakesRewrite (relaxation_rewrite named) section.old offset.old result) }
-    ensures rewritten { IfOk (named_rewrite machine rewrite n)
+    ensures rewritten { IfOk (named_rewrite machine rewrite opcode_len)
         (λ named. result ≡ code Status.Success
         → IsRewritten (relaxation_rewrite named) section.old section.new
         offset.old offset.new addend.old addend.new) }
-    ensures unknown { IfErr (named_rewrite machine rewrite n)
+    ensures unknown { IfErr (named_rewrite machine rewrite opcode_len)
         (λ status. result ≡ code status) }
     ensures section_stays { result ≢ code Status.Success → section.new ≡ section.old }
     ensures offset_stays { result ≢ code Status.Success → offset.new ≡ offset.old }
@@ -155,7 +161,7 @@ fn apply_of(
             addend,
         )
         .number(),
-        Architecture::X86_64 => apply_x86_64(n, rewrite, section, addend, offset),
+        Architecture::X86_64 => apply_x86_64(opcode_len, rewrite, section, addend, offset),
     }
 }
 
@@ -164,24 +170,24 @@ fn apply_of(
 fn apply_any(
     machine: u16,
     rewrite: u32,
-    n: u8,
+    opcode_len: u8,
     section: &mut [u8],
     offset: &mut u64,
     addend: &mut i64,
 ) -> u32
-    ensures known { IfOk (named_rewrite machine rewrite n)
+    ensures known { IfOk (named_rewrite machine rewrite opcode_len)
         (λ named. TakesRewrite (relaxation_rewrite named) section.old offset.old result) }
-    ensures rewritten { IfOk (named_rewrite machine rewrite n)
+    ensures rewritten { IfOk (named_rewrite machine rewrite opcode_len)
         (λ named. result ≡ code Status.Success
         → IsRewritten (relaxation_rewrite named) section.old section.new
         offset.old offset.new addend.old addend.new) }
-    ensures unknown { IfErr (named_rewrite machine rewrite n)
+    ensures unknown { IfErr (named_rewrite machine rewrite opcode_len)
         (λ status. result ≡ code status) }
     ensures section_stays { result ≢ code Status.Success → section.new ≡ section.old }
     ensures offset_stays { result ≢ code Status.Success → offset.new ≡ offset.old }
     ensures addend_stays { result ≢ code Status.Success → addend.new ≡ addend.old }
 {
-    apply_of(machine, rewrite, n, section, offset, addend)
+    apply_of(machine, rewrite, opcode_len, section, offset, addend)
 }
 
 #[inline(always)]
@@ -214,13 +220,13 @@ fn modifier_by<R: InstructionRewrite>(rewrite: Option<R>, modifier: &mut u32) ->
 pub extern "C" fn linker_utils_can_apply_nonnull(
     machine: u16,
     rewrite: u32,
-    n: u8,
+    opcode_len: u8,
     section: &[u8],
     offset: u64,
 ) -> u32
-    ensures known { IfOk (named_rewrite machine rewrite n)
+    ensures known { IfOk (named_rewrite machine rewrite opcode_len)
         (λ named. TakesRewrite (relaxation_rewrite named) section.now offset result) }
-    ensures unknown { IfErr (named_rewrite machine rewrite n) (λ status. result ≡ code status) }
+    ensures unknown { IfErr (named_rewrite machine rewrite opcode_len) (λ status. result ≡ code status) }
 {
     let Some(architecture) = Architecture::from_machine(machine) else {
         return Status::UnknownArchitecture.number();
@@ -247,7 +253,7 @@ pub extern "C" fn linker_utils_can_apply_nonnull(
             offset,
         ),
         Architecture::X86_64 => test_by(
-            x86_64::RelaxationKind::from_number(rewrite, n),
+            x86_64::RelaxationKind::from_number(rewrite, opcode_len),
             section,
             offset,
         ),
@@ -262,20 +268,20 @@ pub extern "C" fn linker_utils_can_apply_nonnull(
 pub extern "C" fn linker_utils_matches_nonnull(
     machine: u16,
     rewrite: u32,
-    n: u8,
+    opcode_len: u8,
     section: &[u8],
     offset: u64,
 ) -> u32
-    ensures known { IfOk (named_rewrite machine rewrite n)
+    ensures known { IfOk (named_rewrite machine rewrite opcode_len)
         (λ named. MatchesRewrite named section.now offset result) }
-    ensures rewritable { IfOk (named_rewrite machine rewrite n) (λ named. result ≡ code Status.Success
+    ensures rewritable { IfOk (named_rewrite machine rewrite opcode_len) (λ named. result ≡ code Status.Success
         → CanRewrite (relaxation_rewrite named) section.now offset) }
-    ensures unknown { IfErr (named_rewrite machine rewrite n) (λ status. result ≡ code status) }
+    ensures unknown { IfErr (named_rewrite machine rewrite opcode_len) (λ status. result ≡ code status) }
 {
     let Some(architecture) = Architecture::from_machine(machine) else {
         return Status::UnknownArchitecture.number();
     };
-    let Some(named) = architecture.rewrite(rewrite, n) else {
+    let Some(named) = architecture.rewrite(rewrite, opcode_len) else {
         return Status::UnknownRewrite.number();
     };
     if !named.matches(section, offset) {
@@ -291,18 +297,18 @@ pub extern "C" fn linker_utils_matches_nonnull(
 pub extern "C" fn linker_utils_apply_nonnull(
     machine: u16,
     rewrite: u32,
-    n: u8,
+    opcode_len: u8,
     section: &mut [u8],
     offset: &mut u64,
     addend: &mut i64,
 ) -> u32
-    ensures known { IfOk (named_rewrite machine rewrite n)
+    ensures known { IfOk (named_rewrite machine rewrite opcode_len)
         (λ named. TakesRewrite (relaxation_rewrite named) section.old offset.old result) }
-    ensures rewritten { IfOk (named_rewrite machine rewrite n)
+    ensures rewritten { IfOk (named_rewrite machine rewrite opcode_len)
         (λ named. result ≡ code Status.Success
         → IsRewritten (relaxation_rewrite named) section.old section.new
         offset.old offset.new addend.old addend.new) }
-    ensures unknown { IfErr (named_rewrite machine rewrite n) (λ status. result ≡ code status) }
+    ensures unknown { IfErr (named_rewrite machine rewrite opcode_len) (λ status. result ≡ code status) }
     ensures section_stays { result ≢ code Status.Success → section.new ≡ section.old }
     ensures offset_stays { result ≢ code Status.Success → offset.new ≡ offset.old }
     ensures addend_stays { result ≢ code Status.Success → addend.new ≡ addend.old }
@@ -311,11 +317,11 @@ pub extern "C" fn linker_utils_apply_nonnull(
     // through a table, and no room on the stack.
     if machine != EM_X86_64 {
         if rewrite != 0 {
-            return apply_any(machine, rewrite, n, section, offset, addend);
+            return apply_any(machine, rewrite, opcode_len, section, offset, addend);
         }
-        return apply_of(machine, 0, n, section, offset, addend);
+        return apply_of(machine, 0, opcode_len, section, offset, addend);
     }
-    apply_of(machine, rewrite, n, section, offset, addend)
+    apply_of(machine, rewrite, opcode_len, section, offset, addend)
 }
 
 /// The window of a rewrite: the bytes that `linker_utils_apply` writes at an offset. It has 0 bytes
@@ -324,18 +330,18 @@ pub extern "C" fn linker_utils_apply_nonnull(
 pub extern "C" fn linker_utils_rewrite_window(
     machine: u16,
     rewrite: u32,
-    n: u8,
+    opcode_len: u8,
     window: &mut RewriteWindow,
 ) -> u32
-    ensures found { IfOk (named_rewrite machine rewrite n) (λ named. (result ≡ code Status.Success)
+    ensures found { IfOk (named_rewrite machine rewrite opcode_len) (λ named. (result ≡ code Status.Success)
         × (window.new ≡ window_of_rewrite (relaxation_rewrite named))) }
-    ensures unknown { IfErr (named_rewrite machine rewrite n)
+    ensures unknown { IfErr (named_rewrite machine rewrite opcode_len)
         (λ status. (result ≡ code status) × (window.new ≡ window.old)) }
 {
     let Some(architecture) = Architecture::from_machine(machine) else {
         return Status::UnknownArchitecture.number();
     };
-    let Some(named) = architecture.rewrite(rewrite, n) else {
+    let Some(named) = architecture.rewrite(rewrite, opcode_len) else {
         return Status::UnknownRewrite.number();
     };
     *window = named.window();
@@ -349,12 +355,12 @@ pub extern "C" fn linker_utils_rewrite_window(
 pub extern "C" fn linker_utils_next_modifier(
     machine: u16,
     rewrite: u32,
-    n: u8,
+    opcode_len: u8,
     modifier: &mut u32,
 ) -> u32
-    ensures found { IfOk (named_rewrite machine rewrite n) (λ named. (result ≡ code Status.Success)
+    ensures found { IfOk (named_rewrite machine rewrite opcode_len) (λ named. (result ≡ code Status.Success)
         × (modifier.new ≡ modifier_number (relaxation_modifier named))) }
-    ensures unknown { IfErr (named_rewrite machine rewrite n)
+    ensures unknown { IfErr (named_rewrite machine rewrite opcode_len)
         (λ status. (result ≡ code status) × (modifier.new ≡ modifier.old)) }
 {
     let Some(architecture) = Architecture::from_machine(machine) else {
@@ -372,7 +378,7 @@ pub extern "C" fn linker_utils_next_modifier(
         ),
         Architecture::Ppc64 => modifier_by(ppc64::RelaxationKind::from_number(rewrite), modifier),
         Architecture::X86_64 => modifier_by(
-            x86_64::RelaxationKind::from_number(rewrite, n),
+            x86_64::RelaxationKind::from_number(rewrite, opcode_len),
             modifier,
         ),
     };

@@ -22,7 +22,7 @@ use std::alloc::Global;
 /// A relocation of a section, and what it refers to in a run.
 #[repr(C)]
 #[derive(Clone, Copy)]
-pub struct SectionRelocation {
+pub struct Rela {
     /// Its place, `r_offset`: an offset in the section.
     pub offset: u64,
     /// The input offset in the run that it refers to: S + A, or the PLT entry.
@@ -41,7 +41,7 @@ pub struct SectionRelocation {
     pub may_compress: u8,
 }
 
-impl SectionRelocation {
+impl Rela {
     #[inline(always)]
     fn relocation(&self) -> Relocation
         ensures { result ≡ relocation_of self.now }
@@ -62,10 +62,7 @@ impl SectionRelocation {
 }
 
 /// The relocations that C's structs are.
-fn relocations_of(
-    alloc: Global,
-    relocations: &[SectionRelocation],
-) -> Result<Vec<Relocation>, OutOfMemory>
+fn relocations_of(alloc: Global, relocations: &[Rela]) -> Result<Vec<Relocation>, OutOfMemory>
     ensures { IfOk result (λ made. made.items ≡ relocations_in relocations.now) }
 {
     let mut made = Vec::with_capacity(alloc, relocations.len())?;
@@ -84,8 +81,8 @@ fn numbers_of(item: &Item) -> ItemNumbers
         Item::Site(site) => ItemNumbers {
             offset: site.offset,
             target: site.target,
-            power: 0,
-            most: 0,
+            alignment: 0,
+            max_skip: 0,
             len: site.len,
             kind: 0,
             shapes: site.shapes,
@@ -93,13 +90,13 @@ fn numbers_of(item: &Item) -> ItemNumbers
         Item::Aligned(alignment) => ItemNumbers {
             offset: alignment.offset,
             target: 0,
-            power: alignment.power,
-            most: match alignment.most {
+            alignment: alignment.alignment,
+            max_skip: match alignment.max_skip {
                 None => 0,
                 Some(most) => most,
             },
             len: alignment.nops,
-            kind: match alignment.most {
+            kind: match alignment.max_skip {
                 None => 1,
                 Some(_) => 2,
             },
@@ -165,7 +162,7 @@ pub extern "C" fn linker_utils_riscv_items_nonnull(
     alloc: Global,
     section: &[u8],
     base: u64,
-    relocations: &[SectionRelocation],
+    relocations: &[Rela],
     items: &mut [ItemNumbers],
     len: &mut usize,
     faulty: &mut usize,
@@ -213,7 +210,7 @@ pub extern "C" fn linker_utils_loongarch_items_nonnull(
     alloc: Global,
     section: &[u8],
     base: u64,
-    relocations: &[SectionRelocation],
+    relocations: &[Rela],
     items: &mut [ItemNumbers],
     len: &mut usize,
     faulty: &mut usize,

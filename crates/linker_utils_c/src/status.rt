@@ -6,7 +6,7 @@ ghost use Rattle.linker_utils_c.specs.Status.{code};
 /// What a call returns: the sentences of `include/linker_utils.h`. 11 and 16 are unused.
 #[derive(Debug, Clone, Copy, PartialEq, Eq)]
 pub enum Status {
-    /// The call did what it says.
+    /// Success.
     Success,
     /// No architecture has this machine number, or the call isn't for this architecture.
     UnknownArchitecture,
@@ -81,24 +81,24 @@ pub enum Status {
     ShapeTooLong,
     /// A short shape keeps no fewer bytes than the next shape.
     ShapesNotAscending,
-    /// The unit of a short shape is not a power of two, or not a multiple of the next one's.
-    BadUnit,
+    /// The granularity of a short shape is not a power of two, or not a multiple of the next one's.
+    BadGranularity,
     /// A short shape does not reach its own offset, or reaches farther than the next short one.
     BadReach,
     /// The alignment is not a power of two.
-    BadPower,
-    /// A shape frees bytes that are not a multiple of the run's greatest unit.
+    BadAlignment,
+    /// A shape frees bytes that are not a multiple of the run's granularity.
     UnevenShape,
-    /// The alignment is not a multiple of the run's greatest unit, and may keep other nops in other
+    /// The alignment is not a multiple of the run's granularity, and may keep other nops in other
     /// layouts.
-    PowerBelowUnit,
-    /// The address behind the nops is not a multiple of the run's greatest unit, and the alignment
+    AlignmentBelowGranularity,
+    /// The address behind the nops is not a multiple of the run's granularity, and the alignment
     /// may keep other nops in other layouts.
     UnevenEnd,
-    /// The alignment has a limit, and there are fewer nops than it less the unit, and fewer than may
+    /// The alignment has a limit, and there are fewer nops than it less the granularity, and fewer than may
     /// stay.
     TooFewNops,
-    /// The alignment has a limit, and its nops are not a multiple of the run's greatest unit.
+    /// The alignment has a limit, and its nops are not a multiple of the run's granularity.
     UnevenNops,
     /// The target is strictly inside the bytes that an item may lose.
     TargetInside,

@@ -407,18 +407,18 @@ pub(super) fn is_lea_of_descriptor(section: &[u8], offset: u64, n: u8) -> bool
 
 impl RelaxationKind {
     /// The rewrite with a number, its place in the enum. None above the last. The rewrites that
-    /// have a number of bytes before the field take `n`.
+    /// have a number of bytes before the field take `opcode_len`.
     #[inline(always)]
-    pub fn from_number(number: u32, n: u8) -> Option<RelaxationKind>
-        ensures { result ≡ slice_get (x86_64_rewrites n) number }
+    pub fn from_number(number: u32, opcode_len: u8) -> Option<RelaxationKind>
+        ensures { result ≡ slice_get (x86_64_rewrites opcode_len) number }
     {
         let kind = match number {
             0 => RelaxationKind::MovIndirectToLea,
             1 => RelaxationKind::MovIndirectToAbsolute,
-            2 => RelaxationKind::RexMovIndirectToAbsolute(n),
-            3 => RelaxationKind::RexAddIndirectToAbsolute(n),
-            4 => RelaxationKind::RexSubIndirectToAbsolute(n),
-            5 => RelaxationKind::RexCmpIndirectToAbsolute(n),
+            2 => RelaxationKind::RexMovIndirectToAbsolute(opcode_len),
+            3 => RelaxationKind::RexAddIndirectToAbsolute(opcode_len),
+            4 => RelaxationKind::RexSubIndirectToAbsolute(opcode_len),
+            5 => RelaxationKind::RexCmpIndirectToAbsolute(opcode_len),
             6 => RelaxationKind::CallIndirectToRelative,
             7 => RelaxationKind::JmpIndirectToRelative,
             8 => RelaxationKind::NoOp,
@@ -428,15 +428,15 @@ impl RelaxationKind {
             12 => RelaxationKind::TlsLdToLocalExecNoPlt,
             13 => RelaxationKind::TlsLdToLocalExec64,
             14 => RelaxationKind::TlsGdToInitialExec,
-            15 => RelaxationKind::TlsDescToLocalExec(n),
+            15 => RelaxationKind::TlsDescToLocalExec(opcode_len),
             16 => RelaxationKind::TlsDescToInitialExec,
             17 => RelaxationKind::SkipTlsDescCall,
-            18 => RelaxationKind::RexAdcIndirectToAbsolute(n),
-            19 => RelaxationKind::RexAndIndirectToAbsolute(n),
-            20 => RelaxationKind::RexOrIndirectToAbsolute(n),
-            21 => RelaxationKind::RexSbbIndirectToAbsolute(n),
-            22 => RelaxationKind::RexXorIndirectToAbsolute(n),
-            23 => RelaxationKind::RexTestIndirectToAbsolute(n),
+            18 => RelaxationKind::RexAdcIndirectToAbsolute(opcode_len),
+            19 => RelaxationKind::RexAndIndirectToAbsolute(opcode_len),
+            20 => RelaxationKind::RexOrIndirectToAbsolute(opcode_len),
+            21 => RelaxationKind::RexSbbIndirectToAbsolute(opcode_len),
+            22 => RelaxationKind::RexXorIndirectToAbsolute(opcode_len),
+            23 => RelaxationKind::RexTestIndirectToAbsolute(opcode_len),
             _ => return None,
         };
         Some(kind)

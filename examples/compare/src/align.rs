@@ -92,7 +92,7 @@ struct Site {
     indices: Range<usize>,
     start: u64,
     end: u64,
-    is_marked: bool,
+    is_relaxable: bool,
     is_alignment: bool,
 }
 
@@ -104,7 +104,7 @@ fn sites(architecture: Architecture, it: &Section, indices: Range<usize>) -> Vec
             made::alignment(architecture, one, 0).map(|(nops, _)| nops)
         };
         let is_alignment = all.iter().any(|one| nops(one).is_some());
-        let is_marked = all.iter().any(|one| made::may_delete(architecture, one.code));
+        let is_relaxable = all.iter().any(|one| made::may_delete(architecture, one.code));
         let lens = all.iter().map(|one| {
             nops(one).unwrap_or_else(|| made::len(architecture, one.code))
         });
@@ -112,7 +112,7 @@ fn sites(architecture: Architecture, it: &Section, indices: Range<usize>) -> Vec
         let end = (start + lens.max().unwrap_or(0)).min(it.bytes.len() as u64).max(start);
         let indices = first..first + all.len();
         first = indices.end;
-        Site { indices, start, end, is_marked, is_alignment }
+        Site { indices, start, end, is_relaxable, is_alignment }
     })
     .collect()
 }
@@ -182,7 +182,7 @@ pub fn map_of(linked: &Linked, it: &Section, anchors: &Anchors) -> Anchors {
 
 impl Site {
     fn may_shrink(&self) -> bool {
-        self.is_marked || self.is_alignment
+        self.is_relaxable || self.is_alignment
     }
 
     fn len(&self) -> u64 {
@@ -326,7 +326,7 @@ impl Walk<'_> {
             !made::is_mark(architecture, self.it.relocations[*index].code)
         };
         let values: Vec<usize> = site.indices.clone().filter(is_value).collect();
-        let counts: &[u64] = if site.is_marked { &[0, 2, 4, 6, 8] } else { &[0] };
+        let counts: &[u64] = if site.is_relaxable { &[0, 2, 4, 6, 8] } else { &[0] };
         let counts = counts.iter().copied().take_while(|count| *count <= site.len());
         let all = counts.map(|count| {
             let starts = values

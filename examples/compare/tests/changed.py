@@ -63,7 +63,7 @@ def walk(architecture, linked, path, section, it):
     for at, (offset, kind, symbol, addend) in enumerate(section.relocations):
         place = address + offset - deleted
         after = section.relocations[at + 1:at + 2]
-        is_marked = after and after[0][:2] == (offset, 51)
+        is_relaxable = after and after[0][:2] == (offset, 51)
         if kind in (43, 102) and architecture in MARKS:
             nops, power = addend, addend.bit_length()
             if kind == 102 and symbol:
@@ -75,7 +75,7 @@ def walk(architecture, linked, path, section, it):
             continue
         seen.append(linked.mnemonic(place))
         places[offset] = place
-        if architecture == "riscv64" and is_marked:
+        if architecture == "riscv64" and is_relaxable:
             if kind in (18, 19) and seen[-1] != "auipc":
                 deleted += 4
             if kind == 26 and seen[-1] != "lui":

@@ -56,8 +56,8 @@ def loongarch(linked, it, section, start, is_defined):
         if kind == 102:
             deleted += nops(kind, symbol, addend, place)
             continue
-        is_marked = at + 1 < len(all_of) and all_of[at + 1][:2] == (offset, 100)
-        if kind not in (110, 71, 75) or not is_marked or not is_defined(symbol):
+        is_relaxable = at + 1 < len(all_of) and all_of[at + 1][:2] == (offset, 100)
+        if kind not in (110, 71, 75) or not is_relaxable or not is_defined(symbol):
             continue
         word, next_word = linked.word(place), linked.word(place + 4)
         low = [one for one in all_of if one[:2] == (offset + 4, kind + 1) and one[2:] == (symbol, addend)]
@@ -88,8 +88,8 @@ def riscv(linked, it, section, start, is_defined):
         places.setdefault(offset, place)
         if kind == 43:
             deleted += nops(kind, symbol, addend, place)
-        is_marked = at + 1 < len(all_of) and all_of[at + 1][:2] == (offset, 51)
-        if kind in (18, 19) and is_marked and linked.word(place) & 0x7F == 0x6F:
+        is_relaxable = at + 1 < len(all_of) and all_of[at + 1][:2] == (offset, 51)
+        if kind in (18, 19) and is_relaxable and linked.word(place) & 0x7F == 0x6F:
             deleted += 4
     for high in all_of:
         if high[1] != 20 or not is_defined(high[2]):

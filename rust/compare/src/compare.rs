@@ -328,10 +328,10 @@ impl Made for Shapes {
             7 => fixed(random.below(10) as u32),
             _ => Shapes {
                 short: [0; 2].map(|_| Shape {
-                    behind: random.number(),
-                    ahead: random.number(),
+                    max_backward: random.number(),
+                    max_forward: random.number(),
                     kept: random.below(8) as u32,
-                    unit: random.below(5) as u32,
+                    granularity: random.below(5) as u32,
                 }),
                 longest: random.below(10) as u32,
                 count: random.below(4) as u8,

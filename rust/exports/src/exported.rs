@@ -10,7 +10,7 @@ use crate::recognising::RecognisedNumbers;
 use crate::relaxing::ItemNumbers;
 use crate::relocate::Reach;
 use crate::relocate::Relocation;
-use crate::section_items::SectionRelocation;
+use crate::section_items::Rela;
 use linker_utils::elf::Operands;
 use linker_utils::elf::RelocationNumbers;
 use linker_utils::elf::RewriteWindow;
@@ -827,13 +827,13 @@ unsafe extern "C" fn linker_utils_recognise_chosen_nonnull(
 }
 
 #[unsafe(no_mangle)]
-unsafe extern "C" fn linker_utils_named_shapes(
+unsafe extern "C" fn linker_utils_standard_shapes(
     number: u32,
     shapes: *mut Shapes,
 ) -> u32 {
     // SAFETY: the arguments are as the head of the header says.
     unsafe {
-        crate::relaxing::linker_utils_named_shapes(
+        crate::relaxing::linker_utils_standard_shapes(
             number,
             &mut *shapes,
         )
@@ -1090,7 +1090,7 @@ unsafe extern "C" fn linker_utils_relocation_name_nonnull(
 unsafe extern "C" fn linker_utils_can_apply_nonnull(
     machine: u16,
     rewrite: u32,
-    n: u8,
+    opcode_len: u8,
     section: *const u8,
     section_len: usize,
     offset: u64,
@@ -1100,7 +1100,7 @@ unsafe extern "C" fn linker_utils_can_apply_nonnull(
         crate::rewrites::linker_utils_can_apply_nonnull(
             machine,
             rewrite,
-            n,
+            opcode_len,
             from_raw_parts(section, section_len),
             offset,
         )
@@ -1111,7 +1111,7 @@ unsafe extern "C" fn linker_utils_can_apply_nonnull(
 unsafe extern "C" fn linker_utils_matches_nonnull(
     machine: u16,
     rewrite: u32,
-    n: u8,
+    opcode_len: u8,
     section: *const u8,
     section_len: usize,
     offset: u64,
@@ -1121,7 +1121,7 @@ unsafe extern "C" fn linker_utils_matches_nonnull(
         crate::rewrites::linker_utils_matches_nonnull(
             machine,
             rewrite,
-            n,
+            opcode_len,
             from_raw_parts(section, section_len),
             offset,
         )
@@ -1132,7 +1132,7 @@ unsafe extern "C" fn linker_utils_matches_nonnull(
 unsafe extern "C" fn linker_utils_apply_nonnull(
     machine: u16,
     rewrite: u32,
-    n: u8,
+    opcode_len: u8,
     section: *mut u8,
     section_len: usize,
     offset: *mut u64,
@@ -1143,7 +1143,7 @@ unsafe extern "C" fn linker_utils_apply_nonnull(
         crate::rewrites::linker_utils_apply_nonnull(
             machine,
             rewrite,
-            n,
+            opcode_len,
             from_raw_parts_mut(section, section_len),
             &mut *offset,
             &mut *addend,
@@ -1155,7 +1155,7 @@ unsafe extern "C" fn linker_utils_apply_nonnull(
 unsafe extern "C" fn linker_utils_rewrite_window(
     machine: u16,
     rewrite: u32,
-    n: u8,
+    opcode_len: u8,
     window: *mut RewriteWindow,
 ) -> u32 {
     // SAFETY: the arguments are as the head of the header says.
@@ -1163,7 +1163,7 @@ unsafe extern "C" fn linker_utils_rewrite_window(
         crate::rewrites::linker_utils_rewrite_window(
             machine,
             rewrite,
-            n,
+            opcode_len,
             &mut *window,
         )
     }
@@ -1173,7 +1173,7 @@ unsafe extern "C" fn linker_utils_rewrite_window(
 unsafe extern "C" fn linker_utils_next_modifier(
     machine: u16,
     rewrite: u32,
-    n: u8,
+    opcode_len: u8,
     modifier: *mut u32,
 ) -> u32 {
     // SAFETY: the arguments are as the head of the header says.
@@ -1181,7 +1181,7 @@ unsafe extern "C" fn linker_utils_next_modifier(
         crate::rewrites::linker_utils_next_modifier(
             machine,
             rewrite,
-            n,
+            opcode_len,
             &mut *modifier,
         )
     }
@@ -1192,7 +1192,7 @@ unsafe extern "C" fn linker_utils_riscv_items_nonnull(
     section: *const u8,
     section_len: usize,
     base: u64,
-    relocations: *const SectionRelocation,
+    relocations: *const Rela,
     relocations_len: usize,
     items: *mut ItemNumbers,
     items_len: usize,
@@ -1217,7 +1217,7 @@ unsafe extern "C" fn linker_utils_loongarch_items_nonnull(
     section: *const u8,
     section_len: usize,
     base: u64,
-    relocations: *const SectionRelocation,
+    relocations: *const Rela,
     relocations_len: usize,
     items: *mut ItemNumbers,
     items_len: usize,

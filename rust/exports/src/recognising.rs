@@ -7,7 +7,7 @@ use crate::status::Status;
 use linker_utils::reading::FieldValue;
 use linker_utils::recognise::architecture::{recognise, recognise_chosen};
 use linker_utils::recognise::{FieldBits, field_bits, same_but_for};
-use linker_utils::recognise::{CANDIDATES, MAX_WINDOW, Made};
+use linker_utils::recognise::{CANDIDATES, MAX_WINDOW, Recognised};
 use linker_utils::architecture::Relaxation;
 use linker_utils::elf::{Architecture, Row};
 
@@ -82,7 +82,7 @@ fn known_of(value: Option<FieldValue>) -> FieldValueNumbers {
 }
 
 #[inline]
-fn numbers_of(made: Made<Relaxation, u32>) -> RecognisedNumbers {
+fn numbers_of(made: Recognised<Relaxation, u32>) -> RecognisedNumbers {
     RecognisedNumbers {
         choice: in_numbers(made.choice),
         offset: made.offset,
@@ -91,7 +91,10 @@ fn numbers_of(made: Made<Relaxation, u32>) -> RecognisedNumbers {
 }
 
 /// Writes what was found, and returns how many it is.
-fn write_found(made: &[Option<Made<Relaxation, u32>>], found: &mut [RecognisedNumbers]) -> usize {
+fn write_found(
+    made: &[Option<Recognised<Relaxation, u32>>],
+    found: &mut [RecognisedNumbers],
+) -> usize {
     let mut count = 0;
     for index in 0..made.len() {
         if let Some(one) = made[index] {
@@ -188,7 +191,7 @@ pub fn linker_utils_recognise_chosen_nonnull(
 }
 
 #[inline(always)]
-fn put_chosen(made: Option<Made<Relaxation, u32>>, found: &mut RecognisedNumbers) -> u32 {
+fn put_chosen(made: Option<Recognised<Relaxation, u32>>, found: &mut RecognisedNumbers) -> u32 {
     match made {
         Some(made) => {
             *found = numbers_of(made);

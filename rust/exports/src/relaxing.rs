@@ -19,10 +19,10 @@ pub struct ItemNumbers {
     pub target: u64,
     /// What the output address behind an alignment is a multiple of: a power of two. Of a site it
     /// means nothing.
-    pub power: u64,
+    pub alignment: u64,
     /// How many bytes of nops of an alignment with a limit may stay. Where more are needed, none
     /// stay.
-    pub most: u64,
+    pub max_skip: u64,
     /// How many bytes it has.
     pub len: u32,
     /// 0 is a site, 1 an alignment without limit, any other number an alignment with a limit.
@@ -45,11 +45,11 @@ impl ItemNumbers {
             Item::Aligned(Alignment {
                 offset: self.offset,
                 nops: self.len,
-                power: self.power,
-                most: if self.kind == 1 {
+                alignment: self.alignment,
+                max_skip: if self.kind == 1 {
                     None
                 } else {
-                    Some(self.most)
+                    Some(self.max_skip)
                 },
             })
         }
@@ -64,11 +64,11 @@ fn status_of(fault: Fault) -> u32 {
         Fault::TooManyShapes => Status::TooManyShapes,
         Fault::ShapeTooLong => Status::ShapeTooLong,
         Fault::ShapesNotAscending => Status::ShapesNotAscending,
-        Fault::BadUnit => Status::BadUnit,
+        Fault::BadGranularity => Status::BadGranularity,
         Fault::BadReach => Status::BadReach,
-        Fault::BadPower => Status::BadPower,
+        Fault::BadAlignment => Status::BadAlignment,
         Fault::UnevenShape => Status::UnevenShape,
-        Fault::PowerBelowUnit => Status::PowerBelowUnit,
+        Fault::AlignmentBelowGranularity => Status::AlignmentBelowGranularity,
         Fault::UnevenEnd => Status::UnevenEnd,
         Fault::TooFewNops => Status::TooFewNops,
         Fault::UnevenNops => Status::UnevenNops,
@@ -107,7 +107,7 @@ fn shapes_named(number: u32) -> Option<Shapes> {
 /// Writes the shapes that a number names: 0 a call of RISC-V, 1 a tail call where the C extension
 /// may be used, 2 a call or tail call where it isn't; 3 `R_LARCH_CALL36`, 4 `R_LARCH_PCALA_HI20` and
 /// `_LO12`. The error is `UnknownShapes`, and `shapes` is unchanged then.
-pub fn linker_utils_named_shapes(number: u32, shapes: &mut Shapes) -> u32 {
+pub fn linker_utils_standard_shapes(number: u32, shapes: &mut Shapes) -> u32 {
     match shapes_named(number) {
         Some(named) => {
             *shapes = named;

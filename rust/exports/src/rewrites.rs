@@ -52,9 +52,15 @@ fn apply_riscv(rewrite: u32, section: &mut [u8], offset: &mut u64, addend: &mut 
 // Applies a rewrite of x86-64. It isn't inlined, so that `linker_utils_apply` stays small. In this
 // order the rewrite and the offset stay in the registers that they have there.
 #[inline(never)]
-fn apply_x86_64(n: u8, rewrite: u32, section: &mut [u8], addend: &mut i64, offset: &mut u64) -> u32 {
+fn apply_x86_64(
+    opcode_len: u8,
+    rewrite: u32,
+    section: &mut [u8],
+    addend: &mut i64,
+    offset: &mut u64,
+) -> u32 {
     apply_by(
-        x86_64::RelaxationKind::from_number(rewrite, n),
+        x86_64::RelaxationKind::from_number(rewrite, opcode_len),
         section,
         offset,
         addend,
@@ -67,7 +73,7 @@ fn apply_x86_64(n: u8, rewrite: u32, section: &mut [u8], addend: &mut i64, offse
 fn apply_of(
     machine: u16,
     rewrite: u32,
-    n: u8,
+    opcode_len: u8,
     section: &mut [u8],
     offset: &mut u64,
     addend: &mut i64,
@@ -98,7 +104,7 @@ fn apply_of(
             addend,
         )
         .number(),
-        Architecture::X86_64 => apply_x86_64(n, rewrite, section, addend, offset),
+        Architecture::X86_64 => apply_x86_64(opcode_len, rewrite, section, addend, offset),
     }
 }
 
@@ -107,12 +113,12 @@ fn apply_of(
 fn apply_any(
     machine: u16,
     rewrite: u32,
-    n: u8,
+    opcode_len: u8,
     section: &mut [u8],
     offset: &mut u64,
     addend: &mut i64,
 ) -> u32 {
-    apply_of(machine, rewrite, n, section, offset, addend)
+    apply_of(machine, rewrite, opcode_len, section, offset, addend)
 }
 
 #[inline(always)]
@@ -137,7 +143,7 @@ fn modifier_by<R: InstructionRewrite>(rewrite: Option<R>, modifier: &mut u32) ->
 pub fn linker_utils_can_apply_nonnull(
     machine: u16,
     rewrite: u32,
-    n: u8,
+    opcode_len: u8,
     section: &[u8],
     offset: u64,
 ) -> u32 {
@@ -166,7 +172,7 @@ pub fn linker_utils_can_apply_nonnull(
             offset,
         ),
         Architecture::X86_64 => test_by(
-            x86_64::RelaxationKind::from_number(rewrite, n),
+            x86_64::RelaxationKind::from_number(rewrite, opcode_len),
             section,
             offset,
         ),
@@ -180,14 +186,14 @@ pub fn linker_utils_can_apply_nonnull(
 pub fn linker_utils_matches_nonnull(
     machine: u16,
     rewrite: u32,
-    n: u8,
+    opcode_len: u8,
     section: &[u8],
     offset: u64,
 ) -> u32 {
     let Some(architecture) = Architecture::from_machine(machine) else {
         return Status::UnknownArchitecture.number();
     };
-    let Some(named) = architecture.rewrite(rewrite, n) else {
+    let Some(named) = architecture.rewrite(rewrite, opcode_len) else {
         return Status::UnknownRewrite.number();
     };
     if !named.matches(section, offset) {
@@ -202,7 +208,7 @@ pub fn linker_utils_matches_nonnull(
 pub fn linker_utils_apply_nonnull(
     machine: u16,
     rewrite: u32,
-    n: u8,
+    opcode_len: u8,
     section: &mut [u8],
     offset: &mut u64,
     addend: &mut i64,
@@ -211,11 +217,11 @@ pub fn linker_utils_apply_nonnull(
     // through a table, and no room on the stack.
     if machine != EM_X86_64 {
         if rewrite != 0 {
-            return apply_any(machine, rewrite, n, section, offset, addend);
+            return apply_any(machine, rewrite, opcode_len, section, offset, addend);
         }
-        return apply_of(machine, 0, n, section, offset, addend);
+        return apply_of(machine, 0, opcode_len, section, offset, addend);
     }
-    apply_of(machine, rewrite, n, section, offset, addend)
+    apply_of(machine, rewrite, opcode_len, section, offset, addend)
 }
 
 /// The window of a rewrite: the bytes that `linker_utils_apply` writes at an offset. It has 0 bytes
@@ -223,13 +229,13 @@ pub fn linker_utils_apply_nonnull(
 pub fn linker_utils_rewrite_window(
     machine: u16,
     rewrite: u32,
-    n: u8,
+    opcode_len: u8,
     window: &mut RewriteWindow,
 ) -> u32 {
     let Some(architecture) = Architecture::from_machine(machine) else {
         return Status::UnknownArchitecture.number();
     };
-    let Some(named) = architecture.rewrite(rewrite, n) else {
+    let Some(named) = architecture.rewrite(rewrite, opcode_len) else {
         return Status::UnknownRewrite.number();
     };
     *window = named.window();
@@ -242,7 +248,7 @@ pub fn linker_utils_rewrite_window(
 pub fn linker_utils_next_modifier(
     machine: u16,
     rewrite: u32,
-    n: u8,
+    opcode_len: u8,
     modifier: &mut u32,
 ) -> u32 {
     let Some(architecture) = Architecture::from_machine(machine) else {
@@ -260,7 +266,7 @@ pub fn linker_utils_next_modifier(
         ),
         Architecture::Ppc64 => modifier_by(ppc64::RelaxationKind::from_number(rewrite), modifier),
         Architecture::X86_64 => modifier_by(
-            x86_64::RelaxationKind::from_number(rewrite, n),
+            x86_64::RelaxationKind::from_number(rewrite, opcode_len),
             modifier,
         ),
     };

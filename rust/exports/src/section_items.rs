@@ -14,7 +14,7 @@ use linker_utils::relaxation::OutOfMemory;
 /// A relocation of a section, and what it refers to in a run.
 #[repr(C)]
 #[derive(Clone, Copy)]
-pub struct SectionRelocation {
+pub struct Rela {
     /// Its place, `r_offset`: an offset in the section.
     pub offset: u64,
     /// The input offset in the run that it refers to: S + A, or the PLT entry.
@@ -33,7 +33,7 @@ pub struct SectionRelocation {
     pub may_compress: u8,
 }
 
-impl SectionRelocation {
+impl Rela {
     #[inline(always)]
     fn relocation(&self) -> Relocation {
         Relocation {
@@ -52,9 +52,7 @@ impl SectionRelocation {
 }
 
 /// The relocations that C's structs are.
-fn relocations_of(
-    relocations: &[SectionRelocation],
-) -> Result<Vec<Relocation>, OutOfMemory> {
+fn relocations_of(relocations: &[Rela]) -> Result<Vec<Relocation>, OutOfMemory> {
     let mut made = Vec::fallible_with_capacity(relocations.len())?;
     for numbers in relocations {
         made.push_reserved(numbers.relocation());
@@ -68,8 +66,8 @@ fn numbers_of(item: &Item) -> ItemNumbers {
         Item::Site(site) => ItemNumbers {
             offset: site.offset,
             target: site.target,
-            power: 0,
-            most: 0,
+            alignment: 0,
+            max_skip: 0,
             len: site.len,
             kind: 0,
             shapes: site.shapes,
@@ -77,13 +75,13 @@ fn numbers_of(item: &Item) -> ItemNumbers {
         Item::Aligned(alignment) => ItemNumbers {
             offset: alignment.offset,
             target: 0,
-            power: alignment.power,
-            most: match alignment.most {
+            alignment: alignment.alignment,
+            max_skip: match alignment.max_skip {
                 None => 0,
                 Some(most) => most,
             },
             len: alignment.nops,
-            kind: match alignment.most {
+            kind: match alignment.max_skip {
                 None => 1,
                 Some(_) => 2,
             },
@@ -130,7 +128,7 @@ fn put(
 pub fn linker_utils_riscv_items_nonnull(
     section: &[u8],
     base: u64,
-    relocations: &[SectionRelocation],
+    relocations: &[Rela],
     items: &mut [ItemNumbers],
     len: &mut usize,
     faulty: &mut usize,
@@ -153,7 +151,7 @@ pub fn linker_utils_riscv_items_nonnull(
 pub fn linker_utils_loongarch_items_nonnull(
     section: &[u8],
     base: u64,
-    relocations: &[SectionRelocation],
+    relocations: &[Rela],
     items: &mut [ItemNumbers],
     len: &mut usize,
     faulty: &mut usize,

@@ -52,8 +52,8 @@ fn stated_alignment(section: &[u8], relocation: &Relocation, offset: u64) -> Opt
     Some(Alignment {
         offset,
         nops: nops as u32,
-        power,
-        most: limit_of(relocation.has_symbol, addend, nops),
+        alignment: power,
+        max_skip: limit_of(relocation.has_symbol, addend, nops),
     })
 }
 

@@ -20,13 +20,13 @@ use passes::{find_places, keep, lay_out, settle};
 #[derive(Debug, Clone, Copy, PartialEq, Eq, Hash)]
 pub struct Shape {
     /// How far below its output offset the target may lie, in bytes.
-    pub behind: u64,
+    pub max_backward: u64,
     /// The target has to lie less than so many bytes above its output offset, or at it.
-    pub ahead: u64,
+    pub max_forward: u64,
     /// How many bytes of the site stay, from its first one on.
     pub kept: u32,
     /// The distance has to be a multiple of this number, which is a power of two.
-    pub unit: u32,
+    pub granularity: u32,
 }
 
 /// The forms that the instructions of a site can have, by ascending length, as C has them.
@@ -63,9 +63,9 @@ pub struct Alignment {
     /// How many bytes of nops there are.
     pub nops: u32,
     /// What the output address behind them is a multiple of: a power of two.
-    pub power: u64,
+    pub alignment: u64,
     /// How many bytes of nops may stay. Where more are needed, none stay.
-    pub most: Option<u64>,
+    pub max_skip: Option<u64>,
 }
 
 /// A part of a run that relaxation may shorten.
@@ -100,13 +100,13 @@ impl Item {
 impl Shape {
     /// Whether a target is in reach, both given by output offsets.
     fn reaches(&self, from: u64, to: u64) -> bool {
-        let unit = u64::from(self.unit);
+        let granularity = u64::from(self.granularity);
         if from <= to {
             let distance = to - from;
-            distance < self.ahead && distance % unit == 0
+            distance < self.max_forward && distance % granularity == 0
         } else {
             let distance = from - to;
-            distance <= self.behind && distance % unit == 0
+            distance <= self.max_backward && distance % granularity == 0
         }
     }
 }
@@ -114,14 +114,14 @@ impl Shape {
 impl Alignment {
     /// How many bytes of nops it takes from an address to the next multiple of the alignment.
     fn needed_at(&self, address: u64) -> u64 {
-        (self.power - address % self.power) % self.power
+        (self.alignment - address % self.alignment) % self.alignment
     }
 
     /// How many nops stay where the first one has an output address.
     fn padding_at(&self, address: u64) -> u64 {
         let needed = self.needed_at(address);
         let nops = u64::from(self.nops);
-        let limit = match self.most {
+        let limit = match self.max_skip {
             Some(most) => most.min(nops),
             None => nops,
         };

@@ -42,8 +42,8 @@ fn alignment_of(nops: u32, offset: u64) -> Alignment {
     Alignment {
         offset,
         nops,
-        power: (u64::from(nops) + 1).next_power_of_two(),
-        most: None,
+        alignment: (u64::from(nops) + 1).next_power_of_two(),
+        max_skip: None,
     }
 }
 

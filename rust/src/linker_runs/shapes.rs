@@ -9,9 +9,9 @@ pub mod riscv64;
 /// No short shape.
 const NONE: Shape = Shape {
     kept: 0,
-    behind: 0,
-    ahead: 0,
-    unit: 1,
+    max_backward: 0,
+    max_forward: 0,
+    granularity: 1,
 };
 
 /// A deletion that is decided already: so many bytes stay wherever the target is.

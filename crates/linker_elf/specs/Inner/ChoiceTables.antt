@@ -54,10 +54,10 @@ facts_hold mask facts =
     && is_held mask 0x10 facts.is_executable
     && is_held mask 0x20 facts.has_local_exec_base
     && is_held mask 0x40 facts.may_compress
-    && is_held mask 0x80 facts.is_marked
-    && is_held mask 0x100 facts.is_label_marked
+    && is_held mask 0x80 facts.is_relaxable
+    && is_held mask 0x100 facts.is_label_relaxable
     && is_held mask 0x200 facts.has_got_high_part
-    && is_held mask 0x400 facts.has_private_base
+    && is_held mask 0x400 facts.toc_base_is_exclusive
     && is_held mask 0x800 facts.may_change_toc
     && is_held mask 0x1000 (facts.operands.plt_entry == facts.operands.symbol)
     && is_held mask 0x2000 facts.group_fits

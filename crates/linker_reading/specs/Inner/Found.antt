@@ -5,7 +5,7 @@ use Rattle.linker_elf.specs.Choices.{choice}
 use Rattle.linker_elf.specs.declared.elf.choice.Choice.{Choice}
 use Rattle.linker_elf.specs.declared.elf.choice_table.ChoiceEntry.{ChoiceEntry}
 use Rattle.linker_reading.specs.Recognised.{Recogniser, IsMade, IsFirstPlace}
-use Rattle.linker_reading.specs.declared.recognise.engine.Made.{Made}
+use Rattle.linker_reading.specs.declared.recognise.engine.Recognised.{Recognised}
 use Rattle.linker_reading.specs.declared.recognise.fields.FieldBits.{FieldBits}
 use Rattle.linker_utils.specs.Architectures.{relaxation_matches}
 
@@ -23,7 +23,7 @@ abbrev pub IsRepeated : {A : Type 0} → List A → ℕ → Type 0
 IsRepeated list n = (i : ℕ) × (i < n) × (slice_get list i ≡ slice_get list n)
 
 -- The rewrite is meant for what is at the offset, and the choice was made.
-abbrev pub IsMeant : {K R : Type 0} → Recogniser K R → List ℕ → ℕ → List FieldBits → List ℕ → Made K R
+abbrev pub IsMeant : {K R : Type 0} → Recogniser K R → List ℕ → ℕ → List FieldBits → List ℕ → Recognised K R
     → Type 0
 IsMeant it original o others linked m =
     relaxation_matches (it.relaxation m.choice.kind) original o

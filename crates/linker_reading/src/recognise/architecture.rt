@@ -4,7 +4,7 @@ ghost use Rattle.std.specs.Prelude.{◌≡◌, ◌≤◌, length, map};
 ghost use Rattle.linker_reading.specs.FoundByCode.{by_code, AreFound, IsFoundChosen};
 ghost use Rattle.linker_utils.specs.Architectures.{of_some};
 
-use crate::recognise::engine::{self, CANDIDATES, Made, Recognised};
+use crate::recognise::engine::{self, CANDIDATES, Recognised, RecognisedName};
 use crate::recognise::fields::FieldBits;
 use linker_utils::aarch64::AArch64Relocation;
 use linker_utils::architecture::Relaxation;
@@ -29,11 +29,13 @@ macro_rules! of_name {
 
 /// The same with the rewrite as one of all architectures', and the relocation's code.
 #[inline(always)]
-fn coded<N: Recognised>(found: Option<Made<N::Kind, N>>) -> Option<Made<Relaxation, u32>>
+fn coded<N: RecognisedName>(
+    found: Option<Recognised<N::Kind, N>>,
+) -> Option<Recognised<Relaxation, u32>>
     ensures { result ≡ of_some (by_code N.how) found }
 {
     let made = found?;
-    Some(Made {
+    Some(Recognised {
         choice: Choice {
             kind: N::relaxation(made.choice.kind),
             relocation: made.choice.relocation.code(),
@@ -44,9 +46,9 @@ fn coded<N: Recognised>(found: Option<Made<N::Kind, N>>) -> Option<Made<Relaxati
 }
 
 /// The same of each.
-fn all_by_code<N: Recognised>(
-    found: [Option<Made<N::Kind, N>>; CANDIDATES],
-) -> [Option<Made<Relaxation, u32>>; CANDIDATES]
+fn all_by_code<N: RecognisedName>(
+    found: [Option<Recognised<N::Kind, N>>; CANDIDATES],
+) -> [Option<Recognised<Relaxation, u32>>; CANDIDATES]
     requires { length found ≡ 6 }
     ensures { result ≡ map (of_some (by_code N.how)) found }
 {
@@ -84,7 +86,7 @@ pub fn recognise(
     offset: u64,
     others: &[FieldBits],
     linked: &[u8],
-) -> [Option<Made<Relaxation, u32>>; CANDIDATES]
+) -> [Option<Recognised<Relaxation, u32>>; CANDIDATES]
     requires { length original.now ≤ 64 }
     ensures found { AreFound architecture code original.now offset others.now linked.now result }
 {
@@ -103,7 +105,7 @@ pub fn recognise_chosen(
     others: &[FieldBits],
     linked: &[u8],
     facts: &LinkFacts,
-) -> Option<Made<Relaxation, u32>>
+) -> Option<Recognised<Relaxation, u32>>
     requires { length original.now ≤ 64 }
     ensures found { IsFoundChosen architecture code original.now offset others.now linked.now
         facts.now result }

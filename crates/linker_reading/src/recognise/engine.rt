@@ -35,7 +35,7 @@ pub type Choices<K, R> = ([Choice<K, R>; CANDIDATES], usize);
 
 /// A choice that leaves the linked bytes, and what stands in the field of its relocation there.
 #[derive(Debug, Clone, Copy, PartialEq, Eq)]
-pub struct Made<K, R> {
+pub struct Recognised<K, R> {
     /// The rewrite, and the relocation after it.
     pub choice: Choice<K, R>,
     /// The field's offset in the linked bytes: the relocation's after the rewrite, less the deleted
@@ -121,7 +121,7 @@ fn value_at(row: &Option<Row>, at: u64, linked: &[u8]) -> Option<FieldValue>
 }
 
 /// A relocation's name, with the table of its choices.
-pub trait Recognised: RelocationName + PartialEq {
+pub trait RecognisedName: RelocationName + PartialEq {
     /// The rewrites.
     type Kind: Copy + PartialEq;
 
@@ -175,15 +175,15 @@ pub(crate) fn choices_of<O, K: Copy, R: Copy>(
 /// leaves the linked bytes, as `recognise` says. In a loop LLVM would compute for every rewrite what
 /// some need.
 #[inline(never)]
-fn recognise_one<N: Recognised>(
+fn recognise_one<N: RecognisedName>(
     choice: Choice<N::Kind, N>,
     original: &[u8],
     offset: u64,
     others: &[FieldBits],
     linked: &[u8],
-) -> Option<Made<N::Kind, N>>
+) -> Option<Recognised<N::Kind, N>>
     requires { length original.now ≤ 64 }
-    ensures { (m : Made N.Kind N) → (result ≡ Some m)
+    ensures { (m : Recognised N.Kind N) → (result ≡ Some m)
         ↔ ((m.choice ≡ choice) × IsMeant N.how original.now offset others.now linked.now m) }
 {
     let kind = N::relaxation(choice.kind);
@@ -201,7 +201,7 @@ fn recognise_one<N: Recognised>(
         return None;
     }
     let field_offset = linked_offset(deleted, offset, at);
-    Some(Made {
+    Some(Recognised {
         choice,
         offset: field_offset,
         value: value_at(&row, field_offset, linked),
@@ -210,7 +210,7 @@ fn recognise_one<N: Recognised>(
 
 /// The choice at an index, if it has no place before it.
 #[inline(always)]
-fn first_at<N: Recognised>(
+fn first_at<N: RecognisedName>(
     choices: &[Choice<N::Kind, N>; CANDIDATES],
     index: usize,
 ) -> Option<Choice<N::Kind, N>>
@@ -270,17 +270,17 @@ fn first_at<N: Recognised>(
 /// let mut choices = recognise(name, &original, 0, &[], &linked).into_iter().flatten();
 /// assert_eq!(choices.next().unwrap().choice.relocation, RiscVRelocation::R_RISCV_JAL);
 /// ```
-pub fn recognise<N: Recognised>(
+pub fn recognise<N: RecognisedName>(
     name: N,
     original: &[u8],
     offset: u64,
     others: &[FieldBits],
     linked: &[u8],
-) -> [Option<Made<N::Kind, N>>; CANDIDATES]
+) -> [Option<Recognised<N::Kind, N>>; CANDIDATES]
     requires { length original.now ≤ 64 }
     ensures found { AreThose (IsFound N.how name original.now offset others.now linked.now)
         result }
-    ensures any { (facts : LinkFacts) (m : Made N.Kind N)
+    ensures any { (facts : LinkFacts) (m : Recognised N.Kind N)
         → IsChosen N.how name original.now offset facts m.choice
         → IsMade N.how original.now offset others.now linked.now m → IsOneOf (Some m) result }
     ensures placed { ArePlaced (choices_at N.how name original.now offset) result }
@@ -298,16 +298,16 @@ pub fn recognise<N: Recognised>(
 
 /// The choice that `choose` makes by what the linker knows, if it leaves the linked bytes, as
 /// `recognise` says.
-pub fn recognise_chosen<N: Recognised>(
+pub fn recognise_chosen<N: RecognisedName>(
     name: N,
     original: &[u8],
     offset: u64,
     others: &[FieldBits],
     linked: &[u8],
     facts: &LinkFacts,
-) -> Option<Made<N::Kind, N>>
+) -> Option<Recognised<N::Kind, N>>
     requires { length original.now ≤ 64 }
-    ensures { (m : Made N.Kind N) → (result ≡ Some m)
+    ensures { (m : Recognised N.Kind N) → (result ≡ Some m)
         ↔ (IsChosen N.how name original.now offset facts.now m.choice
         × IsMade N.how original.now offset others.now linked.now m) }
 {

@@ -23,7 +23,7 @@ ghost use Rattle.linker_riscv64.specs.contracts.rewrites.RelaxationKind as riscv
 ghost use Rattle.linker_x86_64.proofs.X86Choices.{chosen_matches as x86_64_chosen};
 ghost use Rattle.linker_x86_64.specs.contracts.rewrites.RelaxationKind as x86_64_kind;
 
-use crate::recognise::engine::{Choices, Recognised, choices_of};
+use crate::recognise::engine::{Choices, RecognisedName, choices_of};
 use linker_elf::elf::choice_table::ChosenByTable;
 use linker_utils::aarch64::{self, AArch64Relocation};
 use linker_utils::architecture::Relaxation;
@@ -33,7 +33,7 @@ use linker_utils::ppc64::{self, Ppc64Relocation};
 use linker_utils::riscv64::{self, RiscVRelocation};
 use linker_utils::x86_64::{self, X86_64Relocation};
 
-impl Recognised for AArch64Relocation {
+impl RecognisedName for AArch64Relocation {
     type Kind = aarch64::RelaxationKind;
 
     ghost how = { aarch64 };
@@ -60,7 +60,7 @@ impl Recognised for AArch64Relocation {
     }
 }
 
-impl Recognised for RiscVRelocation {
+impl RecognisedName for RiscVRelocation {
     type Kind = riscv64::RelaxationKind;
 
     ghost how = { riscv };
@@ -87,7 +87,7 @@ impl Recognised for RiscVRelocation {
     }
 }
 
-impl Recognised for LoongArch64Relocation {
+impl RecognisedName for LoongArch64Relocation {
     type Kind = loongarch64::RelaxationKind;
 
     ghost how = { loongarch };
@@ -114,7 +114,7 @@ impl Recognised for LoongArch64Relocation {
     }
 }
 
-impl Recognised for Ppc64Relocation {
+impl RecognisedName for Ppc64Relocation {
     type Kind = ppc64::RelaxationKind;
 
     ghost how = { ppc64 };
@@ -141,7 +141,7 @@ impl Recognised for Ppc64Relocation {
     }
 }
 
-impl Recognised for X86_64Relocation {
+impl RecognisedName for X86_64Relocation {
     type Kind = x86_64::RelaxationKind;
 
     ghost how = { x86_64 };

@@ -6,13 +6,13 @@ use Rattle.linker_runs.specs.declared.relaxation.Item.TheVariants.{Site, Aligned
 use Rattle.linker_runs.specs.Relaxing.{shape_len, short_shape, item_at, place_of, offset_of}
 use Rattle.linker_runs.specs.Choosing.{least_len, AlignmentFits, IsStill}
 
--- Shapes of a site of so many bytes in a run of unit u: each frees a multiple of u, none keeps more
--- than the next, each short one reaches itself, and its unit divides u.
+-- Shapes of a site of so many bytes in a run of granularity u: each frees a multiple of u, none keeps more
+-- than the next, each short one reaches itself, and its granularity divides u.
 pub record ShapesSuit (u len : ℕ) (shapes : Shapes) : Type 0 where
   pub freed : (k : ℕ) → (len - shape_len shapes k) % u ≡ 0
   pub ascending : (k : ℕ) → shape_len shapes k ≤ shape_len shapes (k + 1)
-  pub ahead : (k : ℕ) → k < shapes.count → 0 < (short_shape shapes k).ahead
-  pub units : (k : ℕ) → k < shapes.count → u % (short_shape shapes k).unit ≡ 0
+  pub ahead : (k : ℕ) → k < shapes.count → 0 < (short_shape shapes k).max_forward
+  pub units : (k : ℕ) → k < shapes.count → u % (short_shape shapes k).granularity ≡ 0
 
 abbrev pub ItemSuits : ℕ → ℕ → Item → Type 0
 ItemSuits u start (Site site) = ShapesSuit u site.len site.shapes

@@ -2,16 +2,16 @@
 
 ghost use Rattle.std.specs.Prelude.{◌≡◌, ◌+◌, ◌<◌, ◌^◌, ◌↔◌, ℕ, length, IsTrue, MatchOption};
 ghost use Rattle.linker_runs.specs.Relaxing.{item_at, end_of, AreInOrder};
-ghost use Rattle.linker_runs.specs.Choosing.{run_unit, AreItems};
+ghost use Rattle.linker_runs.specs.Choosing.{run_granularity, AreItems};
 ghost use Rattle.linker_runs.specs.Faults.{ShapesMeet, ItemMeets, OwnMeets, AlignmentMeets};
 ghost use Rattle.linker_runs.specs.Faults.{UnitMeets, RunMeets, AreSound, IsFirstIn, IsFirstAt};
 ghost use Rattle.linker_runs.specs.Faults.{IsFirstFault};
 
-use super::validity::{has_its_nops, is_clear, run_unit};
+use super::validity::{has_its_nops, is_clear, run_granularity};
 use super::{Alignment, Item, Shapes};
 
 /// Why a run can't be relaxed: what is wrong with one of its items. Of an item that has several
-/// faults, the one that comes first here is told. u is the greatest unit of all short shapes.
+/// faults, the one that comes first here is told. u is the greatest granularity of all short shapes.
 ///
 /// An alignment is *still* if it divides u, has no limit, and has the nops that its input address
 /// needs, and beside these a multiple of u. It keeps the same nops in each layout.
@@ -27,16 +27,16 @@ pub enum Fault {
     ShapeTooLong,
     /// A short shape keeps no fewer bytes than the next shape.
     ShapesNotAscending,
-    /// The unit of a short shape isn't a power of two, or isn't a multiple of the next one's.
-    BadUnit,
+    /// The granularity of a short shape isn't a power of two, or isn't a multiple of the next one's.
+    BadGranularity,
     /// A short shape doesn't reach its own offset, or reaches farther than the next short one.
     BadReach,
     /// The alignment isn't a power of two.
-    BadPower,
+    BadAlignment,
     /// A shape frees bytes that aren't a multiple of u.
     UnevenShape,
     /// The alignment isn't a multiple of u, nor still.
-    PowerBelowUnit,
+    AlignmentBelowGranularity,
     /// The address behind the nops isn't a multiple of u, and the alignment isn't still.
     UnevenEnd,
     /// It has a limit, and there are fewer nops than the alignment less u, and fewer than may stay.
@@ -70,7 +70,7 @@ impl Shapes {
         } else if !self.are_ascending() {
             Some(Fault::ShapesNotAscending)
         } else if !self.have_units() {
-            Some(Fault::BadUnit)
+            Some(Fault::BadGranularity)
         } else if !self.have_reaches() {
             Some(Fault::BadReach)
         } else {
@@ -80,22 +80,22 @@ impl Shapes {
 }
 
 impl Alignment {
-    /// What is wrong with it in a run of a unit at an address.
-    fn fault(&self, unit: u64, start: u64) -> Option<Fault>
-        requires unit { 0 < unit }
-        requires power { 0 < self.now.power }
+    /// What is wrong with it in a run of a granularity at an address.
+    fn fault(&self, granularity: u64, start: u64) -> Option<Fault>
+        requires granularity { 0 < granularity }
+        requires power { 0 < self.now.alignment }
         requires ends { start + (self.now.offset + self.now.nops) < 2 ^ 64 }
-        ensures { IsFirstIn (AlignmentMeets unit start self.now) result }
+        ensures { IsFirstIn (AlignmentMeets granularity start self.now) result }
     {
-        if self.is_still(unit, start) {
+        if self.is_still(granularity, start) {
             None
-        } else if self.power % unit != 0 {
-            Some(Fault::PowerBelowUnit)
-        } else if (start + (self.offset + u64::from(self.nops))) % unit != 0 {
+        } else if self.alignment % granularity != 0 {
+            Some(Fault::AlignmentBelowGranularity)
+        } else if (start + (self.offset + u64::from(self.nops))) % granularity != 0 {
             Some(Fault::UnevenEnd)
-        } else if !self.has_nops(unit) {
+        } else if !self.has_nops(granularity) {
             Some(Fault::TooFewNops)
-        } else if !self.has_even_nops(unit) {
+        } else if !self.has_even_nops(granularity) {
             Some(Fault::UnevenNops)
         } else {
             None
@@ -114,28 +114,28 @@ impl Item {
                 if alignment.has_power() {
                     None
                 } else {
-                    Some(Fault::BadPower)
+                    Some(Fault::BadAlignment)
                 }
             }
         }
     }
 
-    /// What is wrong with it in a run of a unit at an address.
-    fn unit_fault(&self, unit: u64, start: u64) -> Option<Fault>
-        requires unit { 0 < unit }
+    /// What is wrong with it in a run of a granularity at an address.
+    fn granularity_fault(&self, granularity: u64, start: u64) -> Option<Fault>
+        requires granularity { 0 < granularity }
         requires ends { start + end_of self.now < 2 ^ 64 }
         requires few { (fault : Fault) → ItemMeets self.now fault }
-        ensures { IsFirstIn (UnitMeets unit start self.now) result }
+        ensures { IsFirstIn (UnitMeets granularity start self.now) result }
     {
         match self {
             Item::Site(site) => {
-                if site.shapes.are_even(unit, u64::from(site.len)) {
+                if site.shapes.are_even(granularity, u64::from(site.len)) {
                     None
                 } else {
                     Some(Fault::UnevenShape)
                 }
             }
-            Item::Aligned(alignment) => alignment.fault(unit, start),
+            Item::Aligned(alignment) => alignment.fault(granularity, start),
         }
     }
 }
@@ -155,21 +155,21 @@ fn own_fault(items: &[Item], start: u64, index: usize) -> Option<Fault>
     }
 }
 
-/// What is wrong with the item at an index among the others, in a run of a unit.
-fn run_fault(items: &[Item], start: u64, unit: u64, index: usize) -> Option<Fault>
+/// What is wrong with the item at an index among the others, in a run of a granularity.
+fn run_fault(items: &[Item], start: u64, granularity: u64, index: usize) -> Option<Fault>
     requires in_order { AreInOrder start items.now }
     requires sound { AreSound start items.now }
     requires within { index < length items.now }
-    requires unit { 0 < unit }
-    ensures { IsFirstIn (RunMeets unit start items.now index) result }
+    requires granularity { 0 < granularity }
+    ensures { IsFirstIn (RunMeets granularity start items.now index) result }
 {
     let item = &items[index];
-    if let Some(fault) = item.unit_fault(unit, start) {
+    if let Some(fault) = item.granularity_fault(granularity, start) {
         return Some(fault);
     }
     if !is_clear(items, start, item.target()) {
         Some(Fault::TargetInside)
-    } else if !has_its_nops(items, start, unit, index) {
+    } else if !has_its_nops(items, start, granularity, index) {
         Some(Fault::MayBeMisaligned)
     } else {
         None
@@ -194,12 +194,12 @@ fn first_run_fault(items: &[Item], start: u64) -> Option<ItemFault>
     requires in_order { AreInOrder start items.now }
     requires sound { AreSound start items.now }
     ensures { MatchOption result ((i : ℕ) → i < length items.now → (fault : Fault)
-        → RunMeets (run_unit items.now) start items.now i fault)
-        (IsFirstAt (RunMeets (run_unit items.now) start items.now) (length items.now)) }
+        → RunMeets (run_granularity items.now) start items.now i fault)
+        (IsFirstAt (RunMeets (run_granularity items.now) start items.now) (length items.now)) }
 {
-    let unit = run_unit(items, start);
+    let granularity = run_granularity(items, start);
     for index in 0..items.len() {
-        if let Some(fault) = run_fault(items, start, unit, index) {
+        if let Some(fault) = run_fault(items, start, granularity, index) {
             return Some(ItemFault { index, fault });
         }
     }
@@ -226,8 +226,8 @@ pub fn first_faulty(items: &[Item], start: u64) -> Option<ItemFault>
 ///
 /// The items ascend, none reaches past the next, and the address behind the last is below 2^64. No
 /// shape of a site keeps more bytes than the site has, and each keeps fewer than the next. Each
-/// short one reaches its own offset and no farther than the next short one; its unit is a power of
-/// two and a multiple of the next one's. With u the greatest unit of all short shapes each shape
+/// short one reaches its own offset and no farther than the next short one; its granularity is a power of
+/// two and a multiple of the next one's. With u the greatest granularity of all short shapes each shape
 /// frees a multiple of u, and each alignment, a power of two, and the address behind its nops are
 /// multiples of u; but an alignment may also divide u, have no limit and have the nops that its input
 /// address needs, and beside these a multiple of u. No target is strictly inside the bytes that an item may lose; that of a site

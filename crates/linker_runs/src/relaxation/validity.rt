@@ -4,13 +4,13 @@ ghost use Rattle.std.specs.Prelude.{◌≡◌, ◌+◌, ◌<◌, ◌≤◌, ◌^
 ghost use Rattle.std.specs.Int.{IsPowerOfTwo};
 ghost use Rattle.linker_runs.specs.declared.relaxation.faults.Fault.TheVariants.{ShapeTooLong};
 ghost use Rattle.linker_runs.specs.declared.relaxation.faults.Fault.TheVariants.{ShapesNotAscending};
-ghost use Rattle.linker_runs.specs.declared.relaxation.faults.Fault.TheVariants.{BadUnit};
+ghost use Rattle.linker_runs.specs.declared.relaxation.faults.Fault.TheVariants.{BadGranularity};
 ghost use Rattle.linker_runs.specs.declared.relaxation.faults.Fault.TheVariants.{BadReach};
 ghost use Rattle.linker_runs.specs.declared.relaxation.faults.Fault.TheVariants.{TooFewNops};
 ghost use Rattle.linker_runs.specs.declared.relaxation.faults.Fault.TheVariants.{UnevenNops};
 ghost use Rattle.linker_runs.specs.Relaxing.{end_of, short_shape, IsSound, AreInOrder};
 ghost use Rattle.linker_runs.specs.Relaxing.{item_at, offset_of};
-ghost use Rattle.linker_runs.specs.Choosing.{item_unit, run_unit, least_len, shapes_unit};
+ghost use Rattle.linker_runs.specs.Choosing.{item_granularity, run_granularity, least_len, shapes_granularity};
 ghost use Rattle.linker_runs.specs.Choosing.{HasUnit, ShapesFit, IsStill, IsFormed};
 ghost use Rattle.linker_runs.specs.Choosing.{IsAnchor};
 ghost use Rattle.linker_runs.specs.Choosing.{FreesMultiples, IsAlwaysMultiple, AreAlwaysEnough};
@@ -48,13 +48,14 @@ impl Shapes {
             && (self.count < 2 || self.kept_by(1) < self.kept_by(2))
     }
 
-    /// Whether the short shape at an index, if there is one, has a power of two as its unit.
-    fn has_unit(&self, shape: u8) -> bool
+    /// Whether the short shape at an index, if there is one, has a power of two as its granularity.
+    fn has_granularity(&self, shape: u8) -> bool
         requires { shape < 2 }
         ensures { IsTrue result
             ↔ (shape < self.now.count → HasUnit (short_shape self.now shape)) }
     {
-        shape >= self.count || is_power_of_two(u64::from(self.short[usize::from(shape)].unit))
+        shape >= self.count
+            || is_power_of_two(u64::from(self.short[usize::from(shape)].granularity))
     }
 
     /// Whether all units are powers of two.
@@ -63,23 +64,23 @@ impl Shapes {
         ensures { IsTrue result
             ↔ ((k : ℕ) → k < self.now.count → HasUnit (short_shape self.now k)) }
     {
-        self.has_unit(0) && self.has_unit(1)
+        self.has_granularity(0) && self.has_granularity(1)
     }
 
-    /// Whether the second unit, if there is one, is no greater than the first.
+    /// Whether the second granularity, if there is one, is no greater than the first.
     fn units_descend(&self) -> bool
         requires { self.now.count ≤ 2 }
         ensures { IsTrue result ↔ (1 < self.now.count
-            → (short_shape self.now 1).unit ≤ (short_shape self.now 0).unit) }
+            → (short_shape self.now 1).granularity ≤ (short_shape self.now 0).granularity) }
     {
         let [first, second] = &self.short;
-        self.count < 2 || second.unit <= first.unit
+        self.count < 2 || second.granularity <= first.granularity
     }
 
     /// Whether the units are powers of two, none less than the next.
     pub(super) fn have_units(&self) -> bool
         requires { self.now.count ≤ 2 }
-        ensures { (len : ℕ) → IsTrue result ↔ ShapesMeet self.now len BadUnit }
+        ensures { (len : ℕ) → IsTrue result ↔ ShapesMeet self.now len BadGranularity }
     {
         self.have_powers() && self.units_descend()
     }
@@ -90,32 +91,34 @@ impl Shapes {
         ensures { (len : ℕ) → IsTrue result ↔ ShapesMeet self.now len BadReach }
     {
         let [first, second] = &self.short;
-        (self.count < 1 || first.ahead > 0)
+        (self.count < 1 || first.max_forward > 0)
             && (self.count < 2
-                || second.ahead > 0 && first.behind <= second.behind && first.ahead <= second.ahead)
+                || second.max_forward > 0
+                    && first.max_backward <= second.max_backward
+                    && first.max_forward <= second.max_forward)
     }
 
-    /// Whether each shape of a site of so many bytes frees a multiple of a unit.
-    pub(super) fn are_even(&self, unit: u64, len: u64) -> bool
-        requires unit { 0 < unit }
+    /// Whether each shape of a site of so many bytes frees a multiple of a granularity.
+    pub(super) fn are_even(&self, granularity: u64, len: u64) -> bool
+        requires granularity { 0 < granularity }
         requires count { self.now.count ≤ 2 }
         requires within { ShapesMeet self.now len ShapeTooLong }
-        ensures { IsTrue result ↔ ShapesFit unit len self.now }
+        ensures { IsTrue result ↔ ShapesFit granularity len self.now }
     {
-        (len - self.kept_by(0)) % unit == 0
-            && (len - self.kept_by(1)) % unit == 0
-            && (len - self.kept_by(2)) % unit == 0
+        (len - self.kept_by(0)) % granularity == 0
+            && (len - self.kept_by(1)) % granularity == 0
+            && (len - self.kept_by(2)) % granularity == 0
     }
 
-    /// The greatest unit of the short ones, and 1 where there is none.
-    fn unit(&self) -> u64
+    /// The greatest granularity of the short ones, and 1 where there is none.
+    fn granularity(&self) -> u64
         requires { self.now.count ≤ 2 }
-        ensures { result ≡ shapes_unit self.now }
+        ensures { result ≡ shapes_granularity self.now }
     {
         if self.count > 1 {
-            u64::from(self.short[0].unit.max(self.short[1].unit))
+            u64::from(self.short[0].granularity.max(self.short[1].granularity))
         } else if self.count > 0 {
-            u64::from(self.short[0].unit)
+            u64::from(self.short[0].granularity)
         } else {
             1
         }
@@ -125,45 +128,45 @@ impl Shapes {
 impl Alignment {
     /// Whether it is a power of two.
     pub(super) fn has_power(&self) -> bool
-        ensures { IsTrue result ↔ IsPowerOfTwo self.now.power }
+        ensures { IsTrue result ↔ IsPowerOfTwo self.now.alignment }
     {
-        is_power_of_two(self.power)
+        is_power_of_two(self.alignment)
     }
 
-    /// Whether it keeps the nops that its input address needs in each layout of a run of a unit.
-    pub(super) fn is_still(&self, unit: u64, start: u64) -> bool
-        requires unit { 0 < unit }
-        requires power { 0 < self.now.power }
+    /// Whether it keeps the nops that its input address needs in each layout of a run of a granularity.
+    pub(super) fn is_still(&self, granularity: u64, start: u64) -> bool
+        requires granularity { 0 < granularity }
+        requires power { 0 < self.now.alignment }
         requires ends { start + (self.now.offset + self.now.nops) < 2 ^ 64 }
-        ensures { IsTrue result ↔ IsStill unit start self.now }
+        ensures { IsTrue result ↔ IsStill granularity start self.now }
     {
         let nops = u64::from(self.nops);
         let needed = self.needed_at(start + self.offset);
-        unit % self.power == 0
-            && self.most.is_none()
+        granularity % self.alignment == 0
+            && self.max_skip.is_none()
             && needed <= nops
-            && (nops - needed) % unit == 0
+            && (nops - needed) % granularity == 0
     }
 
-    /// Whether it has as many nops as it may need in a run of a unit, if it has a limit.
-    pub(super) fn has_nops(&self, unit: u64) -> bool
-        ensures { (start : ℕ) → IsTrue result ↔ AlignmentMeets unit start self.now TooFewNops }
+    /// Whether it has as many nops as it may need in a run of a granularity, if it has a limit.
+    pub(super) fn has_nops(&self, granularity: u64) -> bool
+        ensures { (start : ℕ) → IsTrue result ↔ AlignmentMeets granularity start self.now TooFewNops }
     {
         let nops = u64::from(self.nops);
-        match self.most {
+        match self.max_skip {
             None => true,
-            Some(most) => self.power.saturating_sub(nops) <= unit || most <= nops,
+            Some(most) => self.alignment.saturating_sub(nops) <= granularity || most <= nops,
         }
     }
 
-    /// Whether its nops are a multiple of a unit, if it has a limit.
-    pub(super) fn has_even_nops(&self, unit: u64) -> bool
-        requires { 0 < unit }
-        ensures { (start : ℕ) → IsTrue result ↔ AlignmentMeets unit start self.now UnevenNops }
+    /// Whether its nops are a multiple of a granularity, if it has a limit.
+    pub(super) fn has_even_nops(&self, granularity: u64) -> bool
+        requires { 0 < granularity }
+        ensures { (start : ℕ) → IsTrue result ↔ AlignmentMeets granularity start self.now UnevenNops }
     {
-        match self.most {
+        match self.max_skip {
             None => true,
-            Some(_) => u64::from(self.nops) % unit == 0,
+            Some(_) => u64::from(self.nops) % granularity == 0,
         }
     }
 }
@@ -177,13 +180,13 @@ impl Item {
         self.offset() <= room && self.len() <= room - self.offset()
     }
 
-    /// The greatest unit of its short shapes.
-    fn unit(&self) -> u64
+    /// The greatest granularity of its short shapes.
+    fn granularity(&self) -> u64
         requires { IsSound self.now }
-        ensures { result ≡ item_unit self.now }
+        ensures { result ≡ item_granularity self.now }
     {
         match self {
-            Item::Site(site) => site.shapes.unit(),
+            Item::Site(site) => site.shapes.granularity(),
             Item::Aligned(_) => 1,
         }
     }
@@ -197,8 +200,8 @@ impl Item {
         match self {
             Item::Site(_) => false,
             Item::Aligned(alignment) => {
-                alignment.most.is_none()
-                    && alignment.power % number == 0
+                alignment.max_skip.is_none()
+                    && alignment.alignment % number == 0
                     && (offset - (alignment.offset + u64::from(alignment.nops))) % number == 0
             }
         }
@@ -215,7 +218,7 @@ impl Item {
             Item::Site(site) => site.shapes.are_even(number, u64::from(site.len)),
             Item::Aligned(alignment) => {
                 (offset - alignment.offset) % number == 0
-                    && alignment.power % number == 0
+                    && alignment.alignment % number == 0
                     && u64::from(alignment.nops) % number == 0
             }
         }
@@ -233,17 +236,17 @@ impl Item {
     }
 }
 
-/// The greatest unit of a run.
-pub(super) fn run_unit(items: &[Item], start: u64) -> u64
+/// The greatest granularity of a run.
+pub(super) fn run_granularity(items: &[Item], start: u64) -> u64
     requires { AreInOrder start items.now }
-    ensures unit { result ≡ run_unit items.now }
+    ensures granularity { result ≡ run_granularity items.now }
     ensures some { 0 < result }
 {
-    let mut unit = 1;
+    let mut granularity = 1;
     for item in items {
-        unit = unit.max(item.unit());
+        granularity = granularity.max(item.granularity());
     }
-    unit
+    granularity
 }
 
 /// Whether an offset is not inside what an item may lose.
@@ -277,11 +280,11 @@ fn is_always_multiple(items: &[Item], start: u64, number: u64, index: usize) -> 
 }
 
 /// Whether an alignment, the item at an index, has as many nops as it needs in every layout of a run
-/// of a unit.
+/// of a granularity.
 fn are_always_enough(
     items: &[Item],
     start: u64,
-    unit: u64,
+    granularity: u64,
     index: usize,
     alignment: &Alignment,
 ) -> bool
@@ -289,24 +292,27 @@ fn are_always_enough(
     requires within { index < length items.now }
     requires is_there { offset_of (item_at items.now index) ≡ alignment.now.offset }
     requires power { IsPowerOfTwo alignment.now.power }
-    ensures { IsTrue result ↔ AreAlwaysEnough unit start items.now index alignment.now }
+    ensures { IsTrue result ↔ AreAlwaysEnough granularity start items.now index alignment.now }
 {
-    let unfilled = alignment.power.saturating_sub(u64::from(alignment.nops));
-    unfilled <= unit || is_always_multiple(items, start, unfilled.next_power_of_two(), index)
+    let unfilled = alignment
+        .alignment
+        .saturating_sub(u64::from(alignment.nops));
+    unfilled <= granularity || is_always_multiple(items, start, unfilled.next_power_of_two(), index)
 }
 
-/// Whether the item at an index has as many nops as it needs in every layout of a run of a unit, if
+/// Whether the item at an index has as many nops as it needs in every layout of a run of a granularity, if
 /// it is an alignment without a limit.
-pub(super) fn has_its_nops(items: &[Item], start: u64, unit: u64, index: usize) -> bool
+pub(super) fn has_its_nops(items: &[Item], start: u64, granularity: u64, index: usize) -> bool
     requires in_order { AreInOrder start items.now }
     requires within { index < length items.now }
     requires formed { IsFormed (item_at items.now index) }
-    ensures { IsTrue result ↔ HasItsNops unit start items.now index (item_at items.now index) }
+    ensures { IsTrue result ↔ HasItsNops granularity start items.now index (item_at items.now index) }
 {
     match &items[index] {
         Item::Site(_) => true,
         Item::Aligned(alignment) => {
-            alignment.most.is_some() || are_always_enough(items, start, unit, index, alignment)
+            alignment.max_skip.is_some()
+                || are_always_enough(items, start, granularity, index, alignment)
         }
     }
 }

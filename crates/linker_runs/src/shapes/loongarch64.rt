@@ -9,17 +9,17 @@ use crate::relaxation::{Shape, Shapes};
 /// `b` and `bl`: 28 bits, signed, of which the lowest two are 0.
 const BRANCH: Shape = Shape {
     kept: 4,
-    behind: 1 << 27,
-    ahead: 1 << 27,
-    unit: 4,
+    max_backward: 1 << 27,
+    max_forward: 1 << 27,
+    granularity: 4,
 };
 
 /// `pcaddi`: 22 bits, signed, of which the lowest two are 0.
 const PCADDI: Shape = Shape {
     kept: 4,
-    behind: 1 << 21,
-    ahead: 1 << 21,
-    unit: 4,
+    max_backward: 1 << 21,
+    max_forward: 1 << 21,
+    granularity: 4,
 };
 
 /// `R_LARCH_CALL36`, `pcaddu18i` and `jirl`: a `b` or `bl` where it reaches.

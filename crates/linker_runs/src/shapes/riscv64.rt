@@ -9,17 +9,17 @@ use crate::relaxation::{Shape, Shapes};
 /// `jal`: 21 bits, signed, of which the lowest is 0.
 const JAL: Shape = Shape {
     kept: 4,
-    behind: 1 << 20,
-    ahead: 1 << 20,
-    unit: 2,
+    max_backward: 1 << 20,
+    max_forward: 1 << 20,
+    granularity: 2,
 };
 
 /// `c.j`: 12 bits, signed, of which the lowest is 0.
 const C_J: Shape = Shape {
     kept: 2,
-    behind: 1 << 11,
-    ahead: 1 << 11,
-    unit: 2,
+    max_backward: 1 << 11,
+    max_forward: 1 << 11,
+    granularity: 2,
 };
 
 /// A call, `auipc` and `jalr`: a `jal` where it reaches.

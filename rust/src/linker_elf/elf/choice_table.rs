@@ -26,17 +26,17 @@ pub const LOCAL_EXEC_BASE: u32 = 1 << 5;
 /// `may_compress`.
 pub const COMPRESSIBLE: u32 = 1 << 6;
 
-/// `is_marked`.
-pub const MARKED: u32 = 1 << 7;
+/// `is_relaxable`.
+pub const RELAXABLE: u32 = 1 << 7;
 
-/// `is_label_marked`.
-pub const LABEL_MARKED: u32 = 1 << 8;
+/// `is_label_relaxable`.
+pub const LABEL_RELAXABLE: u32 = 1 << 8;
 
 /// `has_got_high_part`.
 pub const GOT_HIGH_PART: u32 = 1 << 9;
 
-/// `has_private_base`.
-pub const PRIVATE_BASE: u32 = 1 << 10;
+/// `toc_base_is_exclusive`.
+pub const EXCLUSIVE_TOC_BASE: u32 = 1 << 10;
 
 /// `may_change_toc`.
 pub const CHANGED_TOC: u32 = 1 << 11;
@@ -187,10 +187,10 @@ impl LinkFacts {
             & is_held(asked, EXECUTABLE, self.is_executable)
             & is_held(asked, LOCAL_EXEC_BASE, self.has_local_exec_base)
             & is_held(asked, COMPRESSIBLE, self.may_compress)
-            & is_held(asked, MARKED, self.is_marked)
-            & is_held(asked, LABEL_MARKED, self.is_label_marked)
+            & is_held(asked, RELAXABLE, self.is_relaxable)
+            & is_held(asked, LABEL_RELAXABLE, self.is_label_relaxable)
             & is_held(asked, GOT_HIGH_PART, self.has_got_high_part)
-            & is_held(asked, PRIVATE_BASE, self.has_private_base)
+            & is_held(asked, EXCLUSIVE_TOC_BASE, self.toc_base_is_exclusive)
             & is_held(asked, CHANGED_TOC, self.may_change_toc)
             & is_held(asked, WITHOUT_PLT, has_no_plt)
             & is_held(asked, GROUP_FITS, self.group_fits)

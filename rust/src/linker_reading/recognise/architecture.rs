@@ -1,7 +1,7 @@
 // Made by tools/erase of crates/linker_reading/src/recognise/architecture.rt.
 //! What a linker made of a relocation, by its architecture and its code.
 
-use crate::linker_reading::recognise::engine::{self, CANDIDATES, Made, Recognised};
+use crate::linker_reading::recognise::engine::{self, CANDIDATES, Recognised, RecognisedName};
 use crate::linker_reading::recognise::fields::FieldBits;
 use crate::aarch64::AArch64Relocation;
 use crate::architecture::Relaxation;
@@ -26,9 +26,11 @@ macro_rules! of_name {
 
 /// The same with the rewrite as one of all architectures', and the relocation's code.
 #[inline(always)]
-fn coded<N: Recognised>(found: Option<Made<N::Kind, N>>) -> Option<Made<Relaxation, u32>> {
+fn coded<N: RecognisedName>(
+    found: Option<Recognised<N::Kind, N>>,
+) -> Option<Recognised<Relaxation, u32>> {
     let made = found?;
-    Some(Made {
+    Some(Recognised {
         choice: Choice {
             kind: N::relaxation(made.choice.kind),
             relocation: made.choice.relocation.code(),
@@ -39,9 +41,9 @@ fn coded<N: Recognised>(found: Option<Made<N::Kind, N>>) -> Option<Made<Relaxati
 }
 
 /// The same of each.
-fn all_by_code<N: Recognised>(
-    found: [Option<Made<N::Kind, N>>; CANDIDATES],
-) -> [Option<Made<Relaxation, u32>>; CANDIDATES] {
+fn all_by_code<N: RecognisedName>(
+    found: [Option<Recognised<N::Kind, N>>; CANDIDATES],
+) -> [Option<Recognised<Relaxation, u32>>; CANDIDATES] {
     let mut by_code = [None; CANDIDATES];
     for index in 0..CANDIDATES {
         if found[index].is_some() {
@@ -82,7 +84,7 @@ pub fn recognise(
     offset: u64,
     others: &[FieldBits],
     linked: &[u8],
-) -> [Option<Made<Relaxation, u32>>; CANDIDATES] {
+) -> [Option<Recognised<Relaxation, u32>>; CANDIDATES] {
     debug_assert!(original.len() <= 64);
     of_name!(architecture, code, name => {
         all_by_code(engine::recognise(name, original, offset, others, linked))
@@ -105,7 +107,7 @@ pub fn recognise_chosen(
     others: &[FieldBits],
     linked: &[u8],
     facts: &LinkFacts,
-) -> Option<Made<Relaxation, u32>> {
+) -> Option<Recognised<Relaxation, u32>> {
     debug_assert!(original.len() <= 64);
     of_name!(architecture, code, name => {
         coded(engine::recognise_chosen(name, original, offset, others, linked, facts))

@@ -21,7 +21,7 @@ pub type Choices<K, R> = ([Choice<K, R>; CANDIDATES], usize);
 
 /// A choice that leaves the linked bytes, and what stands in the field of its relocation there.
 #[derive(Debug, Clone, Copy, PartialEq, Eq)]
-pub struct Made<K, R> {
+pub struct Recognised<K, R> {
     /// The rewrite, and the relocation after it.
     pub choice: Choice<K, R>,
     /// The field's offset in the linked bytes: the relocation's after the rewrite, less the deleted
@@ -93,7 +93,7 @@ fn value_at(row: &Option<Row>, at: u64, linked: &[u8]) -> Option<FieldValue> {
 }
 
 /// A relocation's name, with the table of its choices.
-pub trait Recognised: RelocationName + PartialEq {
+pub trait RecognisedName: RelocationName + PartialEq {
     /// The rewrites.
     type Kind: Copy + PartialEq;
 
@@ -137,13 +137,13 @@ pub(crate) fn choices_of<O, K: Copy, R: Copy>(
 /// leaves the linked bytes, as `recognise` says. In a loop LLVM would compute for every rewrite what
 /// some need.
 #[inline(never)]
-fn recognise_one<N: Recognised>(
+fn recognise_one<N: RecognisedName>(
     choice: Choice<N::Kind, N>,
     original: &[u8],
     offset: u64,
     others: &[FieldBits],
     linked: &[u8],
-) -> Option<Made<N::Kind, N>> {
+) -> Option<Recognised<N::Kind, N>> {
     let kind = N::relaxation(choice.kind);
     if !kind.matches(original, offset) {
         return None;
@@ -159,7 +159,7 @@ fn recognise_one<N: Recognised>(
         return None;
     }
     let field_offset = linked_offset(deleted, offset, at);
-    Some(Made {
+    Some(Recognised {
         choice,
         offset: field_offset,
         value: value_at(&row, field_offset, linked),
@@ -168,7 +168,7 @@ fn recognise_one<N: Recognised>(
 
 /// The choice at an index, if it has no place before it.
 #[inline(always)]
-fn first_at<N: Recognised>(
+fn first_at<N: RecognisedName>(
     choices: &[Choice<N::Kind, N>; CANDIDATES],
     index: usize,
 ) -> Option<Choice<N::Kind, N>> {
@@ -229,13 +229,13 @@ fn first_at<N: Recognised>(
 /// - `original.len() <= 64`
 #[must_use]
 #[cfg_attr(debug_assertions, track_caller)]
-pub fn recognise<N: Recognised>(
+pub fn recognise<N: RecognisedName>(
     name: N,
     original: &[u8],
     offset: u64,
     others: &[FieldBits],
     linked: &[u8],
-) -> [Option<Made<N::Kind, N>>; CANDIDATES] {
+) -> [Option<Recognised<N::Kind, N>>; CANDIDATES] {
     debug_assert!(original.len() <= 64);
     let (choices, count) = name.listed(original, offset);
     let mut found = [None; CANDIDATES];
@@ -255,14 +255,14 @@ pub fn recognise<N: Recognised>(
 /// - `original.len() <= 64`
 #[must_use]
 #[cfg_attr(debug_assertions, track_caller)]
-pub fn recognise_chosen<N: Recognised>(
+pub fn recognise_chosen<N: RecognisedName>(
     name: N,
     original: &[u8],
     offset: u64,
     others: &[FieldBits],
     linked: &[u8],
     facts: &LinkFacts,
-) -> Option<Made<N::Kind, N>> {
+) -> Option<Recognised<N::Kind, N>> {
     debug_assert!(original.len() <= 64);
     let chosen = name.choose(original, offset, facts);
     recognise_one(chosen, original, offset, others, linked)

@@ -1,7 +1,7 @@
 // Made by tools/erase of crates/linker_reading/src/recognise/recognisers.rt.
 //! What is recognised of each architecture.
 
-use crate::linker_reading::recognise::engine::{Choices, Recognised, choices_of};
+use crate::linker_reading::recognise::engine::{Choices, RecognisedName, choices_of};
 use crate::linker_elf::elf::choice_table::ChosenByTable;
 use crate::aarch64::{self, AArch64Relocation};
 use crate::architecture::Relaxation;
@@ -11,7 +11,7 @@ use crate::ppc64::{self, Ppc64Relocation};
 use crate::riscv64::{self, RiscVRelocation};
 use crate::x86_64::{self, X86_64Relocation};
 
-impl Recognised for AArch64Relocation {
+impl RecognisedName for AArch64Relocation {
     type Kind = aarch64::RelaxationKind;
 
     fn code(self) -> u32 {
@@ -33,7 +33,7 @@ impl Recognised for AArch64Relocation {
     }
 }
 
-impl Recognised for RiscVRelocation {
+impl RecognisedName for RiscVRelocation {
     type Kind = riscv64::RelaxationKind;
 
     fn code(self) -> u32 {
@@ -55,7 +55,7 @@ impl Recognised for RiscVRelocation {
     }
 }
 
-impl Recognised for LoongArch64Relocation {
+impl RecognisedName for LoongArch64Relocation {
     type Kind = loongarch64::RelaxationKind;
 
     fn code(self) -> u32 {
@@ -77,7 +77,7 @@ impl Recognised for LoongArch64Relocation {
     }
 }
 
-impl Recognised for Ppc64Relocation {
+impl RecognisedName for Ppc64Relocation {
     type Kind = ppc64::RelaxationKind;
 
     fn code(self) -> u32 {
@@ -99,7 +99,7 @@ impl Recognised for Ppc64Relocation {
     }
 }
 
-impl Recognised for X86_64Relocation {
+impl RecognisedName for X86_64Relocation {
     type Kind = x86_64::RelaxationKind;
 
     fn code(self) -> u32 {

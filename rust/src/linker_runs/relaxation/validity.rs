@@ -23,20 +23,21 @@ impl Shapes {
             && (self.count < 2 || self.kept_by(1) < self.kept_by(2))
     }
 
-    /// Whether the short shape at an index, if there is one, has a power of two as its unit.
-    fn has_unit(&self, shape: u8) -> bool {
-        shape >= self.count || is_power_of_two(u64::from(self.short[usize::from(shape)].unit))
+    /// Whether the short shape at an index, if there is one, has a power of two as its granularity.
+    fn has_granularity(&self, shape: u8) -> bool {
+        shape >= self.count
+            || is_power_of_two(u64::from(self.short[usize::from(shape)].granularity))
     }
 
     /// Whether all units are powers of two.
     fn have_powers(&self) -> bool {
-        self.has_unit(0) && self.has_unit(1)
+        self.has_granularity(0) && self.has_granularity(1)
     }
 
-    /// Whether the second unit, if there is one, is no greater than the first.
+    /// Whether the second granularity, if there is one, is no greater than the first.
     fn units_descend(&self) -> bool {
         let [first, second] = &self.short;
-        self.count < 2 || second.unit <= first.unit
+        self.count < 2 || second.granularity <= first.granularity
     }
 
     /// Whether the units are powers of two, none less than the next.
@@ -47,24 +48,26 @@ impl Shapes {
     /// Whether each short shape reaches its own offset, and none farther than the next.
     pub(super) fn have_reaches(&self) -> bool {
         let [first, second] = &self.short;
-        (self.count < 1 || first.ahead > 0)
+        (self.count < 1 || first.max_forward > 0)
             && (self.count < 2
-                || second.ahead > 0 && first.behind <= second.behind && first.ahead <= second.ahead)
+                || second.max_forward > 0
+                    && first.max_backward <= second.max_backward
+                    && first.max_forward <= second.max_forward)
     }
 
-    /// Whether each shape of a site of so many bytes frees a multiple of a unit.
-    pub(super) fn are_even(&self, unit: u64, len: u64) -> bool {
-        (len - self.kept_by(0)) % unit == 0
-            && (len - self.kept_by(1)) % unit == 0
-            && (len - self.kept_by(2)) % unit == 0
+    /// Whether each shape of a site of so many bytes frees a multiple of a granularity.
+    pub(super) fn are_even(&self, granularity: u64, len: u64) -> bool {
+        (len - self.kept_by(0)) % granularity == 0
+            && (len - self.kept_by(1)) % granularity == 0
+            && (len - self.kept_by(2)) % granularity == 0
     }
 
-    /// The greatest unit of the short ones, and 1 where there is none.
-    fn unit(&self) -> u64 {
+    /// The greatest granularity of the short ones, and 1 where there is none.
+    fn granularity(&self) -> u64 {
         if self.count > 1 {
-            u64::from(self.short[0].unit.max(self.short[1].unit))
+            u64::from(self.short[0].granularity.max(self.short[1].granularity))
         } else if self.count > 0 {
-            u64::from(self.short[0].unit)
+            u64::from(self.short[0].granularity)
         } else {
             1
         }
@@ -74,33 +77,33 @@ impl Shapes {
 impl Alignment {
     /// Whether it is a power of two.
     pub(super) fn has_power(&self) -> bool {
-        is_power_of_two(self.power)
+        is_power_of_two(self.alignment)
     }
 
-    /// Whether it keeps the nops that its input address needs in each layout of a run of a unit.
-    pub(super) fn is_still(&self, unit: u64, start: u64) -> bool {
+    /// Whether it keeps the nops that its input address needs in each layout of a run of a granularity.
+    pub(super) fn is_still(&self, granularity: u64, start: u64) -> bool {
         let nops = u64::from(self.nops);
         let needed = self.needed_at(start + self.offset);
-        unit % self.power == 0
-            && self.most.is_none()
+        granularity % self.alignment == 0
+            && self.max_skip.is_none()
             && needed <= nops
-            && (nops - needed) % unit == 0
+            && (nops - needed) % granularity == 0
     }
 
-    /// Whether it has as many nops as it may need in a run of a unit, if it has a limit.
-    pub(super) fn has_nops(&self, unit: u64) -> bool {
+    /// Whether it has as many nops as it may need in a run of a granularity, if it has a limit.
+    pub(super) fn has_nops(&self, granularity: u64) -> bool {
         let nops = u64::from(self.nops);
-        match self.most {
+        match self.max_skip {
             None => true,
-            Some(most) => self.power.saturating_sub(nops) <= unit || most <= nops,
+            Some(most) => self.alignment.saturating_sub(nops) <= granularity || most <= nops,
         }
     }
 
-    /// Whether its nops are a multiple of a unit, if it has a limit.
-    pub(super) fn has_even_nops(&self, unit: u64) -> bool {
-        match self.most {
+    /// Whether its nops are a multiple of a granularity, if it has a limit.
+    pub(super) fn has_even_nops(&self, granularity: u64) -> bool {
+        match self.max_skip {
             None => true,
-            Some(_) => u64::from(self.nops) % unit == 0,
+            Some(_) => u64::from(self.nops) % granularity == 0,
         }
     }
 }
@@ -112,10 +115,10 @@ impl Item {
         self.offset() <= room && self.len() <= room - self.offset()
     }
 
-    /// The greatest unit of its short shapes.
-    fn unit(&self) -> u64 {
+    /// The greatest granularity of its short shapes.
+    fn granularity(&self) -> u64 {
         match self {
-            Item::Site(site) => site.shapes.unit(),
+            Item::Site(site) => site.shapes.granularity(),
             Item::Aligned(_) => 1,
         }
     }
@@ -125,8 +128,8 @@ impl Item {
         match self {
             Item::Site(_) => false,
             Item::Aligned(alignment) => {
-                alignment.most.is_none()
-                    && alignment.power % number == 0
+                alignment.max_skip.is_none()
+                    && alignment.alignment % number == 0
                     && (offset - (alignment.offset + u64::from(alignment.nops))) % number == 0
             }
         }
@@ -138,7 +141,7 @@ impl Item {
             Item::Site(site) => site.shapes.are_even(number, u64::from(site.len)),
             Item::Aligned(alignment) => {
                 (offset - alignment.offset) % number == 0
-                    && alignment.power % number == 0
+                    && alignment.alignment % number == 0
                     && u64::from(alignment.nops) % number == 0
             }
         }
@@ -153,13 +156,13 @@ impl Item {
     }
 }
 
-/// The greatest unit of a run.
-pub(super) fn run_unit(items: &[Item], start: u64) -> u64 {
-    let mut unit = 1;
+/// The greatest granularity of a run.
+pub(super) fn run_granularity(items: &[Item], start: u64) -> u64 {
+    let mut granularity = 1;
     for item in items {
-        unit = unit.max(item.unit());
+        granularity = granularity.max(item.granularity());
     }
-    unit
+    granularity
 }
 
 /// Whether an offset is not inside what an item may lose.
@@ -184,25 +187,28 @@ fn is_always_multiple(items: &[Item], start: u64, number: u64, index: usize) -> 
 }
 
 /// Whether an alignment, the item at an index, has as many nops as it needs in every layout of a run
-/// of a unit.
+/// of a granularity.
 fn are_always_enough(
     items: &[Item],
     start: u64,
-    unit: u64,
+    granularity: u64,
     index: usize,
     alignment: &Alignment,
 ) -> bool {
-    let unfilled = alignment.power.saturating_sub(u64::from(alignment.nops));
-    unfilled <= unit || is_always_multiple(items, start, unfilled.next_power_of_two(), index)
+    let unfilled = alignment
+        .alignment
+        .saturating_sub(u64::from(alignment.nops));
+    unfilled <= granularity || is_always_multiple(items, start, unfilled.next_power_of_two(), index)
 }
 
-/// Whether the item at an index has as many nops as it needs in every layout of a run of a unit, if
+/// Whether the item at an index has as many nops as it needs in every layout of a run of a granularity, if
 /// it is an alignment without a limit.
-pub(super) fn has_its_nops(items: &[Item], start: u64, unit: u64, index: usize) -> bool {
+pub(super) fn has_its_nops(items: &[Item], start: u64, granularity: u64, index: usize) -> bool {
     match &items[index] {
         Item::Site(_) => true,
         Item::Aligned(alignment) => {
-            alignment.most.is_some() || are_always_enough(items, start, unit, index, alignment)
+            alignment.max_skip.is_some()
+                || are_always_enough(items, start, granularity, index, alignment)
         }
     }
 }

@@ -7,7 +7,7 @@ use linker_utils::elf::{Architecture, Choice, LinkFacts};
 use linker_utils::loongarch64::{LoongArch64Relocation, RelaxationKind as LoongArchKind};
 use linker_utils::ppc64::{Ppc64Relocation, RelaxationKind as Ppc64Kind};
 use linker_utils::reading::FieldValue;
-use linker_utils::recognise::{FieldBits, Made, architecture, recognise, same_but_for};
+use linker_utils::recognise::{FieldBits, Recognised, architecture, recognise, same_but_for};
 use linker_utils::riscv64::{RelaxationKind as RiscVKind, RiscVRelocation};
 use linker_utils::x86_64::{RelaxationKind as X86Kind, X86_64Relocation};
 
@@ -43,7 +43,7 @@ fn a_sequence_that_gnu_ld_rewrote_is_recognised() {
     let local_exec = x86_64_choice(X86Kind::TlsGdToLocalExec, X86_64Relocation::R_X86_64_TPOFF32);
     let found = recognise(name, &GENERAL_DYNAMIC, 4, &[], &LOCAL_EXEC);
     // lea -0xcb8(%rax), %rax
-    let made = Made { choice: local_exec, offset: 12, value: Some(whole(-0xcb8)) };
+    let made = Recognised { choice: local_exec, offset: 12, value: Some(whole(-0xcb8)) };
     assert_eq!(found, [Some(made), None, None, None, None, None]);
 
     // with another operation on `%rax`, and with another byte behind the sequence
@@ -65,7 +65,7 @@ fn fields_of_other_relocations_are_ignored_and_their_neighbours_are_not() {
     let unchanged = x86_64_choice(X86Kind::NoOp, name);
     let call = FieldBits { offset: 12, bits: 0xffff_ffff };
     let found = recognise(name, &GENERAL_DYNAMIC, 4, &[call], &linked);
-    let made = Made { choice: unchanged, offset: 4, value: Some(whole(0x10)) };
+    let made = Recognised { choice: unchanged, offset: 4, value: Some(whole(0x10)) };
     assert_eq!(found, [None, None, None, Some(made), None, None]);
     let found = recognise(name, &GENERAL_DYNAMIC, 4, &[], &linked);
     assert_eq!(found, [None; 6]);
@@ -97,7 +97,7 @@ fn instructions_of_aarch64_that_lld_rewrote_are_recognised() {
     ] {
         let found = recognise(name, &[0x01, 0x00, 0x40, 0xf9], 0, &[], &linked);
         let mut choices = found.into_iter().flatten();
-        let made = Made {
+        let made = Recognised {
             choice: Choice { kind, relocation },
             offset: 0,
             value: Some(low_bits(end, number)),
@@ -117,7 +117,7 @@ fn what_linkers_deleted_on_riscv_is_not_compared() {
     let name = RiscVRelocation::R_RISCV_HI20;
     let lui = [0x37, 0x05, 0x00, 0x00];
     let found = recognise(name, &lui, 0, &[], &[]);
-    let deleted = Made { choice: delete, offset: 0, value: None };
+    let deleted = Recognised { choice: delete, offset: 0, value: None };
     assert_eq!(found, [Some(deleted), None, None, None, None, None]);
     let lui = [0xb7, 0x04, 0x00, 0x00];
     let found = recognise(name, &lui, 0, &[], &[0x89, 0x64]);
@@ -138,7 +138,7 @@ fn what_linkers_deleted_on_riscv_is_not_compared() {
 fn what_linkers_made_of_clui_is_recognised() {
     let name = RiscVRelocation::R_RISCV_RVC_LUI;
     let zeroed = Choice { kind: RiscVKind::CLuiToCLi, relocation: RiscVRelocation::R_RISCV_NONE };
-    let made = Made { choice: zeroed, offset: 0, value: None };
+    let made = Recognised { choice: zeroed, offset: 0, value: None };
     let found = recognise(name, &[0x05, 0x65], 0, &[], &[0x01, 0x45]);
     assert_eq!(found, [Some(made), None, None, None, None, None]);
     let found = recognise(name, &[0x05, 0x65], 0, &[], &[0x81, 0x45]);
@@ -162,11 +162,11 @@ fn what_gnu_ld_made_on_loongarch_is_recognised() {
     let name = LoongArch64Relocation::R_LARCH_GOT_PC_HI20;
     let found = recognise(name, &pair, 0, &[second], &linked);
     // `pcaddi a0, 0x7f66`, in units of 4 bytes
-    let made = Made { choice: near, offset: 0, value: Some(whole(0x1fd98)) };
+    let made = Recognised { choice: near, offset: 0, value: Some(whole(0x1fd98)) };
     assert_eq!(found, [Some(made), None, None, None, None, None]);
     let name = LoongArch64Relocation::R_LARCH_GOT_PC_LO12;
     let found = recognise(name, &pair, 4, &[first], &linked[..4]);
-    let made = Made { choice: delete, offset: 4, value: None };
+    let made = Recognised { choice: delete, offset: 4, value: None };
     assert_eq!(found, [Some(made), None, None, None, None, None]);
     // into another register
     let altered = [0xc5, 0xec, 0x0f, 0x18, 0x04, 0x64, 0x00, 0x1a];
@@ -184,12 +184,12 @@ fn what_linkers_made_on_powerpc64_is_recognised() {
     let name = Ppc64Relocation::R_PPC64_TOC16_HA;
     let original = 0x3c62_0000u32.to_le_bytes();
     let found = recognise(name, &original, 0, &[], &0x6000_0000u32.to_le_bytes());
-    let made = Made { choice: nop, offset: 0, value: None };
+    let made = Recognised { choice: nop, offset: 0, value: None };
     assert_eq!(found, [Some(made), None, None, None, None, None]);
     let name = Ppc64Relocation::R_PPC64_TOC16_LO;
     let original = 0x3863_0000u32.to_le_bytes();
     let found = recognise(name, &original, 0, &[], &0x3862_8100u32.to_le_bytes());
-    let made = Made { choice: low, offset: 0, value: Some(whole(-32512)) };
+    let made = Recognised { choice: low, offset: 0, value: Some(whole(-32512)) };
     assert_eq!(found, [Some(made), None, None, None, None, None]);
 }
 
@@ -220,7 +220,7 @@ fn a_field_is_that_of_the_instruction() {
 fn a_relocation_is_recognised_by_its_code() {
     let pair = [0x97, 0x00, 0x00, 0x00, 0xe7, 0x80, 0x00, 0x00];
     let jal = 0xff9f_f0efu32.to_le_bytes();
-    let made = Made {
+    let made = Recognised {
         choice: Choice { kind: Relaxation::RiscV(RiscVKind::CallToJal), relocation: 17 },
         offset: 0,
         value: Some(whole(-8)),
@@ -239,7 +239,7 @@ fn a_relocation_is_recognised_by_its_code() {
 fn no_choice_is_returned_twice() {
     let name = RiscVRelocation::R_RISCV_TLSDESC_HI20;
     let auipc = [0x17, 0x05, 0x00, 0x00];
-    let made = Made {
+    let made = Recognised {
         choice: Choice { kind: RiscVKind::Delete, relocation: RiscVRelocation::R_RISCV_NONE },
         offset: 0,
         value: None,
@@ -256,7 +256,7 @@ fn jumps_and_kept_moves_are_recognised() {
     let before = 0x4c00_0180u32.to_le_bytes();
     let found = recognise(name, &before, 0, &[], &0x4ff8_0180u32.to_le_bytes());
     let choice = Choice { kind: LoongArchKind::NoOp, relocation: name };
-    let made = Made { choice, offset: 0, value: Some(low_bits(12, 0x800)) };
+    let made = Recognised { choice, offset: 0, value: Some(low_bits(12, 0x800)) };
     assert!(found.contains(&Some(made)), "{found:?}");
     // an `addi.d` has no bits above its 12, and another register isn't in the field
     let row = linker_utils::loongarch64::row(name).expect("a row");

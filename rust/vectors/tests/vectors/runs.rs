@@ -12,6 +12,6 @@ fn site(offset: u64, target: u64, shapes: Shapes) -> Item {
     Item::Site(Site { offset, len: 8, target, shapes })
 }
 
-fn aligned(offset: u64, nops: u32, power: u64, most: Option<u64>) -> Item {
-    Item::Aligned(Alignment { offset, nops, power, most })
+fn aligned(offset: u64, nops: u32, alignment: u64, max_skip: Option<u64>) -> Item {
+    Item::Aligned(Alignment { offset, nops, alignment, max_skip })
 }

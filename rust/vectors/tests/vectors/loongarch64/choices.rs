@@ -58,12 +58,12 @@ fn rewritten(name: Name, words: [u32; 4], at: u64, facts: &LinkFacts) -> (Kind, 
 }
 
 /// The facts of a local symbol in an executable, whose code is at 0x1_2000_0100.
-fn facts_of(symbol: u64, tls_base: u64, is_marked: bool) -> LinkFacts {
+fn facts_of(symbol: u64, tls_base: u64, is_relaxable: bool) -> LinkFacts {
     LinkFacts {
         is_local: true,
         has_fixed_distance: true,
         is_executable: true,
-        is_marked,
+        is_relaxable,
         has_addresses: true,
         group_fits: true,
         operands: Operands {
@@ -150,7 +150,7 @@ fn near_entries_are_made_by_pcaddi() {
     for (high, words, place, got_entry, want) in table {
         let operands = Operands { place, got_entry, ..Operands::default() };
         let facts = LinkFacts {
-            is_marked: true,
+            is_relaxable: true,
             has_addresses: true,
             group_fits: true,
             operands,

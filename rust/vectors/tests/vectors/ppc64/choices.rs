@@ -12,7 +12,7 @@ fn own() -> LinkFacts {
         is_local: true,
         has_fixed_distance: true,
         is_executable: true,
-        has_private_base: true,
+        toc_base_is_exclusive: true,
         may_change_toc: true,
         group_fits: true,
         has_addresses: true,
@@ -421,7 +421,7 @@ fn words_match_linkers() {
             may_change_toc: flags == 2,
             has_fixed_distance: true,
             is_executable: true,
-            has_private_base: true,
+            toc_base_is_exclusive: true,
             group_fits: true,
             has_addresses: true,
             operands: Operands {

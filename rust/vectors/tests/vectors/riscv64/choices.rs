@@ -12,7 +12,7 @@ fn facts_at(symbol: u64, place: u64) -> LinkFacts {
         has_fixed_address: true,
         has_fixed_distance: true,
         may_compress: true,
-        is_marked: true,
+        is_relaxable: true,
         has_addresses: true,
         operands: Operands { symbol, plt_entry: symbol, place, ..Operands::default() },
         ..LinkFacts::default()
@@ -89,7 +89,7 @@ fn choices_of_clui_match_linkers() {
     let as_it_is = choice(RelaxationKind::NoOp, name);
     for (before, value, after) in pairs::CLUI {
         let facts = LinkFacts {
-            is_marked: false,
+            is_relaxable: false,
             may_compress: false,
             ..facts_at(value.cast_unsigned(), 0x10000)
         };
@@ -168,12 +168,12 @@ fn altered_calls_are_left() {
 }
 
 /// The facts of a symbol of an executable, with a GOT entry and a thread pointer.
-fn facts_in(symbol: u64, place: u64, is_local: bool, is_marked: bool) -> LinkFacts {
+fn facts_in(symbol: u64, place: u64, is_local: bool, is_relaxable: bool) -> LinkFacts {
     LinkFacts {
         is_local,
         has_fixed_distance: true,
         is_executable: true,
-        is_marked,
+        is_relaxable,
         has_addresses: true,
         operands: Operands {
             symbol,
@@ -216,7 +216,7 @@ fn a_load_from_the_got_becomes_the_address_of_a_linker() {
     let (symbol, place, load, address) = ADDRESS;
     let facts = LinkFacts {
         has_got_high_part: true,
-        is_label_marked: true,
+        is_label_relaxable: true,
         ..facts_in(symbol, place, true, false)
     };
     let (high, auipc) = left(RiscVRelocation::R_RISCV_GOT_HI20, load[0], &facts);
@@ -230,9 +230,9 @@ fn a_load_from_the_got_becomes_the_address_of_a_linker() {
         LinkFacts { is_local: false, ..facts },
         LinkFacts { is_ifunc: true, ..facts },
         LinkFacts { has_fixed_distance: false, ..facts },
-        LinkFacts { is_label_marked: false, ..facts },
+        LinkFacts { is_label_relaxable: false, ..facts },
         // the mark of a low part, as compilers write it
-        LinkFacts { is_label_marked: false, is_marked: true, ..facts },
+        LinkFacts { is_label_relaxable: false, is_relaxable: true, ..facts },
     ] {
         let (kind, _) = left(RiscVRelocation::R_RISCV_PCREL_LO12_I, load[1], &replaceable);
         assert_eq!(kind, RelaxationKind::NoOp, "{replaceable:?}");

@@ -21,12 +21,12 @@ impl Random {
 /// A short shape that reaches up to 64 bytes, and at least as far as the one before it.
 fn random_shape(random: &mut Random, kept: u32, least: u64) -> Shape {
     let reach = least.max(2 << random.below(6));
-    Shape { kept, behind: reach, ahead: reach, unit: 2 }
+    Shape { kept, max_backward: reach, max_forward: reach, granularity: 2 }
 }
 
 fn random_site(random: &mut Random, offset: u64) -> Item {
     let first = random_shape(random, 2, 0);
-    let short = [first, random_shape(random, 4, first.ahead)];
+    let short = [first, random_shape(random, 4, first.max_forward)];
     let count = 1 + random.below(2) as u8;
     Item::Site(Site {
         offset,
@@ -82,7 +82,7 @@ fn count_shapes(item: &Item) -> u64 {
 /// How many bytes from an address on are needed up to the next multiple of the alignment, one by
 /// one.
 fn count_needed(alignment: &Alignment, address: u64) -> u64 {
-    (0..alignment.power).find(|needed| (address + needed).is_multiple_of(alignment.power)).unwrap()
+    (0..alignment.alignment).find(|needed| (address + needed).is_multiple_of(alignment.alignment)).unwrap()
 }
 
 /// How many bytes of each item stay with a choice, from left to right.
@@ -99,7 +99,7 @@ fn kept_with(items: &[Item], choice: &[u8], keeps_all: bool) -> Vec<u64> {
             Item::Aligned(alignment) => {
                 let address = output_offset(items, &kept, alignment.offset);
                 let needed = count_needed(alignment, address);
-                match alignment.most {
+                match alignment.max_skip {
                     Some(most) if needed > most => 0,
                     _ => needed,
                 }
@@ -115,8 +115,8 @@ fn kept_with(items: &[Item], choice: &[u8], keeps_all: bool) -> Vec<u64> {
 fn reaches(items: &[Item], kept: &[u64], site: &Site, short: &Shape) -> bool {
     let from = output_offset(items, kept, site.offset);
     let to = output_offset(items, kept, site.target);
-    let is_near = if to >= from { to - from < short.ahead } else { from - to <= short.behind };
-    is_near && to.abs_diff(from).is_multiple_of(u64::from(short.unit))
+    let is_near = if to >= from { to - from < short.max_forward } else { from - to <= short.max_backward };
+    is_near && to.abs_diff(from).is_multiple_of(u64::from(short.granularity))
 }
 
 /// Whether each site reaches its target, where so many bytes of each item stay.

@@ -64,8 +64,8 @@ fn shaped(short: [Shape; 2], count: u8, longest: u32) -> Item {
     site(0, 0, Shapes { short, count, longest })
 }
 
-fn reaching(kept: u32, behind: u64, ahead: u64, unit: u32) -> Shape {
-    Shape { kept, behind, ahead, unit }
+fn reaching(kept: u32, max_backward: u64, max_forward: u64, granularity: u32) -> Shape {
+    Shape { kept, max_backward, max_forward, granularity }
 }
 
 #[test]
@@ -82,15 +82,15 @@ fn items_by_themselves_are_rejected() {
     expect_fault(&[shaped([jal, c_j], 2, 8)], 0, Fault::ShapesNotAscending);
     expect_fault(&[shaped([jal, jal], 1, 4)], 0, Fault::ShapesNotAscending);
     let odd = reaching(4, 1 << 20, 1 << 20, 3);
-    expect_fault(&[shaped([odd, jal], 1, 8)], 0, Fault::BadUnit);
+    expect_fault(&[shaped([odd, jal], 1, 8)], 0, Fault::BadGranularity);
     let wide = reaching(4, 1 << 20, 1 << 20, 4);
-    expect_fault(&[shaped([c_j, wide], 2, 8)], 0, Fault::BadUnit);
+    expect_fault(&[shaped([c_j, wide], 2, 8)], 0, Fault::BadGranularity);
     let ahead = reaching(4, 1 << 20, 0, 2);
     expect_fault(&[shaped([ahead, jal], 1, 8)], 0, Fault::BadReach);
     let far = reaching(2, 1 << 21, 1 << 11, 2);
     expect_fault(&[shaped([far, jal], 2, 8)], 0, Fault::BadReach);
     let items = [site(0, 0, call), aligned(8, 14, 12, None)];
-    expect_fault(&items, 1, Fault::BadPower);
+    expect_fault(&items, 1, Fault::BadAlignment);
 }
 
 #[test]
@@ -103,7 +103,7 @@ fn items_are_rejected_among_the_others() {
     expect_fault(&items, 0, Fault::TargetInside);
     let pcala = loongarch64::PCALA;
     let items = [site(0, 0, pcala), aligned(10, 2, 2, None)];
-    expect_fault(&items, 1, Fault::PowerBelowUnit);
+    expect_fault(&items, 1, Fault::AlignmentBelowGranularity);
     let items = [site(0, 0, pcala), aligned(10, 12, 16, None)];
     expect_fault(&items, 1, Fault::UnevenEnd);
     let items = [site(0, 0, call), aligned(8, 12, 16, Some(14))];
@@ -167,7 +167,7 @@ fn alignments_below_the_unit_keep_their_nops() {
     }
     for (offset, nops, power) in [(9, 2, 2), (9, 1, 1), (9, 0, 2), (10, 1, 2)] {
         let items = [site(0, 0, pcala), aligned(offset, nops, power, None)];
-        assert_eq!(first(&items, 0), Some((1, Fault::PowerBelowUnit)), "{offset} {nops} {power}");
+        assert_eq!(first(&items, 0), Some((1, Fault::AlignmentBelowGranularity)), "{offset} {nops} {power}");
     }
 }
 

@@ -3,7 +3,7 @@ use Rattle.std.specs.Prelude.{IfSome, IfNone}
 use Rattle.linker_elf.specs.declared.elf.choice.Choice.{Choice}
 use Rattle.linker_reading.specs.Inner.Found.{IsMeant, AreFoundOfFirst, IsRepeated}
 use Rattle.linker_reading.specs.Recognised.{choices_at}
-use Rattle.linker_reading.specs.declared.recognise.engine.Made.{Made}
+use Rattle.linker_reading.specs.declared.recognise.engine.Recognised.{Recognised}
 use Rattle.linker_reading.proofs.Found.{one_more, same_again, found_in_table, are_distinct, chosen_found}
 use Rattle.linker_reading.proofs.Tables.{taken_at, repeated_in, repeated_of, taken_few}
 use Rattle.linker_reading.proofs.recognise.engine.recognise.Goals.{in-Some, in_default}
@@ -11,7 +11,7 @@ use Rattle.linker_reading.proofs.recognise.engine.recognise.Goals as goal
 
 pub loop-index-preserved : goal.loop-index-preserved
 loop-index-preserved g c =
-    let of = λ (m : Made g.row.N-Kind.Denot g.row.N.Denot). m.choice in
+    let of = λ (m : Recognised g.row.N-Kind.Denot g.row.N.Denot). m.choice in
     let IsSo = IsMeant g.N.Recognised.how c.args.original.now c.args.offset c.args.others.now c.args.linked.now in
     let choices = choices_at g.N.Recognised.how c.args.name c.args.original.now c.args.offset in
     let array = c.listed-choices.result.0 in

@@ -1,9 +1,9 @@
 use Rattle.linker_reading.specs.Inner.Found.{IsMeant, AreFoundOfFirst}
 use Rattle.linker_reading.specs.Recognised.{choices_at}
-use Rattle.linker_reading.specs.declared.recognise.engine.Made.{Made}
+use Rattle.linker_reading.specs.declared.recognise.engine.Recognised.{Recognised}
 use Rattle.linker_reading.proofs.recognise.engine.recognise.Given as goal
 
 abbrev pub invariant-loop-index : goal.invariant-loop-index
 invariant-loop-index g l =
-    AreFoundOfFirst (λ (m : Made g.row.N-Kind.Denot g.row.N.Denot). m.choice) (IsMeant g.N.Recognised.how l.original l.offset l.others l.linked)
+    AreFoundOfFirst (λ (m : Recognised g.row.N-Kind.Denot g.row.N.Denot). m.choice) (IsMeant g.N.Recognised.how l.original l.offset l.others l.linked)
     (choices_at g.N.Recognised.how l.fn.name l.original l.offset) l.found l.index

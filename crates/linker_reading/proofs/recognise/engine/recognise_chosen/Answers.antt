@@ -2,7 +2,7 @@ use Rattle.linker_elf.specs.Choices.{choice}
 use Rattle.linker_elf.specs.declared.elf.choice.Choice.{Choice}
 use Rattle.linker_reading.proofs.Chosen.{first_is_same, chosen_made}
 use Rattle.linker_reading.specs.Recognised.{IsChosen, IsMade}
-use Rattle.linker_reading.specs.declared.recognise.engine.Made.{Made}
+use Rattle.linker_reading.specs.declared.recognise.engine.Recognised.{Recognised}
 use Rattle.linker_utils.specs.Architectures.{relaxation_matches}
 use Rattle.linker_reading.proofs.recognise.engine.recognise_chosen.Goals as goal
 
@@ -11,7 +11,7 @@ returns g c =
     let it = g.N.Recognised.how in
     chosen_made (IsChosen it c.args.name c.args.original.now c.args.offset c.args.facts.now)
     (λ (d : Choice g.row.N-Kind.Denot g.row.N.Denot). relaxation_matches (it.relaxation d.kind) c.args.original.now c.args.offset)
-    (λ (m : Made g.row.N-Kind.Denot g.row.N.Denot). IsMade it c.args.original.now c.args.offset c.args.others.now c.args.linked.now m)
+    (λ (m : Recognised g.row.N-Kind.Denot g.row.N.Denot). IsMade it c.args.original.now c.args.offset c.args.others.now c.args.linked.now m)
     c.choose-chosen.result c.recognise_one.result c.choose-chosen.ensures
     (λ d is. first_is_same (it.applies c.args.name c.args.original.now c.args.offset c.args.facts.now) (it.entries c.args.name c.args.original.now c.args.offset)
     (choice it.no_op c.args.name) c.choose-chosen.result d c.choose-chosen.ensures is)

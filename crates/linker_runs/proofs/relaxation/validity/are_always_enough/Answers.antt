@@ -19,21 +19,21 @@ next_power_of_two-requires c =
     let e = c.saturating_sub-unfilled.ensures in
     omega arith
 
-pub returns-else-unfilled-unit : goal.returns-else-unfilled-unit
-returns-else-unfilled-unit c =
+pub returns-else-unfilled-granularity : goal.returns-else-unfilled-granularity
+returns-else-unfilled-granularity c =
     let alignment = c.args.alignment.now in
     let start = c.args.start in
     let items = c.args.items.now in
     let i = c.args.index in
     let w = c.next_power_of_two.result in
-    let unfilled : c.saturating_sub-unfilled.result ≡ alignment.power - alignment.nops = omega (arith, c.saturating_sub-unfilled.ensures) in
-    let next : IsNextPowerOfTwo (alignment.power - alignment.nops) w = subst (λ n. IsNextPowerOfTwo n w) unfilled (c.next_power_of_two.ensures.power, c.next_power_of_two.ensures.lower_bound, c.next_power_of_two.ensures.upper_bound) in
+    let unfilled : c.saturating_sub-unfilled.result ≡ alignment.alignment - alignment.nops = omega (arith, c.saturating_sub-unfilled.ensures) in
+    let next : IsNextPowerOfTwo (alignment.alignment - alignment.nops) w = subst (λ n. IsNextPowerOfTwo n w) unfilled (c.next_power_of_two.ensures.power, c.next_power_of_two.ensures.lower_bound, c.next_power_of_two.ensures.upper_bound) in
     let there = c.requires.is_there in (
       λ test. inr (w, next, subst (λ o. IsAlwaysMultiple w start o items i) there (c.is_always_multiple.ensures.0 test)),
       λ enough. ⊎_elim
-          (λ (many : alignment.power ≤ alignment.nops + c.args.unit). absurd (omega arith))
-          (λ (other : (v : ℕ) × IsNextPowerOfTwo (alignment.power - alignment.nops) v × IsAlwaysMultiple v start alignment.offset items i).
-          let same = next_unique (alignment.power - alignment.nops) other.0 w other.1 next in
+          (λ (many : alignment.alignment ≤ alignment.nops + c.args.granularity). absurd (omega arith))
+          (λ (other : (v : ℕ) × IsNextPowerOfTwo (alignment.alignment - alignment.nops) v × IsAlwaysMultiple v start alignment.offset items i).
+          let same = next_unique (alignment.alignment - alignment.nops) other.0 w other.1 next in
           c.is_always_multiple.ensures.1 (subst (λ o. IsAlwaysMultiple w start o items i) (sym there) (subst (λ v. IsAlwaysMultiple v start alignment.offset items i) same other.2)))
           enough,
     )

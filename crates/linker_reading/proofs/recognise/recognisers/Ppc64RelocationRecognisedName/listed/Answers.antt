@@ -2,7 +2,7 @@ use Rattle.std.proofs.Common.{◌∙◌}
 use Rattle.linker_elf.specs.Choices.{choice}
 use Rattle.linker_reading.proofs.Tables.{same_choices}
 use Rattle.linker_reading.specs.Recognisers.{ppc64}
-use Rattle.linker_reading.proofs.recognise.recognisers.Ppc64RelocationRecognised.listed.Goals as goal
+use Rattle.linker_reading.proofs.recognise.recognisers.Ppc64RelocationRecognisedName.listed.Goals as goal
 
 pub returns-clause-choices : goal.returns-clause-choices
 returns-clause-choices c =

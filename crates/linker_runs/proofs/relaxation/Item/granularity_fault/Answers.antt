@@ -1,8 +1,8 @@
 use Rattle.std.proofs.Common.{subst, arith}
 use Rattle.linker_runs.specs.Faults.{ItemMeets}
-use Rattle.linker_runs.specs.declared.relaxation.faults.Fault.TheVariants.{TooManyShapes, ShapeTooLong, BadPower}
+use Rattle.linker_runs.specs.declared.relaxation.faults.Fault.TheVariants.{TooManyShapes, ShapeTooLong, BadAlignment}
 use Rattle.std.proofs.lemmas.Nat.{pow_pos}
-use Rattle.linker_runs.proofs.relaxation.Item.unit_fault.Goals as goal
+use Rattle.linker_runs.proofs.relaxation.Item.granularity_fault.Goals as goal
 
 pub are_even-requires-clause-count : goal.are_even-requires-clause-count
 are_even-requires-clause-count c = subst (λ item. ItemMeets item TooManyShapes) c.in-Site.is (c.requires.few TooManyShapes)
@@ -14,7 +14,7 @@ are_even-requires-clause-within c =
 
 pub fault-requires-clause-power : goal.fault-requires-clause-power
 fault-requires-clause-power c =
-    let power = subst (λ item. ItemMeets item BadPower) c.in-Aligned.is (c.requires.few BadPower) in
+    let power = subst (λ item. ItemMeets item BadAlignment) c.in-Aligned.is (c.requires.few BadAlignment) in
     let some = pow_pos power.0 in
     let e = power.1 in
     omega arith
