@@ -664,11 +664,11 @@ uint32_t linker_utils_relocation(uint16_t machine, uint32_t r_type,
 static inline uint32_t linker_utils_relocation_name(
     uint16_t machine, uint32_t r_type, uint8_t *name, size_t name_len, size_t *name_used);
 
-/* Whether the relocation asks for a GOT entry: its value depends on where the symbol's GOT entry,
+/* Whether the relocation requires a GOT entry: its value depends on where the symbol's GOT entry,
  * its entries for TLS or its TLS descriptor are, `got_entry` of `struct linker_utils_operands`. A
- * relocation that only counts from the GOT's address, as R_X86_64_GOTOFF64 and R_PPC64_TOC16, asks
- * for none; nor does one whose symbol labels the high part of a RISC-V pair, as
- * R_RISCV_TLSDESC_LOAD_LO12: the high part asks. False where the machine or the type is unknown. */
+ * relocation that only counts from the GOT's address, as R_X86_64_GOTOFF64 and R_PPC64_TOC16, requires
+ * none; nor does one whose symbol labels the high part of a RISC-V pair, as
+ * R_RISCV_TLSDESC_LOAD_LO12: the high part does. False where the machine or the type is unknown. */
 bool linker_utils_asks_for_got(uint16_t machine, uint32_t r_type);
 
 /* Whether a PLT entry may serve as the relocation's target: its value depends on `plt_entry` of
@@ -705,7 +705,7 @@ struct linker_utils_operands {
      * the relocated instruction, not that of the `pcalau12i`; for R_RISCV_PCREL_LO12_*,
      * R_RISCV_TLSDESC_LOAD_LO12 and R_RISCV_TLSDESC_ADD_LO12 that of the high part. */
     uint64_t place;
-    /* GOT + G, GD, LD, IE or DESC: the address of the entry that the relocation asks for. For an
+    /* GOT + G, GD, LD, IE or DESC: the address of the entry that the relocation requires. For an
      * instruction of AArch64 or PowerPC64 it is the entry of S + A, and A isn't added to its
      * address; for R_AARCH64_GOTPCREL32, and on the other architectures, it is the entry of S, and
      * A is added. R_LARCH_GOT_PC_LO12 for a TLS symbol whose high half is R_LARCH_TLS_GD_PC_HI20 or
@@ -842,7 +842,7 @@ struct linker_utils_choice {
 /* The rewrite that a linker may make of the instruction at a relocation by these facts, and the
  * relocation after it, into `choice`: by the tables below, which are made after the psABIs and
  * after what linkers do. `linker_utils_matches` of the rewrite then returns LINKER_UTILS_OK. Where
- * no entry applies, or the bytes are not the instruction that the relocation's name asks for, it is
+ * no entry applies, or the bytes are not the instruction that the relocation's name requires, it is
  * NO_OP and the same relocation. NO_OP and another relocation are possible: the `adrp` of a pair.
  * The bytes are those of the object file: on AArch64 and LoongArch the two relocations of a load
  * from the GOT, those of LoongArch's `pcalau12i` and `addi.d`, and the four of a TLS descriptor of
@@ -1605,7 +1605,7 @@ static inline uint32_t linker_utils_loongarch_items(
     struct linker_utils_item *items, size_t items_len, size_t *len, size_t *faulty);
 
 /* Whether `linker_utils_relax` accepts the items of a run whose address is `start`: the statuses from
- * LINKER_UTILS_ITEMS_OVERLAP on say what is asked of them. The run's granularity is the greatest of
+ * LINKER_UTILS_ITEMS_OVERLAP on say what is required of them. The run's granularity is the greatest of
  * its short shapes, and 1 where there are none.
  *
  * LINKER_UTILS_OUT_OF_MEMORY where a copy of the items can't be allocated. Else the first fault of

@@ -154,7 +154,7 @@ extern uint32_t machine_flags;
 extern bool relaxes; /* whether instructions are rewritten that need not be */
 extern struct object *objects; /* in the order in which they are read */
 extern struct symbol *symbols; /* all that objects mention, in their order */
-extern struct symbol *module_base; /* `_TLS_MODULE_BASE_`; null where no object asks for it */
+extern struct symbol *module_base; /* `_TLS_MODULE_BASE_`; null where no object requires it */
 extern struct output *outputs[256], *headers, *got, *stubs, *slots, *irelatives, *frames, *index_of;
 extern size_t outputs_len;
 extern struct tls tls;

@@ -34,7 +34,7 @@ same_descriptor {a} {b} {c} {d} {a'} {b'} {c'} {d'} p q r s h =
     (subst (λ x. AreOfDescriptor a' b' x d) r
     (subst (λ x. AreOfDescriptor a' x c d) q (subst (λ x. AreOfDescriptor x b c d) p h)))
 
--- ---- what a name asks for is what its rewrites are meant for
+-- ---- what a name requires is what its rewrites are meant for
 
 pub load_matches_add : (s : List ℕ) (o : ℕ) → IsEntryLoad s o → aarch64_matches LdrToAdd s o
 load_matches_add s o h = (h.1.1.0, (h.1.1.1.0, h.1.1.1.1.into_own_source.not_31))

@@ -208,7 +208,7 @@ aarch64_matches kinds.AdrpAddToNopAdr section o = FollowsAdrp IsAdd64 section o
 -- weak symbol goes on behind itself). No rewrite moves the place or changes the addend: the contract
 -- of `operands_after` in `choices` says so.
 
--- ---- the instruction that a relocation's name asks for
+-- ---- the instruction that a relocation's name requires
 
 -- `adrp xN`, and at the offset `ldr xN, [xN, #imm]`: they load an entry of the GOT
 abbrev pub IsEntryLoad : List ℕ → ℕ → Type 0
@@ -249,7 +249,7 @@ IsBranch word = word / 2 ^ 26 ≡ 0x05
 abbrev pub IsCall : ℕ → Type 0
 IsCall word = word / 2 ^ 26 ≡ 0x25
 
--- what is asked for beside what the rewrite is meant for
+-- what is required beside what the rewrite is meant for
 abbrev pub IsAskedFor : AArch64Relocation → List ℕ → ℕ → Type 0
 IsAskedFor r.R_AARCH64_ADR_GOT_PAGE section o = IsEntryLoad section (o + 4)
 IsAskedFor r.R_AARCH64_LD64_GOT_LO12_NC section o = IsEntryLoad section o
@@ -328,7 +328,7 @@ aarch64_entries name = []
 
 -- ---- the choice
 
--- what the rewrite is meant for and what the relocation asks for is at the offset, and the
+-- what the rewrite is meant for and what the relocation requires is at the offset, and the
 -- conditions hold
 abbrev pub AArch64Applies : AArch64Relocation → List ℕ → ℕ → LinkFacts → AArch64Entry → Type 0
 AArch64Applies name =

@@ -12,7 +12,7 @@ use Rattle.linker_elf.specs.declared.elf.choice.Choice.{Choice}
 use Rattle.linker_elf.specs.declared.elf.choice.LinkFacts.{LinkFacts}
 use Rattle.linker_elf.specs.declared.elf.value.Operands.{Operands}
 
--- What an entry of a table asks of what the linker knows.
+-- What an entry of a table requires of what the linker knows.
 pub data Condition (R : Type 0) : Type 0 where
   -- the definition in this output is the one at run time, and is no indirect function
   bound : Condition R
@@ -27,7 +27,7 @@ pub data Condition (R : Type 0) : Type 0 where
   marked : Condition R
   -- the high part of a load from the GOT, and all low parts of its label, are marked
   label_marked : Condition R
-  -- the high part of a low part of RISC-V asks for a GOT entry
+  -- the high part of a low part of RISC-V requires a GOT entry
   got_high_part : Condition R
   -- what reads a register for the high part of an address is of the same symbol
   private_base : Condition R
@@ -154,7 +154,7 @@ abbrev pub AllHold : {R : Type 0} → (R → Option RelocationKindInfo) → Oper
 AllHold row after facts [] = ⊤
 AllHold row after facts (c ∷ cs) = Holds row after facts c × AllHold row after facts cs
 
--- An entry applies: what is asked for with its rewrite is at an offset of the section, and its
+-- An entry applies: what is required with its rewrite is at an offset of the section, and its
 -- conditions hold, where `after` gives the operands after a rewrite at an offset.
 abbrev pub Applies : {K R : Type 0} → (K → List ℕ → ℕ → Type 0) → (R → Option RelocationKindInfo)
     → (K → ℕ → Operands → Operands) → List ℕ → ℕ → LinkFacts → Entry K R → Type 0

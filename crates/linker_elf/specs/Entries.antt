@@ -1,4 +1,4 @@
--- For which relocations a linker makes an entry: those that ask for a GOT entry, and those that a
+-- For which relocations a linker makes an entry: those that require a GOT entry, and those that a
 -- PLT entry may serve (the sections on relocations of the psABIs, as `Value` names them).
 use Rattle.std.specs.Prelude.{◌≡◌, ◌≢◌, ◌⊎◌, ℕ, Bool, true, false, Option, Some, None}
 use Rattle.linker_base.specs.declared.bit_misc.BitRange.{BitRange}
@@ -50,7 +50,7 @@ DependsOn put row =
 -- ---- GOT entries
 
 -- RISC-V's low parts: their symbol labels a high part, whose value they take, so that it is the
--- high part that asks for an entry
+-- high part that requires an entry
 abbrev pub is_of_high_part : RelocationSize → Bool
 is_of_high_part (BitMasking bits (RiscV IType)) = true
 is_of_high_part (BitMasking bits (RiscV SType)) = true

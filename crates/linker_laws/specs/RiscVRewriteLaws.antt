@@ -504,7 +504,7 @@ DescriptorToShortLocalExec =
     → EndAsReturned call (scratch_of auipc ld c) (auipc_of ++ ld_of ++ addi_of ++ jalr) h 1
     low k
 
--- the operands of a low part whose high part asks for a GOT entry
+-- the operands of a low part whose high part requires a GOT entry
 abbrev pub of_entry : Operands → Operands
 of_entry y = record y { symbol = y.got_entry }
 

@@ -73,7 +73,7 @@ with_third A B d e e' e'' m n a b never never' f h (inr k) = with_last A B d e' 
 
 -- ---- the place of the first
 
--- what is asked for at the first offset, and conditions of the first place
+-- what is required at the first offset, and conditions of the first place
 behind : (n : ℕ) (P : List ℕ → ℕ → Type 0) (s : List ℕ) (o : ℕ) → P s o ↔ IsBehind n P s (o + n)
 behind n P s o =
     let e : o + n - n ≡ o = omega arith in
@@ -192,7 +192,7 @@ initial_exec_halves s t o p n facts a b any first second h k =
     (entry kinds.LowToOriZero r.R_LARCH_TLS_LE_LO12 to_short_local_exec) (entry kinds.LowToOri r.R_LARCH_TLS_LE_LO12 to_local_exec)
     _ _ a b (at_both first second) (at_both first second) h k
 
--- The high half reaches the entry, and the others ask for no distance.
+-- The high half reaches the entry, and the others require no distance.
 there_in_reach : {P Q : Type 0} (n : ℕ) (facts : LinkFacts) → ReachesEntry facts → P → Q
     → (P × AllHold loongarch_row facts.operands facts page_to_initial_exec)
     ↔ (Q × AllHold loongarch_row (facts_on n facts).operands (facts_on n facts) to_initial_exec)

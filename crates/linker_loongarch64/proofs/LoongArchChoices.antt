@@ -23,7 +23,7 @@ pub first_asked : (name known : LoongArch64Relocation) (kind : RelaxationKind) �
 first_asked name known kind e s o =
     subst (λ x. IsBehind 0 (IsAskedFor known kind) s o ↔ IsAskedFor x kind s o) (sym e) (first_behind (IsAskedFor known kind) s o)
 
--- ---- what a relocation asks for is what its rewrites are meant for
+-- ---- what a relocation requires is what its rewrites are meant for
 
 pair_of_either : (s : List ℕ) (o : ℕ) → IsPair IsLd s o → IsPair (λ word. IsAddi word ⊎ IsLd word) s o
 pair_of_either s o h = record { within = h.within; second = inr h.second; one_register = h.one_register }

@@ -186,7 +186,7 @@ loongarch_matches kinds.DeleteAddi section o =
 -- LoongArch: the rewrite that a linker chooses for a relocation (LoongArch ELF psABI, relaxation
 -- and the sequences of thread-local storage).
 
--- ---- the instructions that a relocation and a rewrite ask for
+-- ---- the instructions that a relocation and a rewrite require
 
 -- Those of a TLS descriptor: `pcalau12i a0`, `addi.d a0, a0`, `ld.d ra, a0, 0` and
 -- `jirl ra, ra, 0`, where `a0` is register 4 and `ra` register 1.
@@ -345,7 +345,7 @@ loongarch_entries name = []
 
 -- ---- the choice
 
--- What the relocation asks for is there, and the conditions hold. No rewrite of LoongArch moves the
+-- What the relocation requires is there, and the conditions hold. No rewrite of LoongArch moves the
 -- offset or the addend.
 abbrev pub LoongArchApplies : LoongArch64Relocation → List ℕ → ℕ → LinkFacts → LoongArchEntry
     → Type 0
@@ -414,7 +414,7 @@ AddressPairIsChosenAlike =
     ((choice kinds.PcalaToPcaddi r.R_LARCH_PCREL20_S2, choice kinds.Delete r.R_LARCH_NONE) ∷ [])
 
 -- Two relocations, wherever both are, by the same facts but for the place, of which P holds: where
--- each is at an instruction that it asks for, both choices are those of one line, or both
+-- each is at an instruction that it requires, both choices are those of one line, or both
 -- relocations are left.
 abbrev pub AreChosenAlikeApart : (LinkFacts → Type 0) → LoongArch64Relocation
     → LoongArch64Relocation → List (LoongArchChoice × LoongArchChoice) → Type 0
@@ -464,8 +464,8 @@ DescriptorsAreChosenAlike =
     × DescriptorIsChosenAlike r.R_LARCH_TLS_DESC_CALL erased erased
 
 -- The `lu12i.w` of an offset from the thread pointer with its `add.d` or a low part, wherever both
--- are, with the same facts but for the place: where each is an instruction that its relocation asks
--- for, both are rewritten, or both relocations are left.
+-- are, with the same facts but for the place: where each is an instruction that its relocation
+-- requires, both are rewritten, or both relocations are left.
 abbrev pub OfThreadOffsetIsChosenAlike : LoongArch64Relocation → LoongArchChoice → Type 0
 OfThreadOffsetIsChosenAlike name chosen =
     (section : List ℕ) (o p n : ℕ) (facts : LinkFacts) (a b : LoongArchChoice)

@@ -366,7 +366,7 @@ pub fn fits(name: LoongArch64Relocation, section: &[u8], offset: u64, facts: &Li
 /// With the same facts, except that each has its own place, both relocations of a pair are
 /// rewritten alike or neither is: of a load of a GOT entry, if `group_fits` holds only where the
 /// high half fits; of `pcalau12i` and `addi.d` for the entry of general- or local-dynamic; and of
-/// an address. And so are, wherever they are, where each is at an instruction that it asks for, a
+/// an address. And so are, wherever they are, where each is at an instruction that it requires, a
 /// high and a low half of initial-exec; the four of a TLS descriptor, all for local-exec, all for
 /// initial-exec, or none, if the high half reaches the entry of initial-exec; and the `lu12i.w` of
 /// an offset from the thread pointer, its `add.d` and its low parts.

@@ -36,7 +36,7 @@ of_chosen A P [] otherwise c each last first = subst P (sym first) last
 of_chosen A P (e ∷ es) otherwise c each last (inl h) = subst P (sym h.1) (each.0 h.0)
 of_chosen A P (e ∷ es) otherwise c each last (inr h) = of_chosen A P es otherwise c each.1 last h.1
 
--- where an entry asks for what its rewrite is meant for
+-- where an entry requires what its rewrite is meant for
 of_rewrite : (es : List RiscVEntry) (section : List ℕ) (o : ℕ) (facts : LinkFacts)
     → OfEach (AppliesToRiscV riscv_matches section o facts) (λ c. riscv_matches c.kind section o) es
 of_rewrite [] section o facts = tt

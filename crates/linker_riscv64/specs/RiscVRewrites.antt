@@ -389,7 +389,7 @@ riscv_entries name = []
 
 -- ---- which entry is chosen
 
--- the instruction that a relocation asks for: of most what the rewrite is meant for
+-- the instruction that a relocation requires: of most what the rewrite is meant for
 abbrev pub IsAskedFor : RiscVRelocation → RelaxationKind → List ℕ → ℕ → Type 0
 IsAskedFor r.R_RISCV_TPREL_HI20 = λ kind section o. HasWord section o IsLui
 IsAskedFor r.R_RISCV_TPREL_ADD = λ kind section o. HasWord section o IsAddTp
@@ -400,7 +400,7 @@ IsAskedFor r.R_RISCV_TLSDESC_CALL = λ kind section o. HasWord section o IsCallO
 IsAskedFor r.R_RISCV_GOT_HI20 = λ kind section o. HasWord section o IsAuipc
 IsAskedFor name = riscv_matches
 
--- What is asked for is at the offset, and the conditions hold. No rewrite of RISC-V moves the
+-- What is required is at the offset, and the conditions hold. No rewrite of RISC-V moves the
 -- offset or the addend.
 abbrev pub AppliesToRiscV : (RelaxationKind → List ℕ → ℕ → Type 0) → List ℕ → ℕ → LinkFacts
     → RiscVEntry → Type 0
@@ -418,7 +418,7 @@ abbrev pub IsAmong : RiscVChoice × RiscVChoice → List (RiscVChoice × RiscVCh
 IsAmong x [] = ⊥
 IsAmong x (y ∷ ys) = (x ≡ y) ⊎ IsAmong x ys
 
--- At both offsets are instructions that the relocations ask for with the rewrites of each line.
+-- At both offsets are instructions that the relocations require with the rewrites of each line.
 abbrev pub AreAskedFor : RiscVRelocation → RiscVRelocation → List (RiscVChoice × RiscVChoice)
     → List ℕ → ℕ → ℕ → Type 0
 AreAskedFor first second [] section o p = ⊤
@@ -476,7 +476,7 @@ GotPairIsChosenAlike =
     ) ∷ []) facts
 
 -- A `lui` and what reads it, wherever both are, with the same facts but for the place: where each is
--- an instruction that its relocation asks for with the rewrites of the first line, both choices are
+-- an instruction that its relocation requires with the rewrites of the first line, both choices are
 -- those of one line, or both relocations are left.
 abbrev pub OfLuiAreChosenAlike : RiscVRelocation → RiscVRelocation → RiscVChoice × RiscVChoice
     → List (RiscVChoice × RiscVChoice) → Type 0

@@ -103,7 +103,7 @@ RunMeets u start items i other = UnitMeets u start (item_at items i) other
 abbrev pub AreSound : ℕ → List Item → Type 0
 AreSound start items = (i : ℕ) → i < length items → (fault : Fault) → OwnMeets start items i fault
 
--- The item at an index doesn't have the fault. Those that ask for the other items count only where
+-- The item at an index doesn't have the fault. Those that require the other items count only where
 -- no item has one by itself or by its place.
 abbrev pub Meets : ℕ → List Item → ℕ → Fault → Type 0
 Meets start items i fault = OwnMeets start items i fault

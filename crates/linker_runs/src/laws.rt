@@ -67,7 +67,7 @@ pub fn none_is_out_of_reach()
 {}
 
 /// The sites that `items` of `linker_runs` returns have their instructions, as
-/// `short_sites_are_writable` asks.
+/// `short_sites_are_writable` requires.
 pub fn made_sites_have_instructions()
     ensures { MadeSitesHaveInstructions }
 {}

@@ -295,7 +295,7 @@ impl Architecture {
     }
 
     /// Whether the relocation with a code, `r_type` in ELF files, can be rewritten if each other one
-    /// of its sequence can: whether `choose` changes something with `group_fits`. A linker asks it
+    /// of its sequence can: whether `choose` changes something with `group_fits`. A linker calls it
     /// for each relocation of the sequence before it chooses, with the facts that it chooses by, and
     /// sets `group_fits` for all of them if all fit, as `fits` of `aarch64`, `riscv64`, `loongarch64`,
     /// `ppc64` and `x86_64` says.
@@ -374,7 +374,7 @@ impl Architecture {
         }
     }
 
-    /// Whether the relocation with a code asks for a GOT entry, as
+    /// Whether the relocation with a code requires a GOT entry, as
     /// `RelocationKindInfo::asks_for_got` says. False of a code without a row.
     ///
     /// ```

@@ -48,7 +48,7 @@ pub extern "C" fn linker_utils_clui_rel_info(info: &mut RelocationNumbers)
     *info = *riscv64::clui_row().numbers();
 }
 
-/// Whether the relocation with `r_type` asks for a GOT entry in files with `e_machine` `machine`. False
+/// Whether the relocation with `r_type` requires a GOT entry in files with `e_machine` `machine`. False
 /// where either is unknown.
 #[unsafe(no_mangle)]
 pub extern "C" fn linker_utils_asks_for_got(machine: u16, r_type: u32) -> bool

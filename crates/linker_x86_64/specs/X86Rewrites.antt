@@ -424,7 +424,7 @@ x86_64_may_be_skipped name = false
 abbrev pub X86Entry : Type 0
 X86Entry = Entry RelaxationKind X86_64Relocation
 
--- ---- what rewrites ask for
+-- ---- what rewrites require
 
 -- the field's value counts from its end
 abbrev pub from_end_of_field : Condition X86_64Relocation
@@ -451,7 +451,7 @@ local_exec_by kind =
     entry kind r.R_X86_64_TPOFF32
     (bound ∷ executable ∷ from_end_of_field ∷ in_reach_if_known r.R_X86_64_TPOFF32 0 ∷ [])
 
--- The entries of a sequence also ask that all of it can be rewritten. Of general-dynamic and
+-- The entries of a sequence also require that all of it can be rewritten. Of general-dynamic and
 -- local-dynamic TLS: where the rewrite skips a relocation there is that of a call of
 -- `__tls_get_addr`. Of descriptors: each relocation of the symbol's descriptors in the object fits.
 abbrev pub sequence_to_local_exec_by : RelaxationKind → X86Entry
@@ -584,7 +584,7 @@ x86_64_table name opcode = any_entry []
 
 -- ---- the choice
 
--- What is asked for with a rewrite: one of some instructions is there, and the rewrite matches.
+-- What is required with a rewrite: one of some instructions is there, and the rewrite matches.
 abbrev pub IsAskedFor : List Original → RelaxationKind → List ℕ → ℕ → Type 0
 IsAskedFor instructions kind section o =
     IsTrue (is_one_at instructions section o) × x86_64_matches kind section o

@@ -53,7 +53,7 @@ fn fit<F: InstructionForm>(form: F, value: u64, bytes: &[u8]) -> Status {
     Status::Success
 }
 
-// Writes a value by a form, if there is one: `RelocationInstruction` would ask for its architecture
+// Writes a value by a form, if there is one: `RelocationInstruction` would require its architecture
 // again.
 #[inline(always)]
 fn write_by<F: InstructionForm>(
@@ -117,7 +117,7 @@ pub fn linker_utils_write_nonnull(
 }
 
 /// The longest window of a form, in bytes. Only near a section's end are fewer left, so that the
-/// window of the form itself is seldom asked for.
+/// window of the form itself is seldom required.
 const LONGEST_WINDOW: usize = 8;
 
 // Reads a value by a form, if there is one.

@@ -29,7 +29,7 @@ pub fn linker_utils_clui_rel_info(info: &mut RelocationNumbers) {
     *info = *riscv64::clui_row().numbers();
 }
 
-/// Whether the relocation with `r_type` asks for a GOT entry in files with `e_machine` `machine`. False
+/// Whether the relocation with `r_type` requires a GOT entry in files with `e_machine` `machine`. False
 /// where either is unknown.
 pub fn linker_utils_asks_for_got(machine: u16, r_type: u32) -> bool {
     match Architecture::from_machine(machine) {

@@ -274,7 +274,7 @@ pub fn fits(name: RiscVRelocation, section: &[u8], offset: u64, facts: &LinkFact
 /// neither is. With the same facts, except that each has its own place, the `lui` of an address is
 /// deleted exactly where a low part of it is rewritten: where it becomes a `c.lui` the low part
 /// stays. And the `lui` of an offset from the thread pointer, its `add` and its low parts are all
-/// rewritten or none is. This holds where each is at an instruction that it asks for, wherever that
+/// rewritten or none is. This holds where each is at an instruction that it requires, wherever that
 /// is.
 #[doc(hidden)]
 pub fn relocations_are_chosen_alike() {}

@@ -97,7 +97,7 @@ const LOCAL_EXEC: Conditions<Names> = conditions!(
     InReachIfKnown(R_X86_64_TPOFF32, 0)
 );
 
-/// The entries of a sequence also ask that all of it can be rewritten.
+/// The entries of a sequence also require that all of it can be rewritten.
 const SEQUENCE_TO_LOCAL_EXEC: Conditions<Names> = conditions!(
     BOUND + EXECUTABLE + GROUP_FITS,
     FROM_END_OF_FIELD,

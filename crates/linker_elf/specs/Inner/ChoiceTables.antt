@@ -118,13 +118,13 @@ IsChoiceAt A (e ∷ es) (suc i) chosen = IsChoiceAt A es i chosen
 
 -- ---- tables
 
--- the instructions that an entry of the code is for are those that the definition asks for
+-- the instructions that an entry of the code is for are those that the definition requires
 abbrev pub AreAsked : {O K : Type 0} → (O → K → List ℕ → ℕ → Type 0) → (K → List ℕ → ℕ → Type 0)
     → O → K → Type 0
 AreAsked are_at Asked originals kind =
     (section : List ℕ) (o : ℕ) → are_at originals kind section o ↔ Asked kind section o
 
--- The entries of the code are those of the definition, for the instructions that it asks for.
+-- The entries of the code are those of the definition, for the instructions that it requires.
 abbrev pub IsTableOf : {O K R : Type 0} → (O → K → List ℕ → ℕ → Type 0)
     → (K → List ℕ → ℕ → Type 0) → List (ChoiceEntry O K R) → List (Entry K R) → Type 0
 IsTableOf are_at Asked [] [] = ⊤

@@ -284,7 +284,7 @@ impl AArch64Instruction {
     }
 }
 
-/// What other modules ask of a form.
+/// What other modules use of a form.
 impl AArch64Instruction {
     /// The bits of an instruction that a write of the form may change: of `Movnz` also those of the
     /// opcode but for the size of the register.

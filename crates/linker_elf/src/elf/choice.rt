@@ -41,7 +41,7 @@ pub struct LinkFacts {
     pub is_label_relaxable: bool,
     /// The register through which an instruction of PowerPC64 gets the high part of its address,
     /// and which an `addis` has set, is read only by instructions whose relocation is of the same
-    /// symbol and addend. Linkers assume so, as the ABI asks of compilers ("TOC Optimizations").
+    /// symbol and addend. Linkers assume so, as the ABI requires of compilers ("TOC Optimizations").
     pub toc_base_is_exclusive: bool,
     /// The function that is called may return with another TOC pointer in register 2 of PowerPC64,
     /// since it is called through a PLT entry or its symbol's `st_other` says so ("The st_other

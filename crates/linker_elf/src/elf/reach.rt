@@ -25,7 +25,7 @@ fn reach_of_bytes(kind: RelocationKind, len: u8, range: AllowedRange) -> Allowed
 impl RelocationKindInfo {
     /// Which values, as `value` returns them, can be written. They are those that the machine reads
     /// back as they are from the written instruction, or from the pair that it is a half of. Where
-    /// the psABI asks for an overflow check that `range` lacks, they are also those that pass it.
+    /// the psABI requires an overflow check that `range` lacks, they are also those that pass it.
     ///
     /// | Relocations | From | Below |
     /// |---|--:|--:|

@@ -218,7 +218,7 @@ impl Row {
         }
     }
 
-    /// Whether the relocation asks for a GOT entry, as `RelocationKindInfo::asks_for_got` says.
+    /// Whether the relocation requires a GOT entry, as `RelocationKindInfo::asks_for_got` says.
     #[inline(always)]
     pub fn asks_for_got(&self) -> bool
         ensures { IsGotAnswer self.now result }

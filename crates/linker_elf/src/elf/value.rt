@@ -27,7 +27,7 @@ pub struct Operands {
     /// P: the place, which is the address of the field. Of `R_RISCV_PCREL_LO12_*`,
     /// `R_RISCV_TLSDESC_LOAD_LO12` and `R_RISCV_TLSDESC_ADD_LO12` it is that of the high part.
     pub place: u64,
-    /// The address of the GOT entry that the relocation asks for: the symbol's (GOT + G), or its
+    /// The address of the GOT entry that the relocation requires: the symbol's (GOT + G), or its
     /// entries for general-dynamic, local-dynamic and initial-exec TLS, or its TLS descriptor. For
     /// an instruction of AArch64 or PowerPC64 it is the entry of S + A, and A isn't added to its
     /// address. `R_LARCH_GOT_PC_LO12` of a TLS symbol whose high half is `R_LARCH_TLS_GD_PC_HI20`

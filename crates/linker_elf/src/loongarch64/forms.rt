@@ -253,7 +253,7 @@ pub(crate) fn is_jirl(word: u64) -> bool
     word >> 26 == 19
 }
 
-/// What other modules ask of a form.
+/// What other modules use of a form.
 impl LoongArch64Instruction {
     /// The bits of an instruction, or of a pair, that a write of the form may change, where those of
     /// a range are taken.

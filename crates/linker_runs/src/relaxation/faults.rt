@@ -231,7 +231,7 @@ pub fn first_faulty(items: &[Item], start: u64) -> Option<ItemFault>
 /// frees a multiple of u, and each alignment, a power of two, and the address behind its nops are
 /// multiples of u; but an alignment may also divide u, have no limit and have the nops that its input
 /// address needs, and beside these a multiple of u. No target is strictly inside the bytes that an item may lose; that of a site
-/// without short shapes isn't asked for.
+/// without short shapes isn't required.
 ///
 /// An alignment with a limit has as many nops as the alignment less u, or no more may stay than there
 /// are; its nops are a multiple of u. One without a limit has as many as it needs in every layout:

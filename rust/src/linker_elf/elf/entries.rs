@@ -62,13 +62,13 @@ fn is_branch(size: RelocationSize) -> bool {
 }
 
 impl RelocationKindInfo {
-    /// Whether the relocation asks for a GOT entry: the symbol's, or its entries for
+    /// Whether the relocation requires a GOT entry: the symbol's, or its entries for
     /// general-dynamic, local-dynamic and initial-exec TLS, or its TLS descriptor. It does where
     /// its value depends on the entry's address.
     ///
     /// It doesn't where the value depends only on the GOT's address, as that of
     /// `R_X86_64_GOTOFF64` and `R_PPC64_TOC16`, nor where its symbol labels the high part of a
-    /// RISC-V pair, as that of `R_RISCV_TLSDESC_LOAD_LO12`: the high part asks.
+    /// RISC-V pair, as that of `R_RISCV_TLSDESC_LOAD_LO12`: the high part does.
     #[must_use]
     pub fn asks_for_got(&self) -> bool {
         !is_of_high_part(self.size) && names_got_entry(self.kind)

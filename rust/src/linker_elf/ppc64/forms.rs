@@ -97,7 +97,7 @@ impl Ppc64Instruction {
 /// The unit of the displacements of DQ-form: the lowest four bits of such a word are others.
 pub const DQ_UNIT: u64 = 16;
 
-/// What other modules ask of a form.
+/// What other modules use of a form.
 impl Ppc64Instruction {
     /// Whether an instruction of DQ-form (Power ISA, "DQ-Form") is where one of DS-form is expected:
     /// `lq`, `lxvp`, `stxvp`, `lxv` or `stxv`.

@@ -245,7 +245,7 @@ impl RiscVInstruction {
 /// is signed.
 const SIGNED_LOW_12: i64 = 0x800;
 
-/// What other modules ask of a form.
+/// What other modules use of a form.
 impl RiscVInstruction {
     /// The bits of an instruction, or of a pair, that a write of the form may change.
     #[doc(hidden)]
