@@ -1,6 +1,6 @@
 -- Which rewrite of AArch64 is chosen: words at offsets, operands after a rewrite, and what follows from
 -- a choice.
-use Rattle.std.proofs.Common.{◌≡◌, ◌<◌, ◌≤◌, ℕ, ℤ, ◌+◌, ◌-◌, ◌%◌, ◌^◌, List, [], ◌∷◌, take, ap, ◌∙◌, refl, subst, arith, rules, ◌↔◌, ◌==◌}
+use Rattle.std.proofs.Common.{◌≡◌, ◌<◌, ◌≤◌, ℕ, ℤ, ◌+◌, ◌-◌, ◌%◌, ◌^◌, List, [], ◌∷◌, take, ap, ◌∙◌, refl, subst, arith, rules}
 use Rattle.std.specs.Prelude.{⊤}
 use Rattle.std.specs.Int.{w32, from_le_bytes}
 use Rattle.linker_base.specs.Rewrite.{CanRewrite, offset_after, addend_after}

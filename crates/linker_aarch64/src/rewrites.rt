@@ -2,26 +2,18 @@
 
 ghost use Rattle.linker_aarch64.specs.AArch64Rewrites.{aarch64_rewrites};
 ghost use Rattle.std.proofs.Common.{ap};
-ghost use Rattle.std.specs.Prelude.{slice_get, ◌++◌, Some, take, ◌≡◌, ◌≤◌, ◌<◌, ◌+◌, ◌↔◌, ◌∷◌, []};
+ghost use Rattle.std.specs.Prelude.{slice_get, ◌++◌, Some, take, ◌≡◌, ◌≤◌, ◌<◌, ◌+◌, ◌↔◌};
 ghost use Rattle.std.specs.Prelude.{IsTrue};
-ghost use Rattle.std.specs.Prelude.{length, drop, true, ◌*◌, ◌^◌};
-ghost use Rattle.std.specs.Int.{byte_len, cast_unsigned, w32, w64, from_le_bytes, to_le_bytes};
-ghost use Rattle.linker_base.specs.Form.{window_of, place_sum, BitsWritten, Fits, Written};
-ghost use Rattle.linker_base.specs.Form.{MachineReads, IsReadBack};
+ghost use Rattle.std.specs.Prelude.{length, drop, true, ◌*◌};
+ghost use Rattle.std.specs.Int.{w32, from_le_bytes, to_le_bytes};
 ghost use Rattle.linker_base.specs.Rewrite.{CanRewrite, rewritten, offset_after, addend_after};
 ghost use Rattle.linker_base.specs.RewriteWindow.{window_of_rewrite};
-ghost use Rattle.linker_elf.specs.Inner.FormLaws.{aarch64_keeps, aarch64_restored};
-ghost use Rattle.linker_elf.specs.AArch64.{aarch64_form};
 ghost use Rattle.linker_aarch64.specs.AArch64Rewrites.{aarch64_rewrite, aarch64_modifier};
 ghost use Rattle.linker_aarch64.specs.AArch64Rewrites.{aarch64_other, AreChanged};
-ghost use Rattle.linker_elf.specs.AArch64.{access_scale};
-ghost use Rattle.linker_aarch64.specs.AArch64Rewrites.{rd_of, rn_of, mov_word, mov_words, mov4};
-ghost use Rattle.linker_elf.specs.AArch64.{moved_bits, move_opcode};
+ghost use Rattle.linker_aarch64.specs.AArch64Rewrites.{rd_of, rn_of};
 ghost use Rattle.linker_aarch64.specs.AArch64Rewrites.{IsAdrp, IsAdd64, IsLdr64, IsIntoOwnSource};
 ghost use Rattle.linker_aarch64.specs.AArch64Rewrites.{AreOfOneRegister, IsAdrpPair};
 ghost use Rattle.linker_aarch64.specs.AArch64Rewrites.{aarch64_matches};
-ghost use Rattle.linker_elf.specs.Relocate.{ored_cleared};
-ghost use Rattle.linker_elf.specs.Inner.Immediates.{is_ored_alone, aarch64_immediate};
 ghost use Rattle.linker_aarch64.specs.declared.rewrites.RelaxationKind.TheVariants.{NoOp};
 
 use linker_base::bit_misc::BitExtraction;

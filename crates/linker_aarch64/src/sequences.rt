@@ -1,19 +1,8 @@
 //! Moves that load a number of 64 bits.
 
-ghost use Rattle.std.specs.Prelude.{◌++◌, Some, take, ◌≡◌, ◌≤◌, ◌<◌, ◌+◌, ◌↔◌, ◌∷◌, [], IsTrue};
-ghost use Rattle.std.specs.Prelude.{length, drop, true, ◌*◌, ◌^◌};
-ghost use Rattle.std.specs.Int.{byte_len, cast_unsigned, w32, w64, from_le_bytes, to_le_bytes};
-ghost use Rattle.linker_base.specs.Form.{window_of, place_sum, BitsWritten, Fits, Written};
-ghost use Rattle.linker_base.specs.Form.{MachineReads, IsReadBack};
-ghost use Rattle.linker_base.specs.Rewrite.{CanRewrite, rewritten, offset_after, addend_after};
-ghost use Rattle.linker_elf.specs.Inner.FormLaws.{aarch64_keeps, aarch64_restored};
-ghost use Rattle.linker_elf.specs.AArch64.{aarch64_form};
-ghost use Rattle.linker_aarch64.specs.AArch64Rewrites.{aarch64_rewrite, aarch64_modifier};
-ghost use Rattle.linker_elf.specs.AArch64.{access_scale};
-ghost use Rattle.linker_aarch64.specs.AArch64Rewrites.{rd_of, rn_of, mov_word, mov_words, mov4};
-ghost use Rattle.linker_elf.specs.AArch64.{moved_bits, move_opcode};
-ghost use Rattle.linker_elf.specs.Relocate.{ored_cleared};
-ghost use Rattle.linker_elf.specs.Inner.Immediates.{is_ored_alone, aarch64_immediate};
+ghost use Rattle.std.specs.Prelude.{◌++◌, Some, ◌≡◌, ◌≤◌, ◌<◌, ◌+◌};
+ghost use Rattle.std.specs.Prelude.{length, drop};
+ghost use Rattle.linker_aarch64.specs.AArch64Rewrites.{mov_word, mov_words, mov4};
 
 use super::rewrites::put_word;
 use linker_base::bit_misc::BitExtraction;

@@ -1,5 +1,5 @@
 -- Names of relocations: a derived `==` is equality.
-use Rattle.std.proofs.Common.{ℕ, List, [], ◌∷◌, Bool, true, false, ◌≡◌, ◌↔◌, ◌==◌, IsTrue, subst, refl, sym, ap, ◌∙◌, true≢false, inl, inr}
+use Rattle.std.proofs.Common.{ℕ, List, [], ◌∷◌, Bool, true, false, ◌≡◌, ◌↔◌, ◌==◌, IsTrue, subst, refl, sym, ap, true≢false, inl, inr}
 use Rattle.std.proofs.lemmas.Bool.{eqb-true, eq-eqb}
 use Rattle.linker_elf.specs.Inner.ChoiceTables.{AreEqualities}
 use denote.Struct.Field.{Field}

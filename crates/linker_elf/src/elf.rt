@@ -12,7 +12,7 @@ mod relocate;
 pub(crate) mod rows;
 mod value;
 
-ghost use Rattle.std.specs.Prelude.{◌≡◌, ◌≤◌, ◌<◌, ◌+◌, ◌*◌, ◌-◌, ◌^◌, ◌↔◌, ◌==◌, IsTrue, Option};
+ghost use Rattle.std.specs.Prelude.{◌≡◌, ◌≤◌, ◌<◌, ◌*◌, ◌-◌, ◌↔◌, ◌==◌, IsTrue, Option};
 ghost use Rattle.std.specs.Prelude.{Some, None, if◌then◌else◌, length, drop, ℕ};
 ghost use Rattle.std.specs.Int.{byte_len, cast_unsigned, w64};
 ghost use Rattle.linker_base.specs.Form.{Form, window_of, Fits, Written, MachineReads, IsReadBack};

@@ -33,7 +33,7 @@ use Rattle.linker_laws.proofs.Moves.{movn_first}
 use Rattle.linker_laws.proofs.Pages.{offset_reads, IsUnsigned}
 use Rattle.linker_laws.proofs.Sums.{sum_below, difference_below, page_halves_sum, taken_off}
 use Rattle.linker_laws.proofs.Sums.{cast_is, euclid, lift, lifted_is}
-use Rattle.linker_laws.specs.AArch64RewriteLaws.{word_of, thread_offset, IsRelocated, AgreeBut, Changes, HasHigh}
+use Rattle.linker_laws.specs.AArch64RewriteLaws.{word_of, thread_offset, IsRelocated, AgreeBut, Changes}
 use Rattle.linker_laws.specs.AArch64RewriteLaws.{StepSo, with_register, without_register}
 use Rattle.linker_laws.specs.AArch64RewriteLaws as aarch64_laws
 use Rattle.linker_laws.specs.AArch64Machine.{State, step, in_64_bits, moved, with_moved, read_x}

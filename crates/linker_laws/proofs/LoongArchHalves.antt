@@ -34,7 +34,7 @@ use Rattle.linker_laws.proofs.Applied.{value_is, taken_bits}
 use Rattle.linker_laws.proofs.Instructions.{row_of, reads_bits, relative, unbiased}
 use Rattle.linker_laws.proofs.PartsOfAddresses.{page_distance}
 use Rattle.linker_laws.proofs.Sums.{sum_below, difference_below, page_halves_sum, taken_off, plus, cast_is, cast_low, euclid, lifted_is, signed_12}
-use Rattle.linker_laws.specs.LoongArchRewriteLaws.{word_of, thread_offset, high_offset, near_page, Has, HasDescriptor, AgreeBut, Changes, StepSo, HighHalf, IsRelocated, behind_call, with_entry}
+use Rattle.linker_laws.specs.LoongArchRewriteLaws.{word_of, thread_offset, high_offset, near_page, Has, AgreeBut, Changes, StepSo, IsRelocated, behind_call, with_entry}
 use Rattle.linker_laws.specs.LoongArchRewriteLaws as laws
 use Rattle.linker_laws.specs.LoongArchMachine.{State, step, execute, read, write, with_register, go_on, go_to, next_pc, page_address, high_part, sum_of, ored}
 use Rattle.linker_laws.specs.Machine.{wrapped, loaded, also, but}

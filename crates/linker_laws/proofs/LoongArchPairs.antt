@@ -21,7 +21,7 @@ use Rattle.linker_loongarch64.specs.declared.rewrites.RelaxationKind.TheVariants
 use Rattle.linker_base.proofs.Bits.{cast_negative}
 use Rattle.linker_laws.specs.LoongArchRelocationLaws as relocation_laws
 use Rattle.linker_laws.specs.Schemes.{IsAddress, symbol_address, entry_and_addend}
-use Rattle.linker_laws.specs.LoongArchRewriteLaws.{word_of, pair, behind, thread_offset}
+use Rattle.linker_laws.specs.LoongArchRewriteLaws.{word_of, pair}
 use Rattle.linker_laws.specs.LoongArchRewriteLaws as laws
 use Rattle.linker_laws.specs.LoongArchMachine.{State, AreAlikeBut, EndSo, step, run, page_address, near_address, sum_of}
 use Rattle.linker_laws.specs.Machine.{wrapped, loaded}

@@ -13,7 +13,7 @@ use Rattle.linker_elf.specs.declared.ppc64.forms.Ppc64Instruction.TheVariants.{D
 use Rattle.linker_laws.specs.Ppc64RelocationLaws as relocation_laws
 use Rattle.linker_laws.specs.Schemes.{symbol_address, IsAddress}
 use Rattle.linker_laws.specs.Machine.{moved, loaded}
-use Rattle.linker_laws.specs.Ppc64RewriteLaws.{word_of, two, three, IsTocPair, is_only, thread_offset}
+use Rattle.linker_laws.specs.Ppc64RewriteLaws.{word_of, two, three, IsTocPair, thread_offset}
 use Rattle.linker_laws.specs.Ppc64RewriteLaws as laws
 use Rattle.linker_laws.specs.Ppc64Machine.{State, Formats, base, step, go_on}
 use Rattle.linker_laws.proofs.AArch64Pairs.{word_made, word_is}

@@ -16,7 +16,7 @@ use Rattle.linker_laws.specs.Ppc64RelocationLaws as relocation_laws
 use Rattle.linker_laws.specs.Schemes.{symbol_address}
 use Rattle.linker_laws.proofs.Sums.{sum_below}
 use Rattle.linker_laws.specs.Machine.{moved, loaded}
-use Rattle.linker_laws.specs.Ppc64RewriteLaws.{word_of, two, three, IsTocPair, thread_offset}
+use Rattle.linker_laws.specs.Ppc64RewriteLaws.{word_of, two, three, thread_offset}
 use Rattle.linker_laws.specs.Ppc64RewriteLaws.{is_d_over_base, access_number}
 use Rattle.linker_laws.specs.Ppc64RewriteLaws as laws
 use Rattle.linker_laws.specs.Ppc64Machine.{base, go_on, accessed}

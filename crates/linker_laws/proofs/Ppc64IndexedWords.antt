@@ -17,7 +17,7 @@ use Rattle.linker_laws.specs.Ppc64RelocationLaws as relocation_laws
 use Rattle.linker_laws.specs.Schemes.{symbol_address, IsAddress}
 use Rattle.linker_laws.proofs.Sums.{sum_below}
 use Rattle.linker_laws.specs.Machine.{moved, loaded}
-use Rattle.linker_laws.specs.Ppc64RewriteLaws.{word_of, two, three, IsTocPair, thread_offset}
+use Rattle.linker_laws.specs.Ppc64RewriteLaws.{word_of, three, thread_offset}
 use Rattle.linker_laws.specs.Ppc64RewriteLaws as laws
 use Rattle.linker_laws.specs.Ppc64Machine.{State, Formats, Access, base, step, go_on, accessed}
 use Rattle.linker_laws.specs.Ppc64Machine.{AreAlikeBut, stores_register, loads, loads_signed}

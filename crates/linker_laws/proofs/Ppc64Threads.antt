@@ -19,8 +19,8 @@ use Rattle.linker_laws.specs.Schemes.{symbol_address, IsAddress, AreAddresses}
 use Rattle.linker_laws.proofs.Sums.{sum_below}
 use Rattle.linker_laws.specs.Machine.{moved, loaded}
 use Rattle.linker_laws.specs.Ppc64RewriteLaws.{word_of, three, four, thread_offset, Changes, AgreeBut}
-use Rattle.linker_laws.specs.Ppc64RewriteLaws.{IsTlsCall, Returns, and_register, RunAlikeBehindCall}
-use Rattle.linker_laws.specs.Ppc64RewriteLaws.{is_argument, with_entry}
+use Rattle.linker_laws.specs.Ppc64RewriteLaws.{IsTlsCall, and_register, RunAlikeBehindCall}
+use Rattle.linker_laws.specs.Ppc64RewriteLaws.{with_entry}
 use Rattle.linker_laws.specs.Ppc64RewriteLaws as laws
 use Rattle.linker_laws.specs.Ppc64Machine.{State, Formats, base, step, run, go_on, go_to, execute}
 use Rattle.linker_laws.specs.Ppc64Machine.{by_opcode, next_pc}

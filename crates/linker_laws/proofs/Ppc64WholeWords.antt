@@ -14,7 +14,7 @@ use Rattle.linker_elf.specs.declared.ppc64.forms.Ppc64Instruction.TheVariants.{D
 use Rattle.linker_laws.specs.Ppc64RelocationLaws as relocation_laws
 use Rattle.linker_laws.specs.Schemes.{symbol_address, IsAddress}
 use Rattle.linker_laws.specs.Machine.{moved, wrapped}
-use Rattle.linker_laws.specs.Ppc64RewriteLaws.{word_of, two, three, IsTocPair, thread_offset}
+use Rattle.linker_laws.specs.Ppc64RewriteLaws.{word_of, two}
 use Rattle.linker_laws.specs.Ppc64RewriteLaws.{ds_access}
 use Rattle.linker_laws.specs.Ppc64RewriteLaws as laws
 use Rattle.linker_laws.specs.Ppc64Machine.{State, Formats, Access, base, step, go_on, accessed}

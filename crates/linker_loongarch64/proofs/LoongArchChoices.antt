@@ -1,5 +1,5 @@
 -- What is chosen on LoongArch matches, and can be rewritten.
-use Rattle.std.proofs.Common.{◌≡◌, ◌↔◌, ◌⊎◌, ℕ, ◌+◌, ◌-◌, List, [], ◌∷◌, inl, inr, subst, sym, ◌∙◌, arith, rules, ◌==◌}
+use Rattle.std.proofs.Common.{◌≡◌, ◌↔◌, ◌⊎◌, ℕ, ◌+◌, ◌-◌, List, [], ◌∷◌, inl, inr, subst, sym, ◌∙◌, arith, rules}
 use Rattle.std.specs.Bool.{⊤}
 use Rattle.linker_base.specs.Rewrite.{CanRewrite}
 use Rattle.linker_elf.specs.Choices.{choice, IsFirst}

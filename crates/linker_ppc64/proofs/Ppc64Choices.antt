@@ -1,5 +1,5 @@
 -- What is chosen on PowerPC64 matches, and can be rewritten.
-use Rattle.std.proofs.Common.{ℕ, List, ◌≡◌, ◌↔◌, ◌==◌, rules}
+use Rattle.std.proofs.Common.{ℕ, List, rules}
 use Rattle.linker_base.specs.Rewrite.{CanRewrite}
 use Rattle.linker_elf.specs.Choices.{choice}
 use Rattle.linker_elf.proofs.ChoiceTables.{holds_of_first}

@@ -1,14 +1,14 @@
 //! Relaxation rewrites of PowerPC64.
 
 ghost use Rattle.std.proofs.Common.{ap};
-ghost use Rattle.std.specs.Prelude.{slice_get, ◌≡◌, ◌≤◌, ◌↔◌, ◌+◌, ◌*◌, ◌^◌, ◌++◌, IsTrue, Some};
+ghost use Rattle.std.specs.Prelude.{slice_get, ◌≡◌, ◌≤◌, ◌↔◌, ◌+◌, ◌*◌, ◌++◌, IsTrue, Some};
 ghost use Rattle.std.specs.Prelude.{length, take, drop, IfSome, IfNone};
 ghost use Rattle.std.specs.Int.{from_le_bytes, to_le_bytes, w32};
 ghost use Rattle.linker_base.specs.Bits.{field};
 ghost use Rattle.linker_base.specs.Rewrite.{CanRewrite, rewritten, offset_after, addend_after};
 ghost use Rattle.linker_base.specs.RewriteWindow.{window_of_rewrite};
 ghost use Rattle.linker_ppc64.specs.Ppc64Rewrites.{is_addis_of_toc, is_addi, is_ld, is_access};
-ghost use Rattle.linker_ppc64.specs.Ppc64Rewrites.{is_store, is_word_access, keeps_base};
+ghost use Rattle.linker_ppc64.specs.Ppc64Rewrites.{is_store, keeps_base};
 ghost use Rattle.linker_ppc64.specs.Ppc64Rewrites.{is_d_access, is_ds_access, is_vector_access};
 ghost use Rattle.linker_ppc64.specs.Ppc64Rewrites.{is_over_base, is_addis_of_entry, is_addi_of_toc};
 ghost use Rattle.linker_ppc64.specs.Ppc64Rewrites.{is_over_thread, is_add_of_thread, is_indexed};

@@ -1,6 +1,6 @@
 -- Words that are the same but for the bits of a mask.
 use Rattle.std.proofs.Common.{◌≡◌, ◌<◌, ◌≤◌, ◌+◌, ◌-◌, ◌*◌, ◌/◌, ◌%◌, ◌^◌, ◌&&◌, ◌||◌, ℕ, zero, suc, Bool, true, false, List, length, take, get_or, refl, sym, ap, ◌∙◌, ⊎_elim, arith, bit_and, bit_or}
-use Rattle.std.specs.Prelude.{◌==◌, nat_lt, nat_le, min, max, bit_xor}
+use Rattle.std.specs.Prelude.{◌==◌, nat_lt, min, max, bit_xor}
 use Rattle.std.specs.Int.{bit_at, bit_not, w64}
 use Rattle.std.proofs.lemmas.Bool.{cases_lt, lt-ltb, le-ltb, le-leb, lt-leb, false≢true, eqb-true}
 use Rattle.std.proofs.lemmas.List.Folds.{list_any_more}

@@ -15,7 +15,7 @@ ghost use Rattle.linker_reading.specs.Fields.{IsProper, IsOfValue};
 ghost use Rattle.linker_reading.specs.Reading.{bits_within};
 ghost use Rattle.linker_reading.specs.Reading.{holds_value, holds_bits, holds_field, number_held};
 ghost use Rattle.linker_reading.specs.Reading.{are_signed, bits_held, rounding_of, bits_read};
-ghost use Rattle.linker_reading.specs.Reading.{bits_of_bytes, bytes_read, field_read, with_reach};
+ghost use Rattle.linker_reading.specs.Reading.{field_read, with_reach};
 ghost use Rattle.linker_reading.specs.Reading.{leaves_one, up_to_sign, with_alignment, value_read};
 ghost use Rattle.linker_reading.specs.Reading.{IsReadBack, holds_some, jump_read};
 

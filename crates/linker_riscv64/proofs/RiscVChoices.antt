@@ -1,5 +1,5 @@
 -- What is chosen on RISC-V matches, and can be rewritten.
-use Rattle.std.proofs.Common.{ℕ, List, [], ◌∷◌, ◌≡◌, ◌↔◌, sym, subst, inl, inr, rules, ◌==◌}
+use Rattle.std.proofs.Common.{ℕ, List, [], ◌∷◌, ◌≡◌, ◌↔◌, sym, subst, inl, inr, rules}
 use Rattle.std.specs.Bool.{⊤}
 use Rattle.std.specs.Int.{cast_unsigned, w64}
 use Rattle.linker_base.specs.Rewrite.{CanRewrite}

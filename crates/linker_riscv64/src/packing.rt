@@ -1,12 +1,12 @@
 //! The kept bytes of a section, with its calls made jumps.
 
-ghost use Rattle.std.specs.Prelude.{◌≡◌, ◌≤◌, ◌<◌, ◌+◌, ◌-◌, ◌^◌, ◌++◌, ◌↔◌, ℕ, min, map, take};
-ghost use Rattle.std.specs.Prelude.{drop, length, All, IsTrue, IsOk, IfOk, IfErr, OnOk, OnErr};
+ghost use Rattle.std.specs.Prelude.{◌≡◌, ◌≤◌, ◌<◌, ◌+◌, ◌-◌, ◌^◌, ◌++◌, ◌↔◌, min, map, take};
+ghost use Rattle.std.specs.Prelude.{drop, length, All, IsTrue, IfOk, IfErr, OnOk, OnErr};
 ghost use Rattle.std.specs.Prelude.{MatchOption};
 ghost use Rattle.linker_base.specs.Deletions.{rank};
 ghost use Rattle.linker_base.specs.Deltas.{deletions_of};
 ghost use Rattle.linker_base.specs.Listed.{AreValidDeltas};
-ghost use Rattle.linker_riscv64.specs.Inner.Packing.{IsFilled, IsPackedTo, IsJumpOf};
+ghost use Rattle.linker_riscv64.specs.Inner.Packing.{IsFilled, IsJumpOf};
 ghost use Rattle.linker_riscv64.specs.Packing.{AreApart, IsFirstNotApart, CanJump, IsRejected};
 ghost use Rattle.linker_riscv64.specs.Packing.{IsFirstRejected, IsFirstFailing, IsPacked};
 ghost use Rattle.linker_riscv64.specs.Packing.{PackedCallsReachTargets};

@@ -11,7 +11,7 @@ ghost use Rattle.linker_base.specs.Bits.{field, signed};
 ghost use Rattle.linker_riscv64.specs.RiscVRewrites.{riscv_rewrite, riscv_modifier, hi20, lo12};
 ghost use Rattle.linker_riscv64.specs.RiscVRewrites.{IsSigned32};
 ghost use Rattle.linker_riscv64.specs.RiscVRewrites.{FitsClui, HoldsHigh, riscv_deleted, with_rs1};
-ghost use Rattle.linker_riscv64.specs.RiscVRewrites.{tp, clui_to_cli};
+ghost use Rattle.linker_riscv64.specs.RiscVRewrites.{tp};
 ghost use Rattle.linker_riscv64.specs.RiscVRewrites.{opcode_of, funct3_of, adds_low12, IsTailCall};
 ghost use Rattle.linker_riscv64.specs.RiscVRewrites.{IsLui, IsAuipc, IsLd, IsAddTp, IsAddiToA0};
 ghost use Rattle.linker_riscv64.specs.RiscVRewrites.{IsCallOfDescriptor, riscv_matches};

@@ -1,6 +1,6 @@
 //! The calls of a section that can become jumps at once.
 
-ghost use Rattle.std.specs.Prelude.{◌≡◌, ◌≤◌, ◌<◌, ◌+◌, ◌-◌, ◌*◌, ◌^◌, ◌++◌, ◌∷◌, [], ◌↔◌, ℕ, Bool};
+ghost use Rattle.std.specs.Prelude.{◌≡◌, ◌≤◌, ◌<◌, ◌+◌, ◌-◌, ◌*◌, ◌++◌, ◌∷◌, [], ◌↔◌, ℕ, Bool};
 ghost use Rattle.std.specs.Prelude.{false, nat_lt, slice_set, map, take, length, pos, ◌-ℤ◌, All};
 ghost use Rattle.std.specs.Prelude.{List, slice_index_or};
 ghost use Rattle.std.specs.Prelude.{IsTrue, IsFalse, IfOk, IfSome, MatchOption};
@@ -12,7 +12,7 @@ ghost use Rattle.linker_riscv64.specs.Inner.Shrinking.{IsSplit, KeepsOthers, IsI
 ghost use Rattle.linker_riscv64.specs.Inner.Shrinking.{HaveShrinkableSites, HaveShrinkableTargets};
 ghost use Rattle.linker_riscv64.specs.Inner.Shrinking.{IsApartAt, AreRunsOf, distance_over};
 ghost use Rattle.linker_riscv64.specs.RiscVCalls.{IsEven, IsJalDistance};
-ghost use Rattle.linker_riscv64.specs.Shrinking.{IsChosen, AreInReach, IsGreatest, AreShrinkable};
+ghost use Rattle.linker_riscv64.specs.Shrinking.{IsChosen, IsGreatest, AreShrinkable};
 ghost use Rattle.linker_riscv64.specs.Shrinking.{IsFirstNotShrinkable, ShrunkCallsAreAccepted};
 
 mod watch;

@@ -1,13 +1,11 @@
 //! LoongArch: the items that relocations make.
 
-ghost use Rattle.std.specs.Prelude.{◌≡◌, ◌+◌, ◌≤◌, ◌<◌, ◌^◌, ◌↔◌, ◌⊎◌, ℕ, IsTrue, length, pos};
+ghost use Rattle.std.specs.Prelude.{◌≡◌, ◌+◌, ◌≤◌, ◌<◌, ◌^◌, ◌↔◌, ◌⊎◌, ℕ, IsTrue, length};
 ghost use Rattle.std.specs.Prelude.{IfOk, OnOk, OnErr, IfErr, IfSome, IfNone, MatchOption};
-ghost use Rattle.linker_elf.specs.ElfNames.{code_of};
-ghost use Rattle.linker_elf.specs.LoongArchRelocations.{loongarch_name};
 ghost use Rattle.linker_runs.specs.declared.relaxation.Item.{Item as items};
 ghost use Rattle.linker_runs.specs.declared.relaxation.Site.{Site as sites};
 ghost use Rattle.linker_runs.specs.declared.relaxation.Alignment.{Alignment as alignments};
-ghost use Rattle.linker_loongarch64.specs.LoongArchRewrites.{IsAddi, IsCall, IsPair};
+ghost use Rattle.linker_loongarch64.specs.LoongArchRewrites.{IsAddi, IsPair};
 ghost use Rattle.linker_runs.specs.Relocations.{relocation_at, AreMade, AreWellFormed};
 ghost use Rattle.linker_runs.specs.Relocations.{IsItemsCause};
 ghost use Rattle.linker_runs.specs.LoongArchItems.{HasLoongArchName, AreStated, stated_limit};

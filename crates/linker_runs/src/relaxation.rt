@@ -3,7 +3,6 @@
 
 ghost use Rattle.std.specs.Prelude.{◌≡◌, ◌+◌, ◌-◌, ◌<◌, ◌≤◌, ◌^◌, ℕ, length, true, false, nat_le};
 ghost use Rattle.std.specs.Prelude.{IfOk};
-ghost use Rattle.std.specs.Prelude.{slice_index_or};
 ghost use Rattle.linker_runs.specs.Relaxing.{offset_of, len_of, end_of, target_of, needed};
 ghost use Rattle.linker_runs.specs.Relaxing.{padding_at};
 ghost use Rattle.linker_runs.specs.Relaxing.{shape_len, short_shape, shape_reaches, is_reached};

@@ -1,6 +1,6 @@
 //! RISC-V: the items that relocations make.
 
-ghost use Rattle.std.specs.Prelude.{◌≡◌, ◌+◌, ◌≤◌, ◌<◌, ◌^◌, ◌↔◌, ℕ, IsTrue, length, pos};
+ghost use Rattle.std.specs.Prelude.{◌≡◌, ◌+◌, ◌≤◌, ◌<◌, ◌^◌, ◌↔◌, ℕ, IsTrue, length};
 ghost use Rattle.std.specs.Prelude.{IfOk, OnOk, OnErr, IfErr, IfSome, IfNone, MatchOption, None};
 ghost use Rattle.std.specs.Int.{IsNextPowerOfTwo};
 ghost use Rattle.linker_runs.specs.declared.relaxation.Item.{Item as items};
@@ -9,7 +9,7 @@ ghost use Rattle.linker_riscv64.specs.declared.calls.LinkRegister.TheVariants.{O
 ghost use Rattle.linker_runs.specs.Relocations.{relocation_at, AreMade, AreWellFormed};
 ghost use Rattle.linker_runs.specs.Relocations.{IsItemsCause};
 ghost use Rattle.linker_runs.specs.RiscVItems.{HasRiscVName, IsOfCall, AreRiscVNops, IsCallAt};
-ghost use Rattle.linker_runs.specs.RiscVItems.{IsRiscVAlignment, Aligns, IsNextAlignment};
+ghost use Rattle.linker_runs.specs.RiscVItems.{Aligns, IsNextAlignment};
 ghost use Rattle.linker_runs.specs.RiscVItems.{AreEnoughAt, MayFree, IsShapesOf, IsRiscVSite};
 ghost use Rattle.linker_runs.specs.RiscVItems.{RiscVMakes, IsRiscVFormed};
 

@@ -6,7 +6,7 @@ ghost use Rattle.linker_utils.specs.Architectures.{relaxation_architecture};
 ghost use Rattle.linker_utils.specs.Machines.{architecture_of};
 ghost use Rattle.linker_utils.specs.declared.architecture.Relaxation.{Relaxation};
 ghost use Rattle.linker_elf.specs.declared.elf.choice.Choice.{Choice};
-ghost use Rattle.linker_utils_c.specs.Choices.{is_set, facts_of, IsChoiceInNumbers, IsUnchanged};
+ghost use Rattle.linker_utils_c.specs.Choices.{facts_of, IsChoiceInNumbers, IsUnchanged};
 ghost use Rattle.linker_utils_c.specs.Status.{code};
 
 use crate::rewrites::number_of;

@@ -4,7 +4,7 @@
 //! list deletions. Each call is safe for any deltas, and returns one of the statuses that it names.
 //! What else it returns is promised of valid ones.
 
-ghost use Rattle.std.specs.Prelude.{◌≡◌, ◌≢◌, ◌↔◌, ◌⊎◌, MatchOption, length, map, IsTrue};
+ghost use Rattle.std.specs.Prelude.{◌≡◌, ◌≢◌, ◌↔◌, ◌⊎◌, length, map, IsTrue};
 ghost use Rattle.std.specs.List.Sorted.{IsNonDecreasing};
 ghost use Rattle.linker_base.specs.Deletions.{IsValid, IsSelected, HasInput, bytes_of, rank};
 ghost use Rattle.linker_base.specs.Deltas.{RecordsDeletions, deletions_of};

@@ -1,6 +1,6 @@
 //! What a linker made of a relocation, by the bytes before and after, and the bits of its field.
 
-ghost use Rattle.std.specs.Prelude.{◌≡◌, ◌≤◌, ℕ, IfSome, IfNone, Option, Some, false, length};
+ghost use Rattle.std.specs.Prelude.{◌≡◌, ◌≤◌, IfSome, IfNone, Option, Some, false, length};
 ghost use Rattle.linker_elf.specs.Entries.{IsAnswerOf};
 ghost use Rattle.linker_elf.specs.declared.elf.RelocationKindInfo.{RelocationKindInfo};
 ghost use Rattle.linker_utils.specs.Architectures.{IsRow};

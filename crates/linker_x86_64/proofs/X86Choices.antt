@@ -1,12 +1,11 @@
 -- What is chosen on x86-64 matches.
-use Rattle.std.proofs.Common.{ℕ, List, ◌≡◌, ◌↔◌, ◌==◌, ◌-◌, rules}
+use Rattle.std.proofs.Common.{ℕ, List, rules}
 use Rattle.linker_elf.specs.Choices.{Applies, choice}
 use Rattle.linker_elf.proofs.ChoiceTables.{holds_of_first}
 use Rattle.linker_elf.specs.X86Relocations.{x86_64_row}
 use Rattle.linker_elf.specs.declared.elf.choice.Choice.{Choice}
 use Rattle.linker_elf.specs.declared.elf.choice.LinkFacts.{LinkFacts}
 use Rattle.linker_elf.specs.declared.x86_64.relocations.X86_64Relocation.{X86_64Relocation}
-use Rattle.linker_elf.specs.declared.x86_64.relocations.X86_64Relocation.TheVariants as r
 use Rattle.linker_x86_64.specs.X86Rewrites.{Table, IsAskedFor, IsByTable, x86_64_after}
 use Rattle.linker_x86_64.specs.X86Rewrites.{x86_64_matches}
 use Rattle.linker_x86_64.specs.declared.rewrites.RelaxationKind.{RelaxationKind}

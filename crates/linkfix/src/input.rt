@@ -1,8 +1,8 @@
 //! The lines of a reader, within a limit on the number of reads.
 
-ghost use Rattle.std.specs.Prelude.{◌≡◌, ◌<◌, ◌≤◌, ◌+◌, ◌*◌, ◌-◌, ◌⊎◌, ◌↔◌, ◌≢◌, [], Some, All};
+ghost use Rattle.std.specs.Prelude.{◌≡◌, ◌<◌, ◌≤◌, ◌+◌, ◌*◌, ◌-◌, ◌⊎◌, ◌≢◌, [], Some, All};
 ghost use Rattle.std.specs.Prelude.{length, slice_index, take, IfSome, IfNone, IfOk, IsTrue};
-ghost use Rattle.std.specs.Io.BufRead.{drop_through, first_line, strip_last};
+ghost use Rattle.std.specs.Io.BufRead.{strip_last};
 ghost use Rattle.linkfix.specs.declared.input.InputError.{InputError};
 ghost use Rattle.linkfix.specs.declared.input.TheConstants.{BUFFER_LEN, MAX_READS};
 

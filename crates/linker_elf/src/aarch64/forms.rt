@@ -1,13 +1,11 @@
 //! AArch64 instructions that hold a value.
 
-ghost use Rattle.std.specs.Prelude.{slice_get, ◌++◌, Some, take, ◌≡◌, ◌≤◌, ◌<◌, ◌+◌, ◌↔◌, ◌∷◌, []};
-ghost use Rattle.std.specs.Prelude.{IsTrue};
+ghost use Rattle.std.specs.Prelude.{slice_get, ◌≡◌, ◌≤◌, ◌<◌, ◌+◌, ◌∷◌, []};
 ghost use Rattle.std.specs.Prelude.{length, drop, true, ◌*◌, ◌^◌};
-ghost use Rattle.std.specs.Int.{byte_len, cast_unsigned, w32, w64, from_le_bytes, to_le_bytes};
+ghost use Rattle.std.specs.Int.{byte_len, cast_unsigned, w64};
 ghost use Rattle.linker_elf.specs.AArch64.{aarch64_forms};
 ghost use Rattle.linker_base.specs.Form.{window_of, place_sum, BitsWritten, Fits, Written};
 ghost use Rattle.linker_base.specs.Form.{MachineReads, IsReadBack};
-ghost use Rattle.linker_base.specs.Rewrite.{CanRewrite, rewritten, offset_after, addend_after};
 ghost use Rattle.linker_elf.specs.Inner.FormLaws.{aarch64_keeps, aarch64_restored};
 ghost use Rattle.linker_elf.specs.AArch64.{aarch64_form};
 ghost use Rattle.linker_elf.specs.AArch64.{access_scale};

@@ -5,7 +5,7 @@ ghost use denote.Enum.Declared.{tag_of};
 ghost use Rattle.linker_elf.specs.Agrees.{RowAgrees, RowFits};
 ghost use Rattle.linker_elf.specs.ElfNames.{IsNameOf, code_of, text_of};
 ghost use Rattle.linker_elf.specs.Readings.{RowReadsNoOther};
-ghost use Rattle.linker_elf.specs.AArch64Relocations.{aarch64_relocation, aarch64_name};
+ghost use Rattle.linker_elf.specs.AArch64Relocations.{aarch64_name};
 ghost use Rattle.linker_elf.specs.AArch64Relocations.{aarch64_row};
 ghost use Rattle.linker_elf.specs.contracts.aarch64.relocations.AArch64Relocation as names;
 

@@ -1,23 +1,18 @@
 //! Writes the value of a relocation.
 
-ghost use Rattle.std.specs.Prelude.{◌≡◌, ◌≤◌, ◌<◌, ◌+◌, ◌^◌, ◌↔◌, ◌++◌, IsTrue, IfErr, OnOk, OnErr};
-ghost use Rattle.std.specs.Prelude.{true, false, length, take, drop, replicate, Bool};
-ghost use Rattle.std.specs.Int.{byte_len, from_le_bytes, w32};
-ghost use Rattle.linker_base.specs.Bits.{field};
-ghost use Rattle.linker_base.specs.Form.{window_of, BitsWritten, Fits};
+ghost use Rattle.std.specs.Prelude.{◌≡◌, ◌≤◌, ◌<◌, ◌+◌, ◌^◌, ◌↔◌, ◌++◌, IsTrue, IfErr, OnOk};
+ghost use Rattle.std.specs.Prelude.{true, false, length, drop};
+ghost use Rattle.std.specs.Int.{byte_len, from_le_bytes};
+ghost use Rattle.linker_base.specs.Form.{window_of, Fits};
 ghost use Rattle.linker_elf.specs.Applied.{IsApplied, IsRejected};
 ghost use Rattle.linker_elf.specs.AArch64.{aarch64_form};
-ghost use Rattle.linker_elf.specs.Agrees.{AgreesBy, AgreesInReach};
 ghost use Rattle.linker_elf.specs.Elf.{relocation_form};
-ghost use Rattle.linker_elf.specs.LoongArch.{loongarch_form};
-ghost use Rattle.linker_elf.specs.Ppc64.{ppc64_form};
-ghost use Rattle.linker_elf.specs.Reach.{reach_of};
 ghost use Rattle.linker_elf.specs.Relocate.{number_of_bytes, low_bytes, number_written};
-ghost use Rattle.linker_elf.specs.Relocate.{ored_cleared, places_cleared, bits_taken};
-ghost use Rattle.linker_elf.specs.Relocate.{InstructionWritten, IsWritten, SizeReads, SizeHolds};
+ghost use Rattle.linker_elf.specs.Relocate.{bits_taken};
+ghost use Rattle.linker_elf.specs.Relocate.{InstructionWritten, IsWritten};
 ghost use Rattle.linker_elf.specs.Relocate.{is_of_uleb128, takes_size, is_supported, window_len};
-ghost use Rattle.linker_elf.specs.Relocate.{IsAligned, HoldsBits, IsAccepted, RejectsValue};
-ghost use Rattle.linker_elf.specs.Relocate.{SizeNumber, WritesRow, IsInUnits, IsMultiple};
+ghost use Rattle.linker_elf.specs.Relocate.{IsAligned, HoldsBits, RejectsValue};
+ghost use Rattle.linker_elf.specs.Relocate.{WritesRow, IsInUnits, IsMultiple};
 ghost use Rattle.linker_elf.specs.Relocate.{size_len};
 ghost use Rattle.linker_elf.specs.Relocate.{bits_at, is_call30};
 ghost use Rattle.linker_elf.specs.Relocate.{stays_movk, insn_at, is_low_jump, low_part};

@@ -1,6 +1,6 @@
 //! Rows of the relocation tables, and the macros that make them from each architecture's list.
 
-ghost use Rattle.std.specs.Prelude.{◌≡◌, ◌-◌, ◌^◌, ◌<◌, ◌≤◌, ◌↔◌, IfErr, IfSome, IsTrue, OnOk};
+ghost use Rattle.std.specs.Prelude.{◌≡◌, ◌-◌, ◌<◌, ◌≤◌, ◌↔◌, IfErr, IfSome, IsTrue, OnOk};
 ghost use Rattle.std.specs.Prelude.{length, true};
 ghost use Rattle.linker_elf.specs.Agrees.{RowFits};
 ghost use Rattle.linker_elf.specs.Entries.{IsGotAnswer, IsPltAnswer};

@@ -1,7 +1,6 @@
 //! The value of a relocation, from the addresses that a linker knows.
 
 ghost use Rattle.std.specs.Prelude.{◌≡◌};
-ghost use Rattle.linker_elf.specs.LoongArch.{page};
 ghost use Rattle.linker_elf.specs.Value.{page_if, bias_number, entry_addend, sequence_pc};
 ghost use Rattle.linker_elf.specs.Value.{symbol_term, entry_term, plt_term, size_term};
 ghost use Rattle.linker_elf.specs.Value.{place_term, got_term, relative_term, formula, value_of};

@@ -5,7 +5,7 @@ ghost use denote.Enum.Declared.{tag_of};
 ghost use Rattle.linker_elf.specs.Agrees.{LoongArchRowAgrees, RowFits};
 ghost use Rattle.linker_elf.specs.ElfNames.{IsNameOf, code_of, text_of};
 ghost use Rattle.linker_elf.specs.Readings.{LoongArchRowReadsNoOther};
-ghost use Rattle.linker_elf.specs.LoongArchRelocations.{loongarch_relocation, loongarch_name};
+ghost use Rattle.linker_elf.specs.LoongArchRelocations.{loongarch_name};
 ghost use Rattle.linker_elf.specs.LoongArchRelocations.{loongarch_row, loongarch_uleb128_role};
 ghost use Rattle.linker_elf.specs.LoongArchRelocations.{loongarch_raw_row};
 ghost use Rattle.linker_elf.specs.Inner.RowTables.{raw_kind, with_raw_kind};

@@ -1,17 +1,14 @@
 //! PowerPC64 instructions that hold a value.
 
-ghost use Rattle.std.specs.Prelude.{slice_get, ◌≡◌, ◌<◌, ◌≤◌, ◌^◌, ◌-◌, ◌↔◌, ℕ, IsTrue, length};
-ghost use Rattle.std.specs.Prelude.{drop, bit_and, bit_or};
-ghost use Rattle.std.specs.Int.{byte_len, cast_unsigned, from_le_bytes, w32, w64};
+ghost use Rattle.std.specs.Prelude.{slice_get, ◌≡◌, ◌<◌, ◌≤◌, ◌^◌, ◌-◌, length};
+ghost use Rattle.std.specs.Prelude.{drop};
+ghost use Rattle.std.specs.Int.{byte_len, cast_unsigned, w64};
 ghost use Rattle.linker_elf.specs.Ppc64.{ppc64_forms};
-ghost use Rattle.linker_base.specs.Form.{window_of, Written, MachineReads, IsReadBack, BitsWritten};
-ghost use Rattle.linker_base.specs.Form.{place_sum};
-ghost use Rattle.linker_base.specs.Rewrite.{CanRewrite, rewritten, offset_after, addend_after};
+ghost use Rattle.linker_base.specs.Form.{window_of, Written, MachineReads, IsReadBack};
 ghost use Rattle.linker_elf.specs.Inner.FormLaws.{ppc64_keeps, ppc64_restored};
 ghost use Rattle.linker_elf.specs.Entries.{is_ppc64_branch};
 ghost use Rattle.linker_elf.specs.Forms.{ppc64_word_mask, ppc64_mask, is_dq_at, immediate_of};
-ghost use Rattle.linker_elf.specs.Ppc64.{ppc64_form, PairHolds};
-ghost use Rattle.linker_elf.specs.Ppc64.{KeepsHigh};
+ghost use Rattle.linker_elf.specs.Ppc64.{ppc64_form};
 ghost use Rattle.linker_elf.specs.Reach.{ppc64_reach};
 ghost use Rattle.linker_elf.specs.Relocate.{number_placed};
 

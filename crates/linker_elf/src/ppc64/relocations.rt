@@ -5,7 +5,7 @@ ghost use denote.Enum.Declared.{tag_of};
 ghost use Rattle.linker_elf.specs.Agrees.{RowAgrees, RowFits};
 ghost use Rattle.linker_elf.specs.ElfNames.{IsNameOf, code_of, text_of};
 ghost use Rattle.linker_elf.specs.Readings.{RowReadsNoOther};
-ghost use Rattle.linker_elf.specs.Ppc64Relocations.{ppc64_relocation, ppc64_name, ppc64_row};
+ghost use Rattle.linker_elf.specs.Ppc64Relocations.{ppc64_name, ppc64_row};
 ghost use Rattle.linker_elf.specs.Ppc64Relocations.{ppc64_raw_row};
 ghost use Rattle.linker_elf.specs.contracts.ppc64.relocations.Ppc64Relocation as names;
 

@@ -1,13 +1,8 @@
 //! Addresses in two halves.
 
-ghost use Rattle.std.specs.Prelude.{◌≡◌, ◌<◌, ◌≤◌, ◌^◌, ◌-◌, ◌↔◌, ℕ, IsTrue, length, drop, bit_and};
-ghost use Rattle.std.specs.Prelude.{bit_or};
-ghost use Rattle.std.specs.Int.{byte_len, cast_unsigned, from_le_bytes, w32, w64};
-ghost use Rattle.linker_base.specs.Form.{window_of, Written, MachineReads, IsReadBack, BitsWritten};
-ghost use Rattle.linker_base.specs.Form.{place_sum};
-ghost use Rattle.linker_base.specs.Rewrite.{CanRewrite, rewritten, offset_after, addend_after};
-ghost use Rattle.linker_elf.specs.Inner.FormLaws.{ppc64_keeps, ppc64_restored};
-ghost use Rattle.linker_elf.specs.Ppc64.{ppc64_form, PairHolds};
+ghost use Rattle.std.specs.Prelude.{◌≤◌, length};
+ghost use Rattle.std.specs.Int.{from_le_bytes, w32};
+ghost use Rattle.linker_elf.specs.Ppc64.{PairHolds};
 ghost use Rattle.linker_elf.specs.Ppc64.{KeepsHigh};
 
 use super::Ppc64Instruction;

@@ -3,7 +3,7 @@
 ghost use Rattle.std.specs.Prelude.{◌≡◌};
 ghost use denote.Enum.Declared.{tag_of};
 ghost use Rattle.linker_elf.specs.ElfNames.{IsNameOf, code_of, text_of};
-ghost use Rattle.linker_elf.specs.X86Relocations.{x86_64_relocation, x86_64_name, x86_64_row};
+ghost use Rattle.linker_elf.specs.X86Relocations.{x86_64_name, x86_64_row};
 ghost use Rattle.linker_elf.specs.contracts.x86_64.relocations.X86_64Relocation as names;
 
 use crate::elf::choice_table::RelocationName;

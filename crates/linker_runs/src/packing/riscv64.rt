@@ -5,7 +5,6 @@ ghost use Rattle.std.specs.Prelude.{length, IsTrue, ◌⊎◌};
 ghost use Rattle.std.specs.Prelude.{IsSomeAnd, IfSome, IfNone, ⊤};
 ghost use Rattle.std.specs.Int.{w32, to_le_bytes};
 ghost use Rattle.linker_elf.specs.RiscVRelocations.{riscv_row};
-ghost use Rattle.linker_riscv64.specs.RiscVRewrites.{tail_to_cj};
 ghost use Rattle.linker_riscv64.specs.RiscVCalls.{link_register};
 ghost use Rattle.linker_riscv64.specs.declared.calls.LinkRegister.TheVariants.{OfJalr};
 ghost use Rattle.linker_runs.specs.RiscVSites.{riscv_template, RiscVBecomes, RiscVAccepts};

@@ -4,10 +4,9 @@
 //! first, or from the first to the last. Of calls of which each depends on the next one, all are
 //! found in a sweep that goes to meet them.
 
-ghost use Rattle.std.specs.Prelude.{◌≡◌, ◌+◌, ◌<◌, ◌≤◌, ◌^◌, ℕ, length, true, false, sum};
-ghost use Rattle.std.specs.Prelude.{slice_index_or};
-ghost use Rattle.linker_runs.specs.Relaxing.{item_at, choice_of, IsSound};
-ghost use Rattle.linker_runs.specs.Choosing.{AreItems, freed_cautiously, cautious_before};
+ghost use Rattle.std.specs.Prelude.{◌≡◌, ◌+◌, ◌<◌, ◌≤◌, ℕ, length, true, false, sum};
+ghost use Rattle.linker_runs.specs.Relaxing.{choice_of, IsSound};
+ghost use Rattle.linker_runs.specs.Choosing.{AreItems, freed_cautiously};
 ghost use Rattle.linker_runs.specs.Choosing.{IsInReachCautiously, IsGreatestCautious};
 ghost use Rattle.linker_runs.specs.Inner.Relaxing.{ArePlaces, AreCautious, AreForced};
 ghost use Rattle.linker_runs.specs.Inner.Relaxing.{is_in_reach_cautiously};

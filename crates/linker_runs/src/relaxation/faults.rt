@@ -1,7 +1,7 @@
 //! Which runs can be relaxed, and what is wrong with the others.
 
-ghost use Rattle.std.specs.Prelude.{◌≡◌, ◌+◌, ◌<◌, ◌^◌, ◌↔◌, ℕ, length, IsTrue, MatchOption};
-ghost use Rattle.linker_runs.specs.Relaxing.{item_at, end_of, AreInOrder};
+ghost use Rattle.std.specs.Prelude.{◌+◌, ◌<◌, ◌^◌, ◌↔◌, ℕ, length, IsTrue, MatchOption};
+ghost use Rattle.linker_runs.specs.Relaxing.{end_of, AreInOrder};
 ghost use Rattle.linker_runs.specs.Choosing.{run_granularity, AreItems};
 ghost use Rattle.linker_runs.specs.Faults.{ShapesMeet, ItemMeets, OwnMeets, AlignmentMeets};
 ghost use Rattle.linker_runs.specs.Faults.{UnitMeets, RunMeets, AreSound, IsFirstIn, IsFirstAt};

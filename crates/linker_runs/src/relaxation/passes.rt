@@ -1,11 +1,11 @@
 //! Passes over a run: the places of targets, a layout, and one round.
 
 ghost use Rattle.std.specs.Prelude.{◌≡◌, ◌+◌, ◌<◌, ◌≤◌, ◌^◌, ℕ, length, true, false, sum};
-ghost use Rattle.std.specs.Prelude.{List, slice_index_or};
-ghost use Rattle.linker_runs.specs.Relaxing.{place_of, item_at, choice_of, lengthened};
+ghost use Rattle.std.specs.Prelude.{List};
+ghost use Rattle.linker_runs.specs.Relaxing.{place_of, choice_of, lengthened};
 ghost use Rattle.linker_runs.specs.Relaxing.{is_in_reach};
 ghost use Rattle.linker_runs.specs.Relaxing.{AreInOrder, AreFreed, AreKeptBytes, kept_by};
-ghost use Rattle.linker_runs.specs.Relaxing.{freed_before, AreRelaxed};
+ghost use Rattle.linker_runs.specs.Relaxing.{AreRelaxed};
 ghost use Rattle.linker_runs.specs.Choosing.{AreItems, IsInReachExactly, AreTooFewRounds};
 ghost use Rattle.linker_runs.specs.Inner.Relaxing.{ArePlaces, AreForced};
 

@@ -1,4 +1,4 @@
-use Rattle.std.proofs.Common.{◌≡◌, ◌++◌, ◌+◌, length, map, sym, arith}
+use Rattle.std.proofs.Common.{◌++◌, ◌+◌, map, arith}
 use Rattle.std.proofs.lemmas.List.{length-map}
 use Rattle.std.proofs.lemmas.List.Sorted.{length_permutation}
 use Rattle.linker_base.specs.Deletions.{IsValid, IsSortedUnion}

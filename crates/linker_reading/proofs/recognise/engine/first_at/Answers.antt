@@ -1,4 +1,4 @@
-use Rattle.std.proofs.Common.{◌≡◌, ◌+◌, ◌<◌, length, Some, get_or, ap, sym, subst, ◌∙◌, ⊎_elim, arith, rules, slice_get}
+use Rattle.std.proofs.Common.{◌≡◌, length, Some, get_or, ap, sym, ◌∙◌, ⊎_elim, arith, rules, slice_get}
 use Rattle.std.proofs.lemmas.Bool.{both_ways, cases_lt}
 use Rattle.linker_reading.proofs.Tables.{got, same_got, equal_choices}
 use Rattle.linker_reading.proofs.recognise.engine.first_at.Goals as goal

@@ -1,4 +1,4 @@
-use Rattle.std.proofs.Common.{◌≡◌, ◌+◌, ◌<◌, ◌≤◌, Option, length, Some, sym, subst, ◌∙◌, arith, slice_get}
+use Rattle.std.proofs.Common.{◌≡◌, ◌+◌, ◌≤◌, Option, length, Some, sym, subst, ◌∙◌, arith, slice_get}
 use Rattle.std.specs.Prelude.{IfSome, IfNone}
 use Rattle.linker_elf.specs.declared.elf.choice.Choice.{Choice}
 use Rattle.linker_reading.specs.Inner.Found.{IsMeant, AreFoundOfFirst, IsRepeated}

@@ -1,7 +1,7 @@
-use Rattle.std.proofs.Common.{◌≡◌, ◌+◌, ◌*◌, ◌<◌, ◌≤◌, ℕ, subst, arith}
+use Rattle.std.proofs.Common.{◌≡◌, ◌+◌, ◌*◌, subst, arith}
 use Rattle.std.proofs.lemmas.Bool.{both_ways, false≢true}
 use Rattle.linker_reading.specs.Inner.Words.{AreSameFrom}
-use Rattle.linker_reading.proofs.Words.{AreSmall, to_word, to_byte, four_more, one_more}
+use Rattle.linker_reading.proofs.Words.{to_word, to_byte, four_more, one_more}
 use Rattle.linker_reading.proofs.recognise.fields.are_same_from.Goals as goal
 
 pub loop-word-preserved : goal.loop-word-preserved

@@ -1,4 +1,4 @@
-use Rattle.std.proofs.Common.{◌≡◌, ◌≤◌, ℕ, ◌*◌, ◌+◌, length}
+use Rattle.std.proofs.Common.{◌*◌}
 use Rattle.linker_reading.specs.Inner.Words.{AreSameFrom}
 use Rattle.linker_reading.proofs.recognise.fields.are_same_from.Given as goal
 
