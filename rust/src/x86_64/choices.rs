@@ -45,38 +45,66 @@ impl ChosenKind for RelaxationKind {
     #[inline(always)]
     fn operands_after(self, offset: u64, operands: &Operands) -> Operands {
         let place = operands.place;
-        let place = match self {
-            RelaxationKind::JmpIndirectToRelative => {
-                let before = offset.saturating_sub(1);
-                place.wrapping_add(before).wrapping_sub(offset)
-            }
-            RelaxationKind::TlsLdToLocalExec | RelaxationKind::TlsLdToLocalExecNoPlt => {
-                place.wrapping_add(5)
-            }
-            RelaxationKind::TlsGdToLocalExec | RelaxationKind::TlsGdToInitialExec => {
-                place.wrapping_add(8)
-            }
-            RelaxationKind::TlsGdToLocalExecLarge => place.wrapping_add(9),
-            RelaxationKind::TlsLdToLocalExec64 => place.wrapping_add(15),
-            _ => place,
-        };
-        let addend = match self {
+        match self {
             RelaxationKind::NoOp
             | RelaxationKind::MovIndirectToLea
             | RelaxationKind::CallIndirectToRelative
-            | RelaxationKind::JmpIndirectToRelative
-            | RelaxationKind::TlsLdToLocalExec
-            | RelaxationKind::TlsLdToLocalExecNoPlt
-            | RelaxationKind::TlsLdToLocalExec64
-            | RelaxationKind::TlsGdToInitialExec
             | RelaxationKind::TlsDescToInitialExec
-            | RelaxationKind::SkipTlsDescCall => operands.addend,
-            _ => 0,
-        };
-        Operands {
-            place,
-            addend,
-            ..*operands
+            | RelaxationKind::SkipTlsDescCall => *operands,
+            RelaxationKind::JmpIndirectToRelative => {
+                let before = offset.saturating_sub(1);
+                Operands {
+                    place: place.wrapping_add(before).wrapping_sub(offset),
+                    ..*operands
+                }
+            }
+            RelaxationKind::TlsGdToLocalExec => {
+                Operands {
+                    place: place.wrapping_add(8),
+                    addend: 0,
+                    ..*operands
+                }
+            }
+            RelaxationKind::TlsGdToLocalExecLarge => {
+                Operands {
+                    place: place.wrapping_add(9),
+                    addend: 0,
+                    ..*operands
+                }
+            }
+            RelaxationKind::TlsGdToInitialExec => {
+                Operands {
+                    place: place.wrapping_add(8),
+                    ..*operands
+                }
+            }
+            RelaxationKind::TlsLdToLocalExec | RelaxationKind::TlsLdToLocalExecNoPlt => {
+                Operands {
+                    place: place.wrapping_add(5),
+                    ..*operands
+                }
+            }
+            RelaxationKind::TlsLdToLocalExec64 => {
+                Operands {
+                    place: place.wrapping_add(15),
+                    ..*operands
+                }
+            }
+            RelaxationKind::MovIndirectToAbsolute
+            | RelaxationKind::RexMovIndirectToAbsolute(_)
+            | RelaxationKind::RexAddIndirectToAbsolute(_)
+            | RelaxationKind::RexSubIndirectToAbsolute(_)
+            | RelaxationKind::RexCmpIndirectToAbsolute(_)
+            | RelaxationKind::TlsDescToLocalExec(_)
+            | RelaxationKind::RexAdcIndirectToAbsolute(_)
+            | RelaxationKind::RexAndIndirectToAbsolute(_)
+            | RelaxationKind::RexOrIndirectToAbsolute(_)
+            | RelaxationKind::RexSbbIndirectToAbsolute(_)
+            | RelaxationKind::RexXorIndirectToAbsolute(_)
+            | RelaxationKind::RexTestIndirectToAbsolute(_) => Operands {
+                addend: 0,
+                ..*operands
+            },
         }
     }
 }

@@ -6,5 +6,5 @@ use Rattle.linker_x86_64.proofs.choices.choice_by_opcode.Goals as goal
 
 pub choice_by-requires-clause-table : goal.choice_by-requires-clause-table
 choice_by-requires-clause-table c =
-    subst (λ opcode. IsTableOf StandAt (IsAskedFor (x86_64_table c.args.name opcode).instructions) c.args.table.now (x86_64_table c.args.name opcode).entries)
+    λ κs. subst (λ opcode. IsTableOf StandAt (IsAskedFor (x86_64_table c.args.name opcode).instructions) c.args.table.now (x86_64_table c.args.name opcode).entries)
     c.requires.opcode c.requires.table
