@@ -226,12 +226,12 @@ static inline uint32_t linker_utils_read_uleb128(const uint8_t *bytes, size_t by
                                              value, consumed);
 }
 
-uint32_t linker_utils_deltas_is_valid_nonnull(const struct linker_utils_deletion *deletions,
+uint32_t linker_utils_deletions_valid_nonnull(const struct linker_utils_deletion *deletions,
                                               size_t deletions_len, size_t *faulty);
 static inline uint32_t linker_utils_deletions_valid(const struct linker_utils_deletion *deletions,
                                                     size_t deletions_len, size_t *faulty) {
     size_t ignored;
-    return linker_utils_deltas_is_valid_nonnull(
+    return linker_utils_deletions_valid_nonnull(
         LINKER_UTILS_SLICE(const struct linker_utils_deletion, deletions), deletions_len,
         faulty ? faulty : &ignored);
 }
@@ -261,11 +261,11 @@ static inline uint32_t linker_utils_deltas_create_in_one_pass(
         faulty ? faulty : &ignored);
 }
 
-uint32_t linker_utils_deltas_is_mergeable_nonnull(const struct linker_utils_delta *deltas,
+uint32_t linker_utils_deletions_mergeable_nonnull(const struct linker_utils_delta *deltas,
     size_t deltas_len, const struct linker_utils_deletion *additional, size_t additional_len);
 static inline uint32_t linker_utils_deletions_mergeable(const struct linker_utils_delta *deltas,
     size_t deltas_len, const struct linker_utils_deletion *additional, size_t additional_len) {
-    return linker_utils_deltas_is_mergeable_nonnull(
+    return linker_utils_deletions_mergeable_nonnull(
         LINKER_UTILS_SLICE(const struct linker_utils_delta, deltas), deltas_len,
         LINKER_UTILS_SLICE(const struct linker_utils_deletion, additional), additional_len);
 }

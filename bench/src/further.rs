@@ -515,7 +515,7 @@ fn lists(report: &mut Report, random: &mut Random) {
         report,
         "`linker_utils_deletions_valid`, 100000 deletions",
         COUNT,
-        || unsafe { linker_utils_deltas_is_valid_nonnull(list.as_ptr(), list.len(), &mut 0) },
+        || unsafe { linker_utils_deletions_valid_nonnull(list.as_ptr(), list.len(), &mut 0) },
     );
     let (at, len) = (deltas.as_ptr(), deltas.len());
     whole(

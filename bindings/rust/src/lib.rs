@@ -837,7 +837,7 @@ pub fn write_uleb128(dest: &mut [u8], value: u64) -> Result<(), Status> {
 /// Whether `deltas_create` takes the deletions.
 pub fn deletions_valid(deletions: &[Deletion]) -> Result<(), ArrayError> {
     let (at, len) = (deletions.as_ptr(), deletions.len());
-    result_over(|faulty| unsafe { raw::linker_utils_deltas_is_valid_nonnull(at, len, faulty) })
+    result_over(|faulty| unsafe { raw::linker_utils_deletions_valid_nonnull(at, len, faulty) })
 }
 
 /// Writes the deltas of the deletions, as many as these.
@@ -873,7 +873,7 @@ pub fn deltas_create_in_one_pass(
 /// Whether `deltas_merge` takes the additional deletions.
 pub fn deletions_mergeable(deltas: &[Delta], additional: &[Deletion]) -> Result<(), Status> {
     let status = unsafe {
-        raw::linker_utils_deltas_is_mergeable_nonnull(
+        raw::linker_utils_deletions_mergeable_nonnull(
             deltas.as_ptr(),
             deltas.len(),
             additional.as_ptr(),

@@ -268,7 +268,7 @@ extern "C" {
         value: *mut u64,
         consumed: *mut usize,
     ) -> u32;
-    pub fn linker_utils_deltas_is_valid_nonnull(
+    pub fn linker_utils_deletions_valid_nonnull(
         deletions: *const Deletion,
         deletions_len: usize,
         faulty: *mut usize,
@@ -287,7 +287,7 @@ extern "C" {
         deltas_len: usize,
         faulty: *mut usize,
     ) -> u32;
-    pub fn linker_utils_deltas_is_mergeable_nonnull(
+    pub fn linker_utils_deletions_mergeable_nonnull(
         deltas: *const Delta,
         deltas_len: usize,
         additional: *const Deletion,

@@ -20,7 +20,7 @@ use std::alloc::Global;
 /// memory. For k additional deletions and n deltas the work is O(n) and that of
 /// `DeltaSlice::can_merge`.
 #[unsafe(no_mangle)]
-pub extern "C" fn linker_utils_deltas_is_mergeable_nonnull(
+pub extern "C" fn linker_utils_deletions_mergeable_nonnull(
     deltas: &[RelaxDelta],
     additional: &[Deletion],
 ) -> u32

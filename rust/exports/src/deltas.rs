@@ -27,7 +27,7 @@ impl AsDeletion for Deletion {
 
 /// Whether `linker_utils_deltas_create` accepts the deletions. The error is `InvalidDeletions`, and
 /// `faulty` the index of the first that ends above 2^64 - 1 or does not lie past the one before it.
-pub fn linker_utils_deltas_is_valid_nonnull(
+pub fn linker_utils_deletions_valid_nonnull(
     deletions: &[Deletion],
     faulty: &mut usize,
 ) -> u32 {

@@ -189,14 +189,14 @@ unsafe extern "C" fn linker_utils_is_unchanged(
 }
 
 #[unsafe(no_mangle)]
-unsafe extern "C" fn linker_utils_deltas_is_valid_nonnull(
+unsafe extern "C" fn linker_utils_deletions_valid_nonnull(
     deletions: *const Deletion,
     deletions_len: usize,
     faulty: *mut usize,
 ) -> u32 {
     // SAFETY: the arguments are as the head of the header says.
     unsafe {
-        crate::deltas::linker_utils_deltas_is_valid_nonnull(
+        crate::deltas::linker_utils_deletions_valid_nonnull(
             from_raw_parts(deletions, deletions_len),
             &mut *faulty,
         )
@@ -463,7 +463,7 @@ unsafe extern "C" fn linker_utils_deltas_output_to_input_by_heads_nonnull(
 }
 
 #[unsafe(no_mangle)]
-unsafe extern "C" fn linker_utils_deltas_is_mergeable_nonnull(
+unsafe extern "C" fn linker_utils_deletions_mergeable_nonnull(
     deltas: *const RelaxDelta,
     deltas_len: usize,
     additional: *const Deletion,
@@ -471,7 +471,7 @@ unsafe extern "C" fn linker_utils_deltas_is_mergeable_nonnull(
 ) -> u32 {
     // SAFETY: the arguments are as the head of the header says.
     unsafe {
-        crate::merges::linker_utils_deltas_is_mergeable_nonnull(
+        crate::merges::linker_utils_deletions_mergeable_nonnull(
             from_raw_parts(deltas, deltas_len),
             from_raw_parts(additional, additional_len),
         )

@@ -11,7 +11,7 @@ use linker_utils::relaxation::{AsDeletion, DeltaSlice, OutOfMemory, RelaxDelta, 
 /// that applies of `InvalidDeletions`, which the deltas' own are, and `NotMergeable`. It takes no
 /// memory. For k additional deletions and n deltas the work is O(n) and that of
 /// `DeltaSlice::can_merge`.
-pub fn linker_utils_deltas_is_mergeable_nonnull(
+pub fn linker_utils_deletions_mergeable_nonnull(
     deltas: &[RelaxDelta],
     additional: &[Deletion],
 ) -> u32 {

@@ -1,7 +1,7 @@
 use Rattle.std.proofs.Common.{◌+◌, rules}
 use Rattle.linker_base.proofs.Listed.{IsValid-take}
 use Rattle.linker_base.specs.Deltas.{deletions_of}
-use Rattle.linker_utils_c.proofs.merges.linker_utils_deltas_is_mergeable_nonnull.Goals as goal
+use Rattle.linker_utils_c.proofs.merges.linker_utils_deletions_mergeable_nonnull.Goals as goal
 
 pub returns-in-Some-clause-mergeable : goal.returns-in-Some-clause-mergeable
 returns-in-Some-clause-mergeable c valid disjoint = absurd (c.in-Some.ensures.here (IsValid-take (deletions_of c.args.deltas.now) (c.in-Some.field-0 + 1) valid))
