@@ -140,8 +140,8 @@ impl Display for Fault {
             Fault::ShapeTooLong => "a shape keeps more bytes than the site has",
             Fault::ShapesNotAscending => "a short shape keeps no fewer bytes than the next shape",
             Fault::BadGranularity => {
-                "the unit of a short shape is not a power of two, or not a multiple of the next \
-                 one's"
+                "the granularity of a short shape is not a power of two, or not a multiple of the \
+                 next one's"
             }
             Fault::BadReach => {
                 "a short shape does not reach its own offset, or reaches farther than the next \
@@ -149,23 +149,23 @@ impl Display for Fault {
             }
             Fault::BadAlignment => "the alignment is not a power of two",
             Fault::UnevenShape => {
-                "a shape frees bytes that are not a multiple of the run's greatest unit"
+                "a shape frees bytes that are not a multiple of the run's granularity"
             }
             Fault::AlignmentBelowGranularity => {
-                "the alignment is not a multiple of the run's greatest unit, and may keep other \
+                "the alignment is not a multiple of the run's granularity, and may keep other \
                  nops in other layouts"
             }
             Fault::UnevenEnd => {
-                "the address behind the nops is not a multiple of the run's greatest unit, and the \
+                "the address behind the nops is not a multiple of the run's granularity, and the \
                  alignment may keep other nops in other layouts"
             }
             Fault::TooFewNops => {
-                "the alignment has a limit, and there are fewer nops than it less the unit, and \
-                 fewer than may stay"
+                "the alignment has a limit, and there are fewer nops than it less the granularity, \
+                 and fewer than may stay"
             }
             Fault::UnevenNops => {
-                "the alignment has a limit, and its nops are not a multiple of the run's greatest \
-                 unit"
+                "the alignment has a limit, and its nops are not a multiple of the run's \
+                 granularity"
             }
             Fault::TargetInside => "the target is strictly inside the bytes that an item may lose",
             Fault::MayBeMisaligned => {

@@ -449,12 +449,7 @@ fn the_toc_pointer_at_an_entry_is_that_of_gnu_ld() {
         has_fixed_address: true,
         group_fits: true,
         has_addresses: true,
-        operands: Operands {
-            symbol: 0x1001_8000,
-            addend,
-            place,
-            ..Operands::default()
-        },
+        operands: Operands { symbol: 0x1001_8000, addend, place, ..Operands::default() },
         ..LinkFacts::default()
     };
     let halves = [

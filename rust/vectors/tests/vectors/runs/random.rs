@@ -82,7 +82,9 @@ fn count_shapes(item: &Item) -> u64 {
 /// How many bytes from an address on are needed up to the next multiple of the alignment, one by
 /// one.
 fn count_needed(alignment: &Alignment, address: u64) -> u64 {
-    (0..alignment.alignment).find(|needed| (address + needed).is_multiple_of(alignment.alignment)).unwrap()
+    (0..alignment.alignment)
+        .find(|needed| (address + needed).is_multiple_of(alignment.alignment))
+        .unwrap()
 }
 
 /// How many bytes of each item stay with a choice, from left to right.
@@ -115,7 +117,8 @@ fn kept_with(items: &[Item], choice: &[u8], keeps_all: bool) -> Vec<u64> {
 fn reaches(items: &[Item], kept: &[u64], site: &Site, short: &Shape) -> bool {
     let from = output_offset(items, kept, site.offset);
     let to = output_offset(items, kept, site.target);
-    let is_near = if to >= from { to - from < short.max_forward } else { from - to <= short.max_backward };
+    let is_near =
+        if to >= from { to - from < short.max_forward } else { from - to <= short.max_backward };
     is_near && to.abs_diff(from).is_multiple_of(u64::from(short.granularity))
 }
 

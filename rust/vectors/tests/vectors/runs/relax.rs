@@ -167,7 +167,11 @@ fn alignments_below_the_unit_keep_their_nops() {
     }
     for (offset, nops, power) in [(9, 2, 2), (9, 1, 1), (9, 0, 2), (10, 1, 2)] {
         let items = [site(0, 0, pcala), aligned(offset, nops, power, None)];
-        assert_eq!(first(&items, 0), Some((1, Fault::AlignmentBelowGranularity)), "{offset} {nops} {power}");
+        assert_eq!(
+            first(&items, 0),
+            Some((1, Fault::AlignmentBelowGranularity)),
+            "{offset} {nops} {power}"
+        );
     }
 }
 
