@@ -8,7 +8,7 @@ pub mod Deletions
 pub mod First
 pub mod Firsts
 pub mod Frees
-pub mod Items
+pub mod PackedItems
 pub mod Layouts
 pub mod Lists
 pub mod LongAddresses

@@ -6,7 +6,7 @@ use Rattle.linker_base.proofs.Rank.{rank-mono}
 use Rattle.linker_runs.specs.Relaxing.{item_at, offset_of}
 use Rattle.linker_runs.specs.Packing.{section_of}
 use Rattle.linker_runs.specs.Inner.Pieces.{piece_bytes}
-use Rattle.linker_runs.proofs.Items.{writable_excludes, written_start, written_step, written_end, piece_len, piece_whole, piece_becomes}
+use Rattle.linker_runs.proofs.PackedItems.{writable_excludes, written_start, written_step, written_end, piece_len, piece_whole, piece_becomes}
 use Rattle.linker_runs.proofs.packing.put_items.Goals as goal
 
 pub loop-index-init : goal.loop-index-init

@@ -4,7 +4,7 @@ use Rattle.linker_base.specs.Deltas.{deletions_of}
 use Rattle.linker_runs.specs.declared.relaxation.Item.{Item}
 use Rattle.linker_runs.specs.Relaxing.{item_at, end_of}
 use Rattle.linker_runs.specs.Packing.{section_of, gap_start, StayWhole, CanWrite}
-use Rattle.linker_runs.proofs.Items.{cause_of, gap_below}
+use Rattle.linker_runs.proofs.PackedItems.{cause_of, gap_below}
 use Rattle.linker_runs.proofs.packing.test_items.Goals as goal
 
 pub returns-then-not-is_apart-clause-err : goal.returns-then-not-is_apart-clause-err
