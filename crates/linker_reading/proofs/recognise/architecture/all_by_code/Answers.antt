@@ -10,7 +10,7 @@ pub loop-index-preserved : goal.loop-index-preserved
 loop-index-preserved g c =
     let i = c.loop-index.index in
     let found = c.args.found in
-    let f = of_some (by_code g.N.Recognised.how) in
+    let f = of_some (by_code g.N.RecognisedName.how) in
     let within : i < length found = omega (arith, c.requires, c.loop-index-test.true) in
     let left : 6 - i ≡ suc (6 - (i + 1)) = omega (arith, c.loop-index-test.true) in
     let next = ap (λ n. map f (take n found) ++ replicate (6 - (i + 1)) None) (let e : suc i ≡ i + 1 = omega arith in e) in

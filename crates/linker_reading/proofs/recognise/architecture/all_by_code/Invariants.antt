@@ -5,4 +5,4 @@ use Rattle.linker_reading.proofs.recognise.architecture.all_by_code.Given as goa
 
 -- those so far
 abbrev pub invariant-loop-index : goal.invariant-loop-index
-invariant-loop-index g l = l.by_code ≡ map (of_some (by_code g.N.Recognised.how)) (take l.index l.found) ++ replicate (6 - l.index) None
+invariant-loop-index g l = l.by_code ≡ map (of_some (by_code g.N.RecognisedName.how)) (take l.index l.found) ++ replicate (6 - l.index) None

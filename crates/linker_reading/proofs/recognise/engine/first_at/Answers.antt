@@ -11,7 +11,7 @@ returns-then-eq-clause-none g c =
       c.loop-earlier.earlier,
       below,
       got choices c.loop-earlier.earlier c.index-choices-earlier.result (omega (arith, below, c.requires, room))
-          ∙ ap Some ((equal_choices g.N.Kind.PartialEq.eq g.N.PartialEq.eq g.met.N.Recognised.laws.kinds g.met.N.Recognised.laws.names
+          ∙ ap Some ((equal_choices g.N.Kind.PartialEq.eq g.N.PartialEq.eq g.met.N.RecognisedName.laws.kinds g.met.N.RecognisedName.laws.names
           (get_or choices c.loop-earlier.earlier c.index-choices-earlier.result) (get_or choices c.args.index c.index-choices-index.result)).0 (sym c.eq.ensures ∙ c.if-eq.true))
           ∙ sym (got choices c.args.index c.index-choices-index.result (omega (arith, c.requires, room))),
     )
@@ -26,7 +26,7 @@ loop-earlier-preserved g c i h same =
     (λ from.
     let here : i ≡ c.loop-earlier.earlier = omega (arith, h, from) in
     both_ways c.eq.result c.if-eq.false (c.eq.ensures
-    ∙ (equal_choices g.N.Kind.PartialEq.eq g.N.PartialEq.eq g.met.N.Recognised.laws.kinds g.met.N.Recognised.laws.names
+    ∙ (equal_choices g.N.Kind.PartialEq.eq g.N.PartialEq.eq g.met.N.RecognisedName.laws.kinds g.met.N.RecognisedName.laws.names
     (get_or choices c.loop-earlier.earlier c.index-choices-earlier.result) (get_or choices c.args.index c.index-choices-index.result)).1
     (same_got choices c.loop-earlier.earlier c.args.index c.index-choices-earlier.result c.index-choices-index.result (omega (arith, below, c.requires, room)) (omega (arith, c.requires, room))
     (ap (slice_get choices) (sym here) ∙ same))))

@@ -12,8 +12,8 @@ use Rattle.linker_reading.proofs.recognise.engine.recognise.Goals as goal
 pub loop-index-preserved : goal.loop-index-preserved
 loop-index-preserved g c =
     let of = λ (m : Recognised g.row.N-Kind.Denot g.row.N.Denot). m.choice in
-    let IsSo = IsMeant g.N.Recognised.how c.args.original.now c.args.offset c.args.others.now c.args.linked.now in
-    let choices = choices_at g.N.Recognised.how c.args.name c.args.original.now c.args.offset in
+    let IsSo = IsMeant g.N.RecognisedName.how c.args.original.now c.args.offset c.args.others.now c.args.linked.now in
+    let choices = choices_at g.N.RecognisedName.how c.args.name c.args.original.now c.args.offset in
     let array = c.listed-choices.result.0 in
     let are = c.listed-choices.ensures.choices in
     let i = c.loop-index.index in
@@ -34,17 +34,17 @@ loop-index-preserved g c =
 
 pub returns-clause-found : goal.returns-clause-found
 returns-clause-found g c =
-    let choices = choices_at g.N.Recognised.how c.args.name c.args.original.now c.args.offset in
-    found_in_table g.N.Recognised.how c.args.name c.args.original.now c.args.offset c.args.others.now c.args.linked.now c.loop-index.found c.loop-index.index c.loop-index.invariant
+    let choices = choices_at g.N.RecognisedName.how c.args.name c.args.original.now c.args.offset in
+    found_in_table g.N.RecognisedName.how c.args.name c.args.original.now c.args.offset c.args.others.now c.args.linked.now c.loop-index.found c.loop-index.index c.loop-index.invariant
     (let few : length choices ≤ c.listed-choices.result.1 = taken_few c.listed-choices.result.0 choices c.listed-choices.result.1 c.listed-choices.ensures.choices in omega (arith, few, c.loop-index-test.false))
 
 pub returns-clause-any : goal.returns-clause-any
 returns-clause-any g c =
-    let choices = choices_at g.N.Recognised.how c.args.name c.args.original.now c.args.offset in
-    chosen_found g.N.Recognised.how c.args.name c.args.original.now c.args.offset c.args.others.now c.args.linked.now c.loop-index.found g.met.N.Recognised.laws.chosen_matches
-    (found_in_table g.N.Recognised.how c.args.name c.args.original.now c.args.offset c.args.others.now c.args.linked.now c.loop-index.found c.loop-index.index c.loop-index.invariant
+    let choices = choices_at g.N.RecognisedName.how c.args.name c.args.original.now c.args.offset in
+    chosen_found g.N.RecognisedName.how c.args.name c.args.original.now c.args.offset c.args.others.now c.args.linked.now c.loop-index.found g.met.N.RecognisedName.laws.chosen_matches
+    (found_in_table g.N.RecognisedName.how c.args.name c.args.original.now c.args.offset c.args.others.now c.args.linked.now c.loop-index.found c.loop-index.index c.loop-index.invariant
     (let few : length choices ≤ c.listed-choices.result.1 = taken_few c.listed-choices.result.0 choices c.listed-choices.result.1 c.listed-choices.ensures.choices in omega (arith, few, c.loop-index-test.false)))
 
 pub returns-clause-once : goal.returns-clause-once
 returns-clause-once g c =
-    are_distinct (choices_at g.N.Recognised.how c.args.name c.args.original.now c.args.offset) c.loop-index.found c.loop-index.invariant.placed
+    are_distinct (choices_at g.N.RecognisedName.how c.args.name c.args.original.now c.args.offset) c.loop-index.found c.loop-index.invariant.placed

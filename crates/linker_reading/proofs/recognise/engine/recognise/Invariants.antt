@@ -5,5 +5,5 @@ use Rattle.linker_reading.proofs.recognise.engine.recognise.Given as goal
 
 abbrev pub invariant-loop-index : goal.invariant-loop-index
 invariant-loop-index g l =
-    AreFoundOfFirst (λ (m : Recognised g.row.N-Kind.Denot g.row.N.Denot). m.choice) (IsMeant g.N.Recognised.how l.original l.offset l.others l.linked)
-    (choices_at g.N.Recognised.how l.fn.name l.original l.offset) l.found l.index
+    AreFoundOfFirst (λ (m : Recognised g.row.N-Kind.Denot g.row.N.Denot). m.choice) (IsMeant g.N.RecognisedName.how l.original l.offset l.others l.linked)
+    (choices_at g.N.RecognisedName.how l.fn.name l.original l.offset) l.found l.index
