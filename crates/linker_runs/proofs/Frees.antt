@@ -227,7 +227,7 @@ item_exact u start (Aligned alignment) k freed kept fit sound within gone holds 
     still_exact alignment.max_skip still.unlimited (is ∙ still_padding u start alignment freed still within gone ∙ sym (still_need u alignment.alignment (start + alignment.offset) freed still.divides (omega arith) gone)))
     fit
   where
-    still_exact : (most : Option ℕ) → most ≡ None → kept ≡ needed alignment.alignment (start + alignment.offset - freed) → IsExact (record alignment { most = most }) (needed alignment.alignment (start + alignment.offset - freed)) kept
+    still_exact : (most : Option ℕ) → most ≡ None → kept ≡ needed alignment.alignment (start + alignment.offset - freed) → IsExact (record alignment { max_skip = most }) (needed alignment.alignment (start + alignment.offset - freed)) kept
     still_exact None none same = same
     still_exact (Some most) none same = cc
 

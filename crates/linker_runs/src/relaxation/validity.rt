@@ -291,7 +291,7 @@ fn are_always_enough(
     requires in_order { AreInOrder start items.now }
     requires within { index < length items.now }
     requires is_there { offset_of (item_at items.now index) ≡ alignment.now.offset }
-    requires power { IsPowerOfTwo alignment.now.power }
+    requires power { IsPowerOfTwo alignment.now.alignment }
     ensures { IsTrue result ↔ AreAlwaysEnough granularity start items.now index alignment.now }
 {
     let unfilled = alignment

@@ -15,7 +15,7 @@ at_most n power fits = ⊎_elim
 
 pub next_power_of_two-requires : goal.next_power_of_two-requires
 next_power_of_two-requires c =
-    let most = at_most c.args.alignment.now.power c.requires.power (omega arith) in
+    let most = at_most c.args.alignment.now.alignment c.requires.power (omega arith) in
     let e = c.saturating_sub-unfilled.ensures in
     omega arith
 
