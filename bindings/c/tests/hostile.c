@@ -560,7 +560,7 @@ static void call_choose(void) {
     uint32_t status =
         CALL(choose, machine, r_type, section->given, section->len, offset, given->given, choice);
     if (status == LINKER_UTILS_OK) {
-        uint32_t meant = CALL(matches, machine, choice->rewrite, choice->n, section->given,
+        uint32_t meant = CALL(matches, machine, choice->rewrite, choice->opcode_len, section->given,
                               section->len, offset);
         expect(meant == LINKER_UTILS_OK, "a choice that doesn't match");
         expect(choice->modifier <= 1 && choice->deleted_start <= 4 && choice->deleted_len <= 6,

@@ -738,7 +738,7 @@ fn the_structs_are_those_of_the_library() {
         }
         "linker_utils_choice": raw::Choice {
             rewrite, relocation, modifier, deleted_len, deleted_start, other_offset,
-            other_relocation, has_other, n, skipped_offset,
+            other_relocation, has_other, opcode_len, skipped_offset,
         }
         "linker_utils_window_bounds": RewriteWindow { back, len, }
         "linker_utils_relocation_reach": raw::Reach { min, max, has_range, }
