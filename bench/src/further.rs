@@ -116,7 +116,7 @@ fn words(report: &mut Report, random: &mut Random) {
         .iter()
         .map(|(rewrite, _)| Choice {
             rewrite: rewrite.number,
-            n: rewrite.n,
+            opcode_len: rewrite.n,
             ..Choice::default()
         })
         .collect();
