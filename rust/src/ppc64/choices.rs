@@ -158,7 +158,7 @@ const TABLES: &[Table<RelaxationKind>] = choices!(all_tables());
 
 impl ChosenByTable for RelaxationKind {
     #[inline(always)]
-    fn is_listed(name: Names) -> bool {
+    fn may_be_listed(name: Names) -> bool {
         choices!(is_listed(name))
     }
 

@@ -357,7 +357,7 @@ fn opcode_before(section: &[u8], offset: u64) -> u8 {
 
 impl ChosenByTable for RelaxationKind {
     #[inline(always)]
-    fn is_listed(name: Names) -> bool {
+    fn may_be_listed(name: Names) -> bool {
         choices!(is_listed(name))
             || matches!(
                 name,

@@ -140,8 +140,8 @@ pub type Table<K> = &'static [ChoiceEntry<
 
 /// The rewrites of an architecture, which are chosen by tables.
 pub trait ChosenByTable: ChosenKind {
-    /// Whether a relocation may have entries.
-    fn is_listed(name: Self::Relocation) -> bool
+    /// Whether a relocation may have entries: false only where it has none.
+    fn may_be_listed(name: Self::Relocation) -> bool
         ensures { (result ≡ false) → (section : List ℕ) (o : ℕ)
             → Self.tables.entries name section o ≡ [] };
 
@@ -173,7 +173,7 @@ pub trait ChosenByTable: ChosenKind {
         ensures { IsChoice Self.tables Self.Relocation.row_of name section.now offset facts.now
             result }
     {
-        if Self::is_listed(name) {
+        if Self::may_be_listed(name) {
             Self::choose_listed(name, section, offset, facts)
         } else {
             unchanged(name)

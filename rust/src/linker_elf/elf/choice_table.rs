@@ -124,9 +124,9 @@ pub type Table<K> = &'static [ChoiceEntry<
 /// The rewrites of an architecture, which are chosen by tables.
 #[doc(hidden)]
 pub trait ChosenByTable: ChosenKind {
-    /// Whether a relocation may have entries.
+    /// Whether a relocation may have entries: false only where it has none.
     #[must_use]
-    fn is_listed(name: Self::Relocation) -> bool;
+    fn may_be_listed(name: Self::Relocation) -> bool;
 
     /// The entries of a relocation at an offset of a section.
     #[must_use]
@@ -151,7 +151,7 @@ pub trait ChosenByTable: ChosenKind {
         offset: u64,
         facts: &LinkFacts,
     ) -> Choice<Self, Self::Relocation> {
-        if Self::is_listed(name) {
+        if Self::may_be_listed(name) {
             Self::choose_listed(name, section, offset, facts)
         } else {
             unchanged(name)
