@@ -5,4 +5,5 @@
 pub mod facts;
 pub mod needed;
 pub mod relocations;
+pub mod sections;
 pub mod values;

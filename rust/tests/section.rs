@@ -2,9 +2,10 @@
 //! formulas.
 
 use linker_utils::elf::Architecture::{self, AArch64, LoongArch64, Ppc64, RiscV, X86_64};
+use linker_utils::elf::RelocateError;
 use linker_utils::section::{
-    needs, relocation_at, relocations_len, value, Addresses, Entry, EntryClass, Rela, Symbol,
-    ValueError,
+    Addresses, Entry, EntryClass, Rela, RelocationError, SectionError, Symbol, ValueError, needs,
+    relocate_section, relocation_at, relocations_len, value,
 };
 
 const SECTION: u64 = 0x40_1000;
@@ -505,6 +506,104 @@ fn low_parts_take_their_high_parts() {
         );
     }
     assert_eq!(low(24, 6), Err(ValueError::NoSymbol));
+}
+
+#[test]
+fn sections_are_relocated_in_order() {
+    // R_RISCV_ADD32 of symbol 1 and R_RISCV_SUB32 of symbol 2 at offset 4, over 5; R_RISCV_64 of
+    // symbol 1 at offset 8; R_RISCV_RELAX, which has no value
+    let relocations = [
+        Rela {
+            offset: 4,
+            code: 35,
+            symbol: 1,
+            addend: 0,
+        },
+        Rela {
+            offset: 4,
+            code: 39,
+            symbol: 2,
+            addend: 0,
+        },
+        Rela {
+            offset: 8,
+            code: 2,
+            symbol: 1,
+            addend: 1,
+        },
+        Rela {
+            offset: 8,
+            code: 51,
+            symbol: 0,
+            addend: 0,
+        },
+    ];
+    let first = Symbol {
+        address: 0x40_5678,
+        ..Symbol::default()
+    };
+    let second = Symbol {
+        address: 0x40_5070,
+        ..Symbol::default()
+    };
+    let symbols = [Symbol::default(), first, second];
+    let mut section = [
+        0xee, 0xee, 0xee, 0xee, 5, 0, 0, 0, 0, 0, 0, 0, 0, 0, 0, 0, 0xee,
+    ];
+    let bytes = bytes_of(&relocations);
+    assert_eq!(
+        relocate_section(RiscV, &ADDRESSES, &bytes, &symbols, &mut section),
+        Ok(())
+    );
+    let expected = [
+        0xee, 0xee, 0xee, 0xee, 0x0d, 0x06, 0, 0, 0x79, 0x56, 0x40, 0, 0, 0, 0, 0, 0xee,
+    ];
+    assert_eq!(section, expected);
+    // the error is that of the first relocation that isn't written
+    let too_short = RelocationError::Write(RelocateError::TooShort);
+    let no_symbol = RelocationError::Value(ValueError::NoSymbol);
+    let unsupported = RelocationError::Write(RelocateError::Unsupported);
+    for (index, wrong, error) in [
+        (
+            2,
+            Rela {
+                offset: 10,
+                ..relocations[2]
+            },
+            too_short,
+        ),
+        (
+            2,
+            Rela {
+                offset: u64::MAX,
+                ..relocations[2]
+            },
+            too_short,
+        ),
+        (
+            1,
+            Rela {
+                symbol: 3,
+                ..relocations[1]
+            },
+            no_symbol,
+        ),
+        (
+            3,
+            Rela {
+                code: 60,
+                symbol: 1,
+                ..relocations[3]
+            },
+            unsupported,
+        ),
+    ] {
+        let mut relocations = relocations;
+        relocations[index] = wrong;
+        let bytes = bytes_of(&relocations);
+        let result = relocate_section(RiscV, &ADDRESSES, &bytes, &symbols, &mut [0; 17]);
+        assert_eq!(result, Err(SectionError { index, error }));
+    }
 }
 
 #[test]
