@@ -7,6 +7,7 @@ use linker_utils::section::{
     Addresses, Entry, EntryClass, Rela, RelocationError, SectionError, Symbol, ValueError, needs,
     relocate_section, relocation_at, relocations_len, value,
 };
+use linker_utils::utils::Uleb128Error;
 
 const SECTION: u64 = 0x40_1000;
 
@@ -603,6 +604,88 @@ fn sections_are_relocated_in_order() {
         let bytes = bytes_of(&relocations);
         let result = relocate_section(RiscV, &ADDRESSES, &bytes, &symbols, &mut [0; 17]);
         assert_eq!(result, Err(SectionError { index, error }));
+    }
+}
+
+#[test]
+fn pairs_write_uleb128_numbers() {
+    let first = Symbol {
+        address: 0x40_5678,
+        ..Symbol::default()
+    };
+    let second = Symbol {
+        address: 0x40_5070,
+        ..Symbol::default()
+    };
+    let symbols = [Symbol::default(), first, second];
+    let pair = |codes: [u32; 2], addend| {
+        bytes_of(&[
+            Rela {
+                offset: 1,
+                code: codes[0],
+                symbol: 1,
+                addend,
+            },
+            Rela {
+                offset: 1,
+                code: codes[1],
+                symbol: 2,
+                addend: 0,
+            },
+        ])
+    };
+    // 0x608 is 1100 0001000 by groups of seven bits; R_RISCV_SET_ULEB128 and R_RISCV_SUB_ULEB128 set
+    // it, and R_LARCH_ADD_ULEB128 and R_LARCH_SUB_ULEB128 add it to 2
+    for (architecture, codes, addend, before, after) in [
+        (
+            RiscV,
+            [60, 61],
+            0,
+            [0xee, 0x82, 0x00, 0xee],
+            [0xee, 0x88, 0x0c, 0xee],
+        ),
+        (
+            RiscV,
+            [60, 61],
+            -0x608,
+            [0xee, 0x82, 0x01, 0xee],
+            [0xee, 0x80, 0x00, 0xee],
+        ),
+        (
+            LoongArch64,
+            [107, 108],
+            0,
+            [0xee, 0x82, 0x00, 0xee],
+            [0xee, 0x8a, 0x0c, 0xee],
+        ),
+    ] {
+        let mut section = before;
+        let relocations = pair(codes, addend);
+        let result = relocate_section(
+            architecture,
+            &ADDRESSES,
+            &relocations,
+            &symbols,
+            &mut section,
+        );
+        assert_eq!((result, section), (Ok(()), after));
+    }
+    // a number of one byte has no room; one that goes on past the end isn't there; one alone is no pair
+    let does_not_fit = RelocationError::Uleb128(Uleb128Error::DoesNotFit);
+    let ended = RelocationError::Uleb128(Uleb128Error::Ended);
+    let unsupported = RelocationError::Write(RelocateError::Unsupported);
+    let relocations = pair([60, 61], 0);
+    let swapped = pair([61, 60], 0);
+    for (relocations, before, error) in [
+        (&relocations[..], [0xee, 0x02, 0x00, 0xee], does_not_fit),
+        (&relocations[..], [0xee, 0x82, 0x80, 0x80], ended),
+        (&relocations[..24], [0xee, 0x82, 0x00, 0xee], unsupported),
+        (&swapped[..], [0xee, 0x82, 0x00, 0xee], unsupported),
+    ] {
+        let mut section = before;
+        let result = relocate_section(RiscV, &ADDRESSES, relocations, &symbols, &mut section);
+        assert_eq!(result, Err(SectionError { index: 0, error }));
+        assert_eq!(section, before);
     }
 }
 

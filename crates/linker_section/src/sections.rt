@@ -1,14 +1,19 @@
 //! The values of a section's relocations, written.
 
-ghost use Rattle.std.specs.Prelude.{◌/◌, length, IfErr, OnOk};
+ghost use Rattle.std.specs.Prelude.{◌≡◌, ◌≤◌, ◌/◌, ℕ, List, length, IfErr, IfSome, OnOk};
+ghost use Rattle.linker_base.specs.Uleb.{Uleb};
 ghost use Rattle.linker_section.specs.Relocations.{relocation_in};
 ghost use Rattle.linker_section.specs.Sections.{IsWrittenAt, IsRelocated, AreRelocated};
-ghost use Rattle.linker_section.specs.Sections.{IsFirstRejected};
+ghost use Rattle.linker_section.specs.Sections.{begins_pair, ends_pair, IsPairNumber, IsPair};
+ghost use Rattle.linker_section.specs.Sections.{IsNumberWrittenAt, IsPairOutcome, IsFirstRejected};
 
 use crate::facts::{Addresses, Symbol};
 use crate::relocations::{Rela, relocation_in, relocations_len};
 use crate::values::{ValueError, value_of};
-use linker_utils::elf::{Architecture, RelocateError, Row};
+use linker_base::utils::{self, Uleb128Error};
+use linker_utils::elf::{
+    Architecture, RelocateError, RelocationKind, RelocationKindInfo, RelocationSize, Row,
+};
 
 /// Why a relocation's value isn't written.
 #[derive(Debug, Clone, Copy, PartialEq, Eq)]
@@ -16,8 +21,10 @@ pub enum RelocationError {
     /// It has no value.
     Value(ValueError),
     /// Its value can't be written, as `Row::write` says. An offset past the section's end is
-    /// `TooShort`.
+    /// `TooShort`. A relocation of a ULEB128 number is `Unsupported` where it isn't of a pair.
     Write(RelocateError),
+    /// The number of the pair at a ULEB128 number that it begins isn't written.
+    Uleb128(Uleb128Error),
 }
 
 /// The first relocation of a section whose value isn't written.
@@ -74,14 +81,146 @@ fn relocate(
     }
 }
 
+/// Whether a row is that of the first of a pair at a ULEB128 number.
+#[inline(always)]
+fn begins_pair(info: &RelocationKindInfo) -> bool
+    ensures { result ≡ begins_pair info.now.size info.now.kind }
+{
+    matches!(info.kind, RelocationKind::Relative)
+        && matches!(info.size, RelocationSize::ByteSize(0))
+}
+
+/// Whether a row is that of the second of such a pair.
+#[inline(always)]
+fn ends_pair(kind: RelocationKind) -> bool
+    ensures { result ≡ ends_pair kind }
+{
+    matches!(
+        kind,
+        RelocationKind::PairSubtractionULEB128RiscV
+            | RelocationKind::PairSubtractionULEB128LoongArch
+    )
+}
+
+/// The number that bytes begin with; 0 if they begin with none.
+fn number_or_zero(bytes: &[u8]) -> u64
+    ensures { (n : ℕ) (rest : List ℕ) → Uleb bytes.now n rest → result ≡ n }
+{
+    let mut content = bytes;
+    match utils::read_uleb128(&mut content) {
+        Ok(number) => number,
+        Err(_) => 0,
+    }
+}
+
+/// The number that a pair writes, whose second relocation is of a kind.
+#[inline(always)]
+fn pair_number(kind: RelocationKind, bytes: &[u8], first: i64, second: i64) -> u64
+    ensures { IsPairNumber kind bytes.now first second result }
+{
+    let difference = first.cast_unsigned().wrapping_sub(second.cast_unsigned());
+    match kind {
+        RelocationKind::PairSubtractionULEB128LoongArch => {
+            number_or_zero(bytes).wrapping_add(difference)
+        }
+        _ => difference,
+    }
+}
+
+/// Writes a number in place of the ULEB128 number at an offset.
+#[inline(always)]
+fn write_number_at(number: u64, offset: u64, section: &mut [u8]) -> Result<(), Uleb128Error>
+    requires { offset ≤ length section.old }
+    ensures { IsNumberWrittenAt number offset section.old section.new result }
+{
+    utils::write_uleb128(&mut section[offset as usize..], number)
+}
+
+/// What two relocations write, if they are a pair at a ULEB128 number in the section.
+fn number_of_pair(
+    architecture: Architecture,
+    addresses: &Addresses,
+    relocations: &[u8],
+    symbols: &[Symbol],
+    first: &Rela,
+    second: &Rela,
+    section: &[u8],
+) -> Option<u64>
+    ensures { IfSome result (λ number. (first.now.offset ≤ length section.now)
+        × IsPair architecture addresses.now relocations.now symbols.now first.now second.now
+        section.now number) }
+{
+    if second.offset != first.offset || (section.len() as u64) < first.offset {
+        return None;
+    }
+    let Some(row) = architecture.row(first.code) else {
+        return None;
+    };
+    let info = row.info();
+    let Some(row) = architecture.row(second.code) else {
+        return None;
+    };
+    let other = row.info();
+    if !begins_pair(&info) || !ends_pair(other.kind) {
+        return None;
+    }
+    let Ok(Some(value)) = value_of(architecture, addresses, relocations, symbols, &info, first)
+    else {
+        return None;
+    };
+    let Ok(Some(subtracted)) = value_of(
+        architecture,
+        addresses,
+        relocations,
+        symbols,
+        &other,
+        second,
+    ) else {
+        return None;
+    };
+    let bytes = &section[first.offset as usize..];
+    Some(pair_number(other.kind, bytes, value, subtracted))
+}
+
+/// Writes the number of two relocations, if they are a pair at a ULEB128 number. Whether they are.
+#[inline(never)]
+fn relocate_pair(
+    architecture: Architecture,
+    addresses: &Addresses,
+    relocations: &[u8],
+    symbols: &[Symbol],
+    first: &Rela,
+    second: &Rela,
+    section: &mut [u8],
+) -> Result<bool, Uleb128Error>
+    ensures { IsPairOutcome architecture addresses.now relocations.now symbols.now first.now
+        second.now section.old section.new result }
+{
+    let Some(number) = number_of_pair(
+        architecture,
+        addresses,
+        relocations,
+        symbols,
+        first,
+        second,
+        section,
+    ) else {
+        return Ok(false);
+    };
+    match write_number_at(number, first.offset, section) {
+        Ok(()) => Ok(true),
+        Err(error) => Err(error),
+    }
+}
+
 /// Writes the values of a section's relocations, `value`'s, in their order: so relocations at one
-/// offset compose, as `R_RISCV_ADD32` and `R_RISCV_SUB32` do.
+/// offset compose, as `R_RISCV_ADD32` and `R_RISCV_SUB32` do. Two next to each other that are a pair at
+/// a ULEB128 number are written at once.
 ///
 /// # Errors
 ///
 /// The first relocation whose value isn't written. Those before it are written, and it has changed
-/// nothing. The relocations of a pair at a ULEB128 number are among those that can't be written
-/// (`Unsupported`): `utils::write_uleb128` writes the result of both.
+/// nothing.
 ///
 /// ```
 /// use linker_section::facts::{Addresses, Symbol};
@@ -107,21 +246,46 @@ pub fn relocate_section(
     section: &mut [u8],
 ) -> Result<(), SectionError>
     ensures ok { OnOk result (AreRelocated architecture addresses.now relocations.now symbols.now
-        (length relocations.now / 24) section.old section.new) }
+        section.old (length relocations.now / 24) section.new) }
     ensures err { IfErr result (IsFirstRejected architecture addresses.now relocations.now
         symbols.now section.old section.new) }
 {
-    for index in 0..relocations_len(relocations) {
+    let len = relocations_len(relocations);
+    let mut index = 0;
+    while index < len {
         let relocation = relocation_in(relocations, index);
-        if let Err(error) = relocate(
+        let Err(error) = relocate(
             architecture,
             addresses,
             relocations,
             symbols,
             &relocation,
             section,
-        ) {
+        ) else {
+            index += 1;
+            continue;
+        };
+        if index + 1 == len {
             return Err(SectionError { index, error });
+        }
+        let second = relocation_in(relocations, index + 1);
+        match relocate_pair(
+            architecture,
+            addresses,
+            relocations,
+            symbols,
+            &relocation,
+            &second,
+            section,
+        ) {
+            Ok(true) => index += 2,
+            Ok(false) => return Err(SectionError { index, error }),
+            Err(error) => {
+                return Err(SectionError {
+                    index,
+                    error: RelocationError::Uleb128(error),
+                });
+            }
         }
     }
     Ok(())
