@@ -712,7 +712,7 @@ struct linker_utils_operands {
      * R_LARCH_TLS_LD_PC_HI20 takes the entry of that high half. */
     uint64_t got_entry;
     uint64_t got_base; /* GOT */
-    uint64_t plt_entry; /* L */
+    uint64_t plt_entry; /* L: the PLT entry's address, or S where there is none. Calls read it. */
     uint64_t symbol_size; /* Z */
     /* The origin of offsets of TLS symbols, as an address in the TLS segment's image. For an offset
      * from the thread pointer it is the thread pointer's: on AArch64 the image's address less 16
@@ -722,6 +722,11 @@ struct linker_utils_operands {
      * PowerPC64, and plus 0x800 on RISC-V. */
     uint64_t tls_base;
 };
+
+/* The operands for a symbol without a PLT entry, for which L is S: S, A and P, and zeros. For a symbol
+ * with one set `plt_entry` to its address. */
+static inline struct linker_utils_operands linker_utils_operands_of(
+    uint64_t symbol, int64_t addend, uint64_t place);
 
 /* The value of a relocation: the formula of its kind, with the bias added first and the page mask
  * applied after that, modulo 2^64 and read in two's complement. So LoongArch's page of a GOT entry

@@ -16,6 +16,12 @@ static inline const char *linker_utils_status_text(uint32_t status) {
     return "No status has this number.";
 }
 
+static inline struct linker_utils_operands linker_utils_operands_of(
+    uint64_t symbol, int64_t addend, uint64_t place) {
+    struct linker_utils_operands operands = {symbol, addend, place, 0, 0, symbol, 0, 0};
+    return operands;
+}
+
 static uint64_t linker_utils_no_elements[1];
 #define LINKER_UTILS_SLICE(element, slice) \
     ((slice) ? (slice) : (element *)linker_utils_no_elements)

@@ -5,10 +5,6 @@
 
 #include "linker_utils.h"
 
-/* A field at 0x401000, and a symbol near to it and far from it, which has no PLT entry. */
-static const struct linker_utils_operands near = {0x402000, 0, 0x401000, 0, 0, 0x402000, 0, 0};
-static const struct linker_utils_operands far = {0x40402000, 0, 0x401000, 0, 0, 0x40402000, 0, 0};
-
 static void show(uint16_t machine, uint32_t r_type, const struct linker_utils_operands *operands,
                  uint8_t *bytes, size_t len) {
     uint8_t name[LINKER_UTILS_NAME_SIZE];
@@ -60,6 +56,9 @@ static void show_distance(uint16_t machine, uint32_t first, uint32_t second, uin
 }
 
 int main(void) {
+    /* a field at 0x401000, and a symbol near to it and far from it, which has no PLT entry */
+    const struct linker_utils_operands near = linker_utils_operands_of(0x402000, 0, 0x401000);
+    const struct linker_utils_operands far = linker_utils_operands_of(0x40402000, 0, 0x401000);
     uint8_t bl[4] = {0x00, 0x00, 0x00, 0x94};
     show(EM_AARCH64, R_AARCH64_CALL26, &near, bl, sizeof bl);
     show(EM_AARCH64, R_AARCH64_CALL26, &far, bl, sizeof bl);

@@ -20,8 +20,8 @@ fn main() -> Result<(), RelocateError> {
     let mut code = [0x00, 0x00, 0x00, 0x90, 0x00, 0x00, 0x00, 0x91];
     let symbol = 0x41_2345;
     // R_AARCH64_ADR_PREL_PG_HI21 and R_AARCH64_ADD_ABS_LO12_NC
-    apply(275, &Operands { symbol, place: 0x21_0000, ..Operands::default() }, &mut code)?;
-    apply(277, &Operands { symbol, place: 0x21_0004, ..Operands::default() }, &mut code[4..])?;
+    apply(275, &Operands::new(symbol, 0, 0x21_0000), &mut code)?;
+    apply(277, &Operands::new(symbol, 0, 0x21_0004), &mut code[4..])?;
 
     // adrp x0, 0x202000; add x0, x0, #0x345
     assert_eq!(code[..4], 0xd000_1000u32.to_le_bytes());
@@ -29,7 +29,7 @@ fn main() -> Result<(), RelocateError> {
 
     // `bl` (R_AARCH64_CALL26) reaches 128 MiB; a linker inserts a thunk for a target further away
     let mut bl = [0x00, 0x00, 0x00, 0x94];
-    let far = Operands { symbol: 0x1000_0000, plt_entry: 0x1000_0000, ..Operands::default() };
+    let far = Operands::new(0x1000_0000, 0, 0);
     assert_eq!(apply(283, &far, &mut bl), Err(RelocateError::OutOfReach));
     let row = relocation_type_from_raw(AArch64Relocation::R_AARCH64_CALL26).expect("a row");
     println!("R_AARCH64_CALL26 reaches {:?}", row.reach());

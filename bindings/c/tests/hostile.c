@@ -456,6 +456,16 @@ static void call_status_text(void) {
     finish(true);
 }
 
+static void call_operands_of(void) {
+    uint64_t symbol = any_number(), place = any_number();
+    int64_t addend = (int64_t)any_number();
+    struct linker_utils_operands made = CALL(operands_of, symbol, addend, place);
+    struct linker_utils_operands wanted = {
+        .symbol = symbol, .addend = addend, .place = place, .plt_entry = symbol};
+    expect(!memcmp(&made, &wanted, sizeof made), "other operands");
+    finish(true);
+}
+
 static void call_version(void) {
     const char *version = CALL(version, );
     expect(strcmp(version, LINKER_UTILS_VERSION) == 0, "another version than the header");
@@ -1500,7 +1510,7 @@ static void call_recognise_chosen(void) {
 }
 
 static void (*const all[])(void) = {
-    call_status_text, call_version, call_window, call_write, call_read, call_apply, call_matches,
+    call_status_text, call_operands_of, call_version, call_window, call_write, call_read, call_apply, call_matches,
     call_choose, call_relocation_fits, call_is_unchanged, call_rewrite_window,
     call_next_modifier, call_relocation, call_relocation_name, call_value, call_reach, call_relocate,
     call_relocate_all,

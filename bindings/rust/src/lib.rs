@@ -123,6 +123,13 @@ pub struct Operands {
     pub tls_base: u64,
 }
 
+impl Operands {
+    /// Those for a symbol without a PLT entry, for which L is S.
+    pub fn new(symbol: u64, addend: i64, place: u64) -> Operands {
+        Operands { symbol, addend, place, plt_entry: symbol, ..Operands::default() }
+    }
+}
+
 /// What a linker knows of a relocation's symbol and of its output when it chooses a rewrite. Each
 /// field is explained at `struct linker_utils_link_facts` in `include/linker_utils.h`.
 #[derive(Debug, Clone, Copy, Default, PartialEq, Eq)]

@@ -33,6 +33,9 @@ type Functions = BTreeMap<String, Function>;
 /// The calls that say which archive it is. Each archive gets them of `bindings/version.c`.
 const OF_ARCHIVE: [&str; 2] = ["linker_utils_is_proved", "linker_utils_version"];
 
+/// The calls that are the header's alone.
+const OF_HEADER: [&str; 2] = ["linker_utils_status_text", "linker_utils_operands_of"];
+
 /// The text between an opening bracket, at the beginning, and the one that closes it, and the rest.
 fn bracketed(text: &str) -> (&str, &str) {
     let mut depth = 0;
@@ -156,7 +159,7 @@ fn functions_of_c() -> FunctionsOfC {
         }
         let (parameters, rest) = bracketed(rest);
         let inline = result.strip_prefix("static inline ");
-        if inline == Some("const char *") || OF_ARCHIVE.contains(&name) {
+        if OF_HEADER.contains(&name) || OF_ARCHIVE.contains(&name) {
             continue;
         }
         let function = Function {

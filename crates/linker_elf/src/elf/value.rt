@@ -35,7 +35,8 @@ pub struct Operands {
     /// The address that offsets from the GOT count from: that of `_GLOBAL_OFFSET_TABLE_`, and on
     /// PowerPC64 that of `.TOC.`, which is the GOT's address plus 0x8000.
     pub got_base: u64,
-    /// L: the address of the symbol's PLT entry, or S where it has none.
+    /// L: the address of the symbol's PLT entry, or S where it has none, as `new` sets it. Calls read
+    /// it: 0 here isn't S.
     pub plt_entry: u64,
     /// Z: the symbol's size.
     pub symbol_size: u64,
@@ -44,6 +45,41 @@ pub struct Operands {
     /// is the image's address plus 0x7000. For an offset in the module's TLS block it is the
     /// image's address; plus 0x8000 on PowerPC64, and plus 0x800 on RISC-V.
     pub tls_base: u64,
+}
+
+impl Operands {
+    /// Those of a symbol without a PLT entry, for which L is S: S, A and P, and zeros. A symbol with
+    /// one has its address in `plt_entry`.
+    ///
+    /// ```
+    /// use linker_utils::elf::Operands;
+    /// use linker_utils::x86_64::{X86_64Relocation, row};
+    ///
+    /// // call f, whose field is at 0x401131, with f at 0x401200
+    /// let operands = Operands::new(0x401200, -4, 0x401131);
+    /// let row = row(X86_64Relocation::R_X86_64_PLT32).unwrap();
+    /// assert_eq!(row.value(&operands), Some(0xcb));
+    /// ```
+    pub fn new(symbol: u64, addend: i64, place: u64) -> Operands
+        ensures { result ≡ record {
+          symbol = symbol;
+          addend = addend;
+          place = place;
+          got_entry = 0;
+          got_base = 0;
+          plt_entry = symbol;
+          symbol_size = 0;
+          tls_base = 0;
+        } }
+    {
+        Operands {
+            symbol,
+            addend,
+            place,
+            plt_entry: symbol,
+            ..Operands::default()
+        }
+    }
 }
 
 /// The address of the page of 4 KiB that contains an address, if `masked`.
