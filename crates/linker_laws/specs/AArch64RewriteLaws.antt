@@ -332,3 +332,19 @@ abbrev pub WeakBranches : Type 0
 WeakBranches =
     BranchToNop names.R_AARCH64_JUMP26 is_b (λ _. false)
     × BranchToNop names.R_AARCH64_CALL26 is_bl (λ n. n == 30)
+
+-- ---- the laws
+
+-- what `rewrites` ensures
+pub record Laws : Type 0 where
+  pub got : GotToAddress
+  pub high_half : HighHalfToMovz
+  pub low_half : LowHalfToMovk
+  pub address : AddressToAdr
+  pub descriptor_to_local_exec : DescriptorToLocalExec
+  pub descriptor_to_initial_exec : DescriptorToInitialExec
+  pub weak : WeakBranches
+  pub adrp_made_adr : AdrpMadeAdr
+  pub add_made_adr : AddMadeAdr
+  pub ldr_made_adr : LdrMadeAdr
+  pub sections : InSections

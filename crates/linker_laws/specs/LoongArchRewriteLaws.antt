@@ -451,3 +451,24 @@ CallOfDescriptorToNop =
     → IsRewritten kinds.ReplaceWithNop jirl nop
     → IsSomeAnd (step (word_of jirl) s) (λ u.
     (v : State) → call u ≡ Some v → IsSomeAnd (step (word_of nop) t) (AgreeBut (behind_call c d) v))
+
+-- ---- the laws
+
+-- what `rewrites` ensures
+pub record Laws : Type 0 where
+  pub got : GotToAddress
+  pub high_half : HighHalfToLu12i names.R_LARCH_TLS_IE_PC_HI20
+  pub low_half : LowHalfToOri
+  pub short_high_half : HighHalfToNop
+  pub short_low_half : LowHalfToOriZero
+  pub address : AddressToPcaddi
+  pub near_got : GotToPcaddi
+  pub near_entries : EntriesToPcaddi
+  pub calls : Calls
+  pub shorter_local_exec : ShorterLocalExec
+  pub descriptor_high_half : HighHalfToLu12i names.R_LARCH_TLS_DESC_PC_HI20
+  pub descriptor_page : PageOfDescriptor
+  pub descriptor_low_half : LowOfDescriptorToOri
+  pub descriptor_entry : LowOfDescriptorToLoad
+  pub descriptor_load : LoadOfDescriptorToNop
+  pub descriptor_call : CallOfDescriptorToNop

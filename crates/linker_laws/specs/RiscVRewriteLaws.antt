@@ -555,3 +555,25 @@ GotToAddress =
     → EndSo 2 (auipc_of ++ ld_of) h 2 (high ++ low) k
     (HaveAddress (rd_of (word_of auipc)) (rd_of (word_of ld)) (symbol_address x) (symbol_address y)
     (sum_64 h.pc 8) (sum_64 k.pc 8))
+
+-- ---- the laws
+
+-- what `rewrites` ensures
+pub record Laws : Type 0 where
+  pub calls : Calls
+  pub tail_calls : TailCalls
+  pub short_tail_calls : ShortTailCalls
+  pub short_high_parts : LuiBecomesClui
+  pub short_zeros : CluiBecomesCli
+  pub no_high_parts : LuiIsDeleted
+  pub low_parts : LowPartFromZero
+  pub pairs : PairFromZero
+  pub high_offsets : OffsetLuiIsDeleted
+  pub sums : SumIsDeleted
+  pub low_offsets : LowPartFromThreadPointer
+  pub local_exec : LocalExecIsShortened
+  pub nops : LongNopDoesNothing
+  pub descriptor_to_local_exec : DescriptorToLocalExec
+  pub descriptor_to_short_local_exec : DescriptorToShortLocalExec
+  pub descriptor_to_initial_exec : DescriptorToInitialExec
+  pub got : GotToAddress

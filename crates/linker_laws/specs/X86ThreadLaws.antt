@@ -227,3 +227,11 @@ Descriptors =
     × DescriptorToInitialExec lea_rax names.R_X86_64_GOTPC32_TLSDESC
     × DescriptorToLocalExec rex2_lea_rax names.R_X86_64_CODE_4_GOTPC32_TLSDESC
     × DescriptorToInitialExec rex2_lea_rax names.R_X86_64_CODE_4_GOTPC32_TLSDESC
+
+-- ---- the laws
+
+-- what `rewrites` ensures
+pub record Laws : Type 0 where
+  pub general_dynamic : GeneralDynamic
+  pub local_dynamic : LocalDynamic
+  pub descriptors : Descriptors

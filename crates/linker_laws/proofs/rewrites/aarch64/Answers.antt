@@ -35,7 +35,6 @@ use Rattle.linker_laws.specs.AArch64RewriteLaws as aarch64_laws
 use Rattle.linker_laws.specs.AArch64Machine.{in_64_bits, adr_address, go_on, go_to, branch_target}
 use Rattle.linker_laws.specs.AArch64Machine.{execute, step, write_x, next_pc, State, adrp_address}
 use Rattle.linker_laws.specs.AArch64Machine.{loaded, added}
-use Rattle.linker_laws.specs.AArch64Worked.{WorkedSteps, WorkedRuns}
 use Rattle.linker_laws.proofs.AArch64Descriptors.{to_local_exec, to_initial_exec}
 use Rattle.linker_laws.proofs.AArch64Halves.{high_half, low_half}
 use Rattle.linker_laws.proofs.AArch64Pairs.{word_is, loads, adds_pair, word_made, pair_made}
@@ -321,9 +320,26 @@ sections LdrToAdr section o = in_section _ section o (λ window. refl)
 sections LdrToAdd section o = in_section _ section o (λ window. refl)
 sections AdrpAddToNopAdr section o = in_section _ section o (λ window. refl)
 
-worked : WorkedSteps
+pub returns-clause-laws : goal.returns-clause-laws
+returns-clause-laws c =
+    let laws = c.aarch64.ensures in
+    record {
+      got = got_pair laws.relative laws.entries;
+      high_half = high_half;
+      low_half = low_half;
+      address = address laws.relative laws.literals;
+      descriptor_to_local_exec = to_local_exec laws.entries laws.thread_moves;
+      descriptor_to_initial_exec = to_initial_exec laws.entries;
+      weak = branches laws.branches;
+      adrp_made_adr = adrp_made laws.relative laws.literals;
+      add_made_adr = add_made laws.relative laws.literals;
+      ldr_made_adr = ldr_made laws.entries laws.literals;
+      sections = sections;
+    }
+
+pub returns-clause-steps : goal.returns-clause-steps
 unfolding place_sum
-worked = (
+returns-clause-steps c = (
   (refl, refl),
   (refl, refl),
   (refl, refl),
@@ -341,25 +357,6 @@ worked = (
   (refl, refl),
 )
 
-worked_runs : WorkedRuns
+pub returns-clause-runs : goal.returns-clause-runs
 unfolding place_sum
-worked_runs = (refl, refl, refl)
-
-pub returns : goal.returns
-returns c =
-    let laws = c.aarch64.ensures in
-    record {
-      got = got_pair laws.relative laws.entries;
-      high_half = high_half;
-      low_half = low_half;
-      address = address laws.relative laws.literals;
-      descriptor_to_local_exec = to_local_exec laws.entries laws.thread_moves;
-      descriptor_to_initial_exec = to_initial_exec laws.entries;
-      weak = branches laws.branches;
-      adrp_made_adr = adrp_made laws.relative laws.literals;
-      add_made_adr = add_made laws.relative laws.literals;
-      ldr_made_adr = ldr_made laws.entries laws.literals;
-      sections = sections;
-      steps = worked;
-      runs = worked_runs;
-    }
+returns-clause-runs c = (refl, refl, refl)

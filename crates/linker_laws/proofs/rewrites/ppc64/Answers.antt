@@ -17,24 +17,26 @@ pub returns : goal.returns
 returns c =
     let laws = c.ppc64.ensures in
     record {
-      got = got_to_address laws.got laws.toc;
-      initial_exec = initial_exec laws.entries laws.thread;
-      initial_exec_access = access_to_local_exec laws.entries laws.thread;
-      access_near_toc = access_near_toc laws.toc laws.displacements;
-      word_access_near_toc = word_access_near_toc laws.toc laws.displacements;
-      initial_exec_word_access = word_access_to_local_exec laws.entries laws.thread;
-      general_to_local = general_to_local laws.entries laws.thread;
-      general_to_initial = general_to_initial laws.entries;
-      local_dynamic = local_dynamic laws.entries;
-      near_initial_exec = near_initial_exec laws.thread laws.displacements;
-      arguments = arguments laws.entries laws.displacements;
-      argument_to_local = argument_to_local laws.thread;
-      argument_to_initial = argument_to_initial laws.entries;
-      near_argument_to_initial = near_argument_to_initial laws.displacements;
-      argument_to_module = argument_to_module;
-      prefixed = pld_to_paddi laws.prefixed;
-      near_toc = addi_near_toc laws.toc laws.displacements;
-      vector_access_near_toc = vector_access_near_toc laws.toc laws.displacements;
-      toc_at_entry = toc_at_entry laws.relative laws.absolute;
-      toc = restores_toc;
+      laws = record {
+        got = got_to_address laws.got laws.toc;
+        initial_exec = initial_exec laws.entries laws.thread;
+        initial_exec_access = access_to_local_exec laws.entries laws.thread;
+        access_near_toc = access_near_toc laws.toc laws.displacements;
+        word_access_near_toc = word_access_near_toc laws.toc laws.displacements;
+        initial_exec_word_access = word_access_to_local_exec laws.entries laws.thread;
+        general_to_local = general_to_local laws.entries laws.thread;
+        general_to_initial = general_to_initial laws.entries;
+        local_dynamic = local_dynamic laws.entries;
+        near_initial_exec = near_initial_exec laws.thread laws.displacements;
+        arguments = arguments laws.entries laws.displacements;
+        argument_to_local = argument_to_local laws.thread;
+        argument_to_initial = argument_to_initial laws.entries;
+        near_argument_to_initial = near_argument_to_initial laws.displacements;
+        argument_to_module = argument_to_module;
+        prefixed = pld_to_paddi laws.prefixed;
+        near_toc = addi_near_toc laws.toc laws.displacements;
+        vector_access_near_toc = vector_access_near_toc laws.toc laws.displacements;
+        toc_at_entry = toc_at_entry laws.relative laws.absolute;
+        toc = restores_toc;
+      };
     }
