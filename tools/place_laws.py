@@ -66,13 +66,22 @@ def is_load_from_got(words):
 
 # ---- LoongArch
 
+def stores_of_loongarch(word):
+    """The register of 64 bits that a store stores; None where the instruction stores none."""
+    return bits(word, 0, 5) if 0xA4 <= bits(word, 22, 32) <= 0xA7 else None
+
+
+def keeps_base_of_loongarch(words):
+    """LowPartFromThreadPointer: StoresTheSame, of the base."""
+    return stores_of_loongarch(words[0]) != bits(words[0], 5, 10)
+
+
 def is_local_exec_of_loongarch(words):
     """IsLocalExec."""
-    (high, add, low), opcode = words, bits(words[2], 22, 32)
+    high, add, low = words
     both = bits(high, 0, 5), bits(add, 0, 5)
-    is_store = 0xA4 <= opcode <= 0xA7
     return (bits(add, 5, 10) == both[0] and bits(low, 5, 10) == both[1] and both[0] not in (0, 2)
-            and both[1] != 0 and not (is_store and bits(low, 0, 5) in both))
+            and both[1] != 0 and stores_of_loongarch(low) not in both)
 
 
 # ---- PowerPC64
@@ -213,6 +222,9 @@ ALONE = {
         ("LowOfDescriptorToOri LowOfDescriptorToLoad", "TLS_DESC_PC_LO12", None),
         ("LoadOfDescriptorToNop", "TLS_DESC_LD", None),
         ("CallOfDescriptorToNop", "TLS_DESC_CALL", None),
+        ("OffsetLu12iIsDeleted", "TLS_LE_HI20_R", None),
+        ("SumIsDeleted", "TLS_LE_ADD_R", None),
+        ("LowPartFromThreadPointer", "TLS_LE_LO12_R", keeps_base_of_loongarch),
     ],
     21: [
         ("PldToPaddi", "GOT_PCREL34", None), ("RestoresToc", "REL24", None),

@@ -26,6 +26,9 @@ returns c =
           branches.call_to_b laws.calls laws.branches,
         );
         shorter_local_exec = offsets.shorter laws.thread;
+        high_offset = offsets.lu12i_is_deleted;
+        sum = offsets.sum_is_deleted;
+        low_offset = offsets.low_part_from_tp;
         descriptor_high_half = halves.descriptor_high;
         descriptor_page = halves.descriptor_page;
         descriptor_low_half = halves.descriptor_to_ori;
