@@ -246,12 +246,21 @@ OF_X86 = {
     "Descriptors": "GOTPC32_TLSDESC CODE_4_GOTPC32_TLSDESC TLSDESC_CALL",
 }
 LEA_RAX = {3: "488d05", 4: "d5088d05"}
+# of one instruction wherever it stands
+ALONE_OF_X86 = {
+    "LeaOfDescriptor": "GOTPC32_TLSDESC CODE_4_GOTPC32_TLSDESC",
+    "CallOfDescriptor": "TLSDESC_CALL",
+}
+
+
+def rows_of_x86(laws_of):
+    return [(laws, name) for laws, names in laws_of.items() for name in names.split()]
 
 
 def rows(machine):
     """The laws and relocations of a machine, in the order of the tables."""
     if machine == 62:
-        return [(laws, name) for laws, names in OF_X86.items() for name in names.split()]
+        return rows_of_x86(OF_X86) + rows_of_x86(ALONE_OF_X86)
     of_sequences = [(one.laws, name) for one in SEQUENCES[machine]
                     for _, names in one.steps for name in sorted(names - UNCHOSEN)]
     return of_sequences + [(laws, name) for laws, names, _ in ALONE[machine]
@@ -298,7 +307,8 @@ def count_of_x86(relocations, code, is_resolved, found):
     """Adds the places of a section. `is_resolved` says of a general- or local-dynamic sequence at an
     offset whether its call is one of `__tls_get_addr`."""
     at_place = {(offset, name): symbol for offset, name, symbol, _, _ in relocations}
-    laws_of = {name: laws for laws, name in rows(62)}
+    laws_of = {name: laws for laws, name in rows_of_x86(OF_X86)}
+    alone = {name: laws for laws, name in rows_of_x86(ALONE_OF_X86)}
 
     def begins(offset, count):
         """The bytes of an instruction before its field."""
@@ -327,3 +337,6 @@ def count_of_x86(relocations, code, is_resolved, found):
     for offset, name, symbol, addend, response in relocations:
         if response == "y":
             found[laws_of[name], name][verdict(offset, name, symbol, addend)] += 1
+            if name in alone:
+                is_behind = name == "TLSDESC_CALL" or addend == -4
+                found[alone[name], name][COVERED if is_behind else "addend"] += 1

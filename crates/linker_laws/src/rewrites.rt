@@ -42,15 +42,15 @@ pub fn ppc64()
 }
 
 /// RISC-V: a call that becomes `jal`, and a tail call that becomes `jal` or `c.j`, go to the target
-/// of their layout, and a call links the address behind it; `c.lui` puts in its register what `lui`
-/// does; so does `c.li` of 0 where the high part is 0, in place of a `c.lui` that can't have that; a
-/// `lui` that is deleted would put 0 there, so that x0 can be the base of the instructions
-/// that add its low part. All else that a program sees is the same, but for the register of a tail
-/// call's `auipc` and that of a deleted `lui`. Where the offset of a variable has 12 bits, the
-/// thread pointer is the base in place of a register that would have its number, and the instruction
-/// over it does alone what it does behind `lui` and `add`. The offset of a variable is in the
-/// instructions, or in its GOT entry, in place of a descriptor; a symbol's address is computed in
-/// place of a load from the GOT.
+/// of their layout, and a call links the address behind it, also in another register than that of its
+/// `auipc`; `c.lui` puts in its register what `lui` does; so does `c.li` of 0 where the high part is
+/// 0, in place of a `c.lui` that can't have that; a `lui` that is deleted would put 0 there, so that
+/// x0 can be the base of the instructions that add its low part. All else that a program sees is the
+/// same, but for the register of the `auipc` of a call that doesn't link it and that of a deleted
+/// `lui`. Where the offset of a variable has 12 bits, the thread pointer is the base in place of a
+/// register that would have its number, and the instruction over it does alone what it does behind
+/// `lui` and `add`. The offset of a variable is in the instructions, or in its GOT entry, in place of
+/// a descriptor; a symbol's address is computed in place of a load from the GOT.
 pub fn riscv64()
     ensures laws { riscv_laws.Laws }
     ensures words { riscv_examples.Words }
@@ -65,9 +65,9 @@ pub fn riscv64()
 /// entry for general- or local-dynamic; the offset of a variable from the thread pointer in the
 /// instructions, in one of them, or by its GOT entry in place of a descriptor's function; loads,
 /// stores and additions over the thread pointer; a call by `b` or `bl`. Each instruction of
-/// initial-exec and of a descriptor has a law of its own, of two runs, whatever stands between them.
-/// Where an instruction is deleted, the code before and after the rewrite may stand at different
-/// addresses, each with its relocations applied.
+/// initial-exec, of local-exec and of a descriptor has a law of its own, of two runs, whatever stands
+/// between them. Where an instruction is deleted, the code before and after the rewrite may stand at
+/// different addresses, each with its relocations applied.
 pub fn loongarch64()
     ensures laws { loongarch_laws.Laws }
 {
@@ -77,9 +77,10 @@ pub fn loongarch64()
 /// x86-64: with no prefix, with REX, REX2 and EVEX, an instruction that takes an address or an
 /// offset from the GOT, and what a rewrite leaves of it, take every state to the same state. The
 /// sequences of general-dynamic, initial-exec and local-exec TLS have the same result in rax, also in
-/// the large code model, and so have descriptors. Where local-dynamic TLS becomes local-exec, rax and
-/// the offset that is added to it have the same sum. The examples are bytes of assemblers and results
-/// of a processor; those of EVEX are of the decoding alone.
+/// the large code model, and so have descriptors, whose `lea`, into any register, and call have a law
+/// each too, of two runs, whatever stands between them. Where local-dynamic TLS becomes local-exec, rax
+/// and the offset that is added to it have the same sum. The examples are bytes of assemblers and
+/// results of a processor; those of EVEX are of the decoding alone.
 pub fn x86_64()
     ensures laws { x86_laws.Laws }
     ensures thread_laws { x86_thread_laws.Laws }

@@ -16,6 +16,7 @@ returns-clause-laws c =
     let laws = c.riscv64.ensures in
     record {
       calls = (branches.call_becomes_jal, branches.call_becomes_jal);
+      calls_over = (branches.call_over_becomes_jal, branches.call_over_becomes_jal);
       tail_calls = (branches.tail_becomes_jal, branches.tail_becomes_jal);
       short_tail_calls = (branches.tail_becomes_cj, branches.tail_becomes_cj);
       short_high_parts = luis.lui_becomes_clui;

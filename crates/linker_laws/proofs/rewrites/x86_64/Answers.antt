@@ -5,6 +5,7 @@ use Rattle.linker_laws.proofs.X86Evex as evex
 use Rattle.linker_laws.proofs.X86Immediates as with
 use Rattle.linker_laws.proofs.X86Loads as loads
 use Rattle.linker_laws.proofs.X86Descriptors as descriptors
+use Rattle.linker_laws.proofs.X86DescriptorSteps as lea
 use Rattle.linker_laws.proofs.X86LargeThreads as larges
 use Rattle.linker_laws.proofs.X86LocalDynamic as dynamic
 use Rattle.linker_laws.proofs.X86Threads as threads
@@ -58,6 +59,13 @@ returns-clause-thread_laws c = record {
     descriptors.rex2_local_exec,
     descriptors.rex2_initial_exec,
   );
+  descriptor_address = (
+    lea.local_exec,
+    lea.initial_exec,
+    lea.rex2_local_exec,
+    lea.rex2_initial_exec,
+  );
+  descriptor_call = lea.call;
 }
 
 pub returns-clause-decoding : goal.returns-clause-decoding
