@@ -45,7 +45,9 @@ pub fn aarch64()
 /// the address of a variable, and loads and stores of it, by its offset from the thread pointer and not
 /// by a GOT entry or a call of `__tls_get_addr`; what is left in a register by one instruction of such a
 /// sequence, in the small code model and where the argument of `__tls_get_addr` is copied; the TOC
-/// pointer at the entry of a function, by its address, and restored behind a call.
+/// pointer at the entry of a function, by its address, and restored behind a call. The high and the low
+/// halves, the arguments of `__tls_get_addr` and its calls have a law each (from `high_half` to
+/// `call_block`), of two runs, whatever stands between them.
 pub fn ppc64()
     ensures got { ppc64_laws.GotToAddress }
     ensures initial_exec { ppc64_laws.InitialExecToLocalExec }
@@ -65,6 +67,17 @@ pub fn ppc64()
     ensures access_near_toc { ppc64_laws.AccessNearToc }
     ensures word_access_near_toc { ppc64_laws.WordAccessNearToc }
     ensures vector_access_near_toc { ppc64_laws.VectorAccessNearToc }
+    ensures high_half { ppc64_laws.HighHalfToNop }
+    ensures low_half { ppc64_laws.LowHalfOverBase }
+    ensures offset_high_half { ppc64_laws.OffsetToHighHalf }
+    ensures offset_low_half { ppc64_laws.OffsetToLowHalf }
+    ensures entry_high_half { ppc64_laws.HighHalfOfEntry }
+    ensures argument_high_half { ppc64_laws.ArgumentToHighHalf }
+    ensures argument_offset { ppc64_laws.ArgumentToOffset }
+    ensures argument_thread { ppc64_laws.ArgumentToThread }
+    ensures call_low_half { ppc64_laws.CallToLowHalf }
+    ensures call_sum { ppc64_laws.CallToSum }
+    ensures call_block { ppc64_laws.CallToBlock }
     ensures toc_at_entry { ppc64_laws.TocAtEntry }
     ensures toc { ppc64_laws.RestoresToc }
 {
