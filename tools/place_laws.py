@@ -119,6 +119,17 @@ def is_tls_call(words):
     return is_toc_pair(words) and rt(words[0]) != 13
 
 
+def has_word_form(words):
+    """LowHalfOverBase, of `ld`, `lwa` and `std`, `lq` and accesses of vector registers. Those of other
+    instructions have no relocation for them."""
+    return words[0] >> 26 in (56, 57, 58, 61, 62)
+
+
+def has_no_word_form(words):
+    """... of `addi` and the other accesses."""
+    return not has_word_form(words)
+
+
 # ---- the laws
 
 @dataclass
@@ -232,6 +243,15 @@ ALONE = {
         ("Arguments ArgumentToLocalExec NearArgumentToInitialExec", "GOT_TLSGD16", is_over_toc),
         ("Arguments ArgumentToModule", "GOT_TLSLD16", is_over_toc),
         ("TocAtEntry", "REL16_HA REL16_LO", None),
+        ("HighHalfToNop", "TOC16_HA TPREL16_HA GOT_TPREL16_HA GOT_TLSLD16_HA", None),
+        ("HighHalfToNop HighHalfOfEntry", "GOT_TLSGD16_HA", None),
+        ("LowHalfOverBase", "TOC16_LO TPREL16_LO", has_no_word_form),
+        ("LowHalfOverBase", "TOC16_LO_DS TPREL16_LO_DS", has_word_form),
+        ("OffsetToHighHalf", "GOT_TPREL16_LO_DS", None),
+        ("OffsetToLowHalf", "TLS", None),
+        ("ArgumentToHighHalf ArgumentToOffset", "GOT_TLSGD16_LO", None),
+        ("ArgumentToThread", "GOT_TLSLD16_LO", None),
+        ("CallToLowHalf CallToSum", "TLSGD", None), ("CallToBlock", "TLSLD", None),
     ],
 }
 # of x86-64, by relocations

@@ -21,11 +21,15 @@ pub mod Pages
 pub mod PartsOfAddresses
 pub mod Ppc64Accesses
 pub mod Ppc64Addresses
+pub mod Ppc64Apart
+pub mod Ppc64Arguments
 pub mod Ppc64Calls
 pub mod Ppc64Copies
 pub mod Ppc64Direct
 pub mod Ppc64Entries
 pub mod Ppc64IndexedWords
+pub mod Ppc64LowHalves
+pub mod Ppc64Offsets
 pub mod Ppc64Prefixed
 pub mod Ppc64Threads
 pub mod Ppc64Vectors
