@@ -1,5 +1,5 @@
 -- A `lui` computes the same as `c.lui`, and nothing where it is deleted.
-use Rattle.std.proofs.Common.{◌≡◌, ◌≢◌, ℕ, ◌+◌, ◌*◌, ◌≤◌, ◌<◌, ◌^◌, refl, sym}
+use Rattle.std.proofs.Common.{Bool, ◌==◌, ◌≡◌, ◌≢◌, ℕ, ◌+◌, ◌*◌, ◌≤◌, ◌<◌, ◌^◌, refl, sym}
 use Rattle.std.proofs.Common.{◌∙◌, ap, arith, List, length, take, drop}
 use Rattle.std.proofs.Common.{Some, w64, subst, pos}
 use Rattle.std.specs.Int.{cast_signed, w16, w32, from_le_bytes}
@@ -20,7 +20,7 @@ use Rattle.linker_elf.specs.Elf.{IsWithin}
 use Rattle.linker_laws.proofs.RiscVHighParts.{high_20}
 use Rattle.linker_laws.specs.RiscVRewriteLaws.{IsLow12, after_rewrite, LuiBecomesClui, LuiIsDeleted}
 use Rattle.linker_laws.specs.RiscVRewriteLaws.{OffsetLuiIsDeleted, thread_offset, AreAlike, EndSo, HasZero}
-use Rattle.linker_laws.specs.RiscVRewriteLaws.{no_register, CluiBecomesCli}
+use Rattle.linker_laws.specs.RiscVRewriteLaws.{CluiBecomesCli}
 use Rattle.linker_laws.specs.Machine.{Relocated}
 use Rattle.linker_laws.proofs.RiscVHighParts.{IsOf, of_address, of_offset, absolute_is}
 use Rattle.linker_elf.specs.RiscVRelocations.{pair_row}
@@ -38,6 +38,7 @@ use Rattle.linker_laws.proofs.RiscVHighParts.{short_register, short_stands, near
 use Rattle.linker_laws.proofs.RiscVHighParts.{same_immediates, is_zero}
 use Rattle.linker_laws.proofs.RiscVMachine.{other, same_written, at_start, steps, fetched_half}
 use Rattle.linker_laws.proofs.Words.{rewritten_there, put_there, half_of_bytes}
+use Rattle.std.proofs.lemmas.Bool.{or_parts}
 use Rattle.std.proofs.lemmas.List.{length-append}
 
 -- of a number of 12 bits
@@ -45,10 +46,10 @@ lui_deleted : (kind : RelocationKind) (number : Operands → ℕ) → IsOf kind 
     → (section : List ℕ) (o : ℕ) → HasWord section o IsLui → (x : Operands)
     → IsWithin (Some low_12_bounds) (cast_signed w64 (number x)) → (original new : List ℕ)
     → Relocated (Some (pair_row kind 32 UType)) x (drop o section) original
-    → (h k : Hart) → h.pc < 2 ^ 64 → k.pc < 2 ^ 64 → AreAlike no_register h k
+    → (h k : Hart) (differs : ℕ → Bool) → h.pc < 2 ^ 64 → k.pc < 2 ^ 64 → AreAlike differs h k
     → EndSo 1 original h 0 new k
-    (λ a b. HasZero (rd_of (word_at section o)) (sum_64 h.pc 4) a b × (b.pc ≡ k.pc))
-lui_deleted kind number of section o m x low original new code h k small small' alike =
+    (λ a b. HasZero differs (rd_of (word_at section o)) (sum_64 h.pc 4) a b × (b.pc ≡ k.pc))
+lui_deleted kind number of section o m x low original new code h k differs small small' alike =
     let before = drop o section in
     let r = rd_of (word_at section o) in
     let a = code.applied in
@@ -74,7 +75,9 @@ lui_deleted kind number of section o m x low original new code h k small small' 
       so = (
         record {
           alike = record {
-            integers = λ q e. put q ∙ other r 0 h q e ∙ alike.integers q refl;
+            integers = λ q e.
+                let parts = or_parts (differs q) (q == r) e in
+                put q ∙ other r 0 h q parts.1 ∙ alike.integers q parts.0;
             floats = λ q. ap (λ e. e.floats q) (upper_is kind x n before original a small_number value l m.1 h)
                 ∙ alike.floats q;
             memory = λ q. ap (λ e. e.memory q) (upper_is kind x n before original a small_number value l m.1 h)

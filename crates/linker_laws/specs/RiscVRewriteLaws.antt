@@ -172,8 +172,8 @@ LuiBecomesClui =
     → EndSo 1 original h 1 new k (HaveGoneOn (sum_64 h.pc 4) (sum_64 k.pc 2))
 
 -- A `lui` that is deleted would put 0 in its register, and change nothing else.
-pub record HasZero (rd behind : ℕ) (a b : Hart) : Type 0 where
-  pub alike : AreAlike (λ r. r == rd) a b
+pub record HasZero (differs : ℕ → Bool) (rd behind : ℕ) (a b : Hart) : Type 0 where
+  pub alike : AreAlike (λ r. differs r || r == rd) a b
   pub zero_there : register a rd ≡ 0
   pub next : a.pc ≡ behind
 
@@ -182,9 +182,9 @@ LuiIsDeleted =
     (section : List ℕ) (o : ℕ) → riscv_matches kinds.Hi20Delete section o
     → (x : Operands) → IsLow12 x → (original new : List ℕ)
     → Relocated (riscv_row names.R_RISCV_HI20) x (drop o section) original
-    → (h k : Hart) → h.pc < 2 ^ 64 → k.pc < 2 ^ 64 → AreAlike no_register h k
+    → (h k : Hart) (differs : ℕ → Bool) → h.pc < 2 ^ 64 → k.pc < 2 ^ 64 → AreAlike differs h k
     → EndSo 1 original h 0 new k
-    (λ a b. HasZero (rd_of (word_at section o)) (sum_64 h.pc 4) a b × (b.pc ≡ k.pc))
+    (λ a b. HasZero differs (rd_of (word_at section o)) (sum_64 h.pc 4) a b × (b.pc ≡ k.pc))
 
 -- `c.li` puts what a `lui` of the same register and of the same S + A does, a high part of 0, for
 -- which there is no `c.lui`.
@@ -236,8 +236,8 @@ abbrev pub action_at : List ℕ → ℕ → Option Action
 action_at section o =
     action_of (opcode_of (word_at section o)) (funct3_of (word_at section o))
 
--- Where the base is what the `lui` leaves, 0, x0 can be the base, whatever that register has in the
--- hart of the new code.
+-- Where the base is what the `lui` leaves, 0, x0 can be the base, whatever is in the registers that
+-- differ.
 abbrev pub FromZero : List ℕ → ℕ → Action → Type 0
 FromZero section o action =
     let rd = rd_of (word_at section o) in
@@ -245,9 +245,9 @@ FromZero section o action =
     (x y : Operands) → HaveOneTarget x y → IsLow12 x → (original new : List ℕ)
     → Relocated (low_row action) x (drop o section) original
     → Relocated (low_row action) y (drop o (after_rewrite kinds.Lo12Rs1ToZero section o)) new
-    → (h k : Hart) → h.pc < 2 ^ 64 → k.pc < 2 ^ 64 → AreAlike (λ r. r == rs1) h k
+    → (h k : Hart) (differs : ℕ → Bool) → h.pc < 2 ^ 64 → k.pc < 2 ^ 64 → AreAlike differs h k
     → register h rs1 ≡ 0 → StoresTheSame action (rs2_of (word_at section o)) h k
-    → EndSo 1 original h 1 new k (λ a b. AreAlike (differs_after action (λ r. r == rs1) rd) a b
+    → EndSo 1 original h 1 new k (λ a b. AreAlike (differs_after action differs rd) a b
     × GoOn action rd (even symbol_address x) (sum_64 h.pc 4) (sum_64 k.pc 4) a b)
 
 abbrev pub LowPartFromZero : Type 0
@@ -305,9 +305,9 @@ OffsetLuiIsDeleted =
     (section : List ℕ) (o : ℕ) → HasWord section o IsLui → (x : Operands) → IsLowOffset x
     → (original new : List ℕ)
     → Relocated (riscv_row names.R_RISCV_TPREL_HI20) x (drop o section) original
-    → (h k : Hart) → h.pc < 2 ^ 64 → k.pc < 2 ^ 64 → AreAlike no_register h k
+    → (h k : Hart) (differs : ℕ → Bool) → h.pc < 2 ^ 64 → k.pc < 2 ^ 64 → AreAlike differs h k
     → EndSo 1 original h 0 new k
-    (λ a b. HasZero (rd_of (word_at section o)) (sum_64 h.pc 4) a b × (b.pc ≡ k.pc))
+    (λ a b. HasZero differs (rd_of (word_at section o)) (sum_64 h.pc 4) a b × (b.pc ≡ k.pc))
 
 -- An `add` that is deleted would put the thread pointer's number in its register, and change nothing
 -- else.
