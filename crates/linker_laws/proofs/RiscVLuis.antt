@@ -1,4 +1,5 @@
 -- A `lui` computes the same as `c.lui`, and nothing where it is deleted.
+use Rattle.std.specs.Prelude.{not, ◌&&◌}
 use Rattle.std.proofs.Common.{Bool, ◌==◌, ◌≡◌, ◌≢◌, ℕ, ◌+◌, ◌*◌, ◌≤◌, ◌<◌, ◌^◌, refl, sym}
 use Rattle.std.proofs.Common.{◌∙◌, ap, arith, List, length, take, drop}
 use Rattle.std.proofs.Common.{Some, w64, subst, pos}
@@ -110,7 +111,7 @@ clui_there section o inside =
     ≡ 0x6001 + field (from_le_bytes w32 (drop o section)) 7 12 * 128 = omega arith in e)
 
 pub lui_becomes_clui : LuiBecomesClui
-lui_becomes_clui section o m x y one high original new old_code new_code h k small small' alike =
+lui_becomes_clui section o m x y one high original new old_code new_code h k differs small small' alike =
     let before = drop o section in
     let before' = drop o (deleted 2 (o + 2) (after_rewrite kinds.Hi20ToCLui section o)) in
     let r = rd_of (word_at section o) in
@@ -149,7 +150,8 @@ lui_becomes_clui section o m x y one high original new old_code new_code h k sma
               ∙ ap (λ s. register (with_integer s number h) q)
               (upper_register Absolute x (symbol_address x) before original a (sum_below x.symbol _) (absolute_is UType x) l is)
               ∙ ap (λ v. register (with_integer r v h) q) same
-              ∙ same_written r number' h k q (λ _. alike.integers q refl)
+              ∙ same_written r number' h k q
+              (λ other. alike.integers q (sym (ap (λ b. not b && differs q) other) ∙ e))
               ∙ ap (λ s. register (with_integer s number' k) q)
               (sym (short_register y before' new a' l' low_bits function some not_sp high'
               ∙ register'))
@@ -176,7 +178,7 @@ cli_there section o inside =
     ∙ ap (λ w. 0x4001 + field w 7 12 * 128) (half_of_front (drop o section))
 
 pub clui_becomes_cli : CluiBecomesCli
-clui_becomes_cli section o m x low lui original is same code h k small small' alike =
+clui_becomes_cli section o m x low lui original is same code h k differs small small' alike =
     let r = rd_of (half_at section o) in
     let n = symbol_address x in
     let a = code.applied in
@@ -216,7 +218,8 @@ clui_becomes_cli section o m x low lui original is same code h k small small' al
               ∙ ap (λ s. register (with_integer s (wrapped (signed 32 (place_sum (riscv_places UType)
               (from_le_bytes w32 original)))) h) q) register'
               ∙ ap (λ v. register (with_integer r v h) q) none
-              ∙ same_written r 0 h k q (λ _. alike.integers q refl);
+              ∙ same_written r 0 h k q
+              (λ other. alike.integers q (sym (ap (λ b. not b && differs q) other) ∙ e));
           floats = λ q. ap (λ z. z.floats q) is' ∙ alike.floats q;
           memory = λ q. ap (λ z. z.memory q) is' ∙ alike.memory q;
         };
