@@ -72,6 +72,8 @@ pub fn ppc64()
     ensures offset_high_half { ppc64_laws.OffsetToHighHalf }
     ensures offset_low_half { ppc64_laws.OffsetToLowHalf }
     ensures entry_high_half { ppc64_laws.HighHalfOfEntry }
+    ensures symbol_high_half { ppc64_laws.HighHalfOfSymbol }
+    ensures symbol_load { ppc64_laws.LoadToSum }
     ensures argument_high_half { ppc64_laws.ArgumentToHighHalf }
     ensures argument_offset { ppc64_laws.ArgumentToOffset }
     ensures argument_thread { ppc64_laws.ArgumentToThread }
