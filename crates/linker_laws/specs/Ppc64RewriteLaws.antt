@@ -898,3 +898,41 @@ RestoresToc =
     × (step f (word_of (drop 4 call)) s ≡ Some (go_on s))
     × (step f (word_of (drop 4 restored)) s
     ≡ Some (go_on (write 2 (loaded 8 s.memory (sum_64 (s.registers 1) 24)) s)))
+
+-- ---- the laws
+
+-- what `rewrites` ensures
+pub record Laws : Type 0 where
+  pub got : GotToAddress
+  pub initial_exec : InitialExecToLocalExec
+  pub initial_exec_access : AccessToLocalExec
+  pub initial_exec_word_access : WordAccessToLocalExec
+  pub prefixed : PldToPaddi
+  pub general_to_local : GeneralDynamicToLocalExec
+  pub general_to_initial : GeneralDynamicToInitialExec
+  pub local_dynamic : LocalDynamicToLocalExec
+  pub near_initial_exec : NearInitialExecToLocalExec
+  pub arguments : Arguments
+  pub argument_to_local : ArgumentToLocalExec
+  pub argument_to_initial : ArgumentToInitialExec
+  pub near_argument_to_initial : NearArgumentToInitialExec
+  pub argument_to_module : ArgumentToModule
+  pub near_toc : AddiNearToc
+  pub access_near_toc : AccessNearToc
+  pub word_access_near_toc : WordAccessNearToc
+  pub vector_access_near_toc : VectorAccessNearToc
+  pub high_half : HighHalfToNop
+  pub low_half : LowHalfOverBase
+  pub offset_high_half : OffsetToHighHalf
+  pub offset_low_half : OffsetToLowHalf
+  pub entry_high_half : HighHalfOfEntry
+  pub symbol_high_half : HighHalfOfSymbol
+  pub symbol_load : LoadToSum
+  pub argument_high_half : ArgumentToHighHalf
+  pub argument_offset : ArgumentToOffset
+  pub argument_thread : ArgumentToThread
+  pub call_low_half : CallToLowHalf
+  pub call_sum : CallToSum
+  pub call_block : CallToBlock
+  pub toc_at_entry : TocAtEntry
+  pub toc : RestoresToc
