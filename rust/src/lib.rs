@@ -24,6 +24,7 @@ mod linker_base;
 mod linker_elf;
 mod linker_reading;
 mod linker_runs;
+mod linker_section;
 pub mod names;
 pub mod readers;
 mod traits;
@@ -55,6 +56,15 @@ pub mod recognise {
         CANDIDATES, MAX_WINDOW, Recognised, RecognisedName, recognise, recognise_chosen,
         written_choices_are_left,
     };
+}
+
+pub mod section {
+    #![doc = include_str!("../doc/section.md")]
+    pub use crate::linker_section::facts::{Addresses, Symbol};
+    pub use crate::linker_section::needed::{Entry, EntryClass, Requirements, needs};
+    pub use crate::linker_section::relocations::{RELA_LEN, Rela, relocation_at, relocations_len};
+    pub use crate::linker_section::sections::{RelocationError, SectionError, relocate_section};
+    pub use crate::linker_section::values::{ValueError, value};
 }
 
 pub mod architecture;

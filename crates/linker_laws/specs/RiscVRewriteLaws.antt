@@ -5,14 +5,14 @@
 -- registers that the law lists and for addresses in code.
 use Rattle.std.specs.Prelude.{◌≡◌, ℕ, ◌+◌, ◌<◌, ◌^◌, ◌==◌, ◌&&◌, ◌||◌, not, Bool, false, List, drop}
 use Rattle.std.specs.Prelude.{take, ◌++◌, ◌-◌, ◌*◌, ◌%◌, Option, Some, IsSomeAnd, ⊤, ◌≢◌, length}
-use Rattle.std.specs.Prelude.{if◌then◌else◌}
+use Rattle.std.specs.Prelude.{if◌then◌else◌, ◌≤◌}
 use Rattle.std.specs.Int.{w32, w64, cast_signed, from_le_bytes}
 use Rattle.linker_base.specs.Rewrite.{rewritten}
 use Rattle.linker_elf.specs.Choices.{low_12_bounds, symbol_and_addend}
 use Rattle.linker_elf.specs.Elf.{IsWithin}
 use Rattle.linker_elf.specs.Originals.{HasWord}
 use Rattle.linker_riscv64.specs.RiscVRewrites.{riscv_rewrite, tp, a0}
-use Rattle.linker_riscv64.specs.RiscVCalls.{word_at}
+use Rattle.linker_riscv64.specs.RiscVCalls.{word_at, IsCallPair}
 use Rattle.linker_riscv64.specs.RiscVRewrites.{riscv_matches, opcode_of, funct3_of, rd_of, IsLui}
 use Rattle.linker_riscv64.specs.RiscVRewrites.{IsAddTp, IsAuipc, IsLd, IsAddiToA0}
 use Rattle.linker_riscv64.specs.RiscVRewrites.{IsCallOfDescriptor, half_at}
@@ -82,6 +82,29 @@ CallBecomesJal name =
     (AreCalled (rd_of (word_at section o)) (even plt_address x) (sum_64 x.place 8)
     (symbol_address y) (sum_64 y.place 4))
 
+-- Shrinking and runs also make a `jal` of a call that links another register than that of its `auipc`,
+-- in which the `auipc` leaves a part of the address.
+pub record AreCalledOver (base rd target back new_target new_back : ℕ) (a b : Hart) : Type 0 where
+  pub alike : AreAlike (λ r. r == base || r == rd) a b
+  pub at_target : a.pc ≡ target
+  pub at_new_target : b.pc ≡ new_target
+  pub link : register a rd ≡ back
+  pub new_link : register b rd ≡ new_back
+
+abbrev pub CallOverBecomesJal : RiscVRelocation → Type 0
+CallOverBecomesJal name =
+    (section : List ℕ) (o : ℕ) → o + 8 ≤ length section
+    → IsCallPair (word_at section o) (word_at section (o + 4))
+    → rd_of (word_at section o) ≢ 0 → rd_of (word_at section (o + 4)) ≢ 0
+    → (x y : Operands) → AreAddresses x → AreAddresses y → (jal original new : List ℕ)
+    → Relocated (riscv_row name) x (drop o section) original
+    → from_le_bytes w32 jal ≡ 0x6f + rd_of (word_at section (o + 4)) * 2 ^ 7
+    → Relocated (riscv_row names.R_RISCV_JAL) y jal new
+    → (h k : Hart) → h.pc ≡ x.place → k.pc ≡ y.place → AreAlike no_register h k
+    → EndSo 2 original h 1 new k
+    (AreCalledOver (rd_of (word_at section o)) (rd_of (word_at section (o + 4)))
+    (even plt_address x) (sum_64 x.place 8) (symbol_address y) (sum_64 y.place 4))
+
 -- ---- tail calls (psABI, "Compressed Tail Call Relaxation")
 
 -- Each hart is at the target of its layout. They are alike but for one register.
@@ -105,6 +128,10 @@ TailCallBecomes name kind new_name n less =
 
 abbrev pub Calls : Type 0
 Calls = CallBecomesJal names.R_RISCV_CALL × CallBecomesJal names.R_RISCV_CALL_PLT
+
+abbrev pub CallsOverAnother : Type 0
+CallsOverAnother =
+    CallOverBecomesJal names.R_RISCV_CALL × CallOverBecomesJal names.R_RISCV_CALL_PLT
 
 abbrev pub TailCalls : Type 0
 TailCalls =
@@ -555,3 +582,26 @@ GotToAddress =
     → EndSo 2 (auipc_of ++ ld_of) h 2 (high ++ low) k
     (HaveAddress (rd_of (word_of auipc)) (rd_of (word_of ld)) (symbol_address x) (symbol_address y)
     (sum_64 h.pc 8) (sum_64 k.pc 8))
+
+-- ---- the laws
+
+-- what `rewrites` ensures
+pub record Laws : Type 0 where
+  pub calls : Calls
+  pub calls_over : CallsOverAnother
+  pub tail_calls : TailCalls
+  pub short_tail_calls : ShortTailCalls
+  pub short_high_parts : LuiBecomesClui
+  pub short_zeros : CluiBecomesCli
+  pub no_high_parts : LuiIsDeleted
+  pub low_parts : LowPartFromZero
+  pub pairs : PairFromZero
+  pub high_offsets : OffsetLuiIsDeleted
+  pub sums : SumIsDeleted
+  pub low_offsets : LowPartFromThreadPointer
+  pub local_exec : LocalExecIsShortened
+  pub nops : LongNopDoesNothing
+  pub descriptor_to_local_exec : DescriptorToLocalExec
+  pub descriptor_to_short_local_exec : DescriptorToShortLocalExec
+  pub descriptor_to_initial_exec : DescriptorToInitialExec
+  pub got : GotToAddress

@@ -8,6 +8,7 @@ ghost use Rattle.linker_elf.specs.contracts.ppc64.relocations.Ppc64Relocation.{e
 ghost use Rattle.linker_ppc64.specs.Inner.Choices.{AreThere, ppc64_tables};
 ghost use Rattle.linker_ppc64.specs.Ppc64Rewrites.{TocPairsAreChosenAlike, GotPairIsChosenAlike};
 ghost use Rattle.linker_ppc64.specs.Ppc64Rewrites.{InitialExecPairIsChosenAlike};
+ghost use Rattle.linker_ppc64.specs.Ppc64Rewrites.{ThreadPairsAreChosenAlike};
 ghost use Rattle.linker_ppc64.specs.Ppc64Rewrites.{GeneralDynamicIsChosenAlike};
 ghost use Rattle.linker_ppc64.specs.Ppc64Rewrites.{LocalDynamicIsChosenAlike};
 ghost use Rattle.linker_ppc64.specs.Ppc64Rewrites.{IsPpc64Choice};
@@ -61,6 +62,13 @@ const WITHOUT_HIGH_PART: Conditions<Names> = conditions!(
     EXCLUSIVE_TOC_BASE,
     None,
     InReach(R_PPC64_TOC16, 0)
+);
+
+/// The high part of the offset from the thread pointer is 0.
+const WITHOUT_HIGH_OFFSET: Conditions<Names> = conditions!(
+    BOUND + EXECUTABLE + EXCLUSIVE_TOC_BASE + GROUP_FITS,
+    None,
+    InReach(R_PPC64_TPREL16, 0)
 );
 
 /// The address by its distance from the TOC pointer.
@@ -168,6 +176,9 @@ macro_rules! choices {
             R_PPC64_REL24: [NopToRestoreToc => R_PPC64_REL24, AFTER_CALL]
             R_PPC64_REL16_HA: [AddisToLis => R_PPC64_ADDR16_HA, TO_ADDRESS_BY_ADDIS]
             R_PPC64_REL16_LO: [AddiBehindLis => R_PPC64_ADDR16_LO, TO_ADDRESS_BY_ADDI]
+            R_PPC64_TPREL16_HA: [AddisThreadToNop => R_PPC64_NONE, WITHOUT_HIGH_OFFSET]
+            R_PPC64_TPREL16_LO: [BaseToThread => R_PPC64_TPREL16, WITHOUT_HIGH_OFFSET]
+            R_PPC64_TPREL16_LO_DS: [BaseToThread => R_PPC64_TPREL16_DS, WITHOUT_HIGH_OFFSET]
         }
     };
 }
@@ -205,6 +216,10 @@ impl ChosenByTable for RelaxationKind {
 /// that computes the TOC pointer from the function's address, which register 12 has there (the same,
 /// "Function Prologue"): the second stands 4 bytes behind the first. A linker sets `group_fits` only
 /// where both are there, with the same symbol.
+///
+/// That of `R_PPC64_TPREL16_HA`, `R_PPC64_TPREL16_LO` and `R_PPC64_TPREL16_LO_DS` is all of these in a
+/// section of the same symbol and addend: the first becomes a `nop`, and the others don't read its
+/// register then.
 ///
 /// ```
 /// use linker_utils::elf::LinkFacts;
@@ -266,13 +281,14 @@ pub fn fits(name: Ppc64Relocation, section: &[u8], offset: u64, facts: &LinkFact
 
 /// With the same facts, except that each has its own place, and each at an instruction that its
 /// rewrites are meant for, both relocations of a pair are rewritten alike or neither is: of an
-/// address near the TOC, of a GOT entry, and of the entry for initial-exec. And so are those of
-/// general-dynamic TLS, all for local-exec, all for initial-exec or none, and those of
-/// local-dynamic TLS, also of the small code model. Nothing is said of `R_PPC64_TLS`: an indexed
+/// address near the TOC or the thread pointer, of a GOT entry, and of the entry for initial-exec.
+/// And so are those of general-dynamic TLS, all for local-exec, all for initial-exec or none, and
+/// those of local-dynamic TLS, also of the small code model. Nothing is said of `R_PPC64_TLS`: an indexed
 /// access of whole words is left where the offset isn't a multiple of 4. And nothing of
 /// `R_PPC64_GOT_TLSGD16`, which is left where the entry of initial-exec isn't near the TOC pointer.
 pub fn relocations_are_chosen_alike()
     ensures toc { TocPairsAreChosenAlike }
+    ensures local_exec { ThreadPairsAreChosenAlike }
     ensures got { GotPairIsChosenAlike }
     ensures initial_exec { InitialExecPairIsChosenAlike }
     ensures general_dynamic { GeneralDynamicIsChosenAlike }

@@ -1,0 +1,4 @@
+pub mod Needed
+pub mod Relocations
+pub mod Sections
+pub mod Values

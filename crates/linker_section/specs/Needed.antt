@@ -1,0 +1,139 @@
+-- What a relocation requires of a linker before addresses are known (the sections on relocations and
+-- on thread-local storage of the psABIs, as `linker_elf` names them in `Value`).
+use Rattle.std.specs.Prelude.{ℤ, pos, Bool, true, false, not, ◌&&◌, ◌||◌, ◌==◌, nat_lt}
+use Rattle.std.specs.Prelude.{Option, Some, None, if◌then◌else◌}
+use Rattle.linker_elf.specs.Entries.{is_branch}
+use Rattle.linker_elf.specs.declared.elf.RelocationInstruction.TheVariants.{RiscV, Ppc64}
+use Rattle.linker_elf.specs.declared.elf.RelocationInstruction.TheVariants.{LoongArch64, AArch64}
+use Rattle.linker_elf.specs.declared.elf.RelocationKind.{RelocationKind}
+use Rattle.linker_elf.specs.declared.elf.RelocationKind.TheVariants as kinds
+use Rattle.linker_elf.specs.declared.elf.RelocationKindInfo.{RelocationKindInfo}
+use Rattle.linker_elf.specs.declared.elf.RelocationSize.{RelocationSize}
+use Rattle.linker_elf.specs.declared.elf.RelocationSize.TheVariants.{ByteSize, BitMasking}
+use Rattle.linker_elf.specs.declared.riscv64.forms.RiscVInstruction.TheVariants.{IType, SType}
+use Rattle.linker_section.specs.declared.needed.Entry.{Entry}
+use Rattle.linker_section.specs.declared.needed.EntryClass.{EntryClass}
+use Rattle.linker_section.specs.declared.needed.EntryClass.TheVariants.{Address, ThreadOffset}
+use Rattle.linker_section.specs.declared.needed.EntryClass.TheVariants.{ModuleOffset, Module}
+use Rattle.linker_section.specs.declared.needed.EntryClass.TheVariants.{Descriptor}
+use Rattle.linker_section.specs.declared.needed.Requirements.{Requirements}
+
+-- ---- the entry of the GOT
+
+-- what the entry holds whose address a formula names
+abbrev pub class_of_kind : RelocationKind → Option EntryClass
+class_of_kind kinds.GotRelative = Some Address
+class_of_kind kinds.GotRelativeLoongArch64 = Some Address
+class_of_kind kinds.GotRelGotBase = Some Address
+class_of_kind kinds.Got = Some Address
+class_of_kind kinds.GotTpOff = Some ThreadOffset
+class_of_kind kinds.GotTpOffGot = Some ThreadOffset
+class_of_kind kinds.GotTpOffGotBase = Some ThreadOffset
+class_of_kind kinds.GotTpOffLoongArch64 = Some ThreadOffset
+class_of_kind kinds.TlsGd = Some ModuleOffset
+class_of_kind kinds.TlsGdGot = Some ModuleOffset
+class_of_kind kinds.TlsGdGotBase = Some ModuleOffset
+class_of_kind kinds.TlsLd = Some Module
+class_of_kind kinds.TlsLdGot = Some Module
+class_of_kind kinds.TlsLdGotBase = Some Module
+class_of_kind kinds.TlsDesc = Some Descriptor
+class_of_kind kinds.TlsDescGot = Some Descriptor
+class_of_kind kinds.TlsDescGotBase = Some Descriptor
+class_of_kind kinds.TlsDescLoongArch64 = Some Descriptor
+class_of_kind kind = None
+
+-- the formula has L
+abbrev pub has_plt_entry : RelocationKind → Bool
+has_plt_entry kinds.PltRelative = true
+has_plt_entry kinds.PltRelGotBase = true
+has_plt_entry kind = false
+
+-- PowerPC64's calls that load the function's address themselves: L is the word that holds it
+-- (64-Bit ELF V2 ABI, "Relocation Types")
+abbrev pub loads_plt_word : RelocationSize → RelocationKind → Bool
+loads_plt_word (BitMasking bits (Ppc64 insn)) kind = has_plt_entry kind
+loads_plt_word size kind = false
+
+-- LoongArch's low halves of an address in the GOT are also those of an entry of general-dynamic or
+-- local-dynamic TLS (LoongArch ELF psABI, "Relocation Types")
+abbrev pub loongarch_class : Option EntryClass → Bool → Option EntryClass
+loongarch_class (Some Address) true = Some ModuleOffset
+loongarch_class class is_thread_local = class
+
+-- RISC-V's low parts take the entry of the high part that their symbol labels
+abbrev pub class_in : RelocationSize → RelocationKind → Bool → Option EntryClass
+class_in (BitMasking bits (RiscV IType)) kind is_thread_local = None
+class_in (BitMasking bits (RiscV SType)) kind is_thread_local = None
+class_in (BitMasking bits (LoongArch64 insn)) kind is_thread_local =
+    loongarch_class (class_of_kind kind) is_thread_local
+class_in size kind is_thread_local = class_of_kind kind
+
+abbrev pub class_of : RelocationSize → RelocationKind → Bool → Option EntryClass
+class_of size kind is_thread_local =
+    if loads_plt_word size kind then Some Address else class_in size kind is_thread_local
+
+-- the entry is of S + A in the instructions of AArch64 and PowerPC64, else of S; that of the module
+-- is of no symbol
+abbrev pub addend_in : RelocationSize → ℤ → ℤ
+addend_in (BitMasking bits (AArch64 insn)) addend = addend
+addend_in (BitMasking bits (Ppc64 insn)) addend = addend
+addend_in size addend = pos 0
+
+abbrev pub addend_of_entry : RelocationSize → EntryClass → ℤ → ℤ
+addend_of_entry size Module addend = pos 0
+addend_of_entry size class addend = addend_in size addend
+
+abbrev pub entry_with : RelocationSize → ℤ → Option EntryClass → Option Entry
+entry_with size addend None = None
+entry_with size addend (Some class) =
+    Some (record { class = class; addend = addend_of_entry size class addend })
+
+abbrev pub entry_of : RelocationKindInfo → ℤ → Bool → Option Entry
+entry_of row addend is_thread_local =
+    entry_with row.size addend (class_of row.size row.kind is_thread_local)
+
+-- ---- branches and words
+
+abbrev pub may_use_stub : RelocationSize → RelocationKind → Bool
+may_use_stub size kind = is_branch size || (has_plt_entry kind && not (loads_plt_word size kind))
+
+-- S + A in 8 bytes
+abbrev pub is_word : RelocationSize → RelocationKind → Bool
+is_word (ByteSize n) kinds.Absolute = n == 8
+is_word size kind = false
+
+-- ---- the load address
+
+-- the value is an address: it isn't relative to another address
+abbrev pub is_address : RelocationKind → Bool
+is_address kinds.Absolute = true
+is_address kinds.AbsoluteLowPart = true
+is_address kinds.Got = true
+is_address kinds.TlsGdGot = true
+is_address kinds.TlsLdGot = true
+is_address kinds.GotTpOffGot = true
+is_address kinds.TlsDescGot = true
+is_address kind = false
+
+-- bits from 12 up are written, those of the page; RISC-V's low parts write bits below 12
+abbrev pub takes_page : RelocationSize → Bool
+takes_page (ByteSize n) = true
+takes_page (BitMasking bits (RiscV IType)) = false
+takes_page (BitMasking bits (RiscV SType)) = false
+takes_page (BitMasking bits insn) = nat_lt 12 bits.end
+
+-- ---- all
+
+abbrev pub needs_of : RelocationKindInfo → ℤ → Bool → Requirements
+needs_of row addend is_thread_local =
+    record {
+      entry = entry_of row addend is_thread_local;
+      is_branch = is_branch row.size;
+      may_use_stub = may_use_stub row.size row.kind;
+      is_word = is_word row.size row.kind;
+      depends_on_load = is_address row.kind && takes_page row.size;
+    }
+
+abbrev pub needs_in : Option RelocationKindInfo → ℤ → Bool → Option Requirements
+needs_in None addend is_thread_local = None
+needs_in (Some row) addend is_thread_local = Some (needs_of row addend is_thread_local)

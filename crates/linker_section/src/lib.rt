@@ -1,0 +1,9 @@
+//! The values of a section's relocations: relocations as a file has them, what each requires of a
+//! linker, and the value of each from what is known of symbols and of the output.
+#![tactic(auto)]
+
+pub mod facts;
+pub mod needed;
+pub mod relocations;
+pub mod sections;
+pub mod values;

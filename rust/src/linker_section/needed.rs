@@ -1,0 +1,273 @@
+// Made by tools/erase of crates/linker_section/src/needed.rt.
+//! What a relocation requires of a linker before addresses are known.
+
+use crate::elf::{
+    AArch64Instruction, Architecture, LoongArch64Instruction, Ppc64Instruction,
+    RelocationInstruction, RelocationKind, RelocationKindInfo, RelocationSize, RiscVInstruction,
+};
+
+/// What an entry of the GOT holds.
+#[derive(Debug, Clone, Copy, PartialEq, Eq)]
+pub enum EntryClass {
+    /// A word: the address S, or S + A.
+    Address,
+    /// A word: the offset from the thread pointer, of initial-exec TLS.
+    ThreadOffset,
+    /// Two words: the module's number and the offset in its TLS block, of general-dynamic TLS.
+    ModuleOffset,
+    /// Two words: the module's number and 0, of local-dynamic TLS. One serves the whole output.
+    Module,
+    /// Two words: a TLS descriptor.
+    Descriptor,
+}
+
+/// An entry of the GOT that a relocation requires.
+#[derive(Debug, Clone, Copy, PartialEq, Eq)]
+pub struct Entry {
+    /// What it holds.
+    pub class: EntryClass,
+    /// The addend of its address or offset: it is of S + `addend`. Other than 0 only for AArch64 and
+    /// PowerPC64, whose psABIs have an entry for each S + A. 0 of a module's entry.
+    pub addend: i64,
+}
+
+/// What a relocation requires.
+#[derive(Debug, Clone, Copy, PartialEq, Eq)]
+pub struct Requirements {
+    /// The entry of the GOT whose address its value depends on. Of PowerPC64's calls that load the
+    /// function's address themselves, as `R_PPC64_PLT16_LO_DS`, it is a word with that address.
+    pub entry: Option<Entry>,
+    /// Whether its value goes into a branch, conditional or not.
+    pub is_branch: bool,
+    /// Whether a stub or an entry of the PLT may serve as its target: it is that of a branch, or
+    /// its formula has L. False of PowerPC64's calls that load the function's address themselves.
+    pub may_use_stub: bool,
+    /// Whether it is a word of 8 bytes with S + A, which a dynamic linker can write too.
+    pub is_word: bool,
+    /// Whether what is written depends on where the output is loaded, if that is a multiple of
+    /// 4 KiB beside where it was linked for. Of both halves of a difference of symbols, as
+    /// `R_RISCV_ADD32` and `R_RISCV_SUB32`, it doesn't.
+    pub depends_on_load: bool,
+}
+
+/// The class of the entry whose address a formula names.
+#[inline(always)]
+pub(crate) fn class_of_kind(kind: RelocationKind) -> Option<EntryClass> {
+    match kind {
+        RelocationKind::GotRelative
+        | RelocationKind::GotRelativeLoongArch64
+        | RelocationKind::GotRelGotBase
+        | RelocationKind::Got => Some(EntryClass::Address),
+        RelocationKind::GotTpOff
+        | RelocationKind::GotTpOffGot
+        | RelocationKind::GotTpOffGotBase
+        | RelocationKind::GotTpOffLoongArch64 => Some(EntryClass::ThreadOffset),
+        RelocationKind::TlsGd | RelocationKind::TlsGdGot | RelocationKind::TlsGdGotBase => {
+            Some(EntryClass::ModuleOffset)
+        }
+        RelocationKind::TlsLd | RelocationKind::TlsLdGot | RelocationKind::TlsLdGotBase => {
+            Some(EntryClass::Module)
+        }
+        RelocationKind::TlsDesc
+        | RelocationKind::TlsDescGot
+        | RelocationKind::TlsDescGotBase
+        | RelocationKind::TlsDescLoongArch64 => Some(EntryClass::Descriptor),
+        _ => None,
+    }
+}
+
+/// Whether it is one of PowerPC64's calls that load the function's address themselves.
+#[inline(always)]
+pub(crate) fn loads_plt_word(size: RelocationSize, kind: RelocationKind) -> bool {
+    matches!(
+        size,
+        RelocationSize::BitMasking {
+            insn: RelocationInstruction::Ppc64(_),
+            ..
+        }
+    ) && matches!(
+        kind,
+        RelocationKind::PltRelGotBase | RelocationKind::PltRelative
+    )
+}
+
+/// The class of the entry that a relocation requires, whose symbol may be thread-local.
+#[inline(always)]
+fn class_of(size: RelocationSize, kind: RelocationKind, is_thread_local: bool) -> Option<EntryClass> {
+    if loads_plt_word(size, kind) {
+        return Some(EntryClass::Address);
+    }
+    match size {
+        RelocationSize::BitMasking {
+            insn: RelocationInstruction::RiscV(RiscVInstruction::IType | RiscVInstruction::SType),
+            ..
+        } => None,
+        RelocationSize::BitMasking {
+            insn: RelocationInstruction::LoongArch64(_),
+            ..
+        } => match class_of_kind(kind) {
+            Some(EntryClass::Address) if is_thread_local => Some(EntryClass::ModuleOffset),
+            class => class,
+        },
+        _ => class_of_kind(kind),
+    }
+}
+
+/// The addend of an entry's address or offset.
+#[inline(always)]
+fn addend_of_entry(size: RelocationSize, class: EntryClass, addend: i64) -> i64 {
+    match (class, size) {
+        (EntryClass::Module, _) => 0,
+        (
+            _,
+            RelocationSize::BitMasking {
+                insn: RelocationInstruction::AArch64(_) | RelocationInstruction::Ppc64(_),
+                ..
+            },
+        ) => addend,
+        _ => 0,
+    }
+}
+
+/// Whether the value goes into a branch.
+#[inline(always)]
+pub(crate) fn is_branch(size: RelocationSize) -> bool {
+    let RelocationSize::BitMasking { range, insn } = size else {
+        return false;
+    };
+    match insn {
+        RelocationInstruction::AArch64(
+            AArch64Instruction::TstBr | AArch64Instruction::Bcond | AArch64Instruction::JumpCall,
+        ) => true,
+        RelocationInstruction::RiscV(
+            RiscVInstruction::BType
+            | RiscVInstruction::JType
+            | RiscVInstruction::CbType
+            | RiscVInstruction::CjType
+            | RiscVInstruction::UiType,
+        ) => true,
+        RelocationInstruction::Ppc64(Ppc64Instruction::Branch14 | Ppc64Instruction::Branch24) => {
+            true
+        }
+        RelocationInstruction::LoongArch64(LoongArch64Instruction::Shift10) => {
+            range.end.saturating_sub(range.start) > 12
+        }
+        RelocationInstruction::LoongArch64(
+            LoongArch64Instruction::Branch21
+            | LoongArch64Instruction::Branch26
+            | LoongArch64Instruction::Call30
+            | LoongArch64Instruction::Call36,
+        ) => true,
+        _ => false,
+    }
+}
+
+/// Whether a stub may serve as the target.
+#[inline(always)]
+pub(crate) fn may_use_stub(size: RelocationSize, kind: RelocationKind) -> bool {
+    is_branch(size)
+        || (matches!(
+            kind,
+            RelocationKind::PltRelGotBase | RelocationKind::PltRelative
+        ) && !loads_plt_word(size, kind))
+}
+
+/// Whether it is a word of 8 bytes with S + A.
+#[inline(always)]
+fn is_word(size: RelocationSize, kind: RelocationKind) -> bool {
+    matches!(size, RelocationSize::ByteSize(8)) && matches!(kind, RelocationKind::Absolute)
+}
+
+/// Whether the value is an address.
+#[inline(always)]
+fn is_address(kind: RelocationKind) -> bool {
+    matches!(
+        kind,
+        RelocationKind::Absolute
+            | RelocationKind::AbsoluteLowPart
+            | RelocationKind::Got
+            | RelocationKind::TlsGdGot
+            | RelocationKind::TlsLdGot
+            | RelocationKind::GotTpOffGot
+            | RelocationKind::TlsDescGot
+    )
+}
+
+/// Whether bits of the value above those of the offset in a page are written.
+#[inline(always)]
+fn takes_page(size: RelocationSize) -> bool {
+    match size {
+        RelocationSize::ByteSize(_) => true,
+        RelocationSize::BitMasking {
+            insn: RelocationInstruction::RiscV(RiscVInstruction::IType | RiscVInstruction::SType),
+            ..
+        } => false,
+        RelocationSize::BitMasking { range, .. } => range.end > 12,
+    }
+}
+
+/// Whether what is written depends on where the output is loaded.
+#[inline(always)]
+fn depends_on_load(info: &RelocationKindInfo) -> bool {
+    is_address(info.kind) && takes_page(info.size)
+}
+
+/// The entry that a relocation of a row requires.
+#[inline(always)]
+pub(crate) fn entry_of(
+    info: &RelocationKindInfo,
+    addend: i64,
+    is_thread_local: bool,
+) -> Option<Entry> {
+    match class_of(info.size, info.kind, is_thread_local) {
+        Some(class) => Some(Entry {
+            class,
+            addend: addend_of_entry(info.size, class, addend),
+        }),
+        None => None,
+    }
+}
+
+/// What a relocation of a row requires.
+#[inline(always)]
+fn needs_of(info: &RelocationKindInfo, addend: i64, is_thread_local: bool) -> Requirements {
+    Requirements {
+        entry: entry_of(info, addend, is_thread_local),
+        is_branch: is_branch(info.size),
+        may_use_stub: may_use_stub(info.size, info.kind),
+        is_word: is_word(info.size, info.kind),
+        depends_on_load: depends_on_load(info),
+    }
+}
+
+/// What a relocation with a code, `r_type` in ELF files, and an addend requires of a linker, by
+/// whether its symbol is thread-local (`STT_TLS`). None of a code without a row, which no object's
+/// relocation has. Its `entry` is what the value of `Operands::got_entry` is the address of.
+///
+/// A linker that rewrites a relocation asks of the one that it becomes.
+///
+/// ```
+/// use linker_utils::section::{Entry, EntryClass, needs};
+/// use linker_utils::elf::Architecture;
+///
+/// // R_X86_64_GOTTPOFF
+/// let load = needs(Architecture::X86_64, 22, -4, true).unwrap();
+/// let entry = Entry { class: EntryClass::ThreadOffset, addend: 0 };
+/// assert_eq!(load.entry, Some(entry));
+/// // R_AARCH64_CALL26
+/// let call = needs(Architecture::AArch64, 283, 0, false).unwrap();
+/// assert!(call.is_branch && call.may_use_stub && !call.depends_on_load);
+/// ```
+#[must_use]
+#[inline(always)]
+pub fn needs(
+    architecture: Architecture,
+    code: u32,
+    addend: i64,
+    is_thread_local: bool,
+) -> Option<Requirements> {
+    match architecture.row(code) {
+        Some(row) => Some(needs_of(&row.info(), addend, is_thread_local)),
+        None => None,
+    }
+}

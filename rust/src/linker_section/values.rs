@@ -1,0 +1,477 @@
+// Made by tools/erase of crates/linker_section/src/values.rt.
+//! The value of a relocation, by what a linker knows of symbols and of the output.
+
+use crate::linker_section::facts::{Addresses, Symbol};
+use crate::linker_section::needed::{
+    Entry, EntryClass, class_of_kind, entry_of, is_branch, loads_plt_word, may_use_stub,
+};
+use crate::linker_section::relocations::{Rela, relocation_in, relocations_len};
+use crate::elf::{
+    Architecture, Operands, RelocationInstruction, RelocationKind, RelocationKindInfo,
+    RelocationSize, RiscVInstruction,
+};
+
+/// Why a relocation has no value.
+#[derive(Debug, Clone, Copy, PartialEq, Eq)]
+pub enum ValueError {
+    /// Its code has no row: no object's relocation has it.
+    UnknownType,
+    /// Its symbol, or that of its high part, isn't in the table.
+    NoSymbol,
+    /// It requires an entry of the GOT, and there is none of its class with its addend.
+    NoEntry,
+    /// It is a low part of RISC-V, and no high part is at the label that its symbol is.
+    NoHighPart,
+}
+
+/// The address of a symbol's entry of a class; 0 for none.
+#[inline(always)]
+fn entry_in(addresses: &Addresses, symbol: &Symbol, class: EntryClass) -> u64 {
+    match class {
+        EntryClass::Address => symbol.address_entry,
+        EntryClass::ThreadOffset => symbol.thread_entry,
+        EntryClass::ModuleOffset => symbol.module_entry,
+        EntryClass::Module => addresses.module_entry,
+        EntryClass::Descriptor => symbol.descriptor,
+    }
+}
+
+/// Whether a symbol's entry of a class has an addend.
+#[inline(always)]
+fn has_addend(symbol: &Symbol, class: EntryClass, addend: i64) -> bool {
+    match class {
+        EntryClass::Module => true,
+        _ => symbol.entry_addend == addend,
+    }
+}
+
+/// Whether there is such an entry.
+#[inline(always)]
+fn is_there(addresses: &Addresses, symbol: &Symbol, entry: Entry) -> bool {
+    entry_in(addresses, symbol, entry.class) != 0 && has_addend(symbol, entry.class, entry.addend)
+}
+
+/// The address of the entry that is required; 0 where none is, and none where there isn't one.
+#[inline(always)]
+fn entry_address(addresses: &Addresses, symbol: &Symbol, entry: Option<Entry>) -> Option<u64> {
+    match entry {
+        None => Some(0),
+        Some(entry) => {
+            if is_there(addresses, symbol, entry) {
+                Some(entry_in(addresses, symbol, entry.class))
+            } else {
+                None
+            }
+        }
+    }
+}
+
+/// Whether the formula has the GOT's address in place of the symbol's.
+#[inline(always)]
+fn is_of_got(architecture: Architecture, code: u32) -> bool {
+    matches!(architecture, Architecture::X86_64) && (code == 26 || code == 29)
+}
+
+/// How far behind a function's global entry point its local one is.
+#[inline(always)]
+fn local_entry(other: u8) -> u64 {
+    let logarithm = other / 32;
+    if logarithm < 2 { 0 } else { 1 << logarithm }
+}
+
+/// Whether it is a branch of PowerPC64.
+#[inline(always)]
+fn is_ppc64_branch(size: RelocationSize) -> bool {
+    matches!(
+        size,
+        RelocationSize::BitMasking {
+            insn: RelocationInstruction::Ppc64(_),
+            ..
+        }
+    ) && is_branch(size)
+}
+
+/// A symbol's address, or where PowerPC64's branches go.
+#[inline(always)]
+fn address_of(info: &RelocationKindInfo, symbol: &Symbol) -> u64 {
+    if is_ppc64_branch(info.size) {
+        symbol.address.wrapping_add(local_entry(symbol.other))
+    } else {
+        symbol.address
+    }
+}
+
+/// Whether the formula is relative to the place.
+#[inline(always)]
+fn is_relative(kind: RelocationKind) -> bool {
+    matches!(kind, RelocationKind::Relative | RelocationKind::PltRelative)
+}
+
+/// Whether the value is an offset of a thread-local symbol.
+#[inline(always)]
+fn is_offset(kind: RelocationKind) -> bool {
+    matches!(kind, RelocationKind::TpOff | RelocationKind::DtpOff)
+}
+
+/// What an undefined weak symbol counts for.
+#[inline(always)]
+fn weak_address(architecture: Architecture, info: &RelocationKindInfo, place: u64) -> u64 {
+    match architecture {
+        Architecture::AArch64 => {
+            if is_branch(info.size) {
+                place.wrapping_add(4)
+            } else if is_relative(info.kind) {
+                place
+            } else {
+                0
+            }
+        }
+        Architecture::RiscV => {
+            if may_use_stub(info.size, info.kind) {
+                place
+            } else {
+                0
+            }
+        }
+        Architecture::Ppc64 => { if is_branch(info.size) { place } else { 0 } }
+        Architecture::LoongArch64 | Architecture::X86_64 => 0,
+    }
+}
+
+/// What offsets of thread-local symbols count from.
+#[inline(always)]
+fn origin_of(addresses: &Addresses, kind: RelocationKind) -> u64 {
+    match kind {
+        RelocationKind::TpOff => addresses.thread_origin,
+        _ => addresses.module_origin,
+    }
+}
+
+/// S.
+#[inline(always)]
+fn defined_or_weak(
+    architecture: Architecture,
+    addresses: &Addresses,
+    info: &RelocationKindInfo,
+    symbol: &Symbol,
+    place: u64,
+) -> u64 {
+    if !symbol.is_undefined_weak {
+        address_of(info, symbol)
+    } else if is_offset(info.kind) {
+        origin_of(addresses, info.kind)
+    } else {
+        weak_address(architecture, info, place)
+    }
+}
+
+/// S, or the stub by which a branch goes.
+#[inline(always)]
+fn target_of(
+    architecture: Architecture,
+    addresses: &Addresses,
+    info: &RelocationKindInfo,
+    symbol: &Symbol,
+    place: u64,
+) -> u64 {
+    if may_use_stub(info.size, info.kind) && symbol.stub != 0 {
+        symbol.stub
+    } else {
+        defined_or_weak(architecture, addresses, info, symbol, place)
+    }
+}
+
+/// The operands of a relocation's formula, with the address of the entry that it requires.
+#[inline(always)]
+fn operands_with(
+    architecture: Architecture,
+    addresses: &Addresses,
+    info: &RelocationKindInfo,
+    symbol: &Symbol,
+    relocation: &Rela,
+    entry: u64,
+) -> Operands {
+    let place = addresses.section.wrapping_add(relocation.offset);
+    let target = target_of(architecture, addresses, info, symbol, place);
+    let loads = loads_plt_word(info.size, info.kind);
+    Operands {
+        symbol: if is_of_got(architecture, relocation.code) {
+            addresses.got_base
+        } else {
+            target
+        },
+        addend: if loads { 0 } else { relocation.addend },
+        place,
+        got_entry: entry,
+        got_base: addresses.got_base,
+        plt_entry: if loads { entry } else { target },
+        symbol_size: symbol.size,
+        tls_base: origin_of(addresses, info.kind),
+    }
+}
+
+/// The entry that a relocation of a symbol requires.
+#[inline(always)]
+fn required(info: &RelocationKindInfo, relocation: &Rela, symbol: &Symbol) -> Option<Entry> {
+    entry_of(info, relocation.addend, symbol.is_thread_local)
+}
+
+/// The same, where there may be no such entry.
+#[inline(always)]
+fn operands_by(
+    architecture: Architecture,
+    addresses: &Addresses,
+    info: &RelocationKindInfo,
+    relocation: &Rela,
+    symbol: &Symbol,
+    entry: Option<u64>,
+) -> Result<Operands, ValueError> {
+    match entry {
+        Some(entry) => Ok(operands_with(architecture, addresses, info, symbol, relocation, entry)),
+        None => Err(ValueError::NoEntry),
+    }
+}
+
+/// The operands of a relocation's formula.
+#[inline(always)]
+fn operands_of(
+    architecture: Architecture,
+    addresses: &Addresses,
+    symbols: &[Symbol],
+    info: &RelocationKindInfo,
+    relocation: &Rela,
+) -> Result<Operands, ValueError> {
+    let Some(symbol) = symbols.get(relocation.symbol as usize) else {
+        return Err(ValueError::NoSymbol);
+    };
+    let entry = entry_address(addresses, symbol, required(info, relocation, symbol));
+    operands_by(architecture, addresses, info, relocation, symbol, entry)
+}
+
+/// Whether a relocation of a kind has a value.
+#[inline(always)]
+fn has_value(kind: RelocationKind) -> bool {
+    !matches!(
+        kind,
+        RelocationKind::None | RelocationKind::Alignment | RelocationKind::TlsDescCall
+    )
+}
+
+/// The value of a relocation that stands alone.
+#[inline(always)]
+fn own_value(
+    architecture: Architecture,
+    addresses: &Addresses,
+    symbols: &[Symbol],
+    info: &RelocationKindInfo,
+    relocation: &Rela,
+) -> Result<Option<i64>, ValueError> {
+    if !has_value(info.kind) {
+        return Ok(None);
+    }
+    match operands_of(architecture, addresses, symbols, info, relocation) {
+        Ok(operands) => Ok(info.value(&operands)),
+        Err(error) => Err(error),
+    }
+}
+
+/// Whether the symbol labels a high part.
+#[inline(always)]
+fn names_label(size: RelocationSize, kind: RelocationKind) -> bool {
+    match kind {
+        RelocationKind::RelativeRiscVLow12 => true,
+        RelocationKind::TlsDesc => matches!(
+            size,
+            RelocationSize::BitMasking {
+                insn: RelocationInstruction::RiscV(
+                    RiscVInstruction::IType | RiscVInstruction::SType
+                ),
+                ..
+            }
+        ),
+        _ => false,
+    }
+}
+
+/// Whether it is an `auipc` of RISC-V.
+#[inline(always)]
+fn is_auipc(size: RelocationSize) -> bool {
+    matches!(
+        size,
+        RelocationSize::BitMasking {
+            insn: RelocationInstruction::RiscV(RiscVInstruction::UType),
+            ..
+        }
+    )
+}
+
+/// Whether low parts of a kind have high parts of another.
+#[inline(always)]
+fn is_high_kind(low: RelocationKind, kind: RelocationKind) -> bool {
+    match low {
+        RelocationKind::TlsDesc => matches!(kind, RelocationKind::TlsDesc),
+        _ => matches!(
+            kind,
+            RelocationKind::Relative
+                | RelocationKind::GotRelative
+                | RelocationKind::GotTpOff
+                | RelocationKind::TlsGd
+        ),
+    }
+}
+
+/// Whether a row is that of a high part of low parts of a kind.
+#[inline(always)]
+fn is_high_part(low: RelocationKind, info: &RelocationKindInfo) -> bool {
+    is_auipc(info.size) && is_high_kind(low, info.kind)
+}
+
+/// The offset of the relocation at an index.
+#[inline(always)]
+fn offset_at(relocations: &[u8], index: usize) -> u64 {
+    relocation_in(relocations, index).offset
+}
+
+/// The index of the first relocation from an offset on, among relocations that ascend.
+fn first_from(relocations: &[u8], at: u64) -> usize {
+    let mut low = 0;
+    let mut high = relocations_len(relocations);
+    while low < high {
+        let middle = low + (high - low) / 2;
+        if offset_at(relocations, middle) < at {
+            low = middle + 1;
+        } else {
+            high = middle;
+        }
+    }
+    low
+}
+
+/// The high part at an offset of low parts of a kind, among relocations that ascend.
+fn high_part(
+    architecture: Architecture,
+    relocations: &[u8],
+    low: RelocationKind,
+    at: u64,
+) -> Option<(Rela, RelocationKindInfo)> {
+    let first = first_from(relocations, at);
+    for index in first..relocations_len(relocations) {
+        let relocation = relocation_in(relocations, index);
+        if relocation.offset != at {
+            return None;
+        }
+        if let Some(row) = architecture.row(relocation.code) {
+            let info = row.info();
+            if is_high_part(low, &info) {
+                return Some((relocation, info));
+            }
+        }
+    }
+    None
+}
+
+/// The operands of a low part, of those of its high part.
+#[inline(always)]
+fn low_operands(high: &RelocationKindInfo, operands: Operands) -> Operands {
+    if class_of_kind(high.kind).is_some() {
+        Operands {
+            symbol: operands.got_entry,
+            ..operands
+        }
+    } else {
+        operands
+    }
+}
+
+/// The value of a low part, by its high part.
+#[inline(always)]
+fn low_value(
+    architecture: Architecture,
+    addresses: &Addresses,
+    symbols: &[Symbol],
+    info: &RelocationKindInfo,
+    high: Option<(Rela, RelocationKindInfo)>,
+) -> Result<Option<i64>, ValueError> {
+    let Some((relocation, high)) = high else {
+        return Err(ValueError::NoHighPart);
+    };
+    match operands_of(architecture, addresses, symbols, &high, &relocation) {
+        Ok(operands) => Ok(info.value(&low_operands(&high, operands))),
+        Err(error) => Err(error),
+    }
+}
+
+/// The value of a relocation among those of its section. None of a type without a value.
+#[inline(always)]
+pub(crate) fn value_of(
+    architecture: Architecture,
+    addresses: &Addresses,
+    relocations: &[u8],
+    symbols: &[Symbol],
+    info: &RelocationKindInfo,
+    relocation: &Rela,
+) -> Result<Option<i64>, ValueError> {
+    if !names_label(info.size, info.kind) {
+        return own_value(architecture, addresses, symbols, info, relocation);
+    }
+    let Some(label) = symbols.get(relocation.symbol as usize) else {
+        return Err(ValueError::NoSymbol);
+    };
+    let at = label.address.wrapping_sub(addresses.section);
+    let high = high_part(architecture, relocations, info.kind, at);
+    low_value(architecture, addresses, symbols, info, high)
+}
+
+/// The value of a relocation among those of its section, which `relocation_at` reads. None of a type
+/// without a value, as an alignment.
+///
+/// It is that of the psABI's formula, with the operands that its relocation takes:
+///
+/// - A branch goes to the symbol's stub, if it has one. On PowerPC64 a branch to the symbol itself
+///   goes to the local entry point. A linker has a stub for an `R_PPC64_REL24_NOTOC` of a function
+///   that takes the TOC pointer as given, and for each branch that doesn't reach.
+/// - A low part of RISC-V takes the operands of the high part at the label that its symbol is. For
+///   this the relocations have to ascend by offset. Its own addend isn't read.
+/// - A branch to an undefined weak symbol goes to the next instruction on AArch64, and on RISC-V and
+///   PowerPC64 to itself. What else is relative to the place is then 0 on AArch64. The offset of
+///   such a thread-local symbol is the addend.
+/// - Each of a pair at a ULEB128 number, and of `R_RISCV_ADD32` and its like, has a value by itself.
+///
+/// # Errors
+///
+/// `UnknownType`, `NoSymbol`, `NoEntry` and `NoHighPart`, as `ValueError` says.
+///
+/// ```
+/// use linker_utils::section::{Addresses, Symbol};
+/// use linker_utils::section::Rela;
+/// use linker_utils::section::value;
+/// use linker_utils::elf::Architecture;
+///
+/// // R_AARCH64_CALL26 at offset 4, of symbol 1
+/// let call = Rela { offset: 4, code: 283, symbol: 1, addend: 0 };
+/// let addresses = Addresses { section: 0x1000, ..Addresses::default() };
+/// let function = Symbol { address: 0x2000, ..Symbol::default() };
+/// let symbols = [Symbol::default(), function];
+/// let distance = value(Architecture::AArch64, &addresses, &[], &symbols, &call);
+/// assert_eq!(distance, Ok(Some(0xffc)));
+/// ```
+#[inline]
+pub fn value(
+    architecture: Architecture,
+    addresses: &Addresses,
+    relocations: &[u8],
+    symbols: &[Symbol],
+    relocation: &Rela,
+) -> Result<Option<i64>, ValueError> {
+    match architecture.row(relocation.code) {
+        Some(row) => value_of(
+            architecture,
+            addresses,
+            relocations,
+            symbols,
+            &row.info(),
+            relocation,
+        ),
+        None => Err(ValueError::UnknownType),
+    }
+}
