@@ -6,7 +6,6 @@ use Rattle.std.specs.Prelude.{nat_lt, if◌then◌else◌, List, [], ◌∷◌, 
 use Rattle.std.specs.Int.{byte_at}
 use Rattle.linker_elf.specs.Value.{sum_64, difference_64}
 
-infixl 70 ◌with◌ ◌=>◌
 -- ---- rows
 
 -- A state has a number at each place: those of the registers are at 0 and up. Four are 8 bytes of
@@ -44,6 +43,7 @@ pub record Executed : Type 0 where
 abbrev pub row : ℕ → ℕ → Executed
 row number code = record { row = number; code = code; given = []; left = [] }
 
+infixl 70 ◌with◌ ◌=>◌
 -- a row with a number before
 abbrev pub ◌with◌ : Executed → ℕ × ℕ → Executed
 ◌with◌ e number = record e { given = number ∷ e.given }
