@@ -249,14 +249,10 @@ pub fn choose(
 /// use linker_utils::aarch64::{AArch64Relocation, fits};
 /// use linker_utils::elf::LinkFacts;
 ///
-/// // `adrp x3, :got:v` and `ldr x3, [x3, :got_lo12:v]`, where v is defined in the output
+/// // `adrp x3, :got:v` and `ldr x3, [x3, :got_lo12:v]`, where v may be of another file
 /// let section = [0x03, 0, 0, 0x90, 0x63, 0, 0x40, 0xf9];
-/// let facts = LinkFacts { is_local: true, has_fixed_distance: true, ..LinkFacts::default() };
-/// assert!(fits(AArch64Relocation::R_AARCH64_ADR_GOT_PAGE, &section, 0, &facts));
-/// assert!(fits(AArch64Relocation::R_AARCH64_LD64_GOT_LO12_NC, &section, 4, &facts));
-/// // where it may be of another file
-/// let facts = LinkFacts::default();
-/// assert!(!fits(AArch64Relocation::R_AARCH64_ADR_GOT_PAGE, &section, 0, &facts));
+/// let name = AArch64Relocation::R_AARCH64_ADR_GOT_PAGE;
+/// assert!(!fits(name, &section, 0, &LinkFacts::default()));
 /// ```
 #[must_use]
 #[doc = include_str!("../../doc/choices/fits.md")]
