@@ -20,15 +20,6 @@ use linker_elf::elf::choice_table::{
 use linker_elf::elf::{Choice, LinkFacts, Operands};
 use linker_elf::loongarch64::{LoongArch64Relocation, LoongArch64Relocation as Names};
 
-/// The opcodes of `addi.d` and `ld.d`, `ld.d ra, a0, 0` and `jirl ra, ra, 0`.
-const ADDI: u32 = 0x00b;
-
-const LD: u32 = 0x0a3;
-
-const LOAD_OF_DESCRIPTOR: u32 = 0x28c0_0081;
-
-const CALL_OF_DESCRIPTOR: u32 = 0x4c00_0021;
-
 /// Whether `pcalau12i rd`, at an offset, and an instruction of an opcode from rd into rd stand next to
 /// each other.
 #[inline]
@@ -89,8 +80,8 @@ impl ChosenKind for RelaxationKind {
     fn stand_at(self, originals: &AskedFor, section: &[u8], offset: u64) -> bool {
         match *originals {
             AskedFor::OfRewrite => self.matches(section, offset),
-            AskedFor::Load(back) => back <= offset && is_pair(section, offset - back, LD),
-            AskedFor::Sum(back) => back <= offset && is_pair(section, offset - back, ADDI),
+            AskedFor::Load(back) => back <= offset && is_pair(section, offset - back, 0x0a3),
+            AskedFor::Sum(back) => back <= offset && is_pair(section, offset - back, 0x00b),
             _ if !has_window(section, offset, 0, 4) => false,
             AskedFor::Pcalau12i => is_pcalau12i(word_at(section, offset)),
             AskedFor::Ld => is_ld(word_at(section, offset)),
@@ -102,8 +93,8 @@ impl ChosenKind for RelaxationKind {
                 let word = word_at(section, offset);
                 is_addi(word) && destination(word) == 4 && source(word) == 4
             }
-            AskedFor::LoadOfDescriptor => word_at(section, offset) == LOAD_OF_DESCRIPTOR,
-            AskedFor::CallOfDescriptor => word_at(section, offset) == CALL_OF_DESCRIPTOR,
+            AskedFor::LoadOfDescriptor => word_at(section, offset) == 0x28c0_0081,
+            AskedFor::CallOfDescriptor => word_at(section, offset) == 0x4c00_0021,
             AskedFor::Lu12i => word_at(section, offset) >> 25 == 0x0a,
             AskedFor::AddTp => word_at(section, offset) >> 10 == 0x422,
         }

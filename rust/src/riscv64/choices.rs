@@ -208,26 +208,16 @@ impl ChosenByTable for RelaxationKind {
 ///
 /// // auipc ra, 0; jalr ra, 0(ra), which calls a function 0x1000 bytes on
 /// let call = [0x97, 0x00, 0x00, 0x00, 0xe7, 0x80, 0x00, 0x00];
-/// let target = 0x2000;
-/// let mut facts = LinkFacts {
+/// let facts = LinkFacts {
 ///     has_fixed_distance: true,
 ///     is_relaxable: true,
 ///     has_addresses: true,
-///     operands: Operands {
-///         symbol: target,
-///         plt_entry: target,
-///         place: 0x1000,
-///         ..Operands::default()
-///     },
+///     operands: Operands { plt_entry: 0x2000, symbol: 0x2000, place: 0x1000, ..Operands::default() },
 ///     ..LinkFacts::default()
 /// };
 /// let chosen = choose(RiscVRelocation::R_RISCV_CALL_PLT, &call, 0, &facts);
 /// assert_eq!(chosen.kind, RelaxationKind::CallToJal);
 /// assert_eq!(chosen.relocation, RiscVRelocation::R_RISCV_JAL);
-///
-/// facts.operands.plt_entry = 0x3000;
-/// let chosen = choose(RiscVRelocation::R_RISCV_CALL_PLT, &call, 0, &facts);
-/// assert_eq!(chosen.kind, RelaxationKind::NoOp);
 /// ```
 #[must_use]
 #[inline]

@@ -45,19 +45,18 @@ impl ChosenKind for RelaxationKind {
     #[inline(always)]
     fn operands_after(self, offset: u64, operands: &Operands) -> Operands {
         let (at, addend) = match self {
-            RelaxationKind::NoOp
-            | RelaxationKind::MovIndirectToLea
-            | RelaxationKind::CallIndirectToRelative
-            | RelaxationKind::TlsDescToInitialExec
-            | RelaxationKind::SkipTlsDescCall => (offset, operands.addend),
-            RelaxationKind::JmpIndirectToRelative => (offset.saturating_sub(1), operands.addend),
-            RelaxationKind::TlsGdToLocalExec => (offset.wrapping_add(8), 0),
-            RelaxationKind::TlsGdToLocalExecLarge => (offset.wrapping_add(9), 0),
-            RelaxationKind::TlsGdToInitialExec => (offset.wrapping_add(8), operands.addend),
-            RelaxationKind::TlsLdToLocalExec | RelaxationKind::TlsLdToLocalExecNoPlt => {
-                (offset.wrapping_add(5), operands.addend)
-            }
-            RelaxationKind::TlsLdToLocalExec64 => (offset.wrapping_add(15), operands.addend),
+            Self::NoOp
+            | Self::MovIndirectToLea
+            | Self::CallIndirectToRelative
+            | Self::TlsDescToInitialExec
+            | Self::SkipTlsDescCall => (offset, operands.addend),
+            Self::JmpIndirectToRelative => (offset.saturating_sub(1), operands.addend),
+            Self::TlsGdToLocalExec => (offset.wrapping_add(8), 0),
+            Self::TlsGdToLocalExecLarge => (offset.wrapping_add(9), 0),
+            Self::TlsGdToInitialExec => (offset.wrapping_add(8), operands.addend),
+            Self::TlsLdToLocalExec => (offset.wrapping_add(5), operands.addend),
+            Self::TlsLdToLocalExecNoPlt => (offset.wrapping_add(5), operands.addend),
+            Self::TlsLdToLocalExec64 => (offset.wrapping_add(15), operands.addend),
             _ => (offset, 0),
         };
         Operands {
