@@ -81,7 +81,7 @@ extern "C" {
            "Two deletions overlap or begin at one offset, or one ends past 2^64 - 1.") \
     STATUS(TOO_LARGE, 17, "The input offset would be past 2^64 - 1.") \
     STATUS(NOT_ASCENDING, 18, "The queries decrease somewhere.") \
-    STATUS(DIFFERENT_LENGTHS, 19, "The output array does not have the length of the result.") \
+    STATUS(DIFFERENT_LENGTHS, 19, "An output array does not have the length that the call takes.") \
     STATUS(OUT_OF_MEMORY, 20, "`malloc` or `realloc` returned null.") \
     STATUS(ULEB128_ENDED, 21, "The bytes end before the ULEB128 number does.") \
     STATUS(ULEB128_TOO_LARGE, 22, "The tenth byte of the ULEB128 number is neither 0 nor 1.") \
@@ -418,7 +418,11 @@ enum linker_utils_ppc64_rewrite {
     /* Turns `addis 2,12`, at the entry of a function, into `lis 2,0`. */
     LINKER_UTILS_PPC64_REWRITE_ADDIS_TO_LIS = 16,
     /* Writes `addi 2,2,0` behind that. The addend is then 0. */
-    LINKER_UTILS_PPC64_REWRITE_ADDI_BEHIND_LIS = 17
+    LINKER_UTILS_PPC64_REWRITE_ADDI_BEHIND_LIS = 17,
+    /* Writes `nop` in place of `addis rT,13`. */
+    LINKER_UTILS_PPC64_REWRITE_ADDIS_THREAD_TO_NOP = 18,
+    /* Makes register 13, the thread pointer, the base of an instruction: bits 16 to 20. */
+    LINKER_UTILS_PPC64_REWRITE_BASE_TO_THREAD = 19
 };
 
 /* Where `opcode_len` is marked it is the count of the instruction's bytes before the field: 2 without
@@ -1022,36 +1026,40 @@ static inline uint32_t linker_utils_choose(uint16_t machine, uint32_t r_type,
  *   TLS                          ADD_TO_ADDI           TPREL16_LO         (4)
  *                                INDEXED_TO_D          TPREL16_LO         (4)
  *                                INDEXED_TO_DS         TPREL16_LO_DS      (5)
+ *   TPREL16_LO                   BASE_TO_THREAD        TPREL16            (6)
+ *   TPREL16_HA                   ADDIS_THREAD_TO_NOP   NONE               (6)
  *   GOT_TLSGD16                  ADDI_TO_ADDIS_THREAD  TPREL16_HA         (4)
- *                                ADDI_TO_LD            GOT_TPREL16_DS     (6)
+ *                                ADDI_TO_LD            GOT_TPREL16_DS     (7)
  *   GOT_TLSGD16_LO               ADDI_TO_ADDIS_THREAD  TPREL16_HA         (4)
- *                                ADDI_TO_LD            GOT_TPREL16_LO_DS  (7)
+ *                                ADDI_TO_LD            GOT_TPREL16_LO_DS  (8)
  *   GOT_TLSGD16_HA               ADDIS_TO_NOP          NONE               (4)
- *                                KEEP_ADDIS            GOT_TPREL16_HA     (7)
- *   GOT_TLSLD16, GOT_TLSLD16_LO  ADDI_TO_ADDIS_THREAD  NONE               (8)
- *   GOT_TLSLD16_HA               ADDIS_TO_NOP          NONE               (8)
+ *                                KEEP_ADDIS            GOT_TPREL16_HA     (8)
+ *   GOT_TLSLD16, GOT_TLSLD16_LO  ADDI_TO_ADDIS_THREAD  NONE               (9)
+ *   GOT_TLSLD16_HA               ADDIS_TO_NOP          NONE               (9)
  *   GOT_TPREL16_DS, GOT_TPREL16_LO_DS
  *                                LD_TO_ADDIS_THREAD    TPREL16_HA         (4)
  *   GOT_TPREL16_HA               ADDIS_TO_NOP          NONE               (4)
+ *   TPREL16_LO_DS                BASE_TO_THREAD        TPREL16_DS         (6)
  *   TLSGD                        CALL_TO_ADDI          TPREL16_LO         (4)
- *                                CALL_TO_ADD           NONE               (7)
- *   TLSLD                        CALL_TO_ADDI4096      NONE               (8)
- *   GOT_PCREL34                  PLD_TO_PADDI          PCREL34            (9)
- *   REL16_LO                     ADDI_BEHIND_LIS       ADDR16_LO          (10)
- *   REL16_HA                     ADDIS_TO_LIS          ADDR16_HA          (11)
+ *                                CALL_TO_ADD           NONE               (8)
+ *   TLSLD                        CALL_TO_ADDI4096      NONE               (9)
+ *   GOT_PCREL34                  PLD_TO_PADDI          PCREL34            (10)
+ *   REL16_LO                     ADDI_BEHIND_LIS       ADDR16_LO          (11)
+ *   REL16_HA                     ADDIS_TO_LIS          ADDR16_HA          (12)
  *   (1) may_change_toc
  *   (2) is_local, not is_ifunc, has_fixed_distance, TOC16_HA in reach if known
  *   (3) toc_base_is_exclusive, TOC16 in reach
  *   (4) is_local, not is_ifunc, is_executable, group_fits, TPREL16_HA in reach if known
  *   (5) is_local, not is_ifunc, is_executable, group_fits, TPREL16_HA in reach if known,
  *       TPREL16_LO_DS in reach if known
- *   (6) is_executable, group_fits, GOT_TPREL16_DS in reach if known
- *   (7) is_executable, group_fits, GOT_TPREL16_HA in reach if known
- *   (8) is_executable, group_fits
- *   (9) is_local, not is_ifunc, has_fixed_distance, PCREL34 in reach if known
- *   (10) is_local, not is_ifunc, has_fixed_address, group_fits, addend 4, ADDR16_HA in reach if
+ *   (6) is_local, not is_ifunc, is_executable, toc_base_is_exclusive, group_fits, TPREL16 in reach
+ *   (7) is_executable, group_fits, GOT_TPREL16_DS in reach if known
+ *   (8) is_executable, group_fits, GOT_TPREL16_HA in reach if known
+ *   (9) is_executable, group_fits
+ *   (10) is_local, not is_ifunc, has_fixed_distance, PCREL34 in reach if known
+ *   (11) is_local, not is_ifunc, has_fixed_address, group_fits, addend 4, ADDR16_HA in reach if
  *       known
- *   (11) is_local, not is_ifunc, has_fixed_address, group_fits, addend 0, ADDR16_HA in reach if
+ *   (12) is_local, not is_ifunc, has_fixed_address, group_fits, addend 0, ADDR16_HA in reach if
  *       known
  *
  * x86-64, with the prefixes R_X86_64_ and LINKER_UTILS_X86_64_REWRITE_:
@@ -1580,8 +1588,7 @@ struct linker_utils_rela {
  *
  * `items_len` is `relocations_len`, since a relocation makes at most one item. `len` is how many
  * there are; the elements from there on are unchanged. LINKER_UTILS_DIFFERENT_LENGTHS.
- * LINKER_UTILS_ENDS_TOO_HIGH where `base` and `section_len` add up to 2^64 or more. A copy of the
- * relocations and one of the items are allocated: LINKER_UTILS_OUT_OF_MEMORY.
+ * LINKER_UTILS_ENDS_TOO_HIGH where `base` and `section_len` add up to 2^64 or more.
  * LINKER_UTILS_MALFORMED_RELOCATION, and `faulty` is the first relocation that lies behind the
  * section's end, is a call's with less than eight bytes there, or is an R_RISCV_ALIGN whose addend
  * isn't a multiple of 2 from 0 up, below 2^32, of bytes in the section. */

@@ -66,13 +66,22 @@ def is_load_from_got(words):
 
 # ---- LoongArch
 
+def stores_of_loongarch(word):
+    """The register of 64 bits that a store stores; None where the instruction stores none."""
+    return bits(word, 0, 5) if 0xA4 <= bits(word, 22, 32) <= 0xA7 else None
+
+
+def keeps_base_of_loongarch(words):
+    """LowPartFromThreadPointer: StoresTheSame, of the base."""
+    return stores_of_loongarch(words[0]) != bits(words[0], 5, 10)
+
+
 def is_local_exec_of_loongarch(words):
     """IsLocalExec."""
-    (high, add, low), opcode = words, bits(words[2], 22, 32)
+    high, add, low = words
     both = bits(high, 0, 5), bits(add, 0, 5)
-    is_store = 0xA4 <= opcode <= 0xA7
     return (bits(add, 5, 10) == both[0] and bits(low, 5, 10) == both[1] and both[0] not in (0, 2)
-            and both[1] != 0 and not (is_store and bits(low, 0, 5) in both))
+            and both[1] != 0 and stores_of_loongarch(low) not in both)
 
 
 # ---- PowerPC64
@@ -108,6 +117,17 @@ def is_over_toc(words):
 def is_tls_call(words):
     """IsTlsCall."""
     return is_toc_pair(words) and rt(words[0]) != 13
+
+
+def has_word_form(words):
+    """LowHalfOverBase, of `ld`, `lwa` and `std`, `lq` and accesses of vector registers. Those of other
+    instructions have no relocation for them."""
+    return words[0] >> 26 in (56, 57, 58, 61, 62)
+
+
+def has_no_word_form(words):
+    """... of `addi` and the other accesses."""
+    return not has_word_form(words)
 
 
 # ---- the laws
@@ -213,6 +233,9 @@ ALONE = {
         ("LowOfDescriptorToOri LowOfDescriptorToLoad", "TLS_DESC_PC_LO12", None),
         ("LoadOfDescriptorToNop", "TLS_DESC_LD", None),
         ("CallOfDescriptorToNop", "TLS_DESC_CALL", None),
+        ("OffsetLu12iIsDeleted", "TLS_LE_HI20_R", None),
+        ("SumIsDeleted", "TLS_LE_ADD_R", None),
+        ("LowPartFromThreadPointer", "TLS_LE_LO12_R", keeps_base_of_loongarch),
     ],
     21: [
         ("PldToPaddi", "GOT_PCREL34", None), ("RestoresToc", "REL24", None),
@@ -220,6 +243,16 @@ ALONE = {
         ("Arguments ArgumentToLocalExec NearArgumentToInitialExec", "GOT_TLSGD16", is_over_toc),
         ("Arguments ArgumentToModule", "GOT_TLSLD16", is_over_toc),
         ("TocAtEntry", "REL16_HA REL16_LO", None),
+        ("HighHalfToNop", "TOC16_HA TPREL16_HA GOT_TPREL16_HA GOT_TLSLD16_HA", None),
+        ("HighHalfToNop HighHalfOfEntry", "GOT_TLSGD16_HA", None),
+        ("HighHalfOfSymbol", "GOT16_HA", None), ("LoadToSum", "GOT16_LO_DS", None),
+        ("LowHalfOverBase", "TOC16_LO TPREL16_LO", has_no_word_form),
+        ("LowHalfOverBase", "TOC16_LO_DS TPREL16_LO_DS", has_word_form),
+        ("OffsetToHighHalf", "GOT_TPREL16_LO_DS", None),
+        ("OffsetToLowHalf", "TLS", None),
+        ("ArgumentToHighHalf ArgumentToOffset", "GOT_TLSGD16_LO", None),
+        ("ArgumentToThread", "GOT_TLSLD16_LO", None),
+        ("CallToLowHalf CallToSum", "TLSGD", None), ("CallToBlock", "TLSLD", None),
     ],
 }
 # of x86-64, by relocations
@@ -234,12 +267,21 @@ OF_X86 = {
     "Descriptors": "GOTPC32_TLSDESC CODE_4_GOTPC32_TLSDESC TLSDESC_CALL",
 }
 LEA_RAX = {3: "488d05", 4: "d5088d05"}
+# of one instruction wherever it stands
+ALONE_OF_X86 = {
+    "LeaOfDescriptor": "GOTPC32_TLSDESC CODE_4_GOTPC32_TLSDESC",
+    "CallOfDescriptor": "TLSDESC_CALL",
+}
+
+
+def rows_of_x86(laws_of):
+    return [(laws, name) for laws, names in laws_of.items() for name in names.split()]
 
 
 def rows(machine):
     """The laws and relocations of a machine, in the order of the tables."""
     if machine == 62:
-        return [(laws, name) for laws, names in OF_X86.items() for name in names.split()]
+        return rows_of_x86(OF_X86) + rows_of_x86(ALONE_OF_X86)
     of_sequences = [(one.laws, name) for one in SEQUENCES[machine]
                     for _, names in one.steps for name in sorted(names - UNCHOSEN)]
     return of_sequences + [(laws, name) for laws, names, _ in ALONE[machine]
@@ -286,7 +328,8 @@ def count_of_x86(relocations, code, is_resolved, found):
     """Adds the places of a section. `is_resolved` says of a general- or local-dynamic sequence at an
     offset whether its call is one of `__tls_get_addr`."""
     at_place = {(offset, name): symbol for offset, name, symbol, _, _ in relocations}
-    laws_of = {name: laws for laws, name in rows(62)}
+    laws_of = {name: laws for laws, name in rows_of_x86(OF_X86)}
+    alone = {name: laws for laws, name in rows_of_x86(ALONE_OF_X86)}
 
     def begins(offset, count):
         """The bytes of an instruction before its field."""
@@ -315,3 +358,6 @@ def count_of_x86(relocations, code, is_resolved, found):
     for offset, name, symbol, addend, response in relocations:
         if response == "y":
             found[laws_of[name], name][verdict(offset, name, symbol, addend)] += 1
+            if name in alone:
+                is_behind = name == "TLSDESC_CALL" or addend == -4
+                found[alone[name], name][COVERED if is_behind else "addend"] += 1

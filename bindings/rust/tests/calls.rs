@@ -382,7 +382,7 @@ fn rejects_rewrites() {
         (Architecture::AArch64.machine(), 13),
         (Architecture::RiscV.machine(), 18),
         (Architecture::LoongArch64.machine(), 13),
-        (Architecture::Ppc64.machine(), 18),
+        (Architecture::Ppc64.machine(), 20),
         (Architecture::X86_64.machine(), 24),
         (0, 0),
     ];

@@ -1,27 +1,32 @@
--- AArch64: the instructions of `linker_laws` compared with an emulator.
+-- AArch64: the instructions of `linker_laws` compared with an emulator. Register 31 is the stack
+-- pointer.
 use Rattle.std.specs.Prelude.{◌≡◌, Bool, true, false, Option, Some, None}
 use Rattle.std.specs.List.{list_all}
-use Rattle.std.specs.Int.{w32, from_le_bytes}
 use Rattle.linker_laws.specs.AArch64Machine.{State, step}
-use Rattle.emulated.specs.Steps.{Executed, Group, number_in, byte_in, is_left}
+use Rattle.emulated.specs.Steps.{Executed, Group, Numbers, at, pc, made_high, before, memory_in}
+use Rattle.emulated.specs.Steps.{bytes_from, is_left}
 use Rattle.emulated.specs.AArch64Steps.{aarch64_groups}
+
+abbrev pub numbers : Executed → Numbers
+numbers = before (made_high 4)
 
 abbrev pub begun : Executed → State
 begun e =
+    let start = numbers e at in
+    let memory = memory_in (numbers e) in
     record {
-      registers = number_in e.before.registers;
-      pc = e.before.address;
-      memory = byte_in e.at e.before.memory;
+      registers = numbers e;
+      pc = numbers e pc;
+      memory = bytes_from start memory;
       thread_pointer = 0;
     }
 
 abbrev pub ends_so : Executed → Option State → Bool
 ends_so e None = false
-ends_so e (Some s) = is_left 32 0 e s.registers s.pc s.memory 0
+ends_so e (Some s) = is_left 32 4 0 e (numbers e) s.registers s.pc s.memory 0
 
 -- Each instruction leaves what the emulator did.
 abbrev pub Agrees : Type 0
 Agrees =
-    list_all
-    (λ (g : Group). list_all (λ e. ends_so e (step (from_le_bytes w32 e.code) (begun e))) g.rows)
+    list_all (λ (g : Group). list_all (λ e. ends_so e (step e.code (begun e))) g.rows)
     aarch64_groups ≡ true

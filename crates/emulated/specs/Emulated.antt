@@ -1,6 +1,7 @@
 -- What definitions of forms say that the machine reads from words, compared with what an emulator
 -- made of them.
-use Rattle.std.specs.Prelude.{◌≡◌, ℕ, ◌==◌, ◌%◌, ◌^◌, Bool, true, List, ℤ, pos, ◌*ℤ◌}
+use Rattle.std.specs.Prelude.{◌≡◌, ℕ, ◌-◌, ◌==◌, ◌%◌, ◌^◌, Bool, true, List, map, ◌++◌}
+use Rattle.std.specs.Prelude.{ℤ, pos, ◌*ℤ◌}
 use Rattle.std.specs.List.{list_all}
 use Rattle.std.specs.Int.{w64, cast_unsigned}
 
@@ -10,6 +11,15 @@ pub record Words : Type 0 where
   pub unit : ℕ
   pub bits : ℕ
   pub rows : List (ℕ × ℕ)
+
+-- with the numbers below 2 ^ 63 that came of words, and how far the other ones are below 2 ^ 64
+abbrev pub words : ℕ → ℕ → List (ℕ × ℕ) → List (ℕ × ℕ) → Words
+words unit bits rows below =
+    record {
+      unit = unit;
+      bits = bits;
+      rows = rows ++ map (λ row. (row.0, 2 ^ 64 - row.1)) below;
+    }
 
 -- What is read of a word is what came of it.
 abbrev pub is_read : (ℕ → ℤ) → ℕ → ℕ → ℕ × ℕ → Bool

@@ -1,18 +1,28 @@
 -- LoongArch: the instructions of `linker_laws` compared with an emulator. Registers 32 to 63 are
 -- those of vectors.
-use Rattle.std.specs.Prelude.{ℕ, ◌≡◌, ◌+◌, ◌-◌, ◌*◌, ◌/◌, ◌^◌, ◌==◌, nat_lt, if◌then◌else◌}
-use Rattle.std.specs.Prelude.{Bool, true, false, Option, Some, None}
+use Rattle.std.specs.Prelude.{ℕ, ◌≡◌, ◌+◌, ◌-◌, ◌*◌, ◌/◌, ◌^◌, ◌==◌, ◌&&◌, nat_le, nat_lt}
+use Rattle.std.specs.Prelude.{if◌then◌else◌, Bool, true, false, Option, Some, None}
 use Rattle.std.specs.List.{list_all}
-use Rattle.std.specs.Int.{w32, from_le_bytes}
 use Rattle.linker_laws.specs.LoongArchMachine.{State, Floats, step, read}
-use Rattle.emulated.specs.Steps.{Executed, Group, number_in, byte_in, is_left}
+use Rattle.emulated.specs.Steps.{Executed, Group, Numbers, at, pc, noise, made_low, before}
+use Rattle.emulated.specs.Steps.{memory_in, bytes_from, is_left}
 use Rattle.emulated.specs.LoongArchSteps.{loongarch_groups}
+
+-- Register 0 is 0, and vectors have 256 bits.
+abbrev pub made : ℕ → Numbers
+made row place =
+    if place == 0 then 0 else (
+    if nat_le 32 place && nat_lt place 64 then noise 256 (256 * row + place)
+    else made_low row place)
+
+abbrev pub numbers : Executed → Numbers
+numbers = before made
 
 -- The emulator's `fld.s` sets the bits from 32 to 63. Its loads leave the higher ones as they were.
 abbrev pub floats : Executed → Floats
 floats e =
     record {
-      numbers = λ r. number_in e.before.registers (32 + r);
+      numbers = λ r. numbers e (32 + r);
       widened = λ bytes old number.
           if bytes == 4
           then number + (2 ^ 64 - 2 ^ 32) + old / 2 ^ 64 * 2 ^ 64
@@ -21,11 +31,13 @@ floats e =
 
 abbrev pub begun : Executed → State
 begun e =
+    let start = numbers e at in
+    let memory = memory_in (numbers e) in
     record {
-      registers = number_in e.before.registers;
+      registers = numbers e;
       floats = floats e;
-      pc = e.before.address;
-      memory = byte_in e.at e.before.memory;
+      pc = numbers e pc;
+      memory = bytes_from start memory;
     }
 
 abbrev pub register : State → ℕ → ℕ
@@ -33,11 +45,10 @@ register s r = if nat_lt r 32 then read r s else s.floats.numbers (r - 32)
 
 abbrev pub ends_so : Executed → Option State → Bool
 ends_so e None = false
-ends_so e (Some s) = is_left 64 0 e (register s) s.pc s.memory 0
+ends_so e (Some s) = is_left 64 4 0 e (numbers e) (register s) s.pc s.memory 0
 
 -- Each instruction leaves what the emulator did.
 abbrev pub Agrees : Type 0
 Agrees =
-    list_all
-    (λ (g : Group). list_all (λ e. ends_so e (step (from_le_bytes w32 e.code) (begun e))) g.rows)
+    list_all (λ (g : Group). list_all (λ e. ends_so e (step e.code (begun e))) g.rows)
     loongarch_groups ≡ true

@@ -1,12 +1,13 @@
 -- PowerPC64: the instructions of `linker_laws` compared with an emulator. Registers 32 to 63 are
 -- those of floating-point numbers, and 64 is the link register.
 use Rattle.std.specs.Prelude.{ℕ, ◌≡◌, ◌+◌, ◌-◌, ◌*◌, ◌/◌, ◌^◌, ◌==◌, nat_lt, if◌then◌else◌}
-use Rattle.std.specs.Prelude.{Bool, true, false, Option, Some, None, length}
+use Rattle.std.specs.Prelude.{Bool, true, false, Option, Some, None}
 use Rattle.std.specs.List.{list_all}
-use Rattle.std.specs.Int.{w32, w64, from_le_bytes, leading_zeros}
+use Rattle.std.specs.Int.{w64, leading_zeros}
 use Rattle.linker_base.specs.Bits.{field}
 use Rattle.linker_laws.specs.Ppc64Machine.{State, Formats, step, step_prefixed}
-use Rattle.emulated.specs.Steps.{Executed, Group, number_in, byte_in, is_left}
+use Rattle.emulated.specs.Steps.{Executed, Group, Numbers, at, pc, made_low, before, memory_in}
+use Rattle.emulated.specs.Steps.{bytes_from, is_left}
 use Rattle.emulated.specs.Ppc64Steps.{ppc64_groups}
 
 -- ---- single and double precision
@@ -33,8 +34,8 @@ widened single =
     if nat_lt 0 exponent then double sign (896 + exponent) (fraction * 2 ^ 29) else (
     if fraction == 0 then double sign 0 0 else normal sign fraction))
 
--- "Floating-Point Store Instructions": some of the bits, and a denormal number where the exponent is
--- one of those. Of a number that is smaller still the manual says nothing.
+-- "Floating-Point Store Instructions": some of the bits, and a denormal number where the exponent
+-- is one of those. Of a number that is smaller still the manual says nothing.
 abbrev pub narrowed : ℕ → ℕ
 narrowed double =
     let exponent = field double 52 63 in
@@ -48,29 +49,38 @@ formats = record { widened = widened; narrowed = narrowed }
 
 -- ---- what is compared
 
+abbrev pub numbers : Executed → Numbers
+numbers = before made_low
+
 abbrev pub begun : Executed → State
 begun e =
+    let start = numbers e at in
+    let memory = memory_in (numbers e) in
     record {
-      registers = number_in e.before.registers;
-      floats = λ r. number_in e.before.registers (32 + r);
-      link = number_in e.before.registers 64;
-      pc = e.before.address;
-      memory = byte_in e.at e.before.memory;
+      registers = numbers e;
+      floats = λ r. numbers e (32 + r);
+      link = numbers e 64;
+      pc = numbers e pc;
+      memory = bytes_from start memory;
     }
 
 abbrev pub register : State → ℕ → ℕ
 register s r =
     if nat_lt r 32 then s.registers r else (if nat_lt r 64 then s.floats (r - 32) else s.link)
 
+-- an instruction of 4 bytes, or a prefixed one of 8
+abbrev pub length_of : ℕ → ℕ
+length_of code = if nat_lt code (2 ^ 32) then 4 else 8
+
 abbrev pub ends_so : Executed → Option State → Bool
 ends_so e None = false
-ends_so e (Some s) = is_left 65 0 e (register s) s.pc s.memory 0
+ends_so e (Some s) =
+    is_left 65 (length_of e.code) 0 e (numbers e) (register s) s.pc s.memory 0
 
--- an instruction of 4 bytes, or a prefixed one of 8
 abbrev pub executed : Executed → Option State
 executed e =
-    if length e.code == 4 then step formats (from_le_bytes w32 e.code) (begun e)
-    else step_prefixed formats (from_le_bytes w64 e.code) (begun e)
+    if length_of e.code == 4 then step formats e.code (begun e)
+    else step_prefixed formats e.code (begun e)
 
 -- Each instruction leaves what the emulator did.
 abbrev pub Agrees : Type 0

@@ -1,5 +1,5 @@
--- What the definitions say of instructions in sequence, by their words as one number: the first word
--- is bits 0 to 31.
+-- What the definitions say of instructions in sequence, by their words as one number: the first
+-- word is bits 0 to 31.
 use Rattle.std.specs.Prelude.{ℕ, ◌+◌, ◌*◌, ◌++◌, ℤ, pos}
 use Rattle.std.specs.Int.{w64, to_le_bytes}
 use Rattle.std.specs.Option.{unwrap_or}

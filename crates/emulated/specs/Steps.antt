@@ -1,31 +1,56 @@
--- Single instructions that an emulator executed, and when a state of the definitions is what it left.
-use Rattle.std.specs.Prelude.{ℕ, zero, suc, ◌==◌, ◌&&◌, Bool, true, nat_lt, if◌then◌else◌}
-use Rattle.std.specs.Prelude.{List, [], ◌∷◌, bit_and}
+-- Single instructions that an emulator executed, and when a state of the definitions is what it
+-- left. The tables have the instructions, and what the emulator changed. The numbers before are
+-- defined here, and `tools/emulate_steps` gives the emulator the same ones.
+use Rattle.std.specs.Prelude.{ℕ, zero, suc, ◌+◌, ◌*◌, ◌/◌, ◌%◌, ◌^◌, ◌==◌, ◌&&◌, Bool, true}
+use Rattle.std.specs.Prelude.{nat_lt, if◌then◌else◌, List, [], ◌∷◌, bit_and}
 use Rattle.std.specs.Int.{byte_at}
 use Rattle.linker_elf.specs.Value.{sum_64, difference_64}
 
--- a processor, with 32 bytes of its memory as a little-endian number
-pub record State : Type 0 where
-  -- the registers that are not 0
-  pub registers : List (ℕ × ℕ)
-  pub address : ℕ
-  pub memory : ℕ
-  pub flags : ℕ
+-- ---- rows
 
-abbrev pub state : List (ℕ × ℕ) → ℕ → ℕ → ℕ → State
-state registers address memory flags =
-    record { registers = registers; address = address; memory = memory; flags = flags }
+-- A state has a number at each place: those of the registers are at 0 and up. Four are 8 bytes of
+-- memory each, and the others are the flags, the address of the instruction, and where the memory
+-- begins.
+abbrev pub m0 : ℕ
+m0 = 96
 
--- an instruction, where the bytes of memory are, and the states before and after
+abbrev pub m1 : ℕ
+m1 = 97
+
+abbrev pub m2 : ℕ
+m2 = 98
+
+abbrev pub m3 : ℕ
+m3 = 99
+
+abbrev pub flags : ℕ
+flags = 100
+
+abbrev pub pc : ℕ
+pc = 101
+
+abbrev pub at : ℕ
+at = 102
+
+-- A row: its own number, the instruction, the numbers before that aren't made of the row's, and the
+-- numbers after that aren't as before, each behind its place.
 pub record Executed : Type 0 where
-  pub code : List ℕ
-  pub at : ℕ
-  pub before : State
-  pub after : State
+  pub row : ℕ
+  pub code : ℕ
+  pub given : List (ℕ × ℕ)
+  pub left : List (ℕ × ℕ)
 
-abbrev pub executed : List ℕ → ℕ → State → State → Executed
-executed code at before after =
-    record { code = code; at = at; before = before; after = after }
+abbrev pub row : ℕ → ℕ → Executed
+row number code = record { row = number; code = code; given = []; left = [] }
+
+infixl 70 ◌with◌ ◌=>◌
+-- a row with a number before
+abbrev pub ◌with◌ : Executed → ℕ × ℕ → Executed
+◌with◌ e number = record e { given = number ∷ e.given }
+
+-- a row that leaves a number
+abbrev pub ◌=>◌ : Executed → ℕ × ℕ → Executed
+◌=>◌ e number = record e { left = number ∷ e.left }
 
 -- those of one instruction, and which bits of the flags are compared
 pub record Group : Type 0 where
@@ -35,16 +60,56 @@ pub record Group : Type 0 where
 abbrev pub group : ℕ → List Executed → Group
 group mask rows = record { mask = mask; rows = rows }
 
--- ---- what a state has
+-- ---- before
 
-abbrev pub number_in : List (ℕ × ℕ) → ℕ → ℕ
-number_in [] r = 0
-number_in (register ∷ others) r = if register.0 == r then register.1 else number_in others r
+-- a pseudo-random number of so many bits: the middle of a square
+abbrev pub noise : ℕ → ℕ → ℕ
+noise bits k =
+    let n = k * 0x9e3779b97f4a7c15f39cc0605cedc8341082276bf3a27251f86c6a11d0c18e95 % 2 ^ bits in
+    n * n / 2 ^ (bits / 2) % 2 ^ bits
 
--- the memory's byte at an address, which is 0 elsewhere
-abbrev pub byte_in : ℕ → ℕ → ℕ → ℕ
-byte_in at memory address =
-    let k = difference_64 address at in
+-- What is made of a row's number for a place. Code and data are at addresses of 47 bits, and
+-- instructions at multiples of a unit.
+abbrev pub made_high : ℕ → ℕ → ℕ → ℕ
+made_high unit row place =
+    let number = noise 64 (256 * row + place) in
+    if place == pc then 7 * 2 ^ 44 + unit * (number % 2 ^ 30) else (
+    if place == at then 6 * 2 ^ 44 + number % 2 ^ 30 else number)
+
+-- Or they are in three parts, each instruction within a page of its own, and data above the pages.
+abbrev pub made_low : ℕ → ℕ → ℕ
+made_low row place =
+    let number = noise 64 (256 * row + place) in
+    let part = 2 ^ 33 * (number % 3) in
+    if place == pc then part + 2 ^ 20 + 2 ^ 14 * row + 2 ^ 10 + 4 * (number / 3 % 3584) else (
+    if place == at then part + 2 ^ 26 + number / 3 % 2 ^ 24 else number)
+
+-- the number that is listed for a place, or else another
+abbrev pub listed_or : ℕ → List (ℕ × ℕ) → ℕ → ℕ
+listed_or other [] place = other
+listed_or other (number ∷ others) place =
+    if number.0 == place then number.1 else listed_or other others place
+
+-- numbers by their places, or bytes by their addresses
+abbrev pub Numbers : Type 0
+Numbers = ℕ → ℕ
+
+-- the numbers before, by what is made of the row's, and those after, by the ones before
+abbrev pub before : (ℕ → Numbers) → Executed → Numbers
+before made e place = listed_or (made e.row place) e.given place
+
+abbrev pub after : Numbers → Executed → Numbers
+after numbers e place = listed_or (numbers place) e.left place
+
+-- the memory as one number, whose low byte is the first
+abbrev pub memory_in : Numbers → ℕ
+memory_in numbers =
+    numbers m0 + 2 ^ 64 * numbers m1 + 2 ^ 128 * numbers m2 + 2 ^ 192 * numbers m3
+
+-- the bytes of such a memory by their addresses, where it begins at one; it is 0 elsewhere
+abbrev pub bytes_from : ℕ → ℕ → Numbers
+bytes_from start memory address =
+    let k = difference_64 address start in
     if nat_lt k 32 then byte_at k memory else 0
 
 -- ---- what is compared
@@ -53,11 +118,14 @@ abbrev pub all_below : ℕ → (ℕ → Bool) → Bool
 all_below zero test = true
 all_below (suc n) test = test n && all_below n test
 
--- Each of so many registers, the bytes, the address of the next instruction and the flags are those
--- that the emulator left.
-abbrev pub is_left : ℕ → ℕ → Executed → (ℕ → ℕ) → ℕ → (ℕ → ℕ) → ℕ → Bool
-is_left registers mask e register address memory flags =
-    all_below registers (λ r. register r == number_in e.after.registers r)
-    && all_below 32 (λ k. memory (sum_64 e.at k) == byte_at k e.after.memory)
-    && address == e.after.address
-    && bit_and flags mask == bit_and e.after.flags mask
+-- Of a row, by the numbers before, and an instruction of so many bytes: each of so many registers,
+-- the memory and the flags are as the row leaves them, or else as before. The next address is the
+-- one that the row leaves, or else that behind the instruction.
+abbrev pub is_left : ℕ → ℕ → ℕ → Executed → Numbers → Numbers → ℕ → Numbers → ℕ → Bool
+is_left registers bytes mask e numbers register next memory flags_after =
+    let start = numbers at in
+    let memory_after = memory_in (after numbers e) in
+    all_below registers (λ r. register r == after numbers e r)
+    && all_below 32 (λ k. memory (sum_64 start k) == byte_at k memory_after)
+    && next == listed_or (sum_64 (numbers pc) bytes) e.left pc
+    && bit_and flags_after mask == bit_and (after numbers e flags) mask

@@ -6,7 +6,7 @@ use Rattle.std.proofs.lemmas.Int.{ints, to_z_pos}
 use Rattle.linker_base.proofs.Bits.{cast_negative}
 use Rattle.linker_elf.specs.Elf.{IsWithin, bit_bounds}
 use Rattle.linker_elf.specs.LoongArch.{page}
-use Rattle.linker_elf.specs.Value.{sum_64, difference_64}
+use Rattle.linker_elf.specs.Value.{difference_64}
 use Rattle.linker_elf.specs.declared.elf.Sign.TheVariants.{Signed}
 use Rattle.linker_laws.proofs.Sums.{difference_below}
 
@@ -28,11 +28,11 @@ close n z small is within =
       | inr a ↦ inr (let e = a.1 in let lower = within.0 in omega (arith, ints))
     ]
 
--- then the pages are
-pages : (t p : ℕ) → t < 2 ^ 64 → p < 2 ^ 64
-    → (difference_64 t (sum_64 p 4) < 2 ^ 20) ⊎ (2 ^ 64 - 2 ^ 20 ≤ difference_64 t (sum_64 p 4))
+-- then the pages are, also from a place a few bytes before
+pages : (t p q : ℕ) → t < 2 ^ 64 → p < 2 ^ 64 → q < 2 ^ 64 → difference_64 q p < 5
+    → (difference_64 t q < 2 ^ 20) ⊎ (2 ^ 64 - 2 ^ 20 ≤ difference_64 t q)
     → (difference_64 (page t) (page p) < 2 ^ 32) ⊎ (2 ^ 64 - 2 ^ 32 ≤ difference_64 (page t) (page p))
-pages t p small small' near =
+pages t p q small small' small'' behind near =
     elim (cases_lt (difference_64 (page t) (page p)) (2 ^ 32)) [
       | inl below ↦ inl below
       | inr above ↦ inr (elim near [
@@ -59,14 +59,14 @@ wide n small far =
           ]
     ]
 
-pub near : (t p : ℕ) → t < 2 ^ 64 → p < 2 ^ 64 → (v w : ℤ)
+pub near : (t p q : ℕ) → t < 2 ^ 64 → p < 2 ^ 64 → q < 2 ^ 64 → difference_64 q p < 5 → (v w : ℤ)
     → Some (cast_signed w64 (difference_64 (page t) (page p))) ≡ Some v
-    → Some (cast_signed w64 (difference_64 t (sum_64 p 4))) ≡ Some w
+    → Some (cast_signed w64 (difference_64 t q)) ≡ Some w
     → IsWithin (Some (bit_bounds 21 Signed)) w → IsWithin (Some (bit_bounds 33 Signed)) v
-near t p small small' v w is is' within =
+near t p q small small' small'' behind v w is is' within =
     let same : cast_signed w64 (difference_64 (page t) (page p)) ≡ v = cc in
-    let same' : cast_signed w64 (difference_64 t (sum_64 p 4)) ≡ w = cc in
+    let same' : cast_signed w64 (difference_64 t q) ≡ w = cc in
     subst (λ z. IsWithin (Some (bit_bounds 33 Signed)) z) same
     (wide (difference_64 (page t) (page p)) (difference_below (page t) (page p))
-    (pages t p small small'
-    (close (difference_64 t (sum_64 p 4)) w (difference_below t (sum_64 p 4)) same' within)))
+    (pages t p q small small' small'' behind
+    (close (difference_64 t q) w (difference_below t q) same' within)))

@@ -21,11 +21,15 @@ pub mod Pages
 pub mod PartsOfAddresses
 pub mod Ppc64Accesses
 pub mod Ppc64Addresses
+pub mod Ppc64Apart
+pub mod Ppc64Arguments
 pub mod Ppc64Calls
 pub mod Ppc64Copies
 pub mod Ppc64Direct
 pub mod Ppc64Entries
 pub mod Ppc64IndexedWords
+pub mod Ppc64LowHalves
+pub mod Ppc64Offsets
 pub mod Ppc64Prefixed
 pub mod Ppc64Threads
 pub mod Ppc64Vectors
@@ -48,6 +52,7 @@ pub mod X86Branches
 pub mod X86Bytes
 pub mod X86Codes
 pub mod X86Decoding
+pub mod X86DescriptorSteps
 pub mod X86Descriptors
 pub mod X86Evex
 pub mod X86Fields

@@ -46,14 +46,14 @@ use Rattle.linker_laws.proofs.LoongArchWords.{IsHigh, IsLow, decodes_page, decod
 
 -- ---- states that are alike apart from some registers and bytes
 
-steps_so : (x y : ℕ) (s t u v : State) (P : State → State → Type 0) → step x s ≡ Some u
+pub steps_so : (x y : ℕ) (s t u v : State) (P : State → State → Type 0) → step x s ≡ Some u
     → step y t ≡ Some v → P u v → StepSo x s y t P
 steps_so x y s t u v P first second holds =
     subst (λ r. IsSomeAnd r (λ u. IsSomeAnd (step y t) (λ v. P u v))) (sym first)
     (subst (λ r. IsSomeAnd r (λ v. P u v)) (sym second) holds)
 
 -- after an instruction that writes a register and goes on
-abbrev put : ℕ → ℕ → State → State
+abbrev pub put : ℕ → ℕ → State → State
 put n v s = go_on (write n v s)
 
 unwritten_by : (b : Bool) (m n v : ℕ) (s : State) → eqb m n ≡ false
@@ -61,10 +61,10 @@ unwritten_by : (b : Bool) (m n v : ℕ) (s : State) → eqb m n ≡ false
 unwritten_by true m n v s other = refl
 unwritten_by false m n v s other = ap (cond (eqb m 0) 0) (cond-false (eqb m n) v (s.registers m) other)
 
-unwritten : (m n v : ℕ) (s : State) → eqb m n ≡ false → read m (put n v s) ≡ read m s
+pub unwritten : (m n v : ℕ) (s : State) → eqb m n ≡ false → read m (put n v s) ≡ read m s
 unwritten m n v s other = unwritten_by (eqb n 0) m n v s other
 
-written_there : (n v : ℕ) (s : State) → n ≢ 0 → read n (put n v s) ≡ v
+pub written_there : (n v : ℕ) (s : State) → n ≢ 0 → read n (put n v s) ≡ v
 written_there n v s named =
     ap (λ t. read n (go_on t)) (cond-false (eqb n 0) s (with_register n v s) (ne_eqb n 0 named))
     ∙ read_back n v n s refl named
@@ -213,17 +213,20 @@ from_page t small =
 offset_is : (o : Operands) → relative symbol_address tls_base o ≡ thread_offset o
 offset_is o = ap (λ a. difference_64 a o.tls_base) (unbiased (symbol_address o) (sum_below o.symbol _))
 
--- its high part by `lu12i.w`
-high_made : (o : Operands) (before after : List ℕ) → (a : IsRelocated names.R_LARCH_TLS_LE_HI20 o before after)
-    → IsWithin (Some signed_32) a.value → high_part (word_of after) ≡ high_offset o
-high_made o before after a within =
-    let d = relative symbol_address tls_base o in
-    let below : d < 2 ^ 64 = difference_below _ _ in
+-- a number's high part by `lu12i.w`
+pub high_made : {kind : RelocationKind} {mask : Option PageMask} {range : AllowedRange} {a : ℕ}
+    {bias : Option ℕ} {thunkable implicit : Bool} (o : Operands) (d : ℕ) → d < 2 ^ 64
+    → value_of (row_of kind 12 32 (LoongArch64 Shift5) mask range a bias thunkable implicit) o
+    ≡ Some (cast_signed w64 d) → (before after : List ℕ)
+    (step : IsApplied (row_of kind 12 32 (LoongArch64 Shift5) mask range a bias thunkable implicit) o before after)
+    → IsWithin (Some (bit_bounds 32 Signed)) step.value → high_part (word_of after) ≡ page d
+high_made {kind} {mask} {range} {a} {bias} {thunkable} {implicit} o d below e before after step within =
     let f = field (word_of after) 5 25 in
     let w = cast_signed w64 d in
     let h : signed 20 f ≡ bits_from 12 w =
     ap (signed 20) (sym (shift5_sum (word_of after)))
-    ∙ reads_bits _ 12 32 (LoongArch64 Shift5) _ _ _ _ _ _ o before after a (bit_bounds 32 Signed) within refl d below refl in
+    ∙ reads_bits kind 12 32 (LoongArch64 Shift5) mask range a bias thunkable implicit o before after
+    step (bit_bounds 32 Signed) within refl d below e in
     let z = signed 20 f *ℤ pos 4096 in
     let sum : z +ℤ pos (d % 2 ^ 12) ≡ w =
     ap (λ q. (q *ℤ pos (2 ^ 12)) +ℤ pos (d % 2 ^ 12)) h
@@ -231,7 +234,6 @@ high_made o before after a within =
     ∙ euclid w 12 in
     let there : IsAddress (z +ℤ pos (d % 2 ^ 12)) d = ap (λ y. int_rem_euclid y (pos (2 ^ 64))) sum ∙ cast_is d below in
     address_is z (page d) (taken_off z (d % 2 ^ 12) d (page d) there (page_below d below) (parts d below))
-    ∙ ap page (offset_is o)
   where
     page_below : (t : ℕ) → t < 2 ^ 64 → page t < 2 ^ 64
     page_below t small = omega arith
@@ -257,7 +259,7 @@ page_step o n x page s is at made =
     ∙ ap (λ v. Some (put n v s)) (ap (λ p. wrapped (pcalau12i p x)) at ∙ made)
 
 -- `lu12i.w rd`
-high_step : (n x high : ℕ) (t : State) → IsHigh 0x0a n x → high_part x ≡ high → step x t ≡ Some (put n high t)
+pub high_step : (n x high : ℕ) (t : State) → IsHigh 0x0a n x → high_part x ≡ high → step x t ≡ Some (put n high t)
 high_step n x high t is made =
     ap (λ c. execute c x t) (decodes_high x is.opcode)
     ∙ ap (λ r. Some (put r (high_part x) t)) is.rd_is
@@ -318,7 +320,7 @@ to_lu12i : (o : Operands) (s t : State) (c : Changes) (pcala lu12i pcala1 lu12i1
     → StepSo (word_of pcala1) s (word_of lu12i1) t
     (λ u v. AgreeBut (laws.with_register (rd_of (word_of pcala)) c) u v
     × (rd_of (word_of pcala) ≢ 0 → Has (rd_of (word_of pcala)) (near_page (entry_and_addend o)) (high_offset o) u v))
-to_lu12i o s t c pcala lu12i pcala1 lu12i1 small at alike made fits b is page =
+to_lu12i o s t c pcala lu12i pcala1 lu12i1 small at alike made fits b is there =
     let n = rd_of (word_of pcala) in
     let e = near_page (entry_and_addend o) in
     let h = high_offset o in
@@ -327,8 +329,10 @@ to_lu12i o s t c pcala lu12i pcala1 lu12i1 small at alike made fits b is page =
     let rd : rd_of (word_of lu12i) ≡ n = omega arith in
     let new = high_after 12 0x0a n _ lu12i lu12i1 b.written op rd in
     steps_so (word_of pcala1) (word_of lu12i1) s t (put n e s) (put n h t) _
-    (page_step o n (word_of pcala1) e s is at page)
-    (high_step n (word_of lu12i1) h t new (high_made o lu12i lu12i1 b (subst (ValueIsWithin signed_32) b.value_is fits)))
+    (page_step o n (word_of pcala1) e s is at there)
+    (high_step n (word_of lu12i1) h t new
+    (high_made o (relative symbol_address tls_base o) (difference_below _ _) refl lu12i lu12i1 b
+    (subst (ValueIsWithin signed_32) b.value_is fits) ∙ ap page (offset_is o)))
     (alike_also n e h c s t alike, has n e h s t)
 
 pub initial_exec_high : laws.HighHalfToLu12i names.R_LARCH_TLS_IE_PC_HI20

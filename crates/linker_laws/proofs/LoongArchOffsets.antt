@@ -1,15 +1,18 @@
--- An offset of 12 bits from the thread pointer, by three instructions and by one.
+-- An offset of 12 bits from the thread pointer, by three instructions and by one, and each of the
+-- three by itself.
 use Rattle.std.proofs.Common.{◌≡◌, ◌≢◌, ℕ, ◌+◌, ◌-◌, ◌*◌, ◌/◌, ◌%◌, ◌^◌, ◌<◌, Bool, true, false, refl, sym, ◌∙◌, ap, subst, arith}
 use Rattle.std.proofs.Common.{if◌then◌else◌}
-use Rattle.std.proofs.Common.{List, [], ◌∷◌, eqb, cond, ℤ, pos, ◌+ℤ◌, ◌*ℤ◌, Some, None, not}
-use Rattle.std.specs.Prelude.{◌&&◌, ◌||◌}
+use Rattle.std.proofs.Common.{List, [], ◌∷◌, eqb, cond, ℤ, pos, ◌+ℤ◌, ◌*ℤ◌, Some, None, not, inl, inr}
+use Rattle.std.specs.Prelude.{◌&&◌, ◌||◌, IsSomeAnd}
 use Rattle.std.specs.Int.{w64, cast_signed}
-use Rattle.std.proofs.lemmas.Bool.{eq-eqb, eqb-true, ne_eqb, cond-true, cond-false, false≢true}
-use Rattle.std.proofs.lemmas.Int.{ints}
+use Rattle.std.proofs.lemmas.Bool.{eq-eqb, eqb-true, ne_eqb, cond-true, cond-false, false≢true, or_parts}
+use Rattle.std.proofs.lemmas.Int.{ints, to_z_pos}
 use Rattle.linker_base.specs.Bits.{field, signed}
 use Rattle.linker_elf.specs.Value.{sum_64, difference_64}
 use Rattle.linker_elf.specs.declared.elf.value.Operands.{Operands}
 use Rattle.linker_elf.specs.Choices.{ValueIsWithin, RowIsWithin}
+use Rattle.linker_elf.specs.Elf.{IsWithin}
+use Rattle.linker_elf.specs.LoongArch.{page}
 use Rattle.linker_loongarch64.specs.LoongArchRewrites.{signed_32, signed_12}
 use Rattle.linker_elf.specs.LoongArchRelocations.{loongarch_row}
 use Rattle.linker_elf.specs.declared.loongarch64.relocations.LoongArch64Relocation.TheVariants as names
@@ -27,6 +30,7 @@ use Rattle.linker_laws.specs.LoongArchMachine.{Action, action_of, used, adds, ad
 use Rattle.linker_laws.specs.Machine.{wrapped, moved, extended, loaded, stored}
 use Rattle.linker_laws.proofs.AArch64Moves.{distance_is}
 use Rattle.linker_laws.proofs.AArch64Pairs.{word_made}
+use Rattle.linker_laws.proofs.LoongArchHalves.{put, steps_so, unwritten, written_there, high_step, high_made}
 use Rattle.linker_laws.proofs.LoongArchSteps.{set, written, step_high, read_back, run_pair, ends_so}
 use Rattle.linker_laws.proofs.LoongArchWords.{not_high, low12_is, decodes_high, decodes_action, high_after, low_after, low_is}
 use Rattle.linker_laws.proofs.RiscVHighParts.{low_12_number}
@@ -189,7 +193,125 @@ step_action x op r s is low rd =
     ap (λ c. execute c x s) (decodes_action x op is low)
     ∙ ap (λ n. Some (go_on (used (action_of op) n (sum_of x s) s))) rd
 
--- ---- the law
+-- the sum of an instruction that adds an offset of 12 bits to a number
+offset_sum : (o : Operands) (before after : List ℕ) (s : State) (j b : ℕ)
+    → RowIsWithin (loongarch_row names.R_LARCH_TLS_LE_LO12_R) signed_12 o
+    → laws.IsRelocated names.R_LARCH_TLS_LE_LO12_R o before after → rj_of (word_of after) ≡ j → read j s ≡ b
+    → sum_of (word_of after) s ≡ sum_64 b (thread_offset o)
+offset_sum o before after s j b fits a rj is =
+    let n = difference_64 (sum_64 (symbol_address o) 0) o.tls_base in
+    let f = field (word_of after) 10 22 in
+    let taken : f ≡ n % 2 ^ 32 % 4096 =
+    low_is _ before after a.written
+    ∙ taken_bits (record { start = 0; end = 12 }) n a.value (omega arith) (value_is _ o before after a (cast_signed w64 n) refl)
+    ∙ (let e : field n 0 12 ≡ n % 2 ^ 32 % 4096 = omega arith in e) in
+    ap (λ r. wrapped (pos (read r s) +ℤ signed 12 f)) rj ∙ ap (λ v. wrapped (pos v +ℤ signed 12 f)) is
+    ∙ low_sum b n f (omega arith) (low_12_number n (omega arith) fits) taken
+    ∙ ap (sum_64 b) (let e : n ≡ thread_offset o = omega arith in e)
+
+-- ---- an instruction that is deleted
+
+-- what else an instruction leaves that writes a register
+record Leaves (s u : State) : Type 0 where
+  pub floats : u.floats ≡ s.floats
+  pub memory : u.memory ≡ s.memory
+  pub pc : u.pc ≡ sum_64 s.pc 4
+
+leaves : (n v : ℕ) (s : State) → Leaves s (put n v s)
+leaves n v s = by (eqb n 0)
+  where
+    by : (z : Bool) → Leaves s (go_on (if z then s else with_register n v s))
+    by true = record { floats = refl; memory = refl; pc = refl }
+    by false = record { floats = refl; memory = refl; pc = refl }
+
+puts : (n v : ℕ) (differing : ℕ → Bool) (s t : State) → AreAlikeBut differing s t
+    → laws.HasPut differing n v (sum_64 s.pc 4) (put n v s) t
+puts n v differing s t alike =
+    let rest = leaves n v s in
+    record {
+      alike = record {
+        registers = λ m kept.
+            let parts = or_parts (eqb m n) (differing m) kept in
+            unwritten m n v s parts.0 ∙ alike.registers m parts.1;
+        floats = rest.floats ∙ alike.floats;
+        memory = rest.memory ∙ alike.memory;
+      };
+      number_there = written_there n v s;
+      next = rest.pc;
+    }
+
+-- an offset of 12 bits has no high part
+no_high_part : (o : Operands) (before after : List ℕ) → AreAddresses o
+    → RowIsWithin (loongarch_row names.R_LARCH_TLS_LE_LO12_R) signed_12 o
+    → laws.IsRelocated names.R_LARCH_TLS_LE_HI20_R o before after → high_part (word_of after) ≡ 0
+no_high_part o before after small fits a =
+    let n = difference_64 (sum_64 (symbol_address o) 0) o.tls_base in
+    let d = difference_64 (sum_64 (symbol_address o) 0x800) o.tls_base in
+    let base = small.tls_base in
+    let below : d < 4096 = elim (low_12_number n (omega arith) fits) [
+      | inl near ↦ omega arith
+      | inr far ↦ omega arith
+    ] in
+    let number : cast_signed w64 d ≡ pos d = to_z_pos w64 d (omega arith) in
+    let value = value_is _ o before after a (cast_signed w64 d) refl in
+    let within : IsWithin (Some signed_32) a.value =
+    subst (IsWithin (Some signed_32)) (sym number ∙ value) (omega (arith, ints), omega (arith, ints)) in
+    high_made o d (omega arith) refl before after a within ∙ (let e : page d ≡ 0 = omega arith in e)
+
+pub lu12i_is_deleted : laws.OffsetLu12iIsDeleted
+lu12i_is_deleted o s t differing lu12i small is alike fits lu12i1 a =
+    let n = rd_of (word_of lu12i) in
+    subst (λ r. IsSomeAnd r (λ u. laws.HasPut differing n 0 (sum_64 s.pc 4) u t))
+    (sym (high_step n (word_of lu12i1) 0 s (high_after 12 0x0a n _ lu12i lu12i1 a.written is refl)
+    (no_high_part o lu12i lu12i1 small fits a))) (puts n 0 differing s t alike)
+
+pub sum_is_deleted : laws.SumIsDeleted
+sum_is_deleted s t differing add is alike same wide none =
+    let z = word_of add in
+    let n = rd_of z in
+    let rk : field z 10 15 ≡ 2 = omega (arith, is) in
+    let number : added z s ≡ read 2 t =
+    ap (λ v. sum_64 v (read (field z 10 15) s)) none ∙ ap (λ r. sum_64 0 (read r s)) rk
+    ∙ ap (sum_64 0) (alike.registers 2 same) ∙ (let e : sum_64 0 (read 2 t) ≡ read 2 t = omega arith in e) in
+    subst (λ r. IsSomeAnd r (λ u. laws.HasPut differing n (read 2 t) (sum_64 s.pc 4) u t))
+    (sym (ap (λ c. execute c z s) (decodes_add z is) ∙ ap (λ v. Some (put n v s)) number))
+    (puts n (read 2 t) differing s t alike)
+
+-- ---- a low half over `tp`
+
+pub low_part_from_tp : laws.LowPartFromThreadPointer
+low_part_from_tp x y s t differing low base is alike there same one fits made low1 base1 a2 a3 =
+    let n = rd_of (word_of low) in
+    let op = word_of low / 2 ^ 22 in
+    let a = action_of op in
+    let bounded : op < 0x0b4 = (low12_is op is).below in
+    let word = word_made (λ w. w - rj_of w * 2 ^ 5 + 2 * 2 ^ 5) low base (omega (arith, bounded)) made in
+    let base_op : word_of base / 2 ^ 22 ≡ op = omega (arith, word) in
+    let base_rd : rd_of (word_of base) ≡ n = omega (arith, word) in
+    let base_rj : rj_of (word_of base) ≡ 2 = omega (arith, word) in
+    let l = low_after op n (rj_of (word_of low)) _ low low1 a2.written refl refl refl in
+    let b = low_after op n 2 _ base base1 a3.written base_op base_rd base_rj in
+    let nx = difference_64 (sum_64 (symbol_address x) 0) x.tls_base in
+    let ny = difference_64 (sum_64 (symbol_address y) 0) y.tls_base in
+    let numbers : ny ≡ nx =
+    (let e : ny ≡ thread_offset y = omega arith in e) ∙ sym one ∙ (let e : thread_offset x ≡ nx = omega arith in e) in
+    let fits_x : RowIsWithin (loongarch_row names.R_LARCH_TLS_LE_LO12_R) signed_12 x =
+    subst (λ m. IsWithin (Some signed_12) (cast_signed w64 m)) numbers fits in
+    let sum = sum_64 (read 2 t) (thread_offset y) in
+    let old : sum_of (word_of low1) s ≡ sum =
+    offset_sum x low low1 s (rj_of (word_of low)) (read 2 t) fits_x a2 l.rj_is there ∙ ap (sum_64 (read 2 t)) one in
+    let new : sum_of (word_of base1) t ≡ sum = offset_sum y base base1 t 2 (read 2 t) fits a3 b.rj_is refl in
+    let ends = used_alike differing n s t alike a sum same in
+    steps_so (word_of low1) (word_of base1) s t (go_on (used a n sum s)) (go_on (used a n sum t)) _
+    (step_action (word_of low1) op n s l.opcode is l.rd_is ∙ ap (λ v. Some (go_on (used a n v s))) old)
+    (step_action (word_of base1) op n t b.opcode is b.rd_is ∙ ap (λ v. Some (go_on (used a n v t))) new)
+    (record {
+      alike = record { registers = ends.registers; floats = ends.floats; memory = ends.memory };
+      next = ap (λ p. sum_64 p 4) (used_pc a n sum s);
+      new_next = ap (λ p. sum_64 p 4) (used_pc a n sum t);
+    })
+
+-- ---- the three together
 
 -- what both instructions add up to
 pub record Adds (op n1 n2 n3 x z low base : ℕ) (s t : State) : Type 0 where
@@ -243,14 +365,7 @@ adds_both thread x y s t lu12i add low base lu12i1 low1 base1 is small alike one
     let old : sum_of (word_of low1) s2 ≡ sum_64 (read 2 t) d =
     ap (λ v. wrapped (pos v +ℤ i)) (read_back n2 (added Z s1) (rj_of (word_of low1)) s1 l.rj_is is.sum_not_zero ∙ added_is)
     ∙ three_parts high i (read 2 t) d total in
-    let n = difference_64 (sum_64 (symbol_address y) 0) y.tls_base in
-    let taken : field (word_of base1) 10 22 ≡ n % 2 ^ 32 % 4096 =
-    low_is _ base base1 a3.written
-    ∙ taken_bits (record { start = 0; end = 12 }) n a3.value (omega arith) (value_is _ y base base1 a3 (cast_signed w64 n) refl)
-    ∙ (let e : field n 0 12 ≡ n % 2 ^ 32 % 4096 = omega arith in e) in
-    let new : sum_of (word_of base1) t ≡ sum_64 (read 2 t) n =
-    ap (λ r. wrapped (pos (read r t) +ℤ signed 12 (field (word_of base1) 10 22))) b.rj_is
-    ∙ low_sum (read 2 t) n (field (word_of base1) 10 22) (omega arith) (low_12_number n (omega arith) fits) taken in
+    let new = offset_sum y base base1 t 2 (read 2 t) fits a3 b.rj_is refl in
     record {
       high = step_high X n1 s (decodes_high X h.opcode) h.rd_is is.high_not_zero;
       sum = step_add Z n2 s1 (decodes_add Z second) refl is.sum_not_zero;
@@ -258,7 +373,7 @@ adds_both thread x y s t lu12i add low base lu12i1 low1 base1 is small alike one
       low_rd = l.rd_is;
       base_op = b.opcode;
       base_rd = b.rd_is;
-      same = old ∙ ap (sum_64 (read 2 t)) (one ∙ (let e : thread_offset y ≡ n = omega arith in e)) ∙ sym new;
+      same = old ∙ ap (sum_64 (read 2 t)) one ∙ sym new;
     }
 
 pub shorter : relocation_laws.ThreadAddresses → laws.ShorterLocalExec

@@ -6,7 +6,7 @@ use Rattle.std.proofs.lemmas.Bool.{and_parts, eqb-true, false≢true, cond-true,
 use Rattle.linker_base.specs.Bits.{field}
 use Rattle.linker_elf.specs.Ppc64.{ppc64_form}
 use Rattle.linker_ppc64.specs.Ppc64Rewrites.{is_addis_of_toc, is_ld, is_add_of_thread, is_over_thread}
-use Rattle.linker_ppc64.specs.Ppc64Rewrites.{opcode_of, rt_of, ra_of, rb_of, registers_of, nop, addis_of_thread, over_toc}
+use Rattle.linker_ppc64.specs.Ppc64Rewrites.{opcode_of, rt_of, ra_of, rb_of, registers_of, nop, addis_of_thread, over_base}
 use Rattle.linker_elf.specs.Relocate.{ppc64_reads}
 use Rattle.linker_elf.specs.declared.elf.value.Operands.{Operands}
 use Rattle.linker_elf.specs.declared.ppc64.forms.Ppc64Instruction.TheVariants.{D, Ds}
@@ -253,7 +253,7 @@ addi_near_toc toc near f o s addis insn blank over p made_blank made at addis1 i
     ∙ ap (λ n. moved n b) (base_back x h s some)
     ∙ ap (λ t. moved (moved t a) b) p.toc
     ∙ sum_leads o.got_base (symbol_address o) a b (toc.0 o p.small o.place addis addis1 a1 tt at insn insn1 l1 tt) in
-    let word : word_of over ≡ over_toc (word_of insn) = word_made over_toc insn over (omega arith) made in
+    let word : word_of over ≡ over_base 2 (word_of insn) = word_made (over_base 2) insn over (omega arith) made in
     let over_is : HasParts 14 y 2 (word_of over) =
     record { opcode_is = omega arith; rt_is = omega arith; ra_is = omega arith } in
     let new : moved (s.registers 2) ((ppc64_form D).machine w3) ≡ symbol_address o =

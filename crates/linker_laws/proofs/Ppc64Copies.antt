@@ -15,7 +15,8 @@ use Rattle.linker_ppc64.specs.Ppc64Rewrites.{is_addi, is_ld, opcode_of, rt_of, r
 use Rattle.linker_ppc64.specs.Ppc64Rewrites.{registers_of, addis_of_thread, nop}
 use Rattle.linker_ppc64.specs.declared.rewrites.RelaxationKind.TheVariants as kinds
 use Rattle.linker_laws.specs.Ppc64RelocationLaws as relocation_laws
-use Rattle.linker_laws.specs.Schemes.{symbol_address, IsAddress}
+use Rattle.linker_laws.specs.Schemes.{symbol_address, IsAddress, AreAddresses}
+use Rattle.linker_elf.specs.declared.ppc64.relocations.Ppc64Relocation.TheVariants as names
 use Rattle.linker_laws.proofs.Sums.{sum_below}
 use Rattle.linker_laws.specs.Machine.{moved, loaded}
 use Rattle.linker_laws.specs.Ppc64RewriteLaws.{word_of, thread_offset, Leaves, only, IsOverToc, IsTocPair}
@@ -142,7 +143,18 @@ arguments entries near = (
 
 -- ---- `addis rT,13`
 
-addis_13_parts : (r word : ℕ) → r < 32 → word ≡ addis_of_thread r → HasParts 15 r 13 word
+-- the low halves lead to the variable from what it leaves
+pub thread_halves : relocation_laws.ThreadAddresses → (o : Operands) → AreAddresses o → (n : ℕ) (addis after : List ℕ)
+    → laws.IsRelocated names.R_PPC64_TPREL16_HA o addis after
+    → laws.LowHalfLeads o (moved n ((ppc64_form D).machine (word_of after) *ℤ pos (2 ^ 16))) (sum_64 (thread_offset o) n)
+thread_halves thread o small n addis after a = (
+  λ there insn over d. sum_from o.tls_base (symbol_address o) n _ _ small.tls_base (sum_below o.symbol _)
+      (thread.0 o small o.place addis after a tt there insn over d tt),
+  λ there insn over d. sum_from o.tls_base (symbol_address o) n _ _ small.tls_base (sum_below o.symbol _)
+      (thread.1 o small o.place addis after a tt there insn over d tt),
+)
+
+pub addis_13_parts : (r word : ℕ) → r < 32 → word ≡ addis_of_thread r → HasParts 15 r 13 word
 addis_13_parts r word small is =
     record { opcode_is = omega arith; rt_is = omega arith; ra_is = omega arith }
 
@@ -172,12 +184,7 @@ near_initial_exec thread near f o s ld addis_13 p holds made ld1 addis2 l1 a2 =
           (λ n. laws.LowHalfLeads o n (sum_64 (thread_offset o) (s.registers 13)))
           (step_addis f w2 r 13 s
           (same_parts parts.opcode_is parts.rt_is parts.ra_is (d_after _ _ addis_13 addis2 a2.written)))
-          (λ there insn over. (
-            λ d. sum_from o.tls_base (symbol_address o) (s.registers 13) a _ p.small.tls_base (sum_below o.symbol _)
-                (thread.0 o p.small o.place addis_13 addis2 a2 tt there insn over d tt),
-            λ d. sum_from o.tls_base (symbol_address o) (s.registers 13) a _ p.small.tls_base (sum_below o.symbol _)
-                (thread.1 o p.small o.place addis_13 addis2 a2 tt there insn over d tt),
-          )),
+          (thread_halves thread o p.small (s.registers 13) addis_13 addis2 a2),
     )
 
 pub argument_to_local : relocation_laws.ThreadAddresses → laws.ArgumentToLocalExec
@@ -279,7 +286,7 @@ argument_to_initial entries f o s addis addi bl ld made p entry below holds is_l
 -- ---- local-dynamic to local-exec
 
 -- the immediate of `addis rT,13,0`
-no_immediate : (r word : ℕ) → r < 32 → word ≡ addis_of_thread r → (ppc64_form D).machine word ≡ pos 0
+pub no_immediate : (r word : ℕ) → r < 32 → word ≡ addis_of_thread r → (ppc64_form D).machine word ≡ pos 0
 no_immediate r word small is =
     let none : word / 2 ^ 0 % 2 ^ 16 * 2 ^ 0 ≡ 0 = omega arith in
     ap (signed 16) (consecutive_bits_sum replaced 16 0 0 0 word refl ∙ none)

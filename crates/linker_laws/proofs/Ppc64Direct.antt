@@ -8,7 +8,7 @@ use Rattle.linker_base.specs.Bits.{field}
 use Rattle.linker_elf.specs.Ppc64.{ppc64_form}
 use Rattle.linker_ppc64.specs.Ppc64Rewrites.{is_access, is_store, is_d_access, is_indexed}
 use Rattle.linker_ppc64.specs.Ppc64Rewrites.{is_over_thread, keeps_base}
-use Rattle.linker_ppc64.specs.Ppc64Rewrites.{opcode_of, rt_of, ra_of, rb_of, access_of, over_toc}
+use Rattle.linker_ppc64.specs.Ppc64Rewrites.{opcode_of, rt_of, ra_of, rb_of, access_of, over_base}
 use Rattle.linker_ppc64.specs.Ppc64Rewrites.{by_displacement, addis_of_thread, nop}
 use Rattle.linker_elf.specs.Value.{sum_64}
 use Rattle.linker_elf.specs.declared.ppc64.forms.Ppc64Instruction.TheVariants.{D}
@@ -72,7 +72,7 @@ access_near_toc toc near f o s addis insn blank over p made_blank made at addis1
     ∙ ap (λ k. moved k b) (base_back x h s some)
     ∙ ap (λ t. moved (moved t a) b) p.toc
     ∙ sum_leads o.got_base (symbol_address o) a b (toc.0 o p.small o.place addis addis1 a1 tt at insn insn1 l1 tt) in
-    let word : word_of over ≡ over_toc (word_of insn) = word_made over_toc insn over (omega arith) made in
+    let word : word_of over ≡ over_base 2 (word_of insn) = word_made (over_base 2) insn over (omega arith) made in
     let op_over : opcode_of (word_of over) ≡ opcode_of (word_of insn) = omega arith in
     let rt_over : rt_of (word_of over) ≡ r = omega arith in
     let ra_over : ra_of (word_of over) ≡ 2 = omega arith in

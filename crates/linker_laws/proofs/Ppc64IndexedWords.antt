@@ -120,7 +120,7 @@ is_direct w d known is = elim (or_cases (access_of w == 0 || access_of w == 4) (
       (omega arith) refl e refl refl
 ]
 
-step_indexed_word : (f : Formats) (x b : ℕ) (s : State) → opcode_of x ≡ 31 → field x 0 6 ≡ 0x2a
+pub step_indexed_word : (f : Formats) (x b : ℕ) (s : State) → opcode_of x ≡ 31 → field x 0 6 ≡ 0x2a
     → is_word_access (access_of x) ≡ true → rb_of x ≡ b
     → step f x s
     ≡ Some (go_on (accessed f (word_access_with (access_of x)) (rt_of x)
@@ -147,7 +147,7 @@ stores_only w c known h = elim (or_cases (access_of w == 0 || access_of w == 4) 
   | inr ten ↦ ap (λ m. not (m == 4 && c)) (eqb-true (access_of w) 10 ten)
 ]
 
-below : (w : ℕ) (a b : Bool)
+pub below : (w : ℕ) (a b : Bool)
     → (if a then 62 else 58) * 2 ^ 26 + registers_of w + (if b then 2 else 0) < 2 ^ 32
 below w true true = omega arith
 below w true false = omega arith

@@ -32,7 +32,7 @@ use Rattle.linker_laws.proofs.RiscVMachine.{moved_twice}
 use Rattle.linker_laws.proofs.Ppc64Words.{sum_leads, sum_from, set, base_back}
 use Rattle.linker_laws.proofs.Ppc64Words.{step_addis, step_addi, step_nop, run_more}
 
-step_bl : (f : Formats) (x : ℕ) (s : State) → opcode_of x ≡ 18 → field x 0 2 ≡ 1
+pub step_bl : (f : Formats) (x : ℕ) (s : State) → opcode_of x ≡ 18 → field x 0 2 ≡ 1
     → step f x s ≡ Some (go_to (moved s.pc ((ppc64_form Branch24).machine x)) (record s { link = next_pc s }))
 step_bl f x s op low =
     ap (λ k. execute f (by_opcode k x) x s) op

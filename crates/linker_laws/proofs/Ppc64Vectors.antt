@@ -6,7 +6,7 @@ use Rattle.std.proofs.lemmas.Bool.{and_parts}
 use Rattle.linker_elf.specs.Ppc64.{ppc64_form}
 use Rattle.linker_elf.specs.Relocate.{ppc64_reads}
 use Rattle.linker_elf.specs.declared.ppc64.forms.Ppc64Instruction.TheVariants.{D, Ds}
-use Rattle.linker_ppc64.specs.Ppc64Rewrites.{is_vector_access, opcode_of, rt_of, ra_of, over_toc, nop}
+use Rattle.linker_ppc64.specs.Ppc64Rewrites.{is_vector_access, opcode_of, rt_of, ra_of, over_base, nop}
 use Rattle.linker_laws.specs.Ppc64RelocationLaws as relocation_laws
 use Rattle.linker_laws.specs.Schemes.{symbol_address}
 use Rattle.linker_laws.specs.Machine.{moved}
@@ -40,7 +40,7 @@ vector_access_near_toc toc near f o s addis insn blank over p made_blank made at
     ∙ ap (λ n. moved (moved n a) (ppc64_reads Ds w2)) p.toc
     ∙ sum_leads o.got_base (symbol_address o) a (ppc64_reads Ds w2)
     (toc.1 o p.small o.place addis addis1 a1 tt at insn insn1 l1 tt) in
-    let word : word_of over ≡ over_toc (word_of insn) = word_made over_toc insn over (omega arith) made in
+    let word : word_of over ≡ over_base 2 (word_of insn) = word_made (over_base 2) insn over (omega arith) made in
     let over_is : HasParts (opcode_of (word_of insn)) (rt_of (word_of insn)) 2 (word_of over) =
     record { opcode_is = omega arith; rt_is = omega arith; ra_is = omega arith } in
     let new : address_read w3 (go_on s) ≡ symbol_address o =

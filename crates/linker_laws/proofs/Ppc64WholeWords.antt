@@ -8,7 +8,7 @@ use Rattle.std.proofs.lemmas.Bool.{false≢true, or_cases}
 use Rattle.linker_base.specs.Bits.{field}
 use Rattle.linker_elf.specs.Ppc64.{ppc64_form}
 use Rattle.linker_ppc64.specs.Ppc64Rewrites.{keeps_base}
-use Rattle.linker_ppc64.specs.Ppc64Rewrites.{opcode_of, rt_of, ra_of, over_toc}
+use Rattle.linker_ppc64.specs.Ppc64Rewrites.{opcode_of, rt_of, ra_of, over_base}
 use Rattle.linker_ppc64.specs.Ppc64Rewrites.{nop}
 use Rattle.linker_elf.specs.declared.ppc64.forms.Ppc64Instruction.TheVariants.{D, Ds}
 use Rattle.linker_laws.specs.Ppc64RelocationLaws as relocation_laws
@@ -120,7 +120,7 @@ word_access_near_toc toc near f o s addis insn blank over p made_blank made at a
     ∙ sum_leads o.got_base (symbol_address o) a b
     (subst (λ v. IsAddress ((pos o.got_base +ℤ a) +ℤ v) (symbol_address o)) (is.reads w2 after1.0.opcode_is)
     (toc.1 o p.small o.place addis addis1 a1 tt at insn insn1 l1 tt)) in
-    let word : word_of over ≡ over_toc (word_of insn) = word_made over_toc insn over (omega arith) made in
+    let word : word_of over ≡ over_base 2 (word_of insn) = word_made (over_base 2) insn over (omega arith) made in
     let op_over : opcode_of (word_of over) ≡ opcode_of (word_of insn) = omega arith in
     let rt_over : rt_of (word_of over) ≡ r = omega arith in
     let low_over : field (word_of over) 0 2 ≡ field (word_of insn) 0 2 = omega arith in

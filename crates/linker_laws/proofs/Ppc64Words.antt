@@ -64,7 +64,7 @@ sum_leads t target a b h =
     moved_twice t a b ∙ ap wrapped (let e : pos t +ℤ (a +ℤ b) ≡ (pos t +ℤ a) +ℤ b = omega (arith, ints) in e)
     ∙ address_is _ _ h
 
-wrapped_is : (z : ℤ) (t n : ℕ) → z +ℤ pos (t * 2 ^ 64) ≡ pos n → wrapped z ≡ n % 2 ^ 64
+pub wrapped_is : (z : ℤ) (t n : ℕ) → z +ℤ pos (t * 2 ^ 64) ≡ pos n → wrapped z ≡ n % 2 ^ 64
 wrapped_is z t n e = address_is z _ (lifted_is z t n e)
 
 -- The same halves lead from another begin to what is as far from there.

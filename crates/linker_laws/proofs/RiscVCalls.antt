@@ -3,6 +3,7 @@ use Rattle.std.proofs.Common.{◌≡◌, ℕ, ◌+◌, ◌*◌, ◌^◌, ◌<◌
 use Rattle.std.proofs.Common.{ap, subst, arith, List, length, take, drop}
 use Rattle.std.specs.Prelude.{◌==◌}
 use Rattle.std.specs.Int.{w16, w32, from_le_bytes}
+use Rattle.std.proofs.lemmas.Bool.{or_parts}
 use Rattle.std.proofs.lemmas.List.{drop-drop}
 use Rattle.linker_base.specs.Bits.{field}
 use Rattle.linker_riscv64.specs.RiscVRewrites.{call_to_jal, tail_to_jal, tail_to_cj}
@@ -15,6 +16,7 @@ use Rattle.linker_riscv64.proofs.Jumps.{word_of_front}
 use Rattle.linker_laws.specs.Machine.{deleted}
 use Rattle.linker_laws.specs.RiscVMachine.{register}
 use Rattle.linker_laws.specs.RiscVRewriteLaws.{after_rewrite, CallBecomesJal, TailCallBecomes}
+use Rattle.linker_laws.specs.RiscVRewriteLaws.{CallOverBecomesJal}
 use Rattle.linker_laws.proofs.RiscVJumps.{same_register, same_link, called, pair_runs, pair_target}
 use Rattle.linker_laws.proofs.RiscVJumps.{pair_keeps, tail_keeps, pair_links, low_word, high_word}
 use Rattle.linker_laws.proofs.RiscVJumps.{same_destination, jumped, jump_runs, jump_target}
@@ -94,6 +96,62 @@ call_becomes_jal section o m x y sx sy original new old_code new_code h k hx ky 
             ∙ ap (λ p. sum_64 p 8) hx;
         new_link = ap (register (jumped y before' new a' l' opcode' k)) (sym link')
             ∙ jump_links y before' new a' l' opcode' k (λ none. m.1 (sym link' ∙ none))
+            ∙ ap (λ p. sum_64 p 4) ky;
+      };
+    }
+
+-- the same where the `jalr` links another register
+pub call_over_becomes_jal : CallOverBecomesJal names.R_RISCV_CALL
+call_over_becomes_jal section o inside m some linked x y sx sy jal original new old_code there new_code h k hx ky alike =
+    let before = drop o section in
+    let r = rd_of (word_at section o) in
+    let l_r = rd_of (word_at section (o + 4)) in
+    let pair = pair_at section o m in
+    let small : h.pc < 2 ^ 64 = subst (λ p. p < 2 ^ 64) (sym hx) sx.place in
+    let small' : k.pc < 2 ^ 64 = subst (λ p. p < 2 ^ 64) (sym ky) sy.place in
+    let a = old_code.applied in
+    let ob = old_code.old_bytes in
+    let b = old_code.bytes in
+    let l = old_code.len in
+    let a' = new_code.applied in
+    let l' = new_code.len in
+    let opcode' : field (from_le_bytes w32 jal) 0 7 ≡ 0x6f = omega (arith, there) in
+    let rd' : rd_of (from_le_bytes w32 jal) ≡ l_r = omega (arith, there) in
+    let low : rd_of (low_word x before original a ob b l pair) ≡ r
+    = same_register x before original a ob b l pair in
+    let high : rd_of (high_word x before original a ob b l pair) ≡ l_r
+    = same_link x before original a ob b l pair
+    ∙ ap (λ l. rd_of (from_le_bytes w32 l)) (drop-drop 4 o section) in
+    let link' : rd_of (from_le_bytes w32 new) ≡ l_r
+    = same_destination y jal new a' l' opcode' ∙ rd' in
+    record {
+      end = called x before original a ob b l pair h;
+      new_end = jumped y jal new a' l' opcode' k;
+      runs = pair_runs x before original a ob b l pair h small;
+      new_runs = jump_runs y jal new a' l' opcode' k small';
+      so = record {
+        alike = record {
+          integers = λ q e.
+              let parts = or_parts (q == r) (q == l_r) e in
+              pair_keeps x before original a ob b l pair h q (ap (λ n. q == n) low ∙ parts.0)
+              (ap (λ n. q == n) high ∙ parts.1)
+              ∙ alike.integers q refl
+              ∙ sym (jump_keeps y jal new a' l' opcode' k q (ap (λ n. q == n) link' ∙ parts.1));
+          floats = λ q. ap (λ f. f q) (pair_floats x before original a ob b l pair h)
+              ∙ alike.floats q
+              ∙ ap (λ f. f q) (sym (jump_floats y jal new a' l' opcode' k));
+          memory = λ q. ap (λ f. f q) (pair_memory x before original a ob b l pair h)
+              ∙ alike.memory q
+              ∙ ap (λ f. f q) (sym (jump_memory y jal new a' l' opcode' k));
+        };
+        at_target = pair_target x before original a ob b l pair sx h hx
+            (λ none. some (sym low ∙ none));
+        at_new_target = jump_target y jal new a' l' opcode' sy k ky;
+        link = ap (register (called x before original a ob b l pair h)) (sym high)
+            ∙ pair_links x before original a ob b l pair h (λ none. linked (sym high ∙ none))
+            ∙ ap (λ p. sum_64 p 8) hx;
+        new_link = ap (register (jumped y jal new a' l' opcode' k)) (sym link')
+            ∙ jump_links y jal new a' l' opcode' k (λ none. linked (sym link' ∙ none))
             ∙ ap (λ p. sum_64 p 4) ky;
       };
     }

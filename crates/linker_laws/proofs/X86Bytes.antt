@@ -50,7 +50,7 @@ pub record IsRex (p : ℕ) : Type 0 where
   pub wide : bit_at (x86.rex_r_to_b p) 3 ≡ bit_at p 3
   pub moved : bit_at (x86.rex_r_to_b p) 0 ≡ bit_at p 2
 
-rex_byte : (p : ℕ) → p < 2 ^ 8 → eqb (bit_and p 0xf3) 0x40 ≡ true → IsRex p
+pub rex_byte : (p : ℕ) → p < 2 ^ 8 → eqb (bit_and p 0xf3) 0x40 ≡ true → IsRex p
 rex_byte p small h =
     let all = below 256 (λ p. not (eqb (bit_and p 0xf3) 0x40) || (is_rex p && (is_rex (x86.rex_r_to_b p)
     && (eqb (bit_at (x86.rex_r_to_b p) 3) (bit_at p 3) && eqb (bit_at (x86.rex_r_to_b p) 0) (bit_at p 2)))))
@@ -88,7 +88,7 @@ abbrev rex2_says : ℕ → Bool
 rex2_says p =
     eqb (bit_at p 7) 0 && (eqb (bit_at (x86.rex2_r_to_b p) 7) 0 && rex2_moves p)
 
-rex2_byte : (p : ℕ) → p < 2 ^ 8 → eqb (bit_and p 0xb3) 0 ≡ true → IsRex2 p
+pub rex2_byte : (p : ℕ) → p < 2 ^ 8 → eqb (bit_and p 0xb3) 0 ≡ true → IsRex2 p
 rex2_byte p small h =
     let a = and_parts (eqb (bit_at p 7) 0) (eqb (bit_at (x86.rex2_r_to_b p) 7) 0 && rex2_moves p)
     (implied (eqb (bit_and p 0xb3) 0) (rex2_says p)

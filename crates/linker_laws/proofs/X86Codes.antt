@@ -47,19 +47,19 @@ module _ (section original relaxed rest rest' : List ℕ) (o : ℕ)
             ++ rest')) is,
       )
 
-  pub rex_lea_codes : (p opcode m : ℕ) (d : List ℕ) → 3 ≤ o
+  pub rex_lea_codes : (p opcode m opcode' : ℕ) (d : List ℕ) → 3 ≤ o
       → drop (o - 3) section ≡ p ∷ opcode ∷ m ∷ d
-      → relaxed ≡ take o (rewritten (Some (replaces 2 1 (λ _. 0x8d ∷ []))) section o) ++ rest'
+      → relaxed ≡ take o (rewritten (Some (replaces 2 1 (λ _. opcode' ∷ []))) section o) ++ rest'
       → (drop (o - 3) original ≡ p ∷ opcode ∷ m ∷ rest)
-      × (drop (o - 3) relaxed ≡ p ∷ 0x8d ∷ m ∷ rest')
-  rex_lea_codes p opcode m d room is whole' =
+      × (drop (o - 3) relaxed ≡ p ∷ opcode' ∷ m ∷ rest')
+  rex_lea_codes p opcode m opcode' d room is whole' =
       let long = inside section (p ∷ opcode ∷ m ∷ d) o 3 (omega arith) room is (omega arith) in (
         ap (drop (o - 3)) whole ∙ original_code section rest o 3 3 room long (omega arith)
             ∙ ap (λ d. drop (3 - 3) (take 3 d ++ rest)) is,
         ap (drop (o - 3)) whole'
             ∙ rewritten_code section rest' o 3 3 room long (omega arith)
-            (replaces 2 1 (λ _. 0x8d ∷ [])) o 3 (omega arith) (omega arith)
-            ∙ ap (λ d. drop (3 - 3) (take 3 (take (3 - 2) d ++ (0x8d ∷ []) ++ drop (3 - 2 + 1) d)
+            (replaces 2 1 (λ _. opcode' ∷ [])) o 3 (omega arith) (omega arith)
+            ∙ ap (λ d. drop (3 - 3) (take 3 (take (3 - 2) d ++ (opcode' ∷ []) ++ drop (3 - 2 + 1) d)
             ++ rest')) is,
       )
 
@@ -118,20 +118,20 @@ module _ (section original relaxed rest rest' : List ℕ) (o : ℕ)
       )
 
   -- the same after REX2
-  pub rex2_lea_codes : (p opcode m : ℕ) (d : List ℕ) → 4 ≤ o
+  pub rex2_lea_codes : (p opcode m opcode' : ℕ) (d : List ℕ) → 4 ≤ o
       → drop (o - 4) section ≡ 0xd5 ∷ p ∷ opcode ∷ m ∷ d
-      → relaxed ≡ take o (rewritten (Some (replaces 2 1 (λ _. 0x8d ∷ []))) section o) ++ rest'
+      → relaxed ≡ take o (rewritten (Some (replaces 2 1 (λ _. opcode' ∷ []))) section o) ++ rest'
       → (drop (o - 4) original ≡ 0xd5 ∷ p ∷ opcode ∷ m ∷ rest)
-      × (drop (o - 4) relaxed ≡ 0xd5 ∷ p ∷ 0x8d ∷ m ∷ rest')
-  rex2_lea_codes p opcode m d room is whole' =
+      × (drop (o - 4) relaxed ≡ 0xd5 ∷ p ∷ opcode' ∷ m ∷ rest')
+  rex2_lea_codes p opcode m opcode' d room is whole' =
       let long = inside section (0xd5 ∷ p ∷ opcode ∷ m ∷ d) o 4 (omega arith) room is
       (omega arith) in (
         ap (drop (o - 4)) whole ∙ original_code section rest o 4 4 room long (omega arith)
             ∙ ap (λ d. drop (4 - 4) (take 4 d ++ rest)) is,
         ap (drop (o - 4)) whole'
             ∙ rewritten_code section rest' o 4 4 room long (omega arith)
-            (replaces 2 1 (λ _. 0x8d ∷ [])) o 4 (omega arith) (omega arith)
-            ∙ ap (λ d. drop (4 - 4) (take 4 (take (4 - 2) d ++ (0x8d ∷ []) ++ drop (4 - 2 + 1) d)
+            (replaces 2 1 (λ _. opcode' ∷ [])) o 4 (omega arith) (omega arith)
+            ∙ ap (λ d. drop (4 - 4) (take 4 (take (4 - 2) d ++ (opcode' ∷ []) ++ drop (4 - 2 + 1) d)
             ++ rest')) is,
       )
 

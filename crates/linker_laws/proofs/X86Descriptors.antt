@@ -1,6 +1,7 @@
 -- Descriptors of TLS, and offsets from the thread pointer.
 use Rattle.std.proofs.Common.{◌≡◌, ℕ, ◌+◌, ◌-◌, ◌%◌, ◌^◌, ◌<◌, ◌≤◌, List, [], ◌∷◌, ◌++◌, take, drop}
-use Rattle.std.proofs.Common.{sym, Bool}
+use Rattle.std.proofs.Common.{sym}
+use Rattle.std.specs.Prelude.{not, ◌&&◌}
 use Rattle.std.proofs.Common.{◌∙◌, ap, arith, subst, refl, pos, eqb, inl, inr, IsSomeAnd}
 use Rattle.std.proofs.Common.{append_assoc, length-take, length, min}
 use Rattle.std.specs.Int.{w64, cast_unsigned}
@@ -23,7 +24,7 @@ use Rattle.linker_laws.specs.X86Machine.{State, load, extended, with_register, e
 use Rattle.linker_laws.specs.X86Machine.{nop, operate, MOV, register, relative, immediate}
 use Rattle.linker_laws.specs.X86ThreadLaws.{DescriptorToLocalExec, DescriptorToInitialExec}
 use Rattle.linker_laws.specs.X86ThreadLaws.{IsDescriptorCall, AgreeInRegisters, lea_rax}
-use Rattle.linker_laws.specs.X86ThreadLaws.{WritesNothing}
+use Rattle.linker_laws.specs.X86ThreadLaws.{WritesNothing, Changes}
 use Rattle.linker_laws.specs.X86ThreadLaws.{rex2_lea_rax}
 use Rattle.linker_laws.proofs.X86Codes.{inside, pattern_there}
 use Rattle.linker_laws.proofs.X86Fields.{descriptor_field, descriptor_row, thread_field}
@@ -33,7 +34,7 @@ use Rattle.linker_laws.proofs.X86Loads.{from_next, at_place, same_place}
 use Rattle.linker_laws.proofs.X86Sections.{original_code, rewritten_code}
 use Rattle.linker_laws.proofs.X86Threads.{begin_with, itself}
 
-abbrev Agree : List ℕ → List ℕ → List ℕ → State → (ℕ → Bool) → (ℕ → ℕ) → Type 0
+abbrev Agree : List ℕ → List ℕ → List ℕ → State → Changes → (ℕ → ℕ) → Type 0
 Agree a b c s changed returned =
     IsSomeAnd (step a s) (λ before.
     IsSomeAnd (step b s) (λ middle.
@@ -42,7 +43,7 @@ Agree a b c s changed returned =
     × ((t : State) → IsDescriptorCall 2 changed returned before t → AgreeInRegisters changed t after))))
 
 -- `middle` is the state after the `mov`
-agree : (s t middle : State) (changed : ℕ → Bool) (returned : ℕ → ℕ) (next entry f value : ℕ) → entry < 2 ^ 64
+agree : (s t middle : State) (changed : Changes) (returned : ℕ → ℕ) (next entry f value : ℕ) → entry < 2 ^ 64
     → sum_64 next (extended f) ≡ entry → returned entry ≡ value
     → middle.ip ≡ next
     → ((r : ℕ) → middle.register r ≡ with_register 0 value s.register r)
@@ -52,22 +53,22 @@ agree : (s t middle : State) (changed : ℕ → Bool) (returned : ℕ → ℕ) (
 agree s t middle changed returned next entry f value small argument returns ip registers memory called =
     record {
       ip = called.ip ∙ ap (λ i. sum_64 i 2) (sym ip);
-      registers = λ r. elim (cases_Bool (eqb r 0)) [
+      registers = λ r stays. elim (cases_Bool (eqb r 0)) [
         | inl same ↦
             ap t.register (eqb-true r 0 same) ∙ called.result
             ∙ ap returned (ap (λ a. a % 2 ^ 64) argument ∙ itself entry small) ∙ returns
             ∙ sym (registers r ∙ cond-true (eqb r 0) value (s.register r) same)
         | inr other ↦
-            called.kept r other
+            called.kept r other (sym (ap (λ b. not b && changed.registers r) other) ∙ stays)
             ∙ cond-false (eqb r 0) (sum_64 next (extended f) % 2 ^ 64) (s.register r) other
             ∙ sym (registers r ∙ cond-false (eqb r 0) value (s.register r) other)
       ];
       memory = λ a above other.
-          called.memory a (subst (λ top. top ≤ a) (called.kept 4 refl) above) other ∙ sym (memory a);
+          called.memory a (subst (λ top. top ≤ a) called.stack above) other ∙ sym (memory a);
     }
 
 -- what is left of the call
-nop_code : (calls : List ℕ) (at : ℕ) → x86_64_matches kinds.SkipTlsDescCall calls at
+pub nop_code : (calls : List ℕ) (at : ℕ) → x86_64_matches kinds.SkipTlsDescCall calls at
     → drop at (rewritten (x86_64_rewrite kinds.SkipTlsDescCall) calls at)
     ≡ 0x66 ∷ 0x90 ∷ drop (at + 2) calls
 nop_code calls at matches =
@@ -78,7 +79,7 @@ nop_code calls at matches =
     ∙ drop_at (take at calls) (0x66 ∷ 0x90 ∷ drop (at + 2) calls) at
     (length-take at calls ∙ (let e : min at (length calls) ≡ at = omega arith in e))
 
-by_codes : (a b c a' b' c' : List ℕ) (s : State) (changed : ℕ → Bool) (returned : ℕ → ℕ) → a ≡ a' → b ≡ b' → c ≡ c'
+by_codes : (a b c a' b' c' : List ℕ) (s : State) (changed : Changes) (returned : ℕ → ℕ) → a ≡ a' → b ≡ b' → c ≡ c'
     → Agree a' b' c' s changed returned → Agree a b c s changed returned
 by_codes a b c a' b' c' s changed returned e f g h =
     subst (λ x. Agree x b c s changed returned) (sym e)
@@ -87,7 +88,7 @@ by_codes a b c a' b' c' s changed returned e f g h =
 
 module _ (n : ℕ) (few : n < 8) (section : List ℕ) (o : ℕ) (operands : Operands) (s : State)
     (before : IsBefore n section o operands s) where
-  argument : (bytes rest : List ℕ) → IsApplied descriptor_row operands bytes rest
+  pub argument : (bytes rest : List ℕ) → IsApplied descriptor_row operands bytes rest
       → sum_64 (sum_64 s.ip (n + 4)) (extended (number_of_bytes 4 rest)) ≡ operands.got_entry
   argument bytes rest applied =
       from_next n s.ip operands.place (extended (number_of_bytes 4 rest)) operands.got_entry
@@ -96,7 +97,7 @@ module _ (n : ℕ) (few : n < 8) (section : List ℕ) (o : ℕ) (operands : Oper
       ∙ ap (λ a. sum_64 operands.got_entry (cast_unsigned w64 a)) before.addend)
 
   -- the immediate of local-exec
-  offset : (bytes rest : List ℕ)
+  pub offset : (bytes rest : List ℕ)
       → IsApplied thread_row (absolute_operands o operands) bytes rest
       → extended (number_of_bytes 4 rest) % 2 ^ 64 ≡ thread_offset operands
   offset bytes rest applied =
@@ -109,7 +110,7 @@ module _ (n : ℕ) (few : n < 8) (section : List ℕ) (o : ℕ) (operands : Oper
       ∙ sum_zero operands.symbol before.addresses.symbol)
 
   -- the entry that initial-exec loads
-  other_entry : (entry : ℕ) → entry < 2 ^ 64 → (bytes rest : List ℕ)
+  pub other_entry : (entry : ℕ) → entry < 2 ^ 64 → (bytes rest : List ℕ)
       → IsApplied tls_got_row
       (record operands { place = difference_64 (sum_64 operands.place o) o; got_entry = entry })
       bytes rest

@@ -130,7 +130,7 @@ with_rex_prefix section old new o operands s before there matches held was is =
     let code = after_rex 0x8b d (All-drop (λ b. b < 2 ^ 8) (o - 3) section before.bytes) shape.1 in
     let p = code.prefix in
     let m = code.after.modrm in
-    let codes = rex_lea_codes section old new was.rest is.rest o was.whole p 0x8b m code.after.rest
+    let codes = rex_lea_codes section old new was.rest is.rest o was.whole p 0x8b m 0x8d code.after.rest
     shape.0 (code.is ∙ ap (λ xs. p ∷ xs) code.after.is) is.whole in
     both 3 (omega arith) section o operands s before held (drop (o - 3) old) (drop (o - 3) new)
     was.rest is.rest (rex_prefix p).bits (reg_of m + (rex_prefix p).reg) (rex_size p) was.applied
@@ -152,7 +152,7 @@ with_rex2_prefix section old new o operands s before there matches held was is =
     let code = after_rex2 0x8b d (All-drop (λ b. b < 2 ^ 8) (o - 4) section before.bytes) shape.1 in
     let p = code.prefix in
     let m = code.after.modrm in
-    let codes = rex2_lea_codes section old new was.rest is.rest o was.whole p 0x8b m
+    let codes = rex2_lea_codes section old new was.rest is.rest o was.whole p 0x8b m 0x8d
     code.after.rest shape.0 (code.is ∙ ap (λ xs. 0xd5 ∷ p ∷ xs) code.after.is) is.whole in
     both 4 (omega arith) section o operands s before held (drop (o - 4) old) (drop (o - 4) new)
     was.rest is.rest (rex2_prefix p).bits (reg_of m + (rex2_prefix p).reg) (rex2_size p)

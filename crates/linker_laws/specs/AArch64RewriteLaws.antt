@@ -185,15 +185,20 @@ AddressToAdr =
 -- ---- `adr` in place of one instruction
 
 -- The `adrp` of such a pair becomes the `adr`, and the `add` becomes `nop`.
-abbrev pub AdrpMadeAdr : Type 0
-AdrpMadeAdr =
+abbrev pub PairToAdrAndNop : AArch64Relocation → Type 0
+PairToAdrAndNop of_page =
     (o : Operands) (s : State) (adrp add made nop : List ℕ) → IsPair IsAdd64 o s adrp add
     → IsRewritten AdrpToAdr adrp made → IsRewritten ReplaceWithNop add nop
     → (adrp_of_symbol add_of_symbol adr_of_symbol : List ℕ)
-    → IsRelocated names.R_AARCH64_ADR_PREL_PG_HI21 o adrp adrp_of_symbol
+    → IsRelocated of_page o adrp adrp_of_symbol
     → IsRelocated names.R_AARCH64_ADD_ABS_LO12_NC (behind 4 o) add add_of_symbol
     → IsRelocated names.R_AARCH64_ADR_PREL_LO21 o made adr_of_symbol
     → RunAlike (pair adrp_of_symbol add_of_symbol) (pair adr_of_symbol nop) s
+
+abbrev pub AdrpMadeAdr : Type 0
+AdrpMadeAdr =
+    PairToAdrAndNop names.R_AARCH64_ADR_PREL_PG_HI21
+    × PairToAdrAndNop names.R_AARCH64_ADR_PREL_PG_HI21_NC
 
 -- `adrp xN`, and an instruction with P from xN, which are executed next
 pub record IsOnPage (P : ℕ → Type 0) (o : Operands) (s : State) (adrp second : List ℕ) : Type 0
@@ -206,16 +211,20 @@ pub record IsOnPage (P : ℕ → Type 0) (o : Operands) (s : State) (adrp second
     pub second_is : P (word_of second)
 
 -- `add xD, xN`: the `adrp` stays.
-abbrev pub AddMadeAdr : Type 0
-AddMadeAdr =
+abbrev pub SumToAdr : AArch64Relocation → Type 0
+SumToAdr of_page =
     (o : Operands) (s : State) (adrp add made : List ℕ)
     → IsOnPage (λ word. IsAdd64 word × (rd_of word ≢ 31)) o s adrp add
     → IsRewritten AddToAdr add made
     → (adrp_of_symbol add_of_symbol adr_of_symbol : List ℕ)
-    → IsRelocated names.R_AARCH64_ADR_PREL_PG_HI21 o adrp adrp_of_symbol
+    → IsRelocated of_page o adrp adrp_of_symbol
     → IsRelocated names.R_AARCH64_ADD_ABS_LO12_NC (behind 4 o) add add_of_symbol
     → IsRelocated names.R_AARCH64_ADR_PREL_LO21 (behind 4 o) made adr_of_symbol
     → RunAlike (pair adrp_of_symbol add_of_symbol) (pair adrp_of_symbol adr_of_symbol) s
+
+abbrev pub AddMadeAdr : Type 0
+AddMadeAdr =
+    SumToAdr names.R_AARCH64_ADR_PREL_PG_HI21 × SumToAdr names.R_AARCH64_ADR_PREL_PG_HI21_NC
 
 -- `ldr xD, [xN]` of the GOT entry, which holds the address of the symbol: the `adrp` stays.
 abbrev pub LdrMadeAdr : Type 0
@@ -332,3 +341,19 @@ abbrev pub WeakBranches : Type 0
 WeakBranches =
     BranchToNop names.R_AARCH64_JUMP26 is_b (λ _. false)
     × BranchToNop names.R_AARCH64_CALL26 is_bl (λ n. n == 30)
+
+-- ---- the laws
+
+-- what `rewrites` ensures
+pub record Laws : Type 0 where
+  pub got : GotToAddress
+  pub high_half : HighHalfToMovz
+  pub low_half : LowHalfToMovk
+  pub address : AddressToAdr
+  pub descriptor_to_local_exec : DescriptorToLocalExec
+  pub descriptor_to_initial_exec : DescriptorToInitialExec
+  pub weak : WeakBranches
+  pub adrp_made_adr : AdrpMadeAdr
+  pub add_made_adr : AddMadeAdr
+  pub ldr_made_adr : LdrMadeAdr
+  pub sections : InSections

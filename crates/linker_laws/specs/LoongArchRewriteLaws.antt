@@ -327,6 +327,55 @@ pub record HaveShortened (differing : ℕ → Bool) (at new_at : ℕ) (s t : Sta
   pub next : s.pc ≡ at
   pub new_next : t.pc ≡ new_at
 
+-- The three are also rewritten each by itself, wherever they are. So two runs are compared, of the
+-- object's code and of the new code, that are alike but for some registers, each at its own address.
+-- What else runs between them is the same instruction in both. The number of a register that differs
+-- is known in the object's run, and is any in the new one.
+
+-- The object's run has put a number in a register, and is behind its instruction. The other state is
+-- that of the new run, in which the instruction is deleted.
+pub record HasPut (differing : ℕ → Bool) (n number behind : ℕ) (u t : State) : Type 0 where
+  pub alike : AreAlikeBut (also n differing) u t
+  pub number_there : n ≢ 0 → read n u ≡ number
+  pub next : u.pc ≡ behind
+
+-- `lu12i.w rd`, which would put 0 in its register
+abbrev pub OffsetLu12iIsDeleted : Type 0
+OffsetLu12iIsDeleted =
+    (o : Operands) (s t : State) (differing : ℕ → Bool) (lu12i : List ℕ)
+    → AreAddresses o → IsLu12i (word_of lu12i) → AreAlikeBut differing s t
+    → RowIsWithin (loongarch_row names.R_LARCH_TLS_LE_LO12_R) signed_12 o → (lu12i_of : List ℕ)
+    → IsRelocated names.R_LARCH_TLS_LE_HI20_R o lu12i lu12i_of
+    → IsSomeAnd (step (word_of lu12i_of) s)
+    (λ u. HasPut differing (rd_of (word_of lu12i)) 0 (sum_64 s.pc 4) u t)
+
+-- `add.d rd, rj, tp`, where rj has what a deleted `lu12i.w` left, 0
+abbrev pub SumIsDeleted : Type 0
+SumIsDeleted =
+    (s t : State) (differing : ℕ → Bool) (add : List ℕ) → IsAddTp (word_of add)
+    → AreAlikeBut differing s t → differing tp ≡ false → read tp t < 2 ^ 64
+    → read (rj_of (word_of add)) s ≡ 0
+    → IsSomeAnd (step (word_of add) s)
+    (λ u. HasPut differing (rd_of (word_of add)) (read tp t) (sum_64 s.pc 4) u t)
+
+-- An instruction that adds a low half, over a register that has the thread pointer's number in the
+-- object's run. Over `tp` it does the same, whatever is in the registers that differ.
+abbrev pub LowPartFromThreadPointer : Type 0
+LowPartFromThreadPointer =
+    (x y : Operands) (s t : State) (differing : ℕ → Bool) (low base : List ℕ)
+    → IsTrue (adds_low12 (word_of low / 2 ^ 22)) → AreAlikeBut differing s t
+    → read (rj_of (word_of low)) s ≡ read tp t
+    → StoresTheSame (action_of (word_of low / 2 ^ 22)) differing (rd_of (word_of low))
+    → thread_offset x ≡ thread_offset y
+    → RowIsWithin (loongarch_row names.R_LARCH_TLS_LE_LO12_R) signed_12 y
+    → IsRewritten kinds.BaseToTp low base → (low_of base_of : List ℕ)
+    → IsRelocated names.R_LARCH_TLS_LE_LO12_R x low low_of
+    → IsRelocated names.R_LARCH_TLS_LE_LO12_R y base base_of
+    → StepSo (word_of low_of) s (word_of base_of) t
+    (HaveShortened
+    (but_written differing (action_of (word_of low / 2 ^ 22)) (rd_of (word_of low)))
+    (sum_64 s.pc 4) (sum_64 t.pc 4))
+
 -- The low half over `tp`, once the `lu12i.w` and the `add.d` are deleted. Only rA and rB may
 -- differ, unless the instruction writes them.
 abbrev pub ShorterLocalExec : Type 0
@@ -451,3 +500,27 @@ CallOfDescriptorToNop =
     → IsRewritten kinds.ReplaceWithNop jirl nop
     → IsSomeAnd (step (word_of jirl) s) (λ u.
     (v : State) → call u ≡ Some v → IsSomeAnd (step (word_of nop) t) (AgreeBut (behind_call c d) v))
+
+-- ---- the laws
+
+-- what `rewrites` ensures
+pub record Laws : Type 0 where
+  pub got : GotToAddress
+  pub high_half : HighHalfToLu12i names.R_LARCH_TLS_IE_PC_HI20
+  pub low_half : LowHalfToOri
+  pub short_high_half : HighHalfToNop
+  pub short_low_half : LowHalfToOriZero
+  pub address : AddressToPcaddi
+  pub near_got : GotToPcaddi
+  pub near_entries : EntriesToPcaddi
+  pub calls : Calls
+  pub shorter_local_exec : ShorterLocalExec
+  pub high_offset : OffsetLu12iIsDeleted
+  pub sum : SumIsDeleted
+  pub low_offset : LowPartFromThreadPointer
+  pub descriptor_high_half : HighHalfToLu12i names.R_LARCH_TLS_DESC_PC_HI20
+  pub descriptor_page : PageOfDescriptor
+  pub descriptor_low_half : LowOfDescriptorToOri
+  pub descriptor_entry : LowOfDescriptorToLoad
+  pub descriptor_load : LoadOfDescriptorToNop
+  pub descriptor_call : CallOfDescriptorToNop

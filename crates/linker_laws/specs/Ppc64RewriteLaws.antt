@@ -2,10 +2,11 @@
 -- Optimizations" and "TLS Linkage Optimizations").
 use Rattle.std.specs.Prelude.{◌≡◌, ◌≢◌, ◌<◌, ◌∷◌, [], ℕ, Bool, false, ◌==◌, ◌&&◌, ◌||◌, not, List}
 use Rattle.std.specs.Prelude.{take, IsTrue, IsSomeAnd, drop, Option, Some, ◌^◌, if◌then◌else◌}
+use Rattle.std.specs.Prelude.{zero, suc, ⊤}
 use Rattle.std.specs.Int.{w32, w64, from_le_bytes}
 use Rattle.linker_ppc64.specs.Ppc64Rewrites.{is_addis_of_toc, is_ld, is_add_of_thread, is_call}
 use Rattle.linker_ppc64.specs.Ppc64Rewrites.{is_indexed, is_store, is_d_access, is_addi}
-use Rattle.linker_ppc64.specs.Ppc64Rewrites.{is_ds_access, is_indexed_word, is_pld}
+use Rattle.linker_ppc64.specs.Ppc64Rewrites.{is_ds_access, is_indexed_word, is_pld, is_addis_over}
 use Rattle.linker_ppc64.specs.Ppc64Rewrites.{is_vector_access, is_addis_of_entry, is_addi_of_toc}
 use Rattle.linker_elf.specs.Ppc64Relocations.{ppc64_row}
 use Rattle.linker_elf.specs.Relocate.{ppc64_reads}
@@ -13,6 +14,7 @@ use Rattle.linker_ppc64.specs.Ppc64Rewrites.{ppc64_rewrite, opcode_of, rt_of, ra
 use Rattle.linker_base.specs.Bits.{field}
 use Rattle.linker_elf.specs.Value.{sum_64, difference_64}
 use Rattle.linker_elf.specs.declared.elf.value.Operands.{Operands}
+use Rattle.linker_elf.specs.declared.ppc64.forms.Ppc64Instruction.{Ppc64Instruction}
 use Rattle.linker_elf.specs.declared.ppc64.forms.Ppc64Instruction.TheVariants.{D, Ds}
 use Rattle.linker_elf.specs.declared.ppc64.relocations.Ppc64Relocation.{Ppc64Relocation}
 use Rattle.linker_elf.specs.declared.ppc64.relocations.Ppc64Relocation.TheVariants as names
@@ -20,11 +22,13 @@ use Rattle.linker_ppc64.specs.declared.rewrites.RelaxationKind.{RelaxationKind}
 use Rattle.linker_ppc64.specs.declared.rewrites.RelaxationKind.TheVariants as kinds
 use Rattle.linker_elf.specs.Applied.{IsApplied}
 use Rattle.linker_laws.specs.Schemes.{AreAddresses, symbol_address}
-use Rattle.linker_laws.specs.Machine.{loaded, moved}
+use Rattle.linker_laws.specs.Machine.{loaded, moved, also, but}
 use Rattle.linker_laws.specs.Ppc64Machine.{State, Formats, base, step, run, RunAlikeBut}
 use Rattle.linker_laws.specs.Ppc64Machine.{step_prefixed, AreAlikeBut}
 use Rattle.linker_laws.specs.Ppc64Machine.{write, go_on, gone_on, but_loaded, access_with, Access}
 use Rattle.linker_laws.specs.Ppc64Machine.{loads, loads_signed, stores, word_access_with}
+use Rattle.linker_laws.specs.Ppc64Machine.{loads_single, loads_double, stores_single, stores_double}
+use Rattle.linker_laws.specs.Ppc64Machine.{no_access}
 
 -- ---- instructions as bytes
 
@@ -393,15 +397,18 @@ pub record IsOverToc (test : ℕ → Bool) (o : Operands) (s : State) (insn : Li
   pub insn_is : IsTrue (test (word_of insn))
   pub base : ra_of (word_of insn) ≡ 2
 
+-- Instructions with the low half of an address lead from a number to a target, wherever they are.
+abbrev pub Leads : Ppc64Relocation → Ppc64Instruction → Operands → ℕ → ℕ → Type 0
+Leads low form o number target =
+    (there : ℕ) (insn over : List ℕ) → IsRelocated low (at_place there o) insn over
+    → moved number (ppc64_reads form (word_of over)) ≡ target
+
 -- The low half of a variable's address from a number in a register: in `addi`, `lwz` and so on, and in
 -- `ld`, `std` and `lwa`.
 abbrev pub LowHalfLeads : Operands → ℕ → ℕ → Type 0
 LowHalfLeads o number target =
-    (there : ℕ) (insn over : List ℕ)
-    → (IsRelocated names.R_PPC64_TPREL16_LO (at_place there o) insn over
-    → moved number (ppc64_reads D (word_of over)) ≡ target)
-    × (IsRelocated names.R_PPC64_TPREL16_LO_DS (at_place there o) insn over
-    → moved number (ppc64_reads Ds (word_of over)) ≡ target)
+    Leads names.R_PPC64_TPREL16_LO D o number target
+    × Leads names.R_PPC64_TPREL16_LO_DS Ds o number target
 
 -- `ld rT,x(2)` of the GOT entry leaves the offset of the variable in rT. After `addis rT,13` the low
 -- half leads to what the sum of that offset and of the thread pointer is.
@@ -500,6 +507,362 @@ ArgumentToModule =
     → Leaves f (only (rt_of (word_of addi))) (one addis_13) s (rt_of (word_of addi))
     (λ n. CallLeaves f (two made (drop 4 made)) n (sum_64 (s.registers 13) 0x1000))
 
+-- ---- instructions that stand apart, each in two runs
+
+-- The instructions below are rewritten each by itself, wherever they are. So two runs are compared, of
+-- the object's code and of the new code, that agree but for what has a value that one of these
+-- instructions made. What else runs between them is the same instruction in both.
+
+-- with register n too, and without it
+abbrev pub with_register : ℕ → Changes → Changes
+with_register n c = record c { registers = also n c.registers }
+
+abbrev pub without_register : ℕ → Changes → Changes
+without_register n c = record c { registers = but n c.registers }
+
+-- Each run executes an instruction that leaves its link register, and P holds then.
+abbrev pub StepSo : Formats → ℕ → State → ℕ → State → (State → State → Type 0) → Type 0
+StepSo f x s y t P =
+    IsSomeAnd (step f x s) (λ u. IsSomeAnd (step f y t) (λ v.
+    (u.link ≡ s.link) × (v.link ≡ t.link) × P u v))
+
+-- S + A, by its distance from what the formula subtracts, where a register has the number of that:
+-- register 2 has the TOC pointer, and register 13 the thread pointer
+abbrev pub from_toc : Operands → ℕ → ℕ
+from_toc o toc = sum_64 (difference_64 (symbol_address o) o.got_base) toc
+
+abbrev pub from_thread : Operands → ℕ → ℕ
+from_thread o thread = sum_64 (thread_offset o) thread
+
+-- the address of the GOT entry
+abbrev pub entry_from_toc : Operands → ℕ → ℕ
+entry_from_toc o toc = sum_64 (difference_64 o.got_entry o.got_base) toc
+
+-- `addis rX` over a register becomes `nop`. In the object's run rX then has a number from which the low
+-- halves lead to the address.
+abbrev pub ToNop : ℕ → RelaxationKind → Ppc64Relocation → (Operands → ℕ → ℕ)
+    → (Operands → ℕ → ℕ → Type 0) → Type 0
+ToNop register kind high address LowHalvesLead =
+    (f : Formats) (o : Operands) (s t : State) (c : Changes) (addis blank : List ℕ)
+    → AreAddresses o → AgreeBut c s t → IsTrue (is_addis_over register (word_of addis))
+    → IsRewritten kind addis blank
+    → (addis_of : List ℕ) → IsRelocated high o addis addis_of
+    → let x = rt_of (word_of addis) in
+    StepSo f (word_of addis_of) s (word_of blank) t
+    (λ u v. AgreeBut (with_register x c) u v
+    × LowHalvesLead o (u.registers x) (address o (s.registers register)))
+
+-- near the TOC pointer and the thread pointer, and of the GOT entries of initial-exec, general-dynamic
+-- and local-dynamic
+abbrev pub HighHalfToNop : Type 0
+HighHalfToNop =
+    ToNop 2 kinds.AddisToNop names.R_PPC64_TOC16_HA from_toc
+    (λ o n a. Leads names.R_PPC64_TOC16_LO D o n a × Leads names.R_PPC64_TOC16_LO_DS Ds o n a)
+    × ToNop 13 kinds.AddisThreadToNop names.R_PPC64_TPREL16_HA from_thread LowHalfLeads
+    × ToNop 2 kinds.AddisToNop names.R_PPC64_GOT_TPREL16_HA entry_from_toc
+    (Leads names.R_PPC64_GOT_TPREL16_LO_DS Ds)
+    × ToNop 2 kinds.AddisToNop names.R_PPC64_GOT_TLSGD16_HA entry_from_toc
+    (Leads names.R_PPC64_GOT_TLSGD16_LO D)
+    × ToNop 2 kinds.AddisToNop names.R_PPC64_GOT_TLSLD16_HA entry_from_toc
+    (Leads names.R_PPC64_GOT_TLSLD16_LO D)
+
+-- `addis rX,2` of the GOT entry of general-dynamic, and of that of initial-exec
+abbrev pub HighHalfOfEntry : Type 0
+HighHalfOfEntry =
+    (f : Formats) (o : Operands) (s t : State) (c : Changes) (addis : List ℕ) → AreAddresses o
+    → AgreeBut c s t → IsTrue (is_addis_of_toc (word_of addis)) → (entry : ℕ) → entry < 2 ^ 64
+    → (addis_of_call addis_of_entry : List ℕ)
+    → IsRelocated names.R_PPC64_GOT_TLSGD16_HA o addis addis_of_call
+    → IsRelocated names.R_PPC64_GOT_TPREL16_HA (with_entry entry o) addis addis_of_entry
+    → let x = rt_of (word_of addis) in
+    StepSo f (word_of addis_of_call) s (word_of addis_of_entry) t
+    (λ u v. AgreeBut (with_register x c) u v
+    × Leads names.R_PPC64_GOT_TLSGD16_LO D o (u.registers x) (entry_from_toc o (s.registers 2))
+    × Leads names.R_PPC64_GOT_TPREL16_LO_DS Ds (with_entry entry o) (v.registers x)
+    (entry_from_toc (with_entry entry o) (t.registers 2)))
+
+-- `addis rX,2` of the GOT entry of a symbol's address, and of the symbol itself
+abbrev pub HighHalfOfSymbol : Type 0
+HighHalfOfSymbol =
+    (f : Formats) (o : Operands) (s t : State) (c : Changes) (addis : List ℕ) → AreAddresses o
+    → AgreeBut c s t → IsTrue (is_addis_of_toc (word_of addis))
+    → (addis_of_entry addis_of_symbol : List ℕ)
+    → IsRelocated names.R_PPC64_GOT16_HA o addis addis_of_entry
+    → IsRelocated names.R_PPC64_TOC16_HA o addis addis_of_symbol
+    → let x = rt_of (word_of addis) in
+    StepSo f (word_of addis_of_entry) s (word_of addis_of_symbol) t
+    (λ u v. AgreeBut (with_register x c) u v
+    × Leads names.R_PPC64_GOT16_LO_DS Ds o (u.registers x) (entry_from_toc o (s.registers 2))
+    × Leads names.R_PPC64_TOC16_LO D o (v.registers x) (from_toc o (t.registers 2)))
+
+-- `ld rY` of the entry, which holds the address, and `addi rY`
+abbrev pub LoadToSum : Type 0
+LoadToSum =
+    (f : Formats) (o : Operands) (s t : State) (c : Changes) (ld addi : List ℕ) → AgreeBut c s t
+    → IsTrue (is_ld (word_of ld)) → IsRewritten kinds.LdToAddi ld addi
+    → (entry address : ℕ)
+    → Leads names.R_PPC64_GOT16_LO_DS Ds o (s.registers (ra_of (word_of ld))) entry
+    → loaded 8 s.memory entry ≡ address
+    → Leads names.R_PPC64_TOC16_LO D o (t.registers (ra_of (word_of ld))) address
+    → (at : ℕ) (ld_of_entry addi_of_symbol : List ℕ)
+    → IsRelocated names.R_PPC64_GOT16_LO_DS (at_place at o) ld ld_of_entry
+    → IsRelocated names.R_PPC64_TOC16_LO (at_place at o) addi addi_of_symbol
+    → StepSo f (word_of ld_of_entry) s (word_of addi_of_symbol) t
+    (AgreeBut (without_register (rt_of (word_of ld)) c))
+
+-- ---- what an instruction does with an address
+
+-- bytes from an address on that don't differ
+abbrev pub AreSame : ℕ → (ℕ → Bool) → ℕ → Type 0
+AreSame zero differing address = ⊤
+AreSame (suc n) differing address =
+    (differing address ≡ false) × AreSame n differing (sum_64 address 1)
+
+-- What an access of register r reads is the same in both runs: the bytes that it loads, or the register
+-- that it stores.
+abbrev pub ReadsSame : Changes → Access → ℕ → ℕ → Type 0
+ReadsSame c (loads n) r address = AreSame n c.memory address
+ReadsSame c (loads_signed n) r address = AreSame n c.memory address
+ReadsSame c (stores n) r address = c.registers r ≡ false
+ReadsSame c loads_single r address = AreSame 4 c.memory address
+ReadsSame c loads_double r address = AreSame 8 c.memory address
+ReadsSame c stores_single r address = c.floats r ≡ false
+ReadsSame c stores_double r address = c.floats r ≡ false
+ReadsSame c no_access r address = ⊤
+
+-- what may differ after it
+abbrev pub after_access : Changes → Access → ℕ → Changes
+after_access c (loads n) r = without_register r c
+after_access c (loads_signed n) r = without_register r c
+after_access c loads_single r = record c { floats = but r c.floats }
+after_access c loads_double r = record c { floats = but r c.floats }
+after_access c a r = c
+
+-- Instructions: the test of their words, what they require of an address, and what may differ after them.
+pub record Use : Type 1 where
+  pub test : ℕ → Bool
+  pub Requires : Changes → ℕ → ℕ → Type 0
+  pub after : Changes → ℕ → Changes
+
+-- those that put it in rT, and those that access it
+abbrev pub adds : (ℕ → Bool) → Use
+adds test =
+    record {
+      test = test;
+      Requires = λ c word address. ⊤;
+      after = λ c word. without_register (rt_of word) c;
+    }
+
+abbrev pub accesses : (ℕ → Bool) → (ℕ → Access) → Use
+accesses test access =
+    record {
+      test = test;
+      Requires = λ c word address. ReadsSame c (access word) (rt_of word) address;
+      after = λ c word. after_access c (access word) (rt_of word);
+    }
+
+-- ---- low halves over the TOC pointer and the thread pointer
+
+-- An instruction over a register that has what a high half made, and the same over the base register,
+-- with the whole distance.
+abbrev pub OverBase : ℕ → RelaxationKind → Ppc64Relocation → Ppc64Relocation → Ppc64Instruction
+    → (Operands → ℕ → ℕ) → Use → Type 0
+OverBase register kind low whole form address does =
+    (f : Formats) (o : Operands) (s t : State) (c : Changes) (insn over : List ℕ) → AreAddresses o
+    → AgreeBut c s t → IsTrue (does.test (word_of insn)) → IsRewritten kind insn over
+    → let target = address o (t.registers register) in
+    Leads low form o (s.registers (ra_of (word_of insn))) target
+    → does.Requires c (word_of insn) target
+    → (at : ℕ) (insn_of over_of : List ℕ) → IsRelocated low (at_place at o) insn insn_of
+    → IsRelocated whole o over over_of
+    → StepSo f (word_of insn_of) s (word_of over_of) t (AgreeBut (does.after c (word_of insn)))
+
+-- `lq` and accesses of vector registers, of which the machine has none: of one address
+abbrev pub VectorOverBase : ℕ → RelaxationKind → Ppc64Relocation → Ppc64Relocation
+    → (Operands → ℕ → ℕ) → Type 0
+VectorOverBase register kind low whole address =
+    (o : Operands) (s t : State) (insn over : List ℕ) → AreAddresses o
+    → IsTrue (is_vector_over_base (word_of insn)) → IsRewritten kind insn over
+    → let target = address o (t.registers register) in
+    Leads low Ds o (s.registers (ra_of (word_of insn))) target
+    → (at : ℕ) (insn_of over_of : List ℕ) → IsRelocated low (at_place at o) insn insn_of
+    → IsRelocated whole o over over_of
+    → (address_read (word_of insn_of) s ≡ address_read (word_of over_of) t)
+    × HaveSameAccess (word_of insn_of) (word_of over_of)
+
+abbrev pub is_d_over : Use
+is_d_over = accesses is_d_over_base (λ word. access_with (access_number word))
+
+abbrev pub LowHalfOverBase : Type 0
+LowHalfOverBase =
+    OverBase 2 kinds.BaseToToc names.R_PPC64_TOC16_LO names.R_PPC64_TOC16 D from_toc (adds is_addi)
+    × OverBase 2 kinds.BaseToToc names.R_PPC64_TOC16_LO names.R_PPC64_TOC16 D from_toc is_d_over
+    × OverBase 2 kinds.BaseToToc names.R_PPC64_TOC16_LO_DS names.R_PPC64_TOC16_DS Ds from_toc
+    (accesses is_ds_over_base ds_access)
+    × VectorOverBase 2 kinds.BaseToToc names.R_PPC64_TOC16_LO_DS names.R_PPC64_TOC16_DS from_toc
+    × OverBase 13 kinds.BaseToThread names.R_PPC64_TPREL16_LO names.R_PPC64_TPREL16 D from_thread
+    (adds is_addi)
+    × OverBase 13 kinds.BaseToThread names.R_PPC64_TPREL16_LO names.R_PPC64_TPREL16 D from_thread
+    is_d_over
+    × OverBase 13 kinds.BaseToThread names.R_PPC64_TPREL16_LO_DS names.R_PPC64_TPREL16_DS Ds
+    from_thread (accesses is_ds_over_base ds_access)
+    × VectorOverBase 13 kinds.BaseToThread names.R_PPC64_TPREL16_LO_DS names.R_PPC64_TPREL16_DS
+    from_thread
+
+-- ---- initial-exec
+
+-- In the object's run register n has the offset of the variable, and in the new one a number from which
+-- low halves lead to the variable.
+pub record HasOffset (o : Operands) (n thread : ℕ) (s t : State) : Type 0 where
+  pub offset_is : s.registers n ≡ thread_offset o
+  pub leads : LowHalfLeads o (t.registers n) (from_thread o thread)
+
+-- `ld rT` of the GOT entry, which the dynamic linker has set to the offset, over a register that has what
+-- a high half made, and `addis rT,13`
+abbrev pub OffsetToHighHalf : Type 0
+OffsetToHighHalf =
+    (f : Formats) (o : Operands) (s t : State) (c : Changes) (ld addis_13 : List ℕ) → AreAddresses o
+    → AgreeBut c s t → IsTrue (is_ld (word_of ld)) → IsRewritten kinds.LdToAddisThread ld addis_13
+    → (entry : ℕ)
+    → Leads names.R_PPC64_GOT_TPREL16_LO_DS Ds o (s.registers (ra_of (word_of ld))) entry
+    → loaded 8 s.memory entry ≡ thread_offset o
+    → (at : ℕ) (ld_of_entry addis_of_symbol : List ℕ)
+    → IsRelocated names.R_PPC64_GOT_TPREL16_LO_DS (at_place at o) ld ld_of_entry
+    → IsRelocated names.R_PPC64_TPREL16_HA o addis_13 addis_of_symbol
+    → let x = rt_of (word_of ld) in
+    StepSo f (word_of ld_of_entry) s (word_of addis_of_symbol) t
+    (λ u v. AgreeBut (with_register x c) u v × HasOffset o x (t.registers 13) u v)
+
+-- `add rT,rY,13`, or a load or a store by the sum of rY and r13, and the same by a low half over rY
+abbrev pub OverOffset : RelaxationKind → Ppc64Relocation → Use → Type 0
+OverOffset kind low does =
+    (f : Formats) (o : Operands) (s t : State) (c : Changes) (insn direct : List ℕ)
+    → AreAddresses o → AgreeBut c s t → IsTrue (does.test (word_of insn))
+    → IsRewritten kind insn direct
+    → HasOffset o (ra_of (word_of insn)) (s.registers 13) s t
+    → does.Requires c (word_of insn) (from_thread o (s.registers 13))
+    → (at : ℕ) (direct_of : List ℕ) → IsRelocated low (at_place at o) direct direct_of
+    → StepSo f (word_of insn) s (word_of direct_of) t (AgreeBut (does.after c (word_of insn)))
+
+abbrev pub OffsetToLowHalf : Type 0
+OffsetToLowHalf =
+    OverOffset kinds.AddToAddi names.R_PPC64_TPREL16_LO (adds is_add_of_thread)
+    × OverOffset kinds.IndexedToD names.R_PPC64_TPREL16_LO
+    (accesses is_indexed (λ word. access_with (access_of word)))
+    × OverOffset kinds.IndexedToDs names.R_PPC64_TPREL16_LO_DS
+    (accesses is_indexed_word (λ word. word_access_with (access_of word)))
+
+-- ---- arguments of `__tls_get_addr`
+
+-- In the object's run a register has an entry's address, and in the new one another number.
+pub record HasArgument (n entry : ℕ) (Is : ℕ → Type 0) (s t : State) : Type 0 where
+  pub entry_is : s.registers n ≡ entry
+  pub new_is : Is (t.registers n)
+
+-- `addi rT` of the GOT entry, over a register that has what a high half made
+pub record IsArgument (low : Ppc64Relocation) (o : Operands) (at entry : ℕ) (s : State)
+    (addi addi_of : List ℕ) : Type 0 where
+  pub small : AreAddresses o
+  pub addi_is : IsTrue (is_addi (word_of addi))
+  pub leads : Leads low D o (s.registers (ra_of (word_of addi))) entry
+  pub applied : IsRelocated low (at_place at o) addi addi_of
+
+-- of general-dynamic, and `addis rT,13`
+abbrev pub ArgumentToHighHalf : Type 0
+ArgumentToHighHalf =
+    (f : Formats) (o : Operands) (s t : State) (c : Changes) (addi addi_of addis_13 : List ℕ)
+    (at entry : ℕ) → IsArgument names.R_PPC64_GOT_TLSGD16_LO o at entry s addi addi_of
+    → AgreeBut c s t → IsRewritten kinds.AddiToAddisThread addi addis_13
+    → (addis_of : List ℕ) → IsRelocated names.R_PPC64_TPREL16_HA o addis_13 addis_of
+    → let x = rt_of (word_of addi) in
+    StepSo f (word_of addi_of) s (word_of addis_of) t
+    (λ u v. AgreeBut (with_register x c) u v
+    × HasArgument x entry (λ n. LowHalfLeads o n (from_thread o (t.registers 13))) u v)
+
+-- ... and `ld rT` of the GOT entry of initial-exec, whose high half stands before it in the new run
+abbrev pub ArgumentToOffset : Type 0
+ArgumentToOffset =
+    (f : Formats) (o : Operands) (s t : State) (c : Changes) (addi addi_of ld : List ℕ)
+    (at entry offset : ℕ) → IsArgument names.R_PPC64_GOT_TLSGD16_LO o at entry s addi addi_of
+    → AgreeBut c s t → IsRewritten kinds.AddiToLd addi ld
+    → (own : Operands)
+    → Leads names.R_PPC64_GOT_TPREL16_LO_DS Ds own (t.registers (ra_of (word_of addi))) offset
+    → loaded 8 t.memory offset ≡ thread_offset o
+    → (ld_of : List ℕ) → IsRelocated names.R_PPC64_GOT_TPREL16_LO_DS (at_place at own) ld ld_of
+    → let x = rt_of (word_of addi) in
+    StepSo f (word_of addi_of) s (word_of ld_of) t
+    (λ u v. AgreeBut (with_register x c) u v
+    × HasArgument x entry (λ n. n ≡ thread_offset o) u v)
+
+-- of local-dynamic, and `addis rT,13,0`
+abbrev pub ArgumentToThread : Type 0
+ArgumentToThread =
+    (f : Formats) (o : Operands) (s t : State) (c : Changes) (addi addi_of addis_13 : List ℕ)
+    (at entry : ℕ) → IsArgument names.R_PPC64_GOT_TLSLD16_LO o at entry s addi addi_of
+    → AgreeBut c s t → IsRewritten kinds.AddiToAddisThread addi addis_13
+    → let x = rt_of (word_of addi) in
+    StepSo f (word_of addi_of) s (word_of addis_13) t
+    (λ u v. AgreeBut (with_register x c) u v
+    × HasArgument x entry (λ n. n ≡ sum_64 (t.registers 13) 0) u v)
+
+-- ---- calls of `__tls_get_addr`
+
+-- what either may change
+abbrev pub both : Changes → Changes → Changes
+both c d =
+    record {
+      registers = λ n. c.registers n || d.registers n;
+      floats = λ n. c.floats n || d.floats n;
+      memory = λ a. c.memory a || d.memory a;
+    }
+
+-- In the object's run register 3 has an entry's address, with which the function returns a number, and
+-- in the new one such a number that what takes the place of the call makes the same of it.
+pub record IsCall (call : State → Option State) (changes : Changes) (number : ℕ) (Is : ℕ → Type 0)
+    (s t : State) (bl : List ℕ) : Type 0 where
+  pub call_is : IsTrue (is_call (word_of bl) (word_of (drop 4 bl)))
+  pub entry : ℕ
+  pub argument : HasArgument 3 entry Is s t
+  pub returns : (u v : State) → u.registers 3 ≡ entry → u.registers 13 ≡ s.registers 13
+      → call u ≡ Some v → Returns changes number u v
+
+-- The object's run executes the call, and what it returns to, and the new one executes words in their
+-- place. The link register is that of the new run before them.
+abbrev pub CallSo : Formats → (State → Option State) → Changes → List ℕ → State → List ℕ → State
+    → Type 0
+CallSo f call c bl s new t =
+    IsSomeAnd (step f (word_of bl) s) (λ u. (v : State) → call u ≡ Some v
+    → IsSomeAnd (step f (word_of (drop 4 bl)) v) (λ w. IsSomeAnd (run f new t) (λ x.
+    (x.link ≡ t.link) × AgreeBut c w x)))
+
+-- `nop` and `addi 3,3`: the address of the variable
+abbrev pub CallToLowHalf : Type 0
+CallToLowHalf =
+    (f : Formats) (call : State → Option State) (changes c : Changes) (o : Operands) (s t : State)
+    (bl made : List ℕ) → AgreeBut c s t → IsRewritten kinds.CallToAddi bl made
+    → let number = from_thread o (s.registers 13) in
+    IsCall call changes number (λ n. LowHalfLeads o n number) s t bl
+    → (there : ℕ) (addi_of : List ℕ)
+    → IsRelocated names.R_PPC64_TPREL16_LO (at_place there o) (drop 4 made) addi_of
+    → CallSo f call (without_register 3 (both c changes)) bl s (two made addi_of) t
+
+-- `nop` and `add 3,3,13`: the same
+abbrev pub CallToSum : Type 0
+CallToSum =
+    (f : Formats) (call : State → Option State) (changes c : Changes) (o : Operands) (s t : State)
+    (bl made : List ℕ) → AgreeBut c s t → IsRewritten kinds.CallToAdd bl made
+    → t.registers 13 ≡ s.registers 13
+    → IsCall call changes (from_thread o (s.registers 13)) (λ n. n ≡ thread_offset o) s t bl
+    → CallSo f call (without_register 3 (both c changes)) bl s (two made (drop 4 made)) t
+
+-- `nop` and `addi 3,3,4096`: 0x1000 above the thread pointer
+abbrev pub CallToBlock : Type 0
+CallToBlock =
+    (f : Formats) (call : State → Option State) (changes c : Changes) (s t : State)
+    (bl made : List ℕ) → AgreeBut c s t → IsRewritten kinds.CallToAddi4096 bl made
+    → IsCall call changes (sum_64 (s.registers 13) 0x1000) (λ n. n ≡ sum_64 (s.registers 13) 0) s t bl
+    → CallSo f call (without_register 3 (both c changes)) bl s (two made (drop 4 made)) t
+
 -- ---- the TOC pointer at the entry of a function
 
 -- S + A of an instruction 4 bytes on, with 4 more in its addend
@@ -535,3 +898,41 @@ RestoresToc =
     × (step f (word_of (drop 4 call)) s ≡ Some (go_on s))
     × (step f (word_of (drop 4 restored)) s
     ≡ Some (go_on (write 2 (loaded 8 s.memory (sum_64 (s.registers 1) 24)) s)))
+
+-- ---- the laws
+
+-- what `rewrites` ensures
+pub record Laws : Type 0 where
+  pub got : GotToAddress
+  pub initial_exec : InitialExecToLocalExec
+  pub initial_exec_access : AccessToLocalExec
+  pub initial_exec_word_access : WordAccessToLocalExec
+  pub prefixed : PldToPaddi
+  pub general_to_local : GeneralDynamicToLocalExec
+  pub general_to_initial : GeneralDynamicToInitialExec
+  pub local_dynamic : LocalDynamicToLocalExec
+  pub near_initial_exec : NearInitialExecToLocalExec
+  pub arguments : Arguments
+  pub argument_to_local : ArgumentToLocalExec
+  pub argument_to_initial : ArgumentToInitialExec
+  pub near_argument_to_initial : NearArgumentToInitialExec
+  pub argument_to_module : ArgumentToModule
+  pub near_toc : AddiNearToc
+  pub access_near_toc : AccessNearToc
+  pub word_access_near_toc : WordAccessNearToc
+  pub vector_access_near_toc : VectorAccessNearToc
+  pub high_half : HighHalfToNop
+  pub low_half : LowHalfOverBase
+  pub offset_high_half : OffsetToHighHalf
+  pub offset_low_half : OffsetToLowHalf
+  pub entry_high_half : HighHalfOfEntry
+  pub symbol_high_half : HighHalfOfSymbol
+  pub symbol_load : LoadToSum
+  pub argument_high_half : ArgumentToHighHalf
+  pub argument_offset : ArgumentToOffset
+  pub argument_thread : ArgumentToThread
+  pub call_low_half : CallToLowHalf
+  pub call_sum : CallToSum
+  pub call_block : CallToBlock
+  pub toc_at_entry : TocAtEntry
+  pub toc : RestoresToc

@@ -135,3 +135,13 @@ Branches =
     kinds.CallIndirectToRelative address
     × DoesTheSame 2 (x86_64_originals kinds.JmpIndirectToRelative) names.R_X86_64_GOTPCRELX
     kinds.JmpIndirectToRelative address
+
+-- ---- the laws
+
+-- what `rewrites` ensures
+pub record Laws : Type 0 where
+  pub loads : LoadsOfAddresses
+  pub absolute : AbsoluteAddresses
+  pub operations : Operations
+  pub branches : Branches
+  pub thread : ThreadOffsets

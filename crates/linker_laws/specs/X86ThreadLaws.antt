@@ -1,7 +1,7 @@
 -- x86-64: TLS sequences with a call do the same after their rewrites (x86-64 psABI, "ELF Handling
 -- For Thread-Local Storage").
 use Rattle.std.specs.Prelude.{◌≡◌, ℕ, ◌-◌, ◌^◌, ◌<◌, ◌≤◌, ◌==◌, ◌&&◌, ◌||◌, nat_le, nat_lt}
-use Rattle.std.specs.Prelude.{Bool, false}
+use Rattle.std.specs.Prelude.{Bool, true, false, not, ◌+◌}
 use Rattle.std.specs.Prelude.{IsTrue, IsSomeAnd, List, drop, Some, ⊤}
 use Rattle.linker_base.specs.Rewrite.{rewritten, offset_after}
 use Rattle.linker_elf.specs.Choices.{operands_after}
@@ -9,7 +9,7 @@ use Rattle.linker_elf.specs.Relocate.{number_of_bytes}
 use Rattle.linker_elf.specs.Value.{sum_64, difference_64}
 use Rattle.linker_x86_64.specs.X86Rewrites.{x86_64_rewrite}
 use Rattle.linker_x86_64.specs.X86Rewrites.{x86_64_matches, Original, original, byte, field4}
-use Rattle.linker_x86_64.specs.X86Rewrites.{is_one_at}
+use Rattle.linker_x86_64.specs.X86Rewrites.{is_one_at, lea_of_descriptor}
 use Rattle.linker_elf.specs.X86Relocations.{x86_64_row}
 use Rattle.linker_x86_64.specs.X86RelocationsAfter.{x86_64_relocation_after}
 use Rattle.std.specs.Prelude.{IsFalse, [], ◌∷◌}
@@ -21,7 +21,9 @@ use Rattle.linker_x86_64.specs.declared.rewrites.RelaxationKind.TheVariants as k
 use Rattle.linker_elf.specs.Applied.{IsApplied}
 use Rattle.linker_laws.specs.Schemes.{AreAddresses}
 use Rattle.linker_laws.specs.X86RewriteLaws.{IsBefore, IsRelocated, thread_offset}
-use Rattle.linker_laws.specs.X86Machine.{State, load, extended, step, run}
+use Rattle.linker_laws.specs.Machine.{also, but}
+use Rattle.linker_laws.specs.X86Machine.{State, load, extended, step, run, reg_of}
+use Rattle.linker_laws.specs.X86Machine.{rex_prefix, rex2_prefix}
 
 -- the registers that belong to the caller: rbx, rsp, rbp and r12 to r15 ("Register Usage")
 abbrev pub is_kept : ℕ → Bool
@@ -164,20 +166,31 @@ LocalDynamic =
 
 -- ---- descriptors
 
--- What a call through a descriptor does ("TLS Descriptors"): it takes and returns rax, and all
--- other registers are kept. Flags may change, and memory as by a call of `__tls_get_addr`.
-pub record IsDescriptorCall (size : ℕ) (changed : ℕ → Bool) (returned : ℕ → ℕ) (s t : State)
-    : Type 0 where
-  pub ip : t.ip ≡ sum_64 s.ip size
-  pub result : t.register 0 ≡ returned (s.register 0)
-  pub kept : (r : ℕ) → IsFalse (r == 0) → t.register r ≡ s.register r
-  pub memory : (a : ℕ) → s.register 4 ≤ a → changed a ≡ false → t.memory a ≡ s.memory a
+-- registers and bytes of memory by their numbers and addresses, and whether the flags, that may differ
+pub record Changes : Type 0 where
+  pub registers : ℕ → Bool
+  pub memory : ℕ → Bool
+  pub flags : Bool
 
--- the same address and registers, and the same memory from the stack pointer up, but for some bytes
-pub record AgreeInRegisters (changed : ℕ → Bool) (s t : State) : Type 0 where
+-- What a call through a descriptor does ("TLS Descriptors"): it takes and returns rax, and keeps the
+-- stack pointer. Flags may change, memory below the stack pointer, and what `changed` names, whichever
+-- registers and bytes these are. By the ABI the function changes no other register. Where the thread
+-- has no block yet, it makes one, as `__tls_get_addr` does.
+pub record IsDescriptorCall (size : ℕ) (changed : Changes) (returned : ℕ → ℕ) (s t : State) : Type 0
+  where
+    pub ip : t.ip ≡ sum_64 s.ip size
+    pub result : t.register 0 ≡ returned (s.register 0)
+    pub stack : t.register 4 ≡ s.register 4
+    pub kept : (r : ℕ) → IsFalse (r == 0) → changed.registers r ≡ false
+        → t.register r ≡ s.register r
+    pub memory : (a : ℕ) → s.register 4 ≤ a → changed.memory a ≡ false → t.memory a ≡ s.memory a
+
+-- the same address, rax and registers, and the same memory from the stack pointer up, but for some
+-- registers and bytes
+pub record AgreeInRegisters (changed : Changes) (s t : State) : Type 0 where
   pub ip : s.ip ≡ t.ip
-  pub registers : (r : ℕ) → s.register r ≡ t.register r
-  pub memory : (a : ℕ) → s.register 4 ≤ a → changed a ≡ false → s.memory a ≡ t.memory a
+  pub registers : (r : ℕ) → but 0 changed.registers r ≡ false → s.register r ≡ t.register r
+  pub memory : (a : ℕ) → s.register 4 ≤ a → changed.memory a ≡ false → s.memory a ≡ t.memory a
 
 -- `lea x@tlsdesc(%rip), %rax`, with REX and with REX2
 abbrev pub lea_rax : Original
@@ -191,7 +204,7 @@ rex2_lea_rax = original 4 (byte 0xd5 ∷ byte 0x08 ∷ byte 0x8d ∷ byte 0x05 �
 abbrev pub ReplacesDescriptor : Original → X86_64Relocation → RelaxationKind → X86_64Relocation
     → (Operands → Operands) → (Operands → State → Type 0) → Type 0
 ReplacesDescriptor lea_code name kind after relocated Premise =
-    (section old new : List ℕ) (o : ℕ) (operands : Operands) (s : State) (changed : ℕ → Bool)
+    (section old new : List ℕ) (o : ℕ) (operands : Operands) (s : State) (changed : Changes)
     (returned : ℕ → ℕ)
     → IsBefore lea_code.back section o operands s
     → IsTrue (is_one_at (lea_code ∷ []) section o)
@@ -227,3 +240,109 @@ Descriptors =
     × DescriptorToInitialExec lea_rax names.R_X86_64_GOTPC32_TLSDESC
     × DescriptorToLocalExec rex2_lea_rax names.R_X86_64_CODE_4_GOTPC32_TLSDESC
     × DescriptorToInitialExec rex2_lea_rax names.R_X86_64_CODE_4_GOTPC32_TLSDESC
+
+-- ---- descriptors, each instruction by itself
+
+-- The `lea` and the call are also rewritten each by itself, wherever they are and whatever register the
+-- `lea` is into, from which code may copy the descriptor's address. So two runs are compared, of the
+-- object's code and of the new code, that agree but for registers and bytes of memory, and maybe for
+-- the flags. What else runs between them is the same instruction in both.
+
+-- The states differ in no more than these.
+pub record AgreeBut (c : Changes) (s t : State) : Type 0 where
+  pub ip : s.ip ≡ t.ip
+  pub fs : s.fs ≡ t.fs
+  pub registers : (r : ℕ) → c.registers r ≡ false → s.register r ≡ t.register r
+  pub memory : (a : ℕ) → c.memory a ≡ false → s.memory a ≡ t.memory a
+  pub flags : c.flags ≡ false → s.flags ≡ t.flags
+
+-- A register has the descriptor's address in the object's run, and the symbol's offset from the thread
+-- pointer in the new one.
+pub record HasDescriptor (r : ℕ) (o : Operands) (s t : State) : Type 0 where
+  pub old_is : s.register r ≡ o.got_entry
+  pub new_is : t.register r ≡ thread_offset o
+
+-- the register that the reg field of an instruction with an opcode of one byte names, behind REX, and
+-- behind d5 and the byte of REX2
+abbrev pub reg_after_rex : List ℕ → ℕ
+reg_after_rex (p ∷ opcode ∷ m ∷ rest) = reg_of m + (rex_prefix p).reg
+reg_after_rex bytes = 0
+
+abbrev pub reg_after_rex2 : List ℕ → ℕ
+reg_after_rex2 (d5 ∷ p ∷ opcode ∷ m ∷ rest) = reg_of m + (rex2_prefix p).reg
+reg_after_rex2 bytes = 0
+
+-- with register r too
+abbrev pub also_register : ℕ → Changes → Changes
+also_register r c = record c { registers = also r c.registers }
+
+-- `lea x@tlsdesc(%rip), %reg`, with n bytes before the field, and what a rewrite leaves of it
+abbrev pub ReplacesLea : ℕ → X86_64Relocation → (List ℕ → ℕ) → RelaxationKind → X86_64Relocation
+    → (Operands → Operands) → (Operands → State → Type 0) → Type 0
+ReplacesLea n name register_of kind after relocated Premise =
+    (section old new : List ℕ) (o : ℕ) (operands : Operands) (s t : State) (c : Changes)
+    → IsBefore n section o operands s
+    → IsTrue (is_one_at (lea_of_descriptor n) section o)
+    → x86_64_matches kind section o
+    → AgreeBut c s t
+    → Premise operands t
+    → IsRelocated name operands o section old
+    → IsRelocated after (relocated (operands_after (x86_64_rewrite kind) o operands))
+    (offset_after (x86_64_rewrite kind) o) (rewritten (x86_64_rewrite kind) section o) new
+    → let r = register_of (drop (o - n) section) in
+    IsSomeAnd (step (drop (o - n) old) s) (λ u.
+    IsSomeAnd (step (drop (o - n) new) t) (λ v.
+    AgreeBut (also_register r c) u v × HasDescriptor r operands u v))
+
+-- `mov $x, %reg`
+abbrev pub LeaToOffset : ℕ → X86_64Relocation → (List ℕ → ℕ) → Type 0
+LeaToOffset n name register_of =
+    ReplacesLea n name register_of (kinds.TlsDescToLocalExec n) names.R_X86_64_TPOFF32
+    (λ operands. operands) (λ operands t. ⊤)
+
+-- `mov x@gottpoff(%rip), %reg`, of an entry that has the offset
+abbrev pub LeaToEntry : ℕ → X86_64Relocation → (List ℕ → ℕ) → Type 0
+LeaToEntry n name register_of =
+    (entry : ℕ) → entry < 2 ^ 64
+    → ReplacesLea n name register_of kinds.TlsDescToInitialExec names.R_X86_64_GOTTPOFF
+    (λ operands. record operands { got_entry = entry })
+    (λ operands t. load 8 t entry ≡ thread_offset operands)
+
+abbrev pub LeaOfDescriptor : Type 0
+LeaOfDescriptor =
+    LeaToOffset 3 names.R_X86_64_GOTPC32_TLSDESC reg_after_rex
+    × LeaToEntry 3 names.R_X86_64_GOTPC32_TLSDESC reg_after_rex
+    × LeaToOffset 4 names.R_X86_64_CODE_4_GOTPC32_TLSDESC reg_after_rex2
+    × LeaToEntry 4 names.R_X86_64_CODE_4_GOTPC32_TLSDESC reg_after_rex2
+
+-- What differs behind the call in state s of a descriptor's function, where c differed before it: not
+-- rax, which has the offset, but memory below the stack pointer and what the function may change.
+abbrev pub behind_call : Changes → State → Changes → Changes
+behind_call changed s c =
+    record {
+      registers = but 0 (λ r. changed.registers r || c.registers r);
+      memory = λ a. c.memory a || (changed.memory a || not (nat_le (s.register 4) a));
+      flags = true;
+    }
+
+-- `call *x@tlscall(%rax)`, where rax has the descriptor's address in the object's run, and the `nop`,
+-- which writes no memory
+abbrev pub CallOfDescriptor : Type 0
+CallOfDescriptor =
+    (o : Operands) (s t : State) (c : Changes) (changed : Changes) (returned : ℕ → ℕ)
+    (calls : List ℕ) (at : ℕ) → x86_64_matches kinds.SkipTlsDescCall calls at
+    → HasDescriptor 0 o s t → AgreeBut c s t → returned o.got_entry ≡ thread_offset o
+    → IsSomeAnd (step (drop at (rewritten (x86_64_rewrite kinds.SkipTlsDescCall) calls at)) t) (λ v.
+    WritesNothing t v
+    × ((u : State) → IsDescriptorCall 2 changed returned s u → u.fs ≡ s.fs
+    → AgreeBut (behind_call changed s c) u v))
+
+-- ---- the laws
+
+-- what `rewrites` ensures
+pub record Laws : Type 0 where
+  pub general_dynamic : GeneralDynamic
+  pub local_dynamic : LocalDynamic
+  pub descriptors : Descriptors
+  pub descriptor_address : LeaOfDescriptor
+  pub descriptor_call : CallOfDescriptor

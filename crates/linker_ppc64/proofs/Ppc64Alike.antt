@@ -1,7 +1,7 @@
 -- The relocations of a sequence are chosen alike: each by the same conditions, which no place enters.
 use Rattle.std.proofs.Common.{◌≡◌, ◌↔◌, inl, inr, ℕ, List, [], ◌∷◌, ap, ◌∙◌, slice_index_or}
 use Rattle.linker_elf.specs.Choices.{Entry, entry, IsFirst, choice}
-use Rattle.linker_ppc64.specs.Ppc64Rewrites.{ppc64_entries, Ppc64Choice, Ppc64Applies, facts_at, IsAmong, TocPairsAreChosenAlike, GotPairIsChosenAlike, InitialExecPairIsChosenAlike, GeneralDynamicIsChosenAlike, LocalDynamicIsChosenAlike}
+use Rattle.linker_ppc64.specs.Ppc64Rewrites.{ppc64_entries, Ppc64Choice, Ppc64Applies, facts_at, IsAmong, TocPairsAreChosenAlike, ThreadPairsAreChosenAlike, GotPairIsChosenAlike, InitialExecPairIsChosenAlike, GeneralDynamicIsChosenAlike, LocalDynamicIsChosenAlike}
 use Rattle.linker_elf.specs.declared.elf.choice.LinkFacts.{LinkFacts}
 use Rattle.linker_elf.specs.declared.ppc64.relocations.Ppc64Relocation.{Ppc64Relocation}
 use Rattle.linker_elf.specs.declared.ppc64.relocations.Ppc64Relocation.TheVariants as r
@@ -47,6 +47,16 @@ toc_pairs = (
       (λ h. (meant.1, h.1), λ h. (meant.0, h.1)),
   λ section o p place facts a b meant f g.
       one_alike (applies section o facts) (applies section p (facts_at place facts)) (at 0 r.R_PPC64_TOC16_HA) (at 0 r.R_PPC64_TOC16_LO_DS) _ _ a b f g
+      (λ h. (meant.1, h.1), λ h. (meant.0, h.1)),
+)
+
+pub thread_pairs : ThreadPairsAreChosenAlike
+thread_pairs = (
+  λ section o p place facts a b meant f g.
+      one_alike (applies section o facts) (applies section p (facts_at place facts)) (at 0 r.R_PPC64_TPREL16_HA) (at 0 r.R_PPC64_TPREL16_LO) _ _ a b f g
+      (λ h. (meant.1, h.1), λ h. (meant.0, h.1)),
+  λ section o p place facts a b meant f g.
+      one_alike (applies section o facts) (applies section p (facts_at place facts)) (at 0 r.R_PPC64_TPREL16_HA) (at 0 r.R_PPC64_TPREL16_LO_DS) _ _ a b f g
       (λ h. (meant.1, h.1), λ h. (meant.0, h.1)),
 )
 

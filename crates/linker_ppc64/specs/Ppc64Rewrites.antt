@@ -61,9 +61,9 @@ addis_of_thread rt = 0x3c0d0000 + rt * 2 ^ 21
 abbrev pub li_of : ℕ → ℕ
 li_of rt = 0x38000000 + rt * 2 ^ 21
 
--- the instruction with register 2 as its base
-abbrev pub over_toc : ℕ → ℕ
-over_toc word = field word 21 32 * 2 ^ 21 + 2 * 2 ^ 16 + field word 0 16
+-- the instruction with another base
+abbrev pub over_base : ℕ → ℕ → ℕ
+over_base ra word = field word 21 32 * 2 ^ 21 + ra * 2 ^ 16 + field word 0 16
 
 -- the same access, of bytes or words, by a displacement of 16 bits: `lwzx` is `lwz`
 abbrev pub by_displacement : ℕ → ℕ
@@ -112,7 +112,7 @@ restores_toc window = two_words (from_le_bytes w32 window) 0xe8410018
 abbrev pub ppc64_rewrite : RelaxationKind → Option Rewrite
 ppc64_rewrite kinds.NoOp = None
 ppc64_rewrite kinds.AddisToNop = Some (rewrites_word (λ _. nop))
-ppc64_rewrite kinds.BaseToToc = Some (rewrites_word over_toc)
+ppc64_rewrite kinds.BaseToToc = Some (rewrites_word (over_base 2))
 ppc64_rewrite kinds.LdToAddi = Some (rewrites_word (λ word. 0x38000000 + registers_of word))
 ppc64_rewrite kinds.PldToPaddi = Some (replaces 0 8 paddi)
 ppc64_rewrite kinds.LdToAddisThread = Some (rewrites_word (λ word. addis_of_thread (rt_of word)))
@@ -128,6 +128,8 @@ ppc64_rewrite kinds.NopToRestoreToc = Some (replaces 0 8 restores_toc)
 ppc64_rewrite kinds.KeepAddis = None
 ppc64_rewrite kinds.AddisToLis = Some (rewrites_word (λ _. 0x3c400000))
 ppc64_rewrite kinds.AddiBehindLis = Some addi_of_toc
+ppc64_rewrite kinds.AddisThreadToNop = Some (rewrites_word (λ _. nop))
+ppc64_rewrite kinds.BaseToThread = Some (rewrites_word (over_base 13))
 
 -- The relocation of the call itself is skipped where the call is gone.
 abbrev pub ppc64_modifier : RelaxationKind → RelocationModifier
@@ -143,7 +145,7 @@ ppc64_rewrites =
     kinds.LdToAddisThread ∷ kinds.AddToAddi ∷ kinds.IndexedToD ∷ kinds.IndexedToDs ∷
     kinds.AddiToAddisThread ∷ kinds.AddiToLd ∷ kinds.CallToAddi ∷ kinds.CallToAdd ∷
     kinds.CallToAddi4096 ∷ kinds.NopToRestoreToc ∷ kinds.KeepAddis ∷ kinds.AddisToLis ∷
-    kinds.AddiBehindLis ∷ []
+    kinds.AddiBehindLis ∷ kinds.AddisThreadToNop ∷ kinds.BaseToThread ∷ []
 
 -- The instructions that each rewrite of PowerPC64 is meant for (Power ISA, "Fixed-Point Facility"
 -- and "Floating-Point Facility"; 64-bit ELF V2 ABI for Power, "TLS Linkage Optimizations" and "TOC
@@ -151,9 +153,13 @@ ppc64_rewrites =
 
 -- ---- instructions by their bits
 
+-- `addis rT,rA`, over a given register
+abbrev pub is_addis_over : ℕ → ℕ → Bool
+is_addis_over ra word = opcode_of word == 15 && ra_of word == ra
+
 -- `addis rT,2`
 abbrev pub is_addis_of_toc : ℕ → Bool
-is_addis_of_toc word = opcode_of word == 15 && ra_of word == 2
+is_addis_of_toc = is_addis_over 2
 
 -- `addis 2,12` and `addi 2,2`, at the entry of a function, whose address register 12 has
 abbrev pub is_addis_of_entry : ℕ → Bool
@@ -273,6 +279,8 @@ ppc64_matches kinds.NopToRestoreToc = HasTwo is_call
 ppc64_matches kinds.KeepAddis = HasTest is_addis_of_toc
 ppc64_matches kinds.AddisToLis = HasTest is_addis_of_entry
 ppc64_matches kinds.AddiBehindLis = HasTest is_addi_of_toc
+ppc64_matches kinds.AddisThreadToNop = HasTest (is_addis_over 13)
+ppc64_matches kinds.BaseToThread = HasTest is_over_base
 
 -- Which rewrite of PowerPC64 is chosen (64-bit ELF V2 ABI for Power, "TOC Optimizations", "TLS
 -- Linkage Optimizations" and "The TOC Pointer Register"). No condition depends on the place of a
@@ -286,6 +294,11 @@ Conditions = List (Condition Ppc64Relocation)
 -- The high part of the distance from the TOC pointer is 0.
 abbrev pub without_high_part : Conditions
 without_high_part = private_base ∷ in_reach r.R_PPC64_TOC16 0 ∷ []
+
+-- The high part of the offset from the thread pointer is 0.
+abbrev pub without_high_offset : Conditions
+without_high_offset =
+    bound ∷ executable ∷ private_base ∷ group_fits ∷ in_reach r.R_PPC64_TPREL16 0 ∷ []
 
 -- the address by its distance from the TOC pointer, and not by its entry
 abbrev pub to_toc_distance : Conditions
@@ -373,6 +386,12 @@ ppc64_entries r.R_PPC64_REL16_HA =
     entry kinds.AddisToLis r.R_PPC64_ADDR16_HA (to_address (pos 0)) ∷ []
 ppc64_entries r.R_PPC64_REL16_LO =
     entry kinds.AddiBehindLis r.R_PPC64_ADDR16_LO (to_address (pos 4)) ∷ []
+ppc64_entries r.R_PPC64_TPREL16_HA =
+    entry kinds.AddisThreadToNop r.R_PPC64_NONE without_high_offset ∷ []
+ppc64_entries r.R_PPC64_TPREL16_LO =
+    entry kinds.BaseToThread r.R_PPC64_TPREL16 without_high_offset ∷ []
+ppc64_entries r.R_PPC64_TPREL16_LO_DS =
+    entry kinds.BaseToThread r.R_PPC64_TPREL16_DS without_high_offset ∷ []
 ppc64_entries name = []
 
 -- ---- which entry is chosen
@@ -429,6 +448,20 @@ TocPairsAreChosenAlike =
     ((to_nop, choice kinds.BaseToToc r.R_PPC64_TOC16) ∷ [])
     × AreChosenAlike r.R_PPC64_TOC16_HA r.R_PPC64_TOC16_LO_DS
     ((to_nop, choice kinds.BaseToToc r.R_PPC64_TOC16_DS) ∷ [])
+
+-- the same of an offset from the thread pointer
+abbrev pub ThreadPairsAreChosenAlike : Type 0
+ThreadPairsAreChosenAlike =
+    AreChosenAlike r.R_PPC64_TPREL16_HA r.R_PPC64_TPREL16_LO
+    ((
+      choice kinds.AddisThreadToNop r.R_PPC64_NONE,
+      choice kinds.BaseToThread r.R_PPC64_TPREL16,
+    ) ∷ [])
+    × AreChosenAlike r.R_PPC64_TPREL16_HA r.R_PPC64_TPREL16_LO_DS
+    ((
+      choice kinds.AddisThreadToNop r.R_PPC64_NONE,
+      choice kinds.BaseToThread r.R_PPC64_TPREL16_DS,
+    ) ∷ [])
 
 abbrev pub GotPairIsChosenAlike : Type 0
 GotPairIsChosenAlike =

@@ -7,7 +7,7 @@ ghost use Rattle.std.specs.Int.{from_le_bytes, to_le_bytes, w32};
 ghost use Rattle.linker_base.specs.Bits.{field};
 ghost use Rattle.linker_base.specs.Rewrite.{CanRewrite, rewritten, offset_after, addend_after};
 ghost use Rattle.linker_base.specs.RewriteWindow.{window_of_rewrite};
-ghost use Rattle.linker_ppc64.specs.Ppc64Rewrites.{is_addis_of_toc, is_addi, is_ld, is_access};
+ghost use Rattle.linker_ppc64.specs.Ppc64Rewrites.{is_addis_over, is_addi, is_ld, is_access};
 ghost use Rattle.linker_ppc64.specs.Ppc64Rewrites.{is_store, keeps_base};
 ghost use Rattle.linker_ppc64.specs.Ppc64Rewrites.{is_d_access, is_ds_access, is_vector_access};
 ghost use Rattle.linker_ppc64.specs.Ppc64Rewrites.{is_over_base, is_addis_of_entry, is_addi_of_toc};
@@ -16,7 +16,7 @@ ghost use Rattle.linker_ppc64.specs.Ppc64Rewrites.{is_indexed_word, is_pld, is_c
 ghost use Rattle.linker_ppc64.specs.Ppc64Rewrites.{ppc64_matches};
 ghost use Rattle.linker_ppc64.specs.Ppc64Rewrites.{opcode_of, rt_of, ra_of, registers_of};
 ghost use Rattle.linker_ppc64.specs.Ppc64Rewrites.{access_of};
-ghost use Rattle.linker_ppc64.specs.Ppc64Rewrites.{addis_of_thread, li_of, over_toc};
+ghost use Rattle.linker_ppc64.specs.Ppc64Rewrites.{addis_of_thread, li_of, over_base};
 ghost use Rattle.linker_ppc64.specs.Ppc64Rewrites.{by_displacement};
 ghost use Rattle.linker_ppc64.specs.Ppc64Rewrites.{by_word_displacement, ppc64_rewrite};
 ghost use Rattle.linker_ppc64.specs.Ppc64Rewrites.{ppc64_rewrites, ppc64_modifier, two_words};
@@ -89,6 +89,10 @@ pub enum RelaxationKind {
     AddisToLis,
     /// Writes `addi 2,2,0` behind that. The addend is then 0.
     AddiBehindLis,
+    /// Writes `nop` in place of `addis rT,13`.
+    AddisThreadToNop,
+    /// Makes register 13, the thread pointer, the base of an instruction: bits 16 to 20.
+    BaseToThread,
 }
 
 const NOP: u32 = 0x6000_0000;
@@ -189,12 +193,13 @@ fn li_of(target: u32) -> u32
     0x3800_0000 + (target << 21)
 }
 
-/// An instruction with register 2 as its base.
+/// An instruction with another base register.
 #[inline(always)]
-fn over_toc(word: u32) -> u32
-    ensures { result ≡ over_toc word }
+fn over_base(register: u32, word: u32) -> u32
+    requires { register ≤ 31 }
+    ensures { result ≡ over_base register word }
 {
-    (word >> 21 << 21) + 0x2_0000 + (word & 0xffff)
+    (word >> 21 << 21) + (register << 16) + (word & 0xffff)
 }
 
 /// An indexed access as one with a displacement of 0.
@@ -215,12 +220,12 @@ fn by_word_displacement(word: u32) -> u32
     (opcode << 26) + registers(word) + low
 }
 
-/// `addis rT,2`.
+/// `addis rT,rA`, over a given register.
 #[inline(always)]
-fn is_addis_of_toc(word: u32) -> bool
-    ensures { result ≡ is_addis_of_toc word }
+fn is_addis_over(register: u32, word: u32) -> bool
+    ensures { result ≡ is_addis_over register word }
 {
-    opcode(word) == 15 && base(word) == 2
+    opcode(word) == 15 && base(word) == register
 }
 
 /// `addis 2,12`.
@@ -418,6 +423,8 @@ impl RelaxationKind {
             15 => RelaxationKind::KeepAddis,
             16 => RelaxationKind::AddisToLis,
             17 => RelaxationKind::AddiBehindLis,
+            18 => RelaxationKind::AddisThreadToNop,
+            19 => RelaxationKind::BaseToThread,
             _ => return None,
         };
         Some(kind)
@@ -446,10 +453,16 @@ impl RelaxationKind {
         let offset = *offset_in_section;
         match self {
             RelaxationKind::NoOp | RelaxationKind::KeepAddis => {}
-            RelaxationKind::AddisToNop => put_word(section_bytes, offset, NOP),
+            RelaxationKind::AddisToNop | RelaxationKind::AddisThreadToNop => {
+                put_word(section_bytes, offset, NOP);
+            }
             RelaxationKind::BaseToToc => {
                 let word = word_at(section_bytes, offset);
-                put_word(section_bytes, offset, over_toc(word));
+                put_word(section_bytes, offset, over_base(2, word));
+            }
+            RelaxationKind::BaseToThread => {
+                let word = word_at(section_bytes, offset);
+                put_word(section_bytes, offset, over_base(13, word));
             }
             RelaxationKind::LdToAddi | RelaxationKind::AddToAddi => {
                 let word = word_at(section_bytes, offset);
@@ -545,8 +558,9 @@ impl RelaxationKind {
         let word = word_at(section, offset);
         match self {
             RelaxationKind::NoOp => true,
-            RelaxationKind::AddisToNop | RelaxationKind::KeepAddis => is_addis_of_toc(word),
-            RelaxationKind::BaseToToc => is_over_base(word),
+            RelaxationKind::AddisToNop | RelaxationKind::KeepAddis => is_addis_over(2, word),
+            RelaxationKind::AddisThreadToNop => is_addis_over(13, word),
+            RelaxationKind::BaseToToc | RelaxationKind::BaseToThread => is_over_base(word),
             RelaxationKind::LdToAddi => is_ld(word),
             RelaxationKind::PldToPaddi => has_pld(section, offset),
             RelaxationKind::LdToAddisThread => is_ld(word) && target(word) != 0,

@@ -39,6 +39,61 @@ pub enum Relaxation {
     X86_64(x86_64::RelaxationKind),
 }
 
+/// What is made of a rewrite, whichever architecture it is of.
+macro_rules! of_kind {
+    ($relaxation:expr, $kind:ident => $made:expr) => {
+        match $relaxation {
+            Relaxation::AArch64($kind) => $made,
+            Relaxation::RiscV($kind) => $made,
+            Relaxation::LoongArch64($kind) => $made,
+            Relaxation::Ppc64($kind) => $made,
+            Relaxation::X86_64($kind) => $made,
+        }
+    };
+}
+
+/// What a macro makes of an architecture's module, of the enum of its relocations, of its variant of
+/// `Relaxation`, and of what it is given.
+macro_rules! by_architecture {
+    ($architecture:expr, $make:ident $given:tt) => {
+        match $architecture {
+            Architecture::AArch64 => $make!(aarch64 AArch64Relocation AArch64 $given),
+            Architecture::RiscV => $make!(riscv64 RiscVRelocation RiscV $given),
+            Architecture::LoongArch64 => {
+                $make!(loongarch64 LoongArch64Relocation LoongArch64 $given)
+            }
+            Architecture::Ppc64 => $make!(ppc64 Ppc64Relocation Ppc64 $given),
+            Architecture::X86_64 => $make!(x86_64 X86_64Relocation X86_64 $given),
+        }
+    };
+}
+
+macro_rules! chosen {
+    ($module:ident $names:ident $of:ident ($code:expr, $section:expr, $offset:expr, $facts:expr)) => {{
+        let name = $names::from_elf($code);
+        let chosen = $module::choose(name, $section, $offset, $facts);
+        Choice {
+            kind: Relaxation::$of(chosen.kind),
+            relocation: chosen.relocation.elf_code(),
+        }
+    }};
+}
+
+macro_rules! row_of {
+    ($module:ident $names:ident $of:ident ($code:expr)) => {
+        $module::row($names::from_elf($code))
+    };
+}
+
+macro_rules! text_of {
+    ($module:ident $names:ident $of:ident ($code:expr)) => {
+        match $names::from_elf($code) {
+            $names::Other(_) => None,
+            name => Some(name.name()),
+        }
+    };
+}
+
 impl Relaxation {
     /// The rewrite's number and its count of bytes before the field, which `Architecture::rewrite`
     /// takes. The count is 0 but for the rewrites of x86-64 that have one.
@@ -65,13 +120,7 @@ impl Relaxation {
         ensures rewritable { IsTrue result
             → CanRewrite (relaxation_rewrite self) section.now offset }
     {
-        match self {
-            Relaxation::AArch64(kind) => kind.matches(section, offset),
-            Relaxation::RiscV(kind) => kind.matches(section, offset),
-            Relaxation::LoongArch64(kind) => kind.matches(section, offset),
-            Relaxation::Ppc64(kind) => kind.matches(section, offset),
-            Relaxation::X86_64(kind) => kind.matches(section, offset),
-        }
+        of_kind!(self, kind => kind.matches(section, offset))
     }
 }
 
@@ -162,57 +211,27 @@ impl InstructionRewrite for Relaxation {
 
     #[inline(always)]
     fn apply(self, section: &mut [u8], offset: &mut u64, addend: &mut i64) {
-        match self {
-            Relaxation::AArch64(kind) => kind.apply(section, offset, addend),
-            Relaxation::RiscV(kind) => kind.apply(section, offset, addend),
-            Relaxation::LoongArch64(kind) => kind.apply(section, offset, addend),
-            Relaxation::Ppc64(kind) => kind.apply(section, offset, addend),
-            Relaxation::X86_64(kind) => kind.apply(section, offset, addend),
-        }
+        of_kind!(self, kind => kind.apply(section, offset, addend))
     }
 
     #[inline(always)]
     fn can_apply(self, section: &[u8], offset: u64) -> bool {
-        match self {
-            Relaxation::AArch64(kind) => kind.can_apply(section, offset),
-            Relaxation::RiscV(kind) => kind.can_apply(section, offset),
-            Relaxation::LoongArch64(kind) => kind.can_apply(section, offset),
-            Relaxation::Ppc64(kind) => kind.can_apply(section, offset),
-            Relaxation::X86_64(kind) => kind.can_apply(section, offset),
-        }
+        of_kind!(self, kind => kind.can_apply(section, offset))
     }
 
     #[inline(always)]
     fn window(self) -> RewriteWindow {
-        match self {
-            Relaxation::AArch64(kind) => kind.window(),
-            Relaxation::RiscV(kind) => kind.window(),
-            Relaxation::LoongArch64(kind) => kind.window(),
-            Relaxation::Ppc64(kind) => kind.window(),
-            Relaxation::X86_64(kind) => kind.window(),
-        }
+        of_kind!(self, kind => kind.window())
     }
 
     #[inline(always)]
     fn next_modifier(&self) -> RelocationModifier {
-        match self {
-            Relaxation::AArch64(kind) => kind.next_modifier(),
-            Relaxation::RiscV(kind) => kind.next_modifier(),
-            Relaxation::LoongArch64(kind) => kind.next_modifier(),
-            Relaxation::Ppc64(kind) => kind.next_modifier(),
-            Relaxation::X86_64(kind) => kind.next_modifier(),
-        }
+        of_kind!(self, kind => kind.next_modifier())
     }
 
     #[inline(always)]
     fn is_no_op(self) -> bool {
-        match self {
-            Relaxation::AArch64(kind) => kind.is_no_op(),
-            Relaxation::RiscV(kind) => kind.is_no_op(),
-            Relaxation::LoongArch64(kind) => kind.is_no_op(),
-            Relaxation::Ppc64(kind) => kind.is_no_op(),
-            Relaxation::X86_64(kind) => kind.is_no_op(),
-        }
+        of_kind!(self, kind => kind.is_no_op())
     }
 }
 
@@ -250,48 +269,7 @@ impl Architecture {
         ensures matches { relaxation_matches result.kind section.now offset }
         ensures rewritable { CanRewrite (relaxation_rewrite result.kind) section.now offset }
     {
-        match self {
-            Architecture::AArch64 => {
-                let name = AArch64Relocation::from_elf(code);
-                let chosen = aarch64::choose(name, section, offset, facts);
-                Choice {
-                    kind: Relaxation::AArch64(chosen.kind),
-                    relocation: chosen.relocation.elf_code(),
-                }
-            }
-            Architecture::RiscV => {
-                let name = RiscVRelocation::from_elf(code);
-                let chosen = riscv64::choose(name, section, offset, facts);
-                Choice {
-                    kind: Relaxation::RiscV(chosen.kind),
-                    relocation: chosen.relocation.elf_code(),
-                }
-            }
-            Architecture::LoongArch64 => {
-                let name = LoongArch64Relocation::from_elf(code);
-                let chosen = loongarch64::choose(name, section, offset, facts);
-                Choice {
-                    kind: Relaxation::LoongArch64(chosen.kind),
-                    relocation: chosen.relocation.elf_code(),
-                }
-            }
-            Architecture::Ppc64 => {
-                let name = Ppc64Relocation::from_elf(code);
-                let chosen = ppc64::choose(name, section, offset, facts);
-                Choice {
-                    kind: Relaxation::Ppc64(chosen.kind),
-                    relocation: chosen.relocation.elf_code(),
-                }
-            }
-            Architecture::X86_64 => {
-                let name = X86_64Relocation::from_elf(code);
-                let chosen = x86_64::choose(name, section, offset, facts);
-                Choice {
-                    kind: Relaxation::X86_64(chosen.kind),
-                    relocation: chosen.relocation.elf_code(),
-                }
-            }
-        }
+        by_architecture!(self, chosen(code, section, offset, facts))
     }
 
     /// Whether the relocation with a code, `r_type` in ELF files, can be rewritten if each other one
@@ -334,13 +312,7 @@ impl Architecture {
     pub fn row(self, code: u32) -> Option<Row>
         ensures { IsRow self code result }
     {
-        match self {
-            Architecture::AArch64 => aarch64::row(AArch64Relocation::from_elf(code)),
-            Architecture::RiscV => riscv64::row(RiscVRelocation::from_elf(code)),
-            Architecture::LoongArch64 => loongarch64::row(LoongArch64Relocation::from_elf(code)),
-            Architecture::Ppc64 => ppc64::row(Ppc64Relocation::from_elf(code)),
-            Architecture::X86_64 => x86_64::row(X86_64Relocation::from_elf(code)),
-        }
+        by_architecture!(self, row_of(code))
     }
 
     /// The name of a relocation in its psABI, as "R_AARCH64_CALL26", of at most 64 bytes. None of a
@@ -350,28 +322,7 @@ impl Architecture {
         ensures short { IfSome result (λ text. length text.now ≤ 64) }
         ensures unknown { IfNone result (IsElfName self code (unnamed code)) }
     {
-        match self {
-            Architecture::AArch64 => match AArch64Relocation::from_elf(code) {
-                AArch64Relocation::Other(_) => None,
-                name => Some(name.name()),
-            },
-            Architecture::RiscV => match RiscVRelocation::from_elf(code) {
-                RiscVRelocation::Other(_) => None,
-                name => Some(name.name()),
-            },
-            Architecture::LoongArch64 => match LoongArch64Relocation::from_elf(code) {
-                LoongArch64Relocation::Other(_) => None,
-                name => Some(name.name()),
-            },
-            Architecture::Ppc64 => match Ppc64Relocation::from_elf(code) {
-                Ppc64Relocation::Other(_) => None,
-                name => Some(name.name()),
-            },
-            Architecture::X86_64 => match X86_64Relocation::from_elf(code) {
-                X86_64Relocation::Other(_) => None,
-                name => Some(name.name()),
-            },
-        }
+        by_architecture!(self, text_of(code))
     }
 
     /// Whether the relocation with a code requires a GOT entry, as

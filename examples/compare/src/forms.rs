@@ -61,7 +61,7 @@ pub fn form(
         Architecture::LoongArch64 | Architecture::Ppc64 => {
             let (before, after) = (word(original, offset)?, word(linked, offset)?);
             match architecture {
-                Architecture::Ppc64 => ppc64(name, code, before, after),
+                Architecture::Ppc64 => ppc64(name, before, after),
                 _ => loongarch(name, before, after),
             }
         }
@@ -171,12 +171,11 @@ const PPC64_NOP: u32 = 0x6000_0000;
 const RA: u32 = 31 << 16;
 const RT: u32 = 31 << 21;
 
-fn ppc64(name: &str, code: u32, before: u32, after: u32) -> Option<(Form, u32)> {
+fn ppc64(name: &str, before: u32, after: u32) -> Option<(Form, u32)> {
     // GNU ld leaves `addis` with 0 away, and the next instruction counts from the thread pointer
     let is_from_thread = after & RA == 13 << 16;
     let call = |name| Form { skips_next: true, ..plain(name) };
     match name {
-        "R_PPC64_TPREL16_HA" => (after == PPC64_NOP).then_some((plain("AddisToNop"), NOTHING)),
         "R_PPC64_GOT_TPREL16_LO_DS" => (after == PPC64_NOP).then_some((plain("LdToNop"), NOTHING)),
         "R_PPC64_GOT_TLSGD16_LO" | "R_PPC64_GOT_TLSLD16_LO" => {
             (after == PPC64_NOP).then_some((plain("AddiToNop"), NOTHING))
@@ -186,11 +185,6 @@ fn ppc64(name: &str, code: u32, before: u32, after: u32) -> Option<(Form, u32)> 
             .then_some((call("CallToAddi, BaseToThread"), R_PPC64_TPREL16_LO)),
         "R_PPC64_TLSLD" => (after == 0x386d_1000)
             .then_some((call("CallToAddi4096, BaseToThread"), NOTHING)),
-        "R_PPC64_TPREL16_LO" | "R_PPC64_TPREL16_LO_DS" => {
-            let field = if name.ends_with("_DS") { 0xfffc } else { 0xffff };
-            let is_same = (before ^ after) & !(RA | field) == 0;
-            (is_same && is_from_thread).then_some((plain("BaseToThread"), code))
-        }
         "R_PPC64_TLS" => {
             let (opcode, field) = of_indexed(before)?;
             let is_it = (after ^ opcode ^ before & RT) & !(RA | field) == 0;

@@ -206,7 +206,7 @@ const SAID: [(&str, &str, &str); 123] = [
     ("R_PPC64_TLSLD", "nop", "CallToAddi4096"),
     ("R_PPC64_TPREL16_HA", "addis 5, 13, 0", "as it was (direct)"),
     ("R_PPC64_TPREL16_HA", "addis 6, 13, 0", "as it was (direct)"),
-    ("R_PPC64_TPREL16_HA", "nop", "AddisToNop"),
+    ("R_PPC64_TPREL16_HA", "nop", "AddisThreadToNop"),
     ("R_PPC64_TPREL16_LO", "addi 5, 13, N", "BaseToThread (direct)"),
     ("R_PPC64_TPREL16_LO", "addi 5, 5, N", "as it was (direct)"),
     ("R_PPC64_TPREL16_LO_DS", "ld 6, N(13)", "BaseToThread (direct)"),

@@ -39,7 +39,7 @@ pub enum Status {
     TooLarge = 17,
     /// The queries decrease somewhere.
     NotAscending,
-    /// The output array does not have the length of the result.
+    /// An output array does not have the length that the call takes.
     DifferentLengths,
     /// `malloc` or `realloc` returned null.
     OutOfMemory,

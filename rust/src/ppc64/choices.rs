@@ -45,6 +45,13 @@ const WITHOUT_HIGH_PART: Conditions<Names> = conditions!(
     InReach(R_PPC64_TOC16, 0)
 );
 
+/// The high part of the offset from the thread pointer is 0.
+const WITHOUT_HIGH_OFFSET: Conditions<Names> = conditions!(
+    BOUND + EXECUTABLE + EXCLUSIVE_TOC_BASE + GROUP_FITS,
+    None,
+    InReach(R_PPC64_TPREL16, 0)
+);
+
 /// The address by its distance from the TOC pointer.
 const TO_TOC_DISTANCE: Conditions<Names> = conditions!(
     BOUND + FIXED_DISTANCE,
@@ -150,6 +157,9 @@ macro_rules! choices {
             R_PPC64_REL24: [NopToRestoreToc => R_PPC64_REL24, AFTER_CALL]
             R_PPC64_REL16_HA: [AddisToLis => R_PPC64_ADDR16_HA, TO_ADDRESS_BY_ADDIS]
             R_PPC64_REL16_LO: [AddiBehindLis => R_PPC64_ADDR16_LO, TO_ADDRESS_BY_ADDI]
+            R_PPC64_TPREL16_HA: [AddisThreadToNop => R_PPC64_NONE, WITHOUT_HIGH_OFFSET]
+            R_PPC64_TPREL16_LO: [BaseToThread => R_PPC64_TPREL16, WITHOUT_HIGH_OFFSET]
+            R_PPC64_TPREL16_LO_DS: [BaseToThread => R_PPC64_TPREL16_DS, WITHOUT_HIGH_OFFSET]
         }
     };
 }
@@ -187,6 +197,10 @@ impl ChosenByTable for RelaxationKind {
 /// that computes the TOC pointer from the function's address, which register 12 has there (the same,
 /// "Function Prologue"): the second stands 4 bytes behind the first. A linker sets `group_fits` only
 /// where both are there, with the same symbol.
+///
+/// That of `R_PPC64_TPREL16_HA`, `R_PPC64_TPREL16_LO` and `R_PPC64_TPREL16_LO_DS` is all of these in a
+/// section of the same symbol and addend: the first becomes a `nop`, and the others don't read its
+/// register then.
 ///
 /// ```
 /// use linker_utils::elf::LinkFacts;
@@ -228,15 +242,9 @@ pub fn choose(
 /// use linker_utils::elf::LinkFacts;
 /// use linker_utils::ppc64::{Ppc64Relocation, fits};
 ///
-/// // addis 9,2,x@got@tprel@ha; ld 9,x@got@tprel@l(9); lwaux 3,9,13, which has no form by an offset
+/// // lwaux 3,9,13 with x@tls, which has no form by an offset
 /// let facts = LinkFacts { is_local: true, is_executable: true, ..LinkFacts::default() };
-/// let sequence = [
-///     (Ppc64Relocation::R_PPC64_GOT_TPREL16_HA, 0x3d22_0000u32),
-///     (Ppc64Relocation::R_PPC64_GOT_TPREL16_LO_DS, 0xe929_0000),
-///     (Ppc64Relocation::R_PPC64_TLS, 0x7c69_6aea),
-/// ];
-/// let fit = sequence.map(|(name, word)| fits(name, &word.to_le_bytes(), 0, &facts));
-/// assert_eq!(fit, [true, true, false]);
+/// assert!(!fits(Ppc64Relocation::R_PPC64_TLS, &0x7c69_6aeau32.to_le_bytes(), 0, &facts));
 /// ```
 #[must_use]
 #[doc = include_str!("../../doc/choices/fits.md")]
@@ -246,9 +254,9 @@ pub fn fits(name: Ppc64Relocation, section: &[u8], offset: u64, facts: &LinkFact
 
 /// With the same facts, except that each has its own place, and each at an instruction that its
 /// rewrites are meant for, both relocations of a pair are rewritten alike or neither is: of an
-/// address near the TOC, of a GOT entry, and of the entry for initial-exec. And so are those of
-/// general-dynamic TLS, all for local-exec, all for initial-exec or none, and those of
-/// local-dynamic TLS, also of the small code model. Nothing is said of `R_PPC64_TLS`: an indexed
+/// address near the TOC or the thread pointer, of a GOT entry, and of the entry for initial-exec.
+/// And so are those of general-dynamic TLS, all for local-exec, all for initial-exec or none, and
+/// those of local-dynamic TLS, also of the small code model. Nothing is said of `R_PPC64_TLS`: an indexed
 /// access of whole words is left where the offset isn't a multiple of 4. And nothing of
 /// `R_PPC64_GOT_TLSGD16`, which is left where the entry of initial-exec isn't near the TOC pointer.
 #[doc(hidden)]

@@ -65,6 +65,10 @@ pub enum RelaxationKind {
     AddisToLis,
     /// Writes `addi 2,2,0` behind that. The addend is then 0.
     AddiBehindLis,
+    /// Writes `nop` in place of `addis rT,13`.
+    AddisThreadToNop,
+    /// Makes register 13, the thread pointer, the base of an instruction: bits 16 to 20.
+    BaseToThread,
 }
 
 const NOP: u32 = 0x6000_0000;
@@ -136,10 +140,10 @@ fn li_of(target: u32) -> u32 {
     0x3800_0000 + (target << 21)
 }
 
-/// An instruction with register 2 as its base.
+/// An instruction with another base register.
 #[inline(always)]
-fn over_toc(word: u32) -> u32 {
-    (word >> 21 << 21) + 0x2_0000 + (word & 0xffff)
+fn over_base(register: u32, word: u32) -> u32 {
+    (word >> 21 << 21) + (register << 16) + (word & 0xffff)
 }
 
 /// An indexed access as one with a displacement of 0.
@@ -156,10 +160,10 @@ fn by_word_displacement(word: u32) -> u32 {
     (opcode << 26) + registers(word) + low
 }
 
-/// `addis rT,2`.
+/// `addis rT,rA`, over a given register.
 #[inline(always)]
-fn is_addis_of_toc(word: u32) -> bool {
-    opcode(word) == 15 && base(word) == 2
+fn is_addis_over(register: u32, word: u32) -> bool {
+    opcode(word) == 15 && base(word) == register
 }
 
 /// `addis 2,12`.
@@ -318,6 +322,8 @@ impl RelaxationKind {
             15 => RelaxationKind::KeepAddis,
             16 => RelaxationKind::AddisToLis,
             17 => RelaxationKind::AddiBehindLis,
+            18 => RelaxationKind::AddisThreadToNop,
+            19 => RelaxationKind::BaseToThread,
             _ => return None,
         };
         Some(kind)
@@ -344,10 +350,16 @@ impl RelaxationKind {
         let offset = *offset_in_section;
         match self {
             RelaxationKind::NoOp | RelaxationKind::KeepAddis => {}
-            RelaxationKind::AddisToNop => put_word(section_bytes, offset, NOP),
+            RelaxationKind::AddisToNop | RelaxationKind::AddisThreadToNop => {
+                put_word(section_bytes, offset, NOP);
+            }
             RelaxationKind::BaseToToc => {
                 let word = word_at(section_bytes, offset);
-                put_word(section_bytes, offset, over_toc(word));
+                put_word(section_bytes, offset, over_base(2, word));
+            }
+            RelaxationKind::BaseToThread => {
+                let word = word_at(section_bytes, offset);
+                put_word(section_bytes, offset, over_base(13, word));
             }
             RelaxationKind::LdToAddi | RelaxationKind::AddToAddi => {
                 let word = word_at(section_bytes, offset);
@@ -439,8 +451,9 @@ impl RelaxationKind {
         let word = word_at(section, offset);
         match self {
             RelaxationKind::NoOp => true,
-            RelaxationKind::AddisToNop | RelaxationKind::KeepAddis => is_addis_of_toc(word),
-            RelaxationKind::BaseToToc => is_over_base(word),
+            RelaxationKind::AddisToNop | RelaxationKind::KeepAddis => is_addis_over(2, word),
+            RelaxationKind::AddisThreadToNop => is_addis_over(13, word),
+            RelaxationKind::BaseToToc | RelaxationKind::BaseToThread => is_over_base(word),
             RelaxationKind::LdToAddi => is_ld(word),
             RelaxationKind::PldToPaddi => has_pld(section, offset),
             RelaxationKind::LdToAddisThread => is_ld(word) && target(word) != 0,

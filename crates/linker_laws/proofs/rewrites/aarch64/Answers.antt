@@ -1,8 +1,8 @@
 -- The laws of AArch64.
-use Rattle.std.proofs.Common.{◌≡◌, ℕ, ◌+◌, refl, sym, ◌∙◌, ap, arith, pos, ◌+ℤ◌, drop, [], ◌∷◌, eqb}
-use Rattle.std.proofs.Common.{◌*ℤ◌, take, length, ◌++◌, subst, Some, ◌-◌, List, ◌<◌, ◌/◌, ◌^◌}
+use Rattle.std.proofs.Common.{◌≡◌, ◌≢◌, ℕ, ◌+◌, refl, sym, ◌∙◌, ap, arith, pos, ◌+ℤ◌, drop, [], ◌∷◌, eqb}
+use Rattle.std.proofs.Common.{◌*ℤ◌, ℤ, take, length, ◌++◌, subst, Some, ◌-◌, List, ◌<◌, ◌/◌, ◌^◌}
 use Rattle.std.specs.Prelude.{bit_and}
-use Rattle.std.specs.Int.{bit_at}
+use Rattle.std.specs.Int.{bit_at, w64, cast_signed}
 use Rattle.std.proofs.Math.Seq.{drop-append_seam, take-append_seam}
 use Rattle.std.proofs.lemmas.Bool.{cond-false, eqb-true}
 use Rattle.std.proofs.lemmas.List.{length-take-le, append_assoc}
@@ -12,7 +12,10 @@ use Rattle.linker_base.specs.Form.{place_sum}
 use Rattle.linker_base.specs.Rewrite.{Rewrite, rewrite_window}
 use Rattle.linker_aarch64.specs.AArch64Rewrites.{rd_of, rn_of}
 use Rattle.linker_elf.specs.AArch64.{aarch64_form}
-use Rattle.linker_elf.specs.Value.{sum_64}
+use Rattle.linker_elf.specs.Elf.{IsWithin, bit_bounds}
+use Rattle.linker_elf.specs.LoongArch.{page}
+use Rattle.linker_elf.specs.Value.{sum_64, difference_64}
+use Rattle.linker_elf.specs.declared.elf.Sign.TheVariants.{Signed}
 use Rattle.linker_elf.specs.declared.aarch64.forms.AArch64Instruction.TheVariants.{JumpCall}
 use Rattle.linker_aarch64.specs.declared.rewrites.RelaxationKind.TheVariants.{NoOp}
 use Rattle.linker_aarch64.specs.declared.rewrites.RelaxationKind.TheVariants.{ReplaceWithNop}
@@ -35,7 +38,6 @@ use Rattle.linker_laws.specs.AArch64RewriteLaws as aarch64_laws
 use Rattle.linker_laws.specs.AArch64Machine.{in_64_bits, adr_address, go_on, go_to, branch_target}
 use Rattle.linker_laws.specs.AArch64Machine.{execute, step, write_x, next_pc, State, adrp_address}
 use Rattle.linker_laws.specs.AArch64Machine.{loaded, added}
-use Rattle.linker_laws.specs.AArch64Worked.{WorkedSteps, WorkedRuns}
 use Rattle.linker_laws.proofs.AArch64Descriptors.{to_local_exec, to_initial_exec}
 use Rattle.linker_laws.proofs.AArch64Halves.{high_half, low_half}
 use Rattle.linker_laws.proofs.AArch64Pairs.{word_is, loads, adds_pair, word_made, pair_made}
@@ -135,6 +137,26 @@ address_by literals o s both made p is_made adrp1 add1 adr2 first d1 leads b2 =
     (step_adr y n t (decodes_adr y adr.opcode adr.top) rd named))
     (alike_once n _ _ (adr_address y t) s (d.value_is ∙ sym value))
 
+-- The page is near, where `adr` at the place, or behind it, reaches the address.
+abbrev AreNear : Operands → ℕ → Type 0
+AreNear o q =
+    (v w : ℤ)
+    → Some (cast_signed w64 (difference_64 (page (sum_64 (symbol_address o) 0)) (page o.place))) ≡ Some v
+    → Some (cast_signed w64 (difference_64 (sum_64 (symbol_address o) 0) q)) ≡ Some w
+    → IsWithin (Some (bit_bounds 21 Signed)) w → IsWithin (Some (bit_bounds 33 Signed)) v
+
+near_here : (o : Operands) → AreAddresses o → AreNear o o.place
+near_here o small =
+    let place = small.place in
+    near (sum_64 (symbol_address o) 0) o.place o.place (sum_below (symbol_address o) 0) place place
+    (omega arith)
+
+near_behind : (o : Operands) → AreAddresses o → AreNear o (sum_64 o.place 4)
+near_behind o small =
+    let place = small.place in
+    near (sum_64 (symbol_address o) 0) o.place (sum_64 o.place 4) (sum_below (symbol_address o) 0) place
+    (sum_below o.place 4) (omega arith)
+
 address : relocation_laws.RelativeAddresses → relocation_laws.Literals → aarch64_laws.AddressToAdr
 address relative literals = (
   λ o s both made p is_made adrp1 add1 adr2 a1 d1 b2.
@@ -145,9 +167,8 @@ address relative literals = (
       b2,
   λ o s both made p is_made adrp1 add1 adr2 a1 d1 b2.
       let one = p.one_register in
-      let t = sum_64 (symbol_address o) 0 in
-      let fits = near t o.place (sum_below (symbol_address o) 0) p.small.place a1.value b2.value
-      a1.value_is b2.value_is b2.accepted.reached.0 in
+      let fits = near_behind o p.small a1.value b2.value a1.value_is b2.value_is
+      b2.accepted.reached.0 in
       address_by literals o s both made p is_made adrp1 add1 adr2
       (adr_of_register one.register (adrp_after _ _ both adrp1 a1.written one.first)) d1
       (relative.1.0 o p.small o.place both adrp1 a1 fits (sum_64 o.place 4) (drop 4 both) add1 d1
@@ -156,16 +177,23 @@ address relative literals = (
 
 -- ---- `adr` in place of one instruction
 
-adrp_made : relocation_laws.RelativeAddresses → relocation_laws.Literals → aarch64_laws.AdrpMadeAdr
-adrp_made relative literals o s adrp add made nop p is_made is_nop adrp1 add1 adr2 a1 d1 b2 =
+-- by the words of the pair
+adrp_made_by : relocation_laws.Literals → (o : Operands) (s : State) (adrp add made nop : List ℕ)
+    → aarch64_laws.IsPair IsAdd64 o s adrp add → aarch64_laws.IsRewritten AdrpToAdr adrp made
+    → aarch64_laws.IsRewritten ReplaceWithNop add nop → (adrp1 add1 adr2 : List ℕ)
+    → IsAdrOf 1 (rd_of (word_of add)) (word_of adrp1)
+    → aarch64_laws.IsRelocated names.R_AARCH64_ADD_ABS_LO12_NC (behind 4 o) add add1
+    → IsAddress (relocation_laws.page_and_offset Add 1 o (word_of adrp1) (word_of add1))
+    (symbol_address o)
+    → aarch64_laws.IsRelocated names.R_AARCH64_ADR_PREL_LO21 o made adr2
+    → RunAlike (pair adrp1 add1) (pair adr2 nop) s
+adrp_made_by literals o s adrp add made nop p is_made is_nop adrp1 add1 adr2 first d1 leads b2 =
     let one = p.one_register in
     let n = rd_of (word_of add) in
     let named = one.into_own_source.not_31 in
-    let d = adds_pair o n (word_of adrp1) (word_of add1) _ s
-    (adr_of_register one.register (adrp_after _ _ adrp adrp1 a1.written one.first))
+    let d = adds_pair o n (word_of adrp1) (word_of add1) _ s first
     (of_registers refl one.into_own_source.same (add_after _ _ add add1 d1.written
-    (masked_field (word_of add) 0xffc00000 0x91000000 22 32 p.second_is refl))) named p.at
-    (relative.0.0 o p.small o.place adrp adrp1 a1 tt (sum_64 o.place 4) add add1 d1 tt) in
+    (masked_field (word_of add) 0xffc00000 0x91000000 22 32 p.second_is refl))) named p.at leads in
     let word = word_made (λ x. bit_and x 0x7fffffff) adrp made
     (below_mask (word_of adrp) 0x7fffffff (omega arith)) is_made in
     let was = adr_of_adrp (word_of adrp)
@@ -184,8 +212,33 @@ adrp_made relative literals o s adrp add made nop p is_made is_nop adrp1 add1 ad
     (ap (λ w. step w t) (word_is 0xd503201f nop (omega arith) is_nop)))
     (alike_before n _ _ (adr_address y s) s (d.value_is ∙ sym value))
 
-add_made : relocation_laws.RelativeAddresses → relocation_laws.Literals → aarch64_laws.AddMadeAdr
-add_made relative literals o s adrp add made p is_made adrp1 add1 adr2 a1 d1 b2 =
+adrp_made : relocation_laws.RelativeAddresses → relocation_laws.Literals → aarch64_laws.AdrpMadeAdr
+adrp_made relative literals = (
+  λ o s adrp add made nop p is_made is_nop adrp1 add1 adr2 a1 d1 b2.
+      let one = p.one_register in
+      adrp_made_by literals o s adrp add made nop p is_made is_nop adrp1 add1 adr2
+      (adr_of_register one.register (adrp_after _ _ adrp adrp1 a1.written one.first)) d1
+      (relative.0.0 o p.small o.place adrp adrp1 a1 tt (sum_64 o.place 4) add add1 d1 tt) b2,
+  λ o s adrp add made nop p is_made is_nop adrp1 add1 adr2 a1 d1 b2.
+      let one = p.one_register in
+      let fits = near_here o p.small a1.value b2.value a1.value_is b2.value_is
+      b2.accepted.reached.0 in
+      adrp_made_by literals o s adrp add made nop p is_made is_nop adrp1 add1 adr2
+      (adr_of_register one.register (adrp_after _ _ adrp adrp1 a1.written one.first)) d1
+      (relative.1.0 o p.small o.place adrp adrp1 a1 fits (sum_64 o.place 4) add add1 d1 tt) b2,
+)
+
+-- by the words of the two
+add_made_by : relocation_laws.Literals → (o : Operands) (s : State) (adrp add made : List ℕ)
+    → aarch64_laws.IsOnPage (λ word. IsAdd64 word × (rd_of word ≢ 31)) o s adrp add
+    → aarch64_laws.IsRewritten AddToAdr add made → (adrp1 add1 adr2 : List ℕ)
+    → IsAdrOf 1 (rd_of (word_of adrp)) (word_of adrp1)
+    → aarch64_laws.IsRelocated names.R_AARCH64_ADD_ABS_LO12_NC (behind 4 o) add add1
+    → IsAddress (relocation_laws.page_and_offset Add 1 o (word_of adrp1) (word_of add1))
+    (symbol_address o)
+    → aarch64_laws.IsRelocated names.R_AARCH64_ADR_PREL_LO21 (behind 4 o) made adr2
+    → RunAlike (pair adrp1 add1) (pair adrp1 adr2) s
+add_made_by literals o s adrp add made p is_made adrp1 add1 adr2 adrp_is d1 leads b2 =
     let n = rd_of (word_of adrp) in
     let d = rd_of (word_of add) in
     let x = word_of adrp1 in
@@ -193,7 +246,6 @@ add_made relative literals o s adrp add made p is_made adrp1 add1 adr2 a1 d1 b2 
     let y = word_of adr2 in
     let op : field (word_of add) 22 32 ≡ 0x244 =
     masked_field (word_of add) 0xffc00000 0x91000000 22 32 p.second_is.0 refl in
-    let adrp_is = adrp_after _ _ adrp adrp1 a1.written p.is_adrp in
     let add_is = add_after _ _ add add1 d1.written op in
     let word = word_made (λ w. bit_and w 0x76ffffff) add made
     (below_mask (word_of add) 0x76ffffff (omega arith)) is_made in
@@ -204,8 +256,7 @@ add_made relative literals o s adrp add made p is_made adrp1 add1 adr2 a1 d1 b2 
     let first =
     step_adrp x n s (decodes_adrp x adrp_is.opcode adrp_is.top) adrp_is.rd_is p.not_31 in
     let value : added z t ≡ adr_address y t =
-    page_added o n x z (symbol_address o) s (add_is.rn_is ∙ p.source) p.at
-    (relative.0.0 o p.small o.place adrp adrp1 a1 tt (sum_64 o.place 4) add add1 d1 tt)
+    page_added o n x z (symbol_address o) s (add_is.rn_is ∙ p.source) p.at leads
     ∙ sym (adr_is (behind 4 o) y (symbol_address o) t (ap (λ q. sum_64 q 4) p.at)
     (literals.0 (behind 4 o) (small_behind 4 o p.small) o.place made adr2 b2 tt)) in
     alike_runs _ (pair adrp1 add1) (pair adrp1 adr2) s _ _
@@ -215,6 +266,20 @@ add_made relative literals o s adrp add made p is_made adrp1 add1 adr2 a1 d1 b2 
     (step_adr y d t (decodes_adr y adr.opcode adr.top) (adr.rd_is ∙ ap rd_of word ∙ was.rd_is)
     p.second_is.1))
     (alike_itself _ (set d (adr_address y t) t))
+
+add_made : relocation_laws.RelativeAddresses → relocation_laws.Literals → aarch64_laws.AddMadeAdr
+add_made relative literals = (
+  λ o s adrp add made p is_made adrp1 add1 adr2 a1 d1 b2.
+      add_made_by literals o s adrp add made p is_made adrp1 add1 adr2
+      (adrp_after _ _ adrp adrp1 a1.written p.is_adrp) d1
+      (relative.0.0 o p.small o.place adrp adrp1 a1 tt (sum_64 o.place 4) add add1 d1 tt) b2,
+  λ o s adrp add made p is_made adrp1 add1 adr2 a1 d1 b2.
+      let fits = near_behind o p.small a1.value b2.value a1.value_is b2.value_is
+      b2.accepted.reached.0 in
+      add_made_by literals o s adrp add made p is_made adrp1 add1 adr2
+      (adrp_after _ _ adrp adrp1 a1.written p.is_adrp) d1
+      (relative.1.0 o p.small o.place adrp adrp1 a1 fits (sum_64 o.place 4) add add1 d1 tt) b2,
+)
 
 ldr_made : relocation_laws.EntryAddresses → relocation_laws.Literals → aarch64_laws.LdrMadeAdr
 ldr_made entries literals o s adrp ldr made p holds is_made adrp1 ldr1 adr2 a1 l1 b2 =
@@ -321,9 +386,26 @@ sections LdrToAdr section o = in_section _ section o (λ window. refl)
 sections LdrToAdd section o = in_section _ section o (λ window. refl)
 sections AdrpAddToNopAdr section o = in_section _ section o (λ window. refl)
 
-worked : WorkedSteps
+pub returns-clause-laws : goal.returns-clause-laws
+returns-clause-laws c =
+    let laws = c.aarch64.ensures in
+    record {
+      got = got_pair laws.relative laws.entries;
+      high_half = high_half;
+      low_half = low_half;
+      address = address laws.relative laws.literals;
+      descriptor_to_local_exec = to_local_exec laws.entries laws.thread_moves;
+      descriptor_to_initial_exec = to_initial_exec laws.entries;
+      weak = branches laws.branches;
+      adrp_made_adr = adrp_made laws.relative laws.literals;
+      add_made_adr = add_made laws.relative laws.literals;
+      ldr_made_adr = ldr_made laws.entries laws.literals;
+      sections = sections;
+    }
+
+pub returns-clause-steps : goal.returns-clause-steps
 unfolding place_sum
-worked = (
+returns-clause-steps c = (
   (refl, refl),
   (refl, refl),
   (refl, refl),
@@ -341,25 +423,6 @@ worked = (
   (refl, refl),
 )
 
-worked_runs : WorkedRuns
+pub returns-clause-runs : goal.returns-clause-runs
 unfolding place_sum
-worked_runs = (refl, refl, refl)
-
-pub returns : goal.returns
-returns c =
-    let laws = c.aarch64.ensures in
-    record {
-      got = got_pair laws.relative laws.entries;
-      high_half = high_half;
-      low_half = low_half;
-      address = address laws.relative laws.literals;
-      descriptor_to_local_exec = to_local_exec laws.entries laws.thread_moves;
-      descriptor_to_initial_exec = to_initial_exec laws.entries;
-      weak = branches laws.branches;
-      adrp_made_adr = adrp_made laws.relative laws.literals;
-      add_made_adr = add_made laws.relative laws.literals;
-      ldr_made_adr = ldr_made laws.entries laws.literals;
-      sections = sections;
-      steps = worked;
-      runs = worked_runs;
-    }
+returns-clause-runs c = (refl, refl, refl)

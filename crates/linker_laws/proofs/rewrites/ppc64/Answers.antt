@@ -1,10 +1,15 @@
 -- The laws of PowerPC64.
 use Rattle.linker_laws.proofs.Ppc64Addresses.{got_to_address, initial_exec, addi_near_toc}
+use Rattle.linker_laws.proofs.Ppc64Apart.{high_half_to_nop, high_half_of_entry, high_half_of_symbol, load_to_sum}
+use Rattle.linker_laws.proofs.Ppc64Arguments.{argument_to_high_half, argument_to_offset, argument_to_thread}
+use Rattle.linker_laws.proofs.Ppc64Arguments.{call_to_low_half, call_to_sum, call_to_block}
 use Rattle.linker_laws.proofs.Ppc64Calls.{restores_toc}
 use Rattle.linker_laws.proofs.Ppc64Copies.{arguments, near_initial_exec, argument_to_local}
 use Rattle.linker_laws.proofs.Ppc64Copies.{argument_to_initial, near_argument_to_initial}
 use Rattle.linker_laws.proofs.Ppc64Copies.{argument_to_module}
 use Rattle.linker_laws.proofs.Ppc64Direct.{access_near_toc, access_to_local_exec}
+use Rattle.linker_laws.proofs.Ppc64LowHalves.{low_half_over_base}
+use Rattle.linker_laws.proofs.Ppc64Offsets.{offset_to_high_half, offset_to_low_half}
 use Rattle.linker_laws.proofs.Ppc64WholeWords.{word_access_near_toc}
 use Rattle.linker_laws.proofs.Ppc64IndexedWords.{word_access_to_local_exec}
 use Rattle.linker_laws.proofs.Ppc64Threads.{general_to_local, general_to_initial, local_dynamic}
@@ -17,24 +22,39 @@ pub returns : goal.returns
 returns c =
     let laws = c.ppc64.ensures in
     record {
-      got = got_to_address laws.got laws.toc;
-      initial_exec = initial_exec laws.entries laws.thread;
-      initial_exec_access = access_to_local_exec laws.entries laws.thread;
-      access_near_toc = access_near_toc laws.toc laws.displacements;
-      word_access_near_toc = word_access_near_toc laws.toc laws.displacements;
-      initial_exec_word_access = word_access_to_local_exec laws.entries laws.thread;
-      general_to_local = general_to_local laws.entries laws.thread;
-      general_to_initial = general_to_initial laws.entries;
-      local_dynamic = local_dynamic laws.entries;
-      near_initial_exec = near_initial_exec laws.thread laws.displacements;
-      arguments = arguments laws.entries laws.displacements;
-      argument_to_local = argument_to_local laws.thread;
-      argument_to_initial = argument_to_initial laws.entries;
-      near_argument_to_initial = near_argument_to_initial laws.displacements;
-      argument_to_module = argument_to_module;
-      prefixed = pld_to_paddi laws.prefixed;
-      near_toc = addi_near_toc laws.toc laws.displacements;
-      vector_access_near_toc = vector_access_near_toc laws.toc laws.displacements;
-      toc_at_entry = toc_at_entry laws.relative laws.absolute;
-      toc = restores_toc;
+      laws = record {
+        got = got_to_address laws.got laws.toc;
+        initial_exec = initial_exec laws.entries laws.thread;
+        initial_exec_access = access_to_local_exec laws.entries laws.thread;
+        access_near_toc = access_near_toc laws.toc laws.displacements;
+        word_access_near_toc = word_access_near_toc laws.toc laws.displacements;
+        initial_exec_word_access = word_access_to_local_exec laws.entries laws.thread;
+        general_to_local = general_to_local laws.entries laws.thread;
+        general_to_initial = general_to_initial laws.entries;
+        local_dynamic = local_dynamic laws.entries;
+        near_initial_exec = near_initial_exec laws.thread laws.displacements;
+        arguments = arguments laws.entries laws.displacements;
+        argument_to_local = argument_to_local laws.thread;
+        argument_to_initial = argument_to_initial laws.entries;
+        near_argument_to_initial = near_argument_to_initial laws.displacements;
+        argument_to_module = argument_to_module;
+        prefixed = pld_to_paddi laws.prefixed;
+        near_toc = addi_near_toc laws.toc laws.displacements;
+        vector_access_near_toc = vector_access_near_toc laws.toc laws.displacements;
+        high_half = high_half_to_nop laws.toc laws.thread laws.entries;
+        low_half = low_half_over_base laws.displacements;
+        offset_high_half = offset_to_high_half laws.thread;
+        offset_low_half = offset_to_low_half;
+        entry_high_half = high_half_of_entry laws.entries;
+        symbol_high_half = high_half_of_symbol laws.got laws.toc;
+        symbol_load = load_to_sum;
+        argument_high_half = argument_to_high_half laws.thread;
+        argument_offset = argument_to_offset;
+        argument_thread = argument_to_thread;
+        call_low_half = call_to_low_half;
+        call_sum = call_to_sum;
+        call_block = call_to_block;
+        toc_at_entry = toc_at_entry laws.relative laws.absolute;
+        toc = restores_toc;
+      };
     }

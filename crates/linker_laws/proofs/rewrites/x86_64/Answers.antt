@@ -5,51 +5,68 @@ use Rattle.linker_laws.proofs.X86Evex as evex
 use Rattle.linker_laws.proofs.X86Immediates as with
 use Rattle.linker_laws.proofs.X86Loads as loads
 use Rattle.linker_laws.proofs.X86Descriptors as descriptors
+use Rattle.linker_laws.proofs.X86DescriptorSteps as lea
 use Rattle.linker_laws.proofs.X86LargeThreads as larges
 use Rattle.linker_laws.proofs.X86LocalDynamic as dynamic
 use Rattle.linker_laws.proofs.X86Threads as threads
 use Rattle.linker_laws.proofs.rewrites.x86_64.Goals as goal
 
-pub returns-clause-loads : goal.returns-clause-loads
-returns-clause-loads c =
-    ((loads.without_prefix, loads.with_rex_prefix, loads.with_rex2_prefix), loads.of_any_load)
+pub returns-clause-laws : goal.returns-clause-laws
+returns-clause-laws c = record {
+  loads = ((loads.without_prefix, loads.with_rex_prefix, loads.with_rex2_prefix), loads.of_any_load);
+  absolute = (
+    with.without_prefix with.mov,
+    (with.within_window with.mov, with.with_rex_prefix with.mov, with.with_rex2_prefix with.mov),
+  );
+  operations = (
+    (with.without_prefix with.add, with.with_rex_prefix with.add, with.with_rex2_prefix with.add),
+    (with.within_window with.sub, with.with_rex_prefix with.sub, with.with_rex2_prefix with.sub),
+    (with.within_window with.cmp, with.with_rex_prefix with.cmp, with.with_rex2_prefix with.cmp),
+    (with.without_prefix with.adc, with.with_rex_prefix with.adc, with.with_rex2_prefix with.adc),
+    (with.without_prefix with.and, with.with_rex_prefix with.and, with.with_rex2_prefix with.and),
+    (with.without_prefix with.or, with.with_rex_prefix with.or, with.with_rex2_prefix with.or),
+    (with.without_prefix with.sbb, with.with_rex_prefix with.sbb, with.with_rex2_prefix with.sbb),
+    (with.without_prefix with.xor, with.with_rex_prefix with.xor, with.with_rex2_prefix with.xor),
+    (with.without_prefix with.test, with.with_rex_prefix with.test, with.with_rex2_prefix with.test),
+    (
+      evex.with_evex_prefix evex.add,
+      evex.with_evex_prefix evex.adc,
+      evex.with_evex_prefix evex.and,
+      evex.with_evex_prefix evex.or,
+      evex.with_evex_prefix evex.sbb,
+      evex.with_evex_prefix evex.xor,
+    ),
+  );
+  branches = (branches.calls, branches.jumps);
+  thread = (
+    (with.of_thread with.mov, with.of_thread_with_rex2 with.mov),
+    (with.of_thread with.add, with.of_thread_with_rex2 with.add),
+    evex.of_thread_with_evex evex.add,
+  );
+}
 
-pub returns-clause-absolute : goal.returns-clause-absolute
-returns-clause-absolute c = (
-  with.without_prefix with.mov,
-  (with.within_window with.mov, with.with_rex_prefix with.mov, with.with_rex2_prefix with.mov),
-)
-
-pub returns-clause-operations : goal.returns-clause-operations
-returns-clause-operations c = (
-  (with.without_prefix with.add, with.with_rex_prefix with.add, with.with_rex2_prefix with.add),
-  (with.within_window with.sub, with.with_rex_prefix with.sub, with.with_rex2_prefix with.sub),
-  (with.within_window with.cmp, with.with_rex_prefix with.cmp, with.with_rex2_prefix with.cmp),
-  (with.without_prefix with.adc, with.with_rex_prefix with.adc, with.with_rex2_prefix with.adc),
-  (with.without_prefix with.and, with.with_rex_prefix with.and, with.with_rex2_prefix with.and),
-  (with.without_prefix with.or, with.with_rex_prefix with.or, with.with_rex2_prefix with.or),
-  (with.without_prefix with.sbb, with.with_rex_prefix with.sbb, with.with_rex2_prefix with.sbb),
-  (with.without_prefix with.xor, with.with_rex_prefix with.xor, with.with_rex2_prefix with.xor),
-  (with.without_prefix with.test, with.with_rex_prefix with.test, with.with_rex2_prefix with.test),
-  (
-    evex.with_evex_prefix evex.add,
-    evex.with_evex_prefix evex.adc,
-    evex.with_evex_prefix evex.and,
-    evex.with_evex_prefix evex.or,
-    evex.with_evex_prefix evex.sbb,
-    evex.with_evex_prefix evex.xor,
-  ),
-)
-
-pub returns-clause-thread : goal.returns-clause-thread
-returns-clause-thread c = (
-  (with.of_thread with.mov, with.of_thread_with_rex2 with.mov),
-  (with.of_thread with.add, with.of_thread_with_rex2 with.add),
-  evex.of_thread_with_evex evex.add,
-)
-
-pub returns-clause-branches : goal.returns-clause-branches
-returns-clause-branches c = (branches.calls, branches.jumps)
+pub returns-clause-thread_laws : goal.returns-clause-thread_laws
+returns-clause-thread_laws c = record {
+  general_dynamic = (
+    threads.local_exec,
+    threads.initial_exec,
+    larges.local_exec,
+  );
+  local_dynamic = (dynamic.by_plt, dynamic.by_got, dynamic.in_large_model);
+  descriptors = (
+    descriptors.local_exec,
+    descriptors.initial_exec,
+    descriptors.rex2_local_exec,
+    descriptors.rex2_initial_exec,
+  );
+  descriptor_address = (
+    lea.local_exec,
+    lea.initial_exec,
+    lea.rex2_local_exec,
+    lea.rex2_initial_exec,
+  );
+  descriptor_call = lea.call;
+}
 
 pub returns-clause-decoding : goal.returns-clause-decoding
 returns-clause-decoding c = (
@@ -141,21 +158,3 @@ returns-clause-states c = (
   (refl, refl, refl, refl),
   (refl, refl, refl),
 )
-
-pub returns-clause-general_dynamic : goal.returns-clause-general_dynamic
-returns-clause-general_dynamic c = (
-  threads.local_exec,
-  threads.initial_exec,
-  larges.local_exec,
-)
-
-pub returns-clause-descriptors : goal.returns-clause-descriptors
-returns-clause-descriptors c = (
-  descriptors.local_exec,
-  descriptors.initial_exec,
-  descriptors.rex2_local_exec,
-  descriptors.rex2_initial_exec,
-)
-
-pub returns-clause-local_dynamic : goal.returns-clause-local_dynamic
-returns-clause-local_dynamic c = (dynamic.by_plt, dynamic.by_got, dynamic.in_large_model)

@@ -1,8 +1,11 @@
-use Rattle.linker_ppc64.proofs.Ppc64Alike.{toc_pairs, got_pair, initial_exec_pair, general_dynamic, local_dynamic}
+use Rattle.linker_ppc64.proofs.Ppc64Alike.{toc_pairs, thread_pairs, got_pair, initial_exec_pair, general_dynamic, local_dynamic}
 use Rattle.linker_ppc64.proofs.choices.relocations_are_chosen_alike.Goals as goal
 
 pub returns-clause-toc : goal.returns-clause-toc
 returns-clause-toc c = toc_pairs
+
+pub returns-clause-local_exec : goal.returns-clause-local_exec
+returns-clause-local_exec c = thread_pairs
 
 pub returns-clause-got : goal.returns-clause-got
 returns-clause-got c = got_pair

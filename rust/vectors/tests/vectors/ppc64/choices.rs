@@ -278,6 +278,77 @@ fn vectors_are_near_the_toc() {
     }
 }
 
+/// GNU ld 2.40 makes these words of a variable 0x6ff0 below the thread pointer: `nop` of `addis 9,13`,
+/// and register 13 in place of 9 as the base of `addi`, `lwz`, `lbz`, `lha`, `sth`, `lfs`, `lfd`, `stfd`,
+/// `ld`, `lwa`, `std`, `lxv` and `stxv`, `lxsd`, `stxssp` and `lq`. ld.lld 19 leaves them.
+#[test]
+fn offsets_near_the_thread_pointer_have_no_high_half() {
+    let mut facts = own();
+    facts.operands.symbol = 0x1001_0010;
+    let high = Ppc64Relocation::R_PPC64_TPREL16_HA;
+    let nop = Choice {
+        kind: RelaxationKind::AddisThreadToNop,
+        relocation: Ppc64Relocation::R_PPC64_NONE,
+    };
+    assert_eq!(linked(high, [0x3d2d_0000, 0], &facts), (nop, [0x6000_0000, 0]));
+    let low = Ppc64Relocation::R_PPC64_TPREL16_LO;
+    let low_ds = Ppc64Relocation::R_PPC64_TPREL16_LO_DS;
+    let kind = RelaxationKind::BaseToThread;
+    for (name, before, after) in [
+        (low, 0x3869_0000, 0x386d_9010),
+        (low, 0x8069_0000, 0x806d_9010),
+        (low, 0x8869_0000, 0x886d_9010),
+        (low, 0xa869_0000, 0xa86d_9010),
+        (low, 0xb069_0000, 0xb06d_9010),
+        (low, 0xc029_0000, 0xc02d_9010),
+        (low, 0xc829_0000, 0xc82d_9010),
+        (low, 0xd829_0000, 0xd82d_9010),
+        (low_ds, 0xe869_0000, 0xe86d_9010),
+        (low_ds, 0xe869_0002, 0xe86d_9012),
+        (low_ds, 0xf869_0000, 0xf86d_9010),
+        (low_ds, 0xf449_0009, 0xf44d_9019),
+        (low_ds, 0xf429_0005, 0xf42d_9015),
+        (low_ds, 0xe449_0002, 0xe44d_9012),
+        (low_ds, 0xf449_0003, 0xf44d_9013),
+        (low_ds, 0xe089_0000, 0xe08d_9010),
+    ] {
+        let (chosen, made) = linked(name, [before, 0], &facts);
+        assert_eq!(chosen.kind, kind, "{before:#x}");
+        assert_eq!(made, [after, 0], "{before:#x}");
+    }
+    // `addis 9,2`; `lwzu 3,0(9)`; `std 9,0(9)`; `stfdp 0,0(9)`
+    for (name, word) in
+        [(high, 0x3d22_0000), (low, 0x8469_0000), (low_ds, 0xf929_0000), (low_ds, 0xf409_0000)]
+    {
+        assert!(chosen_for(name, [word, 0], &facts).is_unchanged(name), "{word:#x}");
+    }
+    // 0x7fff above the thread pointer, the first offset above that, and 0x8000 below it, and the last
+    // one below that
+    for (symbol, is_near) in
+        [(0x1001_efff, true), (0x1001_f000, false), (0x1000_f000, true), (0x1000_efff, false)]
+    {
+        facts.operands.symbol = symbol;
+        for (name, word) in [(high, 0x3d2d_0000), (low, 0x3869_0000)] {
+            assert_eq!(!chosen_for(name, [word, 0], &facts).is_unchanged(name), is_near);
+        }
+    }
+    // what else has to be so
+    let near = LinkFacts { operands: Operands { symbol: 0x1001_0010, ..facts.operands }, ..facts };
+    for missing in [
+        LinkFacts { is_local: false, ..near },
+        LinkFacts { is_ifunc: true, ..near },
+        LinkFacts { is_executable: false, ..near },
+        LinkFacts { toc_base_is_exclusive: false, ..near },
+        LinkFacts { group_fits: false, ..near },
+        LinkFacts { has_addresses: false, ..near },
+    ] {
+        for (name, word) in [(high, 0x3d2d_0000), (low, 0x3869_0000), (low_ds, 0xe869_0000)] {
+            assert!(!chosen_for(name, [word, 0], &near).is_unchanged(name));
+            assert!(chosen_for(name, [word, 0], &missing).is_unchanged(name));
+        }
+    }
+}
+
 #[test]
 fn other_variables_of_an_executable_have_an_entry() {
     let table: [Rewritten; 5] = [
@@ -327,20 +398,23 @@ fn other_variables_of_an_executable_have_an_entry() {
 
 #[test]
 fn other_instructions_stay() {
-    // `addis 9,3`; `lwzu 3,0(9)`; `std 9,0(9)`; `addis 9,3` twice; `ld 3,0(0)`; `add 3,9,12`; `lwzux
-    // 3,9,13`; `stwx 9,9,13`; `lwaux 3,9,13`; `bl` without `nop`; `li 4,0`; and of calls by their
-    // address `mtctr 12` and `bctrl`
-    let table: [(Ppc64Relocation, [u32; 2]); 14] = [
+    // `addis 9,3`; `lwzu 3,0(9)`; `std 9,0(9)`; `addis 9,3` twice; `addi 9,2` and `ld 9,0(2)` in place of
+    // `addis`; `ld 3,0(0)`; `add 3,9,12`; `lwzux 3,9,13`; `stwx 9,9,13`; `lwaux 3,9,13`; `ldux 3,9,13`;
+    // `bl` without `nop`; `li 4,0`; and of calls by their address `mtctr 12` and `bctrl`
+    let table: [(Ppc64Relocation, [u32; 2]); 17] = [
         (Ppc64Relocation::R_PPC64_TOC16_HA, [0x3d23_0000, 0]),
         (Ppc64Relocation::R_PPC64_TOC16_LO, [0x8469_0000, 0]),
         (Ppc64Relocation::R_PPC64_TOC16_LO_DS, [0xf929_0000, 0]),
         (Ppc64Relocation::R_PPC64_GOT16_HA, [0x3d23_0000, 0]),
         (Ppc64Relocation::R_PPC64_GOT_TLSGD16_HA, [0x3d23_0000, 0]),
+        (Ppc64Relocation::R_PPC64_GOT16_HA, [0x3922_0000, 0]),
+        (Ppc64Relocation::R_PPC64_GOT_TLSGD16_HA, [0xe922_0000, 0]),
         (Ppc64Relocation::R_PPC64_GOT16_LO_DS, [0xe860_0000, 0]),
         (Ppc64Relocation::R_PPC64_TLS, [0x7c69_6214, 0]),
         (Ppc64Relocation::R_PPC64_TLS, [0x7c69_686e, 0]),
         (Ppc64Relocation::R_PPC64_TLS, [0x7d29_692e, 0]),
         (Ppc64Relocation::R_PPC64_TLS, [0x7c69_6aea, 0]),
+        (Ppc64Relocation::R_PPC64_TLS, [0x7c69_686a, 0]),
         (Ppc64Relocation::R_PPC64_TLSGD, [0x4800_0001, 0x4800_0001]),
         (Ppc64Relocation::R_PPC64_GOT_TLSGD16_LO, [0x3880_0000, 0]),
         (Ppc64Relocation::R_PPC64_TLSGD, [0x7d89_03a6, 0x4e80_0421]),
@@ -354,7 +428,10 @@ fn other_instructions_stay() {
 }
 
 /// The relocations of thread-local sequences, each with two words where it is rewritten.
-const OF_SEQUENCES: [(Ppc64Relocation, [u32; 2]); 12] = [
+const OF_SEQUENCES: [(Ppc64Relocation, [u32; 2]); 15] = [
+    (Ppc64Relocation::R_PPC64_TPREL16_HA, [0x3d2d_0000, 0]),
+    (Ppc64Relocation::R_PPC64_TPREL16_LO, [0x3869_0000, 0]),
+    (Ppc64Relocation::R_PPC64_TPREL16_LO_DS, [0xe869_0000, 0]),
     (Ppc64Relocation::R_PPC64_GOT_TPREL16_HA, [0x3d22_0000, 0]),
     (Ppc64Relocation::R_PPC64_GOT_TPREL16_LO_DS, [0xe929_0000, 0]),
     (Ppc64Relocation::R_PPC64_GOT_TPREL16_DS, [0xe922_0000, 0]),
@@ -379,8 +456,35 @@ fn sequences_are_rewritten_whole() {
         }
         assert!(!chosen_for(name, words, &own()).is_unchanged(name), "{name:?}");
     }
-    // those of prefixed instructions, and the high halves without `@ha`, have no rewrites
+    // the argument of `__tls_get_addr` in register 31 (`addi 31,9` and `addi 31,2`)
+    for (name, word) in [
+        (Ppc64Relocation::R_PPC64_GOT_TLSGD16_LO, 0x3be9_0000),
+        (Ppc64Relocation::R_PPC64_GOT_TLSLD16_LO, 0x3be9_0000),
+        (Ppc64Relocation::R_PPC64_GOT_TLSGD16, 0x3be2_0000),
+        (Ppc64Relocation::R_PPC64_GOT_TLSLD16, 0x3be2_0000),
+    ] {
+        assert_eq!(
+            chosen_for(name, [word, 0], &own()).kind,
+            RelaxationKind::AddiToAddisThread,
+            "{name:?}"
+        );
+        assert!(chosen_for(name, [word, 0], &apart).is_unchanged(name), "{name:?}");
+    }
+    // those of prefixed instructions, those of calls through the PLT, and the high halves without
+    // `@ha`, have no rewrites: `addis 12,2`, `ld 12,0(12)`, `mtctr 12` and `bctrl`
+    for (name, word) in [
+        (Ppc64Relocation::R_PPC64_PLT16_HA, 0x3d82_0000),
+        (Ppc64Relocation::R_PPC64_PLT16_LO_DS, 0xe98c_0000),
+        (Ppc64Relocation::R_PPC64_PLTSEQ, 0x7d89_03a6),
+        (Ppc64Relocation::R_PPC64_PLTCALL, 0x4e80_0421),
+        (Ppc64Relocation::R_PPC64_PLTSEQ_NOTOC, 0x7d89_03a6),
+        (Ppc64Relocation::R_PPC64_PLTCALL_NOTOC, 0x4e80_0421),
+    ] {
+        assert!(chosen_for(name, [word, 0x6000_0000], &own()).is_unchanged(name), "{name:?}");
+    }
     for name in [
+        Ppc64Relocation::R_PPC64_PLT_PCREL34,
+        Ppc64Relocation::R_PPC64_PLT_PCREL34_NOTOC,
         Ppc64Relocation::R_PPC64_GOT_TPREL_PCREL34,
         Ppc64Relocation::R_PPC64_GOT_TLSGD_PCREL34,
         Ppc64Relocation::R_PPC64_GOT_TLSLD_PCREL34,

@@ -1,0 +1,258 @@
+-- PowerPC64: instructions with a low half over the base of the high half, each in two runs.
+use Rattle.std.proofs.Common.{◌≡◌, ℕ, ◌+◌, ◌%◌, ◌^◌, ◌<◌, refl, sym, ◌∙◌, ap}
+use Rattle.std.proofs.Common.{arith, List, ℤ, pos, ◌+ℤ◌, ◌*ℤ◌, Some}
+use Rattle.std.specs.Prelude.{◌==◌, not}
+use Rattle.std.proofs.lemmas.Bool.{and_parts, eqb-true}
+use Rattle.std.proofs.lemmas.Int.{ints}
+use Rattle.linker_base.specs.Bits.{field}
+use Rattle.linker_elf.specs.Ppc64.{ppc64_form}
+use Rattle.linker_elf.specs.Relocate.{ppc64_reads}
+use Rattle.linker_elf.specs.Value.{sum_64, difference_64}
+use Rattle.linker_elf.specs.declared.elf.value.Operands.{Operands}
+use Rattle.linker_elf.specs.declared.ppc64.forms.Ppc64Instruction.{Ppc64Instruction}
+use Rattle.linker_elf.specs.declared.ppc64.forms.Ppc64Instruction.TheVariants.{D, Ds}
+use Rattle.linker_elf.specs.declared.ppc64.relocations.Ppc64Relocation.{Ppc64Relocation}
+use Rattle.linker_elf.specs.declared.ppc64.relocations.Ppc64Relocation.TheVariants as names
+use Rattle.linker_ppc64.specs.Ppc64Rewrites.{opcode_of, rt_of, ra_of, over_base, is_addi}
+use Rattle.linker_ppc64.specs.Ppc64Rewrites.{is_ds_access, is_vector_access}
+use Rattle.linker_ppc64.specs.declared.rewrites.RelaxationKind.{RelaxationKind}
+use Rattle.linker_ppc64.specs.declared.rewrites.RelaxationKind.TheVariants as kinds
+use Rattle.linker_laws.specs.Ppc64RelocationLaws as relocation_laws
+use Rattle.linker_laws.specs.Schemes.{AreAddresses, symbol_address, IsAddress}
+use Rattle.linker_laws.specs.Machine.{moved}
+use Rattle.linker_laws.specs.Ppc64RewriteLaws.{word_of, IsRelocated, IsRewritten, at_place}
+use Rattle.linker_laws.specs.Ppc64RewriteLaws.{access_number, ds_access, is_d_over, is_ds_over_base}
+use Rattle.linker_laws.specs.Ppc64RewriteLaws as laws
+use Rattle.linker_laws.specs.Ppc64Machine.{base, go_on, accessed, access_with}
+use Rattle.linker_laws.proofs.AArch64Pairs.{word_made}
+use Rattle.linker_laws.proofs.Ppc64Accesses.{step_access}
+use Rattle.linker_laws.proofs.Ppc64Addresses.{same_parts, some_of}
+use Rattle.linker_laws.proofs.Ppc64Apart.{steps_so, agree_but, agree_on, accessed_agree, accessed_link, base_some}
+use Rattle.linker_laws.proofs.Ppc64Apart.{Keeps, IsBase}
+use Rattle.linker_laws.proofs.Ppc64Direct.{d_access_parts}
+use Rattle.linker_laws.proofs.Ppc64WholeWords.{ds_parts, step_word}
+use Rattle.linker_laws.proofs.Ppc64Words.{HasParts, d_after, ds_after, set, step_addi, wrapped_is}
+use Rattle.linker_laws.proofs.RiscVMachine.{address_is}
+use Rattle.linker_laws.proofs.Sums.{lift, sum_below}
+
+-- The whole distance leads from another begin to what is as far from there.
+pub whole_from : (begin target t : ℕ) (a : ℤ) → begin < 2 ^ 64 → target < 2 ^ 64
+    → IsAddress (pos begin +ℤ (a *ℤ pos 1)) target → moved t a ≡ sum_64 (difference_64 target begin) t
+whole_from begin target t a small below h =
+    let x = lift a in
+    let is = x.is in
+    let there : (begin + x.number) % 2 ^ 64 ≡ target =
+    sym (wrapped_is (pos begin +ℤ (a *ℤ pos 1)) x.times (begin + x.number) (omega (arith, ints)))
+    ∙ address_is _ _ h in
+    wrapped_is (pos t +ℤ a) x.times (t + x.number) (omega (arith, ints))
+    ∙ (let same : (t + x.number) % 2 ^ 64 ≡ sum_64 (difference_64 target begin) t = omega arith in same)
+
+-- a word with another base
+over_base_parts : (r x word : ℕ) → r < 32 → word ≡ over_base r x → HasParts (opcode_of x) (rt_of x) r word
+over_base_parts r x word small is =
+    record { opcode_is = omega arith; rt_is = omega arith; ra_is = omega arith }
+
+over_base_low : (r x word : ℕ) → word ≡ over_base r x → field word 0 2 ≡ field x 0 2
+over_base_low r x word is = omega arith
+
+-- what is known of a base register, a rewrite to it, and the relocations before and after
+record IsOver (r : ℕ) (kind : RelaxationKind) (low whole : Ppc64Relocation) (form : Ppc64Instruction)
+    (address : Operands → ℕ → ℕ) : Type 0 where
+  pub small : r < 32
+  pub is_base : IsBase r
+  pub made : (insn over : List ℕ) → IsRewritten kind insn over → word_of over ≡ over_base r (word_of insn)
+  pub low_keeps : Keeps low
+  pub whole_keeps : Keeps whole
+  pub leads : (o : Operands) → AreAddresses o → (n : ℕ) (over after : List ℕ) → IsRelocated whole o over after
+      → moved n (ppc64_reads form (word_of after)) ≡ address o n
+
+abbrev KeepsLow : Ppc64Relocation → Type 0
+KeepsLow name =
+    (o : Operands) (before after : List ℕ) → IsRelocated name o before after
+    → field (word_of after) 0 2 ≡ field (word_of before) 0 2
+
+addi_over : (r : ℕ) (kind : RelaxationKind) (low whole : Ppc64Relocation) (address : Operands → ℕ → ℕ)
+    → IsOver r kind low whole D address → laws.OverBase r kind low whole D address (laws.adds is_addi)
+addi_over r kind low whole address e f o s t c insn over small alike is made leads any at insn_of over_of l d =
+    let x = word_of insn in
+    let z = rt_of x in
+    let both = and_parts (opcode_of x == 14) (not (ra_of x == 0)) is in
+    let op = eqb-true (opcode_of x) 14 both.0 in
+    let w = word_of insn_of in
+    let y = word_of over_of in
+    let parts = over_base_parts r x (word_of over) e.small (e.made insn over made) in
+    let old : moved (base (ra_of x) s) ((ppc64_form D).machine w) ≡ address o (t.registers r) =
+    ap (λ n. moved n ((ppc64_form D).machine w)) (base_some (ra_of x) s (some_of (ra_of x) both.1))
+    ∙ leads at insn insn_of l in
+    let new : moved (base r t) ((ppc64_form D).machine y) ≡ address o (t.registers r) =
+    ap (λ n. moved n ((ppc64_form D).machine y)) (e.is_base t)
+    ∙ e.leads o small (t.registers r) over over_of d in
+    steps_so f w y s t (set z (moved (base (ra_of x) s) ((ppc64_form D).machine w)) s)
+    (set z (moved (base r t) ((ppc64_form D).machine y)) t) _
+    (step_addi f w z (ra_of x) s (same_parts op refl refl (e.low_keeps (at_place at o) insn insn_of l)))
+    (step_addi f y z r t
+    (same_parts (parts.opcode_is ∙ op) parts.rt_is parts.ra_is (e.whole_keeps o over over_of d)))
+    refl refl (agree_but z _ _ c s t (old ∙ sym new) alike)
+
+access_over : (r : ℕ) (kind : RelaxationKind) (low whole : Ppc64Relocation) (address : Operands → ℕ → ℕ)
+    → IsOver r kind low whole D address → laws.OverBase r kind low whole D address is_d_over
+access_over r kind low whole address e f o s t c insn over small alike is made leads reads at insn_of over_of l d =
+    let x = word_of insn in
+    let z = rt_of x in
+    let n = access_number x in
+    let acc = access_with n in
+    let p = d_access_parts x is in
+    let w = word_of insn_of in
+    let y = word_of over_of in
+    let A = address o (t.registers r) in
+    let parts = over_base_parts r x (word_of over) e.small (e.made insn over made) in
+    let before = e.low_keeps (at_place at o) insn insn_of l in
+    let after = e.whole_keeps o over over_of d in
+    let old : moved (base (ra_of x) s) ((ppc64_form D).machine w) ≡ A =
+    ap (λ n. moved n ((ppc64_form D).machine w)) (base_some (ra_of x) s p.over_some)
+    ∙ leads at insn insn_of l in
+    let new : moved (base r t) ((ppc64_form D).machine y) ≡ A =
+    ap (λ n. moved n ((ppc64_form D).machine y)) (e.is_base t)
+    ∙ e.leads o small (t.registers r) over over_of d in
+    steps_so f w y s t (go_on (accessed f acc z A s)) (go_on (accessed f acc z A t)) _
+    (step_access f w n z (ra_of x) s (before.opcode_is ∙ p.opcode_is) p.known before.rt_is before.ra_is
+    ∙ ap (λ k. Some (go_on (accessed f acc z k s))) old)
+    (step_access f y n z r t (after.opcode_is ∙ parts.opcode_is ∙ p.opcode_is) p.known
+    (after.rt_is ∙ parts.rt_is) (after.ra_is ∙ parts.ra_is)
+    ∙ ap (λ k. Some (go_on (accessed f acc z k t))) new)
+    (accessed_link f acc z A s) (accessed_link f acc z A t)
+    (agree_on _ _ _ (accessed_agree f c acc z A s t alike reads))
+
+word_access_over : (r : ℕ) (kind : RelaxationKind) (low whole : Ppc64Relocation) (address : Operands → ℕ → ℕ)
+    → IsOver r kind low whole Ds address → KeepsLow low → KeepsLow whole
+    → laws.OverBase r kind low whole Ds address (laws.accesses is_ds_over_base ds_access)
+word_access_over r kind low whole address e low_bits whole_bits f o s t c insn over small alike is made leads reads
+    at insn_of over_of l d =
+    let x = word_of insn in
+    let z = rt_of x in
+    let acc = ds_access x in
+    let both = and_parts (is_ds_access x) (not (ra_of x == 0)) is in
+    let p = ds_parts x both.0 in
+    let w = word_of insn_of in
+    let y = word_of over_of in
+    let A = address o (t.registers r) in
+    let word = e.made insn over made in
+    let parts = over_base_parts r x (word_of over) e.small word in
+    let before = e.low_keeps (at_place at o) insn insn_of l in
+    let after = e.whole_keeps o over over_of d in
+    let op = after.opcode_is ∙ parts.opcode_is in
+    let old : moved (base (ra_of x) s) ((ppc64_form Ds).machine w) ≡ A =
+    ap (λ n. moved n ((ppc64_form Ds).machine w)) (base_some (ra_of x) s (some_of (ra_of x) both.1))
+    ∙ ap (moved (s.registers (ra_of x))) (sym (p.reads w before.opcode_is))
+    ∙ leads at insn insn_of l in
+    let new : moved (base r t) ((ppc64_form Ds).machine y) ≡ A =
+    ap (λ n. moved n ((ppc64_form Ds).machine y)) (e.is_base t)
+    ∙ ap (moved (t.registers r)) (sym (p.reads y op))
+    ∙ e.leads o small (t.registers r) over over_of d in
+    steps_so f w y s t (go_on (accessed f acc z A s)) (go_on (accessed f acc z A t)) _
+    (step_word f w z (ra_of x) acc s
+    (p.decodes w before.opcode_is (low_bits (at_place at o) insn insn_of l)) before.rt_is before.ra_is
+    ∙ ap (λ k. Some (go_on (accessed f acc z k s))) old)
+    (step_word f y z r acc t
+    (p.decodes y op (whole_bits o over over_of d ∙ over_base_low r x (word_of over) word))
+    (after.rt_is ∙ parts.rt_is) (after.ra_is ∙ parts.ra_is)
+    ∙ ap (λ k. Some (go_on (accessed f acc z k t))) new)
+    (accessed_link f acc z A s) (accessed_link f acc z A t)
+    (agree_on _ _ _ (accessed_agree f c acc z A s t alike reads))
+
+vector_over : (r : ℕ) (kind : RelaxationKind) (low whole : Ppc64Relocation) (address : Operands → ℕ → ℕ)
+    → IsOver r kind low whole Ds address → laws.VectorOverBase r kind low whole address
+vector_over r kind low whole address e o s t insn over small is made leads at insn_of over_of l d =
+    let x = word_of insn in
+    let both = and_parts (is_vector_access x) (not (ra_of x == 0)) is in
+    let w = word_of insn_of in
+    let y = word_of over_of in
+    let parts = over_base_parts r x (word_of over) e.small (e.made insn over made) in
+    let before = e.low_keeps (at_place at o) insn insn_of l in
+    let after = e.whole_keeps o over over_of d in
+    let old : laws.address_read w s ≡ address o (t.registers r) =
+    ap (λ k. moved (base k s) (ppc64_reads Ds w)) before.ra_is
+    ∙ ap (λ n. moved n (ppc64_reads Ds w)) (base_some (ra_of x) s (some_of (ra_of x) both.1))
+    ∙ leads at insn insn_of l in
+    let new : laws.address_read y t ≡ address o (t.registers r) =
+    ap (λ k. moved (base k t) (ppc64_reads Ds y)) (after.ra_is ∙ parts.ra_is)
+    ∙ ap (λ n. moved n (ppc64_reads Ds y)) (e.is_base t)
+    ∙ e.leads o small (t.registers r) over over_of d in (
+      old ∙ sym new,
+      record {
+        opcode = before.opcode_is ∙ sym (after.opcode_is ∙ parts.opcode_is);
+        register = before.rt_is ∙ sym (after.rt_is ∙ parts.rt_is);
+      },
+    )
+
+-- ---- near the TOC pointer and the thread pointer
+
+toc_d : relocation_laws.Displacements
+    → IsOver 2 kinds.BaseToToc names.R_PPC64_TOC16_LO names.R_PPC64_TOC16 D laws.from_toc
+toc_d near =
+    record {
+      small = omega arith;
+      is_base = λ s. refl;
+      made = λ insn over made. word_made (over_base 2) insn over (omega arith) made;
+      low_keeps = λ o x y a. d_after _ _ x y a.written;
+      whole_keeps = λ o x y a. d_after _ _ x y a.written;
+      leads = λ o small n over after a.
+          whole_from o.got_base (symbol_address o) n _ small.got_base (sum_below o.symbol _)
+          (near.1 o small o.place over after a tt);
+    }
+
+toc_ds : relocation_laws.Displacements
+    → IsOver 2 kinds.BaseToToc names.R_PPC64_TOC16_LO_DS names.R_PPC64_TOC16_DS Ds laws.from_toc
+toc_ds near =
+    record {
+      small = omega arith;
+      is_base = λ s. refl;
+      made = λ insn over made. word_made (over_base 2) insn over (omega arith) made;
+      low_keeps = λ o x y a. (ds_after _ _ x y a.written).0;
+      whole_keeps = λ o x y a. (ds_after _ _ x y a.written).0;
+      leads = λ o small n over after a.
+          whole_from o.got_base (symbol_address o) n _ small.got_base (sum_below o.symbol _)
+          (near.2 o small o.place over after a tt);
+    }
+
+thread_d : relocation_laws.Displacements
+    → IsOver 13 kinds.BaseToThread names.R_PPC64_TPREL16_LO names.R_PPC64_TPREL16 D laws.from_thread
+thread_d near =
+    record {
+      small = omega arith;
+      is_base = λ s. refl;
+      made = λ insn over made. word_made (over_base 13) insn over (omega arith) made;
+      low_keeps = λ o x y a. d_after _ _ x y a.written;
+      whole_keeps = λ o x y a. d_after _ _ x y a.written;
+      leads = λ o small n over after a.
+          whole_from o.tls_base (symbol_address o) n _ small.tls_base (sum_below o.symbol _)
+          (near.6 o small o.place over after a tt);
+    }
+
+thread_ds : relocation_laws.Displacements
+    → IsOver 13 kinds.BaseToThread names.R_PPC64_TPREL16_LO_DS names.R_PPC64_TPREL16_DS Ds laws.from_thread
+thread_ds near =
+    record {
+      small = omega arith;
+      is_base = λ s. refl;
+      made = λ insn over made. word_made (over_base 13) insn over (omega arith) made;
+      low_keeps = λ o x y a. (ds_after _ _ x y a.written).0;
+      whole_keeps = λ o x y a. (ds_after _ _ x y a.written).0;
+      leads = λ o small n over after a.
+          whole_from o.tls_base (symbol_address o) n _ small.tls_base (sum_below o.symbol _)
+          (near.7 o small o.place over after a tt);
+    }
+
+pub low_half_over_base : relocation_laws.Displacements → laws.LowHalfOverBase
+low_half_over_base near = (
+  addi_over 2 _ _ _ _ (toc_d near),
+  access_over 2 _ _ _ _ (toc_d near),
+  word_access_over 2 _ _ _ _ (toc_ds near) (λ o x y a. (ds_after _ _ x y a.written).1)
+      (λ o x y a. (ds_after _ _ x y a.written).1),
+  vector_over 2 _ _ _ _ (toc_ds near),
+  addi_over 13 _ _ _ _ (thread_d near),
+  access_over 13 _ _ _ _ (thread_d near),
+  word_access_over 13 _ _ _ _ (thread_ds near) (λ o x y a. (ds_after _ _ x y a.written).1)
+      (λ o x y a. (ds_after _ _ x y a.written).1),
+  vector_over 13 _ _ _ _ (thread_ds near),
+)

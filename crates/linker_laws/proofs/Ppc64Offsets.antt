@@ -1,0 +1,138 @@
+-- PowerPC64: instructions of initial-exec, each in two runs.
+use Rattle.std.proofs.Common.{◌≡◌, ◌+◌, ◌^◌, refl, sym, ◌∙◌, ap, arith}
+use Rattle.std.proofs.Common.{pos, ◌*ℤ◌, Some}
+use Rattle.std.specs.Prelude.{◌==◌}
+use Rattle.linker_elf.specs.Ppc64.{ppc64_form}
+use Rattle.linker_elf.specs.Value.{sum_64}
+use Rattle.linker_elf.specs.declared.ppc64.forms.Ppc64Instruction.TheVariants.{D, Ds}
+use Rattle.linker_ppc64.specs.Ppc64Rewrites.{opcode_of, rt_of, ra_of, access_of, registers_of}
+use Rattle.linker_ppc64.specs.Ppc64Rewrites.{addis_of_thread, by_displacement, by_word_displacement}
+use Rattle.linker_ppc64.specs.Ppc64Rewrites.{is_add_of_thread, is_indexed, is_indexed_word}
+use Rattle.linker_ppc64.specs.declared.rewrites.RelaxationKind.TheVariants as kinds
+use Rattle.linker_elf.specs.declared.ppc64.relocations.Ppc64Relocation.TheVariants as names
+use Rattle.linker_laws.specs.Ppc64RelocationLaws as relocation_laws
+use Rattle.linker_laws.specs.Machine.{moved, loaded}
+use Rattle.linker_laws.specs.Ppc64RewriteLaws.{word_of, from_thread, thread_offset}
+use Rattle.linker_laws.specs.Ppc64RewriteLaws as laws
+use Rattle.linker_laws.specs.Ppc64Machine.{base, go_on, accessed, access_with, word_access_with}
+use Rattle.linker_laws.proofs.AArch64Pairs.{word_made}
+use Rattle.linker_laws.proofs.Ppc64Accesses.{step_access, step_indexed}
+use Rattle.linker_laws.proofs.Ppc64Addresses.{same_parts, ld_parts, add_parts, reads_ds}
+use Rattle.linker_laws.proofs.Ppc64Apart.{steps_so, agree_also, agree_but, agree_on, accessed_agree, accessed_link}
+use Rattle.linker_laws.proofs.Ppc64Apart.{base_some, written_is}
+use Rattle.linker_laws.proofs.Ppc64Copies.{addis_13_parts, thread_halves}
+use Rattle.linker_laws.proofs.Ppc64Direct.{indexed_parts}
+use Rattle.linker_laws.proofs.Ppc64IndexedWords.{indexed_word_parts, is_direct, step_indexed_word, below}
+use Rattle.linker_laws.proofs.Ppc64WholeWords.{step_word}
+use Rattle.linker_laws.proofs.Ppc64Words.{HasParts, d_after, ds_after, set, step_addis, step_addi, step_ld, step_add}
+
+pub offset_to_high_half : relocation_laws.ThreadAddresses → laws.OffsetToHighHalf
+offset_to_high_half thread f o s t c ld addis_13 small alike is made entry leads holds at ld1 addis1 l1 a1 =
+    let x = rt_of (word_of ld) in
+    let load = ld_parts (word_of ld) is in
+    let after = ds_after _ _ ld ld1 l1.written in
+    let w = word_of ld1 in
+    let b = (ppc64_form Ds).machine w in
+    let number = loaded 8 s.memory (moved (base (ra_of (word_of ld)) s) b) in
+    let address : moved (base (ra_of (word_of ld)) s) b ≡ entry =
+    ap (λ n. moved n b) (base_some (ra_of (word_of ld)) s load.over_some)
+    ∙ ap (moved (s.registers (ra_of (word_of ld)))) (sym (reads_ds w (after.0.opcode_is ∙ load.parts.opcode_is)))
+    ∙ leads at ld ld1 l1 in
+    let word : word_of addis_13 ≡ addis_of_thread x =
+    word_made (λ w. addis_of_thread (rt_of w)) ld addis_13 (omega arith) made in
+    let parts = addis_13_parts x (word_of addis_13) (omega arith) word in
+    let y = word_of addis1 in
+    let high = moved (t.registers 13) ((ppc64_form D).machine y *ℤ pos (2 ^ 16)) in
+    steps_so f w y s t (set x number s) (set x high t) _
+    (step_ld f w x (ra_of (word_of ld)) s (same_parts load.parts.opcode_is refl refl after.0) (after.1 ∙ load.low))
+    (step_addis f y x 13 t
+    (same_parts parts.opcode_is parts.rt_is parts.ra_is (d_after _ _ addis_13 addis1 a1.written)))
+    refl refl (
+      agree_also x number high c s t alike,
+      record {
+        offset_is = written_is (λ n. n ≡ thread_offset o) x number s (ap (loaded 8 s.memory) address ∙ holds);
+        leads = written_is (λ n. laws.LowHalfLeads o n (from_thread o (t.registers 13))) x high t
+            (thread_halves thread o small (t.registers 13) addis_13 addis1 a1);
+      },
+    )
+
+adds_offset : laws.OverOffset kinds.AddToAddi names.R_PPC64_TPREL16_LO (laws.adds is_add_of_thread)
+adds_offset f o s t c insn direct small alike is made has any at direct1 d1 =
+    let x = word_of insn in
+    let z = rt_of x in
+    let p = add_parts x is in
+    let word : word_of direct ≡ 0x38000000 + registers_of x =
+    word_made (λ w. 0x38000000 + registers_of w) insn direct (omega arith) made in
+    let parts : HasParts 14 z (ra_of x) (word_of direct) =
+    record { opcode_is = omega arith; rt_is = omega arith; ra_is = omega arith } in
+    let y = word_of direct1 in
+    let old : sum_64 (s.registers (ra_of x)) (s.registers 13) ≡ from_thread o (s.registers 13) =
+    ap (λ n. sum_64 n (s.registers 13)) has.offset_is in
+    let new : moved (base (ra_of x) t) ((ppc64_form D).machine y) ≡ from_thread o (s.registers 13) =
+    ap (λ n. moved n ((ppc64_form D).machine y)) (base_some (ra_of x) t p.over_some)
+    ∙ has.leads.0 at direct direct1 d1 in
+    steps_so f x y s t (set z (sum_64 (s.registers (ra_of x)) (s.registers 13)) s)
+    (set z (moved (base (ra_of x) t) ((ppc64_form D).machine y)) t) _
+    (step_add f x z (ra_of x) 13 s (record { opcode_is = p.opcode_is; rt_is = refl; ra_is = refl }) p.rb_is p.low)
+    (step_addi f y z (ra_of x) t
+    (same_parts parts.opcode_is parts.rt_is parts.ra_is (d_after _ _ direct direct1 d1.written)))
+    refl refl (agree_but z _ _ c s t (old ∙ sym new) alike)
+
+accesses_offset : laws.OverOffset kinds.IndexedToD names.R_PPC64_TPREL16_LO
+    (laws.accesses is_indexed (λ word. access_with (access_of word)))
+accesses_offset f o s t c insn direct small alike is made has reads at direct1 d1 =
+    let x = word_of insn in
+    let z = rt_of x in
+    let n = access_of x in
+    let acc = access_with n in
+    let A = from_thread o (s.registers 13) in
+    let p = indexed_parts x is in
+    let word : word_of direct ≡ by_displacement x =
+    word_made by_displacement insn direct (omega arith) made in
+    let op : opcode_of (word_of direct) ≡ 32 + n = omega arith in
+    let rt : rt_of (word_of direct) ≡ z = omega arith in
+    let ra : ra_of (word_of direct) ≡ ra_of x = omega arith in
+    let after = d_after _ _ direct direct1 d1.written in
+    let y = word_of direct1 in
+    let new : moved (base (ra_of x) t) ((ppc64_form D).machine y) ≡ A =
+    ap (λ n. moved n ((ppc64_form D).machine y)) (base_some (ra_of x) t p.over_some)
+    ∙ has.leads.0 at direct direct1 d1 in
+    steps_so f x y s t (go_on (accessed f acc z A s)) (go_on (accessed f acc z A t)) _
+    (step_indexed f x 13 s p.opcode_is p.low p.known p.rb_is
+    ∙ ap (λ k. Some (go_on (accessed f acc z (sum_64 k (s.registers 13)) s)))
+    (base_some (ra_of x) s p.over_some ∙ has.offset_is))
+    (step_access f y n z (ra_of x) t (after.opcode_is ∙ op) p.known (after.rt_is ∙ rt) (after.ra_is ∙ ra)
+    ∙ ap (λ k. Some (go_on (accessed f acc z k t))) new)
+    (accessed_link f acc z A s) (accessed_link f acc z A t)
+    (agree_on _ _ _ (accessed_agree f c acc z A s t alike reads))
+
+word_accesses_offset : laws.OverOffset kinds.IndexedToDs names.R_PPC64_TPREL16_LO_DS
+    (laws.accesses is_indexed_word (λ word. word_access_with (access_of word)))
+word_accesses_offset f o s t c insn direct small alike is made has reads at direct1 d1 =
+    let x = word_of insn in
+    let z = rt_of x in
+    let n = access_of x in
+    let acc = word_access_with n in
+    let A = from_thread o (s.registers 13) in
+    let p = indexed_word_parts x is in
+    let word : word_of direct ≡ by_word_displacement x =
+    word_made by_word_displacement insn direct (below x (n == 4) (n == 10)) made in
+    let turned = is_direct x (word_of direct) p.known word in
+    let after = ds_after _ _ direct direct1 d1.written in
+    let y = word_of direct1 in
+    let new : moved (base (ra_of x) t) ((ppc64_form Ds).machine y) ≡ A =
+    ap (λ n. moved n ((ppc64_form Ds).machine y)) (base_some (ra_of x) t p.over_some)
+    ∙ ap (moved (t.registers (ra_of x))) (sym (turned.reads y after.0.opcode_is))
+    ∙ has.leads.1 at direct direct1 d1 in
+    steps_so f x y s t (go_on (accessed f acc z A s)) (go_on (accessed f acc z A t)) _
+    (step_indexed_word f x 13 s p.opcode_is p.low p.known p.rb_is
+    ∙ ap (λ k. Some (go_on (accessed f acc z (sum_64 k (s.registers 13)) s)))
+    (base_some (ra_of x) s p.over_some ∙ has.offset_is))
+    (step_word f y z (ra_of x) acc t (turned.decodes y after.0.opcode_is after.1) (after.0.rt_is ∙ turned.rt_is)
+    (after.0.ra_is ∙ turned.ra_is)
+    ∙ ap (λ k. Some (go_on (accessed f acc z k t))) new)
+    (accessed_link f acc z A s) (accessed_link f acc z A t)
+    (agree_on _ _ _ (accessed_agree f c acc z A s t alike reads))
+
+pub offset_to_low_half : laws.OffsetToLowHalf
+offset_to_low_half = (adds_offset, accesses_offset, word_accesses_offset)
