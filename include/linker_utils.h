@@ -1588,8 +1588,7 @@ struct linker_utils_rela {
  *
  * `items_len` is `relocations_len`, since a relocation makes at most one item. `len` is how many
  * there are; the elements from there on are unchanged. LINKER_UTILS_DIFFERENT_LENGTHS.
- * LINKER_UTILS_ENDS_TOO_HIGH where `base` and `section_len` add up to 2^64 or more. A copy of the
- * relocations and one of the items are allocated: LINKER_UTILS_OUT_OF_MEMORY.
+ * LINKER_UTILS_ENDS_TOO_HIGH where `base` and `section_len` add up to 2^64 or more.
  * LINKER_UTILS_MALFORMED_RELOCATION, and `faulty` is the first relocation that lies behind the
  * section's end, is a call's with less than eight bytes there, or is an R_RISCV_ALIGN whose addend
  * isn't a multiple of 2 from 0 up, below 2^32, of bytes in the section. */

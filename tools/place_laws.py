@@ -245,6 +245,7 @@ ALONE = {
         ("TocAtEntry", "REL16_HA REL16_LO", None),
         ("HighHalfToNop", "TOC16_HA TPREL16_HA GOT_TPREL16_HA GOT_TLSLD16_HA", None),
         ("HighHalfToNop HighHalfOfEntry", "GOT_TLSGD16_HA", None),
+        ("HighHalfOfSymbol", "GOT16_HA", None), ("LoadToSum", "GOT16_LO_DS", None),
         ("LowHalfOverBase", "TOC16_LO TPREL16_LO", has_no_word_form),
         ("LowHalfOverBase", "TOC16_LO_DS TPREL16_LO_DS", has_word_form),
         ("OffsetToHighHalf", "GOT_TPREL16_LO_DS", None),

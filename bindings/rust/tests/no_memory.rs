@@ -64,7 +64,8 @@ fn merge_too_many() {
     }
 }
 
-/// Items of 576 MB and relocations of 192 MB, of which calls have to make copies, and arrays of 150 MB.
+/// Items of 528 MB, of which calls have to make copies, relocations of 240 MB, of which none is made,
+/// and arrays of 150 MB.
 fn relax_too_many() {
     const COUNT: usize = 6_000_000;
     let items: &mut [Item] = zeros(COUNT);
@@ -83,10 +84,8 @@ fn relax_too_many() {
     assert_eq!(relax(items, 0, relaxed), refused);
     assert_eq!((shapes[0], kept[0], places[0], freed[0]), (7, 7, 7, 7));
     items[0].len = 7;
-    let made = riscv_items(&[], 0, relocations, items);
-    assert_eq!(made.map(drop), refused);
-    let made = loongarch_items(&[], 0, relocations, items);
-    assert_eq!(made.map(drop), refused);
+    assert_eq!(riscv_items(&[], 0, relocations, items), Ok(0));
+    assert_eq!(loongarch_items(&[], 0, relocations, items), Ok(0));
     let packed = pack_run(Architecture::RiscV, &[], 0, items, &[], 0, &mut []);
     assert_eq!(packed, refused);
     assert_eq!(items[0].len, 7);

@@ -2,14 +2,7 @@
 
 ghost use Rattle.std.specs.Prelude.{◌==◌, ◌≡◌, ◌↔◌, ◌<◌, ◌+◌, ◌^◌, IsTrue};
 ghost use Rattle.linker_base.specs.Rewrite.{CanRewrite};
-ghost use Rattle.linker_aarch64.specs.AArch64Rewrites.{aarch64_rewrite};
-ghost use Rattle.linker_aarch64.specs.AArch64Rewrites.{aarch64_matches};
-ghost use Rattle.linker_aarch64.specs.AArch64Rewrites.{IsEntryLoad, IsDescriptorSequence};
-ghost use Rattle.linker_aarch64.specs.AArch64Rewrites.{AreOfDescriptor};
-ghost use Rattle.linker_aarch64.specs.AArch64Rewrites.{IsAArch64Choice};
-ghost use Rattle.linker_aarch64.specs.AArch64Rewrites.{GotPairIsChosenAlike};
-ghost use Rattle.linker_aarch64.specs.AArch64Rewrites.{InitialExecIsChosenAlike};
-ghost use Rattle.linker_aarch64.specs.AArch64Rewrites.{DescriptorIsChosenAlike};
+ghost use Rattle.linker_aarch64.specs.AArch64Rewrites as rewrites;
 ghost use Rattle.linker_aarch64.specs.Inner.Choices.{IsThere, aarch64_tables};
 ghost use Rattle.linker_aarch64.specs.declared.rewrites.RelaxationKind.TheVariants as kinds;
 ghost use Rattle.linker_elf.specs.Choices.{Fits, choice, operands_after};
@@ -27,13 +20,10 @@ use linker_elf::elf::choice_table::{
 };
 use linker_elf::elf::{Choice, LinkFacts, Operands};
 
-/// `blr x0`; the register is bits 5 to 9.
-const BLR: u32 = 0xd63f_0000;
-
 /// Whether `adrp xN`, at an offset, and `ldr xN, [xN, #imm]` stand next to each other.
 #[inline]
 fn is_entry_load(section: &[u8], offset: u64) -> bool
-    ensures { IsTrue result ↔ IsEntryLoad section.now (offset + 4) }
+    ensures { IsTrue result ↔ rewrites.IsEntryLoad section.now (offset + 4) }
 {
     if !has_window(section, offset, 0, 8) {
         return false;
@@ -42,9 +32,10 @@ fn is_entry_load(section: &[u8], offset: u64) -> bool
     is_ldr64(ldr) && are_of_one_register(word_at(section, offset), ldr)
 }
 
+/// Whether they are those below; the register of `blr` is in bits 5 to 9.
 #[inline]
 fn are_of_descriptor(adrp: u32, ldr: u32, add: u32, blr: u32) -> bool
-    ensures { IsTrue result ↔ AreOfDescriptor adrp ldr add blr }
+    ensures { IsTrue result ↔ rewrites.AreOfDescriptor adrp ldr add blr }
 {
     let called = destination(ldr);
     is_adrp(adrp)
@@ -56,7 +47,7 @@ fn are_of_descriptor(adrp: u32, ldr: u32, add: u32, blr: u32) -> bool
         && is_add64(add)
         && source(add) == 0
         && destination(add) == 0
-        && blr == BLR + called * 32
+        && blr == 0xd63f_0000 + called * 32
 }
 
 /// Whether the sequence of a TLS descriptor is at an offset of the section: `adrp x0`,
@@ -65,7 +56,7 @@ fn are_of_descriptor(adrp: u32, ldr: u32, add: u32, blr: u32) -> bool
 /// sequences of thread-local storage).
 #[inline]
 pub fn is_tls_descriptor_sequence(section: &[u8], offset: u64) -> bool
-    ensures { IsTrue result ↔ IsDescriptorSequence section.now offset }
+    ensures { IsTrue result ↔ rewrites.IsDescriptorSequence section.now offset }
 {
     has_window(section, offset, 0, 16)
         && are_of_descriptor(
@@ -127,7 +118,7 @@ impl ChosenKind for RelaxationKind {
     fn operands_after(self, offset: u64, operands: &Operands) -> Operands
         ensures same { result ≡ operands.now }
         ensures rewrite { operands.now.place < 2 ^ 64
-            → result ≡ operands_after (aarch64_rewrite self) offset operands.now }
+            → result ≡ operands_after (rewrites.aarch64_rewrite self) offset operands.now }
     {
         let _ = offset;
         *operands
@@ -265,9 +256,9 @@ pub fn choose(
     offset: u64,
     facts: &LinkFacts,
 ) -> Choice<RelaxationKind, AArch64Relocation>
-    ensures chosen { IsAArch64Choice name section.now offset facts.now result }
-    ensures matches { aarch64_matches result.kind section.now offset }
-    ensures rewritable { CanRewrite (aarch64_rewrite result.kind) section.now offset }
+    ensures chosen { rewrites.IsAArch64Choice name section.now offset facts.now result }
+    ensures matches { rewrites.aarch64_matches result.kind section.now offset }
+    ensures rewritable { CanRewrite (rewrites.aarch64_rewrite result.kind) section.now offset }
 {
     RelaxationKind::choose(name, section, offset, facts)
 }
@@ -279,18 +270,14 @@ pub fn choose(
 /// use linker_utils::aarch64::{AArch64Relocation, fits};
 /// use linker_utils::elf::LinkFacts;
 ///
-/// // `adrp x3, :got:v` and `ldr x3, [x3, :got_lo12:v]`, where v is defined in the output
+/// // `adrp x3, :got:v` and `ldr x3, [x3, :got_lo12:v]`, where v may be of another file
 /// let section = [0x03, 0, 0, 0x90, 0x63, 0, 0x40, 0xf9];
-/// let facts = LinkFacts { is_local: true, has_fixed_distance: true, ..LinkFacts::default() };
-/// assert!(fits(AArch64Relocation::R_AARCH64_ADR_GOT_PAGE, &section, 0, &facts));
-/// assert!(fits(AArch64Relocation::R_AARCH64_LD64_GOT_LO12_NC, &section, 4, &facts));
-/// // where it may be of another file
-/// let facts = LinkFacts::default();
-/// assert!(!fits(AArch64Relocation::R_AARCH64_ADR_GOT_PAGE, &section, 0, &facts));
+/// let name = AArch64Relocation::R_AARCH64_ADR_GOT_PAGE;
+/// assert!(!fits(name, &section, 0, &LinkFacts::default()));
 /// ```
 pub fn fits(name: AArch64Relocation, section: &[u8], offset: u64, facts: &LinkFacts) -> bool
     ensures { IsTrue result
-        ↔ Fits (IsAArch64Choice name section.now offset) (choice kinds.NoOp name) facts.now }
+        ↔ Fits (rewrites.IsAArch64Choice name section.now offset) (choice kinds.NoOp name) facts.now }
 {
     RelaxationKind::fits(name, section, offset, facts)
 }
@@ -300,7 +287,7 @@ pub fn fits(name: AArch64Relocation, section: &[u8], offset: u64, facts: &LinkFa
 /// are, at instructions that their rewrites are meant for; and of the four of a TLS descriptor all are
 /// rewritten for local-exec, all for initial-exec, or none is.
 pub fn relocations_are_chosen_alike()
-    ensures got { GotPairIsChosenAlike }
-    ensures initial_exec { InitialExecIsChosenAlike }
-    ensures descriptor { DescriptorIsChosenAlike }
+    ensures got { rewrites.GotPairIsChosenAlike }
+    ensures initial_exec { rewrites.InitialExecIsChosenAlike }
+    ensures descriptor { rewrites.DescriptorIsChosenAlike }
 {}

@@ -11,7 +11,7 @@ use Rattle.linker_elf.specs.declared.elf.value.Operands.{Operands}
 use Rattle.linker_elf.specs.declared.ppc64.forms.Ppc64Instruction.TheVariants.{D, Ds}
 use Rattle.linker_elf.specs.declared.ppc64.relocations.Ppc64Relocation.{Ppc64Relocation}
 use Rattle.linker_elf.specs.declared.ppc64.relocations.Ppc64Relocation.TheVariants as names
-use Rattle.linker_ppc64.specs.Ppc64Rewrites.{opcode_of, rt_of, ra_of, nop}
+use Rattle.linker_ppc64.specs.Ppc64Rewrites.{opcode_of, rt_of, ra_of, registers_of, nop}
 use Rattle.linker_ppc64.specs.declared.rewrites.RelaxationKind.{RelaxationKind}
 use Rattle.linker_ppc64.specs.declared.rewrites.RelaxationKind.TheVariants as kinds
 use Rattle.linker_laws.specs.Ppc64RelocationLaws as relocation_laws
@@ -23,11 +23,11 @@ use Rattle.linker_laws.specs.Ppc64RewriteLaws as laws
 use Rattle.linker_laws.specs.Ppc64Machine.{State, Formats, Access, base, step, go_on, accessed, with_number}
 use Rattle.linker_laws.specs.Ppc64Machine.{loads, loads_signed, stores, loads_single, loads_double}
 use Rattle.linker_laws.specs.Ppc64Machine.{stores_single, stores_double, no_access}
-use Rattle.linker_laws.proofs.AArch64Pairs.{word_is}
-use Rattle.linker_laws.proofs.Ppc64Addresses.{same_parts}
+use Rattle.linker_laws.proofs.AArch64Pairs.{word_is, word_made}
+use Rattle.linker_laws.proofs.Ppc64Addresses.{ld_parts, reads_ds, same_parts}
 use Rattle.linker_laws.proofs.Ppc64Copies.{thread_halves}
 use Rattle.linker_laws.proofs.Ppc64Threads.{entry_small}
-use Rattle.linker_laws.proofs.Ppc64Words.{HasParts, d_after, sum_from, set, step_addis, step_nop}
+use Rattle.linker_laws.proofs.Ppc64Words.{HasParts, d_after, ds_after, step_addi, step_ld, sum_from, set, step_addis, step_nop}
 use Rattle.linker_laws.proofs.Sums.{sum_below}
 
 -- ---- states that agree
@@ -284,3 +284,56 @@ high_half_of_entry entries f o s t c addis small alike is entry below addis1 add
           (λ there insn over l. sum_from o.got_base entry (t.registers 2) _ _ small.got_base below
           (entries.0 e (entry_small entry o below small) o.place addis addis2 a2 tt there insn over l tt)),
     )
+
+-- ---- the address of a symbol in place of a load of it
+
+pub high_half_of_symbol : relocation_laws.GotAddresses → relocation_laws.TocAddresses → laws.HighHalfOfSymbol
+high_half_of_symbol got toc f o s t c addis small alike is addis1 addis2 a1 a2 =
+    let x = rt_of (word_of addis) in
+    let both = and_parts (opcode_of (word_of addis) == 15) (ra_of (word_of addis) == 2) is in
+    let m1 = (ppc64_form D).machine (word_of addis1) *ℤ pos (2 ^ 16) in
+    let m2 = (ppc64_form D).machine (word_of addis2) *ℤ pos (2 ^ 16) in
+    steps_so f (word_of addis1) (word_of addis2) s t (set x (moved (s.registers 2) m1) s)
+    (set x (moved (t.registers 2) m2) t) _
+    (step_addis f (word_of addis1) x 2 s
+    (same_parts (eqb-true _ _ both.0) refl (eqb-true _ _ both.1) (d_after _ _ addis addis1 a1.written)))
+    (step_addis f (word_of addis2) x 2 t
+    (same_parts (eqb-true _ _ both.0) refl (eqb-true _ _ both.1) (d_after _ _ addis addis2 a2.written)))
+    refl refl (
+      agree_also x _ _ c s t alike,
+      written_is (λ n. laws.Leads names.R_PPC64_GOT16_LO_DS Ds o n (laws.entry_from_toc o (s.registers 2)))
+          x (moved (s.registers 2) m1) s
+          (λ there insn over l. sum_from o.got_base o.got_entry (s.registers 2) _ _ small.got_base small.got_entry
+          (got.0 o small o.place addis addis1 a1 tt there insn over l tt)),
+      written_is (λ n. laws.Leads names.R_PPC64_TOC16_LO D o n (laws.from_toc o (t.registers 2)))
+          x (moved (t.registers 2) m2) t
+          (λ there insn over l. sum_from o.got_base (symbol_address o) (t.registers 2) _ _ small.got_base (sum_below o.symbol _)
+          (toc.0 o small o.place addis addis2 a2 tt there insn over l tt)),
+    )
+
+pub load_to_sum : laws.LoadToSum
+load_to_sum f o s t c ld addi alike is made entry address leads holds leads_too at ld1 addi1 l1 d1 =
+    let x = word_of ld in
+    let z = rt_of x in
+    let a = ra_of x in
+    let load = ld_parts x is in
+    let after = ds_after _ _ ld ld1 l1.written in
+    let w = word_of ld1 in
+    let y = word_of addi1 in
+    let b = (ppc64_form Ds).machine w in
+    let d = (ppc64_form D).machine y in
+    let word : word_of addi ≡ 0x38000000 + registers_of x =
+    word_made (λ w. 0x38000000 + registers_of w) ld addi (omega arith) made in
+    let parts : HasParts 14 z a (word_of addi) =
+    record { opcode_is = omega arith; rt_is = omega arith; ra_is = omega arith } in
+    let from : moved (base a s) b ≡ entry =
+    ap (λ n. moved n b) (base_some a s load.over_some)
+    ∙ ap (moved (s.registers a)) (sym (reads_ds w (after.0.opcode_is ∙ load.parts.opcode_is)))
+    ∙ leads at ld ld1 l1 in
+    let new : moved (base a t) d ≡ address =
+    ap (λ n. moved n d) (base_some a t load.over_some) ∙ leads_too at addi addi1 d1 in
+    steps_so f w y s t (set z (loaded 8 s.memory (moved (base a s) b)) s) (set z (moved (base a t) d) t) _
+    (step_ld f w z a s (same_parts load.parts.opcode_is refl refl after.0) (after.1 ∙ load.low))
+    (step_addi f y z a t
+    (same_parts parts.opcode_is parts.rt_is parts.ra_is (d_after _ _ addi addi1 d1.written)))
+    refl refl (agree_but z _ _ c s t (ap (loaded 8 s.memory) from ∙ holds ∙ sym new) alike)

@@ -621,7 +621,7 @@ got_to_address entries relative x y h k auipc_bytes ld sx sy hx ky alike lengths
 
 pub long_nop : laws.LongNopDoesNothing
 unfolding place_sum
-long_nop section o m new h k small alike =
+long_nop section o m new h k differs small alike =
     let w = word_there section o (λ _. 0x13) m.0 (omega arith) in
     let bytes = drop o (laws.after_rewrite kinds.ReplaceWithLongNop section o) in
     let nop : Instruction = sums adds 0 0 0 (pos 0) in

@@ -558,18 +558,16 @@ from_zero : (section : List ℕ) (o : ℕ) (a : Action) (rd rs2 : ℕ) (row : Op
     → HaveOneTarget x y → IsLow12 x → (original new : List ℕ)
     → Relocated row x (drop o section) original
     → Relocated row y (drop o (after_rewrite kinds.Lo12Rs1ToZero section o)) new
-    → (h k : Hart) → h.pc < 2 ^ 64 → k.pc < 2 ^ 64
-    → AreAlike (λ r. r == rs1_of (word_at section o)) h k
+    → (h k : Hart) (differs : ℕ → Bool) → h.pc < 2 ^ 64 → k.pc < 2 ^ 64 → AreAlike differs h k
     → register h (rs1_of (word_at section o)) ≡ 0 → StoresTheSame a rs2 h k
     → EndSo 1 original h 1 new k
-    (λ e e'. AreAlike (differs_after a (λ r. r == rs1_of (word_at section o)) rd) e e'
+    (λ e e'. AreAlike (differs_after a differs rd) e e'
     × GoOn a rd (even symbol_address x) (sum_64 h.pc 4) (sum_64 k.pc 4) e e')
-from_zero section o a rd rs2 row law x y one low original new old_code new_code h k small small'
-    alike none apart =
+from_zero section o a rd rs2 row law x y one low original new old_code new_code h k differs small
+    small' alike none apart =
     let n = symbol_address x in
     let below : n < 2 ^ 64 = sum_below x.symbol _ in
     let whole : sum_64 0 n ≡ n = omega arith in
-    let differs : ℕ → Bool = λ r. r == rs1_of (word_at section o) in
     subst (λ t. EndSo 1 original h 1 new k (λ e e'. AreAlike (differs_after a differs rd) e e'
     × GoOn a rd (t - t % 2) (sum_64 h.pc 4) (sum_64 k.pc 4) e e')) whole
     (law x y one low original new old_code new_code h k differs small small' alike none apart)

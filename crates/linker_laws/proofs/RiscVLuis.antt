@@ -1,5 +1,6 @@
 -- A `lui` computes the same as `c.lui`, and nothing where it is deleted.
-use Rattle.std.proofs.Common.{◌≡◌, ◌≢◌, ℕ, ◌+◌, ◌*◌, ◌≤◌, ◌<◌, ◌^◌, refl, sym}
+use Rattle.std.specs.Prelude.{not, ◌&&◌}
+use Rattle.std.proofs.Common.{Bool, ◌==◌, ◌≡◌, ◌≢◌, ℕ, ◌+◌, ◌*◌, ◌≤◌, ◌<◌, ◌^◌, refl, sym}
 use Rattle.std.proofs.Common.{◌∙◌, ap, arith, List, length, take, drop}
 use Rattle.std.proofs.Common.{Some, w64, subst, pos}
 use Rattle.std.specs.Int.{cast_signed, w16, w32, from_le_bytes}
@@ -20,7 +21,7 @@ use Rattle.linker_elf.specs.Elf.{IsWithin}
 use Rattle.linker_laws.proofs.RiscVHighParts.{high_20}
 use Rattle.linker_laws.specs.RiscVRewriteLaws.{IsLow12, after_rewrite, LuiBecomesClui, LuiIsDeleted}
 use Rattle.linker_laws.specs.RiscVRewriteLaws.{OffsetLuiIsDeleted, thread_offset, AreAlike, EndSo, HasZero}
-use Rattle.linker_laws.specs.RiscVRewriteLaws.{no_register, CluiBecomesCli}
+use Rattle.linker_laws.specs.RiscVRewriteLaws.{CluiBecomesCli}
 use Rattle.linker_laws.specs.Machine.{Relocated}
 use Rattle.linker_laws.proofs.RiscVHighParts.{IsOf, of_address, of_offset, absolute_is}
 use Rattle.linker_elf.specs.RiscVRelocations.{pair_row}
@@ -38,6 +39,7 @@ use Rattle.linker_laws.proofs.RiscVHighParts.{short_register, short_stands, near
 use Rattle.linker_laws.proofs.RiscVHighParts.{same_immediates, is_zero}
 use Rattle.linker_laws.proofs.RiscVMachine.{other, same_written, at_start, steps, fetched_half}
 use Rattle.linker_laws.proofs.Words.{rewritten_there, put_there, half_of_bytes}
+use Rattle.std.proofs.lemmas.Bool.{or_parts}
 use Rattle.std.proofs.lemmas.List.{length-append}
 
 -- of a number of 12 bits
@@ -45,10 +47,10 @@ lui_deleted : (kind : RelocationKind) (number : Operands → ℕ) → IsOf kind 
     → (section : List ℕ) (o : ℕ) → HasWord section o IsLui → (x : Operands)
     → IsWithin (Some low_12_bounds) (cast_signed w64 (number x)) → (original new : List ℕ)
     → Relocated (Some (pair_row kind 32 UType)) x (drop o section) original
-    → (h k : Hart) → h.pc < 2 ^ 64 → k.pc < 2 ^ 64 → AreAlike no_register h k
+    → (h k : Hart) (differs : ℕ → Bool) → h.pc < 2 ^ 64 → k.pc < 2 ^ 64 → AreAlike differs h k
     → EndSo 1 original h 0 new k
-    (λ a b. HasZero (rd_of (word_at section o)) (sum_64 h.pc 4) a b × (b.pc ≡ k.pc))
-lui_deleted kind number of section o m x low original new code h k small small' alike =
+    (λ a b. HasZero differs (rd_of (word_at section o)) (sum_64 h.pc 4) a b × (b.pc ≡ k.pc))
+lui_deleted kind number of section o m x low original new code h k differs small small' alike =
     let before = drop o section in
     let r = rd_of (word_at section o) in
     let a = code.applied in
@@ -74,7 +76,9 @@ lui_deleted kind number of section o m x low original new code h k small small' 
       so = (
         record {
           alike = record {
-            integers = λ q e. put q ∙ other r 0 h q e ∙ alike.integers q refl;
+            integers = λ q e.
+                let parts = or_parts (differs q) (q == r) e in
+                put q ∙ other r 0 h q parts.1 ∙ alike.integers q parts.0;
             floats = λ q. ap (λ e. e.floats q) (upper_is kind x n before original a small_number value l m.1 h)
                 ∙ alike.floats q;
             memory = λ q. ap (λ e. e.memory q) (upper_is kind x n before original a small_number value l m.1 h)
@@ -107,7 +111,7 @@ clui_there section o inside =
     ≡ 0x6001 + field (from_le_bytes w32 (drop o section)) 7 12 * 128 = omega arith in e)
 
 pub lui_becomes_clui : LuiBecomesClui
-lui_becomes_clui section o m x y one high original new old_code new_code h k small small' alike =
+lui_becomes_clui section o m x y one high original new old_code new_code h k differs small small' alike =
     let before = drop o section in
     let before' = drop o (deleted 2 (o + 2) (after_rewrite kinds.Hi20ToCLui section o)) in
     let r = rd_of (word_at section o) in
@@ -146,7 +150,8 @@ lui_becomes_clui section o m x y one high original new old_code new_code h k sma
               ∙ ap (λ s. register (with_integer s number h) q)
               (upper_register Absolute x (symbol_address x) before original a (sum_below x.symbol _) (absolute_is UType x) l is)
               ∙ ap (λ v. register (with_integer r v h) q) same
-              ∙ same_written r number' h k q (λ _. alike.integers q refl)
+              ∙ same_written r number' h k q
+              (λ other. alike.integers q (sym (ap (λ b. not b && differs q) other) ∙ e))
               ∙ ap (λ s. register (with_integer s number' k) q)
               (sym (short_register y before' new a' l' low_bits function some not_sp high'
               ∙ register'))
@@ -173,7 +178,7 @@ cli_there section o inside =
     ∙ ap (λ w. 0x4001 + field w 7 12 * 128) (half_of_front (drop o section))
 
 pub clui_becomes_cli : CluiBecomesCli
-clui_becomes_cli section o m x low lui original is same code h k small small' alike =
+clui_becomes_cli section o m x low lui original is same code h k differs small small' alike =
     let r = rd_of (half_at section o) in
     let n = symbol_address x in
     let a = code.applied in
@@ -213,7 +218,8 @@ clui_becomes_cli section o m x low lui original is same code h k small small' al
               ∙ ap (λ s. register (with_integer s (wrapped (signed 32 (place_sum (riscv_places UType)
               (from_le_bytes w32 original)))) h) q) register'
               ∙ ap (λ v. register (with_integer r v h) q) none
-              ∙ same_written r 0 h k q (λ _. alike.integers q refl);
+              ∙ same_written r 0 h k q
+              (λ other. alike.integers q (sym (ap (λ b. not b && differs q) other) ∙ e));
           floats = λ q. ap (λ z. z.floats q) is' ∙ alike.floats q;
           memory = λ q. ap (λ z. z.memory q) is' ∙ alike.memory q;
         };

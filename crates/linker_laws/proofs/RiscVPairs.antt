@@ -19,7 +19,7 @@ use Rattle.linker_riscv64.specs.declared.rewrites.RelaxationKind.TheVariants as 
 use Rattle.linker_laws.specs.RiscVRelocationLaws.{even}
 use Rattle.linker_laws.specs.Schemes.{symbol_address}
 use Rattle.linker_laws.specs.Machine.{deleted, Relocated}
-use Rattle.linker_laws.specs.RiscVRewriteLaws.{after_rewrite, AreAlike, differs_after, GoOn}
+use Rattle.linker_laws.specs.RiscVRewriteLaws.{after_rewrite, AreAlike, differs_after, GoOn, no_register}
 use Rattle.linker_laws.specs.RiscVRewriteLaws.{low_row, AloneFromZero, PairFromZero}
 use Rattle.linker_laws.specs.RiscVRewriteLaws.{StoresAnother, StoresTheSame, LocalExecIsShortened}
 use Rattle.linker_laws.specs.RiscVRewriteLaws.{AloneFromThreadPointer, even_in_thread, is_either, offset_row}
@@ -122,7 +122,7 @@ pair_from_zero section o m m' base =
     subst (λ r. IsSomeAnd r (AloneFromZero section o))
     (sym some.1)
     (λ apart x y one is_low high low new high_code low_code new_code h k small small' alike.
-    let first = lui_is_deleted section o m x is_low high [] high_code h k small small' alike in
+    let first = lui_is_deleted section o m x is_low high [] high_code h k no_register small small' alike in
     let middle = first.end in
     let behind : middle.pc ≡ sum_64 h.pc 4 = first.so.0.next in
     let small_middle : middle.pc < 2 ^ 64 =
@@ -136,7 +136,8 @@ pair_from_zero section o m m' base =
     let there = deleted_there (after_rewrite kinds.Lo12Rs1ToZero section (o + 4)) o 4
     (rewritten_reaches rs1_to_zero section o (o + 4) (omega arith) m'.0) in
     let second = law section (o + 4) m'.0 a some.1 some.2 x y one is_low low new low_code
-    (subst (λ bytes. Relocated (low_row a) y bytes new) there new_code) middle k small_middle small'
+    (subst (λ bytes. Relocated (low_row a) y bytes new) there new_code) middle k
+    (λ r. r == rs1_of word) small_middle small'
     alike_middle zero
     (stores_the_same a (rs1_of word) (rs2_of word) middle k apart alike_middle) in
     let long_before : 4 ≤ length (drop o section) = high_code.applied.accepted.long in
@@ -214,7 +215,7 @@ local_exec_is_shortened section o is =
     (sym some.1)
     (λ apart apart' x y one is_low lui low new lui_code low_code new_code h k small small' alike wide.
     -- the `lui`
-    let first = offset_lui_is_deleted section o is.first x is_low lui [] lui_code h k small small' alike in
+    let first = offset_lui_is_deleted section o is.first x is_low lui [] lui_code h k no_register small small' alike in
     let u = first.end in
     let behind : u.pc ≡ sum_64 h.pc 4 = first.so.0.next in
     let small_u : u.pc < 2 ^ 64 = subst (λ p. p < 2 ^ 64) (sym behind) (small_sum h.pc 4) in

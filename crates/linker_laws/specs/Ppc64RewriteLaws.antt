@@ -581,6 +581,35 @@ HighHalfOfEntry =
     × Leads names.R_PPC64_GOT_TPREL16_LO_DS Ds (with_entry entry o) (v.registers x)
     (entry_from_toc (with_entry entry o) (t.registers 2)))
 
+-- `addis rX,2` of the GOT entry of a symbol's address, and of the symbol itself
+abbrev pub HighHalfOfSymbol : Type 0
+HighHalfOfSymbol =
+    (f : Formats) (o : Operands) (s t : State) (c : Changes) (addis : List ℕ) → AreAddresses o
+    → AgreeBut c s t → IsTrue (is_addis_of_toc (word_of addis))
+    → (addis_of_entry addis_of_symbol : List ℕ)
+    → IsRelocated names.R_PPC64_GOT16_HA o addis addis_of_entry
+    → IsRelocated names.R_PPC64_TOC16_HA o addis addis_of_symbol
+    → let x = rt_of (word_of addis) in
+    StepSo f (word_of addis_of_entry) s (word_of addis_of_symbol) t
+    (λ u v. AgreeBut (with_register x c) u v
+    × Leads names.R_PPC64_GOT16_LO_DS Ds o (u.registers x) (entry_from_toc o (s.registers 2))
+    × Leads names.R_PPC64_TOC16_LO D o (v.registers x) (from_toc o (t.registers 2)))
+
+-- `ld rY` of the entry, which holds the address, and `addi rY`
+abbrev pub LoadToSum : Type 0
+LoadToSum =
+    (f : Formats) (o : Operands) (s t : State) (c : Changes) (ld addi : List ℕ) → AgreeBut c s t
+    → IsTrue (is_ld (word_of ld)) → IsRewritten kinds.LdToAddi ld addi
+    → (entry address : ℕ)
+    → Leads names.R_PPC64_GOT16_LO_DS Ds o (s.registers (ra_of (word_of ld))) entry
+    → loaded 8 s.memory entry ≡ address
+    → Leads names.R_PPC64_TOC16_LO D o (t.registers (ra_of (word_of ld))) address
+    → (at : ℕ) (ld_of_entry addi_of_symbol : List ℕ)
+    → IsRelocated names.R_PPC64_GOT16_LO_DS (at_place at o) ld ld_of_entry
+    → IsRelocated names.R_PPC64_TOC16_LO (at_place at o) addi addi_of_symbol
+    → StepSo f (word_of ld_of_entry) s (word_of addi_of_symbol) t
+    (AgreeBut (without_register (rt_of (word_of ld)) c))
+
 -- ---- what an instruction does with an address
 
 -- bytes from an address on that don't differ
@@ -897,6 +926,8 @@ pub record Laws : Type 0 where
   pub offset_high_half : OffsetToHighHalf
   pub offset_low_half : OffsetToLowHalf
   pub entry_high_half : HighHalfOfEntry
+  pub symbol_high_half : HighHalfOfSymbol
+  pub symbol_load : LoadToSum
   pub argument_high_half : ArgumentToHighHalf
   pub argument_offset : ArgumentToOffset
   pub argument_thread : ArgumentToThread

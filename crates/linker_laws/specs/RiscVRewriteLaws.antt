@@ -27,7 +27,7 @@ use Rattle.linker_riscv64.specs.declared.rewrites.RelaxationKind.TheVariants as 
 use Rattle.linker_laws.specs.RiscVRelocationLaws.{even}
 use Rattle.linker_laws.specs.Schemes.{AreAddresses, symbol_address, plt_address}
 use Rattle.linker_laws.specs.Schemes.{entry_and_addend}
-use Rattle.linker_laws.specs.Machine.{Relocated, deleted, loaded}
+use Rattle.linker_laws.specs.Machine.{Relocated, deleted, loaded, but}
 use Rattle.linker_laws.specs.RiscVMachine.{Hart, register, Action, adds, adds_word, jumps, loads}
 use Rattle.linker_laws.specs.RiscVMachine.{stores, loads_float, stores_float, action_of, rs1_of}
 use Rattle.linker_laws.specs.RiscVMachine.{rs2_of, Runs}
@@ -153,9 +153,9 @@ IsLow12 x = IsWithin (Some low_12_bounds) (symbol_and_addend x)
 abbrev pub HaveOneTarget : Operands → Operands → Type 0
 HaveOneTarget x y = symbol_address x ≡ symbol_address y
 
--- The two are alike, and behind their instructions.
-pub record HaveGoneOn (at new_at : ℕ) (a b : Hart) : Type 0 where
-  pub alike : AreAlike no_register a b
+-- The two are alike but for some registers, and behind their instructions.
+pub record HaveGoneOn (differs : ℕ → Bool) (at new_at : ℕ) (a b : Hart) : Type 0 where
+  pub alike : AreAlike differs a b
   pub next : a.pc ≡ at
   pub new_next : b.pc ≡ new_at
 
@@ -168,12 +168,13 @@ LuiBecomesClui =
     → Relocated (riscv_row names.R_RISCV_HI20) x (drop o section) original
     → Relocated (Some clui_row) y
     (drop o (deleted 2 (o + 2) (after_rewrite kinds.Hi20ToCLui section o))) new
-    → (h k : Hart) → h.pc < 2 ^ 64 → k.pc < 2 ^ 64 → AreAlike no_register h k
-    → EndSo 1 original h 1 new k (HaveGoneOn (sum_64 h.pc 4) (sum_64 k.pc 2))
+    → (h k : Hart) (differs : ℕ → Bool) → h.pc < 2 ^ 64 → k.pc < 2 ^ 64 → AreAlike differs h k
+    → EndSo 1 original h 1 new k
+    (HaveGoneOn (but (rd_of (word_at section o)) differs) (sum_64 h.pc 4) (sum_64 k.pc 2))
 
 -- A `lui` that is deleted would put 0 in its register, and change nothing else.
-pub record HasZero (rd behind : ℕ) (a b : Hart) : Type 0 where
-  pub alike : AreAlike (λ r. r == rd) a b
+pub record HasZero (differs : ℕ → Bool) (rd behind : ℕ) (a b : Hart) : Type 0 where
+  pub alike : AreAlike (λ r. differs r || r == rd) a b
   pub zero_there : register a rd ≡ 0
   pub next : a.pc ≡ behind
 
@@ -182,9 +183,9 @@ LuiIsDeleted =
     (section : List ℕ) (o : ℕ) → riscv_matches kinds.Hi20Delete section o
     → (x : Operands) → IsLow12 x → (original new : List ℕ)
     → Relocated (riscv_row names.R_RISCV_HI20) x (drop o section) original
-    → (h k : Hart) → h.pc < 2 ^ 64 → k.pc < 2 ^ 64 → AreAlike no_register h k
+    → (h k : Hart) (differs : ℕ → Bool) → h.pc < 2 ^ 64 → k.pc < 2 ^ 64 → AreAlike differs h k
     → EndSo 1 original h 0 new k
-    (λ a b. HasZero (rd_of (word_at section o)) (sum_64 h.pc 4) a b × (b.pc ≡ k.pc))
+    (λ a b. HasZero differs (rd_of (word_at section o)) (sum_64 h.pc 4) a b × (b.pc ≡ k.pc))
 
 -- `c.li` puts what a `lui` of the same register and of the same S + A does, a high part of 0, for
 -- which there is no `c.lui`.
@@ -194,9 +195,9 @@ CluiBecomesCli =
     → (x : Operands) → IsLow12 x → (lui original : List ℕ)
     → IsLui (from_le_bytes w32 lui) → rd_of (from_le_bytes w32 lui) ≡ rd_of (half_at section o)
     → Relocated (riscv_row names.R_RISCV_HI20) x lui original
-    → (h k : Hart) → h.pc < 2 ^ 64 → k.pc < 2 ^ 64 → AreAlike no_register h k
+    → (h k : Hart) (differs : ℕ → Bool) → h.pc < 2 ^ 64 → k.pc < 2 ^ 64 → AreAlike differs h k
     → EndSo 1 original h 1 (drop o (after_rewrite kinds.CLuiToCLi section o)) k
-    (HaveGoneOn (sum_64 h.pc 4) (sum_64 k.pc 2))
+    (HaveGoneOn (but (rd_of (half_at section o)) differs) (sum_64 h.pc 4) (sum_64 k.pc 2))
 
 -- ---- low parts (psABI, "Zero-page Relaxation")
 
@@ -236,8 +237,8 @@ abbrev pub action_at : List ℕ → ℕ → Option Action
 action_at section o =
     action_of (opcode_of (word_at section o)) (funct3_of (word_at section o))
 
--- Where the base is what the `lui` leaves, 0, x0 can be the base, whatever that register has in the
--- hart of the new code.
+-- Where the base is what the `lui` leaves, 0, x0 can be the base, whatever is in the registers that
+-- differ.
 abbrev pub FromZero : List ℕ → ℕ → Action → Type 0
 FromZero section o action =
     let rd = rd_of (word_at section o) in
@@ -245,9 +246,9 @@ FromZero section o action =
     (x y : Operands) → HaveOneTarget x y → IsLow12 x → (original new : List ℕ)
     → Relocated (low_row action) x (drop o section) original
     → Relocated (low_row action) y (drop o (after_rewrite kinds.Lo12Rs1ToZero section o)) new
-    → (h k : Hart) → h.pc < 2 ^ 64 → k.pc < 2 ^ 64 → AreAlike (λ r. r == rs1) h k
+    → (h k : Hart) (differs : ℕ → Bool) → h.pc < 2 ^ 64 → k.pc < 2 ^ 64 → AreAlike differs h k
     → register h rs1 ≡ 0 → StoresTheSame action (rs2_of (word_at section o)) h k
-    → EndSo 1 original h 1 new k (λ a b. AreAlike (differs_after action (λ r. r == rs1) rd) a b
+    → EndSo 1 original h 1 new k (λ a b. AreAlike (differs_after action differs rd) a b
     × GoOn action rd (even symbol_address x) (sum_64 h.pc 4) (sum_64 k.pc 4) a b)
 
 abbrev pub LowPartFromZero : Type 0
@@ -305,9 +306,9 @@ OffsetLuiIsDeleted =
     (section : List ℕ) (o : ℕ) → HasWord section o IsLui → (x : Operands) → IsLowOffset x
     → (original new : List ℕ)
     → Relocated (riscv_row names.R_RISCV_TPREL_HI20) x (drop o section) original
-    → (h k : Hart) → h.pc < 2 ^ 64 → k.pc < 2 ^ 64 → AreAlike no_register h k
+    → (h k : Hart) (differs : ℕ → Bool) → h.pc < 2 ^ 64 → k.pc < 2 ^ 64 → AreAlike differs h k
     → EndSo 1 original h 0 new k
-    (λ a b. HasZero (rd_of (word_at section o)) (sum_64 h.pc 4) a b × (b.pc ≡ k.pc))
+    (λ a b. HasZero differs (rd_of (word_at section o)) (sum_64 h.pc 4) a b × (b.pc ≡ k.pc))
 
 -- An `add` that is deleted would put the thread pointer's number in its register, and change nothing
 -- else.
@@ -400,9 +401,9 @@ LocalExecIsShortened =
 abbrev pub LongNopDoesNothing : Type 0
 LongNopDoesNothing =
     (section : List ℕ) (o : ℕ) → riscv_matches kinds.ReplaceWithLongNop section o → (new : List ℕ)
-    → (h k : Hart) → h.pc < 2 ^ 64 → AreAlike no_register h k
+    → (h k : Hart) (differs : ℕ → Bool) → h.pc < 2 ^ 64 → AreAlike differs h k
     → EndSo 1 (drop o (after_rewrite kinds.ReplaceWithLongNop section o)) h 0 new k
-    (λ a b. HaveGoneOn (sum_64 h.pc 4) k.pc a b)
+    (λ a b. HaveGoneOn differs (sum_64 h.pc 4) k.pc a b)
 
 -- ---- the offset of a variable from the thread pointer, by a TLS descriptor (psABI, "TLS
 -- Descriptors -> Initial Exec Relaxation", "TLS Descriptors -> Local Exec Relaxation")

@@ -6,13 +6,7 @@ ghost use Rattle.linker_elf.specs.Choices.{Fits, choice};
 ghost use Rattle.linker_elf.proofs.SameNames.{equalities, exact_code};
 ghost use Rattle.linker_elf.specs.contracts.ppc64.relocations.Ppc64Relocation.{enum as names};
 ghost use Rattle.linker_ppc64.specs.Inner.Choices.{AreThere, ppc64_tables};
-ghost use Rattle.linker_ppc64.specs.Ppc64Rewrites.{TocPairsAreChosenAlike, GotPairIsChosenAlike};
-ghost use Rattle.linker_ppc64.specs.Ppc64Rewrites.{InitialExecPairIsChosenAlike};
-ghost use Rattle.linker_ppc64.specs.Ppc64Rewrites.{ThreadPairsAreChosenAlike};
-ghost use Rattle.linker_ppc64.specs.Ppc64Rewrites.{GeneralDynamicIsChosenAlike};
-ghost use Rattle.linker_ppc64.specs.Ppc64Rewrites.{LocalDynamicIsChosenAlike};
-ghost use Rattle.linker_ppc64.specs.Ppc64Rewrites.{IsPpc64Choice};
-ghost use Rattle.linker_ppc64.specs.Ppc64Rewrites.{ppc64_matches, ppc64_rewrite};
+ghost use Rattle.linker_ppc64.specs.Ppc64Rewrites as rewrites;
 ghost use Rattle.linker_ppc64.specs.declared.rewrites.RelaxationKind.TheVariants as kinds;
 
 use super::rewrites::RelaxationKind;
@@ -248,9 +242,9 @@ pub fn choose(
     offset: u64,
     facts: &LinkFacts,
 ) -> Choice<RelaxationKind, Ppc64Relocation>
-    ensures chosen { IsPpc64Choice name section.now offset facts.now result }
-    ensures matches { ppc64_matches result.kind section.now offset }
-    ensures rewritable { CanRewrite (ppc64_rewrite result.kind) section.now offset }
+    ensures chosen { rewrites.IsPpc64Choice name section.now offset facts.now result }
+    ensures matches { rewrites.ppc64_matches result.kind section.now offset }
+    ensures rewritable { CanRewrite (rewrites.ppc64_rewrite result.kind) section.now offset }
 {
     RelaxationKind::choose(name, section, offset, facts)
 }
@@ -262,19 +256,13 @@ pub fn choose(
 /// use linker_utils::elf::LinkFacts;
 /// use linker_utils::ppc64::{Ppc64Relocation, fits};
 ///
-/// // addis 9,2,x@got@tprel@ha; ld 9,x@got@tprel@l(9); lwaux 3,9,13, which has no form by an offset
+/// // lwaux 3,9,13 with x@tls, which has no form by an offset
 /// let facts = LinkFacts { is_local: true, is_executable: true, ..LinkFacts::default() };
-/// let sequence = [
-///     (Ppc64Relocation::R_PPC64_GOT_TPREL16_HA, 0x3d22_0000u32),
-///     (Ppc64Relocation::R_PPC64_GOT_TPREL16_LO_DS, 0xe929_0000),
-///     (Ppc64Relocation::R_PPC64_TLS, 0x7c69_6aea),
-/// ];
-/// let fit = sequence.map(|(name, word)| fits(name, &word.to_le_bytes(), 0, &facts));
-/// assert_eq!(fit, [true, true, false]);
+/// assert!(!fits(Ppc64Relocation::R_PPC64_TLS, &0x7c69_6aeau32.to_le_bytes(), 0, &facts));
 /// ```
 pub fn fits(name: Ppc64Relocation, section: &[u8], offset: u64, facts: &LinkFacts) -> bool
     ensures { IsTrue result
-        ↔ Fits (IsPpc64Choice name section.now offset) (choice kinds.NoOp name) facts.now }
+        ↔ Fits (rewrites.IsPpc64Choice name section.now offset) (choice kinds.NoOp name) facts.now }
 {
     RelaxationKind::fits(name, section, offset, facts)
 }
@@ -287,10 +275,10 @@ pub fn fits(name: Ppc64Relocation, section: &[u8], offset: u64, facts: &LinkFact
 /// access of whole words is left where the offset isn't a multiple of 4. And nothing of
 /// `R_PPC64_GOT_TLSGD16`, which is left where the entry of initial-exec isn't near the TOC pointer.
 pub fn relocations_are_chosen_alike()
-    ensures toc { TocPairsAreChosenAlike }
-    ensures local_exec { ThreadPairsAreChosenAlike }
-    ensures got { GotPairIsChosenAlike }
-    ensures initial_exec { InitialExecPairIsChosenAlike }
-    ensures general_dynamic { GeneralDynamicIsChosenAlike }
-    ensures local_dynamic { LocalDynamicIsChosenAlike }
+    ensures toc { rewrites.TocPairsAreChosenAlike }
+    ensures local_exec { rewrites.ThreadPairsAreChosenAlike }
+    ensures got { rewrites.GotPairIsChosenAlike }
+    ensures initial_exec { rewrites.InitialExecPairIsChosenAlike }
+    ensures general_dynamic { rewrites.GeneralDynamicIsChosenAlike }
+    ensures local_dynamic { rewrites.LocalDynamicIsChosenAlike }
 {}

@@ -8,11 +8,7 @@ ghost use Rattle.linker_elf.proofs.SameNames.{equalities, exact_code};
 ghost use Rattle.linker_elf.specs.contracts.riscv64.relocations.RiscVRelocation.{enum as names};
 ghost use Rattle.linker_elf.specs.Value.{sum_64};
 ghost use Rattle.linker_riscv64.specs.Inner.Choices.{IsThere, riscv_tables};
-ghost use Rattle.linker_riscv64.specs.RiscVRewrites.{DescriptorIsChosenAlike, GotPairIsChosenAlike};
-ghost use Rattle.linker_riscv64.specs.RiscVRewrites.{AbsoluteIsChosenAlike, ThreadOffsetIsChosenAlike};
-ghost use Rattle.linker_riscv64.specs.RiscVRewrites.{IsRiscVChoice};
-ghost use Rattle.linker_riscv64.specs.RiscVRewrites.{riscv_matches};
-ghost use Rattle.linker_riscv64.specs.RiscVRewrites.{riscv_rewrite, FitsClui};
+ghost use Rattle.linker_riscv64.specs.RiscVRewrites as rewrites;
 ghost use Rattle.linker_riscv64.specs.declared.rewrites.RelaxationKind.TheVariants as kinds;
 
 use super::rewrites::{is_add_tp, is_addi_to_a0, is_auipc, is_ld, is_lui, word_at};
@@ -227,26 +223,16 @@ impl ChosenByTable for RelaxationKind {
 ///
 /// // auipc ra, 0; jalr ra, 0(ra), which calls a function 0x1000 bytes on
 /// let call = [0x97, 0x00, 0x00, 0x00, 0xe7, 0x80, 0x00, 0x00];
-/// let target = 0x2000;
-/// let mut facts = LinkFacts {
+/// let facts = LinkFacts {
 ///     has_fixed_distance: true,
 ///     is_relaxable: true,
 ///     has_addresses: true,
-///     operands: Operands {
-///         symbol: target,
-///         plt_entry: target,
-///         place: 0x1000,
-///         ..Operands::default()
-///     },
+///     operands: Operands { plt_entry: 0x2000, symbol: 0x2000, place: 0x1000, ..Operands::default() },
 ///     ..LinkFacts::default()
 /// };
 /// let chosen = choose(RiscVRelocation::R_RISCV_CALL_PLT, &call, 0, &facts);
 /// assert_eq!(chosen.kind, RelaxationKind::CallToJal);
 /// assert_eq!(chosen.relocation, RiscVRelocation::R_RISCV_JAL);
-///
-/// facts.operands.plt_entry = 0x3000;
-/// let chosen = choose(RiscVRelocation::R_RISCV_CALL_PLT, &call, 0, &facts);
-/// assert_eq!(chosen.kind, RelaxationKind::NoOp);
 /// ```
 #[inline]
 pub fn choose(
@@ -255,12 +241,12 @@ pub fn choose(
     offset: u64,
     facts: &LinkFacts,
 ) -> Choice<RelaxationKind, RiscVRelocation>
-    ensures chosen { IsRiscVChoice name section.now offset facts.now result }
-    ensures matches { riscv_matches result.kind section.now offset }
-    ensures rewritable { CanRewrite (riscv_rewrite result.kind) section.now offset }
+    ensures chosen { rewrites.IsRiscVChoice name section.now offset facts.now result }
+    ensures matches { rewrites.riscv_matches result.kind section.now offset }
+    ensures rewritable { CanRewrite (rewrites.riscv_rewrite result.kind) section.now offset }
     // never an immediate of 0, which the ISA reserves
     ensures compressed { result.kind ≡ RelaxationKind.Hi20ToCLui
-        → FitsClui (sum_64 facts.now.operands.symbol
+        → rewrites.FitsClui (sum_64 facts.now.operands.symbol
         (cast_unsigned w64 facts.now.operands.addend)) }
 {
     RelaxationKind::choose(name, section, offset, facts)
@@ -273,23 +259,13 @@ pub fn choose(
 /// use linker_utils::elf::LinkFacts;
 /// use linker_utils::riscv64::{RiscVRelocation, fits};
 ///
-/// // auipc a0, 0 and ld a0, 0(a0), which load the address of a symbol of the output, both marked
-/// let section = [0x17, 0x05, 0, 0, 0x03, 0x35, 0x05, 0];
-/// let facts = LinkFacts {
-///     is_local: true,
-///     has_fixed_distance: true,
-///     is_label_relaxable: true,
-///     ..LinkFacts::default()
-/// };
-/// assert!(fits(RiscVRelocation::R_RISCV_GOT_HI20, &section, 0, &facts));
-/// let facts = LinkFacts { has_got_high_part: true, ..facts };
-/// assert!(fits(RiscVRelocation::R_RISCV_PCREL_LO12_I, &section, 4, &facts));
-/// // an auipc isn't what a low part is rewritten at
-/// assert!(!fits(RiscVRelocation::R_RISCV_PCREL_LO12_I, &section, 0, &facts));
+/// // a low part is rewritten at `ld a0, 0(a0)`, and isn't at an auipc, whatever the linker knows
+/// let auipc = [0x17, 0x05, 0, 0];
+/// assert!(!fits(RiscVRelocation::R_RISCV_PCREL_LO12_I, &auipc, 0, &LinkFacts::default()));
 /// ```
 pub fn fits(name: RiscVRelocation, section: &[u8], offset: u64, facts: &LinkFacts) -> bool
     ensures { IsTrue result
-        ↔ Fits (IsRiscVChoice name section.now offset) (choice kinds.NoOp name) facts.now }
+        ↔ Fits (rewrites.IsRiscVChoice name section.now offset) (choice kinds.NoOp name) facts.now }
 {
     RelaxationKind::fits(name, section, offset, facts)
 }
@@ -302,8 +278,8 @@ pub fn fits(name: RiscVRelocation, section: &[u8], offset: u64, facts: &LinkFact
 /// rewritten or none is. This holds where each is at an instruction that it requires, wherever that
 /// is.
 pub fn relocations_are_chosen_alike()
-    ensures descriptor { DescriptorIsChosenAlike }
-    ensures got { GotPairIsChosenAlike }
-    ensures absolute { AbsoluteIsChosenAlike }
-    ensures thread { ThreadOffsetIsChosenAlike }
+    ensures descriptor { rewrites.DescriptorIsChosenAlike }
+    ensures got { rewrites.GotPairIsChosenAlike }
+    ensures absolute { rewrites.AbsoluteIsChosenAlike }
+    ensures thread { rewrites.ThreadOffsetIsChosenAlike }
 {}

@@ -12,7 +12,8 @@ use Rattle.linker_base.specs.Deltas.{deletion_of}
 use Rattle.linker_base.specs.Listed.{AreValidDeltas}
 use Rattle.linker_base.specs.declared.relaxation.RelaxDelta.{RelaxDelta}
 use Rattle.std.proofs.lemmas.List.{take_all, get_or_default, get_or-map, length-map}
-use Rattle.linker_runs.specs.Inner.Copying.{IsFilledTo, IsFirstRun}
+use Rattle.linker_base.proofs.Search.{rank_at_last, rank_at_none}
+use Rattle.linker_runs.specs.Inner.Copying.{IsFilledTo, IsFirstRun, AreBegun, delta_at, no_delta}
 use Rattle.linker_runs.proofs.Lists.{behind, behind_length, behind_drop, behind_below, behind_at, behind_put}
 
 -- the kept bytes up to the run that begins at an offset are copied
@@ -164,8 +165,8 @@ module _ (ds : List (ℕ × ℕ)) (base first : ℕ) (valid : IsValid ds) (withi
         gone = λ p low high. deleted_gone ds (first - 1) p (0, 0) last (omega arith) (omega arith);
       }
 
-delta_at : (deltas : List RelaxDelta) (j : ℕ) (d : ℕ × ℕ) (e : RelaxDelta) → j < length deltas → (get_or (map deletion_of deltas) j d).0 ≡ (get_or deltas j e).input_offset
-delta_at deltas j d e h = ap (λ (x : ℕ × ℕ). x.0) (get_or-map deletion_of deltas j e d h)
+deletion_at : (deltas : List RelaxDelta) (j : ℕ) (d : ℕ × ℕ) (e : RelaxDelta) → j < length deltas → (get_or (map deletion_of deltas) j d).0 ≡ (get_or deltas j e).input_offset
+deletion_at deltas j d e h = ap (λ (x : ℕ × ℕ). x.0) (get_or-map deletion_of deltas j e d h)
 
 -- valid deltas ascend
 pub deltas_parted : (deltas : List RelaxDelta) (offset : ℕ) → AreValidDeltas deltas → IsPartitionedBy (λ (d : RelaxDelta). nat_lt d.input_offset offset) deltas
@@ -173,26 +174,54 @@ deltas_parted deltas offset valid i j e up within test =
     let low : (get_or deltas j e).input_offset < offset = ltb-true _ offset test in
     elim (cases_lt i j) [
       | inl before ↦
-          let first = delta_at deltas i (0, 0) e (omega arith) in
-          let second = delta_at deltas j (0, 0) e within in
+          let first = deletion_at deltas i (0, 0) e (omega arith) in
+          let second = deletion_at deltas j (0, 0) e within in
           let rise = (valid.valid.ascending i j (0, 0) before (omega (arith, length-map deltas deletion_of))).0 in
           lt-ltb _ offset (omega arith)
       | inr here ↦ let same : i ≡ j = omega arith in rw same test
     ]
 
--- the deltas whose deletions begin below an offset
-module _ (deltas : List RelaxDelta) (offset first : ℕ)
-    (point : IsPartitionPoint (λ (d : RelaxDelta). nat_lt d.input_offset offset ≡ true) (λ (d : RelaxDelta). nat_lt d.input_offset offset ≡ false) deltas first)
-    (within : first ≤ length deltas) where
-  some_delta : RelaxDelta
-  some_delta = record { input_offset = 0; cumulative_deleted = 0; bytes_deleted = 0 }
+-- the index where they part is how many begin below the offset
+pub begun_at_point : (deltas : List RelaxDelta) (offset first : ℕ)
+    → IsPartitionPoint (λ (d : RelaxDelta). nat_lt d.input_offset offset ≡ true) (λ (d : RelaxDelta). nat_lt d.input_offset offset ≡ false) deltas first
+    → first ≤ length deltas → AreBegun deltas offset first
+begun_at_point deltas offset first point within = record {
+  within = within;
+  below = λ some. ltb-true (delta_at deltas (first - 1)).input_offset offset (point.0 (first - 1) no_delta (omega arith) (omega arith));
+  above = λ more. ltb-false (delta_at deltas first).input_offset offset (point.1 first no_delta (omega arith) more);
+}
 
-  pub begin_below : (j : ℕ) (d : ℕ × ℕ) → j < first → (get_or (map deletion_of deltas) j d).0 < offset
-  begin_below j d h = let e = delta_at deltas j d some_delta (omega arith) in let t = ltb-true (get_or deltas j some_delta).input_offset offset (point.0 j some_delta (omega arith) h) in omega arith
+-- the deletions of deltas that begin below an offset, and of the others
+module _ (deltas : List RelaxDelta) (offset begun : ℕ) (valid : AreValidDeltas deltas) (are : AreBegun deltas offset begun) where
+  pub begin_below : (j : ℕ) (d : ℕ × ℕ) → j < begun → (get_or (map deletion_of deltas) j d).0 < offset
+  begin_below j d h =
+      let within = are.within in
+      let low = are.below (omega arith) in
+      let last = deletion_at deltas (begun - 1) d no_delta (omega arith) in
+      elim (cases_lt j (begun - 1)) [
+        | inl before ↦ let rise = (valid.valid.ascending j (begun - 1) d before (omega (arith, length-map deltas deletion_of))).0 in omega arith
+        | inr here ↦ let same : j ≡ begun - 1 = omega arith in rw same (omega arith)
+      ]
 
-  pub begin_above : (j : ℕ) (d : ℕ × ℕ) → first ≤ j → j < length (map deletion_of deltas) → offset ≤ (get_or (map deletion_of deltas) j d).0
+  pub begin_above : (j : ℕ) (d : ℕ × ℕ) → begun ≤ j → j < length (map deletion_of deltas) → offset ≤ (get_or (map deletion_of deltas) j d).0
   begin_above j d h inside =
       let there : j < length deltas = omega (arith, length-map deltas deletion_of) in
-      let e = delta_at deltas j d some_delta there in
-      let t = ltb-false (get_or deltas j some_delta).input_offset offset (point.1 j some_delta h there) in
-      omega arith
+      let low = are.above (omega arith) in
+      let first = deletion_at deltas begun d no_delta (omega arith) in
+      elim (cases_lt begun j) [
+        | inl before ↦ let rise = (valid.valid.ascending begun j d before inside).0 in omega arith
+        | inr here ↦ let same : j ≡ begun = omega arith in rw same (omega arith)
+      ]
+
+  -- the rank of the offset by the last delta that begins below it
+  pub rank_begun : 0 < begun → rank (map deletion_of deltas) offset
+      ≡ max offset (min ((delta_at deltas (begun - 1)).input_offset + (delta_at deltas (begun - 1)).bytes_deleted) (2 ^ 64 - 1)) - (delta_at deltas (begun - 1)).cumulative_deleted
+  rank_begun some =
+      let within = are.within in
+      let same : begun - 1 + 1 ≡ begun = omega arith in
+      let told = rank_at_last deltas valid offset (begun - 1) (omega arith) (rw same (λ j d inside low. begin_below j d low, λ j d up inside. begin_above j d up inside)) in
+      omega (arith, told.0, told.1)
+
+  pub rank_unbegun : begun ≡ 0 → rank (map deletion_of deltas) offset ≡ offset
+  rank_unbegun none =
+      sym (rank_at_none deltas valid offset (rw (← none) (λ j d inside low. begin_below j d low, λ j d up inside. begin_above j d up inside)))

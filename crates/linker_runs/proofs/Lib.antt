@@ -1,4 +1,5 @@
 pub mod Addresses
+pub mod Alignments
 pub mod AlwaysInReach
 pub mod Bounds
 pub mod Choices
@@ -14,6 +15,7 @@ pub mod Lists
 pub mod LongAddresses
 pub mod LongCalls
 pub mod LongCalls36
+pub mod LongSites
 pub mod LoongArch
 pub mod Made
 pub mod MadeSites

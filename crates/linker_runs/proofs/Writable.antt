@@ -35,7 +35,7 @@ use Rattle.linker_runs.specs.Sites.{operands_of, IsOutOfReach}
 use Rattle.linker_runs.specs.RiscVSites.{riscv_template, RiscVCause}
 use Rattle.linker_runs.specs.LoongArchSites.{IsCall36At, IsPcalaAt, destination, branch_template, pcaddi_template, LoongArchCause, far_from_branch, far_from_call, far_from_pcaddi, far_from_pair}
 use Rattle.linker_runs.specs.Origins.{HasRiscVShapes, HasLoongArchShapes, HasItsInstructions}
-use Rattle.linker_runs.specs.Packing.{Section, section_of, kept_len, SiteCause, IsUnwritable}
+use Rattle.linker_runs.specs.Packing.{Section, section_of, kept_len, CodeCause, IsUnwritable}
 use Rattle.linker_runs.specs.declared.packing.Machine.{Machine}
 use Rattle.linker_runs.specs.declared.packing.Machine.TheVariants.{RiscV64, LoongArch64}
 use Rattle.linker_runs.specs.declared.packing.ItemError.{ItemError}
@@ -199,31 +199,32 @@ module _ (bytes : List ℕ) (base : ℕ) (d : List (ℕ × ℕ)) (start : ℕ) w
   abbrev s : Section
   s = section_of bytes base d start
 
-  -- a site that has a short shape, and reaches its target by the deletions
-  site_not : (machine : Machine) (site : sites) (kept k : ℕ) → HasItsInstructions machine bytes base (Site site) → k < site.shapes.count → kept ≡ (short_shape site.shapes k).kept
-      → is_reached (short_shape site.shapes k) (rank d site.offset) (rank d site.target) ≡ true → (error : ItemError) → SiteCause machine s site kept error → ⊥
-  site_not RiscV64 site kept k has short len near NotItsInstructions cause = riscv_not bytes (site.offset - base) start _ _ kept site.shapes k has.3 short len near NotItsInstructions (cause has.0)
-  site_not RiscV64 site kept k has short len near NoShape cause = riscv_not bytes (site.offset - base) start _ _ kept site.shapes k has.3 short len near NoShape cause.1
-  site_not RiscV64 site kept k has short len near OutOfReach cause = riscv_not bytes (site.offset - base) start _ _ kept site.shapes k has.3 short len near OutOfReach cause.1
-  site_not RiscV64 site kept k has short len near Overlaps cause = cause.1
-  site_not RiscV64 site kept k has short len near OutOfSection cause = cause.1
-  site_not RiscV64 site kept k has short len near DeletedOutside cause = cause.1
-  site_not RiscV64 site kept k has short len near NotItsFirstBytes cause = cause.1
-  site_not LoongArch64 site kept k has short len near NotItsInstructions cause = loongarch_not bytes (site.offset - base) start _ _ kept site.shapes k has.3 short len near NotItsInstructions (cause has.0)
-  site_not LoongArch64 site kept k has short len near NoShape cause = loongarch_not bytes (site.offset - base) start _ _ kept site.shapes k has.3 short len near NoShape cause.1
-  site_not LoongArch64 site kept k has short len near OutOfReach cause = loongarch_not bytes (site.offset - base) start _ _ kept site.shapes k has.3 short len near OutOfReach cause.1
-  site_not LoongArch64 site kept k has short len near Overlaps cause = cause.1
-  site_not LoongArch64 site kept k has short len near OutOfSection cause = cause.1
-  site_not LoongArch64 site kept k has short len near DeletedOutside cause = cause.1
-  site_not LoongArch64 site kept k has short len near NotItsFirstBytes cause = cause.1
+  -- a site can be written where its instructions can
+  pub site_free : (machine : Machine) (site : sites) → HasItsInstructions machine bytes base (Site site) → (IsUnwritable machine s (Site site) NotItsFirstBytes → ⊥)
+      → ((error : ItemError) → CodeCause machine bytes (site.offset - base) (kept_len d (Site site)) (sum_64 start (rank d site.offset)) (sum_64 start (rank d site.target)) error → ⊥)
+      → (error : ItemError) → IsUnwritable machine s (Site site) error → ⊥
+  site_free machine site has first not NotItsFirstBytes u = first u
+  site_free machine site has first not NotItsInstructions u = not NotItsInstructions (u.1 has.0)
+  site_free machine site has first not NoShape u = not NoShape u.1.1
+  site_free machine site has first not OutOfReach u = not OutOfReach u.1.1
+  site_free machine site has first not Overlaps u = not Overlaps u.1.1
+  site_free machine site has first not OutOfSection u = not OutOfSection u.1.1
+  site_free machine site has first not DeletedOutside u = not DeletedOutside u.1.1
+
+  -- those of a site that has a short shape, and reaches its target by the deletions, can
+  code_not : (machine : Machine) (site : sites) (kept k : ℕ) → HasItsInstructions machine bytes base (Site site) → k < site.shapes.count → kept ≡ (short_shape site.shapes k).kept
+      → is_reached (short_shape site.shapes k) (rank d site.offset) (rank d site.target) ≡ true
+      → (error : ItemError) → CodeCause machine bytes (site.offset - base) kept (sum_64 start (rank d site.offset)) (sum_64 start (rank d site.target)) error → ⊥
+  code_not RiscV64 site kept k has short len near = riscv_not bytes (site.offset - base) start _ _ kept site.shapes k has.3 short len near
+  code_not LoongArch64 site kept k has short len near = loongarch_not bytes (site.offset - base) start _ _ kept site.shapes k has.3 short len near
 
   -- the same of an item of a run, by its layout
   item_not : (machine : Machine) (item : Item) (freed k here there : ℕ) → IsShortened item k → HasItsInstructions machine bytes base item
       → (IsUnwritable machine s item NotItsFirstBytes → ⊥) → kept_len d item ≡ kept_by start item k freed → item_reaches item k here there ≡ true
       → rank d (offset_of item) ≡ offset_of item - here → rank d (target_of item) ≡ target_of item - there
       → (error : ItemError) → IsUnwritable machine s item error → ⊥
-  item_not machine (Aligned alignment) freed k here there short has first kept reached at goes error unwritable = absurd short
-  item_not machine (Site site) freed k here there short has first kept reached at goes error unwritable = by error unwritable
+  item_not machine (Aligned alignment) freed k here there short has first kept reached at goes = absurd short
+  item_not machine (Site site) freed k here there short has first kept reached at goes = site_free machine site has first (code_not machine site (kept_len d (Site site)) k has short len near)
     where
       test : nat_lt k site.shapes.count ≡ true
       test = grind (arith, nat_tests)
@@ -241,15 +242,6 @@ module _ (bytes : List ℕ) (base : ℕ) (d : List (ℕ × ℕ)) (start : ℕ) w
           ∙ ap (is_reached (short_shape site.shapes k) (site.offset - here)) to
           ∙ sym (cond-true (nat_lt k site.shapes.count) (is_reached (short_shape site.shapes k) (site.offset - here) (target_of (Site site) - there)) true test)
           ∙ reached
-
-      by : (error : ItemError) → IsUnwritable machine s (Site site) error → ⊥
-      by NotItsFirstBytes u = first u
-      by NotItsInstructions u = site_not machine site (kept_len d (Site site)) k has short len near NotItsInstructions u.1
-      by NoShape u = site_not machine site (kept_len d (Site site)) k has short len near NoShape u.1
-      by OutOfReach u = site_not machine site (kept_len d (Site site)) k has short len near OutOfReach u.1
-      by Overlaps u = site_not machine site (kept_len d (Site site)) k has short len near Overlaps u.1
-      by OutOfSection u = site_not machine site (kept_len d (Site site)) k has short len near OutOfSection u.1
-      by DeletedOutside u = site_not machine site (kept_len d (Site site)) k has short len near DeletedOutside u.1
 
 pub short_sites : ShortSitesAreWritable
 short_sites machine start base items shapes kept freed bytes are is i within short has error unwritable =

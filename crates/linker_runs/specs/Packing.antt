@@ -172,20 +172,20 @@ pub record CanWrite (machine : Machine) (s : Section) (items : List Item) (i : �
   pub gap : KeepsGap s items i
   pub writable : is_fixed (item_at items i) ≡ false → IsWritable machine s (item_at items i)
 
+-- why the instructions at an offset aren't written, of which so many bytes stay
+abbrev pub CodeCause : Machine → List ℕ → ℕ → ℕ → ℕ → ℕ → ItemError → Type 0
+CodeCause RiscV64 section o kept place target error = RiscVCause section o kept place target error
+CodeCause LoongArch64 section o kept place target error =
+    LoongArchCause section o kept place target error
+
 -- why nothing is written of a site in the section of which so many bytes stay
 abbrev pub SiteCause : Machine → Section → site → ℕ → ItemError → Type 0
-SiteCause RiscV64 s site kept NotItsInstructions =
-    site.len ≡ 8 → RiscVCause s.bytes (site.offset - s.base) kept (address_of s site.offset)
-    (address_of s site.target) NotItsInstructions
-SiteCause RiscV64 s site kept error =
-    (site.len ≡ 8) × RiscVCause s.bytes (site.offset - s.base) kept (address_of s site.offset)
-    (address_of s site.target) error
-SiteCause LoongArch64 s site kept NotItsInstructions =
-    site.len ≡ 8 → LoongArchCause s.bytes (site.offset - s.base) kept (address_of s site.offset)
-    (address_of s site.target) NotItsInstructions
-SiteCause LoongArch64 s site kept error =
-    (site.len ≡ 8) × LoongArchCause s.bytes (site.offset - s.base) kept (address_of s site.offset)
-    (address_of s site.target) error
+SiteCause machine s site kept NotItsInstructions =
+    site.len ≡ 8 → CodeCause machine s.bytes (site.offset - s.base) kept
+    (address_of s site.offset) (address_of s site.target) NotItsInstructions
+SiteCause machine s site kept error =
+    (site.len ≡ 8) × CodeCause machine s.bytes (site.offset - s.base) kept
+    (address_of s site.offset) (address_of s site.target) error
 
 abbrev pub ItemCause : Machine → Section → Item → ℕ → ItemError → Type 0
 ItemCause machine s (Site site) kept error = SiteCause machine s site kept error

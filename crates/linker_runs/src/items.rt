@@ -1,9 +1,12 @@
 //! Relocations of a section, and why no items are made of them.
 
 ghost use Rattle.std.specs.Prelude.{◌≡◌, ◌≢◌, ◌+◌, ◌≤◌, ◌<◌, ◌^◌, ◌↔◌, ℕ, IsTrue, length};
-ghost use Rattle.std.specs.Prelude.{IfSome, IfNone, pos};
-ghost use Rattle.linker_runs.specs.Relocations.{IsMarked};
+ghost use Rattle.std.specs.Prelude.{IfSome, IfNone, pos, map};
+ghost use Rattle.linker_runs.specs.declared.items.Relocation.{Relocation as relocations};
+ghost use Rattle.linker_runs.specs.declared.relaxation.Item.{Item as items};
+ghost use Rattle.linker_runs.specs.Relocations.{relocation_at, IsMarked};
 
+use crate::relaxation::Item;
 use std::alloc::{AllocError, AllocFailed};
 
 /// A relocation of a section.
@@ -24,6 +27,62 @@ pub struct Relocation {
     /// The code there may use instructions of RISC-V's C extension: its object's `e_flags` have
     /// `EF_RISCV_RVC`. It means nothing for other architectures.
     pub may_compress: bool,
+}
+
+/// A relocation of a section: a `Relocation`, or an element of the caller's own array that says as
+/// much.
+pub trait AsRelocation: Copy {
+    /// The relocation, in a contract.
+    ghost relocation: { Self → relocations };
+
+    /// The relocation.
+    fn as_relocation(self) -> Relocation
+        ensures { result ≡ relocation self };
+}
+
+impl AsRelocation for Relocation {
+    ghost relocation = { λ r. r };
+
+    #[inline(always)]
+    fn as_relocation(self) -> Relocation {
+        self
+    }
+}
+
+/// An item of a run: an `Item`, or an element of the caller's own array that says as much.
+pub trait AsItem: Copy {
+    /// The item, in a contract.
+    ghost item: { Self → items };
+
+    /// Whether it is one of the forms that are written, in a contract.
+    ghost is_written: { Self → Type 0 };
+
+    /// The item.
+    fn as_item(self) -> Item
+        ensures { result ≡ item self };
+
+    /// The form that an item is written in.
+    fn from_item(written: Item) -> Self
+        ensures item { item result ≡ written }
+        ensures form { is_written result };
+}
+
+impl AsItem for Item {
+    ghost use Rattle.std.specs.Prelude.{⊤};
+
+    ghost item = { λ i. i };
+
+    ghost is_written = { λ _. ⊤ };
+
+    #[inline(always)]
+    fn as_item(self) -> Item {
+        self
+    }
+
+    #[inline(always)]
+    fn from_item(written: Item) -> Item {
+        written
+    }
 }
 
 /// Why no items are made of relocations.
@@ -55,9 +114,14 @@ impl<T: Drop> From<AllocFailed<T>> for ItemsError {
     }
 }
 
-/// A relocation that the psABI doesn't allow.
-#[derive(Debug, Clone, Copy, PartialEq, Eq)]
-pub(crate) struct NotAllowed;
+/// The relocation at an index.
+#[inline(always)]
+pub(crate) fn relocation_at<R: AsRelocation>(relocations: &[R], index: usize) -> Relocation
+    requires { index < length relocations.now }
+    ensures { result ≡ relocation_at (map R.relocation relocations.now) index }
+{
+    relocations[index].as_relocation()
+}
 
 /// Whether so many bytes from an offset on lie in the section.
 #[inline(always)]
@@ -70,13 +134,15 @@ pub(crate) fn has_bytes(section: &[u8], offset: u64, len: u64) -> bool
 
 /// Whether the relocation behind the one at an index has a code and is at the same place.
 #[inline(always)]
-pub(crate) fn is_marked(relocations: &[Relocation], index: usize, code: u32) -> bool
+pub(crate) fn is_marked<R: AsRelocation>(relocations: &[R], index: usize, code: u32) -> bool
     requires { index < length relocations.now }
-    ensures { IsTrue result ↔ IsMarked code relocations.now index }
+    ensures { IsTrue result ↔ IsMarked code (map R.relocation relocations.now) index }
 {
-    index + 1 < relocations.len()
-        && relocations[index + 1].code == code
-        && relocations[index + 1].offset == relocations[index].offset
+    if index + 1 >= relocations.len() {
+        return false;
+    }
+    let mark = relocation_at(relocations, index + 1);
+    mark.code == code && mark.offset == relocation_at(relocations, index).offset
 }
 
 /// The addend of a relocation, if it isn't below 0.

@@ -2,19 +2,23 @@
 
 ghost use Rattle.std.specs.Prelude.{◌≡◌, ◌+◌, ◌≤◌, ◌<◌, ◌^◌, ◌↔◌, ◌⊎◌, ℕ, IsTrue, length};
 ghost use Rattle.std.specs.Prelude.{IfOk, OnOk, OnErr, IfErr, IfSome, IfNone, MatchOption};
+ghost use Rattle.std.specs.Prelude.{map, take, drop, All};
 ghost use Rattle.linker_runs.specs.declared.relaxation.Item.{Item as items};
 ghost use Rattle.linker_runs.specs.declared.relaxation.Site.{Site as sites};
 ghost use Rattle.linker_runs.specs.declared.relaxation.Alignment.{Alignment as alignments};
-ghost use Rattle.linker_loongarch64.specs.LoongArchRewrites.{IsAddi, IsPair};
 ghost use Rattle.linker_runs.specs.Relocations.{relocation_at, AreMade, AreWellFormed};
-ghost use Rattle.linker_runs.specs.Relocations.{IsItemsCause};
+ghost use Rattle.linker_runs.specs.Relocations.{IsItemsCause, IsFirstMalformed};
+ghost use Rattle.linker_runs.specs.LoongArchSites.{IsCall36At, IsPcalaAt};
 ghost use Rattle.linker_runs.specs.LoongArchItems.{HasLoongArchName, AreStated, stated_limit};
 ghost use Rattle.linker_runs.specs.LoongArchItems.{AreLoongArchNops, IsLoongArchAlignment};
 ghost use Rattle.linker_runs.specs.LoongArchItems.{IsRelaxable, IsCall36, IsPcala};
 ghost use Rattle.linker_runs.specs.LoongArchItems.{IsLoongArchSite, LoongArchMakes};
 ghost use Rattle.linker_runs.specs.LoongArchItems.{IsLoongArchFormed};
 
-use crate::items::{ItemsError, NotAllowed, Relocation, has_bytes, is_marked, unsigned_addend};
+use crate::items::{
+    AsItem, AsRelocation, ItemsError, Relocation, has_bytes, is_marked, relocation_at,
+    unsigned_addend,
+};
 use crate::relaxation::{Alignment, Item, Shapes, Site};
 use crate::shapes::loongarch64::{CALL36, PCALA};
 use linker_loongarch64::{LoongArch64Relocation, RelaxationKind};
@@ -85,41 +89,36 @@ fn stated_alignment(section: &[u8], relocation: &Relocation, offset: u64) -> Opt
     })
 }
 
-/// The item of an `R_LARCH_ALIGN` that has nops.
+/// The item of an `R_LARCH_ALIGN`, if it has nops.
 #[inline]
-fn alignment_at(
-    section: &[u8],
-    base: u64,
-    relocation: &Relocation,
-) -> Result<Option<Alignment>, NotAllowed>
+fn alignment_at(section: &[u8], base: u64, relocation: &Relocation) -> Option<Alignment>
     requires base { base + length section.now < 2 ^ 64 }
     requires inside { relocation.now.offset ≤ length section.now }
     requires name { HasLoongArchName LoongArch64Relocation.R_LARCH_ALIGN relocation.now }
-    ensures formed { OnOk result ((addend : ℕ) × (nops : ℕ) × (power : ℕ)
-        × AreLoongArchNops section.now relocation.now addend nops power) }
-    ensures alignment { IfOk result (λ made. MatchOption made
+    ensures { MatchOption result
         ((alignment : alignments) → ¬ IsLoongArchAlignment section.now base relocation.now
         alignment)
-        (IsLoongArchAlignment section.now base relocation.now)) }
-    ensures malformed { OnErr result ((addend nops power : ℕ)
-        → ¬ AreLoongArchNops section.now relocation.now addend nops power) }
+        (IsLoongArchAlignment section.now base relocation.now) }
 {
-    let Some(alignment) = stated_alignment(section, relocation, base + relocation.offset) else {
-        return Err(NotAllowed);
-    };
+    let alignment = stated_alignment(section, relocation, base + relocation.offset)?;
     if alignment.nops == 0 {
-        return Ok(None);
+        None
+    } else {
+        Some(alignment)
     }
-    Ok(Some(alignment))
 }
 
 /// Whether the relocation at an index has a name, and the instruction may be relaxed.
 #[inline]
-fn is_relaxable(relocations: &[Relocation], index: usize, name: LoongArch64Relocation) -> bool
+fn is_relaxable<R: AsRelocation>(
+    relocations: &[R],
+    index: usize,
+    name: LoongArch64Relocation,
+) -> bool
     requires { index < length relocations.now }
-    ensures { IsTrue result ↔ IsRelaxable name relocations.now index }
+    ensures { IsTrue result ↔ IsRelaxable name (map R.relocation relocations.now) index }
 {
-    has_name(&relocations[index], name)
+    has_name(&relocation_at(relocations, index), name)
         && is_marked(
             relocations,
             index,
@@ -127,40 +126,49 @@ fn is_relaxable(relocations: &[Relocation], index: usize, name: LoongArch64Reloc
         )
 }
 
-/// Whether a call that can become `b` or `bl` is at a relocation.
+/// Whether a call that can become `b` or `bl` is at an offset: `pcaddu18i`, and a `jirl` that links
+/// `ra` or none.
 #[inline]
-fn is_call36(section: &[u8], relocations: &[Relocation], index: usize) -> bool
-    requires { index < length relocations.now }
-    ensures { IsTrue result ↔ IsCall36 section.now relocations.now index }
+pub(crate) fn is_call(section: &[u8], offset: u64) -> bool
+    ensures { IsTrue result ↔ IsCall36At section.now offset }
 {
-    let offset = relocations[index].offset;
-    is_relaxable(relocations, index, LoongArch64Relocation::R_LARCH_CALL36)
-        && (RelaxationKind::CallToBl.matches(section, offset)
-            || RelaxationKind::CallToB.matches(section, offset))
+    RelaxationKind::CallToBl.matches(section, offset)
+        || RelaxationKind::CallToB.matches(section, offset)
 }
 
-/// Whether `pcalau12i` and `addi.d` of one register are at an offset.
+/// Whether a pair that can become `pcaddi` is at an offset: `pcalau12i` and `addi.d` of one register.
 #[inline]
-fn is_address_pair(section: &[u8], offset: u64) -> bool
-    ensures { IsTrue result ↔ IsPair IsAddi section.now offset }
+pub(crate) fn is_address(section: &[u8], offset: u64) -> bool
+    ensures { IsTrue result ↔ IsPcalaAt section.now offset }
 {
     RelaxationKind::PcalaToPcaddi.matches(section, offset)
         && RelaxationKind::AddiToLd.matches(section, offset + 4)
 }
 
+/// Whether such a call is at a relocation.
+#[inline]
+fn is_call36<R: AsRelocation>(section: &[u8], relocations: &[R], index: usize) -> bool
+    requires { index < length relocations.now }
+    ensures { IsTrue result
+        ↔ IsCall36 section.now (map R.relocation relocations.now) index }
+{
+    is_relaxable(relocations, index, LoongArch64Relocation::R_LARCH_CALL36)
+        && is_call(section, relocation_at(relocations, index).offset)
+}
+
 /// Whether the low part of an address is two relocations behind the high part.
 #[inline]
-fn has_low_part(relocations: &[Relocation], index: usize) -> bool
+fn has_low_part<R: AsRelocation>(relocations: &[R], index: usize) -> bool
     requires { index + 2 < length relocations.now }
-    ensures { IsTrue result ↔ (IsRelaxable LoongArch64Relocation.R_LARCH_PCALA_LO12 relocations.now
+    ensures { IsTrue result ↔ (IsRelaxable LoongArch64Relocation.R_LARCH_PCALA_LO12 (map R.relocation relocations.now)
         (index + 2)
-        × ((relocation_at relocations.now (index + 2)).offset
-        ≡ (relocation_at relocations.now index).offset + 4)
-        × ((relocation_at relocations.now (index + 2)).target
-        ≡ (relocation_at relocations.now index).target)) }
+        × ((relocation_at (map R.relocation relocations.now) (index + 2)).offset
+        ≡ (relocation_at (map R.relocation relocations.now) index).offset + 4)
+        × ((relocation_at (map R.relocation relocations.now) (index + 2)).target
+        ≡ (relocation_at (map R.relocation relocations.now) index).target)) }
 {
-    let high = &relocations[index];
-    let low = &relocations[index + 2];
+    let high = relocation_at(relocations, index);
+    let low = relocation_at(relocations, index + 2);
     is_relaxable(
         relocations,
         index + 2,
@@ -170,11 +178,11 @@ fn has_low_part(relocations: &[Relocation], index: usize) -> bool
         && low.target == high.target
 }
 
-/// Whether a pair that can become `pcaddi` is at a relocation.
+/// Whether such a pair is at a relocation.
 #[inline]
-fn is_pcala(section: &[u8], relocations: &[Relocation], index: usize) -> bool
+fn is_pcala<R: AsRelocation>(section: &[u8], relocations: &[R], index: usize) -> bool
     requires { index < length relocations.now }
-    ensures { IsTrue result ↔ IsPcala section.now relocations.now index }
+    ensures { IsTrue result ↔ IsPcala section.now (map R.relocation relocations.now) index }
 {
     relocations.len() - index > 2
         && is_relaxable(
@@ -183,18 +191,18 @@ fn is_pcala(section: &[u8], relocations: &[Relocation], index: usize) -> bool
             LoongArch64Relocation::R_LARCH_PCALA_HI20,
         )
         && has_low_part(relocations, index)
-        && is_address_pair(section, relocations[index].offset)
+        && is_address(section, relocation_at(relocations, index).offset)
 }
 
 /// What the instructions at a relocation can become.
 #[inline]
-fn shapes_at(section: &[u8], relocations: &[Relocation], index: usize) -> Option<Shapes>
+fn shapes_at<R: AsRelocation>(section: &[u8], relocations: &[R], index: usize) -> Option<Shapes>
     requires { index < length relocations.now }
     ensures some { IfSome result (λ shapes.
-        (IsCall36 section.now relocations.now index × (shapes ≡ CALL36))
-        ⊎ (IsPcala section.now relocations.now index × (shapes ≡ PCALA))) }
-    ensures none { IfNone result (¬ IsCall36 section.now relocations.now index
-        × ¬ IsPcala section.now relocations.now index) }
+        (IsCall36 section.now (map R.relocation relocations.now) index × (shapes ≡ CALL36))
+        ⊎ (IsPcala section.now (map R.relocation relocations.now) index × (shapes ≡ PCALA))) }
+    ensures none { IfNone result (¬ IsCall36 section.now (map R.relocation relocations.now) index
+        × ¬ IsPcala section.now (map R.relocation relocations.now) index) }
 {
     if is_call36(section, relocations, index) {
         Some(CALL36)
@@ -207,15 +215,20 @@ fn shapes_at(section: &[u8], relocations: &[Relocation], index: usize) -> Option
 
 /// The item that a relocation other than `R_LARCH_ALIGN` makes, if it makes one.
 #[inline]
-fn site_at(section: &[u8], base: u64, relocations: &[Relocation], index: usize) -> Option<Site>
+fn site_at<R: AsRelocation>(
+    section: &[u8],
+    base: u64,
+    relocations: &[R],
+    index: usize,
+) -> Option<Site>
     requires index { index < length relocations.now }
     requires base { base + length section.now < 2 ^ 64 }
-    requires inside { (relocation_at relocations.now index).offset ≤ length section.now }
+    requires inside { (relocation_at (map R.relocation relocations.now) index).offset ≤ length section.now }
     ensures { MatchOption result
-        ((here : sites) → ¬ IsLoongArchSite section.now base relocations.now index here)
-        (IsLoongArchSite section.now base relocations.now index) }
+        ((here : sites) → ¬ IsLoongArchSite section.now base (map R.relocation relocations.now) index here)
+        (IsLoongArchSite section.now base (map R.relocation relocations.now) index) }
 {
-    let relocation = &relocations[index];
+    let relocation = relocation_at(relocations, index);
     let shapes = shapes_at(section, relocations, index)?;
     let target = relocation.target?;
     Some(Site {
@@ -226,42 +239,67 @@ fn site_at(section: &[u8], base: u64, relocations: &[Relocation], index: usize) 
     })
 }
 
-/// The item that the relocation at an index makes, if it makes one.
-#[inline]
-fn item_at(
-    section: &[u8],
-    base: u64,
-    relocations: &[Relocation],
-    index: usize,
-) -> Result<Option<Item>, NotAllowed>
-    requires index { index < length relocations.now }
-    requires base { base + length section.now < 2 ^ 64 }
-    ensures formed { OnOk result
-        (IsLoongArchFormed section.now (relocation_at relocations.now index)) }
-    ensures item { IfOk result (λ made. MatchOption made ((item : items)
-        → ¬ LoongArchMakes section.now base relocations.now index item)
-        (LoongArchMakes section.now base relocations.now index)) }
-    ensures malformed { OnErr result
-        (¬ IsLoongArchFormed section.now (relocation_at relocations.now index)) }
+/// Whether a relocation is what the psABI allows.
+#[inline(always)]
+fn is_formed(section: &[u8], relocation: &Relocation) -> bool
+    ensures { IsTrue result ↔ IsLoongArchFormed section.now relocation.now }
 {
-    let relocation = &relocations[index];
     if !has_bytes(section, relocation.offset, 0) {
-        return Err(NotAllowed);
+        return false;
     }
     if has_name(relocation, LoongArch64Relocation::R_LARCH_ALIGN) {
-        return match alignment_at(section, base, relocation)? {
-            Some(alignment) => Ok(Some(Item::Aligned(alignment))),
-            None => Ok(None),
+        stated_alignment(section, relocation, relocation.offset).is_some()
+    } else if has_name(relocation, LoongArch64Relocation::R_LARCH_CALL36) {
+        has_bytes(section, relocation.offset, 8)
+    } else {
+        true
+    }
+}
+
+/// The index of the first relocation that isn't what the psABI allows: one that lies behind the
+/// section's end, that is an `R_LARCH_CALL36` and less than eight bytes are there, or that is an
+/// `R_LARCH_ALIGN` whose addend is below 0, whose exponent is below 2 or above 32, or whose nops
+/// aren't a multiple of 4, reach past the section's end or have 2^32 bytes or more.
+pub fn first_malformed<R: AsRelocation>(section: &[u8], relocations: &[R]) -> Option<usize>
+    ensures { MatchOption result
+        (AreWellFormed (IsLoongArchFormed section.now) (map R.relocation relocations.now)
+        (length relocations.now))
+        (IsFirstMalformed (IsLoongArchFormed section.now) (map R.relocation relocations.now)) }
+{
+    for index in 0..relocations.len() {
+        if !is_formed(section, &relocation_at(relocations, index)) {
+            return Some(index);
+        }
+    }
+    None
+}
+
+/// The item that the relocation at an index makes, if it makes one.
+#[inline]
+fn item_at<R: AsRelocation>(
+    section: &[u8],
+    base: u64,
+    relocations: &[R],
+    index: usize,
+) -> Option<Item>
+    requires index { index < length relocations.now }
+    requires base { base + length section.now < 2 ^ 64 }
+    requires formed { IsLoongArchFormed section.now
+        (relocation_at (map R.relocation relocations.now) index) }
+    ensures { MatchOption result ((item : items)
+        → ¬ LoongArchMakes section.now base (map R.relocation relocations.now) index item)
+        (LoongArchMakes section.now base (map R.relocation relocations.now) index) }
+{
+    let relocation = relocation_at(relocations, index);
+    if has_name(&relocation, LoongArch64Relocation::R_LARCH_ALIGN) {
+        return match alignment_at(section, base, &relocation) {
+            Some(alignment) => Some(Item::Aligned(alignment)),
+            None => None,
         };
     }
-    if has_name(relocation, LoongArch64Relocation::R_LARCH_CALL36)
-        && !has_bytes(section, relocation.offset, 8)
-    {
-        return Err(NotAllowed);
-    }
     match site_at(section, base, relocations, index) {
-        Some(site) => Ok(Some(Item::Site(site))),
-        None => Ok(None),
+        Some(site) => Some(Item::Site(site)),
+        None => None,
     }
 }
 
@@ -280,34 +318,68 @@ fn item_at(
 /// fewer. The other bits are its limit, the most bytes that may stay, if they are above 0 and below
 /// the nops (LoongArch ELF psABI, "Relocations").
 ///
-/// `Malformed` names the first relocation that lies behind the section's end, that is an
-/// `R_LARCH_CALL36` and less than eight bytes are there, or that is an `R_LARCH_ALIGN` whose addend
-/// is below 0, whose exponent is below 2 or above 32, or whose nops aren't a multiple of 4, reach
-/// past the section's end or have 2^32 bytes or more. The vector grows as items are added.
-/// `are_items` tells whether the run can be relaxed.
-pub fn items(
+/// `Malformed` names the relocation that `first_malformed` returns. The vector grows as items are
+/// added. `are_items` tells whether the run can be relaxed.
+pub fn items<R: AsRelocation>(
     alloc: Global,
     section: &[u8],
     base: u64,
-    relocations: &[Relocation],
+    relocations: &[R],
 ) -> Result<Vec<Item>, ItemsError>
     requires { base + length section.now < 2 ^ 64 }
     ensures made { IfOk result (λ made.
-        AreMade (LoongArchMakes section.now base relocations.now) (length relocations.now)
-        made.items) }
+        AreMade (LoongArchMakes section.now base (map R.relocation relocations.now))
+        (length relocations.now) made.items) }
     ensures formed { OnOk result (AreWellFormed (IsLoongArchFormed section.now)
-        relocations.now (length relocations.now)) }
+        (map R.relocation relocations.now) (length relocations.now)) }
     ensures cause { IfErr result
-        (IsItemsCause (IsLoongArchFormed section.now) relocations.now) }
+        (IsItemsCause (IsLoongArchFormed section.now) (map R.relocation relocations.now)) }
 {
+    if let Some(index) = first_malformed(section, relocations) {
+        return Err(ItemsError::Malformed(index));
+    }
     let mut items = Vec::new(alloc);
     for index in 0..relocations.len() {
-        let Ok(made) = item_at(section, base, relocations, index) else {
-            return Err(ItemsError::Malformed(index));
-        };
-        if let Some(item) = made {
+        if let Some(item) = item_at(section, base, relocations, index) {
             items.push(item)?;
         }
     }
     Ok(items)
+}
+
+/// `items` into memory of the caller's, which has an element for each relocation, since each makes
+/// one item at most. It returns how many there are; the elements from there on are unchanged.
+///
+/// The error is the index that `first_malformed` returns, and nothing is written then. It doesn't
+/// allocate.
+pub fn items_into<R: AsRelocation, I: AsItem>(
+    section: &[u8],
+    base: u64,
+    relocations: &[R],
+    out: &mut [I],
+) -> Result<usize, usize>
+    requires base { base + length section.now < 2 ^ 64 }
+    requires one_each { length out.old ≡ length relocations.now }
+    ensures made { IfOk result (λ count.
+        AreMade (LoongArchMakes section.now base (map R.relocation relocations.now))
+        (length relocations.now) (map I.item (take count out.new))) }
+    ensures form { IfOk result (λ count. All I.is_written (take count out.new)) }
+    ensures others_stay { IfOk result (λ count. drop count out.new ≡ drop count out.old) }
+    ensures formed { OnOk result (AreWellFormed (IsLoongArchFormed section.now)
+        (map R.relocation relocations.now) (length relocations.now)) }
+    ensures malformed { IfErr result
+        (IsFirstMalformed (IsLoongArchFormed section.now) (map R.relocation relocations.now)) }
+    ensures unchanged { OnErr result (out.new ≡ out.old) }
+{
+    if let Some(index) = first_malformed(section, relocations) {
+        return Err(index);
+    }
+    let mut count = 0;
+    for index in 0..relocations.len() {
+        if let Some(item) = item_at(section, base, relocations, index) {
+            out[count] = I::from_item(item);
+            count += 1;
+        }
+    }
+    Ok(count)
 }

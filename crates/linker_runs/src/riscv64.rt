@@ -2,18 +2,22 @@
 
 ghost use Rattle.std.specs.Prelude.{◌≡◌, ◌+◌, ◌≤◌, ◌<◌, ◌^◌, ◌↔◌, ℕ, IsTrue, length};
 ghost use Rattle.std.specs.Prelude.{IfOk, OnOk, OnErr, IfErr, IfSome, IfNone, MatchOption, None};
+ghost use Rattle.std.specs.Prelude.{map, take, drop, All};
 ghost use Rattle.std.specs.Int.{IsNextPowerOfTwo};
 ghost use Rattle.linker_runs.specs.declared.relaxation.Item.{Item as items};
 ghost use Rattle.linker_riscv64.specs.RiscVCalls.{link_register};
 ghost use Rattle.linker_riscv64.specs.declared.calls.LinkRegister.TheVariants.{OfJalr};
 ghost use Rattle.linker_runs.specs.Relocations.{relocation_at, AreMade, AreWellFormed};
-ghost use Rattle.linker_runs.specs.Relocations.{IsItemsCause};
+ghost use Rattle.linker_runs.specs.Relocations.{IsItemsCause, IsFirstMalformed};
 ghost use Rattle.linker_runs.specs.RiscVItems.{HasRiscVName, IsOfCall, AreRiscVNops, IsCallAt};
 ghost use Rattle.linker_runs.specs.RiscVItems.{Aligns, IsNextAlignment};
 ghost use Rattle.linker_runs.specs.RiscVItems.{AreEnoughAt, MayFree, IsShapesOf, IsRiscVSite};
 ghost use Rattle.linker_runs.specs.RiscVItems.{RiscVMakes, IsRiscVFormed};
 
-use crate::items::{ItemsError, NotAllowed, Relocation, has_bytes, is_marked, unsigned_addend};
+use crate::items::{
+    AsItem, AsRelocation, ItemsError, Relocation, has_bytes, is_marked, relocation_at,
+    unsigned_addend,
+};
 use crate::relaxation::{Alignment, Item, Shapes, Site};
 use crate::shapes::riscv64::{CALL, TAIL_C};
 use linker_riscv64::{LinkRegister, RiscVRelocation};
@@ -80,12 +84,12 @@ fn aligns(relocation: &Relocation) -> bool
 
 /// The index of the next alignment behind the relocation at an index, or how many relocations there
 /// are.
-fn next_alignment(relocations: &[Relocation], index: usize) -> usize
+fn next_alignment<R: AsRelocation>(relocations: &[R], index: usize) -> usize
     requires { index < length relocations.now }
-    ensures { IsNextAlignment relocations.now index result }
+    ensures { IsNextAlignment (map R.relocation relocations.now) index result }
 {
     for next in index + 1..relocations.len() {
-        if aligns(&relocations[next]) {
+        if aligns(&relocation_at(relocations, next)) {
             return next;
         }
     }
@@ -106,14 +110,14 @@ fn enough_at(nops: u64) -> u64
 /// Whether the relocation at an index may free so many bytes, and the next alignment, at an index,
 /// has its nops wherever it had them.
 #[inline]
-fn may_free(freed: u64, relocations: &[Relocation], index: usize, next: usize) -> bool
-    requires { IsNextAlignment relocations.now index next }
-    ensures { IsTrue result ↔ MayFree freed relocations.now index }
+fn may_free<R: AsRelocation>(freed: u64, relocations: &[R], index: usize, next: usize) -> bool
+    requires { IsNextAlignment (map R.relocation relocations.now) index next }
+    ensures { IsTrue result ↔ MayFree freed (map R.relocation relocations.now) index }
 {
     if next >= relocations.len() {
         return true;
     }
-    match unsigned_addend(&relocations[next]) {
+    match unsigned_addend(&relocation_at(relocations, next)) {
         Some(nops) => freed % enough_at(nops) == 0,
         None => true,
     }
@@ -135,19 +139,20 @@ pub fn link_at(section: &[u8], offset: u64) -> Option<u32>
 
 /// What a call at an index can become that links a register.
 #[inline]
-fn shapes_of(
+fn shapes_of<R: AsRelocation>(
     link: u32,
     section: &[u8],
-    relocations: &[Relocation],
+    relocations: &[R],
     index: usize,
     next: usize,
 ) -> Shapes
     requires index { index < length relocations.now }
-    requires link { link ≡ link_register OfJalr section.now (relocation_at relocations.now index).offset }
-    requires next { IsNextAlignment relocations.now index next }
-    ensures { IsShapesOf section.now relocations.now index result }
+    requires link { link ≡ link_register OfJalr section.now (relocation_at (map R.relocation relocations.now) index).offset }
+    requires next { IsNextAlignment (map R.relocation relocations.now) index next }
+    ensures { IsShapesOf section.now (map R.relocation relocations.now) index result }
 {
-    if relocations[index].may_compress && link == 0 && may_free(6, relocations, index, next) {
+    let may_compress = relocation_at(relocations, index).may_compress;
+    if may_compress && link == 0 && may_free(6, relocations, index, next) {
         TAIL_C
     } else {
         CALL
@@ -156,23 +161,23 @@ fn shapes_of(
 
 /// The site of a call's relocation, if it may be relaxed.
 #[inline]
-fn site_at(
+fn site_at<R: AsRelocation>(
     section: &[u8],
     base: u64,
-    relocations: &[Relocation],
+    relocations: &[R],
     index: usize,
     next: usize,
 ) -> Option<Site>
     requires index { index < length relocations.now }
     requires base { base + length section.now < 2 ^ 64 }
-    requires called { IsOfCall (relocation_at relocations.now index) }
-    requires inside { (relocation_at relocations.now index).offset + 8 ≤ length section.now }
-    requires next { IsNextAlignment relocations.now index next }
-    ensures some { IfSome result (IsRiscVSite section.now base relocations.now index) }
+    requires called { IsOfCall (relocation_at (map R.relocation relocations.now) index) }
+    requires inside { (relocation_at (map R.relocation relocations.now) index).offset + 8 ≤ length section.now }
+    requires next { IsNextAlignment (map R.relocation relocations.now) index next }
+    ensures some { IfSome result (IsRiscVSite section.now base (map R.relocation relocations.now) index) }
     ensures none { IfNone result ((item : items)
-        → ¬ RiscVMakes section.now base relocations.now index item) }
+        → ¬ RiscVMakes section.now base (map R.relocation relocations.now) index item) }
 {
-    let relocation = &relocations[index];
+    let relocation = relocation_at(relocations, index);
     if !is_marked(
         relocations,
         index,
@@ -193,46 +198,71 @@ fn site_at(
     })
 }
 
-/// The item that the relocation at an index makes, if it makes one.
-#[inline]
-fn item_at(
-    section: &[u8],
-    base: u64,
-    relocations: &[Relocation],
-    index: usize,
-    next: usize,
-) -> Result<Option<Item>, NotAllowed>
-    requires index { index < length relocations.now }
-    requires base { base + length section.now < 2 ^ 64 }
-    requires next { IsNextAlignment relocations.now index next }
-    ensures formed { OnOk result
-        (IsRiscVFormed section.now (relocation_at relocations.now index)) }
-    ensures item { IfOk result (λ made. MatchOption made ((item : items)
-        → ¬ RiscVMakes section.now base relocations.now index item)
-        (RiscVMakes section.now base relocations.now index)) }
-    ensures malformed { OnErr result
-        (¬ IsRiscVFormed section.now (relocation_at relocations.now index)) }
+/// Whether a relocation is what the psABI allows.
+#[inline(always)]
+fn is_formed(section: &[u8], relocation: &Relocation) -> bool
+    ensures { IsTrue result ↔ IsRiscVFormed section.now relocation.now }
 {
-    let relocation = &relocations[index];
     if !has_bytes(section, relocation.offset, 0) {
-        return Err(NotAllowed);
+        return false;
     }
     if is_of_call(relocation) {
-        if !has_bytes(section, relocation.offset, 8) {
-            return Err(NotAllowed);
-        }
-        match site_at(section, base, relocations, index, next) {
-            Some(site) => Ok(Some(Item::Site(site))),
-            None => Ok(None),
-        }
+        has_bytes(section, relocation.offset, 8)
     } else if has_name(relocation, RiscVRelocation::R_RISCV_ALIGN) {
-        match nops_of(section, relocation) {
-            None => Err(NotAllowed),
-            Some(0) => Ok(None),
-            Some(nops) => Ok(Some(Item::Aligned(alignment_of(nops, base + relocation.offset)))),
-        }
+        nops_of(section, relocation).is_some()
     } else {
-        Ok(None)
+        true
+    }
+}
+
+/// The index of the first relocation that isn't what the psABI allows: one that lies behind the
+/// section's end, that is a call's and less than eight bytes are there, or that is an
+/// `R_RISCV_ALIGN` whose addend isn't a multiple of 2 from 0 up, below 2^32, of bytes in the section.
+pub fn first_malformed<R: AsRelocation>(section: &[u8], relocations: &[R]) -> Option<usize>
+    ensures { MatchOption result
+        (AreWellFormed (IsRiscVFormed section.now) (map R.relocation relocations.now)
+        (length relocations.now))
+        (IsFirstMalformed (IsRiscVFormed section.now) (map R.relocation relocations.now)) }
+{
+    for index in 0..relocations.len() {
+        if !is_formed(section, &relocation_at(relocations, index)) {
+            return Some(index);
+        }
+    }
+    None
+}
+
+/// The item that the relocation at an index makes, if it makes one.
+#[inline]
+fn item_at<R: AsRelocation>(
+    section: &[u8],
+    base: u64,
+    relocations: &[R],
+    index: usize,
+    next: usize,
+) -> Option<Item>
+    requires index { index < length relocations.now }
+    requires base { base + length section.now < 2 ^ 64 }
+    requires formed { IsRiscVFormed section.now
+        (relocation_at (map R.relocation relocations.now) index) }
+    requires next { IsNextAlignment (map R.relocation relocations.now) index next }
+    ensures { MatchOption result ((item : items)
+        → ¬ RiscVMakes section.now base (map R.relocation relocations.now) index item)
+        (RiscVMakes section.now base (map R.relocation relocations.now) index) }
+{
+    let relocation = relocation_at(relocations, index);
+    if is_of_call(&relocation) {
+        return match site_at(section, base, relocations, index, next) {
+            Some(site) => Some(Item::Site(site)),
+            None => None,
+        };
+    }
+    if !aligns(&relocation) {
+        return None;
+    }
+    match nops_of(section, &relocation) {
+        Some(nops) => Some(Item::Aligned(alignment_of(nops, base + relocation.offset))),
+        None => None,
     }
 }
 
@@ -251,36 +281,76 @@ fn item_at(
 /// alignment before it free only multiples of what has to divide its address: then no call there has
 /// `TAIL_C`, and none is a site if that is more than 4.
 ///
-/// `Malformed` names the first relocation that lies behind the section's end, that is a call's and
-/// less than eight bytes are there, or that is an `R_RISCV_ALIGN` whose addend isn't a multiple of 2
-/// from 0 up, below 2^32, of bytes in the section. The vector grows as items are added. `are_items`
-/// tells whether the run can be relaxed.
-pub fn items(
+/// `Malformed` names the relocation that `first_malformed` returns. The vector grows as items are
+/// added. `are_items` tells whether the run can be relaxed.
+pub fn items<R: AsRelocation>(
     alloc: Global,
     section: &[u8],
     base: u64,
-    relocations: &[Relocation],
+    relocations: &[R],
 ) -> Result<Vec<Item>, ItemsError>
     requires { base + length section.now < 2 ^ 64 }
     ensures made { IfOk result (λ made.
-        AreMade (RiscVMakes section.now base relocations.now) (length relocations.now)
-        made.items) }
-    ensures formed { OnOk result (AreWellFormed (IsRiscVFormed section.now) relocations.now
-        (length relocations.now)) }
-    ensures cause { IfErr result (IsItemsCause (IsRiscVFormed section.now) relocations.now) }
+        AreMade (RiscVMakes section.now base (map R.relocation relocations.now))
+        (length relocations.now) made.items) }
+    ensures formed { OnOk result (AreWellFormed (IsRiscVFormed section.now)
+        (map R.relocation relocations.now) (length relocations.now)) }
+    ensures cause { IfErr result
+        (IsItemsCause (IsRiscVFormed section.now) (map R.relocation relocations.now)) }
 {
+    if let Some(index) = first_malformed(section, relocations) {
+        return Err(ItemsError::Malformed(index));
+    }
     let mut items = Vec::new(alloc);
     let mut next = 0;
     for index in 0..relocations.len() {
         if next <= index {
             next = next_alignment(relocations, index);
         }
-        let Ok(made) = item_at(section, base, relocations, index, next) else {
-            return Err(ItemsError::Malformed(index));
-        };
-        if let Some(item) = made {
+        if let Some(item) = item_at(section, base, relocations, index, next) {
             items.push(item)?;
         }
     }
     Ok(items)
+}
+
+/// `items` into memory of the caller's, which has an element for each relocation, since each makes
+/// one item at most. It returns how many there are; the elements from there on are unchanged.
+///
+/// The error is the index that `first_malformed` returns, and nothing is written then. It doesn't
+/// allocate.
+pub fn items_into<R: AsRelocation, I: AsItem>(
+    section: &[u8],
+    base: u64,
+    relocations: &[R],
+    out: &mut [I],
+) -> Result<usize, usize>
+    requires base { base + length section.now < 2 ^ 64 }
+    requires one_each { length out.old ≡ length relocations.now }
+    ensures made { IfOk result (λ count.
+        AreMade (RiscVMakes section.now base (map R.relocation relocations.now))
+        (length relocations.now) (map I.item (take count out.new))) }
+    ensures form { IfOk result (λ count. All I.is_written (take count out.new)) }
+    ensures others_stay { IfOk result (λ count. drop count out.new ≡ drop count out.old) }
+    ensures formed { OnOk result (AreWellFormed (IsRiscVFormed section.now)
+        (map R.relocation relocations.now) (length relocations.now)) }
+    ensures malformed { IfErr result
+        (IsFirstMalformed (IsRiscVFormed section.now) (map R.relocation relocations.now)) }
+    ensures unchanged { OnErr result (out.new ≡ out.old) }
+{
+    if let Some(index) = first_malformed(section, relocations) {
+        return Err(index);
+    }
+    let mut count = 0;
+    let mut next = 0;
+    for index in 0..relocations.len() {
+        if next <= index {
+            next = next_alignment(relocations, index);
+        }
+        if let Some(item) = item_at(section, base, relocations, index, next) {
+            out[count] = I::from_item(item);
+            count += 1;
+        }
+    }
+    Ok(count)
 }

@@ -3,4 +3,3 @@ pub mod Found
 pub mod Relocating
 pub mod RelocationNumbers
 pub mod RunItems
-pub mod SectionItems

@@ -1,5 +1,5 @@
 -- The items of a run, and their faults, in the numbers that C sees.
-use Rattle.std.specs.Prelude.{◌≡◌, ℕ, ◌+◌, ◌==◌, if◌then◌else◌, List, map}
+use Rattle.std.specs.Prelude.{◌≡◌, ◌≤◌, ℕ, ◌+◌, ◌==◌, if◌then◌else◌, List, map}
 use Rattle.std.specs.Prelude.{Option, None, Some}
 use Rattle.linker_runs.specs.declared.relaxation.Shapes.{Shapes}
 use Rattle.linker_runs.specs.declared.relaxation.Item.{Item}
@@ -37,6 +37,10 @@ item_of item = if item.kind == 0
       alignment = item.alignment;
       max_skip = if item.kind == 1 then None else Some item.max_skip;
     })
+
+-- its kind is one of those that `item_of` names: 0, 1 and, with a limit, 2
+abbrev pub HasKind : ItemNumbers → Type 0
+HasKind item = item.kind ≤ 2
 
 abbrev pub items_in : List ItemNumbers → List Item
 items_in items = map item_of items

@@ -13,6 +13,7 @@ ghost use Rattle.linker_utils_c.specs.Status.{code, IsOneOf};
 
 use crate::relaxing::{ItemNumbers, items_of};
 use crate::status::Status;
+use linker_runs::items::AsItem;
 use linker_runs::packing::{ItemError, Machine, has_its_instructions, pack_run, packed_run_len};
 use linker_utils::elf::Architecture;
 use linker_utils::relaxation::RelaxDelta;
@@ -84,7 +85,7 @@ pub extern "C" fn linker_utils_has_its_instructions_nonnull(
     let Some(known) = packing_machine(machine) else {
         return Status::UnknownArchitecture.number();
     };
-    if has_its_instructions(known, section, base, &item.item()) {
+    if has_its_instructions(known, section, base, &item.as_item()) {
         Status::Success.number()
     } else {
         Status::NotItsInstructions.number()

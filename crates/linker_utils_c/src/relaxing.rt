@@ -11,7 +11,9 @@ ghost use Rattle.linker_utils_c.specs.Relaxing.{IsRunFault, HaveLengths};
 ghost use Rattle.linker_utils_c.specs.Status.{code};
 
 use crate::status::Status;
+use linker_runs::items::AsItem;
 use linker_runs::relaxation::{Alignment, Fault, Item, Shapes, Site, first_faulty, relax_into};
+use linker_runs::shapes::fixed;
 use linker_runs::shapes::loongarch64::{CALL36, PCALA};
 use linker_runs::shapes::riscv64::{CALL, CALL_WITHOUT_C, TAIL_C};
 use linker_utils::relaxation::{OutOfMemory, RelaxDelta};
@@ -39,11 +41,15 @@ pub struct ItemNumbers {
     pub shapes: Shapes,
 }
 
-impl ItemNumbers {
+impl AsItem for ItemNumbers {
+    ghost use Rattle.linker_utils_c.specs.Relaxing.{item_of, HasKind};
+
+    ghost item = { item_of };
+
+    ghost is_written = { HasKind };
+
     #[inline(always)]
-    pub(crate) fn item(&self) -> Item
-        ensures { result ≡ item_of self.now }
-    {
+    fn as_item(self) -> Item {
         if self.kind == 0 {
             Item::Site(Site {
                 offset: self.offset,
@@ -62,6 +68,36 @@ impl ItemNumbers {
                     Some(self.max_skip)
                 },
             })
+        }
+    }
+
+    #[inline(always)]
+    fn from_item(written: Item) -> ItemNumbers {
+        match written {
+            Item::Site(site) => ItemNumbers {
+                offset: site.offset,
+                target: site.target,
+                alignment: 0,
+                max_skip: 0,
+                len: site.len,
+                kind: 0,
+                shapes: site.shapes,
+            },
+            Item::Aligned(alignment) => ItemNumbers {
+                offset: alignment.offset,
+                target: 0,
+                alignment: alignment.alignment,
+                max_skip: match alignment.max_skip {
+                    None => 0,
+                    Some(most) => most,
+                },
+                len: alignment.nops,
+                kind: match alignment.max_skip {
+                    None => 1,
+                    Some(_) => 2,
+                },
+                shapes: fixed(0),
+            },
         }
     }
 }
@@ -96,7 +132,7 @@ pub(crate) fn items_of(alloc: Global, items: &[ItemNumbers]) -> Result<Vec<Item>
 {
     let mut made = Vec::with_capacity(alloc, items.len())?;
     for numbers in items {
-        made.push_reserved(numbers.item());
+        made.push_reserved(numbers.as_item());
     }
     Ok(made)
 }

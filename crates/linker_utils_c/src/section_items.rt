@@ -1,23 +1,18 @@
 //! The items that a section's relocations make, in arrays of the caller's.
 
-ghost use Rattle.std.specs.Prelude.{◌≡◌, ◌≢◌, ◌+◌, ◌^◌, ◌<◌, ◌≤◌, ◌↔◌, ◌⊎◌, ℕ, IfOk, length, take};
-ghost use Rattle.std.specs.Prelude.{MatchResult, slice_index_or};
+ghost use Rattle.std.specs.Prelude.{◌≡◌, ◌≢◌, ◌+◌, ◌^◌, ◌≤◌, ◌↔◌, ◌⊎◌, All, IfOk, IfErr, length};
+ghost use Rattle.std.specs.Prelude.{take, drop};
 ghost use Rattle.linker_runs.specs.Relocations.{AreMade, AreWellFormed, IsFirstMalformed};
 ghost use Rattle.linker_runs.specs.RiscVItems.{RiscVMakes, IsRiscVFormed};
 ghost use Rattle.linker_runs.specs.LoongArchItems.{LoongArchMakes, IsLoongArchFormed};
-ghost use Rattle.linker_utils_c.specs.Relaxing.{item_of, items_in};
-ghost use Rattle.linker_utils_c.specs.SectionItems.{relocation_of, relocations_in, HaveKinds};
-ghost use Rattle.linker_utils_c.specs.SectionItems.{IsNotMade};
+ghost use Rattle.linker_utils_c.specs.Relaxing.{items_in, HasKind};
+ghost use Rattle.linker_utils_c.specs.SectionItems.{relocations_in};
 ghost use Rattle.linker_utils_c.specs.Status.{code};
 
 use crate::relaxing::ItemNumbers;
 use crate::status::Status;
-use linker_runs::items::{ItemsError, Relocation};
-use linker_runs::relaxation::Item;
-use linker_runs::shapes::fixed;
+use linker_runs::items::{AsRelocation, Relocation};
 use linker_runs::{loongarch64, riscv64};
-use linker_utils::relaxation::OutOfMemory;
-use std::alloc::Global;
 
 /// A relocation of a section, and what it refers to in a run.
 #[repr(C)]
@@ -41,11 +36,13 @@ pub struct Rela {
     pub may_compress: u8,
 }
 
-impl Rela {
+impl AsRelocation for Rela {
+    ghost use Rattle.linker_utils_c.specs.SectionItems.{relocation_of};
+
+    ghost relocation = { relocation_of };
+
     #[inline(always)]
-    fn relocation(&self) -> Relocation
-        ensures { result ≡ relocation_of self.now }
-    {
+    fn as_relocation(self) -> Relocation {
         Relocation {
             offset: self.offset,
             code: self.r_type,
@@ -61,91 +58,22 @@ impl Rela {
     }
 }
 
-/// The relocations that C's structs are.
-fn relocations_of(alloc: Global, relocations: &[Rela]) -> Result<Vec<Relocation>, OutOfMemory>
-    ensures { IfOk result (λ made. made.items ≡ relocations_in relocations.now) }
-{
-    let mut made = Vec::with_capacity(alloc, relocations.len())?;
-    for numbers in relocations {
-        made.push_reserved(numbers.relocation());
-    }
-    Ok(made)
-}
-
-#[inline]
-fn numbers_of(item: &Item) -> ItemNumbers
-    ensures item { item_of result ≡ item.now }
-    ensures kind { result.kind ≤ 2 }
-{
-    match item {
-        Item::Site(site) => ItemNumbers {
-            offset: site.offset,
-            target: site.target,
-            alignment: 0,
-            max_skip: 0,
-            len: site.len,
-            kind: 0,
-            shapes: site.shapes,
-        },
-        Item::Aligned(alignment) => ItemNumbers {
-            offset: alignment.offset,
-            target: 0,
-            alignment: alignment.alignment,
-            max_skip: match alignment.max_skip {
-                None => 0,
-                Some(most) => most,
-            },
-            len: alignment.nops,
-            kind: match alignment.max_skip {
-                None => 1,
-                Some(_) => 2,
-            },
-            shapes: fixed(0),
-        },
-    }
-}
-
-fn write_items(made: &[Item], items: &mut [ItemNumbers])
-    requires { length made.now ≤ length items.old }
-    ensures written { items_in (take (length made.now) items.new) ≡ made.now }
-    ensures kinds { HaveKinds (length made.now) items.new }
-    ensures others_stay { (k : ℕ) (item : ItemNumbers) → length made.now ≤ k
-        → slice_index_or items.new k item ≡ slice_index_or items.old k item }
-{
-    for index in 0..made.len() {
-        items[index] = numbers_of(&made[index]);
-    }
-}
-
-/// Writes the items that were made, or says why none were.
-fn put(
-    made: Result<Vec<Item>, ItemsError>,
-    items: &mut [ItemNumbers],
-    len: &mut usize,
-    faulty: &mut usize,
-) -> u32
-    requires { IfOk made (λ made. length made.items ≤ length items.old) }
-    ensures outcome { MatchResult made
-        (λ made. (result ≡ code Status.Success) × (items_in (take len.new items.new) ≡ made.items))
-        (IsNotMade faulty.new result) }
-    ensures kinds { result ≡ code Status.Success → HaveKinds len.new items.new }
-    ensures others_stay { (k : ℕ) (item : ItemNumbers) → result ≡ code Status.Success → len.new ≤ k
-        → slice_index_or items.new k item ≡ slice_index_or items.old k item }
-    ensures unchanged { result ≢ code Status.Success
-        → (items.new ≡ items.old) × (len.new ≡ len.old) }
-    ensures faulty_stays { result ≢ code Status.MalformedRelocation → faulty.new ≡ faulty.old }
+/// What is returned of items that were written, or of why none were.
+fn put(made: Result<usize, usize>, len: &mut usize, faulty: &mut usize) -> u32
+    ensures written { IfOk made (λ count. (result ≡ code Status.Success) × (len.new ≡ count)
+        × (faulty.new ≡ faulty.old)) }
+    ensures malformed { IfErr made (λ index. (result ≡ code Status.MalformedRelocation)
+        × (len.new ≡ len.old) × (faulty.new ≡ index)) }
 {
     match made {
-        Ok(made) => {
-            write_items(&made, items);
-            *len = made.len();
+        Ok(count) => {
+            *len = count;
             Status::Success.number()
         }
-        Err(ItemsError::Malformed(index)) => {
+        Err(index) => {
             *faulty = index;
             Status::MalformedRelocation.number()
         }
-        Err(ItemsError::OutOfMemory) => Status::OutOfMemory.number(),
     }
 }
 
@@ -155,11 +83,9 @@ fn put(
 /// `items` has as many elements as there are relocations, since each makes one item at most. `len`
 /// is how many there are, and the elements from there on are unchanged. The first that applies of
 /// `DifferentLengths`; `EndsTooHigh`, where `base` and the section's length add up to 2^64 or more;
-/// and `OutOfMemory`, where a copy of the relocations or of the items is refused, or
-/// `MalformedRelocation`, of the relocation at `faulty`. Nothing is written then.
+/// and `MalformedRelocation`, of the relocation at `faulty`. Nothing is written then.
 #[unsafe(no_mangle)]
 pub extern "C" fn linker_utils_riscv_items_nonnull(
-    alloc: Global,
     section: &[u8],
     base: u64,
     relocations: &[Rela],
@@ -168,8 +94,7 @@ pub extern "C" fn linker_utils_riscv_items_nonnull(
     faulty: &mut usize,
 ) -> u32
     ensures known { (result ≡ code Status.Success) ⊎ (result ≡ code Status.DifferentLengths)
-        ⊎ (result ≡ code Status.EndsTooHigh) ⊎ (result ≡ code Status.OutOfMemory)
-        ⊎ (result ≡ code Status.MalformedRelocation) }
+        ⊎ (result ≡ code Status.EndsTooHigh) ⊎ (result ≡ code Status.MalformedRelocation) }
     ensures different_lengths { (result ≡ code Status.DifferentLengths)
         ↔ (length items.old ≢ length relocations.now) }
     ensures too_high { (result ≡ code Status.EndsTooHigh)
@@ -177,15 +102,15 @@ pub extern "C" fn linker_utils_riscv_items_nonnull(
     ensures made { result ≡ code Status.Success
         → AreMade (RiscVMakes section.now base (relocations_in relocations.now))
         (length relocations.now) (items_in (take len.new items.new)) }
-    ensures kinds { result ≡ code Status.Success → HaveKinds len.new items.new }
+    ensures kinds { result ≡ code Status.Success → All HasKind (take len.new items.new) }
     ensures formed { result ≡ code Status.Success
         → AreWellFormed (IsRiscVFormed section.now)
         (relocations_in relocations.now) (length relocations.now) }
     ensures malformed { result ≡ code Status.MalformedRelocation
         → IsFirstMalformed (IsRiscVFormed section.now)
         (relocations_in relocations.now) faulty.new }
-    ensures others_stay { result ≡ code Status.Success → (k : ℕ) (item : ItemNumbers) → len.new ≤ k
-        → slice_index_or items.new k item ≡ slice_index_or items.old k item }
+    ensures others_stay { result ≡ code Status.Success
+        → drop len.new items.new ≡ drop len.new items.old }
     ensures unchanged { result ≢ code Status.Success
         → (items.new ≡ items.old) × (len.new ≡ len.old) }
     ensures faulty_stays { result ≢ code Status.MalformedRelocation → faulty.new ≡ faulty.old }
@@ -196,18 +121,17 @@ pub extern "C" fn linker_utils_riscv_items_nonnull(
     if section.len() as u64 > u64::MAX - base {
         return Status::EndsTooHigh.number();
     }
-    let Ok(relocations) = relocations_of(alloc, relocations) else {
-        return Status::OutOfMemory.number();
-    };
-    let made = riscv64::items(alloc, section, base, &relocations);
-    put(made, items, len, faulty)
+    put(
+        riscv64::items_into(section, base, relocations, items),
+        len,
+        faulty,
+    )
 }
 
 /// Writes the items that the relocations of a LoongArch section make, as `loongarch64::items`. What
 /// is written and the statuses are as those of `linker_utils_riscv_items`.
 #[unsafe(no_mangle)]
 pub extern "C" fn linker_utils_loongarch_items_nonnull(
-    alloc: Global,
     section: &[u8],
     base: u64,
     relocations: &[Rela],
@@ -216,8 +140,7 @@ pub extern "C" fn linker_utils_loongarch_items_nonnull(
     faulty: &mut usize,
 ) -> u32
     ensures known { (result ≡ code Status.Success) ⊎ (result ≡ code Status.DifferentLengths)
-        ⊎ (result ≡ code Status.EndsTooHigh) ⊎ (result ≡ code Status.OutOfMemory)
-        ⊎ (result ≡ code Status.MalformedRelocation) }
+        ⊎ (result ≡ code Status.EndsTooHigh) ⊎ (result ≡ code Status.MalformedRelocation) }
     ensures different_lengths { (result ≡ code Status.DifferentLengths)
         ↔ (length items.old ≢ length relocations.now) }
     ensures too_high { (result ≡ code Status.EndsTooHigh)
@@ -225,14 +148,14 @@ pub extern "C" fn linker_utils_loongarch_items_nonnull(
     ensures made { result ≡ code Status.Success
         → AreMade (LoongArchMakes section.now base (relocations_in relocations.now))
         (length relocations.now) (items_in (take len.new items.new)) }
-    ensures kinds { result ≡ code Status.Success → HaveKinds len.new items.new }
+    ensures kinds { result ≡ code Status.Success → All HasKind (take len.new items.new) }
     ensures formed { result ≡ code Status.Success → AreWellFormed (IsLoongArchFormed section.now)
         (relocations_in relocations.now) (length relocations.now) }
     ensures malformed { result ≡ code Status.MalformedRelocation
         → IsFirstMalformed (IsLoongArchFormed section.now) (relocations_in relocations.now)
         faulty.new }
-    ensures others_stay { result ≡ code Status.Success → (k : ℕ) (item : ItemNumbers) → len.new ≤ k
-        → slice_index_or items.new k item ≡ slice_index_or items.old k item }
+    ensures others_stay { result ≡ code Status.Success
+        → drop len.new items.new ≡ drop len.new items.old }
     ensures unchanged { result ≢ code Status.Success
         → (items.new ≡ items.old) × (len.new ≡ len.old) }
     ensures faulty_stays { result ≢ code Status.MalformedRelocation → faulty.new ≡ faulty.old }
@@ -243,9 +166,9 @@ pub extern "C" fn linker_utils_loongarch_items_nonnull(
     if section.len() as u64 > u64::MAX - base {
         return Status::EndsTooHigh.number();
     }
-    let Ok(relocations) = relocations_of(alloc, relocations) else {
-        return Status::OutOfMemory.number();
-    };
-    let made = loongarch64::items(alloc, section, base, &relocations);
-    put(made, items, len, faulty)
+    put(
+        loongarch64::items_into(section, base, relocations, items),
+        len,
+        faulty,
+    )
 }

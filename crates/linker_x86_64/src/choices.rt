@@ -6,9 +6,7 @@ ghost use Rattle.linker_elf.specs.Inner.ChoiceTables.{IsTableOf};
 ghost use Rattle.linker_elf.proofs.SameNames.{equalities, exact_code};
 ghost use Rattle.linker_elf.specs.contracts.x86_64.relocations.X86_64Relocation.{enum as names};
 ghost use Rattle.linker_x86_64.specs.Inner.X86Tables.{StandAt, x86_64_tables};
-ghost use Rattle.linker_x86_64.specs.X86Rewrites.{IsX86Choice, IsAskedFor};
-ghost use Rattle.linker_x86_64.specs.X86Rewrites.{x86_64_table};
-ghost use Rattle.linker_x86_64.specs.X86Rewrites.{x86_64_matches};
+ghost use Rattle.linker_x86_64.specs.X86Rewrites as rewrites;
 ghost use Rattle.linker_x86_64.specs.declared.rewrites.RelaxationKind.TheVariants as kinds;
 
 use super::rewrites::{is_lea_of_descriptor, is_legacy};
@@ -59,67 +57,25 @@ impl ChosenKind for RelaxationKind {
 
     #[inline(always)]
     fn operands_after(self, offset: u64, operands: &Operands) -> Operands {
-        let place = operands.place;
-        match self {
-            RelaxationKind::NoOp
-            | RelaxationKind::MovIndirectToLea
-            | RelaxationKind::CallIndirectToRelative
-            | RelaxationKind::TlsDescToInitialExec
-            | RelaxationKind::SkipTlsDescCall => *operands,
-            RelaxationKind::JmpIndirectToRelative => {
-                let before = offset.saturating_sub(1);
-                Operands {
-                    place: place.wrapping_add(before).wrapping_sub(offset),
-                    ..*operands
-                }
-            }
-            RelaxationKind::TlsGdToLocalExec => {
-                Operands {
-                    place: place.wrapping_add(8),
-                    addend: 0,
-                    ..*operands
-                }
-            }
-            RelaxationKind::TlsGdToLocalExecLarge => {
-                Operands {
-                    place: place.wrapping_add(9),
-                    addend: 0,
-                    ..*operands
-                }
-            }
-            RelaxationKind::TlsGdToInitialExec => {
-                Operands {
-                    place: place.wrapping_add(8),
-                    ..*operands
-                }
-            }
-            RelaxationKind::TlsLdToLocalExec | RelaxationKind::TlsLdToLocalExecNoPlt => {
-                Operands {
-                    place: place.wrapping_add(5),
-                    ..*operands
-                }
-            }
-            RelaxationKind::TlsLdToLocalExec64 => {
-                Operands {
-                    place: place.wrapping_add(15),
-                    ..*operands
-                }
-            }
-            RelaxationKind::MovIndirectToAbsolute
-            | RelaxationKind::RexMovIndirectToAbsolute(_)
-            | RelaxationKind::RexAddIndirectToAbsolute(_)
-            | RelaxationKind::RexSubIndirectToAbsolute(_)
-            | RelaxationKind::RexCmpIndirectToAbsolute(_)
-            | RelaxationKind::TlsDescToLocalExec(_)
-            | RelaxationKind::RexAdcIndirectToAbsolute(_)
-            | RelaxationKind::RexAndIndirectToAbsolute(_)
-            | RelaxationKind::RexOrIndirectToAbsolute(_)
-            | RelaxationKind::RexSbbIndirectToAbsolute(_)
-            | RelaxationKind::RexXorIndirectToAbsolute(_)
-            | RelaxationKind::RexTestIndirectToAbsolute(_) => Operands {
-                addend: 0,
-                ..*operands
-            },
+        let (at, addend) = match self {
+            Self::NoOp
+            | Self::MovIndirectToLea
+            | Self::CallIndirectToRelative
+            | Self::TlsDescToInitialExec
+            | Self::SkipTlsDescCall => (offset, operands.addend),
+            Self::JmpIndirectToRelative => (offset.saturating_sub(1), operands.addend),
+            Self::TlsGdToLocalExec => (offset.wrapping_add(8), 0),
+            Self::TlsGdToLocalExecLarge => (offset.wrapping_add(9), 0),
+            Self::TlsGdToInitialExec => (offset.wrapping_add(8), operands.addend),
+            Self::TlsLdToLocalExec => (offset.wrapping_add(5), operands.addend),
+            Self::TlsLdToLocalExecNoPlt => (offset.wrapping_add(5), operands.addend),
+            Self::TlsLdToLocalExec64 => (offset.wrapping_add(15), operands.addend),
+            _ => (offset, 0),
+        };
+        Operands {
+            place: operands.place.wrapping_add(at).wrapping_sub(offset),
+            addend,
+            ..*operands
         }
     }
 }
@@ -322,22 +278,35 @@ macro_rules! by_opcode {
     };
 }
 
+/// The tables of each relocation whose table is one of an opcode.
+macro_rules! opcode_choices {
+    ($make:ident $arguments:tt) => {
+        $make! {
+            $arguments
+            R_X86_64_GOTPCRELX: [GOT_2]
+            R_X86_64_REX_GOTPCRELX: [GOT_3]
+            R_X86_64_CODE_4_GOTPCRELX: [GOT_4]
+            R_X86_64_CODE_5_GOTPCRELX: [GOT_5]
+            R_X86_64_CODE_6_GOTPCRELX: [GOT_6]
+            R_X86_64_GOTTPOFF: [access GOTTPOFF_3]
+            R_X86_64_CODE_4_GOTTPOFF: [access GOTTPOFF_4]
+            R_X86_64_CODE_5_GOTTPOFF: [access GOTTPOFF_5]
+            R_X86_64_CODE_6_GOTTPOFF: [access GOTTPOFF_6]
+        }
+    };
+}
+
 /// What the table of a name and an opcode is used for.
-macro_rules! by_tables {
-    ($name:expr, $opcode:expr, $table:ident => $use:expr) => {
+macro_rules! by_name {
+    (
+        ($name:expr, $opcode:expr, $table:ident => $use:expr)
+        $($listed:ident: [$($tables:ident)+])*
+    ) => {
         choices!(by_table(
             TABLES, $name, $table => $use;
             Names::R_X86_64_GOTPCREL if $opcode == 0x8b => { let $table = LOAD; $use }
             Names::R_X86_64_GOTPCRELX if $opcode == 0xff => { let $table = BRANCH; $use }
-            Names::R_X86_64_GOTPCRELX => by_opcode!(GOT_2, $opcode, $table => $use),
-            Names::R_X86_64_REX_GOTPCRELX => by_opcode!(GOT_3, $opcode, $table => $use),
-            Names::R_X86_64_CODE_4_GOTPCRELX => by_opcode!(GOT_4, $opcode, $table => $use),
-            Names::R_X86_64_CODE_5_GOTPCRELX => by_opcode!(GOT_5, $opcode, $table => $use),
-            Names::R_X86_64_CODE_6_GOTPCRELX => by_opcode!(GOT_6, $opcode, $table => $use),
-            Names::R_X86_64_GOTTPOFF => by_opcode!(access GOTTPOFF_3, $opcode, $table => $use),
-            Names::R_X86_64_CODE_4_GOTTPOFF => by_opcode!(access GOTTPOFF_4, $opcode, $table => $use),
-            Names::R_X86_64_CODE_5_GOTTPOFF => by_opcode!(access GOTTPOFF_5, $opcode, $table => $use),
-            Names::R_X86_64_CODE_6_GOTTPOFF => by_opcode!(access GOTTPOFF_6, $opcode, $table => $use),
+            $(Names::$listed => by_opcode!($($tables)+, $opcode, $table => $use),)*
         ))
     };
 }
@@ -345,11 +314,11 @@ macro_rules! by_tables {
 /// The entries of a relocation, by the opcode, which is two bytes before the field.
 #[inline(always)]
 fn entries_by(name: Names, opcode: u8) -> Table<RelaxationKind>
-    ensures table { IsTableOf StandAt (IsAskedFor (x86_64_table name opcode).instructions)
-        result.now (x86_64_table name opcode).entries }
+    ensures table { IsTableOf StandAt (rewrites.IsAskedFor (rewrites.x86_64_table name opcode).instructions)
+        result.now (rewrites.x86_64_table name opcode).entries }
     ensures few { length result.now ≤ 5 }
 {
-    by_tables!(name, opcode, table => table)
+    opcode_choices!(by_name(name, opcode, table => table))
 }
 
 /// The choice by a table of a name and an opcode.
@@ -362,11 +331,11 @@ fn choice_by_opcode(
     offset: u64,
     facts: &LinkFacts,
 ) -> Choice<RelaxationKind, Names>
-    requires table { IsTableOf StandAt (IsAskedFor (x86_64_table name opcode).instructions)
-        table.now (x86_64_table name opcode).entries }
+    requires table { IsTableOf StandAt (rewrites.IsAskedFor (rewrites.x86_64_table name opcode).instructions)
+        table.now (rewrites.x86_64_table name opcode).entries }
     requires few { length table.now ≤ 5 }
     requires opcode { opcode ≡ slice_index section.now (offset - 2) }
-    ensures { IsX86Choice name section.now offset facts.now result }
+    ensures { rewrites.IsX86Choice name section.now offset facts.now result }
 {
     choice_by(table, name, section, offset, facts)
 }
@@ -386,19 +355,8 @@ impl ChosenByTable for RelaxationKind {
     #[inline(always)]
     fn may_be_listed(name: Names) -> bool {
         choices!(is_listed(name))
-            || matches!(
-                name,
-                Names::R_X86_64_GOTPCREL
-                    | Names::R_X86_64_GOTPCRELX
-                    | Names::R_X86_64_REX_GOTPCRELX
-                    | Names::R_X86_64_CODE_4_GOTPCRELX
-                    | Names::R_X86_64_CODE_5_GOTPCRELX
-                    | Names::R_X86_64_CODE_6_GOTPCRELX
-                    | Names::R_X86_64_GOTTPOFF
-                    | Names::R_X86_64_CODE_4_GOTTPOFF
-                    | Names::R_X86_64_CODE_5_GOTTPOFF
-                    | Names::R_X86_64_CODE_6_GOTTPOFF
-            )
+            || opcode_choices!(is_listed(name))
+            || matches!(name, Names::R_X86_64_GOTPCREL)
     }
 
     #[inline(always)]
@@ -414,8 +372,9 @@ impl ChosenByTable for RelaxationKind {
         facts: &LinkFacts,
     ) -> Choice<Self, Names> {
         let opcode = opcode_before(section, offset);
-        by_tables!(name, opcode, table
-            => choice_by_opcode(table, name, opcode, section, offset, facts))
+        opcode_choices!(by_name(
+            name, opcode, table => choice_by_opcode(table, name, opcode, section, offset, facts)
+        ))
     }
 }
 
@@ -460,8 +419,8 @@ pub fn choose(
     offset: u64,
     facts: &LinkFacts,
 ) -> Choice<RelaxationKind, X86_64Relocation>
-    ensures chosen { IsX86Choice name section.now offset facts.now result }
-    ensures matches { x86_64_matches result.kind section.now offset }
+    ensures chosen { rewrites.IsX86Choice name section.now offset facts.now result }
+    ensures matches { rewrites.x86_64_matches result.kind section.now offset }
 {
     RelaxationKind::choose(name, section, offset, facts)
 }
@@ -470,22 +429,17 @@ pub fn choose(
 /// `group_fits` changes it.
 ///
 /// ```
-/// use linker_utils::elf::{LinkFacts, Operands};
+/// use linker_utils::elf::LinkFacts;
 /// use linker_utils::x86_64::{X86_64Relocation, fits};
 ///
-/// // lea x@tlsdesc(%rip), %rax; call *x@tlscall(%rax), in an executable that defines x
-/// let section = [0x48, 0x8d, 0x05, 0, 0, 0, 0, 0xff, 0x10];
-/// let operands = Operands { addend: -4, ..Operands::default() };
-/// let facts =
-///     LinkFacts { is_local: true, is_executable: true, operands, ..LinkFacts::default() };
-/// assert!(fits(X86_64Relocation::R_X86_64_GOTPC32_TLSDESC, &section, 3, &facts));
-/// assert!(fits(X86_64Relocation::R_X86_64_TLSDESC_CALL, &section, 7, &facts));
-/// // a call through another register
+/// // call *x@tlscall(%rax) in an executable, and a call through another register
+/// let facts = LinkFacts { is_executable: true, ..LinkFacts::default() };
+/// assert!(fits(X86_64Relocation::R_X86_64_TLSDESC_CALL, &[0xff, 0x10], 0, &facts));
 /// assert!(!fits(X86_64Relocation::R_X86_64_TLSDESC_CALL, &[0xff, 0x11], 0, &facts));
 /// ```
 pub fn fits(name: X86_64Relocation, section: &[u8], offset: u64, facts: &LinkFacts) -> bool
     ensures { IsTrue result
-        ↔ Fits (IsX86Choice name section.now offset) (choice kinds.NoOp name) facts.now }
+        ↔ Fits (rewrites.IsX86Choice name section.now offset) (choice kinds.NoOp name) facts.now }
 {
     RelaxationKind::fits(name, section, offset, facts)
 }

@@ -3,6 +3,7 @@
 
 use crate::relaxing::{ItemNumbers, items_of};
 use crate::status::Status;
+use linker_utils::runs::items::AsItem;
 use linker_utils::runs::packing::{ItemError, Machine, has_its_instructions, pack_run, packed_run_len};
 use linker_utils::elf::Architecture;
 use linker_utils::relaxation::RelaxDelta;
@@ -59,7 +60,7 @@ pub fn linker_utils_has_its_instructions_nonnull(
     let Some(known) = packing_machine(machine) else {
         return Status::UnknownArchitecture.number();
     };
-    if has_its_instructions(known, section, base, &item.item()) {
+    if has_its_instructions(known, section, base, &item.as_item()) {
         Status::Success.number()
     } else {
         Status::NotItsInstructions.number()

@@ -4,7 +4,9 @@
 use alloc::vec::Vec;
 use crate::support::*;
 use crate::status::Status;
+use linker_utils::runs::items::AsItem;
 use linker_utils::runs::relaxation::{Alignment, Fault, Item, Shapes, Site, first_faulty, relax_into};
+use linker_utils::runs::shapes::fixed;
 use linker_utils::runs::shapes::loongarch64::{CALL36, PCALA};
 use linker_utils::runs::shapes::riscv64::{CALL, CALL_WITHOUT_C, TAIL_C};
 use linker_utils::relaxation::{OutOfMemory, RelaxDelta};
@@ -31,9 +33,9 @@ pub struct ItemNumbers {
     pub shapes: Shapes,
 }
 
-impl ItemNumbers {
+impl AsItem for ItemNumbers {
     #[inline(always)]
-    pub(crate) fn item(&self) -> Item {
+    fn as_item(self) -> Item {
         if self.kind == 0 {
             Item::Site(Site {
                 offset: self.offset,
@@ -52,6 +54,36 @@ impl ItemNumbers {
                     Some(self.max_skip)
                 },
             })
+        }
+    }
+
+    #[inline(always)]
+    fn from_item(written: Item) -> ItemNumbers {
+        match written {
+            Item::Site(site) => ItemNumbers {
+                offset: site.offset,
+                target: site.target,
+                alignment: 0,
+                max_skip: 0,
+                len: site.len,
+                kind: 0,
+                shapes: site.shapes,
+            },
+            Item::Aligned(alignment) => ItemNumbers {
+                offset: alignment.offset,
+                target: 0,
+                alignment: alignment.alignment,
+                max_skip: match alignment.max_skip {
+                    None => 0,
+                    Some(most) => most,
+                },
+                len: alignment.nops,
+                kind: match alignment.max_skip {
+                    None => 1,
+                    Some(_) => 2,
+                },
+                shapes: fixed(0),
+            },
         }
     }
 }
@@ -82,7 +114,7 @@ fn status_of(fault: Fault) -> u32 {
 pub(crate) fn items_of(items: &[ItemNumbers]) -> Result<Vec<Item>, OutOfMemory> {
     let mut made = Vec::fallible_with_capacity(items.len())?;
     for numbers in items {
-        made.push_reserved(numbers.item());
+        made.push_reserved(numbers.as_item());
     }
     Ok(made)
 }

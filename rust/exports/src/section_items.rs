@@ -1,15 +1,10 @@
 // Made by tools/erase of crates/linker_utils_c/src/section_items.rt.
 //! The items that a section's relocations make, in arrays of the caller's.
 
-use alloc::vec::Vec;
-use crate::support::*;
 use crate::relaxing::ItemNumbers;
 use crate::status::Status;
-use linker_utils::runs::items::{ItemsError, Relocation};
-use linker_utils::runs::relaxation::Item;
-use linker_utils::runs::shapes::fixed;
+use linker_utils::runs::items::{AsRelocation, Relocation};
 use linker_utils::runs::{loongarch64, riscv64};
-use linker_utils::relaxation::OutOfMemory;
 
 /// A relocation of a section, and what it refers to in a run.
 #[repr(C)]
@@ -33,9 +28,9 @@ pub struct Rela {
     pub may_compress: u8,
 }
 
-impl Rela {
+impl AsRelocation for Rela {
     #[inline(always)]
-    fn relocation(&self) -> Relocation {
+    fn as_relocation(self) -> Relocation {
         Relocation {
             offset: self.offset,
             code: self.r_type,
@@ -51,69 +46,17 @@ impl Rela {
     }
 }
 
-/// The relocations that C's structs are.
-fn relocations_of(relocations: &[Rela]) -> Result<Vec<Relocation>, OutOfMemory> {
-    let mut made = Vec::fallible_with_capacity(relocations.len())?;
-    for numbers in relocations {
-        made.push_reserved(numbers.relocation());
-    }
-    Ok(made)
-}
-
-#[inline]
-fn numbers_of(item: &Item) -> ItemNumbers {
-    match item {
-        Item::Site(site) => ItemNumbers {
-            offset: site.offset,
-            target: site.target,
-            alignment: 0,
-            max_skip: 0,
-            len: site.len,
-            kind: 0,
-            shapes: site.shapes,
-        },
-        Item::Aligned(alignment) => ItemNumbers {
-            offset: alignment.offset,
-            target: 0,
-            alignment: alignment.alignment,
-            max_skip: match alignment.max_skip {
-                None => 0,
-                Some(most) => most,
-            },
-            len: alignment.nops,
-            kind: match alignment.max_skip {
-                None => 1,
-                Some(_) => 2,
-            },
-            shapes: fixed(0),
-        },
-    }
-}
-
-fn write_items(made: &[Item], items: &mut [ItemNumbers]) {
-    for index in 0..made.len() {
-        items[index] = numbers_of(&made[index]);
-    }
-}
-
-/// Writes the items that were made, or says why none were.
-fn put(
-    made: Result<Vec<Item>, ItemsError>,
-    items: &mut [ItemNumbers],
-    len: &mut usize,
-    faulty: &mut usize,
-) -> u32 {
+/// What is returned of items that were written, or of why none were.
+fn put(made: Result<usize, usize>, len: &mut usize, faulty: &mut usize) -> u32 {
     match made {
-        Ok(made) => {
-            write_items(&made, items);
-            *len = made.len();
+        Ok(count) => {
+            *len = count;
             Status::Success.number()
         }
-        Err(ItemsError::Malformed(index)) => {
+        Err(index) => {
             *faulty = index;
             Status::MalformedRelocation.number()
         }
-        Err(ItemsError::OutOfMemory) => Status::OutOfMemory.number(),
     }
 }
 
@@ -123,8 +66,7 @@ fn put(
 /// `items` has as many elements as there are relocations, since each makes one item at most. `len`
 /// is how many there are, and the elements from there on are unchanged. The first that applies of
 /// `DifferentLengths`; `EndsTooHigh`, where `base` and the section's length add up to 2^64 or more;
-/// and `OutOfMemory`, where a copy of the relocations or of the items is refused, or
-/// `MalformedRelocation`, of the relocation at `faulty`. Nothing is written then.
+/// and `MalformedRelocation`, of the relocation at `faulty`. Nothing is written then.
 pub fn linker_utils_riscv_items_nonnull(
     section: &[u8],
     base: u64,
@@ -139,11 +81,11 @@ pub fn linker_utils_riscv_items_nonnull(
     if section.len() as u64 > u64::MAX - base {
         return Status::EndsTooHigh.number();
     }
-    let Ok(relocations) = relocations_of(relocations) else {
-        return Status::OutOfMemory.number();
-    };
-    let made = riscv64::items(section, base, &relocations);
-    put(made, items, len, faulty)
+    put(
+        riscv64::items_into(section, base, relocations, items),
+        len,
+        faulty,
+    )
 }
 
 /// Writes the items that the relocations of a LoongArch section make, as `loongarch64::items`. What
@@ -162,9 +104,9 @@ pub fn linker_utils_loongarch_items_nonnull(
     if section.len() as u64 > u64::MAX - base {
         return Status::EndsTooHigh.number();
     }
-    let Ok(relocations) = relocations_of(relocations) else {
-        return Status::OutOfMemory.number();
-    };
-    let made = loongarch64::items(section, base, &relocations);
-    put(made, items, len, faulty)
+    put(
+        loongarch64::items_into(section, base, relocations, items),
+        len,
+        faulty,
+    )
 }

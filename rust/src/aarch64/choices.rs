@@ -12,9 +12,6 @@ use crate::linker_elf::elf::choice_table::{
 };
 use crate::linker_elf::elf::{Choice, LinkFacts, Operands};
 
-/// `blr x0`; the register is bits 5 to 9.
-const BLR: u32 = 0xd63f_0000;
-
 /// Whether `adrp xN`, at an offset, and `ldr xN, [xN, #imm]` stand next to each other.
 #[inline]
 fn is_entry_load(section: &[u8], offset: u64) -> bool {
@@ -25,6 +22,7 @@ fn is_entry_load(section: &[u8], offset: u64) -> bool {
     is_ldr64(ldr) && are_of_one_register(word_at(section, offset), ldr)
 }
 
+/// Whether they are those below; the register of `blr` is in bits 5 to 9.
 #[inline]
 fn are_of_descriptor(adrp: u32, ldr: u32, add: u32, blr: u32) -> bool {
     let called = destination(ldr);
@@ -37,7 +35,7 @@ fn are_of_descriptor(adrp: u32, ldr: u32, add: u32, blr: u32) -> bool {
         && is_add64(add)
         && source(add) == 0
         && destination(add) == 0
-        && blr == BLR + called * 32
+        && blr == 0xd63f_0000 + called * 32
 }
 
 /// Whether the sequence of a TLS descriptor is at an offset of the section: `adrp x0`,
@@ -249,14 +247,10 @@ pub fn choose(
 /// use linker_utils::aarch64::{AArch64Relocation, fits};
 /// use linker_utils::elf::LinkFacts;
 ///
-/// // `adrp x3, :got:v` and `ldr x3, [x3, :got_lo12:v]`, where v is defined in the output
+/// // `adrp x3, :got:v` and `ldr x3, [x3, :got_lo12:v]`, where v may be of another file
 /// let section = [0x03, 0, 0, 0x90, 0x63, 0, 0x40, 0xf9];
-/// let facts = LinkFacts { is_local: true, has_fixed_distance: true, ..LinkFacts::default() };
-/// assert!(fits(AArch64Relocation::R_AARCH64_ADR_GOT_PAGE, &section, 0, &facts));
-/// assert!(fits(AArch64Relocation::R_AARCH64_LD64_GOT_LO12_NC, &section, 4, &facts));
-/// // where it may be of another file
-/// let facts = LinkFacts::default();
-/// assert!(!fits(AArch64Relocation::R_AARCH64_ADR_GOT_PAGE, &section, 0, &facts));
+/// let name = AArch64Relocation::R_AARCH64_ADR_GOT_PAGE;
+/// assert!(!fits(name, &section, 0, &LinkFacts::default()));
 /// ```
 #[must_use]
 #[doc = include_str!("../../doc/choices/fits.md")]

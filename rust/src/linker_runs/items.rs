@@ -2,6 +2,8 @@
 //! Relocations of a section, and why no items are made of them.
 
 use crate::support::*;
+use crate::linker_runs::relaxation::Item;
+
 /// A relocation of a section.
 #[derive(Debug, Clone, Copy, PartialEq, Eq, Hash)]
 pub struct Relocation {
@@ -20,6 +22,44 @@ pub struct Relocation {
     /// The code there may use instructions of RISC-V's C extension: its object's `e_flags` have
     /// `EF_RISCV_RVC`. It means nothing for other architectures.
     pub may_compress: bool,
+}
+
+/// A relocation of a section: a `Relocation`, or an element of the caller's own array that says as
+/// much.
+pub trait AsRelocation: Copy {
+    /// The relocation.
+    #[must_use]
+    fn as_relocation(self) -> Relocation;
+}
+
+impl AsRelocation for Relocation {
+    #[inline(always)]
+    fn as_relocation(self) -> Relocation {
+        self
+    }
+}
+
+/// An item of a run: an `Item`, or an element of the caller's own array that says as much.
+pub trait AsItem: Copy {
+    /// The item.
+    #[must_use]
+    fn as_item(self) -> Item;
+
+    /// The form that an item is written in.
+    #[must_use]
+    fn from_item(written: Item) -> Self;
+}
+
+impl AsItem for Item {
+    #[inline(always)]
+    fn as_item(self) -> Item {
+        self
+    }
+
+    #[inline(always)]
+    fn from_item(written: Item) -> Item {
+        written
+    }
 }
 
 /// Why no items are made of relocations.
@@ -44,9 +84,11 @@ impl<T> From<AllocFailed<T>> for ItemsError {
     }
 }
 
-/// A relocation that the psABI doesn't allow.
-#[derive(Debug, Clone, Copy, PartialEq, Eq)]
-pub(crate) struct NotAllowed;
+/// The relocation at an index.
+#[inline(always)]
+pub(crate) fn relocation_at<R: AsRelocation>(relocations: &[R], index: usize) -> Relocation {
+    relocations[index].as_relocation()
+}
 
 /// Whether so many bytes from an offset on lie in the section.
 #[inline(always)]
@@ -57,10 +99,12 @@ pub(crate) fn has_bytes(section: &[u8], offset: u64, len: u64) -> bool {
 
 /// Whether the relocation behind the one at an index has a code and is at the same place.
 #[inline(always)]
-pub(crate) fn is_marked(relocations: &[Relocation], index: usize, code: u32) -> bool {
-    index + 1 < relocations.len()
-        && relocations[index + 1].code == code
-        && relocations[index + 1].offset == relocations[index].offset
+pub(crate) fn is_marked<R: AsRelocation>(relocations: &[R], index: usize, code: u32) -> bool {
+    if index + 1 >= relocations.len() {
+        return false;
+    }
+    let mark = relocation_at(relocations, index + 1);
+    mark.code == code && mark.offset == relocation_at(relocations, index).offset
 }
 
 /// The addend of a relocation, if it isn't below 0.

@@ -3,7 +3,10 @@
 
 use alloc::vec::Vec;
 use crate::support::*;
-use crate::linker_runs::items::{ItemsError, NotAllowed, Relocation, has_bytes, is_marked, unsigned_addend};
+use crate::linker_runs::items::{
+    AsItem, AsRelocation, ItemsError, Relocation, has_bytes, is_marked, relocation_at,
+    unsigned_addend,
+};
 use crate::linker_runs::relaxation::{Alignment, Item, Shapes, Site};
 use crate::linker_runs::shapes::loongarch64::{CALL36, PCALA};
 use crate::loongarch64::{LoongArch64Relocation, RelaxationKind};
@@ -57,26 +60,25 @@ fn stated_alignment(section: &[u8], relocation: &Relocation, offset: u64) -> Opt
     })
 }
 
-/// The item of an `R_LARCH_ALIGN` that has nops.
+/// The item of an `R_LARCH_ALIGN`, if it has nops.
 #[inline]
-fn alignment_at(
-    section: &[u8],
-    base: u64,
-    relocation: &Relocation,
-) -> Result<Option<Alignment>, NotAllowed> {
-    let Some(alignment) = stated_alignment(section, relocation, base + relocation.offset) else {
-        return Err(NotAllowed);
-    };
+fn alignment_at(section: &[u8], base: u64, relocation: &Relocation) -> Option<Alignment> {
+    let alignment = stated_alignment(section, relocation, base + relocation.offset)?;
     if alignment.nops == 0 {
-        return Ok(None);
+        None
+    } else {
+        Some(alignment)
     }
-    Ok(Some(alignment))
 }
 
 /// Whether the relocation at an index has a name, and the instruction may be relaxed.
 #[inline]
-fn is_relaxable(relocations: &[Relocation], index: usize, name: LoongArch64Relocation) -> bool {
-    has_name(&relocations[index], name)
+fn is_relaxable<R: AsRelocation>(
+    relocations: &[R],
+    index: usize,
+    name: LoongArch64Relocation,
+) -> bool {
+    has_name(&relocation_at(relocations, index), name)
         && is_marked(
             relocations,
             index,
@@ -84,27 +86,33 @@ fn is_relaxable(relocations: &[Relocation], index: usize, name: LoongArch64Reloc
         )
 }
 
-/// Whether a call that can become `b` or `bl` is at a relocation.
+/// Whether a call that can become `b` or `bl` is at an offset: `pcaddu18i`, and a `jirl` that links
+/// `ra` or none.
 #[inline]
-fn is_call36(section: &[u8], relocations: &[Relocation], index: usize) -> bool {
-    let offset = relocations[index].offset;
-    is_relaxable(relocations, index, LoongArch64Relocation::R_LARCH_CALL36)
-        && (RelaxationKind::CallToBl.matches(section, offset)
-            || RelaxationKind::CallToB.matches(section, offset))
+pub(crate) fn is_call(section: &[u8], offset: u64) -> bool {
+    RelaxationKind::CallToBl.matches(section, offset)
+        || RelaxationKind::CallToB.matches(section, offset)
 }
 
-/// Whether `pcalau12i` and `addi.d` of one register are at an offset.
+/// Whether a pair that can become `pcaddi` is at an offset: `pcalau12i` and `addi.d` of one register.
 #[inline]
-fn is_address_pair(section: &[u8], offset: u64) -> bool {
+pub(crate) fn is_address(section: &[u8], offset: u64) -> bool {
     RelaxationKind::PcalaToPcaddi.matches(section, offset)
         && RelaxationKind::AddiToLd.matches(section, offset + 4)
 }
 
+/// Whether such a call is at a relocation.
+#[inline]
+fn is_call36<R: AsRelocation>(section: &[u8], relocations: &[R], index: usize) -> bool {
+    is_relaxable(relocations, index, LoongArch64Relocation::R_LARCH_CALL36)
+        && is_call(section, relocation_at(relocations, index).offset)
+}
+
 /// Whether the low part of an address is two relocations behind the high part.
 #[inline]
-fn has_low_part(relocations: &[Relocation], index: usize) -> bool {
-    let high = &relocations[index];
-    let low = &relocations[index + 2];
+fn has_low_part<R: AsRelocation>(relocations: &[R], index: usize) -> bool {
+    let high = relocation_at(relocations, index);
+    let low = relocation_at(relocations, index + 2);
     is_relaxable(
         relocations,
         index + 2,
@@ -114,9 +122,9 @@ fn has_low_part(relocations: &[Relocation], index: usize) -> bool {
         && low.target == high.target
 }
 
-/// Whether a pair that can become `pcaddi` is at a relocation.
+/// Whether such a pair is at a relocation.
 #[inline]
-fn is_pcala(section: &[u8], relocations: &[Relocation], index: usize) -> bool {
+fn is_pcala<R: AsRelocation>(section: &[u8], relocations: &[R], index: usize) -> bool {
     relocations.len() - index > 2
         && is_relaxable(
             relocations,
@@ -124,12 +132,12 @@ fn is_pcala(section: &[u8], relocations: &[Relocation], index: usize) -> bool {
             LoongArch64Relocation::R_LARCH_PCALA_HI20,
         )
         && has_low_part(relocations, index)
-        && is_address_pair(section, relocations[index].offset)
+        && is_address(section, relocation_at(relocations, index).offset)
 }
 
 /// What the instructions at a relocation can become.
 #[inline]
-fn shapes_at(section: &[u8], relocations: &[Relocation], index: usize) -> Option<Shapes> {
+fn shapes_at<R: AsRelocation>(section: &[u8], relocations: &[R], index: usize) -> Option<Shapes> {
     if is_call36(section, relocations, index) {
         Some(CALL36)
     } else if is_pcala(section, relocations, index) {
@@ -141,8 +149,13 @@ fn shapes_at(section: &[u8], relocations: &[Relocation], index: usize) -> Option
 
 /// The item that a relocation other than `R_LARCH_ALIGN` makes, if it makes one.
 #[inline]
-fn site_at(section: &[u8], base: u64, relocations: &[Relocation], index: usize) -> Option<Site> {
-    let relocation = &relocations[index];
+fn site_at<R: AsRelocation>(
+    section: &[u8],
+    base: u64,
+    relocations: &[R],
+    index: usize,
+) -> Option<Site> {
+    let relocation = relocation_at(relocations, index);
     let shapes = shapes_at(section, relocations, index)?;
     let target = relocation.target?;
     Some(Site {
@@ -153,32 +166,53 @@ fn site_at(section: &[u8], base: u64, relocations: &[Relocation], index: usize) 
     })
 }
 
-/// The item that the relocation at an index makes, if it makes one.
-#[inline]
-fn item_at(
-    section: &[u8],
-    base: u64,
-    relocations: &[Relocation],
-    index: usize,
-) -> Result<Option<Item>, NotAllowed> {
-    let relocation = &relocations[index];
+/// Whether a relocation is what the psABI allows.
+#[inline(always)]
+fn is_formed(section: &[u8], relocation: &Relocation) -> bool {
     if !has_bytes(section, relocation.offset, 0) {
-        return Err(NotAllowed);
+        return false;
     }
     if has_name(relocation, LoongArch64Relocation::R_LARCH_ALIGN) {
-        return match alignment_at(section, base, relocation)? {
-            Some(alignment) => Ok(Some(Item::Aligned(alignment))),
-            None => Ok(None),
+        stated_alignment(section, relocation, relocation.offset).is_some()
+    } else if has_name(relocation, LoongArch64Relocation::R_LARCH_CALL36) {
+        has_bytes(section, relocation.offset, 8)
+    } else {
+        true
+    }
+}
+
+/// The index of the first relocation that isn't what the psABI allows: one that lies behind the
+/// section's end, that is an `R_LARCH_CALL36` and less than eight bytes are there, or that is an
+/// `R_LARCH_ALIGN` whose addend is below 0, whose exponent is below 2 or above 32, or whose nops
+/// aren't a multiple of 4, reach past the section's end or have 2^32 bytes or more.
+#[must_use]
+pub fn first_malformed<R: AsRelocation>(section: &[u8], relocations: &[R]) -> Option<usize> {
+    for index in 0..relocations.len() {
+        if !is_formed(section, &relocation_at(relocations, index)) {
+            return Some(index);
+        }
+    }
+    None
+}
+
+/// The item that the relocation at an index makes, if it makes one.
+#[inline]
+fn item_at<R: AsRelocation>(
+    section: &[u8],
+    base: u64,
+    relocations: &[R],
+    index: usize,
+) -> Option<Item> {
+    let relocation = relocation_at(relocations, index);
+    if has_name(&relocation, LoongArch64Relocation::R_LARCH_ALIGN) {
+        return match alignment_at(section, base, &relocation) {
+            Some(alignment) => Some(Item::Aligned(alignment)),
+            None => None,
         };
     }
-    if has_name(relocation, LoongArch64Relocation::R_LARCH_CALL36)
-        && !has_bytes(section, relocation.offset, 8)
-    {
-        return Err(NotAllowed);
-    }
     match site_at(section, base, relocations, index) {
-        Some(site) => Ok(Some(Item::Site(site))),
-        None => Ok(None),
+        Some(site) => Some(Item::Site(site)),
+        None => None,
     }
 }
 
@@ -197,30 +231,59 @@ fn item_at(
 /// fewer. The other bits are its limit, the most bytes that may stay, if they are above 0 and below
 /// the nops (LoongArch ELF psABI, "Relocations").
 ///
-/// `Malformed` names the first relocation that lies behind the section's end, that is an
-/// `R_LARCH_CALL36` and less than eight bytes are there, or that is an `R_LARCH_ALIGN` whose addend
-/// is below 0, whose exponent is below 2 or above 32, or whose nops aren't a multiple of 4, reach
-/// past the section's end or have 2^32 bytes or more. The vector grows as items are added.
-/// `are_items` tells whether the run can be relaxed.
+/// `Malformed` names the relocation that `first_malformed` returns. The vector grows as items are
+/// added. `are_items` tells whether the run can be relaxed.
 ///
 /// # Requires
 ///
 /// - `(base as u128) + (section.len() as u128) < 1 << 64`
 #[cfg_attr(debug_assertions, track_caller)]
-pub fn items(
+pub fn items<R: AsRelocation>(
     section: &[u8],
     base: u64,
-    relocations: &[Relocation],
+    relocations: &[R],
 ) -> Result<Vec<Item>, ItemsError> {
     debug_assert!((base as u128) + (section.len() as u128) < 1 << 64);
+    if let Some(index) = first_malformed(section, relocations) {
+        return Err(ItemsError::Malformed(index));
+    }
     let mut items = Vec::new();
     for index in 0..relocations.len() {
-        let Ok(made) = item_at(section, base, relocations, index) else {
-            return Err(ItemsError::Malformed(index));
-        };
-        if let Some(item) = made {
+        if let Some(item) = item_at(section, base, relocations, index) {
             items.fallible_push(item)?;
         }
     }
     Ok(items)
+}
+
+/// `items` into memory of the caller's, which has an element for each relocation, since each makes
+/// one item at most. It returns how many there are; the elements from there on are unchanged.
+///
+/// The error is the index that `first_malformed` returns, and nothing is written then. It doesn't
+/// allocate.
+///
+/// # Requires
+///
+/// - base: `(base as u128) + (section.len() as u128) < 1 << 64`
+/// - one_each: `out.len() == relocations.len()`
+#[cfg_attr(debug_assertions, track_caller)]
+pub fn items_into<R: AsRelocation, I: AsItem>(
+    section: &[u8],
+    base: u64,
+    relocations: &[R],
+    out: &mut [I],
+) -> Result<usize, usize> {
+    debug_assert!((base as u128) + (section.len() as u128) < 1 << 64);
+    debug_assert!(out.len() == relocations.len());
+    if let Some(index) = first_malformed(section, relocations) {
+        return Err(index);
+    }
+    let mut count = 0;
+    for index in 0..relocations.len() {
+        if let Some(item) = item_at(section, base, relocations, index) {
+            out[count] = I::from_item(item);
+            count += 1;
+        }
+    }
+    Ok(count)
 }

@@ -7,7 +7,7 @@ mod loongarch64;
 mod riscv64;
 
 use crate::linker_runs::packing::code::Code;
-use crate::linker_runs::packing::copying::copy_kept;
+use crate::linker_runs::packing::copying::{begun_at, copy_kept, to_output};
 use crate::linker_runs::relaxation::{Item, Site};
 use crate::linker_base::relaxation::{DeltaSlice, RelaxDelta};
 
@@ -62,12 +62,6 @@ pub(crate) enum Piece {
     Code(Code),
 }
 
-/// The output offset of an input offset.
-#[inline(always)]
-fn to_output(deltas: &[RelaxDelta], offset: u64) -> u64 {
-    DeltaSlice::new(deltas).input_to_output_offset(offset)
-}
-
 /// Whether the item at an index begins at or above the end of the one before it.
 fn is_apart(items: &[Item], index: usize) -> bool {
     if index == 0 {
@@ -98,9 +92,9 @@ fn gap_start(base: u64, items: &[Item], index: usize) -> u64 {
 }
 
 /// Whether all bytes from an input offset up to another stay.
-fn stay_whole(deltas: &[RelaxDelta], from: u64, to: u64) -> bool {
-    let output = to_output(deltas, from);
-    to_output(deltas, to).saturating_sub(output) == to - from
+fn stay_whole(deltas: &[RelaxDelta], near: usize, from: u64, to: u64) -> bool {
+    let output = to_output(deltas, near, from);
+    to_output(deltas, near, to).saturating_sub(output) == to - from
 }
 
 /// What the instructions of a site become of which so many bytes stay.
@@ -109,6 +103,7 @@ fn code_of_site(
     section: &[u8],
     base: u64,
     deltas: &[RelaxDelta],
+    near: usize,
     start: u64,
     site: &Site,
     kept: u64,
@@ -116,8 +111,8 @@ fn code_of_site(
     if site.len != 8 {
         return Err(ItemError::NotItsInstructions);
     }
-    let place = start.wrapping_add(to_output(deltas, site.offset));
-    let target = start.wrapping_add(to_output(deltas, site.target));
+    let place = start.wrapping_add(to_output(deltas, near, site.offset));
+    let target = start.wrapping_add(to_output(deltas, near, site.target));
     match machine {
         Machine::RiscV64 => riscv64::code_of(section, site.offset - base, kept, place, target),
         Machine::LoongArch64 => {
@@ -143,10 +138,10 @@ fn is_fixed(item: &Item) -> bool {
 }
 
 /// How many bytes of an item stay, if they are its first ones.
-fn kept_of(deltas: &[RelaxDelta], item: &Item) -> Option<u64> {
-    let from = to_output(deltas, item.offset());
-    let kept = to_output(deltas, item.offset() + item.len()).saturating_sub(from);
-    if kept <= item.len() && to_output(deltas, item.offset() + kept) == from + kept {
+fn kept_of(deltas: &[RelaxDelta], near: usize, item: &Item) -> Option<u64> {
+    let from = to_output(deltas, near, item.offset());
+    let kept = to_output(deltas, near, item.offset() + item.len()).saturating_sub(from);
+    if kept <= item.len() && to_output(deltas, near, item.offset() + kept) == from + kept {
         Some(kept)
     } else {
         None
@@ -159,6 +154,7 @@ fn piece_for(
     section: &[u8],
     base: u64,
     deltas: &[RelaxDelta],
+    near: usize,
     start: u64,
     item: &Item,
     kept: u64,
@@ -172,7 +168,7 @@ fn piece_for(
             }
         }
         Item::Site(site) => {
-            match code_of_site(machine, section, base, deltas, start, site, kept) {
+            match code_of_site(machine, section, base, deltas, near, start, site, kept) {
                 Ok(code) => Ok(Piece::Code(code)),
                 Err(error) => Err(error),
             }
@@ -186,14 +182,15 @@ fn piece_of(
     section: &[u8],
     base: u64,
     deltas: &[RelaxDelta],
+    near: usize,
     start: u64,
     item: &Item,
 ) -> Result<Piece, ItemError> {
     if is_fixed(item) {
         return Ok(Piece::Nothing);
     }
-    match kept_of(deltas, item) {
-        Some(kept) => piece_for(machine, section, base, deltas, start, item, kept),
+    match kept_of(deltas, near, item) {
+        Some(kept) => piece_for(machine, section, base, deltas, near, start, item, kept),
         None => Err(ItemError::NotItsFirstBytes),
     }
 }
@@ -207,6 +204,7 @@ fn test_items(
     deltas: &[RelaxDelta],
     start: u64,
 ) -> Result<(), RejectedItem> {
+    let mut near = 0;
     for index in 0..items.len() {
         if !is_apart(items, index) {
             return Err(RejectedItem {
@@ -221,18 +219,19 @@ fn test_items(
                 error: ItemError::OutOfSection,
             });
         }
-        if !stay_whole(deltas, gap_start(base, items, index), item.offset()) {
+        if !stay_whole(deltas, near, gap_start(base, items, index), item.offset()) {
             return Err(RejectedItem {
                 index,
                 error: ItemError::DeletedOutside,
             });
         }
-        if let Err(error) = piece_of(machine, section, base, deltas, start, item) {
+        near = begun_at(deltas, near, item.offset());
+        if let Err(error) = piece_of(machine, section, base, deltas, near, start, item) {
             return Err(RejectedItem { index, error });
         }
     }
     let end = base + section.len() as u64;
-    if stay_whole(deltas, gap_start(base, items, items.len()), end) {
+    if stay_whole(deltas, near, gap_start(base, items, items.len()), end) {
         Ok(())
     } else {
         Err(RejectedItem {
@@ -300,16 +299,18 @@ fn put_items(
     start: u64,
     packed: &mut [u8],
 ) {
+    let mut near = begun_at(deltas, 0, base);
+    let before = to_output(deltas, near, base);
     for index in 0..items.len() {
         let item = &items[index];
         if !is_inside(section, base, item) {
             return;
         }
-        match piece_of(machine, section, base, deltas, start, item) {
+        near = begun_at(deltas, near, item.offset());
+        match piece_of(machine, section, base, deltas, near, start, item) {
             Err(_error) => return,
             Ok(piece) => {
-                let before = to_output(deltas, base);
-                let at = to_output(deltas, item.offset()).saturating_sub(before);
+                let at = to_output(deltas, near, item.offset()).saturating_sub(before);
                 put_piece(machine, packed, at, piece);
             }
         }
@@ -326,8 +327,9 @@ fn put_items(
 #[cfg_attr(debug_assertions, track_caller)]
 pub fn packed_run_len(base: u64, len: usize, deltas: &[RelaxDelta]) -> usize {
     debug_assert!((base as u128) + (len as u128) < 1 << 64);
-    let end = to_output(deltas, base + len as u64);
-    end.saturating_sub(to_output(deltas, base)) as usize
+    let run = DeltaSlice::new(deltas);
+    let end = run.input_to_output_offset(base + len as u64);
+    end.saturating_sub(run.input_to_output_offset(base)) as usize
 }
 
 /// Whether a site is eight bytes of a section, of instructions that can have its shapes: of RISC-V

@@ -3,7 +3,10 @@
 
 use alloc::vec::Vec;
 use crate::support::*;
-use crate::linker_runs::items::{ItemsError, NotAllowed, Relocation, has_bytes, is_marked, unsigned_addend};
+use crate::linker_runs::items::{
+    AsItem, AsRelocation, ItemsError, Relocation, has_bytes, is_marked, relocation_at,
+    unsigned_addend,
+};
 use crate::linker_runs::relaxation::{Alignment, Item, Shapes, Site};
 use crate::linker_runs::shapes::riscv64::{CALL, TAIL_C};
 use crate::riscv64::{LinkRegister, RiscVRelocation};
@@ -55,9 +58,9 @@ fn aligns(relocation: &Relocation) -> bool {
 
 /// The index of the next alignment behind the relocation at an index, or how many relocations there
 /// are.
-fn next_alignment(relocations: &[Relocation], index: usize) -> usize {
+fn next_alignment<R: AsRelocation>(relocations: &[R], index: usize) -> usize {
     for next in index + 1..relocations.len() {
-        if aligns(&relocations[next]) {
+        if aligns(&relocation_at(relocations, next)) {
             return next;
         }
     }
@@ -74,11 +77,11 @@ fn enough_at(nops: u64) -> u64 {
 /// Whether the relocation at an index may free so many bytes, and the next alignment, at an index,
 /// has its nops wherever it had them.
 #[inline]
-fn may_free(freed: u64, relocations: &[Relocation], index: usize, next: usize) -> bool {
+fn may_free<R: AsRelocation>(freed: u64, relocations: &[R], index: usize, next: usize) -> bool {
     if next >= relocations.len() {
         return true;
     }
-    match unsigned_addend(&relocations[next]) {
+    match unsigned_addend(&relocation_at(relocations, next)) {
         Some(nops) => freed % enough_at(nops) == 0,
         None => true,
     }
@@ -103,14 +106,15 @@ pub fn link_at(section: &[u8], offset: u64) -> Option<u32> {
 
 /// What a call at an index can become that links a register.
 #[inline]
-fn shapes_of(
+fn shapes_of<R: AsRelocation>(
     link: u32,
     section: &[u8],
-    relocations: &[Relocation],
+    relocations: &[R],
     index: usize,
     next: usize,
 ) -> Shapes {
-    if relocations[index].may_compress && link == 0 && may_free(6, relocations, index, next) {
+    let may_compress = relocation_at(relocations, index).may_compress;
+    if may_compress && link == 0 && may_free(6, relocations, index, next) {
         TAIL_C
     } else {
         CALL
@@ -119,14 +123,14 @@ fn shapes_of(
 
 /// The site of a call's relocation, if it may be relaxed.
 #[inline]
-fn site_at(
+fn site_at<R: AsRelocation>(
     section: &[u8],
     base: u64,
-    relocations: &[Relocation],
+    relocations: &[R],
     index: usize,
     next: usize,
 ) -> Option<Site> {
-    let relocation = &relocations[index];
+    let relocation = relocation_at(relocations, index);
     if !is_marked(
         relocations,
         index,
@@ -147,35 +151,56 @@ fn site_at(
     })
 }
 
-/// The item that the relocation at an index makes, if it makes one.
-#[inline]
-fn item_at(
-    section: &[u8],
-    base: u64,
-    relocations: &[Relocation],
-    index: usize,
-    next: usize,
-) -> Result<Option<Item>, NotAllowed> {
-    let relocation = &relocations[index];
+/// Whether a relocation is what the psABI allows.
+#[inline(always)]
+fn is_formed(section: &[u8], relocation: &Relocation) -> bool {
     if !has_bytes(section, relocation.offset, 0) {
-        return Err(NotAllowed);
+        return false;
     }
     if is_of_call(relocation) {
-        if !has_bytes(section, relocation.offset, 8) {
-            return Err(NotAllowed);
-        }
-        match site_at(section, base, relocations, index, next) {
-            Some(site) => Ok(Some(Item::Site(site))),
-            None => Ok(None),
-        }
+        has_bytes(section, relocation.offset, 8)
     } else if has_name(relocation, RiscVRelocation::R_RISCV_ALIGN) {
-        match nops_of(section, relocation) {
-            None => Err(NotAllowed),
-            Some(0) => Ok(None),
-            Some(nops) => Ok(Some(Item::Aligned(alignment_of(nops, base + relocation.offset)))),
-        }
+        nops_of(section, relocation).is_some()
     } else {
-        Ok(None)
+        true
+    }
+}
+
+/// The index of the first relocation that isn't what the psABI allows: one that lies behind the
+/// section's end, that is a call's and less than eight bytes are there, or that is an
+/// `R_RISCV_ALIGN` whose addend isn't a multiple of 2 from 0 up, below 2^32, of bytes in the section.
+#[must_use]
+pub fn first_malformed<R: AsRelocation>(section: &[u8], relocations: &[R]) -> Option<usize> {
+    for index in 0..relocations.len() {
+        if !is_formed(section, &relocation_at(relocations, index)) {
+            return Some(index);
+        }
+    }
+    None
+}
+
+/// The item that the relocation at an index makes, if it makes one.
+#[inline]
+fn item_at<R: AsRelocation>(
+    section: &[u8],
+    base: u64,
+    relocations: &[R],
+    index: usize,
+    next: usize,
+) -> Option<Item> {
+    let relocation = relocation_at(relocations, index);
+    if is_of_call(&relocation) {
+        return match site_at(section, base, relocations, index, next) {
+            Some(site) => Some(Item::Site(site)),
+            None => None,
+        };
+    }
+    if !aligns(&relocation) {
+        return None;
+    }
+    match nops_of(section, &relocation) {
+        Some(nops) => Some(Item::Aligned(alignment_of(nops, base + relocation.offset))),
+        None => None,
     }
 }
 
@@ -194,33 +219,67 @@ fn item_at(
 /// alignment before it free only multiples of what has to divide its address: then no call there has
 /// `TAIL_C`, and none is a site if that is more than 4.
 ///
-/// `Malformed` names the first relocation that lies behind the section's end, that is a call's and
-/// less than eight bytes are there, or that is an `R_RISCV_ALIGN` whose addend isn't a multiple of 2
-/// from 0 up, below 2^32, of bytes in the section. The vector grows as items are added. `are_items`
-/// tells whether the run can be relaxed.
+/// `Malformed` names the relocation that `first_malformed` returns. The vector grows as items are
+/// added. `are_items` tells whether the run can be relaxed.
 ///
 /// # Requires
 ///
 /// - `(base as u128) + (section.len() as u128) < 1 << 64`
 #[cfg_attr(debug_assertions, track_caller)]
-pub fn items(
+pub fn items<R: AsRelocation>(
     section: &[u8],
     base: u64,
-    relocations: &[Relocation],
+    relocations: &[R],
 ) -> Result<Vec<Item>, ItemsError> {
     debug_assert!((base as u128) + (section.len() as u128) < 1 << 64);
+    if let Some(index) = first_malformed(section, relocations) {
+        return Err(ItemsError::Malformed(index));
+    }
     let mut items = Vec::new();
     let mut next = 0;
     for index in 0..relocations.len() {
         if next <= index {
             next = next_alignment(relocations, index);
         }
-        let Ok(made) = item_at(section, base, relocations, index, next) else {
-            return Err(ItemsError::Malformed(index));
-        };
-        if let Some(item) = made {
+        if let Some(item) = item_at(section, base, relocations, index, next) {
             items.fallible_push(item)?;
         }
     }
     Ok(items)
+}
+
+/// `items` into memory of the caller's, which has an element for each relocation, since each makes
+/// one item at most. It returns how many there are; the elements from there on are unchanged.
+///
+/// The error is the index that `first_malformed` returns, and nothing is written then. It doesn't
+/// allocate.
+///
+/// # Requires
+///
+/// - base: `(base as u128) + (section.len() as u128) < 1 << 64`
+/// - one_each: `out.len() == relocations.len()`
+#[cfg_attr(debug_assertions, track_caller)]
+pub fn items_into<R: AsRelocation, I: AsItem>(
+    section: &[u8],
+    base: u64,
+    relocations: &[R],
+    out: &mut [I],
+) -> Result<usize, usize> {
+    debug_assert!((base as u128) + (section.len() as u128) < 1 << 64);
+    debug_assert!(out.len() == relocations.len());
+    if let Some(index) = first_malformed(section, relocations) {
+        return Err(index);
+    }
+    let mut count = 0;
+    let mut next = 0;
+    for index in 0..relocations.len() {
+        if next <= index {
+            next = next_alignment(relocations, index);
+        }
+        if let Some(item) = item_at(section, base, relocations, index, next) {
+            out[count] = I::from_item(item);
+            count += 1;
+        }
+    }
+    Ok(count)
 }

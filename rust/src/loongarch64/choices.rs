@@ -12,41 +12,15 @@ use crate::linker_elf::elf::choice_table::{
 use crate::linker_elf::elf::{Choice, LinkFacts, Operands};
 use crate::linker_elf::loongarch64::{LoongArch64Relocation, LoongArch64Relocation as Names};
 
-/// `ld.d ra, a0, 0` and `jirl ra, ra, 0`.
-const LOAD_OF_DESCRIPTOR: u32 = 0x28c0_0081;
-
-const CALL_OF_DESCRIPTOR: u32 = 0x4c00_0021;
-
-/// Whether `pcalau12i rd`, at an offset, and `ld.d rd, rd` stand next to each other.
+/// Whether `pcalau12i rd`, at an offset, and an instruction of an opcode from rd into rd stand next to
+/// each other.
 #[inline]
-fn is_load(section: &[u8], offset: u64) -> bool {
+fn is_pair(section: &[u8], offset: u64, opcode: u32) -> bool {
     if !has_window(section, offset, 0, 8) {
         return false;
     }
-    let ld = word_at(section, offset + 4);
-    is_ld(ld) && are_of_one_register(word_at(section, offset), ld)
-}
-
-/// Whether `pcalau12i rd`, at an offset, and `addi.d rd, rd` stand next to each other.
-#[inline]
-fn is_sum(section: &[u8], offset: u64) -> bool {
-    if !has_window(section, offset, 0, 8) {
-        return false;
-    }
-    let addi = word_at(section, offset + 4);
-    is_addi(addi) && are_of_one_register(word_at(section, offset), addi)
-}
-
-/// `pcalau12i a0` of a TLS descriptor.
-#[inline(always)]
-fn is_page_of_descriptor(word: u32) -> bool {
-    is_pcalau12i(word) && destination(word) == 4
-}
-
-/// `addi.d a0, a0` of a TLS descriptor.
-#[inline(always)]
-fn is_low_of_descriptor(word: u32) -> bool {
-    is_addi(word) && destination(word) == 4 && source(word) == 4
+    let second = word_at(section, offset + 4);
+    second >> 22 == opcode && are_of_one_register(word_at(section, offset), second)
 }
 
 /// The instructions that an entry is for, of which the first is so many bytes before the offset.
@@ -90,15 +64,21 @@ impl ChosenKind for RelaxationKind {
     fn stand_at(self, originals: &AskedFor, section: &[u8], offset: u64) -> bool {
         match *originals {
             AskedFor::OfRewrite => self.matches(section, offset),
-            AskedFor::Load(back) => back <= offset && is_load(section, offset - back),
-            AskedFor::Sum(back) => back <= offset && is_sum(section, offset - back),
+            AskedFor::Load(back) => back <= offset && is_pair(section, offset - back, 0x0a3),
+            AskedFor::Sum(back) => back <= offset && is_pair(section, offset - back, 0x00b),
             _ if !has_window(section, offset, 0, 4) => false,
             AskedFor::Pcalau12i => is_pcalau12i(word_at(section, offset)),
             AskedFor::Ld => is_ld(word_at(section, offset)),
-            AskedFor::PageOfDescriptor => is_page_of_descriptor(word_at(section, offset)),
-            AskedFor::LowOfDescriptor => is_low_of_descriptor(word_at(section, offset)),
-            AskedFor::LoadOfDescriptor => word_at(section, offset) == LOAD_OF_DESCRIPTOR,
-            AskedFor::CallOfDescriptor => word_at(section, offset) == CALL_OF_DESCRIPTOR,
+            AskedFor::PageOfDescriptor => {
+                let word = word_at(section, offset);
+                is_pcalau12i(word) && destination(word) == 4
+            }
+            AskedFor::LowOfDescriptor => {
+                let word = word_at(section, offset);
+                is_addi(word) && destination(word) == 4 && source(word) == 4
+            }
+            AskedFor::LoadOfDescriptor => word_at(section, offset) == 0x28c0_0081,
+            AskedFor::CallOfDescriptor => word_at(section, offset) == 0x4c00_0021,
             AskedFor::Lu12i => word_at(section, offset) >> 25 == 0x0a,
             AskedFor::AddTp => word_at(section, offset) >> 10 == 0x422,
         }
@@ -314,13 +294,9 @@ pub fn choose(
 /// use linker_utils::elf::LinkFacts;
 /// use linker_utils::loongarch64::{LoongArch64Relocation, fits};
 ///
-/// // pcalau12i a0, 0 and ld.d a0, a0, 0, which load the address of a symbol of the output
-/// let mut section = [0x04, 0, 0, 0x1a, 0x84, 0, 0xc0, 0x28];
+/// // pcalau12i a0, 0 and ld.d a1, a0, 0, which leaves the address of the GOT entry in a0
+/// let section = [0x04, 0, 0, 0x1a, 0x85, 0, 0xc0, 0x28];
 /// let facts = LinkFacts { is_local: true, has_fixed_distance: true, ..LinkFacts::default() };
-/// assert!(fits(LoongArch64Relocation::R_LARCH_GOT_PC_HI20, &section, 0, &facts));
-/// assert!(fits(LoongArch64Relocation::R_LARCH_GOT_PC_LO12, &section, 4, &facts));
-/// // ld.d a1, a0, 0 leaves the address of the entry in a0
-/// section[4] = 0x85;
 /// assert!(!fits(LoongArch64Relocation::R_LARCH_GOT_PC_HI20, &section, 0, &facts));
 /// ```
 #[must_use]

@@ -242,15 +242,9 @@ pub fn choose(
 /// use linker_utils::elf::LinkFacts;
 /// use linker_utils::ppc64::{Ppc64Relocation, fits};
 ///
-/// // addis 9,2,x@got@tprel@ha; ld 9,x@got@tprel@l(9); lwaux 3,9,13, which has no form by an offset
+/// // lwaux 3,9,13 with x@tls, which has no form by an offset
 /// let facts = LinkFacts { is_local: true, is_executable: true, ..LinkFacts::default() };
-/// let sequence = [
-///     (Ppc64Relocation::R_PPC64_GOT_TPREL16_HA, 0x3d22_0000u32),
-///     (Ppc64Relocation::R_PPC64_GOT_TPREL16_LO_DS, 0xe929_0000),
-///     (Ppc64Relocation::R_PPC64_TLS, 0x7c69_6aea),
-/// ];
-/// let fit = sequence.map(|(name, word)| fits(name, &word.to_le_bytes(), 0, &facts));
-/// assert_eq!(fit, [true, true, false]);
+/// assert!(!fits(Ppc64Relocation::R_PPC64_TLS, &0x7c69_6aeau32.to_le_bytes(), 0, &facts));
 /// ```
 #[must_use]
 #[doc = include_str!("../../doc/choices/fits.md")]

@@ -208,26 +208,16 @@ impl ChosenByTable for RelaxationKind {
 ///
 /// // auipc ra, 0; jalr ra, 0(ra), which calls a function 0x1000 bytes on
 /// let call = [0x97, 0x00, 0x00, 0x00, 0xe7, 0x80, 0x00, 0x00];
-/// let target = 0x2000;
-/// let mut facts = LinkFacts {
+/// let facts = LinkFacts {
 ///     has_fixed_distance: true,
 ///     is_relaxable: true,
 ///     has_addresses: true,
-///     operands: Operands {
-///         symbol: target,
-///         plt_entry: target,
-///         place: 0x1000,
-///         ..Operands::default()
-///     },
+///     operands: Operands { plt_entry: 0x2000, symbol: 0x2000, place: 0x1000, ..Operands::default() },
 ///     ..LinkFacts::default()
 /// };
 /// let chosen = choose(RiscVRelocation::R_RISCV_CALL_PLT, &call, 0, &facts);
 /// assert_eq!(chosen.kind, RelaxationKind::CallToJal);
 /// assert_eq!(chosen.relocation, RiscVRelocation::R_RISCV_JAL);
-///
-/// facts.operands.plt_entry = 0x3000;
-/// let chosen = choose(RiscVRelocation::R_RISCV_CALL_PLT, &call, 0, &facts);
-/// assert_eq!(chosen.kind, RelaxationKind::NoOp);
 /// ```
 #[must_use]
 #[inline]
@@ -249,19 +239,9 @@ pub fn choose(
 /// use linker_utils::elf::LinkFacts;
 /// use linker_utils::riscv64::{RiscVRelocation, fits};
 ///
-/// // auipc a0, 0 and ld a0, 0(a0), which load the address of a symbol of the output, both marked
-/// let section = [0x17, 0x05, 0, 0, 0x03, 0x35, 0x05, 0];
-/// let facts = LinkFacts {
-///     is_local: true,
-///     has_fixed_distance: true,
-///     is_label_relaxable: true,
-///     ..LinkFacts::default()
-/// };
-/// assert!(fits(RiscVRelocation::R_RISCV_GOT_HI20, &section, 0, &facts));
-/// let facts = LinkFacts { has_got_high_part: true, ..facts };
-/// assert!(fits(RiscVRelocation::R_RISCV_PCREL_LO12_I, &section, 4, &facts));
-/// // an auipc isn't what a low part is rewritten at
-/// assert!(!fits(RiscVRelocation::R_RISCV_PCREL_LO12_I, &section, 0, &facts));
+/// // a low part is rewritten at `ld a0, 0(a0)`, and isn't at an auipc, whatever the linker knows
+/// let auipc = [0x17, 0x05, 0, 0];
+/// assert!(!fits(RiscVRelocation::R_RISCV_PCREL_LO12_I, &auipc, 0, &LinkFacts::default()));
 /// ```
 #[must_use]
 #[doc = include_str!("../../doc/choices/fits.md")]

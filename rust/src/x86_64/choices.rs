@@ -44,67 +44,25 @@ impl ChosenKind for RelaxationKind {
 
     #[inline(always)]
     fn operands_after(self, offset: u64, operands: &Operands) -> Operands {
-        let place = operands.place;
-        match self {
-            RelaxationKind::NoOp
-            | RelaxationKind::MovIndirectToLea
-            | RelaxationKind::CallIndirectToRelative
-            | RelaxationKind::TlsDescToInitialExec
-            | RelaxationKind::SkipTlsDescCall => *operands,
-            RelaxationKind::JmpIndirectToRelative => {
-                let before = offset.saturating_sub(1);
-                Operands {
-                    place: place.wrapping_add(before).wrapping_sub(offset),
-                    ..*operands
-                }
-            }
-            RelaxationKind::TlsGdToLocalExec => {
-                Operands {
-                    place: place.wrapping_add(8),
-                    addend: 0,
-                    ..*operands
-                }
-            }
-            RelaxationKind::TlsGdToLocalExecLarge => {
-                Operands {
-                    place: place.wrapping_add(9),
-                    addend: 0,
-                    ..*operands
-                }
-            }
-            RelaxationKind::TlsGdToInitialExec => {
-                Operands {
-                    place: place.wrapping_add(8),
-                    ..*operands
-                }
-            }
-            RelaxationKind::TlsLdToLocalExec | RelaxationKind::TlsLdToLocalExecNoPlt => {
-                Operands {
-                    place: place.wrapping_add(5),
-                    ..*operands
-                }
-            }
-            RelaxationKind::TlsLdToLocalExec64 => {
-                Operands {
-                    place: place.wrapping_add(15),
-                    ..*operands
-                }
-            }
-            RelaxationKind::MovIndirectToAbsolute
-            | RelaxationKind::RexMovIndirectToAbsolute(_)
-            | RelaxationKind::RexAddIndirectToAbsolute(_)
-            | RelaxationKind::RexSubIndirectToAbsolute(_)
-            | RelaxationKind::RexCmpIndirectToAbsolute(_)
-            | RelaxationKind::TlsDescToLocalExec(_)
-            | RelaxationKind::RexAdcIndirectToAbsolute(_)
-            | RelaxationKind::RexAndIndirectToAbsolute(_)
-            | RelaxationKind::RexOrIndirectToAbsolute(_)
-            | RelaxationKind::RexSbbIndirectToAbsolute(_)
-            | RelaxationKind::RexXorIndirectToAbsolute(_)
-            | RelaxationKind::RexTestIndirectToAbsolute(_) => Operands {
-                addend: 0,
-                ..*operands
-            },
+        let (at, addend) = match self {
+            Self::NoOp
+            | Self::MovIndirectToLea
+            | Self::CallIndirectToRelative
+            | Self::TlsDescToInitialExec
+            | Self::SkipTlsDescCall => (offset, operands.addend),
+            Self::JmpIndirectToRelative => (offset.saturating_sub(1), operands.addend),
+            Self::TlsGdToLocalExec => (offset.wrapping_add(8), 0),
+            Self::TlsGdToLocalExecLarge => (offset.wrapping_add(9), 0),
+            Self::TlsGdToInitialExec => (offset.wrapping_add(8), operands.addend),
+            Self::TlsLdToLocalExec => (offset.wrapping_add(5), operands.addend),
+            Self::TlsLdToLocalExecNoPlt => (offset.wrapping_add(5), operands.addend),
+            Self::TlsLdToLocalExec64 => (offset.wrapping_add(15), operands.addend),
+            _ => (offset, 0),
+        };
+        Operands {
+            place: operands.place.wrapping_add(at).wrapping_sub(offset),
+            addend,
+            ..*operands
         }
     }
 }
@@ -307,22 +265,35 @@ macro_rules! by_opcode {
     };
 }
 
+/// The tables of each relocation whose table is one of an opcode.
+macro_rules! opcode_choices {
+    ($make:ident $arguments:tt) => {
+        $make! {
+            $arguments
+            R_X86_64_GOTPCRELX: [GOT_2]
+            R_X86_64_REX_GOTPCRELX: [GOT_3]
+            R_X86_64_CODE_4_GOTPCRELX: [GOT_4]
+            R_X86_64_CODE_5_GOTPCRELX: [GOT_5]
+            R_X86_64_CODE_6_GOTPCRELX: [GOT_6]
+            R_X86_64_GOTTPOFF: [access GOTTPOFF_3]
+            R_X86_64_CODE_4_GOTTPOFF: [access GOTTPOFF_4]
+            R_X86_64_CODE_5_GOTTPOFF: [access GOTTPOFF_5]
+            R_X86_64_CODE_6_GOTTPOFF: [access GOTTPOFF_6]
+        }
+    };
+}
+
 /// What the table of a name and an opcode is used for.
-macro_rules! by_tables {
-    ($name:expr, $opcode:expr, $table:ident => $use:expr) => {
+macro_rules! by_name {
+    (
+        ($name:expr, $opcode:expr, $table:ident => $use:expr)
+        $($listed:ident: [$($tables:ident)+])*
+    ) => {
         choices!(by_table(
             TABLES, $name, $table => $use;
             Names::R_X86_64_GOTPCREL if $opcode == 0x8b => { let $table = LOAD; $use }
             Names::R_X86_64_GOTPCRELX if $opcode == 0xff => { let $table = BRANCH; $use }
-            Names::R_X86_64_GOTPCRELX => by_opcode!(GOT_2, $opcode, $table => $use),
-            Names::R_X86_64_REX_GOTPCRELX => by_opcode!(GOT_3, $opcode, $table => $use),
-            Names::R_X86_64_CODE_4_GOTPCRELX => by_opcode!(GOT_4, $opcode, $table => $use),
-            Names::R_X86_64_CODE_5_GOTPCRELX => by_opcode!(GOT_5, $opcode, $table => $use),
-            Names::R_X86_64_CODE_6_GOTPCRELX => by_opcode!(GOT_6, $opcode, $table => $use),
-            Names::R_X86_64_GOTTPOFF => by_opcode!(access GOTTPOFF_3, $opcode, $table => $use),
-            Names::R_X86_64_CODE_4_GOTTPOFF => by_opcode!(access GOTTPOFF_4, $opcode, $table => $use),
-            Names::R_X86_64_CODE_5_GOTTPOFF => by_opcode!(access GOTTPOFF_5, $opcode, $table => $use),
-            Names::R_X86_64_CODE_6_GOTTPOFF => by_opcode!(access GOTTPOFF_6, $opcode, $table => $use),
+            $(Names::$listed => by_opcode!($($tables)+, $opcode, $table => $use),)*
         ))
     };
 }
@@ -330,7 +301,7 @@ macro_rules! by_tables {
 /// The entries of a relocation, by the opcode, which is two bytes before the field.
 #[inline(always)]
 fn entries_by(name: Names, opcode: u8) -> Table<RelaxationKind> {
-    by_tables!(name, opcode, table => table)
+    opcode_choices!(by_name(name, opcode, table => table))
 }
 
 /// The choice by a table of a name and an opcode.
@@ -359,19 +330,8 @@ impl ChosenByTable for RelaxationKind {
     #[inline(always)]
     fn may_be_listed(name: Names) -> bool {
         choices!(is_listed(name))
-            || matches!(
-                name,
-                Names::R_X86_64_GOTPCREL
-                    | Names::R_X86_64_GOTPCRELX
-                    | Names::R_X86_64_REX_GOTPCRELX
-                    | Names::R_X86_64_CODE_4_GOTPCRELX
-                    | Names::R_X86_64_CODE_5_GOTPCRELX
-                    | Names::R_X86_64_CODE_6_GOTPCRELX
-                    | Names::R_X86_64_GOTTPOFF
-                    | Names::R_X86_64_CODE_4_GOTTPOFF
-                    | Names::R_X86_64_CODE_5_GOTTPOFF
-                    | Names::R_X86_64_CODE_6_GOTTPOFF
-            )
+            || opcode_choices!(is_listed(name))
+            || matches!(name, Names::R_X86_64_GOTPCREL)
     }
 
     #[inline(always)]
@@ -387,8 +347,9 @@ impl ChosenByTable for RelaxationKind {
         facts: &LinkFacts,
     ) -> Choice<Self, Names> {
         let opcode = opcode_before(section, offset);
-        by_tables!(name, opcode, table
-            => choice_by_opcode(table, name, opcode, section, offset, facts))
+        opcode_choices!(by_name(
+            name, opcode, table => choice_by_opcode(table, name, opcode, section, offset, facts)
+        ))
     }
 }
 
@@ -443,17 +404,12 @@ pub fn choose(
 /// `group_fits` changes it.
 ///
 /// ```
-/// use linker_utils::elf::{LinkFacts, Operands};
+/// use linker_utils::elf::LinkFacts;
 /// use linker_utils::x86_64::{X86_64Relocation, fits};
 ///
-/// // lea x@tlsdesc(%rip), %rax; call *x@tlscall(%rax), in an executable that defines x
-/// let section = [0x48, 0x8d, 0x05, 0, 0, 0, 0, 0xff, 0x10];
-/// let operands = Operands { addend: -4, ..Operands::default() };
-/// let facts =
-///     LinkFacts { is_local: true, is_executable: true, operands, ..LinkFacts::default() };
-/// assert!(fits(X86_64Relocation::R_X86_64_GOTPC32_TLSDESC, &section, 3, &facts));
-/// assert!(fits(X86_64Relocation::R_X86_64_TLSDESC_CALL, &section, 7, &facts));
-/// // a call through another register
+/// // call *x@tlscall(%rax) in an executable, and a call through another register
+/// let facts = LinkFacts { is_executable: true, ..LinkFacts::default() };
+/// assert!(fits(X86_64Relocation::R_X86_64_TLSDESC_CALL, &[0xff, 0x10], 0, &facts));
 /// assert!(!fits(X86_64Relocation::R_X86_64_TLSDESC_CALL, &[0xff, 0x11], 0, &facts));
 /// ```
 #[must_use]

@@ -18,7 +18,7 @@ ghost use Rattle.linker_reading.specs.Recognised.{ArePlaced, AreDistinct};
 use crate::fields::FieldValue;
 use crate::reading::read;
 use crate::recognise::fields::{FieldBits, are_same_but};
-use linker_elf::elf::choice_table::{ChoiceEntry, RelocationName};
+use linker_elf::elf::choice_table::{ChoiceEntry, ChosenByTable, ChosenKind, RelocationName};
 use linker_elf::elf::{InstructionRewrite, Row};
 use linker_utils::architecture::Relaxation;
 use linker_utils::elf::{Choice, LinkFacts};
@@ -121,9 +121,9 @@ fn value_at(row: &Option<Row>, at: u64, linked: &[u8]) -> Option<FieldValue>
 }
 
 /// A relocation's name, with the table of its choices.
-pub trait RecognisedName: RelocationName + PartialEq {
+pub trait RecognisedName: RelocationName + PartialEq + 'static {
     /// The rewrites.
-    type Kind: Copy + PartialEq;
+    type Kind: ChosenByTable<Relocation = Self, Originals: 'static> + PartialEq + 'static;
 
     // the tables and relocations
     ghost how: { Recogniser Self.Kind Self };
@@ -137,20 +137,32 @@ pub trait RecognisedName: RelocationName + PartialEq {
         ensures { result ≡ how.relaxation kind };
 
     /// The choice by what a linker knows.
+    #[inline]
     fn choose(self, original: &[u8], offset: u64, facts: &LinkFacts) -> Choice<Self::Kind, Self>
-        ensures { IsChosen Self.how self original.now offset facts.now result };
+        ensures { IsChosen Self.how self original.now offset facts.now result }
+    {
+        Self::Kind::choose(self, original, offset, facts)
+    }
 
     /// The choices of its table. The last of them changes nothing.
+    #[inline(always)]
     fn listed(self, section: &[u8], at: u64) -> Choices<Self::Kind, Self>
         ensures choices { take result.1 result.0 ≡ choices_at Self.how self section.now at }
-        ensures few { result.1 ≤ 6 };
+        ensures few { result.1 ≤ 6 }
+    {
+        choices_of(
+            Self::Kind::entries(self, section, at),
+            Self::Kind::none(),
+            self,
+        )
+    }
 
-    ghost laws: { AreLawsOf Self.how Self.row_of Self.Kind.eq Self.eq };
+    ghost laws: { AreLawsOf Self.how Self.Kind.tables Self.row_of Self.Kind.eq Self.eq };
 }
 
 /// The choices of entries, and behind these another.
 #[inline(always)]
-pub(crate) fn choices_of<O, K: Copy, R: Copy>(
+fn choices_of<O, K: Copy, R: Copy>(
     entries: &'static [ChoiceEntry<O, K, R>],
     kind: K,
     relocation: R,

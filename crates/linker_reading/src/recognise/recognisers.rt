@@ -23,11 +23,9 @@ ghost use Rattle.linker_riscv64.specs.contracts.rewrites.RelaxationKind as riscv
 ghost use Rattle.linker_x86_64.proofs.X86Choices.{chosen_matches as x86_64_chosen};
 ghost use Rattle.linker_x86_64.specs.contracts.rewrites.RelaxationKind as x86_64_kind;
 
-use crate::recognise::engine::{Choices, RecognisedName, choices_of};
-use linker_elf::elf::choice_table::ChosenByTable;
+use crate::recognise::engine::RecognisedName;
 use linker_utils::aarch64::{self, AArch64Relocation};
 use linker_utils::architecture::Relaxation;
-use linker_utils::elf::{Choice, LinkFacts};
 use linker_utils::loongarch64::{self, LoongArch64Relocation};
 use linker_utils::ppc64::{self, Ppc64Relocation};
 use linker_utils::riscv64::{self, RiscVRelocation};
@@ -38,7 +36,8 @@ impl RecognisedName for AArch64Relocation {
 
     ghost how = { aarch64 };
 
-    ghost laws = { laws (bare_is_equality aarch64_kind.the_type tt)
+    ghost laws = { laws refl (λ name s o. refl) (λ name s o facts c is. is)
+        (bare_is_equality aarch64_kind.the_type tt)
         (enum_is_equality aarch64_name.enum _ refl (numbers 1)) aarch64_chosen };
 
     fn code(self) -> u32 {
@@ -48,16 +47,6 @@ impl RecognisedName for AArch64Relocation {
     fn relaxation(kind: Self::Kind) -> Relaxation {
         Relaxation::AArch64(kind)
     }
-
-    fn choose(self, original: &[u8], offset: u64, facts: &LinkFacts) -> Choice<Self::Kind, Self> {
-        aarch64::choose(self, original, offset, facts)
-    }
-
-    #[inline(always)]
-    fn listed(self, section: &[u8], at: u64) -> Choices<Self::Kind, Self> {
-        let entries = Self::Kind::entries(self, section, at);
-        choices_of(entries, aarch64::RelaxationKind::NoOp, self)
-    }
 }
 
 impl RecognisedName for RiscVRelocation {
@@ -65,7 +54,8 @@ impl RecognisedName for RiscVRelocation {
 
     ghost how = { riscv };
 
-    ghost laws = { laws (bare_is_equality riscv_kind.the_type tt)
+    ghost laws = { laws refl (λ name s o. refl) (λ name s o facts c is. is)
+        (bare_is_equality riscv_kind.the_type tt)
         (enum_is_equality riscv_name.enum _ refl (numbers 1)) riscv_chosen };
 
     fn code(self) -> u32 {
@@ -75,16 +65,6 @@ impl RecognisedName for RiscVRelocation {
     fn relaxation(kind: Self::Kind) -> Relaxation {
         Relaxation::RiscV(kind)
     }
-
-    fn choose(self, original: &[u8], offset: u64, facts: &LinkFacts) -> Choice<Self::Kind, Self> {
-        riscv64::choose(self, original, offset, facts)
-    }
-
-    #[inline(always)]
-    fn listed(self, section: &[u8], at: u64) -> Choices<Self::Kind, Self> {
-        let entries = Self::Kind::entries(self, section, at);
-        choices_of(entries, riscv64::RelaxationKind::NoOp, self)
-    }
 }
 
 impl RecognisedName for LoongArch64Relocation {
@@ -92,7 +72,8 @@ impl RecognisedName for LoongArch64Relocation {
 
     ghost how = { loongarch };
 
-    ghost laws = { laws (bare_is_equality loongarch_kind.the_type tt)
+    ghost laws = { laws refl (λ name s o. refl) (λ name s o facts c is. is)
+        (bare_is_equality loongarch_kind.the_type tt)
         (enum_is_equality loongarch_name.enum _ refl (numbers 1)) loongarch_chosen };
 
     fn code(self) -> u32 {
@@ -102,16 +83,6 @@ impl RecognisedName for LoongArch64Relocation {
     fn relaxation(kind: Self::Kind) -> Relaxation {
         Relaxation::LoongArch64(kind)
     }
-
-    fn choose(self, original: &[u8], offset: u64, facts: &LinkFacts) -> Choice<Self::Kind, Self> {
-        loongarch64::choose(self, original, offset, facts)
-    }
-
-    #[inline(always)]
-    fn listed(self, section: &[u8], at: u64) -> Choices<Self::Kind, Self> {
-        let entries = Self::Kind::entries(self, section, at);
-        choices_of(entries, loongarch64::RelaxationKind::NoOp, self)
-    }
 }
 
 impl RecognisedName for Ppc64Relocation {
@@ -119,7 +90,8 @@ impl RecognisedName for Ppc64Relocation {
 
     ghost how = { ppc64 };
 
-    ghost laws = { laws (bare_is_equality ppc64_kind.the_type tt)
+    ghost laws = { laws refl (λ name s o. refl) (λ name s o facts c is. is)
+        (bare_is_equality ppc64_kind.the_type tt)
         (enum_is_equality ppc64_name.enum _ refl (numbers 1)) ppc64_chosen };
 
     fn code(self) -> u32 {
@@ -129,16 +101,6 @@ impl RecognisedName for Ppc64Relocation {
     fn relaxation(kind: Self::Kind) -> Relaxation {
         Relaxation::Ppc64(kind)
     }
-
-    fn choose(self, original: &[u8], offset: u64, facts: &LinkFacts) -> Choice<Self::Kind, Self> {
-        ppc64::choose(self, original, offset, facts)
-    }
-
-    #[inline(always)]
-    fn listed(self, section: &[u8], at: u64) -> Choices<Self::Kind, Self> {
-        let entries = Self::Kind::entries(self, section, at);
-        choices_of(entries, ppc64::RelaxationKind::NoOp, self)
-    }
 }
 
 impl RecognisedName for X86_64Relocation {
@@ -146,7 +108,8 @@ impl RecognisedName for X86_64Relocation {
 
     ghost how = { x86_64 };
 
-    ghost laws = { laws (enum_is_equality x86_64_kind.enum _ refl (numbers 11))
+    ghost laws = { laws refl (λ name s o. refl) (λ name s o facts c is. is)
+        (enum_is_equality x86_64_kind.enum _ refl (numbers 11))
         (enum_is_equality x86_64_name.enum _ refl (numbers 1)) (λ name s o. x86_64_chosen (x86_64_table_at name s o) name s o) };
 
     fn code(self) -> u32 {
@@ -155,16 +118,6 @@ impl RecognisedName for X86_64Relocation {
 
     fn relaxation(kind: Self::Kind) -> Relaxation {
         Relaxation::X86_64(kind)
-    }
-
-    fn choose(self, original: &[u8], offset: u64, facts: &LinkFacts) -> Choice<Self::Kind, Self> {
-        x86_64::choose(self, original, offset, facts)
-    }
-
-    #[inline(always)]
-    fn listed(self, section: &[u8], at: u64) -> Choices<Self::Kind, Self> {
-        let entries = Self::Kind::entries(self, section, at);
-        choices_of(entries, x86_64::RelaxationKind::NoOp, self)
     }
 }
 

@@ -1,10 +1,11 @@
 //! The bytes of a section that stay, in order.
 
-ghost use Rattle.std.specs.Prelude.{◌≡◌, ◌+◌, ◌-◌, ◌≤◌, ◌<◌, ◌^◌, ◌++◌, length, min, take, drop};
+ghost use Rattle.std.specs.Prelude.{◌≡◌, ◌+◌, ◌-◌, ◌≤◌, ◌<◌, ◌^◌, ◌++◌, ◌↔◌, IsTrue, length, min};
+ghost use Rattle.std.specs.Prelude.{take, drop};
 ghost use Rattle.linker_base.specs.Deletions.{rank};
 ghost use Rattle.linker_base.specs.Deltas.{deletions_of};
 ghost use Rattle.linker_base.specs.Listed.{AreValidDeltas};
-ghost use Rattle.linker_runs.specs.Inner.Copying.{IsFirstRun};
+ghost use Rattle.linker_runs.specs.Inner.Copying.{AreBegun, IsFirstRun};
 ghost use Rattle.linker_runs.specs.Inner.Packing.{IsFilled};
 
 use linker_base::relaxation::RelaxDelta;
@@ -42,6 +43,50 @@ fn put(packed: &mut [u8], at: usize, bytes: &[u8]) -> usize
     end
 }
 
+/// How far from an index on deltas are looked at one by one.
+const NEAR: usize = 4;
+
+/// Whether so many of the deltas begin below an offset.
+#[inline(always)]
+fn are_begun(deltas: &[RelaxDelta], begun: usize, offset: u64) -> bool
+    ensures { IsTrue result ↔ AreBegun deltas.now offset begun }
+{
+    begun <= deltas.len()
+        && (begun == 0 || deltas[begun - 1].input_offset < offset)
+        && (begun == deltas.len() || deltas[begun].input_offset >= offset)
+}
+
+/// How many of the deltas begin below an offset. `near` is where a walk through the deltas stands,
+/// which finds a number that is little more without a search.
+#[inline(always)]
+pub(crate) fn begun_at(deltas: &[RelaxDelta], near: usize, offset: u64) -> usize
+    ensures within { result ≤ length deltas.now }
+    ensures begun { AreValidDeltas deltas.now → AreBegun deltas.now offset result }
+{
+    for begun in near..near.saturating_add(NEAR) {
+        if are_begun(deltas, begun, offset) {
+            return begun;
+        }
+    }
+    deltas.partition_point(|delta| delta.input_offset < offset)
+}
+
+/// The output offset of an input offset, for a walk that stands near an index of the deltas.
+#[inline(always)]
+pub(crate) fn to_output(deltas: &[RelaxDelta], near: usize, offset: u64) -> u64
+    ensures { AreValidDeltas deltas.now → result ≡ rank (deletions_of deltas.now) offset }
+{
+    let begun = begun_at(deltas, near, offset);
+    if begun == 0 {
+        return offset;
+    }
+    let last = &deltas[begun - 1];
+    let end = last
+        .input_offset
+        .saturating_add(u64::from(last.bytes_deleted));
+    offset.max(end).saturating_sub(last.cumulative_deleted)
+}
+
 /// The deltas that begin at the section's base or above, by the index of the first, and the offset
 /// behind what those before it delete, or the base.
 fn first_run(deltas: &[RelaxDelta], base: u64) -> (usize, u64)
@@ -49,7 +94,7 @@ fn first_run(deltas: &[RelaxDelta], base: u64) -> (usize, u64)
     ensures first { AreValidDeltas deltas.now
         → IsFirstRun (deletions_of deltas.now) base result.0 result.1 }
 {
-    let first = deltas.partition_point(|delta| delta.input_offset < base);
+    let first = begun_at(deltas, 0, base);
     if first == 0 {
         return (first, base);
     }
@@ -73,7 +118,7 @@ pub(crate) fn copy_kept(section: &[u8], base: u64, deltas: &[RelaxDelta], packed
     let (first, start) = first_run(deltas, base);
     let mut from = start;
     let mut at = 0;
-    let behind = deltas.partition_point(|delta| delta.input_offset < section_end);
+    let behind = begun_at(deltas, first, section_end);
     for index in first..behind {
         let delta = &deltas[index];
         at = put(packed, at, between(section, base, from, delta.input_offset));

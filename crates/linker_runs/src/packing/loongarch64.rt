@@ -5,7 +5,7 @@ ghost use Rattle.std.specs.Prelude.{IfOk, IfErr, OnOk, IfSome, MatchOption, IsSo
 ghost use Rattle.std.specs.Prelude.{length, take, drop};
 ghost use Rattle.std.specs.Int.{w32, to_le_bytes};
 ghost use Rattle.linker_elf.specs.LoongArchRelocations.{loongarch_raw_row};
-ghost use Rattle.linker_runs.specs.LoongArchSites.{IsPcalaAt, IsSiteAt, destination};
+ghost use Rattle.linker_runs.specs.LoongArchSites.{IsSiteAt, destination};
 ghost use Rattle.linker_runs.specs.LoongArchSites.{ArePagesNear, IsAddressOutOfReach};
 ghost use Rattle.linker_runs.specs.LoongArchSites.{LoongArchBecomes, LoongArchAccepts};
 ghost use Rattle.linker_runs.specs.LoongArchSites.{LoongArchCause};
@@ -14,13 +14,14 @@ ghost use Rattle.linker_runs.specs.Inner.LoongArch.{IsLongOf, IsLongOutOfReach};
 ghost use Rattle.linker_runs.specs.Origins.{HasLoongArchShapes};
 ghost use Rattle.linker_runs.specs.Inner.Pieces.{template_is, code_bytes};
 
+use crate::loongarch64::{is_address, is_call};
 use crate::packing::ItemError;
 use crate::packing::code::{Code, Template, operands_of, pair_at, relocated};
 use crate::relaxation::Shapes;
 use crate::shapes::loongarch64::{CALL36, PCALA};
 use linker_base::utils::u32_from_slice;
 use linker_elf::elf::{AllowedRange, RelocationKindInfo, Sign};
-use linker_loongarch64::{LoongArch64Relocation, RelaxationKind, relocation_type_from_raw};
+use linker_loongarch64::{LoongArch64Relocation, relocation_type_from_raw};
 
 /// The instructions of a site.
 #[derive(Clone, Copy)]
@@ -42,22 +43,12 @@ fn row_of(name: LoongArch64Relocation) -> RelocationKindInfo
     }
 }
 
-/// Whether `pcalau12i` and `addi.d` of one register are at an offset.
-fn is_address(section: &[u8], offset: u64) -> bool
-    ensures { IsTrue result ↔ IsPcalaAt section.now offset }
-{
-    RelaxationKind::PcalaToPcaddi.matches(section, offset)
-        && RelaxationKind::AddiToLd.matches(section, offset + 4)
-}
-
 /// The site's instructions at an offset. None where other ones are there.
 fn kind_at(section: &[u8], offset: u64) -> Option<Kind>
     ensures { MatchOption result (¬ IsSiteAt section.now offset)
         (λ kind. IsKindAt section.now offset kind) }
 {
-    if RelaxationKind::CallToBl.matches(section, offset)
-        || RelaxationKind::CallToB.matches(section, offset)
-    {
+    if is_call(section, offset) {
         Some(Kind::Call)
     } else if is_address(section, offset) {
         Some(Kind::Address)

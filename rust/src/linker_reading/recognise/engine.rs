@@ -4,7 +4,7 @@
 use crate::linker_reading::fields::FieldValue;
 use crate::linker_reading::reading::read;
 use crate::linker_reading::recognise::fields::{FieldBits, are_same_but};
-use crate::linker_elf::elf::choice_table::{ChoiceEntry, RelocationName};
+use crate::linker_elf::elf::choice_table::{ChoiceEntry, ChosenByTable, ChosenKind, RelocationName};
 use crate::linker_elf::elf::{InstructionRewrite, Row};
 use crate::architecture::Relaxation;
 use crate::elf::{Choice, LinkFacts};
@@ -93,9 +93,9 @@ fn value_at(row: &Option<Row>, at: u64, linked: &[u8]) -> Option<FieldValue> {
 }
 
 /// A relocation's name, with the table of its choices.
-pub trait RecognisedName: RelocationName + PartialEq {
+pub trait RecognisedName: RelocationName + PartialEq + 'static {
     /// The rewrites.
-    type Kind: Copy + PartialEq;
+    type Kind: ChosenByTable<Relocation = Self, Originals: 'static> + PartialEq + 'static;
 
     /// The code, `r_type` in ELF files.
     #[must_use]
@@ -107,16 +107,26 @@ pub trait RecognisedName: RelocationName + PartialEq {
 
     /// The choice by what a linker knows.
     #[must_use]
-    fn choose(self, original: &[u8], offset: u64, facts: &LinkFacts) -> Choice<Self::Kind, Self>;
+    #[inline]
+    fn choose(self, original: &[u8], offset: u64, facts: &LinkFacts) -> Choice<Self::Kind, Self> {
+        Self::Kind::choose(self, original, offset, facts)
+    }
 
     /// The choices of its table. The last of them changes nothing.
     #[must_use]
-    fn listed(self, section: &[u8], at: u64) -> Choices<Self::Kind, Self>;
+    #[inline(always)]
+    fn listed(self, section: &[u8], at: u64) -> Choices<Self::Kind, Self> {
+        choices_of(
+            Self::Kind::entries(self, section, at),
+            Self::Kind::none(),
+            self,
+        )
+    }
 }
 
 /// The choices of entries, and behind these another.
 #[inline(always)]
-pub(crate) fn choices_of<O, K: Copy, R: Copy>(
+fn choices_of<O, K: Copy, R: Copy>(
     entries: &'static [ChoiceEntry<O, K, R>],
     kind: K,
     relocation: R,

@@ -1,11 +1,9 @@
 // Made by tools/erase of crates/linker_reading/src/recognise/recognisers.rt.
 //! What is recognised of each architecture.
 
-use crate::linker_reading::recognise::engine::{Choices, RecognisedName, choices_of};
-use crate::linker_elf::elf::choice_table::ChosenByTable;
+use crate::linker_reading::recognise::engine::RecognisedName;
 use crate::aarch64::{self, AArch64Relocation};
 use crate::architecture::Relaxation;
-use crate::elf::{Choice, LinkFacts};
 use crate::loongarch64::{self, LoongArch64Relocation};
 use crate::ppc64::{self, Ppc64Relocation};
 use crate::riscv64::{self, RiscVRelocation};
@@ -21,16 +19,6 @@ impl RecognisedName for AArch64Relocation {
     fn relaxation(kind: Self::Kind) -> Relaxation {
         Relaxation::AArch64(kind)
     }
-
-    fn choose(self, original: &[u8], offset: u64, facts: &LinkFacts) -> Choice<Self::Kind, Self> {
-        aarch64::choose(self, original, offset, facts)
-    }
-
-    #[inline(always)]
-    fn listed(self, section: &[u8], at: u64) -> Choices<Self::Kind, Self> {
-        let entries = Self::Kind::entries(self, section, at);
-        choices_of(entries, aarch64::RelaxationKind::NoOp, self)
-    }
 }
 
 impl RecognisedName for RiscVRelocation {
@@ -42,16 +30,6 @@ impl RecognisedName for RiscVRelocation {
 
     fn relaxation(kind: Self::Kind) -> Relaxation {
         Relaxation::RiscV(kind)
-    }
-
-    fn choose(self, original: &[u8], offset: u64, facts: &LinkFacts) -> Choice<Self::Kind, Self> {
-        riscv64::choose(self, original, offset, facts)
-    }
-
-    #[inline(always)]
-    fn listed(self, section: &[u8], at: u64) -> Choices<Self::Kind, Self> {
-        let entries = Self::Kind::entries(self, section, at);
-        choices_of(entries, riscv64::RelaxationKind::NoOp, self)
     }
 }
 
@@ -65,16 +43,6 @@ impl RecognisedName for LoongArch64Relocation {
     fn relaxation(kind: Self::Kind) -> Relaxation {
         Relaxation::LoongArch64(kind)
     }
-
-    fn choose(self, original: &[u8], offset: u64, facts: &LinkFacts) -> Choice<Self::Kind, Self> {
-        loongarch64::choose(self, original, offset, facts)
-    }
-
-    #[inline(always)]
-    fn listed(self, section: &[u8], at: u64) -> Choices<Self::Kind, Self> {
-        let entries = Self::Kind::entries(self, section, at);
-        choices_of(entries, loongarch64::RelaxationKind::NoOp, self)
-    }
 }
 
 impl RecognisedName for Ppc64Relocation {
@@ -87,16 +55,6 @@ impl RecognisedName for Ppc64Relocation {
     fn relaxation(kind: Self::Kind) -> Relaxation {
         Relaxation::Ppc64(kind)
     }
-
-    fn choose(self, original: &[u8], offset: u64, facts: &LinkFacts) -> Choice<Self::Kind, Self> {
-        ppc64::choose(self, original, offset, facts)
-    }
-
-    #[inline(always)]
-    fn listed(self, section: &[u8], at: u64) -> Choices<Self::Kind, Self> {
-        let entries = Self::Kind::entries(self, section, at);
-        choices_of(entries, ppc64::RelaxationKind::NoOp, self)
-    }
 }
 
 impl RecognisedName for X86_64Relocation {
@@ -108,16 +66,6 @@ impl RecognisedName for X86_64Relocation {
 
     fn relaxation(kind: Self::Kind) -> Relaxation {
         Relaxation::X86_64(kind)
-    }
-
-    fn choose(self, original: &[u8], offset: u64, facts: &LinkFacts) -> Choice<Self::Kind, Self> {
-        x86_64::choose(self, original, offset, facts)
-    }
-
-    #[inline(always)]
-    fn listed(self, section: &[u8], at: u64) -> Choices<Self::Kind, Self> {
-        let entries = Self::Kind::entries(self, section, at);
-        choices_of(entries, x86_64::RelaxationKind::NoOp, self)
     }
 }
 

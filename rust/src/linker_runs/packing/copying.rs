@@ -25,10 +25,47 @@ fn put(packed: &mut [u8], at: usize, bytes: &[u8]) -> usize {
     end
 }
 
+/// How far from an index on deltas are looked at one by one.
+const NEAR: usize = 4;
+
+/// Whether so many of the deltas begin below an offset.
+#[inline(always)]
+fn are_begun(deltas: &[RelaxDelta], begun: usize, offset: u64) -> bool {
+    begun <= deltas.len()
+        && (begun == 0 || deltas[begun - 1].input_offset < offset)
+        && (begun == deltas.len() || deltas[begun].input_offset >= offset)
+}
+
+/// How many of the deltas begin below an offset. `near` is where a walk through the deltas stands,
+/// which finds a number that is little more without a search.
+#[inline(always)]
+pub(crate) fn begun_at(deltas: &[RelaxDelta], near: usize, offset: u64) -> usize {
+    for begun in near..near.saturating_add(NEAR) {
+        if are_begun(deltas, begun, offset) {
+            return begun;
+        }
+    }
+    deltas.partition_point(|delta| delta.input_offset < offset)
+}
+
+/// The output offset of an input offset, for a walk that stands near an index of the deltas.
+#[inline(always)]
+pub(crate) fn to_output(deltas: &[RelaxDelta], near: usize, offset: u64) -> u64 {
+    let begun = begun_at(deltas, near, offset);
+    if begun == 0 {
+        return offset;
+    }
+    let last = &deltas[begun - 1];
+    let end = last
+        .input_offset
+        .saturating_add(u64::from(last.bytes_deleted));
+    offset.max(end).saturating_sub(last.cumulative_deleted)
+}
+
 /// The deltas that begin at the section's base or above, by the index of the first, and the offset
 /// behind what those before it delete, or the base.
 fn first_run(deltas: &[RelaxDelta], base: u64) -> (usize, u64) {
-    let first = deltas.partition_point(|delta| delta.input_offset < base);
+    let first = begun_at(deltas, 0, base);
     if first == 0 {
         return (first, base);
     }
@@ -45,7 +82,7 @@ pub(crate) fn copy_kept(section: &[u8], base: u64, deltas: &[RelaxDelta], packed
     let (first, start) = first_run(deltas, base);
     let mut from = start;
     let mut at = 0;
-    let behind = deltas.partition_point(|delta| delta.input_offset < section_end);
+    let behind = begun_at(deltas, first, section_end);
     for index in first..behind {
         let delta = &deltas[index];
         at = put(packed, at, between(section, base, from, delta.input_offset));

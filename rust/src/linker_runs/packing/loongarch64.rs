@@ -1,13 +1,14 @@
 // Made by tools/erase of crates/linker_runs/src/packing/loongarch64.rt.
 //! LoongArch: what a call and an address become.
 
+use crate::linker_runs::loongarch64::{is_address, is_call};
 use crate::linker_runs::packing::ItemError;
 use crate::linker_runs::packing::code::{Code, Template, operands_of, pair_at, relocated};
 use crate::linker_runs::relaxation::Shapes;
 use crate::linker_runs::shapes::loongarch64::{CALL36, PCALA};
 use crate::linker_base::utils::u32_from_slice;
 use crate::linker_elf::elf::{AllowedRange, RelocationKindInfo, Sign};
-use crate::loongarch64::{LoongArch64Relocation, RelaxationKind, relocation_type_from_raw};
+use crate::loongarch64::{LoongArch64Relocation, relocation_type_from_raw};
 
 /// The instructions of a site.
 #[derive(Clone, Copy)]
@@ -26,17 +27,9 @@ fn row_of(name: LoongArch64Relocation) -> RelocationKindInfo {
     }
 }
 
-/// Whether `pcalau12i` and `addi.d` of one register are at an offset.
-fn is_address(section: &[u8], offset: u64) -> bool {
-    RelaxationKind::PcalaToPcaddi.matches(section, offset)
-        && RelaxationKind::AddiToLd.matches(section, offset + 4)
-}
-
 /// The site's instructions at an offset. None where other ones are there.
 fn kind_at(section: &[u8], offset: u64) -> Option<Kind> {
-    if RelaxationKind::CallToBl.matches(section, offset)
-        || RelaxationKind::CallToB.matches(section, offset)
-    {
+    if is_call(section, offset) {
         Some(Kind::Call)
     } else if is_address(section, offset) {
         Some(Kind::Address)

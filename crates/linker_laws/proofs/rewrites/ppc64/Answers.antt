@@ -1,6 +1,6 @@
 -- The laws of PowerPC64.
 use Rattle.linker_laws.proofs.Ppc64Addresses.{got_to_address, initial_exec, addi_near_toc}
-use Rattle.linker_laws.proofs.Ppc64Apart.{high_half_to_nop, high_half_of_entry}
+use Rattle.linker_laws.proofs.Ppc64Apart.{high_half_to_nop, high_half_of_entry, high_half_of_symbol, load_to_sum}
 use Rattle.linker_laws.proofs.Ppc64Arguments.{argument_to_high_half, argument_to_offset, argument_to_thread}
 use Rattle.linker_laws.proofs.Ppc64Arguments.{call_to_low_half, call_to_sum, call_to_block}
 use Rattle.linker_laws.proofs.Ppc64Calls.{restores_toc}
@@ -46,6 +46,8 @@ returns c =
         offset_high_half = offset_to_high_half laws.thread;
         offset_low_half = offset_to_low_half;
         entry_high_half = high_half_of_entry laws.entries;
+        symbol_high_half = high_half_of_symbol laws.got laws.toc;
+        symbol_load = load_to_sum;
         argument_high_half = argument_to_high_half laws.thread;
         argument_offset = argument_to_offset;
         argument_thread = argument_to_thread;

@@ -43,7 +43,7 @@ loop-index-preserved c = λ valid room ready filled.
     let room' = sym same ∙ room in
     let inside = (ready n (omega arith)).inside in
     let up = rank-mono ds c.args.base (offset_of (item_at items n)) inside.0 in
-    let a = c.to_output.ensures valid ∙ ap (rank ds) c.offset.ensures in
+    let a = c.to_output.ensures valid ∙ ap (rank ds) c.offset-in-Ok.ensures in
     let b = c.to_output-before.ensures valid in
     let whole = piece_whole machine s (item_at items n) c.in-Ok.piece piece in
     written_step machine s items n c.saturating_sub-at.result c.loop-index.packed c.put_piece.new.packed (piece_bytes machine c.in-Ok.piece)

@@ -1,7 +1,8 @@
-use Rattle.std.proofs.Common.{◌≡◌, ◌+◌, ◌-◌, ◌<◌, ◌%◌, ℕ, List, IsTrue, nat_eq, ⊎_elim, ap, sym, subst, arith, rules, ◌∙◌}
+use Rattle.std.proofs.Common.{◌≡◌, ◌+◌, ◌-◌, ◌<◌, ◌%◌, ℕ, List, IsTrue, nat_eq, ⊎_elim, ap, sym, subst, arith, rules, ◌∙◌, map}
 use Rattle.std.specs.Prelude.{◌⊎◌, pos}
 use Rattle.std.specs.Int.{IsNextPowerOfTwo}
 use Rattle.std.proofs.lemmas.Bool.{cases_order}
+use Rattle.std.proofs.lemmas.List.{length-map}
 use Rattle.linker_runs.proofs.Addresses.{next_unique}
 use Rattle.linker_runs.specs.declared.items.Relocation.{Relocation}
 use Rattle.linker_runs.specs.Relocations.{relocation_at}
@@ -38,20 +39,20 @@ frees_all relocations i next freed addend v is stated enough none j nops w other
     ap (λ x. freed % x) same ∙ none
 
 pub returns-then-next-relocations : goal.returns-then-next-relocations
-returns-then-next-relocations c = (
-  λ _ j nops w other within has least. (let same = same_next c.args.relocations.now c.args.index j c.args.next other c.requires in absurd (omega arith)),
+returns-then-next-relocations g c = (
+  λ _ j nops w other within has least. (let same = same_next (map g.R.AsRelocation.relocation c.args.relocations.now) c.args.index j c.args.next other c.requires in absurd (omega (arith, length-map c.args.relocations.now g.R.AsRelocation.relocation))),
   λ _. search rules,
 )
 
 pub returns-in-Some : goal.returns-in-Some
-returns-in-Some c =
+returns-in-Some g c =
     let next = c.args.next in
     let nops = c.in-Some.nops in
     let v = c.enough_at.result in
     let enough = c.enough_at.ensures.enough in
-    let stated = c.in-Some.ensures.some.0 in (
-      λ test. frees_all c.args.relocations.now c.args.index next c.args.freed nops v c.requires stated enough (divided test),
-      λ may. divides (may next nops v c.requires c.if-next-relocations.false stated enough),
+    let stated = ap (λ r. r.addend) (sym c.relocation_at.ensures) ∙ c.in-Some.ensures.some.0 in (
+      λ test. frees_all (map g.R.AsRelocation.relocation c.args.relocations.now) c.args.index next c.args.freed nops v c.requires stated enough (divided test),
+      λ may. divides (may next nops v c.requires (omega (arith, length-map c.args.relocations.now g.R.AsRelocation.relocation)) stated enough),
     )
   where
     divided : IsTrue (nat_eq (c.args.freed % c.enough_at.result) 0) → c.args.freed % c.enough_at.result ≡ 0
@@ -61,9 +62,9 @@ returns-in-Some c =
     divides none = search rules
 
 pub returns-in-None : goal.returns-in-None
-returns-in-None c =
-    let relocations = c.args.relocations.now in (
+returns-in-None g c =
+    let relocations = (map g.R.AsRelocation.relocation c.args.relocations.now) in (
       λ _ j nops w other within has least.
-          absurd (c.in-None.ensures.none nops (sym (ap (λ n. (relocation_at relocations n).addend) (same_next relocations c.args.index j c.args.next other c.requires)) ∙ has)),
+          absurd (c.in-None.ensures.none nops (ap (λ r. r.addend) c.relocation_at.ensures ∙ sym (ap (λ n. (relocation_at relocations n).addend) (same_next relocations c.args.index j c.args.next other c.requires)) ∙ has)),
       λ _. search rules,
     )

@@ -1,10 +1,10 @@
-use Rattle.std.proofs.Common.{inl, refl, sym, ◌∙◌, rules}
+use Rattle.std.proofs.Common.{inl, refl, ap, sym, ◌∙◌, rules}
 use Rattle.linker_runs.proofs.riscv64.shapes_of.Goals as goal
 
 pub returns-then-may_free : goal.returns-then-may_free
-returns-then-may_free c = inl (
+returns-then-may_free g c = inl (
   record {
-    c_extension = c.if-relocations-index.true;
+    c_extension = ap (λ r. r.may_compress) (sym c.relocation_at-may_compress.ensures) ∙ c.if-may_compress.true;
     links_none = sym c.requires.link ∙ c.if-link-eq0.true;
     frees = c.may_free.ensures.0 (search rules);
   },

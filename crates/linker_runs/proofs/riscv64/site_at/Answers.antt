@@ -1,9 +1,9 @@
-use Rattle.std.proofs.Common.{ℕ, ⊎_elim, refl, subst, arith, rules}
+use Rattle.std.proofs.Common.{ℕ, ◌+◌, ⊎_elim, refl, ap, subst, arith, rules, map}
 use Rattle.linker_elf.specs.declared.riscv64.relocations.RiscVRelocation.TheVariants as r
 use Rattle.linker_runs.specs.declared.relaxation.Item.{Item}
 use Rattle.linker_runs.specs.declared.relaxation.Item.TheVariants.{Site, Aligned}
 use Rattle.linker_runs.specs.Relocations.{relocation_at, IsMarked}
-use Rattle.linker_runs.specs.RiscVItems.{HasRiscVName, IsOfCall, RiscVMakes, MayFree}
+use Rattle.linker_runs.specs.RiscVItems.{HasRiscVName, IsOfCall, IsCallAt, RiscVMakes, MayFree}
 use Rattle.linker_runs.specs.declared.items.Relocation.{Relocation}
 use Rattle.std.specs.Prelude.{List}
 use Rattle.linker_runs.proofs.riscv64.site_at.Goals as goal
@@ -19,17 +19,17 @@ no_item section base relocations i called not_free (Aligned alignment) made =
     called
 
 pub returns-then-not-may_free-clause-none : goal.returns-then-not-may_free-clause-none
-returns-then-not-may_free-clause-none c =
-    no_item c.args.section.now c.args.base c.args.relocations.now c.args.index c.requires.called
+returns-then-not-may_free-clause-none g c =
+    no_item c.args.section.now c.args.base (map g.R.AsRelocation.relocation c.args.relocations.now) c.args.index c.requires.called
     (λ free. (let h = c.may_free.ensures.1 free in let g = c.if-not-may_free.true in cc))
 
 pub returns-clause-some : goal.returns-clause-some
-returns-clause-some c = record {
+returns-clause-some g c = record {
   name = c.requires.called;
-  marked = subst (λ code. IsMarked code c.args.relocations.now c.args.index) c.elf_code.ensures (c.is_marked.ensures.0 (search rules));
+  marked = subst (λ code. IsMarked code (map g.R.AsRelocation.relocation c.args.relocations.now) c.args.index) c.elf_code.ensures (c.is_marked.ensures.0 (search rules));
   frees = c.may_free.ensures.0 (search rules);
-  place = refl;
-  is_call = c.in_ok-link.ensures.0;
+  place = ap (λ r. c.args.base + r.offset) c.relocation_at-relocation.ensures;
+  is_call = subst (λ r. IsCallAt c.args.section.now r.offset) c.relocation_at-relocation.ensures c.in_ok-link.ensures.0;
   len = refl;
   target = search rules;
   shapes = c.shapes_of.ensures;

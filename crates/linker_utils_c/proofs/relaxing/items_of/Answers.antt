@@ -7,7 +7,7 @@ use Rattle.linker_utils_c.proofs.relaxing.items_of.Goals as goal
 
 pub loop-numbers-preserved : goal.loop-numbers-preserved
 loop-numbers-preserved c =
-    let here : c.item.result ≡ item_of (get_or c.args.items.now c.loop-numbers.numbers-index no_numbers) = c.item.ensures in
+    let here : c.as_item.result ≡ item_of (get_or c.args.items.now c.loop-numbers.numbers-index no_numbers) = c.as_item.ensures in
     record {
       room = omega arith;
       pushed = omega arith;

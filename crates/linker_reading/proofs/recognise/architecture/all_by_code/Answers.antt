@@ -1,5 +1,4 @@
 use Rattle.std.proofs.Common.{◌≡◌, ◌+◌, ◌-◌, ◌++◌, ◌<◌, None, suc, length, get_or, map, take, replicate, set, ap, sym, ◌∙◌, arith}
-use Rattle.std.specs.Option.{is_some}
 use Rattle.linker_reading.specs.FoundByCode.{by_code}
 use Rattle.linker_utils.specs.Architectures.{of_some}
 use Rattle.linker_reading.proofs.Tables.{mapped_more, same_more, none_of}

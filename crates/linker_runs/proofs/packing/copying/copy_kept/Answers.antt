@@ -1,10 +1,8 @@
-use Rattle.std.proofs.Common.{rules, ℕ, ◌≡◌, ◌+◌, ◌∙◌, ◌≤◌, get_or, map, ap, sym, arith, length}
-use Rattle.std.specs.Prelude.{nat_lt}
+use Rattle.std.proofs.Common.{ℕ, ◌≡◌, ◌+◌, ◌∙◌, ◌≤◌, get_or, map, ap, sym, arith, length}
 use Rattle.std.proofs.lemmas.List.{get_or-map, length-map}
-use Rattle.std.proofs.lemmas.List.Sorted.{IsPartitionPoint-from_clause}
 use Rattle.linker_base.specs.Deltas.{deletion_of}
 use Rattle.linker_base.specs.declared.relaxation.RelaxDelta.{RelaxDelta}
-use Rattle.linker_runs.proofs.Copied.{copied_first, copied_step, copied_end, deltas_parted, begin_above}
+use Rattle.linker_runs.proofs.Copied.{copied_first, copied_step, copied_end, begin_above}
 use Rattle.linker_runs.proofs.packing.copying.copy_kept.Goals as goal
 
 pub loop-index-init : goal.loop-index-init
@@ -37,11 +35,10 @@ pub returns : goal.returns
 returns c = λ valid room.
     let deltas = c.args.deltas.now in
     let ends = c.args.base + length c.args.section.now in
-    let behind = c.partition_point-behind.result in
-    let point = IsPartitionPoint-from_clause (λ (d : RelaxDelta). nat_lt d.input_offset ends) deltas behind c.partition_point-behind.ensures.partitioned (deltas_parted deltas ends valid) (λ a r f called. search rules) in
+    let behind = c.begun_at-behind.result in
     let same = c.loop-index.auto.packed in
     let past : behind ≤ c.loop-index.index = c.loop-index-test.false in
     copied_end (map deletion_of deltas) c.args.base c.args.section.now c.loop-index.packed c.between-2.result.now c.put-end.new.packed c.loop-index.index c.loop-index.from c.loop-index.at
     (c.loop-index.invariant.copied valid (same ∙ room)) (same ∙ room)
-    (λ j d h inside. begin_above deltas ends behind point (omega arith) j d (omega arith) inside)
+    (λ j d h inside. begin_above deltas ends behind valid (c.begun_at-behind.ensures.begun valid) j d (omega arith) inside)
     c.between-2.ensures c.put-end.ensures.bytes
