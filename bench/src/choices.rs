@@ -271,69 +271,132 @@ const UNLISTED: [(u16, u32); 3] = [(AARCH64, 257), (RISCV, 2), (X86_64, 2)];
 /// How many relocations: what is known of them fits in a cache.
 const ALONE: usize = 250;
 
-/// Chooses for each site by a relocation's name.
-fn choose_all<N: Copy, C>(
-    known: &[(u32, &Site, LinkFacts)],
-    name_of: impl Fn(u32) -> N,
-    choose: impl Fn(N, u64, &LinkFacts) -> C,
-) -> u64 {
-    let name = name_of(known[0].0);
-    for (_, site, facts) in known {
-        black_box(choose(black_box(name), site.offset, facts));
+/// What is known of a relocation: its name, its offset and the facts.
+type Known<N> = (N, u64, LinkFacts);
+
+/// Chooses for each site by a relocation's name. Names are loaded and choices stored in memory as by a
+/// linker: `black_box` of a name or a choice itself would store it by parts and load it as a whole,
+/// which the processor can't forward, and that takes longer than the choice.
+fn choose_all<N: Copy, C>(known: &[Known<N>], choose: impl Fn(N, u64, &LinkFacts) -> C) -> u64 {
+    for (name, offset, facts) in black_box(known) {
+        black_box(&choose(*name, *offset, facts));
     }
     0
 }
 
-/// A choice alone, of a relocation that a table lists and of one that none does: by its code, and in
-/// the crate by its name.
+/// A side of the crate that chooses by names.
+fn by_names<'a, N: Copy + 'a, C: 'a>(
+    sites: &[Site],
+    name_of: impl Fn(u32) -> N,
+    choose: impl Fn(N, u64, &LinkFacts) -> C + 'a,
+) -> Side<'a> {
+    let known_of = |site: &Site| (name_of(site.r_type), site.offset, facts(site));
+    let known: Vec<Known<N>> = sites.iter().map(known_of).collect();
+    Side::number(move || choose_all(&known, &choose))
+}
+
+/// A choice for each site: by its code, and in the crate by its name.
+fn choosing_for(report: &mut Report, line: &str, machine: u16, section: &[u8], sites: &[Site]) {
+    let known: Vec<(u32, u64, sathunne::raw::LinkFacts)> = sites
+        .iter()
+        .map(|site| (site.r_type, site.offset, (&site.facts()).into()))
+        .collect();
+    let exports = Side::over(
+        Choice::default(),
+        |_: &mut Choice| (),
+        move |choice: &mut Choice| {
+            for (r_type, offset, facts) in &known {
+                let (at, len) = (section.as_ptr(), section.len());
+                // SAFETY: the section is there
+                let status = unsafe {
+                    linker_utils_choose_nonnull(machine, *r_type, at, len, *offset, facts, choice)
+                };
+                assert_eq!(status, 0);
+            }
+        },
+        |_| 0,
+    );
+    let by_crate = match machine {
+        AARCH64 => by_names(sites, AArch64Relocation::from_elf, |name, offset, facts| {
+            aarch64::choose(name, section, offset, facts)
+        }),
+        RISCV => by_names(sites, RiscVRelocation::from_elf, |name, offset, facts| {
+            riscv64::choose(name, section, offset, facts)
+        }),
+        _ => by_names(sites, X86_64Relocation::from_elf, |name, offset, facts| {
+            x86_64::choose(name, section, offset, facts)
+        }),
+    };
+    report.line(line, sites.len(), false, [Some(exports), None, Some(by_crate), None]);
+}
+
+/// Appends the sections of an object for 64-bit ELF that have relocations with addends and are
+/// loaded, and adds these in their order.
+fn add_object(object: &[u8], section: &mut Vec<u8>, sites: &mut Vec<Site>) {
+    let number = |at: usize, len: usize| {
+        object[at..at + len].iter().rev().fold(0, |number, &byte| number << 8 | usize::from(byte))
+    };
+    let headers = number(0x28, 8);
+    for header in (0..number(0x3c, 2)).map(|index| headers + 64 * index) {
+        let of = headers + 64 * number(header + 0x2c, 4);
+        // SHT_RELA, of SHT_PROGBITS with SHF_ALLOC
+        if number(header + 4, 4) != 4 || number(of + 4, 4) != 1 || number(of + 8, 8) & 2 == 0 {
+            continue;
+        }
+        let (begin, bytes) = (section.len() as u64, number(of + 0x18, 8));
+        section.extend(&object[bytes..bytes + number(of + 0x20, 8)]);
+        section.resize(section.len().next_multiple_of(STRIDE), 0);
+        let relocations = number(header + 0x18, 8);
+        for at in (relocations..relocations + number(header + 0x20, 8)).step_by(24) {
+            sites.push(Site {
+                offset: begin + number(at, 8) as u64,
+                r_type: number(at + 8, 4) as u32,
+                addend: number(at + 16, 8) as i64,
+            });
+        }
+    }
+}
+
+/// The objects of an architecture in `examples/objects`, one behind another.
+fn objects(folder: &str) -> (Vec<u8>, Vec<Site>) {
+    let at = concat!(env!("CARGO_MANIFEST_DIR"), "/../../examples/objects/");
+    let (mut section, mut sites) = (Vec::new(), Vec::new());
+    let mut folders = vec![std::path::PathBuf::from(format!("{at}{folder}"))];
+    while let Some(folder) = folders.pop() {
+        let entries = std::fs::read_dir(folder).expect("a folder of objects");
+        let mut paths: Vec<_> = entries.map(|entry| entry.expect("an entry").path()).collect();
+        paths.sort();
+        for path in paths {
+            if path.is_dir() {
+                folders.push(path);
+            } else if path.extension().is_some_and(|extension| extension == "o") {
+                let object = std::fs::read(path).expect("an object");
+                add_object(&object, &mut section, &mut sites);
+            }
+        }
+    }
+    (section, sites)
+}
+
+/// A choice alone: of one relocation that a table lists, of one that none does, and of those of
+/// objects in their order.
 pub fn choosing(report: &mut Report) {
     report.heading("Choosing a rewrite, a relocation", Beside::Nothing);
     for stream in &Stream::all() {
-        let (machine, section) = (stream.machine, &stream.section[..]);
+        let (name, machine) = (stream.name, stream.machine);
         let unlisted = UNLISTED.into_iter().find(|&(of, _)| of == machine);
-        let (_, unlisted) = unlisted.expect("of each stream");
-        for (name, other) in [(String::new(), None), (" without a table".into(), Some(unlisted))] {
-            let sites = || {
-                let listed = stream.sites[0].r_type;
-                let of_one = stream.sites.iter().filter(move |site| site.r_type == listed);
-                of_one.take(ALONE).map(move |site| (other.unwrap_or(listed), site, facts(site)))
-            };
-            let known: Vec<(u32, &Site, LinkFacts)> = sites().collect();
-            let count = known.len();
-            let known_of_c: Vec<(u32, &Site, sathunne::raw::LinkFacts)> = sites()
-                .map(|(r_type, site, _)| (r_type, site, (&site.facts()).into()))
-                .collect();
-            let exports = Side::over(
-                Choice::default(),
-                |_: &mut Choice| (),
-                move |choice: &mut Choice| {
-                    for (r_type, site, facts) in &known_of_c {
-                        let (at, len) = (section.as_ptr(), section.len());
-                        // SAFETY: the section is there
-                        let status = unsafe {
-                            linker_utils_choose_nonnull(
-                                machine, *r_type, at, len, site.offset, facts, choice,
-                            )
-                        };
-                        assert_eq!(status, 0);
-                    }
-                },
-                |_| 0,
-            );
-            let by_crate = Side::number(move || match machine {
-                AARCH64 => choose_all(&known, AArch64Relocation::from_elf, |name, offset, facts| {
-                    aarch64::choose(name, section, offset, facts).relocation
-                }),
-                RISCV => choose_all(&known, RiscVRelocation::from_elf, |name, offset, facts| {
-                    riscv64::choose(name, section, offset, facts).relocation
-                }),
-                _ => choose_all(&known, X86_64Relocation::from_elf, |name, offset, facts| {
-                    x86_64::choose(name, section, offset, facts).relocation
-                }),
-            });
-            let sides = [Some(exports), None, Some(by_crate), None];
-            let line = format!("{}{name}", stream.name);
-            report.line(&line, count, false, sides);
+        let listed = stream.sites[0].r_type;
+        for (words, r_type) in [("", listed), (" without a table", unlisted.expect("of each").1)] {
+            let of_one = stream.sites.iter().filter(|site| site.r_type == listed).take(ALONE);
+            let sites: Vec<Site> = of_one.map(|site| Site { r_type, ..*site }).collect();
+            choosing_for(report, &format!("{name}{words}"), machine, &stream.section, &sites);
         }
+        let folder = match machine {
+            AARCH64 => "aarch64",
+            RISCV => "riscv64",
+            _ => "x86_64",
+        };
+        let (section, sites) = objects(folder);
+        choosing_for(report, &format!("{name}, of objects"), machine, &section, &sites);
     }
 }

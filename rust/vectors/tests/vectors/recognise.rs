@@ -191,6 +191,20 @@ fn what_linkers_made_on_powerpc64_is_recognised() {
     let found = recognise(name, &original, 0, &[], &0x3862_8100u32.to_le_bytes());
     let made = Recognised { choice: low, offset: 0, value: Some(whole(-32512)) };
     assert_eq!(found, [Some(made), None, None, None, None, None]);
+    // `addis 9, 13, 0` became `nop`, and `lwz 3, 0(9)` became `lwz 3, -28656(13)`, by GNU ld
+    let nop = Choice { kind: Ppc64Kind::AddisThreadToNop, ..nop };
+    let low =
+        Choice { kind: Ppc64Kind::BaseToThread, relocation: Ppc64Relocation::R_PPC64_TPREL16 };
+    let name = Ppc64Relocation::R_PPC64_TPREL16_HA;
+    let original = 0x3d2d_0000u32.to_le_bytes();
+    let found = recognise(name, &original, 0, &[], &0x6000_0000u32.to_le_bytes());
+    let made = Recognised { choice: nop, offset: 0, value: None };
+    assert_eq!(found, [Some(made), None, None, None, None, None]);
+    let name = Ppc64Relocation::R_PPC64_TPREL16_LO;
+    let original = 0x8069_0000u32.to_le_bytes();
+    let found = recognise(name, &original, 0, &[], &0x806d_9010u32.to_le_bytes());
+    let made = Recognised { choice: low, offset: 0, value: Some(whole(-28656)) };
+    assert_eq!(found, [Some(made), None, None, None, None, None]);
 }
 
 /// `lq`, whose lowest four bits aren't its displacement's, and `ld`, of which that are two.
