@@ -184,6 +184,15 @@ static void note_low_half(const struct relocation *r, const uint8_t *bytes, uint
         toc->words_kept[offset / 8] = 1;
 }
 
+/* PowerPC64: notes a low half of an offset that can't be over the thread pointer: then all stay. */
+static void note_offset(const struct relocation *r, const uint8_t *bytes, uint64_t len) {
+    const uint32_t near = LINKER_UTILS_PPC64_REWRITE_BASE_TO_THREAD;
+    uint64_t at = r->offset - r->section->offset;
+    if ((r->type == R_PPC64_TPREL16_LO || r->type == R_PPC64_TPREL16_LO_DS) &&
+        linker_utils_matches(machine, near, 0, bytes, len, at))
+        r->section->object->has_other_offsets = true;
+}
+
 /* A relocation as its object has it. */
 static struct relocation relocation_of(struct section *s, const Elf64_Rela *elf) {
     const struct object *o = s->object;
@@ -317,6 +326,7 @@ void read_relocations(struct section *s) {
             r->restores_toc = machine == EM_PPC64 && choices[i].rewrite ==
                               LINKER_UTILS_PPC64_REWRITE_NOP_TO_RESTORE_TOC;
         }
+        if (machine == EM_PPC64) note_offset(r, bytes, size);
         const struct row *row = row_of(r);
         if (r->symbol != *o->symbols && row->info.kind && rank(r->symbol) == 1)
             fail("%s: undefined symbol '%s'", place_of(r), r->symbol->name);

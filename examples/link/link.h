@@ -79,6 +79,7 @@ struct object {
     size_t len, sections_len, symbols_len, resolved_len;
     uint32_t flags; /* `e_flags` */
     bool has_other_low_halves; /* PowerPC64: not all can be over the TOC pointer */
+    bool has_other_offsets; /* and of local-exec, not all can be over the thread pointer */
     bool (*stays)[5]; /* by symbol and class, what of thread-local storage stays; or null */
 };
 
@@ -152,6 +153,7 @@ struct tls {
 extern uint16_t machine;
 extern uint32_t machine_flags;
 extern bool relaxes; /* whether instructions are rewritten that need not be */
+extern bool has_short_offsets; /* and PowerPC64's local-exec, which ld.lld leaves */
 extern struct object *objects; /* in the order in which they are read */
 extern struct symbol *symbols; /* all that objects mention, in their order */
 extern struct symbol *module_base; /* `_TLS_MODULE_BASE_`; null where no object requires it */

@@ -1,4 +1,4 @@
-/* usage: link [-s] [--no-relax] -o OUTPUT [--section-start=NAME=ADDRESS]... FILE...
+/* usage: link [-s] [--no-relax | --short-offsets] -o OUTPUT [--section-start=NAME=ADDRESS]... FILE...
  * A file is an object or an archive. A member of an archive is linked if it defines a symbol that
  * is asked for and that no object defines; archives search each other. The output has all symbols,
  * and section headers, but with `-s`. With `--no-relax` only instructions of thread-local storage
@@ -7,7 +7,7 @@
 
 uint16_t machine;
 uint32_t machine_flags;
-bool relaxes = true;
+bool relaxes = true, has_short_offsets = false;
 
 void *take(uint64_t count, size_t size) {
     void *memory = calloc(count ? count : 1, size);
@@ -74,6 +74,8 @@ int main(int argc, char **argv) {
             has_symbols = false;
         } else if (!strcmp(argv[i], "--no-relax")) {
             relaxes = false;
+        } else if (!strcmp(argv[i], "--short-offsets")) {
+            has_short_offsets = true;
         } else if (!strcmp(argv[i], "-o") && argv[i + 1]) {
             path = argv[++i];
         } else {
@@ -81,7 +83,8 @@ int main(int argc, char **argv) {
         }
     }
     if (!path || !objects)
-        fail("usage: link [-s] [--no-relax] -o OUTPUT [--section-start=NAME=ADDRESS]... FILE...");
+        fail("usage: link [-s] [--no-relax | --short-offsets] -o OUTPUT "
+             "[--section-start=NAME=ADDRESS]... FILE...");
     if (!is_placed) make_room(headers, 8, HEADERS);
     list_symbols();
     for (struct object *o = objects; o; o = o->next)

@@ -106,6 +106,23 @@ static void rewrite_ppc64(struct output *o, struct relocation *r) {
     rewrite(r, bytes, len, &at, &r->addend, &r->type, &facts);
 }
 
+/* PowerPC64: offsets of 16 bits from the thread pointer need no high half. */
+static void shorten_offset(struct output *o, struct relocation *r) {
+    const struct section *s = r->section;
+    if (!s || !(s->head->sh_flags & SHF_EXECINSTR) ||
+        (r->type != R_PPC64_TPREL16_HA && r->type != R_PPC64_TPREL16_LO &&
+         r->type != R_PPC64_TPREL16_LO_DS))
+        return;
+    bool fits = !s->object->has_other_offsets;
+    uint64_t at = r->offset - s->offset;
+    struct linker_utils_link_facts facts = {
+        .is_local = r->symbol->elf.st_shndx != SHN_UNDEF, .is_executable = 1, .has_addresses = 1,
+        .group_fits = fits, .toc_base_is_exclusive = fits, .operands.addend = r->addend,
+        .operands.symbol = address_of(r->symbol->output, r->symbol->offset),
+        .operands.tls_base = tls.thread};
+    rewrite(r, o->bytes + s->offset, s->head->sh_size, &at, &r->addend, &r->type, &facts);
+}
+
 /* The high part that a low one of RISC-V means by its label. */
 struct relocation *high_part(const struct output *o, const struct relocation *low) {
     struct relocation *first = o->relocations, *end = first + o->relocations_len;
@@ -247,6 +264,7 @@ void relocate(struct output *o) {
     for (struct relocation *r = o->relocations; r < end; r++) {
         if (relaxes && machine == EM_AARCH64 && r + 1 < end) rewrite_aarch64(o, r, r + 1);
         if (relaxes && machine == EM_PPC64) rewrite_ppc64(o, r);
+        if (has_short_offsets && machine == EM_PPC64) shorten_offset(o, r);
         const struct row *row = row_of(r);
         if (row->info.kind == LINKER_UTILS_KIND_NONE || is_left_out(r) ||
             row->info.kind == LINKER_UTILS_KIND_ALIGNMENT ||
