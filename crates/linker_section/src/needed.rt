@@ -1,7 +1,6 @@
 //! What a relocation requires of a linker before addresses are known.
 
 ghost use Rattle.std.specs.Prelude.{◌≡◌, ◌&&◌, Option};
-ghost use Rattle.linker_elf.specs.Entries.{is_branch};
 ghost use Rattle.linker_elf.specs.declared.elf.RelocationKindInfo.{RelocationKindInfo};
 ghost use Rattle.linker_section.specs.Needed.{class_of_kind, class_of, addend_of_entry};
 ghost use Rattle.linker_section.specs.Needed.{is_address, takes_page, may_use_stub, is_word};
@@ -9,8 +8,8 @@ ghost use Rattle.linker_section.specs.Needed.{loads_plt_word, entry_of, needs_of
 ghost use Rattle.linker_utils.specs.Architectures.{IsRow};
 
 use linker_utils::elf::{
-    AArch64Instruction, Architecture, LoongArch64Instruction, Ppc64Instruction,
-    RelocationInstruction, RelocationKind, RelocationKindInfo, RelocationSize, RiscVInstruction,
+    Architecture, RelocationInstruction, RelocationKind, RelocationKindInfo, RelocationSize,
+    RiscVInstruction,
 };
 
 /// What an entry of the GOT holds.
@@ -144,47 +143,12 @@ fn addend_of_entry(size: RelocationSize, class: EntryClass, addend: i64) -> i64
     }
 }
 
-/// Whether the value goes into a branch.
-#[inline(always)]
-pub(crate) fn is_branch(size: RelocationSize) -> bool
-    ensures { result ≡ is_branch size }
-{
-    let RelocationSize::BitMasking { range, insn } = size else {
-        return false;
-    };
-    match insn {
-        RelocationInstruction::AArch64(
-            AArch64Instruction::TstBr | AArch64Instruction::Bcond | AArch64Instruction::JumpCall,
-        ) => true,
-        RelocationInstruction::RiscV(
-            RiscVInstruction::BType
-            | RiscVInstruction::JType
-            | RiscVInstruction::CbType
-            | RiscVInstruction::CjType
-            | RiscVInstruction::UiType,
-        ) => true,
-        RelocationInstruction::Ppc64(Ppc64Instruction::Branch14 | Ppc64Instruction::Branch24) => {
-            true
-        }
-        RelocationInstruction::LoongArch64(LoongArch64Instruction::Shift10) => {
-            range.end.saturating_sub(range.start) > 12
-        }
-        RelocationInstruction::LoongArch64(
-            LoongArch64Instruction::Branch21
-            | LoongArch64Instruction::Branch26
-            | LoongArch64Instruction::Call30
-            | LoongArch64Instruction::Call36,
-        ) => true,
-        _ => false,
-    }
-}
-
 /// Whether a stub may serve as the target.
 #[inline(always)]
 pub(crate) fn may_use_stub(size: RelocationSize, kind: RelocationKind) -> bool
     ensures { result ≡ may_use_stub size kind }
 {
-    is_branch(size)
+    size.is_branch()
         || (matches!(
             kind,
             RelocationKind::PltRelGotBase | RelocationKind::PltRelative
@@ -264,7 +228,7 @@ fn needs_of(info: &RelocationKindInfo, addend: i64, is_thread_local: bool) -> Re
 {
     Requirements {
         entry: entry_of(info, addend, is_thread_local),
-        is_branch: is_branch(info.size),
+        is_branch: info.size.is_branch(),
         may_use_stub: may_use_stub(info.size, info.kind),
         is_word: is_word(info.size, info.kind),
         depends_on_load: depends_on_load(info),

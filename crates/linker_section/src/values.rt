@@ -13,9 +13,7 @@ ghost use Rattle.linker_section.specs.Values.{offset_at, IsAscending, IsHighPart
 ghost use Rattle.linker_section.specs.Values.{low_value, IsValueBy, IsValue};
 
 use crate::facts::{Addresses, Symbol};
-use crate::needed::{
-    Entry, EntryClass, class_of_kind, entry_of, is_branch, loads_plt_word, may_use_stub,
-};
+use crate::needed::{Entry, EntryClass, class_of_kind, entry_of, loads_plt_word, may_use_stub};
 use crate::relocations::{Rela, relocation_in, relocations_len};
 use linker_utils::elf::{
     Architecture, Operands, RelocationInstruction, RelocationKind, RelocationKindInfo,
@@ -113,7 +111,7 @@ fn is_ppc64_branch(size: RelocationSize) -> bool
             insn: RelocationInstruction::Ppc64(_),
             ..
         }
-    ) && is_branch(size)
+    ) && size.is_branch()
 }
 
 /// A symbol's address, or where PowerPC64's branches go.
@@ -151,7 +149,7 @@ fn weak_address(architecture: Architecture, info: &RelocationKindInfo, place: u6
 {
     match architecture {
         Architecture::AArch64 => {
-            if is_branch(info.size) {
+            if info.size.is_branch() {
                 place.wrapping_add(4)
             } else if is_relative(info.kind) {
                 place
@@ -166,7 +164,7 @@ fn weak_address(architecture: Architecture, info: &RelocationKindInfo, place: u6
                 0
             }
         }
-        Architecture::Ppc64 => { if is_branch(info.size) { place } else { 0 } }
+        Architecture::Ppc64 => { if info.size.is_branch() { place } else { 0 } }
         Architecture::LoongArch64 | Architecture::X86_64 => 0,
     }
 }

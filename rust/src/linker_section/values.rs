@@ -2,9 +2,7 @@
 //! The value of a relocation, by what a linker knows of symbols and of the output.
 
 use crate::linker_section::facts::{Addresses, Symbol};
-use crate::linker_section::needed::{
-    Entry, EntryClass, class_of_kind, entry_of, is_branch, loads_plt_word, may_use_stub,
-};
+use crate::linker_section::needed::{Entry, EntryClass, class_of_kind, entry_of, loads_plt_word, may_use_stub};
 use crate::linker_section::relocations::{Rela, relocation_in, relocations_len};
 use crate::elf::{
     Architecture, Operands, RelocationInstruction, RelocationKind, RelocationKindInfo,
@@ -88,7 +86,7 @@ fn is_ppc64_branch(size: RelocationSize) -> bool {
             insn: RelocationInstruction::Ppc64(_),
             ..
         }
-    ) && is_branch(size)
+    ) && size.is_branch()
 }
 
 /// A symbol's address, or where PowerPC64's branches go.
@@ -118,7 +116,7 @@ fn is_offset(kind: RelocationKind) -> bool {
 fn weak_address(architecture: Architecture, info: &RelocationKindInfo, place: u64) -> u64 {
     match architecture {
         Architecture::AArch64 => {
-            if is_branch(info.size) {
+            if info.size.is_branch() {
                 place.wrapping_add(4)
             } else if is_relative(info.kind) {
                 place
@@ -133,7 +131,7 @@ fn weak_address(architecture: Architecture, info: &RelocationKindInfo, place: u6
                 0
             }
         }
-        Architecture::Ppc64 => { if is_branch(info.size) { place } else { 0 } }
+        Architecture::Ppc64 => { if info.size.is_branch() { place } else { 0 } }
         Architecture::LoongArch64 | Architecture::X86_64 => 0,
     }
 }

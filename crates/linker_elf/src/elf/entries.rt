@@ -61,14 +61,16 @@ fn is_of_high_part(size: RelocationSize) -> bool
     )
 }
 
-/// Whether the value goes into a branch.
-#[inline(always)]
-fn is_branch(size: RelocationSize) -> bool
-    ensures { result ≡ is_branch size }
-{
-    match size {
-        RelocationSize::ByteSize(_) => false,
-        RelocationSize::BitMasking { range, insn } => insn.is_branch(range),
+impl RelocationSize {
+    /// Whether the value goes into a branch, conditional or not. False for whole bytes.
+    #[inline(always)]
+    pub fn is_branch(self) -> bool
+        ensures { result ≡ is_branch self }
+    {
+        match self {
+            RelocationSize::ByteSize(_) => false,
+            RelocationSize::BitMasking { range, insn } => insn.is_branch(range),
+        }
     }
 }
 
@@ -97,6 +99,6 @@ impl RelocationKindInfo {
     pub fn may_use_plt(&self) -> bool
         ensures { IsPltAnswer self.now result }
     {
-        is_branch(self.size) || names_plt_entry(self.kind)
+        self.size.is_branch() || names_plt_entry(self.kind)
     }
 }

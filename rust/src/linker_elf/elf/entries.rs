@@ -52,12 +52,15 @@ fn is_of_high_part(size: RelocationSize) -> bool {
     )
 }
 
-/// Whether the value goes into a branch.
-#[inline(always)]
-fn is_branch(size: RelocationSize) -> bool {
-    match size {
-        RelocationSize::ByteSize(_) => false,
-        RelocationSize::BitMasking { range, insn } => insn.is_branch(range),
+impl RelocationSize {
+    /// Whether the value goes into a branch, conditional or not. False for whole bytes.
+    #[must_use]
+    #[inline(always)]
+    pub fn is_branch(self) -> bool {
+        match self {
+            RelocationSize::ByteSize(_) => false,
+            RelocationSize::BitMasking { range, insn } => insn.is_branch(range),
+        }
     }
 }
 
@@ -84,6 +87,6 @@ impl RelocationKindInfo {
     /// `R_X86_64_PC32` is none of them, since a load may have it too.
     #[must_use]
     pub fn may_use_plt(&self) -> bool {
-        is_branch(self.size) || names_plt_entry(self.kind)
+        self.size.is_branch() || names_plt_entry(self.kind)
     }
 }
