@@ -107,10 +107,7 @@ fn number_or_zero(bytes: &[u8]) -> u64
     ensures { (n : ℕ) (rest : List ℕ) → Uleb bytes.now n rest → result ≡ n }
 {
     let mut content = bytes;
-    match utils::read_uleb128(&mut content) {
-        Ok(number) => number,
-        Err(_) => 0,
-    }
+    utils::read_uleb128(&mut content).unwrap_or(0)
 }
 
 /// The number that a pair writes, whose second relocation is of a kind.

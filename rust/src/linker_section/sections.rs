@@ -90,10 +90,7 @@ fn ends_pair(kind: RelocationKind) -> bool {
 /// The number that bytes begin with; 0 if they begin with none.
 fn number_or_zero(bytes: &[u8]) -> u64 {
     let mut content = bytes;
-    match crate::readers::read_uleb128(&mut content) {
-        Ok(number) => number,
-        Err(_) => 0,
-    }
+    crate::readers::read_uleb128(&mut content).unwrap_or(0)
 }
 
 /// The number that a pair writes, whose second relocation is of a kind.
