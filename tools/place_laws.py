@@ -209,7 +209,7 @@ SEQUENCES = {
 # of a sequence's relocations those that no rewrite is chosen for
 UNCHOSEN = {"ADR_PREL_PG_HI21", "ADR_PREL_PG_HI21_NC"}
 # of one instruction, or of a window that the choice has tested: the laws, relocations, and what the
-# laws ask of the word
+# laws require of the word
 ALONE = {
     183: [
         ("WeakBranches", "CALL26 JUMP26", None),

@@ -43,7 +43,7 @@ fn own() -> [usize; 2] {
 /// arguments, then the erased crate and the original one, both called directly.
 pub type Sides<'a> = [Option<Side<'a>>; 4];
 
-/// One of those: a round, which says what it took in seconds, and what it gave where that is asked.
+/// One of those: a round, which says what it took in seconds, and what it gave where that is wanted.
 pub struct Side<'a>(Box<dyn FnMut(bool) -> (f64, u64) + 'a>);
 
 impl<'a> Side<'a> {
@@ -231,7 +231,7 @@ impl Report {
     }
 
     /// The rounds of a line: for each of `OURS` those of each process. Those of this one are given,
-    /// of its exports and of its crate, and printed where that is asked for.
+    /// of its exports and of its crate, and printed where that is wanted.
     pub fn share(&mut self, name: &str, given: [Rounds; 2]) -> [Vec<Rounds>; OURS.len()] {
         let mut shared: [Vec<Rounds>; OURS.len()] = Default::default();
         for (which, rounds) in own().into_iter().zip(given) {

@@ -121,7 +121,7 @@ static unsigned toc_of(const struct symbol *s) {
     return machine == EM_PPC64 && is_defined(s) ? s->elf.st_other >> 5 : 0;
 }
 
-/* What the entry of the GOT has that a relocation asks for. */
+/* What the entry of the GOT has that a relocation requires. */
 static enum class class_of(const struct relocation *r, uint32_t kind) {
     bool is_larch = machine == EM_LOONGARCH;
     if (kind >= LINKER_UTILS_KIND_GOT_TP_OFF && kind <= LINKER_UTILS_KIND_GOT_TP_OFF_LOONG_ARCH64)
@@ -134,7 +134,7 @@ static enum class class_of(const struct relocation *r, uint32_t kind) {
     return ADDRESS;
 }
 
-/* The entry of the GOT that a relocation asks for. */
+/* The entry of the GOT that a relocation requires. */
 static struct entry *entry_of(const struct relocation *r, uint32_t kind) {
     struct entry **at = &r->symbol->entries;
     int64_t addend = machine == EM_AARCH64 || machine == EM_PPC64 ? r->addend : 0;

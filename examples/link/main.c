@@ -1,6 +1,6 @@
 /* usage: link [-s] [--no-relax | --short-offsets] -o OUTPUT [--section-start=NAME=ADDRESS]... FILE...
  * A file is an object or an archive. A member of an archive is linked if it defines a symbol that
- * is asked for and that no object defines; archives search each other. The output has all symbols,
+ * is referred to and that no object defines; archives search each other. The output has all symbols,
  * and section headers, but with `-s`. With `--no-relax` only instructions of thread-local storage
  * are rewritten. */
 #include "link.h"

@@ -217,7 +217,7 @@ int64_t value_of(const struct output *o, const struct relocation *r) {
     if (is_word) operands.addend -= (int64_t)origin;
     if (is_nowhere && machine == EM_AARCH64 &&
         (row->info.kind == LINKER_UTILS_KIND_RELATIVE || row->may_use_plt)) {
-        /* it is where it is asked for, and behind a branch, as in ld.lld */
+        /* its address is the place, and of a branch the next instruction, as in ld.lld */
         bool is_branch = row->may_use_plt && r->type != AARCH64_PLT32;
         operands.symbol = operands.place + (is_branch ? 4 : 0);
     } else if (is_nowhere && row->may_use_plt) {

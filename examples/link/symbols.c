@@ -89,7 +89,7 @@ void list_symbols(void) {
     }
 }
 
-/* A symbol at an offset of a section, if an object asks for it; whether one does. */
+/* A symbol at an offset of a section, if an object refers to it; whether one does. */
 static bool define(const char *name, struct output *output, uint64_t offset) {
     struct symbol *s = *global(name);
     if (!s || !s->object || s->elf.st_shndx != SHN_UNDEF) return false;
@@ -138,7 +138,7 @@ static void add_word(uint32_t word) {
     memcpy(stubs->bytes + offset, &word, sizeof word);
 }
 
-/* Makes those functions of a kind that objects ask for. */
+/* Makes those functions of a kind that objects refer to. */
 static void define_saves(const struct saves *of) {
     char name[16];
     bool is_made = false;

@@ -813,7 +813,7 @@ pub fn read_uleb128(content: &mut &[u8]) -> Result<u64, Status> {
     Ok(value)
 }
 
-/// Whether a relocation asks for a GOT entry.
+/// Whether a relocation requires a GOT entry.
 pub fn asks_for_got(architecture: Architecture, r_type: u32) -> bool {
     unsafe { raw::linker_utils_asks_for_got(architecture.machine(), r_type) }
 }

@@ -1,4 +1,4 @@
-//! Which relocations ask for a GOT entry, and which a PLT entry may serve: those whose expression in
+//! Which relocations require a GOT entry, and which a PLT entry may serve: those whose expression in
 //! the psABI's table of relocations has one, and branches. And which may be skipped after a rewrite.
 
 use sathunne::*;

@@ -1,5 +1,5 @@
--- What a relocation requires of a linker before addresses are known (the sections on relocations and
--- on thread-local storage of the psABIs, as `linker_elf` names them in `Value`).
+-- What a relocation requires of a linker before addresses are known (the psABIs' sections on
+-- relocations and on thread-local storage, as `linker_elf` names them in `Value`).
 use Rattle.std.specs.Prelude.{ℤ, pos, Bool, true, false, not, ◌&&◌, ◌||◌, ◌==◌, nat_lt}
 use Rattle.std.specs.Prelude.{Option, Some, None, if◌then◌else◌}
 use Rattle.linker_elf.specs.Entries.{is_branch}

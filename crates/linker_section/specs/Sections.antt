@@ -21,7 +21,8 @@ use Rattle.linker_section.specs.declared.facts.Addresses.{Addresses}
 use Rattle.linker_section.specs.declared.facts.Symbol.{Symbol}
 use Rattle.linker_section.specs.declared.relocations.Rela.{Rela}
 use Rattle.linker_section.specs.declared.sections.RelocationError.{RelocationError}
-use Rattle.linker_section.specs.declared.sections.RelocationError.TheVariants.{Value, Write, Uleb128}
+use Rattle.linker_section.specs.declared.sections.RelocationError.TheVariants.{Value, Write}
+use Rattle.linker_section.specs.declared.sections.RelocationError.TheVariants.{Uleb128}
 use Rattle.linker_section.specs.declared.sections.SectionError.{SectionError}
 use Rattle.linker_section.specs.declared.values.ValueError.{ValueError}
 use Rattle.linker_utils.specs.Architectures.{IsRow}
@@ -56,8 +57,8 @@ as_write (Ok u) = Ok u
 as_write (Err error) = Err (Write error)
 
 -- what becomes of a relocation with a row and a value, or with none
-abbrev pub IsOutcome : Option RelocationKindInfo → ℕ → Result (Option ℤ) ValueError → List ℕ → List ℕ
-    → Result Unit RelocationError → Type 0
+abbrev pub IsOutcome : Option RelocationKindInfo → ℕ → Result (Option ℤ) ValueError → List ℕ
+    → List ℕ → Result Unit RelocationError → Type 0
 IsOutcome row offset (Err error) before after result =
     (result ≡ Err (Value error)) × (after ≡ before)
 IsOutcome row offset (Ok None) before after result = (result ≡ Ok tt) × (after ≡ before)
@@ -160,7 +161,8 @@ pub data AreRelocated (architecture : Architecture) (addresses : Addresses) (byt
   none : AreRelocated architecture addresses bytes symbols before 0 before
   one : {n : ℕ} {middle after : List ℕ}
       → AreRelocated architecture addresses bytes symbols before n middle
-      → IsRelocated architecture addresses bytes symbols (relocation_in bytes n) middle after (Ok tt)
+      → IsRelocated architecture addresses bytes symbols (relocation_in bytes n) middle after
+      (Ok tt)
       → AreRelocated architecture addresses bytes symbols before (n + 1) after
   pair : {n : ℕ} {middle after : List ℕ}
       → AreRelocated architecture addresses bytes symbols before n middle

@@ -40,7 +40,7 @@ entry_in addresses symbol ModuleOffset = symbol.module_entry
 entry_in addresses symbol Module = addresses.module_entry
 entry_in addresses symbol Descriptor = symbol.descriptor
 
--- the entry has the addend that is asked for; that of the module has none
+-- the entry has the required addend; that of the module has none
 abbrev pub has_addend : Symbol → EntryClass → ℤ → Bool
 has_addend symbol Module addend = true
 has_addend symbol class addend = int_eq symbol.entry_addend addend
@@ -58,8 +58,8 @@ entry_address addresses symbol (Some entry) =
 
 -- ---- the target
 
--- The formulas of x86-64's `R_X86_64_GOTPC32` and `R_X86_64_GOTPC64` have the GOT's address, whatever
--- the symbol is (x86-64 psABI, "Relocation Types").
+-- The formulas of x86-64's `R_X86_64_GOTPC32` and `R_X86_64_GOTPC64` have the GOT's address,
+-- whatever the symbol is (x86-64 psABI, "Relocation Types").
 abbrev pub is_of_got : Architecture → ℕ → Bool
 is_of_got architectures.X86_64 code = code == 26 || code == 29
 is_of_got architecture code = false
@@ -91,8 +91,8 @@ is_offset kinds.DtpOff = true
 is_offset kind = false
 
 -- What an undefined weak symbol counts for. AArch64's branches go to the next instruction, and what
--- else is relative to the place is 0 (ELF for the Arm 64-bit Architecture, "Weak References"). Branches
--- of RISC-V and PowerPC64 go to themselves, as linkers make them: their psABIs say nothing.
+-- else is relative to the place is 0 (ELF for the Arm 64-bit Architecture, "Weak References").
+-- Branches of RISC-V and PowerPC64 go to themselves, as linkers make them: their psABIs say nothing.
 -- Elsewhere its address is 0.
 abbrev pub weak_address : Architecture → RelocationKindInfo → ℕ → ℕ
 weak_address architectures.AArch64 row place =
@@ -123,7 +123,8 @@ target_of architecture addresses row symbol place =
 
 -- ---- all operands
 
-abbrev pub operands_with : Architecture → Addresses → RelocationKindInfo → Symbol → Rela → ℕ → Operands
+abbrev pub operands_with : Architecture → Addresses → RelocationKindInfo → Symbol → Rela → ℕ
+    → Operands
 operands_with architecture addresses row symbol r entry =
     let place : ℕ = sum_64 addresses.section r.offset
     in let target : ℕ = target_of architecture addresses row symbol place
@@ -230,8 +231,8 @@ IsNoHighPart architecture low at r =
 
 -- The high part at an offset. Relocations are searched that ascend by offset: among others it may
 -- not be found.
-abbrev pub IsHighPartAt : Architecture → List ℕ → RelocationKind → ℕ → Option (Rela × RelocationKindInfo)
-    → Type 0
+abbrev pub IsHighPartAt : Architecture → List ℕ → RelocationKind → ℕ
+    → Option (Rela × RelocationKindInfo) → Type 0
 IsHighPartAt architecture bytes low at (Some found) =
     IsHighPart architecture bytes low at (found.0) (found.1)
 IsHighPartAt architecture bytes low at None =

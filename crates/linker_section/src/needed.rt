@@ -32,8 +32,8 @@ pub enum EntryClass {
 pub struct Entry {
     /// What it holds.
     pub class: EntryClass,
-    /// The addend of its address or offset: it is of S + `addend`. Other than 0 only for AArch64 and
-    /// PowerPC64, whose psABIs have an entry for each S + A. 0 of a module's entry.
+    /// The addend of its address or offset: it is of S + `addend`. Other than 0 only for AArch64
+    /// and PowerPC64, whose psABIs have an entry for each S + A. 0 of a module's entry.
     pub addend: i64,
 }
 
@@ -239,7 +239,7 @@ fn needs_of(info: &RelocationKindInfo, addend: i64, is_thread_local: bool) -> Re
 /// whether its symbol is thread-local (`STT_TLS`). None of a code without a row, which no object's
 /// relocation has. Its `entry` is what the value of `Operands::got_entry` is the address of.
 ///
-/// A linker that rewrites a relocation asks of the one that it becomes.
+/// Where a relocation is rewritten, those of the one that it becomes count.
 ///
 /// ```
 /// use linker_section::needed::{Entry, EntryClass, needs};

@@ -402,7 +402,8 @@ fn first_from(relocations: &[u8], at: u64) -> usize
     ensures before { IsAscending relocations.now
         → (k : ℕ) → k < result → offset_at relocations.now k < at }
     ensures behind { IsAscending relocations.now
-        → (k : ℕ) → result ≤ k → k < length relocations.now / 24 → at ≤ offset_at relocations.now k }
+        → (k : ℕ) → result ≤ k → k < length relocations.now / 24
+        → at ≤ offset_at relocations.now k }
 {
     let mut low = 0;
     let mut high = relocations_len(relocations);
@@ -501,8 +502,8 @@ pub(crate) fn value_of(
     low_value(architecture, addresses, symbols, info, high)
 }
 
-/// The value of a relocation among those of its section, which `relocation_at` reads. None of a type
-/// without a value, as an alignment.
+/// The value of a relocation among those of its section, which `relocation_at` reads. None of a
+/// type without a value, as an alignment.
 ///
 /// It is that of the psABI's formula, with the operands that its relocation takes:
 ///
@@ -511,10 +512,11 @@ pub(crate) fn value_of(
 ///   that takes the TOC pointer as given, and for each branch that doesn't reach.
 /// - A low part of RISC-V takes the operands of the high part at the label that its symbol is. For
 ///   this the relocations have to ascend by offset. Its own addend isn't read.
-/// - A branch to an undefined weak symbol goes to the next instruction on AArch64, and on RISC-V and
-///   PowerPC64 to itself. What else is relative to the place is then 0 on AArch64. The offset of
-///   such a thread-local symbol is the addend.
-/// - Each of a pair at a ULEB128 number, and of `R_RISCV_ADD32` and its like, has a value by itself.
+/// - A branch to an undefined weak symbol goes to the next instruction on AArch64, and on RISC-V
+///   and PowerPC64 to itself. What else is relative to the place is then 0 on AArch64. The offset
+///   of such a thread-local symbol is the addend.
+/// - Each of a pair at a ULEB128 number, and of `R_RISCV_ADD32` and its like, has a value of its
+///   own.
 ///
 /// # Errors
 ///

@@ -52,7 +52,7 @@ pub extern "C" fn linker_utils_deletions_mergeable_nonnull(
 /// `faulty`, which overlaps a delta or an earlier one, or ends above 2^64 - 1; and `OutOfMemory`.
 /// Where the additional deletions ascend and can be merged it doesn't allocate, else it allocates
 /// one copy of them at a time, and where they can't be merged further ones of the first of them.
-/// Where a copy is refused the work is as in `linker_utils_deletions_mergeable`.
+/// Where there is no memory for a copy the work is as in `linker_utils_deletions_mergeable`.
 #[unsafe(no_mangle)]
 pub extern "C" fn linker_utils_deltas_merge_nonnull(
     alloc: Global,

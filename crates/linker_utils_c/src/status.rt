@@ -1,4 +1,4 @@
-//! What a call answers.
+//! What a call returns.
 
 ghost use Rattle.std.specs.Prelude.{◌≡◌};
 ghost use Rattle.linker_utils_c.specs.Status.{code};

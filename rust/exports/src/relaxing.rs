@@ -152,8 +152,8 @@ pub fn linker_utils_standard_shapes(number: u32, shapes: &mut Shapes) -> u32 {
 /// Whether `linker_utils_relax` accepts the items of a run that begins at the address `start`. The
 /// status is else that of the first fault of the first faulty item, whose index is `faulty`, in the
 /// order of the statuses from `ItemsOverlap` on, with `MayBeMisaligned` as the last; those from
-/// `UnevenShape` on count only where no item has one of those before. `OutOfMemory` where a copy of
-/// the items is refused.
+/// `UnevenShape` on count only where no item has one of those before. `OutOfMemory` where there is
+/// none for a copy of the items.
 pub fn linker_utils_items_relaxable_nonnull(
     items: &[ItemNumbers],
     start: u64,
@@ -179,7 +179,7 @@ pub fn linker_utils_items_relaxable_nonnull(
 /// item.
 ///
 /// The first that applies of `DifferentLengths`, where an array has another length; `OutOfMemory`,
-/// where a copy of the items is refused; and those of `linker_utils_items_relaxable`, of the item at
+/// where there is none for a copy of the items; and those of `linker_utils_items_relaxable`, of the item at
 /// `faulty`. The arrays are unchanged then. `faulty` changes only with a status that is about an
 /// item.
 pub fn linker_utils_relax_nonnull(

@@ -1,5 +1,5 @@
 // Made by tools/erase of crates/linker_utils_c/src/status.rt.
-//! What a call answers.
+//! What a call returns.
 
 /// What a call returns: the sentences of `include/linker_utils.h`. 11 and 16 are unused.
 #[derive(Debug, Clone, Copy, PartialEq, Eq)]

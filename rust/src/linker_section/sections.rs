@@ -182,13 +182,13 @@ fn relocate_pair(
 }
 
 /// Writes the values of a section's relocations, `value`'s, in their order: so relocations at one
-/// offset compose, as `R_RISCV_ADD32` and `R_RISCV_SUB32` do. Two next to each other that are a pair at
-/// a ULEB128 number are written at once.
+/// offset compose, as `R_RISCV_ADD32` and `R_RISCV_SUB32` do. Two next to each other that are a pair
+/// at a ULEB128 number are written at once. Whether fields overlap isn't tested.
 ///
 /// # Errors
 ///
-/// The first relocation whose value isn't written. Those before it are written, and it has changed
-/// nothing.
+/// The first relocation whose value isn't written. The values of those before it are written; it and
+/// those behind it have changed nothing.
 ///
 /// ```
 /// use linker_utils::section::{Addresses, Symbol};
@@ -203,7 +203,8 @@ fn relocate_pair(
 /// let addresses = Addresses { section: 0x401000, ..Addresses::default() };
 /// let function = Symbol { address: 0x402005, ..Symbol::default() };
 /// let symbols = [Symbol::default(), function];
-/// relocate_section(Architecture::X86_64, &addresses, &relocations, &symbols, &mut section).unwrap();
+/// let of = Architecture::X86_64;
+/// relocate_section(of, &addresses, &relocations, &symbols, &mut section).unwrap();
 /// assert_eq!(section, [0xe8, 0x00, 0x10, 0, 0]);
 /// ```
 pub fn relocate_section(
