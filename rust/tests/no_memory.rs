@@ -111,6 +111,61 @@ fn many() -> Vec<(u64, u32)> {
     (0..1_100).map(|i| (8 * i + 4, 4)).collect()
 }
 
+/// So many pairs that ascend, that descend, or in no order; none overlaps another.
+fn pairs_in_orders(count: u64) -> [Vec<(u64, u32)>; 3] {
+    let pair = |at: u64| (8 * at, 4);
+    // 4,001 is a prime
+    let mixed = (1..4_001).map(|at| at * 1_009 % 4_001).filter(|&at| at <= count).map(pair);
+    [(0..count).map(pair).collect(), (0..count).rev().map(pair).collect(), mixed.collect()]
+}
+
+/// Whether a merge is possible doesn't depend on memory, which is taken once, for many pairs in no
+/// order.
+#[test]
+fn merges_are_tested_without_memory() {
+    let none = SectionRelaxDeltas::new(&[]).expect("memory");
+    for (count, copied) in [(1_024, [false; 3]), (3_000, [false, false, true])] {
+        for (mut pairs, copied) in pairs_in_orders(count).into_iter().zip(copied) {
+            // then the last overlaps the first, so that no order is kept
+            for (mergeable, takes_memory) in [(true, copied), (false, count > 1_024)] {
+                for before in 0..2 {
+                    let call = || none.is_mergeable(&pairs);
+                    assert_eq!(failing(before, call), (mergeable, takes_memory && before == 0));
+                    let call = || none.as_delta_slice().can_merge_sorted(&pairs);
+                    assert_eq!(failing(before, call), (mergeable, takes_memory && before == 0));
+                    let call = || none.as_delta_slice().can_merge(&pairs);
+                    assert_eq!(failing(before, call), (mergeable, false));
+                }
+                *pairs.last_mut().expect("a pair") = (pairs[0].0 + 2, 4);
+            }
+        }
+    }
+}
+
+/// So do batches, but those that ascend, from each to the next too, and few in all.
+#[test]
+fn merges_of_batches_are_tested_without_memory() {
+    let none = SectionRelaxDeltas::new(&[]).expect("memory");
+    for (count, len, copied) in
+        [(1_020, 255, [false; 3]), (600, 1, [false, true, true]), (3_000, 750, [false, true, true])]
+    {
+        for (pairs, takes_memory) in pairs_in_orders(count).into_iter().zip(copied) {
+            let mut batches: Vec<_> = pairs.chunks(len).map(<[_]>::to_vec).collect();
+            for before in 0..2 {
+                let call = || none.are_mergeable(&batches);
+                assert_eq!(failing(before, call), (true, takes_memory && before == 0));
+            }
+            // the last overlaps the first, so that batches that ascended don't
+            let is_many = count + count / len as u64 > 1_024;
+            *batches.last_mut().and_then(|last| last.last_mut()).expect("a pair") = (pairs[0].0 + 2, 4);
+            for before in 0..2 {
+                let call = || none.are_mergeable(&batches);
+                assert_eq!(failing(before, call), (false, is_many && before == 0));
+            }
+        }
+    }
+}
+
 #[test]
 fn deletions_are_not_listed() {
     // the deltas, and of many the heads of their blocks

@@ -389,6 +389,16 @@ impl<'a> DeltaSlice<'a> {
         overlap::can_be_merged(self.deltas(), additional)
     }
 
+    /// As `can_merge`, in O(k log k + k log n) where there is memory for a copy of the deletions,
+    /// which is sorted. Those that ascend or descend, and 1,024 or fewer, aren't copied.
+    pub fn can_merge_sorted<D: AsDeletion>(&self, alloc: Global, additional: &[D]) -> bool
+        ensures { IsValid (deletions_of self.now.deltas)
+            → (IsTrue result
+            ↔ AreDisjoint (deletions_of self.now.deltas ++ map D.deletion additional.now)) }
+    {
+        overlap::can_be_merged_sorted(alloc, self.deltas(), additional)
+    }
+
     /// The index of the first of the additional deletions, in any order, that can't be merged: it
     /// ends above `u64::MAX`, or overlaps a deletion of the list or an earlier additional one. None
     /// where all can be merged.
@@ -406,8 +416,8 @@ impl<'a> DeltaSlice<'a> {
     }
 
     /// As `first_overlapping`, with copies of the first deletions that are sorted, where there is
-    /// memory for them: O(n + k log k) where all can be merged, and else log k times as much.
-    /// Deletions that ascend aren't copied.
+    /// memory for them: O(k log k + k log n) where all can be merged, and else log k times as much.
+    /// Deletions that ascend or descend, and 1,024 or fewer, aren't copied.
     pub fn first_overlapping_sorted<D: AsDeletion>(
         &self,
         alloc: Global,

@@ -15,7 +15,7 @@ ghost use Rattle.linker_base.specs.Inner.Listed.{AreDisjointBeside, AreFirstDisj
 
 use super::RelaxDelta;
 use super::delta_slice::DeltaSlice;
-use super::merge::copy_deletions;
+use super::merge::{copy_deletions, count_pairs};
 use std::alloc::Global;
 
 /// What records one deletion: a pair of its offset and its bytes, a delta, a caller's own struct.
@@ -181,8 +181,8 @@ pub(super) fn first_overlapping_sorted<D: AsDeletion>(
     Some(low)
 }
 
-// Whether the deletions are disjoint, and none overlaps a delta. Those that don't ascend are copied
-// and sorted where there is memory for them.
+// Whether the deletions are disjoint, and none overlaps a delta. Those that the stack has no room
+// for, and that neither ascend nor descend, are copied and sorted where there is memory for them.
 pub(super) fn can_be_merged_sorted<D: AsDeletion>(
     alloc: Global,
     deltas: &[RelaxDelta],
@@ -192,7 +192,10 @@ pub(super) fn can_be_merged_sorted<D: AsDeletion>(
         → (IsTrue result ↔ AreDisjoint (map deletion_of deltas.now ++ map D.deletion
         additional.now)) }
 {
-    if first_invalid(additional).is_some() {
+    if additional.len() > SORTED_LEN
+        && first_invalid(additional).is_some()
+        && falling_len(additional) < additional.len()
+    {
         if let Ok(pairs) = copy_deletions(alloc, additional) {
             return can_pairs_be_merged(deltas, pairs);
         }
@@ -363,7 +366,7 @@ fn is_beside_deltas(deltas: &[RelaxDelta], deletion: (u64, u32)) -> bool
 
 // Whether the pairs of all batches, in any order, make a valid list once sorted. Pairs that
 // ascend, from each batch to the next too, take one pass.
-pub(super) fn are_disjoint_batches(batches: &[Vec<(u64, u32)>]) -> bool
+fn are_disjoint_batches(batches: &[Vec<(u64, u32)>]) -> bool
     ensures { IsTrue result ↔ AreDisjoint (pairs_of batches.now) }
 {
     if are_ascending(batches) {
@@ -566,7 +569,7 @@ fn next_after(from: u128, pairs: &[(u64, u32)]) -> Option<u128>
 }
 
 // Whether no pair of the batches overlaps a delta.
-pub(super) fn are_beside_deltas_batches(deltas: &[RelaxDelta], batches: &[Vec<(u64, u32)>]) -> bool
+fn are_beside_deltas_batches(deltas: &[RelaxDelta], batches: &[Vec<(u64, u32)>]) -> bool
     ensures { IsValid (map deletion_of deltas.now)
         → (IsTrue result ↔ All (λ pair. All (λ d. DoNotOverlap d pair) (map deletion_of deltas.now))
         (pairs_of batches.now)) }
@@ -599,5 +602,23 @@ pub(super) fn can_pairs_be_merged(deltas: &[RelaxDelta], pairs: Vec<(u64, u32)>)
 {
     let mut sorted = pairs;
     sorted.sort_unstable_by_key(|pair| pair.0);
-    are_valid_together(deltas, sorted.as_slice())
+    if sorted.len() > deltas.len() / 16 {
+        return are_valid_together(deltas, sorted.as_slice());
+    }
+    can_be_merged(deltas, sorted.as_slice())
+}
+
+// Whether the pairs of all batches are disjoint, and none overlaps a delta.
+pub(super) fn can_batches_be_merged(deltas: &[RelaxDelta], batches: &[Vec<(u64, u32)>]) -> bool
+    ensures { IsValid (map deletion_of deltas.now)
+        → (IsTrue result ↔ AreDisjoint (map deletion_of deltas.now ++ pairs_of batches.now)) }
+{
+    are_disjoint_batches(batches) && are_beside_deltas_batches(deltas, batches)
+}
+
+// Whether the batches and their pairs are more than the stack has room for.
+pub(super) fn are_many(batches: &[Vec<(u64, u32)>]) -> bool
+    ensures { IsTrue result ↔ (1024 < length batches.now + length (pairs_of batches.now)) }
+{
+    count_pairs(batches).saturating_add(batches.len()) > SORTED_LEN
 }

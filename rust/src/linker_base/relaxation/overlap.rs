@@ -7,7 +7,7 @@
 use alloc::vec::Vec;
 use super::RelaxDelta;
 use super::delta_slice::DeltaSlice;
-use super::merge::copy_deletions;
+use super::merge::{copy_deletions, count_pairs};
 
 /// What records one deletion: a pair of its offset and its bytes, a delta, a caller's own struct.
 pub trait AsDeletion: Copy {
@@ -134,13 +134,16 @@ pub(super) fn first_overlapping_sorted<D: AsDeletion>(
     Some(low)
 }
 
-// Whether the deletions are disjoint, and none overlaps a delta. Those that don't ascend are copied
-// and sorted where there is memory for them.
+// Whether the deletions are disjoint, and none overlaps a delta. Those that the stack has no room
+// for, and that neither ascend nor descend, are copied and sorted where there is memory for them.
 pub(super) fn can_be_merged_sorted<D: AsDeletion>(
     deltas: &[RelaxDelta],
     additional: &[D],
 ) -> bool {
-    if first_invalid(additional).is_some() {
+    if additional.len() > SORTED_LEN
+        && first_invalid(additional).is_some()
+        && falling_len(additional) < additional.len()
+    {
         if let Ok(pairs) = copy_deletions(additional) {
             return can_pairs_be_merged(deltas, pairs);
         }
@@ -281,7 +284,7 @@ fn is_beside_deltas(deltas: &[RelaxDelta], deletion: (u64, u32)) -> bool {
 
 // Whether the pairs of all batches, in any order, make a valid list once sorted. Pairs that
 // ascend, from each batch to the next too, take one pass.
-pub(super) fn are_disjoint_batches(batches: &[Vec<(u64, u32)>]) -> bool {
+fn are_disjoint_batches(batches: &[Vec<(u64, u32)>]) -> bool {
     if are_ascending(batches) {
         return true;
     }
@@ -440,7 +443,7 @@ fn next_after(from: u128, pairs: &[(u64, u32)]) -> Option<u128> {
 }
 
 // Whether no pair of the batches overlaps a delta.
-pub(super) fn are_beside_deltas_batches(deltas: &[RelaxDelta], batches: &[Vec<(u64, u32)>]) -> bool {
+fn are_beside_deltas_batches(deltas: &[RelaxDelta], batches: &[Vec<(u64, u32)>]) -> bool {
     for batch in batches {
         if !are_beside_deltas(deltas, batch) {
             return false;
@@ -463,5 +466,18 @@ fn are_beside_deltas<D: AsDeletion>(deltas: &[RelaxDelta], deletions: &[D]) -> b
 pub(super) fn can_pairs_be_merged(deltas: &[RelaxDelta], pairs: Vec<(u64, u32)>) -> bool {
     let mut sorted = pairs;
     sorted.sort_unstable_by_key(|pair| pair.0);
-    are_valid_together(deltas, sorted.as_slice())
+    if sorted.len() > deltas.len() / 16 {
+        return are_valid_together(deltas, sorted.as_slice());
+    }
+    can_be_merged(deltas, sorted.as_slice())
+}
+
+// Whether the pairs of all batches are disjoint, and none overlaps a delta.
+pub(super) fn can_batches_be_merged(deltas: &[RelaxDelta], batches: &[Vec<(u64, u32)>]) -> bool {
+    are_disjoint_batches(batches) && are_beside_deltas_batches(deltas, batches)
+}
+
+// Whether the batches and their pairs are more than the stack has room for.
+pub(super) fn are_many(batches: &[Vec<(u64, u32)>]) -> bool {
+    count_pairs(batches).saturating_add(batches.len()) > SORTED_LEN
 }
