@@ -1,109 +1,173 @@
--- Calls by site, and where one more belongs.
-use Rattle.std.proofs.Common.{Err, IsOk, ◌↔◌, subst, ◌≡◌, ℕ, ◌+◌, ◌-◌, ◌<◌, ◌≤◌, List, [], ◌∷◌, ◌++◌, length, get_or, take, drop, nat_lt, true, false, refl, inl, inr, arith}
-use Rattle.std.specs.Prelude.{Result, All, insert}
-use Rattle.std.specs.List.Sorted.{IsNonDecreasingBy, IsPartitionPoint}
-use Rattle.std.proofs.lemmas.Bool.{cases_lt, cases_order, false≢true}
+-- Calls by site, which a map keeps.
+use Rattle.std.proofs.Common.{Err, IsOk, ◌↔◌, subst, ◌≡◌, ℕ, ◌+◌, ◌-◌, ◌<◌, ◌≤◌, List, [], ◌∷◌, ◌++◌, length, nat_lt, true, false, refl, sym, ap, ◌∙◌, inl, inr, arith}
+use Rattle.std.specs.Prelude.{Result, All, Bool, nat_eq}
+use Rattle.std.specs.Ordering.{nat_cmp}
+use Rattle.std.specs.declared.cmp.Ordering.TheVariants.{Less, Equal, Greater}
+use Rattle.std.specs.declared.ops.Bound.TheVariants.{Included, Unbounded}
+use Rattle.std.specs.Map.{remove_entry}
+use Rattle.std.specs.BTreeMap.{insert_entry, is_at}
+use Rattle.std.specs.BTreeMap.Range.{entries_between}
+use Rattle.std.proofs.lemmas.Bool.{cases_Bool, cases_lt, cases_order, false≢true}
 use Rattle.std.proofs.lemmas.Bool.Decides.{nat_tests}
-use Rattle.std.proofs.lemmas.List.{get_or-take, get_or-drop, get_or_default, get_or_append_left, get_or-append_right, length-append, length-drop, length-take}
-use Rattle.std.proofs.lemmas.List.Elements.{All-cons}
+use Rattle.std.proofs.lemmas.List.Elements.{All-nil, All-cons, All-head, All-tail}
 use Rattle.std.proofs.lemmas.List.Kept.{AllPairs-cons}
-use Rattle.std.proofs.lemmas.List.Sorted.{IsPermutation-insert, IsPermutation-to_front, IsPermutation-trans}
+use Rattle.std.proofs.lemmas.List.Sorted.{All-permutation, IsPermutation-to_front, IsPermutation-trans}
+use Rattle.linker_base.proofs.Rank.{all_pairs_head, all_pairs_tail}
 use Rattle.linker_riscv64.specs.Packing.{AreApart, IsApart}
 use Rattle.linker_riscv64.specs.RiscVCalls.{IsEven, IsJalDistance, IsSiteKept, output_distance}
 use Rattle.linker_riscv64.specs.declared.calls.CallError.TheVariants.{OutOfSection, SiteDeleted, OddDistance, TooFar}
-use Rattle.linker_riscv64.proofs.Packed.{apart_take}
 use Rattle.linker_riscv64.specs.declared.calls.CallError.{CallError}
-use Rattle.linkfix.specs.AcceptedCalls.{AreBySite, IsFarFrom, IsInsertionIndex}
+use Rattle.linkfix.specs.AcceptedCalls.{AreBySite, IsFarFrom}
+use Rattle.linkfix.specs.ByOffset.{placed}
 use Rattle.linkfix.specs.Execution.{CallFailsWith, Rejects}
 use Rattle.linkfix.specs.declared.commands.Command.TheVariants.{Call}
 use Rattle.linkfix.specs.declared.program.ReportedError.{ReportedError}
 use Rattle.linkfix.specs.declared.program.ReportedError.TheVariants.{Call as CallFailed}
 use Rattle.linkfix.specs.declared.program.SectionState.{SectionState}
+use Rattle.linkfix.proofs.DeletionLemmas.{placed_same}
 
--- sites that ascend don't fall
-pub sites_rise : (calls : List (ℕ × ℕ)) → AreApart calls → IsNonDecreasingBy (λ call. call.0) calls
-sites_rise calls apart i j d le within = elim (cases_order i j) [
-  | inl same ↦ rw same (omega arith)
-  | inr (inl lower) ↦ omega (arith, apart i j d lower within)
-  | inr (inr higher) ↦ absurd (omega arith)
-]
+-- ---- calls by site
 
--- what the tests of a search tell of the calls
-pub parted_by_test : (calls : List (ℕ × ℕ)) (site at : ℕ) → IsPartitionPoint (λ call. nat_lt call.0 site ≡ true) (λ call. nat_lt call.0 site ≡ false) calls at
-    → IsPartitionPoint (λ call. call.0 < site) (λ call. site ≤ call.0) calls at
-parted_by_test calls site at parted = (λ k d low high. let test = parted.0 k d low high in grind (arith, nat_tests), λ k d low high. let test = parted.1 k d low high in grind (arith, nat_tests))
-
--- a site that is far from the last call below it and from the next is far from all
-pub index_between : (calls : List (ℕ × ℕ)) (site at : ℕ) → at ≤ length calls → AreApart calls
-    → (0 < at → 4 ≤ site - (get_or calls (at - 1) (0, 0)).0) → (at < length calls → 4 ≤ (get_or calls at (0, 0)).0 - site) → IsInsertionIndex calls site at
-index_between calls site at within apart last next = record { within = within; above = above; below = below }
-  where
-    last_far : (d : ℕ × ℕ) → 0 < at → (get_or calls (at - 1) d).0 + 4 ≤ site
-    last_far d some = rw (get_or_default calls (at - 1) d (0, 0) (omega arith)) (omega (arith, last some))
-
-    next_far : (d : ℕ × ℕ) → at < length calls → site + 4 ≤ (get_or calls at d).0
-    next_far d some = rw (get_or_default calls at d (0, 0) some) (omega (arith, next some))
-
-    above : All (λ call. call.0 + 4 ≤ site) (take at calls)
-    above k d inside =
-        let low : k < at = omega (arith, length-take at calls) in
-        rw (get_or-take at calls k d low) (elim (cases_lt k (at - 1)) [
-          | inl lower ↦ omega (arith, apart k (at - 1) d lower (omega arith), last_far d (omega arith))
-          | inr last_one ↦ let same : k ≡ at - 1 = omega arith in rw same (last_far d (omega arith))
-        ])
-
-    below : All (λ call. site + 4 ≤ call.0) (drop at calls)
-    below k d inside =
-        let high : at + k < length calls = omega (arith, length-drop at calls) in
-        rw (get_or-drop at calls k d) (elim (cases_lt 0 k) [
-          | inl some ↦ omega (arith, apart at (at + k) d (omega arith) high, next_far d (omega arith))
-          | inr none ↦ let same : at + k ≡ at = omega arith in rw same (next_far d (omega arith))
-        ])
-
--- two parts whose calls are apart
-apart_joined : (xs ys : List (ℕ × ℕ)) → AreApart xs → AreApart ys → All (λ x. All (IsApart x) ys) xs → AreApart (xs ++ ys)
-apart_joined xs ys first second across i j d lt within =
-    let long = length-append xs ys in
-    elim (cases_lt j (length xs)) [
+-- one more that is far from all
+placed_apart : (calls : List (ℕ × ℕ)) (call : ℕ × ℕ) → AreApart calls → All (IsFarFrom call.0) calls → AreApart (placed call calls)
+placed_apart [] call apart far = AllPairs-cons IsApart call [] (All-nil (IsApart call)) apart
+placed_apart (e ∷ es) call apart far =
+    let beside = All-head (IsFarFrom call.0) e es far in
+    let above = all_pairs_head IsApart e es apart in
+    elim (cases_lt call.0 e.0) [
       | inl low ↦
-          let lower : i < length xs = omega arith in
-          rw (get_or_append_left xs ys d i lower, get_or_append_left xs ys d j low) (first i j d lt low)
-      | inr high ↦ elim (cases_lt i (length xs)) [
-        | inl low ↦ rw (get_or_append_left xs ys d i low, get_or-append_right xs ys (length xs) j d refl high) (across i d low (j - length xs) d (omega arith))
-        | inr from ↦ rw (get_or-append_right xs ys (length xs) i d refl from, get_or-append_right xs ys (length xs) j d refl high) (second (i - length xs) (j - length xs) d (omega arith) (omega arith))
-      ]
+          let t : nat_lt call.0 e.0 ≡ true = grind (arith, nat_tests, low) in
+          let near : IsApart call e = elim beside [
+            | inl below ↦ absurd (omega arith)
+            | inr above ↦ above
+          ] in
+          rw t (AllPairs-cons IsApart call (e ∷ es) (All-cons (IsApart call) e es near (λ k d within. omega (arith, above k d within))) apart)
+      | inr high ↦
+          let f : nat_lt call.0 e.0 ≡ false = grind (arith, nat_tests, high) in
+          let near : IsApart e call = elim beside [
+            | inl below ↦ below
+            | inr above ↦ absurd (omega arith)
+          ] in
+          rw f (AllPairs-cons IsApart e (placed call es) (All-permutation (IsApart e) (call ∷ es) (placed call es) (placed_same call es) (All-cons (IsApart e) call es near above))
+          (placed_apart es call (all_pairs_tail IsApart e es apart) (All-tail (IsFarFrom call.0) e es far)))
     ]
 
-apart_drop : (calls : List (ℕ × ℕ)) (n : ℕ) → AreApart calls → AreApart (drop n calls)
-apart_drop calls n apart i j d lt within = rw (get_or-drop n calls i d, get_or-drop n calls j d) (apart (n + i) (n + j) d (omega arith) (omega (arith, length-drop n calls)))
+pub by_site_placed : (calls : List (ℕ × ℕ)) (call : ℕ × ℕ) → AreApart calls → All (IsFarFrom call.0) calls → AreBySite (calls ++ call ∷ []) (placed call calls)
+by_site_placed calls call apart far = record {
+  same = IsPermutation-trans (calls ++ call ∷ []) (call ∷ calls) (placed call calls) (IsPermutation-to_front calls call) (placed_same call calls);
+  apart = placed_apart calls call apart far;
+}
 
--- a call inserted at its index keeps the order
-pub apart_inserted : (calls : List (ℕ × ℕ)) (site target at : ℕ) → AreApart calls → IsInsertionIndex calls site at → AreApart (insert calls at (site, target))
-apart_inserted calls site target at apart is_index =
-    let call : ℕ × ℕ = (site, target) in
-    apart_joined (take at calls) (call ∷ drop at calls) (apart_take calls at apart) (AllPairs-cons IsApart call (drop at calls) is_index.below (apart_drop calls at apart))
-    (λ k d inside. All-cons (IsApart (get_or (take at calls) k d)) call (drop at calls) (is_index.above k d inside)
-    (λ j e within. omega (arith, is_index.above k d inside, is_index.below j e within)))
+-- ---- in a map
 
-pub by_site_inserted : (calls : List (ℕ × ℕ)) (site target at : ℕ) → AreApart calls → IsInsertionIndex calls site at → AreBySite (calls ++ (site, target) ∷ []) (insert calls at (site, target))
-by_site_inserted calls site target at apart is_index =
-    let call : ℕ × ℕ = (site, target) in
-    record {
-      same = IsPermutation-trans (calls ++ call ∷ []) (call ∷ calls) (insert calls at call) (IsPermutation-to_front calls call) (IsPermutation-insert calls at call);
-      apart = apart_inserted calls site target at apart is_index;
-    }
+-- the order of two different sites
+order_below : (x y : ℕ) → x < y → nat_cmp x y ≡ Less
+order_below x y low = let t : nat_lt x y ≡ true = grind (arith, nat_tests, low) in rw t refl
 
--- it is far from all calls
-pub far_from_all : (calls : List (ℕ × ℕ)) (site at : ℕ) → IsInsertionIndex calls site at → All (IsFarFrom site) calls
-far_from_all calls site at is_index k d within = elim (cases_lt k at) [
-  | inl low ↦ let above = is_index.above k d (omega (arith, length-take at calls)) in inl (rw (get_or-take at calls k d low) at above)
+order_above : (x y : ℕ) → y < x → nat_cmp x y ≡ Greater
+order_above x y high =
+    let f : nat_lt x y ≡ false = grind (arith, nat_tests, high) in
+    let g : nat_eq x y ≡ false = grind (arith, nat_tests, high) in
+    rw (f, g) refl
+
+order_same : (x : ℕ) → nat_cmp x x ≡ Equal
+order_same x =
+    let f : nat_lt x x ≡ false = grind (arith, nat_tests) in
+    let t : nat_eq x x ≡ true = grind (arith, nat_tests) in
+    rw (f, t) refl
+
+pub inserted_placed : (calls : List (ℕ × ℕ)) (site target : ℕ) → All (IsFarFrom site) calls → insert_entry nat_cmp calls site target ≡ placed (site, target) calls
+inserted_placed [] site target far = refl
+inserted_placed (e ∷ es) site target far = elim (cases_lt site e.0) [
+  | inl low ↦
+      let t : nat_lt site e.0 ≡ true = grind (arith, nat_tests, low) in
+      let o = order_below site e.0 low in rw (o, t) refl
   | inr high ↦
-      let same : at + (k - at) ≡ k = omega arith in
-      let below = is_index.below (k - at) d (omega (arith, length-drop at calls)) in inr (rw (get_or-drop at calls (k - at) d, same) at below)
+      let f : nat_lt site e.0 ≡ false = grind (arith, nat_tests, high) in
+      let below : e.0 < site = elim (All-head (IsFarFrom site) e es far) [
+        | inl below ↦ omega arith
+        | inr above ↦ absurd (omega arith)
+      ] in
+      let o = order_above site e.0 below in
+      rw (o, f) (ap (λ l. e ∷ l) (inserted_placed es site target (All-tail (IsFarFrom site) e es far)))
+]
+
+pub removed_placed : (calls : List (ℕ × ℕ)) (site target : ℕ) → All (IsFarFrom site) calls → remove_entry (is_at (nat_cmp site)) (placed (site, target) calls) ≡ calls
+removed_placed [] site target far = let o = order_same site in rw o refl
+removed_placed (e ∷ es) site target far = elim (cases_lt site e.0) [
+  | inl low ↦
+      let t : nat_lt site e.0 ≡ true = grind (arith, nat_tests, low) in
+      let o = order_same site in rw (t, o) refl
+  | inr high ↦
+      let f : nat_lt site e.0 ≡ false = grind (arith, nat_tests, high) in
+      let below : e.0 < site = elim (All-head (IsFarFrom site) e es far) [
+        | inl below ↦ omega arith
+        | inr above ↦ absurd (omega arith)
+      ] in
+      let o = order_above site e.0 below in
+      rw (f, o) (ap (λ l. e ∷ l) (removed_placed es site target (All-tail (IsFarFrom site) e es far)))
+]
+
+all_removed : (test : ℕ → Bool) (P : ℕ × ℕ → Type 0) (es : List (ℕ × ℕ)) → All P es → All P (remove_entry test es)
+all_removed test P [] all = all
+all_removed test P (e ∷ es) all = elim (cases_Bool (test e.0)) [
+  | inl t ↦ rw t (All-tail P e es all)
+  | inr f ↦ rw f (All-cons P e (remove_entry test es) (All-head P e es all) (all_removed test P es (All-tail P e es all)))
+]
+
+-- calls without one of them
+pub apart_removed : (test : ℕ → Bool) (calls : List (ℕ × ℕ)) → AreApart calls → AreApart (remove_entry test calls)
+apart_removed test [] apart = apart
+apart_removed test (e ∷ es) apart =
+    let later = all_pairs_tail IsApart e es apart in
+    elim (cases_Bool (test e.0)) [
+      | inl t ↦ rw t later
+      | inr f ↦ rw f (AllPairs-cons IsApart e (remove_entry test es) (all_removed test (IsApart e) es (all_pairs_head IsApart e es apart)) (apart_removed test es later))
+    ]
+
+-- the calls from a site on
+abbrev calls_from : ℕ → List (ℕ × ℕ) → List (ℕ × ℕ)
+calls_from first calls = entries_between nat_cmp (Included first) Unbounded calls
+
+is_from : (first : ℕ) (e : ℕ × ℕ) (es : List (ℕ × ℕ)) → first ≤ e.0 → calls_from first (e ∷ es) ≡ e ∷ calls_from first es
+is_from first e es le = elim (cases_order first e.0) [
+  | inl same ↦ let o : nat_cmp first e.0 ≡ Equal = rw same (order_same e.0) in rw o refl
+  | inr (inl low) ↦ let o = order_below first e.0 low in rw o refl
+  | inr (inr high) ↦ absurd (omega arith)
+]
+
+isnt_from : (first : ℕ) (e : ℕ × ℕ) (es : List (ℕ × ℕ)) → e.0 < first → calls_from first (e ∷ es) ≡ calls_from first es
+isnt_from first e es low = let o = order_above first e.0 low in rw o refl
+
+-- where there are none from shortly before a site on, all are far below
+pub far_from_none : (calls : List (ℕ × ℕ)) (site : ℕ) → calls_from (site - 3) calls ≡ [] → All (IsFarFrom site) calls
+far_from_none [] site none = All-nil (IsFarFrom site)
+far_from_none (e ∷ es) site none = elim (cases_lt e.0 (site - 3)) [
+  | inl low ↦ All-cons (IsFarFrom site) e es (inl (omega arith)) (far_from_none es site (sym (isnt_from (site - 3) e es low) ∙ none))
+  | inr high ↦ absurd (cc (is_from (site - 3) e es high, none))
+]
+
+-- the first of them tells whether all calls are far
+pub far_by_next : (calls : List (ℕ × ℕ)) (site : ℕ) (next : ℕ × ℕ) (rest : List (ℕ × ℕ)) → AreApart calls → calls_from (site - 3) calls ≡ next ∷ rest
+    → All (IsFarFrom site) calls ↔ (4 ≤ next.0 - site)
+far_by_next [] site next rest apart none = absurd (cc none)
+far_by_next (e ∷ es) site next rest apart are = elim (cases_lt e.0 (site - 3)) [
+  | inl low ↦
+      let later = far_by_next es site next rest (all_pairs_tail IsApart e es apart) (sym (isnt_from (site - 3) e es low) ∙ are) in
+      (λ all. later.0 (All-tail (IsFarFrom site) e es all), λ high. All-cons (IsFarFrom site) e es (inl (omega arith)) (later.1 high))
+  | inr high ↦
+      let same : e ≡ next = cc (is_from (site - 3) e es high, are) in (
+        λ all. rw (← same) (elim (All-head (IsFarFrom site) e es all) [
+          | inl below ↦ absurd (omega arith)
+          | inr above ↦ omega arith
+        ]),
+        λ above. let first = rw (← same) at above in
+            All-cons (IsFarFrom site) e es (inr (omega arith)) (λ k d within. inr (omega (arith, all_pairs_head IsApart e es apart k d within))),
+      )
 ]
 
 -- a call that is far from all and still rejected fails with some cause
-pub call_fails : (site target : ℕ) (state : SectionState) (error : ReportedError) → All (IsFarFrom site) state.calls.by_site → Rejects (Call site target) state error
+pub call_fails : (site target : ℕ) (state : SectionState) (error : ReportedError) → All (IsFarFrom site) state.calls → Rejects (Call site target) state error
     → (cause : CallError) × (error ≡ CallFailed cause) × CallFailsWith cause state.section.items state.deltas site target
 call_fails site target state error far (inl bad) = absurd (bad.1 far)
 call_fails site target state error far (inr fails) = (fails.1, fails.2, fails.3)

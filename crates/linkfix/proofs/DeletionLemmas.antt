@@ -24,7 +24,7 @@ use Rattle.linkfix.specs.ByOffset.{placed, by_offset}
 abbrev IsNotAbove : ℕ × ℕ → ℕ × ℕ → Type 0
 IsNotAbove a b = a.0 ≤ b.0
 
-placed_same : (d : ℕ × ℕ) (es : List (ℕ × ℕ)) → IsPermutation (d ∷ es) (placed d es)
+pub placed_same : (d : ℕ × ℕ) (es : List (ℕ × ℕ)) → IsPermutation (d ∷ es) (placed d es)
 placed_same d [] = IsPermutation-refl (d ∷ [])
 placed_same d (e ∷ es) = elim (cases_lt d.0 e.0) [
   | inl low ↦ let t : nat_lt d.0 e.0 ≡ true = grind (arith, nat_tests, low) in rw t (IsPermutation-refl (d ∷ e ∷ es))

@@ -13,7 +13,7 @@ use Rattle.linker_riscv64.specs.declared.calls.CallError.{CallError}
 use Rattle.linker_riscv64.specs.declared.calls.CallError.TheVariants.{OutOfSection, SiteDeleted, OddDistance, TooFar}
 use Rattle.linker_riscv64.specs.declared.calls.JumpError.TheVariants.{Call as JumpFailed}
 use Rattle.linker_riscv64.specs.declared.calls.LinkRegister.TheVariants.{OfAuipc}
-use Rattle.linkfix.specs.AcceptedCalls.{AreBySite, CallList, IsFarFrom}
+use Rattle.linkfix.specs.AcceptedCalls.{AreBySite, IsFarFrom}
 use Rattle.linkfix.specs.CommandSyntax.{IsWrittenAs}
 use Rattle.linkfix.specs.DecodedHex.{decoded_hex}
 use Rattle.linkfix.specs.Execution.{BeginWithLines, CallFailsWith, Executes, ExecutesLine, ExecutesLines, RejectsLine, Rejects}
@@ -102,7 +102,7 @@ not_blank Pack words w none = cc (w, none)
 record IsSame (a b : SectionState) : Type 0 where
   len : length a.section.items ≡ length b.section.items
   deltas : a.deltas ≡ b.deltas
-  calls : a.calls.by_site ≡ b.calls.by_site
+  calls : a.calls ≡ b.calls
 
 unchanged : (a b a1 b1 : SectionState) → IsSame a b → a1 ≡ a → b1 ≡ b → IsSame a1 b1
 unchanged a b a1 b1 same x y = subst (λ s. IsSame s b1) (sym x) (subst (IsSame a) (sym y) same)
@@ -111,14 +111,14 @@ executes_same : (command : Command) (a b a1 b1 : SectionState) (p q : List ℕ) 
 executes_same (Delete o n) a b a1 b1 p q same x y = record {
   len = ap (λ (v : Vec ℕ Global). length v.items) x.1 ∙ same.len ∙ sym (ap (λ (v : Vec ℕ Global). length v.items) y.1);
   deltas = union_once (b.deltas ++ (o, n) ∷ []) a1.deltas b1.deltas (subst (λ ds. IsSortedUnion (ds ++ (o, n) ∷ []) a1.deltas) same.deltas x.3) y.3;
-  calls = ap (λ (c : CallList). c.by_site) x.2 ∙ same.calls ∙ sym (ap (λ (c : CallList). c.by_site) y.2);
+  calls = x.2 ∙ same.calls ∙ sym y.2;
 }
 executes_same (ToOutput i) a b a1 b1 p q same x y = unchanged a b a1 b1 same x.1 y.1
 executes_same (ToInput o) a b a1 b1 p q same x y = unchanged a b a1 b1 same x.3 y.3
 executes_same (Call s t) a b a1 b1 p q same x y = record {
   len = x.3 ∙ same.len ∙ sym y.3;
   deltas = x.1 ∙ same.deltas ∙ sym y.1;
-  calls = by_site_once (b.calls.by_site ++ (s, t) ∷ []) a1.calls.by_site b1.calls.by_site (subst (λ cs. AreBySite (cs ++ (s, t) ∷ []) a1.calls.by_site) same.calls x.2) y.2;
+  calls = by_site_once (b.calls ++ (s, t) ∷ []) a1.calls b1.calls (subst (λ cs. AreBySite (cs ++ (s, t) ∷ []) a1.calls) same.calls x.2) y.2;
 }
 executes_same Show a b a1 b1 p q same x y = unchanged a b a1 b1 same x.1 y.1
 executes_same Pack a b a1 b1 p q same x y = unchanged a b a1 b1 same x.3 y.3
@@ -166,8 +166,8 @@ rejects_same Pack a b error same r = (
   r.1,
   r.2,
   subst (λ cs. IsFirstRejected OfAuipc b.deltas b.section.items cs r.0 (JumpFailed r.1)) same.calls
-      (subst (λ ds. IsFirstRejected OfAuipc ds b.section.items a.calls.by_site r.0 (JumpFailed r.1)) same.deltas
-      (first_same a.section.items b.section.items same.len a.deltas a.calls.by_site r.0 r.1 r.3)),
+      (subst (λ ds. IsFirstRejected OfAuipc ds b.section.items a.calls r.0 (JumpFailed r.1)) same.deltas
+      (first_same a.section.items b.section.items same.len a.deltas a.calls r.0 r.1 r.3)),
 )
 
 -- ---- lines
@@ -205,7 +205,7 @@ rest_refused (m ∷ ms) rest a b b1 r error same some rejects ends goes =
     line_refused (first_line rest) a b goes.0 goes.1 error same rejects (subst (λ l. ExecutesLine l b goes.0 goes.1) ends.1 goes.2)
 
 begin_same : (input : List ℕ) (a b : SectionState) → decoded_hex (first_line input) ≡ Some a.section.items → decoded_hex (first_line input) ≡ Some b.section.items
-    → a.deltas ≡ [] → b.deltas ≡ [] → a.calls.by_site ≡ [] → b.calls.by_site ≡ [] → IsSame a b
+    → a.deltas ≡ [] → b.deltas ≡ [] → a.calls ≡ [] → b.calls ≡ [] → IsSame a b
 begin_same input a b x y da db ca cb =
     let items : a.section.items ≡ b.section.items = cc (x, y) in record { len = ap length items; deltas = da ∙ sym db; calls = ca ∙ sym cb }
 

@@ -44,10 +44,10 @@ IsRunSoFar first left written_first written s0 s1 = (done : List ℕ) × Appends
 pub record IsBegun (known left : Option (List ℕ)) (state : SectionState) : Type 0 where
   pub section : IfSome known (λ bytes. (decoded_hex (first_line bytes) ≡ Some state.section.items) × (left ≡ Some (drop_through 10 bytes)))
   pub no_deletions : state.deltas ≡ []
-  pub no_calls : state.calls.by_site ≡ []
+  pub no_calls : state.calls ≡ []
 
 pub is_begun : (known new p0 : Option (List ℕ)) (state : SectionState) (line0 text : List ℕ) (found : Bool) → new ≡ known → IsNextLine new p0 line0 found → text ≡ line0
-    → decoded_hex text ≡ Some state.section.items → state.deltas ≡ [] → state.calls.by_site ≡ [] → IsBegun known p0 state
+    → decoded_hex text ≡ Some state.section.items → state.deltas ≡ [] → state.calls ≡ [] → IsBegun known p0 state
 is_begun None new p0 state line0 text found is first same hex no_deletions no_calls = record { section = tt; no_deletions = no_deletions; no_calls = no_calls }
 is_begun (Some bytes) new p0 state line0 text found is first same hex no_deletions no_calls =
     let begun = rw is at first in record { section = (ap decoded_hex (sym (same ∙ begun.0)) ∙ hex, begun.1); no_deletions = no_deletions; no_calls = no_calls }

@@ -40,13 +40,13 @@ Executes (ToInput y) before after line = (p : ℕ) × IsSelected before.deltas y
     × (line ≡ decimal p) × (after ≡ before)
 Executes (Call site target) before after line = (line ≡ codes "ok")
     × (after.deltas ≡ before.deltas)
-    × AreBySite (before.calls.by_site ++ (site, target) ∷ []) after.calls.by_site
+    × AreBySite (before.calls ++ (site, target) ∷ []) after.calls
     × (length after.section.items ≡ length before.section.items)
     × JumpsAt before.section.items after.section.items site
     (output_distance before.deltas site target)
 Executes Show before after line = (line ≡ encode_lower before.section.items) × (after ≡ before)
 Executes Pack before after line = (packed : List ℕ)
-    × IsPacked OfAuipc before.deltas before.section.items before.calls.by_site packed
+    × IsPacked OfAuipc before.deltas before.section.items before.calls packed
     × (line ≡ encode_lower packed) × (after ≡ before)
 
 -- the error of a call that cannot become a jump: the first that applies, in this order
@@ -69,12 +69,12 @@ Rejects (Delete offset bytes) state error = (error ≡ BadDeletion)
 Rejects (ToOutput i) state error = ⊥
 Rejects (ToInput y) state error = (error ≡ TooLarge) × ¬ HasInput state.deltas y
 Rejects (Call site target) state error = ((error ≡ BadCall)
-    × ¬ All (IsFarFrom site) state.calls.by_site)
-    ⊎ (All (IsFarFrom site) state.calls.by_site × (cause : CallError) × (error ≡ CallFailed cause)
+    × ¬ All (IsFarFrom site) state.calls)
+    ⊎ (All (IsFarFrom site) state.calls × (cause : CallError) × (error ≡ CallFailed cause)
     × CallFailsWith cause state.section.items state.deltas site target)
 Rejects Show state error = ⊥
 Rejects Pack state error = (at : ℕ) × (cause : CallError) × (error ≡ CallFailed cause)
-    × IsFirstRejected OfAuipc state.deltas state.section.items state.calls.by_site at
+    × IsFirstRejected OfAuipc state.deltas state.section.items state.calls at
     (JumpFailed cause)
 
 -- the command takes memory before it is known that it is rejected with this error
@@ -119,7 +119,7 @@ RejectsLine line state error =
 abbrev pub RunsTo : List ℕ → List ℕ → SectionState → List ℕ → Type 0
 RunsTo input rest after printed = (before : SectionState)
     × (decoded_hex (first_line input) ≡ Some before.section.items)
-    × (before.deltas ≡ []) × (before.calls.by_site ≡ [])
+    × (before.deltas ≡ []) × (before.calls ≡ [])
     × (lines : List (List ℕ)) × BeginWithLines lines (drop_through 10 input) rest
     × ExecutesLines lines before after printed
 

@@ -1,105 +1,83 @@
 //! The calls that were made jumps.
 
-ghost use Rattle.std.specs.Prelude.{◌≡◌, ◌<◌, ◌≤◌, ◌++◌, ◌∷◌, [], All, OnOk, MatchOption, length};
-ghost use Rattle.std.specs.List.Sorted.{IsPartitionPoint};
+ghost use Rattle.std.specs.Prelude.{◌≡◌, ◌↔◌, ◌++◌, ◌∷◌, [], ℕ, List, All, IsTrue, IfOk, OnOk, OnErr};
 ghost use Rattle.linker_riscv64.specs.Packing.{AreApart};
-ghost use Rattle.linkfix.specs.AcceptedCalls.{AreBySite, IsFarFrom, IsInsertionIndex};
+ghost use Rattle.linkfix.specs.AcceptedCalls.{AreBySite, IsFarFrom};
+ghost use Rattle.linkfix.specs.ByOffset.{placed};
 
 use std::alloc::{AllocError, Global};
+use std::collections::BTreeMap;
 use std::marker::Model;
 
 /// The bytes of a jump: the sites of two accepted calls are at least so far apart.
 const JUMP_LEN: u64 = 4;
 
-/// Calls, each a site and a target, whose sites ascend by at least 4. Contracts see the calls, and
-/// for how many more there is room.
+/// Calls, each a site and a target, whose sites are at least 4 apart. Contracts see them by site.
 #[derive(Drop)]
 pub struct AcceptedCalls {
-    calls: Vec<(u64, u64)>,
+    targets: BTreeMap<u64, u64>,
 }
 
 impl Model for AcceptedCalls {
-    ghost use Rattle.std.specs.Prelude.{◌-◌, vec_len, vec_capacity};
+    ghost use Rattle.std.specs.Prelude.{ℕ, List};
     ghost use Rattle.linker_riscv64.specs.Packing.{AreApart};
-    ghost use Rattle.linkfix.specs.AcceptedCalls.{CallList};
 
-    ghost Value = { CallList };
+    ghost Value = { List (ℕ × ℕ) };
 
-    ghost view = { λ accepted. record {
-      by_site = accepted.calls.items;
-      room = vec_capacity accepted.calls - vec_len accepted.calls;
-    } };
+    ghost view = { λ accepted. accepted.targets.entries };
 
-    ghost invariant = { λ accepted. AreApart accepted.calls.items };
+    ghost invariant = { λ accepted. AreApart accepted.targets.entries };
 }
 
 impl AcceptedCalls {
     /// No calls. It doesn't allocate.
     pub fn new(alloc: Global) -> AcceptedCalls
-        ensures { result.by_site ≡ [] }
+        ensures { result ≡ [] }
     {
         AcceptedCalls {
-            calls: Vec::new(alloc),
+            targets: BTreeMap::new(alloc),
         }
     }
 
     /// The calls by site.
-    pub fn as_slice(&self) -> &[(u64, u64)]
-        ensures calls { result.now ≡ self.now.by_site }
-        ensures apart { AreApart result.now }
+    pub fn to_vec(&self, alloc: Global) -> Result<Vec<(u64, u64)>, AllocError>
+        ensures calls { IfOk result (λ calls. calls.items ≡ self.now) }
+        ensures apart { AreApart self.now }
     {
-        self.calls.as_slice()
+        let mut calls = Vec::with_capacity(alloc, self.targets.len())?;
+        for (site, target) in &self.targets {
+            calls.push((*site, *target))?;
+        }
+        Ok(calls)
     }
 
-    /// The index at which a call at `site` belongs. None where the site is less than 4 from that of
-    /// a call. The search takes O(log n).
-    pub fn insertion_index(&self, site: u64) -> Option<usize>
-        ensures { MatchOption result (¬ All (IsFarFrom site) self.now.by_site)
-            (IsInsertionIndex self.now.by_site site) }
+    /// Whether the site is at least 4 from that of each call. The search takes O(log n).
+    pub fn are_far_from(&self, site: u64) -> bool
+        ensures { IsTrue result ↔ All (IsFarFrom site) self.now }
     {
-        insertion_index_among(&self.calls, site)
+        let first = site.saturating_sub(JUMP_LEN - 1);
+        match self.targets.range(first..).next() {
+            Some((next, _)) => next.saturating_sub(site) >= JUMP_LEN,
+            None => true,
+        }
     }
 
-    /// Takes room for one more call.
-    pub fn reserve_one(&mut self) -> Result<(), AllocError>
-        ensures room { OnOk result (0 < self.new.room) }
-        ensures calls { self.new.by_site ≡ self.old.by_site }
+    /// Adds a call in O(log n). It changes nothing where it runs out of memory.
+    pub fn insert(&mut self, site: u64, target: u64) -> Result<(), AllocError>
+        requires { All (IsFarFrom site) self.old }
+        ensures ok { OnOk result (AreBySite (self.old ++ (site, target) ∷ []) self.new) }
+        ensures placed { OnOk result (self.new ≡ placed (site, target) self.old) }
+        ensures err { OnErr result (self.new ≡ self.old) }
     {
-        self.calls.reserve(1)
+        let _ = self.targets.insert(site, target)?;
+        Ok(())
     }
 
-    /// Puts a call at its index, behind room that was taken.
-    pub fn insert(&mut self, index: usize, site: u64, target: u64)
-        requires room { 0 < self.old.room }
-        requires index { IsInsertionIndex self.old.by_site site index }
-        ensures { AreBySite (self.old.by_site ++ (site, target) ∷ []) self.new.by_site }
+    /// Takes out the call at `site` that was added last, in O(log n).
+    pub fn remove(&mut self, site: u64)
+        ensures { (target : ℕ) (calls : List (ℕ × ℕ)) → All (IsFarFrom site) calls
+            → self.old ≡ placed (site, target) calls → self.new ≡ calls }
     {
-        let _ = self.calls.insert(index, (site, target));
+        let _ = self.targets.remove(&site);
     }
-}
-
-/// The index at which a call at `site` belongs among calls by site, as `insertion_index` gives it.
-fn insertion_index_among(calls: &[(u64, u64)], site: u64) -> Option<usize>
-    requires { AreApart calls.now }
-    ensures { MatchOption result (¬ All (IsFarFrom site) calls.now)
-        (IsInsertionIndex calls.now site) }
-{
-    let index = count_below(calls, site);
-    if index > 0 && site.saturating_sub(calls[index - 1].0) < JUMP_LEN {
-        return None;
-    }
-    if index < calls.len() && calls[index].0.saturating_sub(site) < JUMP_LEN {
-        return None;
-    }
-    Some(index)
-}
-
-/// How many of the calls have a lower site.
-fn count_below(calls: &[(u64, u64)], site: u64) -> usize
-    requires { AreApart calls.now }
-    ensures within { result ≤ length calls.now }
-    ensures parted { IsPartitionPoint (λ call. call.0 < site) (λ call. site ≤ call.0) calls.now
-        result }
-{
-    calls.partition_point(|call| call.0 < site)
 }

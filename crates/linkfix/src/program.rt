@@ -344,8 +344,8 @@ impl SectionState {
     }
 
     /// Replaces the call at `site` by one jump to `target`, and accepts it. `BadCall` if its site
-    /// is less than 4 from that of an accepted call. Then it takes room for the call, and then come
-    /// the errors of `jump`.
+    /// is less than 4 from that of an accepted call. Then it adds the call, and then come the
+    /// errors of `jump`, with which it takes the call out again.
     fn call(&mut self, site: u64, target: u64) -> Result<(), ReportedError>
         ensures executed { OnOk result
             (Executes (Command.Call site target) self.old self.new (codes "ok")) }
@@ -356,15 +356,17 @@ impl SectionState {
             → Rejects (Command.Call site target) self.old error → (result ≡ Err error)
             ⊎ ((error ≢ ReportedError.BadCall) × (result ≡ Err ReportedError.OutOfMemory)) }
         ensures unchanged { OnErr result ((self.new.section.items ≡ self.old.section.items)
-            × (self.new.calls.by_site ≡ self.old.calls.by_site)) }
+            × (self.new.calls ≡ self.old.calls)) }
         ensures deltas_stay { self.new.deltas ≡ self.old.deltas }
     {
-        let Some(index) = self.calls.insertion_index(site) else {
+        if !self.calls.are_far_from(site) {
             return Err(ReportedError::BadCall);
-        };
-        self.calls.reserve_one()?;
-        self.jump(site, target)?;
-        self.calls.insert(index, site, target);
+        }
+        self.calls.insert(site, target)?;
+        if let Err(error) = self.jump(site, target) {
+            self.calls.remove(site);
+            return Err(ReportedError::Call(error));
+        }
         Ok(())
     }
 
@@ -385,14 +387,15 @@ impl SectionState {
     /// The section packed, with the accepted calls made jumps.
     fn pack(&self) -> Result<Vec<u8>, ReportedError>
         ensures packed { IfOk result (λ packed. IsPacked LinkRegister.OfAuipc self.now.deltas
-            self.now.section.items self.now.calls.by_site packed.items) }
+            self.now.section.items self.now.calls packed.items) }
         ensures rejected { IfErr result (λ error. Rejects Command.Pack self.now error
             ⊎ (error ≡ ReportedError.OutOfMemory)) }
         ensures causes { (error : ReportedError) → Rejects Command.Pack self.now error
             → (result ≡ Err error) ⊎ (result ≡ Err ReportedError.OutOfMemory) }
     {
         let deltas = self.deltas.all(self.alloc)?;
-        match pack_section(self.alloc, &self.section, &deltas, self.calls.as_slice()) {
+        let calls = self.calls.to_vec(self.alloc)?;
+        match pack_section(self.alloc, &self.section, &deltas, &calls) {
             Ok(packed) => Ok(packed),
             Err(PackError::OutOfMemory) => Err(ReportedError::OutOfMemory),
             Err(PackError::Call { error, .. }) => Err(ReportedError::Call(error)),

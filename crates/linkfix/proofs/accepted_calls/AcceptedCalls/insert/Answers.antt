@@ -1,25 +1,26 @@
-use Rattle.std.proofs.Common.{◌≡◌, ◌<◌, ap, sym, subst, List, ℕ, arith}
-use Rattle.std.specs.Prelude.{insert, vec_capacity, vec_len}
-use Rattle.std.proofs.lemmas.Grind.{common_steps}
-use Rattle.linkfix.specs.AcceptedCalls.{CallList, IsInsertionIndex}
-use Rattle.linkfix.proofs.CallLemmas.{apart_inserted, by_site_inserted}
+use Rattle.std.proofs.Common.{◌∙◌, ap}
+use Rattle.std.specs.Prelude.{All}
+use Rattle.linkfix.specs.AcceptedCalls.{IsFarFrom}
+use Rattle.linkfix.specs.ByOffset.{placed}
+use Rattle.linkfix.proofs.CallLemmas.{by_site_placed, inserted_placed}
 use Rattle.linkfix.proofs.accepted_calls.AcceptedCalls.insert.Goals as goal
 
-pub invariant_of-self : goal.invariant_of-self
-invariant_of-self c =
-    let calls = c.self.inside.calls in
-    let index_is : IsInsertionIndex calls.items c.args.site c.args.index = subst (λ (l : List (ℕ × ℕ)). IsInsertionIndex l c.args.site c.args.index) (sym (ap (λ (l : CallList). l.by_site) c.self.view_is)) c.requires.index in
-    let space = ap (λ (l : CallList). l.room) c.self.view_is in
-    let room : vec_len calls < vec_capacity calls = omega (arith, space, c.requires.room) in
-    let items : c.insert.new.self.items ≡ insert calls.items c.args.index (c.args.site, c.args.target) = grind (arith, common_steps, c.insert.ensures.succeeds room, c.insert.ensures.items) in
-    rw items (apart_inserted calls.items c.args.site c.args.target c.args.index c.self.invariant index_is)
+pub invariant_of-self-2 : goal.invariant_of-self-2
+invariant_of-self-2 c =
+    let calls = c.self.inside.targets.entries in
+    let far : All (IsFarFrom c.args.site) calls = rw c.self.view_is c.requires in
+    let is = c.in_ok-insert.ensures.entries ∙ inserted_placed calls c.args.site c.args.target far in
+    rw is ((by_site_placed calls (c.args.site, c.args.target) c.self.invariant far).apart)
 
-pub returns : goal.returns
-returns c =
-    let calls = c.self.inside.calls in
-    let same = ap (λ (l : CallList). l.by_site) c.self.view_is in
-    let index_is : IsInsertionIndex calls.items c.args.site c.args.index = subst (λ (l : List (ℕ × ℕ)). IsInsertionIndex l c.args.site c.args.index) (sym same) c.requires.index in
-    let space = ap (λ (l : CallList). l.room) c.self.view_is in
-    let room : vec_len calls < vec_capacity calls = omega (arith, space, c.requires.room) in
-    let items : c.insert.new.self.items ≡ insert calls.items c.args.index (c.args.site, c.args.target) = grind (arith, common_steps, c.insert.ensures.succeeds room, c.insert.ensures.items) in
-    rw (items, ← same) (by_site_inserted calls.items c.args.site c.args.target c.args.index c.self.invariant index_is)
+pub returns-clause-ok : goal.returns-clause-ok
+returns-clause-ok c =
+    let calls = c.self.inside.targets.entries in
+    let far : All (IsFarFrom c.args.site) calls = rw c.self.view_is c.requires in
+    let is = c.in_ok-insert.ensures.entries ∙ inserted_placed calls c.args.site c.args.target far in
+    rw (is, ← c.self.view_is) (by_site_placed calls (c.args.site, c.args.target) c.self.invariant far)
+
+pub returns-clause-placed : goal.returns-clause-placed
+returns-clause-placed c =
+    let calls = c.self.inside.targets.entries in
+    let far : All (IsFarFrom c.args.site) calls = rw c.self.view_is c.requires in
+    c.in_ok-insert.ensures.entries ∙ inserted_placed calls c.args.site c.args.target far ∙ ap (λ l. placed (c.args.site, c.args.target) l) c.self.view_is
