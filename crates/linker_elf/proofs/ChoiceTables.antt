@@ -239,6 +239,18 @@ first_of_table {O} {K} {R} are_at Asked row after section o facts (e ∷ es) (d 
       first_of_table are_at Asked row after section o facts es ds otherwise chosen table.1.1 h.1,
     ))
 
+-- whether the code's table is empty is whether the definition's is
+pub is_empty_table : {O K R : Type 0} → (are_at : O → K → List ℕ → ℕ → Type 0) (Asked : K → List ℕ → ℕ → Type 0)
+    → (es : List (ChoiceEntry O K R)) (ds : List (Entry K R)) (is : Bool) → IsTableOf are_at Asked es ds → is ≡ (length es == 0)
+    → (not is ≡ false) ↔ (ds ≡ [])
+is_empty_table are_at Asked [] [] is table known = (λ h. refl, λ h. ap not known)
+is_empty_table are_at Asked [] (d ∷ ds) is table known = absurd table
+is_empty_table are_at Asked (e ∷ es) [] is table known = absurd table
+is_empty_table are_at Asked (e ∷ es) (d ∷ ds) true table known =
+    absurd (let none : length (e ∷ es) ≡ 0 = eqb-true (length (e ∷ es)) 0 (sym known) in omega (arith, none))
+is_empty_table are_at Asked (e ∷ es) (d ∷ ds) false table known =
+    (λ h. absurd (true≢false h), λ h. absurd (let none : length (d ∷ ds) ≡ 0 = ap length h in omega (arith, none)))
+
 -- what holds of the choice of each entry that applies, and of the other choice, holds of what is chosen
 pub holds_of_first : {K R : Type 0} → (A : Entry K R → Type 0) (P : Choice K R → Type 0) (es : List (Entry K R))
     → (otherwise chosen : Choice K R) → ((e : Entry K R) → A e → P (choice e.kind e.relocation)) → P otherwise

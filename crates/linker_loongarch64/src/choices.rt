@@ -14,8 +14,8 @@ use super::rewrites::{
 };
 use linker_base::rewrite::has_window;
 use linker_elf::elf::choice_table::{
-    BOUND, ChosenByTable, ChosenKind, Conditions, EXECUTABLE, FIXED_DISTANCE, GROUP_FITS,
-    RELAXABLE, Table, all_tables, by_table, choice_by, conditions, is_listed,
+    BOUND, Chosen, ChosenByTable, ChosenKind, EXECUTABLE, FIXED_DISTANCE, GROUP_FITS, RELAXABLE,
+    Table, all_tables, by_table, choice_by, conditions,
 };
 use linker_elf::elf::{Choice, LinkFacts, Operands};
 use linker_elf::loongarch64::{LoongArch64Relocation, LoongArch64Relocation as Names};
@@ -106,42 +106,6 @@ impl ChosenKind for RelaxationKind {
     }
 }
 
-/// By `pcaddi` alone, which is so many bytes before.
-macro_rules! by_pcaddi {
-    ($back:expr) => {
-        conditions!(FIXED_DISTANCE + RELAXABLE, None, InReach(R_LARCH_PCREL20_S2, $back))
-    };
-}
-
-/// The same of the symbol's definition, in place of its GOT entry.
-macro_rules! bound_by_pcaddi {
-    ($back:expr) => {
-        conditions!(
-            BOUND + FIXED_DISTANCE + RELAXABLE,
-            Some(0),
-            InReach(R_LARCH_PCREL20_S2, $back)
-        )
-    };
-}
-
-/// The GOT entry of general- or local-dynamic by `pcaddi`, which is so many bytes before.
-macro_rules! entry_by_pcaddi {
-    ($name:ident, $back:expr) => {
-        conditions!(RELAXABLE + GROUP_FITS, None, InReach($name, $back))
-    };
-}
-
-/// The definition by the distance in pages from `pcalau12i`, which is so many bytes before.
-macro_rules! bound_by_pages {
-    ($back:expr) => {
-        conditions!(
-            BOUND + FIXED_DISTANCE,
-            Some(0),
-            WithinIfKnown(R_LARCH_PCALA_HI20, SIGNED_32, $back)
-        )
-    };
-}
-
 /// The numbers of 32 bits in two's complement, the immediates of `ori`, and those of `addi.d`.
 const SIGNED_32: (i64, i64) = (-0x8000_0000, 0x8000_0000);
 
@@ -149,41 +113,66 @@ const UNSIGNED_12: (i64, i64) = (0, 0x1000);
 
 const SIGNED_12: (i64, i64) = (-0x800, 0x800);
 
-/// By `b` or `bl`.
-const BY_BRANCH: Conditions<Names> = conditions!(
-    FIXED_DISTANCE + RELAXABLE,
-    None,
-    InReach(R_LARCH_B26, 0)
-);
-
-/// The offset from the thread pointer in the instructions, which may stand apart, and by `ori` alone.
-const TO_LOCAL_EXEC: Conditions<Names> = conditions!(
-    BOUND + EXECUTABLE + GROUP_FITS,
-    Some(0),
-    WithinIfKnown(R_LARCH_TLS_LE_HI20, SIGNED_32, 0)
-);
-
-const TO_SHORT_LOCAL_EXEC: Conditions<Names> = conditions!(
-    BOUND + EXECUTABLE + GROUP_FITS,
-    Some(0),
-    Within(R_LARCH_TLS_LE_LO12, UNSIGNED_12, 0)
-);
-
-/// The offset in the GOT: of the high half, which has the distance, and of the others.
-const PAGE_TO_INITIAL_EXEC: Conditions<Names> = conditions!(
-    EXECUTABLE + GROUP_FITS,
-    None,
-    WithinIfKnown(R_LARCH_TLS_IE_PC_HI20, SIGNED_32, 0)
-);
-
-const TO_INITIAL_EXEC: Conditions<Names> = conditions!(EXECUTABLE + GROUP_FITS, None);
-
-/// The offset from the thread pointer in 12 signed bits.
-const BY_LOW_PART: Conditions<Names> = conditions!(
-    RELAXABLE,
-    None,
-    Within(R_LARCH_TLS_LE_LO12_R, SIGNED_12, 0)
-);
+/// The conditions of entries, by the names that the definition has for them. Behind some stands how
+/// many bytes before the first instruction is.
+macro_rules! when {
+    // by `pcaddi` alone
+    (by_pcaddi $back:literal) => {
+        conditions!(FIXED_DISTANCE + RELAXABLE, InReach(R_LARCH_PCREL20_S2, $back))
+    };
+    // the same of the symbol's definition, in place of its GOT entry
+    (bound_by_pcaddi $back:literal) => {
+        conditions!(
+            BOUND + FIXED_DISTANCE + RELAXABLE,
+            Some(0),
+            InReach(R_LARCH_PCREL20_S2, $back)
+        )
+    };
+    // the GOT entry of general- or local-dynamic by `pcaddi`
+    (entry_by_pcaddi $name:ident, $back:literal) => {
+        conditions!(RELAXABLE + GROUP_FITS, InReach($name, $back))
+    };
+    // the definition by the distance in pages
+    (bound_by_pages $back:literal) => {
+        conditions!(
+            BOUND + FIXED_DISTANCE,
+            Some(0),
+            WithinIfKnown(R_LARCH_PCALA_HI20, SIGNED_32, $back)
+        )
+    };
+    // by `b` or `bl`
+    (by_branch) => {
+        conditions!(FIXED_DISTANCE + RELAXABLE, InReach(R_LARCH_B26))
+    };
+    // the offset from the thread pointer in the instructions, which may stand apart
+    (to_local_exec) => {
+        conditions!(
+            BOUND + EXECUTABLE + GROUP_FITS,
+            Some(0),
+            WithinIfKnown(R_LARCH_TLS_LE_HI20, SIGNED_32)
+        )
+    };
+    // that offset by `ori` alone
+    (to_short_local_exec) => {
+        conditions!(
+            BOUND + EXECUTABLE + GROUP_FITS,
+            Some(0),
+            Within(R_LARCH_TLS_LE_LO12, UNSIGNED_12)
+        )
+    };
+    // the offset in the GOT: of the high half, which has the distance
+    (page_to_initial_exec) => {
+        conditions!(EXECUTABLE + GROUP_FITS, WithinIfKnown(R_LARCH_TLS_IE_PC_HI20, SIGNED_32))
+    };
+    // and of the others
+    (to_initial_exec) => {
+        conditions!(EXECUTABLE + GROUP_FITS)
+    };
+    // the offset from the thread pointer in 12 signed bits
+    (by_low_part) => {
+        conditions!(RELAXABLE, Within(R_LARCH_TLS_LE_LO12_R, SIGNED_12))
+    };
+}
 
 /// The entries of each relocation.
 macro_rules! choices {
@@ -191,66 +180,66 @@ macro_rules! choices {
         $make! {
             $arguments
             R_LARCH_GOT_PC_HI20: [
-                PcalaToPcaddi at Load(0) => R_LARCH_PCREL20_S2, bound_by_pcaddi!(0);
-                NoOp at Load(0) => R_LARCH_PCALA_HI20, bound_by_pages!(0);
+                PcalaToPcaddi at Load(0) => R_LARCH_PCREL20_S2, bound_by_pcaddi(0);
+                NoOp at Load(0) => R_LARCH_PCALA_HI20, bound_by_pages(0);
             ]
             R_LARCH_GOT_PC_LO12: [
-                Delete at Load(4) => R_LARCH_NONE, bound_by_pcaddi!(4);
-                LdToAddi at Load(4) => R_LARCH_PCALA_LO12, bound_by_pages!(4);
+                Delete at Load(4) => R_LARCH_NONE, bound_by_pcaddi(4);
+                LdToAddi at Load(4) => R_LARCH_PCALA_LO12, bound_by_pages(4);
                 DeleteAddi at Sum(4) => R_LARCH_NONE,
-                    entry_by_pcaddi!(R_LARCH_TLS_GD_PCREL20_S2, 4);
+                    entry_by_pcaddi(R_LARCH_TLS_GD_PCREL20_S2, 4);
             ]
-            R_LARCH_PCALA_HI20: [PcalaToPcaddi at Sum(0) => R_LARCH_PCREL20_S2, by_pcaddi!(0)]
-            R_LARCH_PCALA_LO12: [Delete at Sum(4) => R_LARCH_NONE, by_pcaddi!(4)]
+            R_LARCH_PCALA_HI20: [PcalaToPcaddi at Sum(0) => R_LARCH_PCREL20_S2, by_pcaddi(0)]
+            R_LARCH_PCALA_LO12: [Delete at Sum(4) => R_LARCH_NONE, by_pcaddi(4)]
             R_LARCH_TLS_GD_PC_HI20: [
                 PcalaToPcaddi at Sum(0) => R_LARCH_TLS_GD_PCREL20_S2,
-                    entry_by_pcaddi!(R_LARCH_TLS_GD_PCREL20_S2, 0)
+                    entry_by_pcaddi(R_LARCH_TLS_GD_PCREL20_S2, 0)
             ]
             R_LARCH_TLS_LD_PC_HI20: [
                 PcalaToPcaddi at Sum(0) => R_LARCH_TLS_LD_PCREL20_S2,
-                    entry_by_pcaddi!(R_LARCH_TLS_LD_PCREL20_S2, 0)
+                    entry_by_pcaddi(R_LARCH_TLS_LD_PCREL20_S2, 0)
             ]
             R_LARCH_CALL36: [
-                CallToB => R_LARCH_B26, BY_BRANCH;
-                CallToBl => R_LARCH_B26, BY_BRANCH;
+                CallToB => R_LARCH_B26, by_branch;
+                CallToBl => R_LARCH_B26, by_branch;
             ]
             R_LARCH_TLS_IE_PC_HI20: [
-                ReplaceWithNop at Pcalau12i => R_LARCH_NONE, TO_SHORT_LOCAL_EXEC;
-                PcalaToLu12i at Pcalau12i => R_LARCH_TLS_LE_HI20, TO_LOCAL_EXEC;
+                ReplaceWithNop at Pcalau12i => R_LARCH_NONE, to_short_local_exec;
+                PcalaToLu12i at Pcalau12i => R_LARCH_TLS_LE_HI20, to_local_exec;
             ]
             R_LARCH_TLS_IE_PC_LO12: [
-                LowToOriZero at Ld => R_LARCH_TLS_LE_LO12, TO_SHORT_LOCAL_EXEC;
-                LowToOri at Ld => R_LARCH_TLS_LE_LO12, TO_LOCAL_EXEC;
+                LowToOriZero at Ld => R_LARCH_TLS_LE_LO12, to_short_local_exec;
+                LowToOri at Ld => R_LARCH_TLS_LE_LO12, to_local_exec;
             ]
             R_LARCH_TLS_DESC_PC_HI20: [
-                PcalaToLu12i at PageOfDescriptor => R_LARCH_TLS_LE_HI20, TO_LOCAL_EXEC;
-                NoOp at PageOfDescriptor => R_LARCH_TLS_IE_PC_HI20, PAGE_TO_INITIAL_EXEC;
+                PcalaToLu12i at PageOfDescriptor => R_LARCH_TLS_LE_HI20, to_local_exec;
+                NoOp at PageOfDescriptor => R_LARCH_TLS_IE_PC_HI20, page_to_initial_exec;
             ]
             R_LARCH_TLS_DESC_PC_LO12: [
-                LowToOri at LowOfDescriptor => R_LARCH_TLS_LE_LO12, TO_LOCAL_EXEC;
-                AddiToLd at LowOfDescriptor => R_LARCH_TLS_IE_PC_LO12, TO_INITIAL_EXEC;
+                LowToOri at LowOfDescriptor => R_LARCH_TLS_LE_LO12, to_local_exec;
+                AddiToLd at LowOfDescriptor => R_LARCH_TLS_IE_PC_LO12, to_initial_exec;
             ]
             R_LARCH_TLS_DESC_LD: [
-                ReplaceWithNop at LoadOfDescriptor => R_LARCH_NONE, TO_LOCAL_EXEC;
-                ReplaceWithNop at LoadOfDescriptor => R_LARCH_NONE, TO_INITIAL_EXEC;
+                ReplaceWithNop at LoadOfDescriptor => R_LARCH_NONE, to_local_exec;
+                ReplaceWithNop at LoadOfDescriptor => R_LARCH_NONE, to_initial_exec;
             ]
             R_LARCH_TLS_DESC_CALL: [
-                ReplaceWithNop at CallOfDescriptor => R_LARCH_NONE, TO_LOCAL_EXEC;
-                ReplaceWithNop at CallOfDescriptor => R_LARCH_NONE, TO_INITIAL_EXEC;
+                ReplaceWithNop at CallOfDescriptor => R_LARCH_NONE, to_local_exec;
+                ReplaceWithNop at CallOfDescriptor => R_LARCH_NONE, to_initial_exec;
             ]
-            R_LARCH_TLS_LE_HI20_R: [Delete at Lu12i => R_LARCH_NONE, BY_LOW_PART]
-            R_LARCH_TLS_LE_ADD_R: [Delete at AddTp => R_LARCH_NONE, BY_LOW_PART]
-            R_LARCH_TLS_LE_LO12_R: [BaseToTp => R_LARCH_TLS_LE_LO12_R, BY_LOW_PART]
+            R_LARCH_TLS_LE_HI20_R: [Delete at Lu12i => R_LARCH_NONE, by_low_part]
+            R_LARCH_TLS_LE_ADD_R: [Delete at AddTp => R_LARCH_NONE, by_low_part]
+            R_LARCH_TLS_LE_LO12_R: [BaseToTp => R_LARCH_TLS_LE_LO12_R, by_low_part]
         }
     };
 }
 
-static TABLES: &[Table<RelaxationKind>] = choices!(all_tables());
+static TABLES: &[Table<RelaxationKind>] = choices!(all_tables(when));
 
 impl ChosenByTable for RelaxationKind {
     #[inline(always)]
     fn may_be_listed(name: Names) -> bool {
-        choices!(is_listed(name))
+        !Self::entries(name, &[], 0).is_empty()
     }
 
     #[inline(always)]
@@ -259,12 +248,7 @@ impl ChosenByTable for RelaxationKind {
     }
 
     #[inline(never)]
-    fn choose_listed(
-        name: Names,
-        section: &[u8],
-        offset: u64,
-        facts: &LinkFacts,
-    ) -> Choice<Self, Names> {
+    fn choose_listed(name: Names, section: &[u8], offset: u64, facts: &LinkFacts) -> Chosen<Self> {
         choices!(by_table(TABLES, name, table => choice_by(table, name, section, offset, facts)))
     }
 }

@@ -11,9 +11,8 @@ ghost use Rattle.linker_ppc64.specs.declared.rewrites.RelaxationKind.TheVariants
 
 use super::rewrites::RelaxationKind;
 use linker_elf::elf::choice_table::{
-    BOUND, CHANGED_TOC, ChosenByTable, ChosenKind, Conditions, EXCLUSIVE_TOC_BASE, EXECUTABLE,
+    BOUND, CHANGED_TOC, Chosen, ChosenByTable, ChosenKind, EXCLUSIVE_TOC_BASE, EXECUTABLE,
     FIXED_ADDRESS, FIXED_DISTANCE, GROUP_FITS, Table, all_tables, by_table, choice_by, conditions,
-    is_listed,
 };
 use linker_elf::elf::{Choice, LinkFacts, Operands};
 use linker_elf::ppc64::{Ppc64Relocation, Ppc64Relocation as Names};
@@ -51,138 +50,118 @@ impl ChosenKind for RelaxationKind {
     }
 }
 
-/// The high part of the distance from the TOC pointer is 0.
-const WITHOUT_HIGH_PART: Conditions<Names> = conditions!(
-    EXCLUSIVE_TOC_BASE,
-    None,
-    InReach(R_PPC64_TOC16, 0)
-);
-
-/// The high part of the offset from the thread pointer is 0.
-const WITHOUT_HIGH_OFFSET: Conditions<Names> = conditions!(
-    BOUND + EXECUTABLE + EXCLUSIVE_TOC_BASE + GROUP_FITS,
-    None,
-    InReach(R_PPC64_TPREL16, 0)
-);
-
-/// The address by its distance from the TOC pointer.
-const TO_TOC_DISTANCE: Conditions<Names> = conditions!(
-    BOUND + FIXED_DISTANCE,
-    None,
-    InReachIfKnown(R_PPC64_TOC16_HA, 0)
-);
-
-/// The address by its distance from the instruction.
-const TO_DISTANCE: Conditions<Names> = conditions!(
-    BOUND + FIXED_DISTANCE,
-    None,
-    InReachIfKnown(R_PPC64_PCREL34, 0)
-);
-
-/// The offset from the thread pointer in the instructions.
-const TO_LOCAL_EXEC: Conditions<Names> = conditions!(
-    BOUND + EXECUTABLE + GROUP_FITS,
-    None,
-    InReachIfKnown(R_PPC64_TPREL16_HA, 0)
-);
-
-/// The same of an access of whole words.
-const TO_LOCAL_EXEC_WORDS: Conditions<Names> = conditions!(
-    BOUND + EXECUTABLE + GROUP_FITS,
-    None,
-    InReachIfKnown(R_PPC64_TPREL16_HA, 0),
-    InReachIfKnown(R_PPC64_TPREL16_LO_DS, 0)
-);
-
-/// The offset from the thread pointer in the GOT.
-const TO_INITIAL_EXEC: Conditions<Names> = conditions!(
-    EXECUTABLE + GROUP_FITS,
-    None,
-    InReachIfKnown(R_PPC64_GOT_TPREL16_HA, 0)
-);
-
-/// The same in an entry near the TOC pointer.
-const TO_NEAR_INITIAL_EXEC: Conditions<Names> = conditions!(
-    EXECUTABLE + GROUP_FITS,
-    None,
-    InReachIfKnown(R_PPC64_GOT_TPREL16_DS, 0)
-);
-
-/// The module's block from the thread pointer.
-const TO_MODULE: Conditions<Names> = conditions!(EXECUTABLE + GROUP_FITS, None);
-
-/// The address in place of the distance from a function's entry, by the `addis` and by the `addi`
-/// behind it.
-const TO_ADDRESS_BY_ADDIS: Conditions<Names> = conditions!(
-    BOUND + FIXED_ADDRESS + GROUP_FITS,
-    Some(0),
-    InReachIfKnown(R_PPC64_ADDR16_HA, 0)
-);
-
-const TO_ADDRESS_BY_ADDI: Conditions<Names> = conditions!(
-    BOUND + FIXED_ADDRESS + GROUP_FITS,
-    Some(4),
-    InReachIfKnown(R_PPC64_ADDR16_HA, 0)
-);
-
-/// A call may change the TOC pointer.
-const AFTER_CALL: Conditions<Names> = conditions!(CHANGED_TOC, None);
+/// The conditions of entries, by the names that the definition has for them.
+macro_rules! when {
+    // the high part of the distance from the TOC pointer is 0
+    (without_high_part) => {
+        conditions!(EXCLUSIVE_TOC_BASE, InReach(R_PPC64_TOC16))
+    };
+    // the high part of the offset from the thread pointer is 0
+    (without_high_offset) => {
+        conditions!(BOUND + EXECUTABLE + EXCLUSIVE_TOC_BASE + GROUP_FITS, InReach(R_PPC64_TPREL16))
+    };
+    // the address by its distance from the TOC pointer
+    (to_toc_distance) => {
+        conditions!(BOUND + FIXED_DISTANCE, InReachIfKnown(R_PPC64_TOC16_HA))
+    };
+    // the address by its distance from the instruction
+    (to_distance) => {
+        conditions!(BOUND + FIXED_DISTANCE, InReachIfKnown(R_PPC64_PCREL34))
+    };
+    // the offset from the thread pointer in the instructions
+    (to_local_exec) => {
+        conditions!(BOUND + EXECUTABLE + GROUP_FITS, InReachIfKnown(R_PPC64_TPREL16_HA))
+    };
+    // the same of an access of whole words
+    (to_local_exec_words) => {
+        conditions!(
+            BOUND + EXECUTABLE + GROUP_FITS,
+            InReachIfKnown(R_PPC64_TPREL16_HA),
+            InReachIfKnown(R_PPC64_TPREL16_LO_DS)
+        )
+    };
+    // the offset from the thread pointer in the GOT
+    (to_initial_exec) => {
+        conditions!(EXECUTABLE + GROUP_FITS, InReachIfKnown(R_PPC64_GOT_TPREL16_HA))
+    };
+    // the same in an entry near the TOC pointer
+    (to_near_initial_exec) => {
+        conditions!(EXECUTABLE + GROUP_FITS, InReachIfKnown(R_PPC64_GOT_TPREL16_DS))
+    };
+    // the module's block from the thread pointer
+    (to_module) => {
+        conditions!(EXECUTABLE + GROUP_FITS)
+    };
+    // the address in place of the distance from a function's entry, by the `addis` and by the `addi`
+    // behind it, which have the addends 0 and 4
+    (to_address $addend:literal) => {
+        conditions!(
+            BOUND + FIXED_ADDRESS + GROUP_FITS,
+            Some($addend),
+            InReachIfKnown(R_PPC64_ADDR16_HA)
+        )
+    };
+    // a call may change the TOC pointer
+    (after_call) => {
+        conditions!(CHANGED_TOC)
+    };
+}
 
 /// The entries of each relocation.
 macro_rules! choices {
     ($make:ident $arguments:tt) => {
         $make! {
             $arguments
-            R_PPC64_TOC16_HA: [AddisToNop => R_PPC64_NONE, WITHOUT_HIGH_PART]
-            R_PPC64_TOC16_LO: [BaseToToc => R_PPC64_TOC16, WITHOUT_HIGH_PART]
-            R_PPC64_TOC16_LO_DS: [BaseToToc => R_PPC64_TOC16_DS, WITHOUT_HIGH_PART]
-            R_PPC64_GOT16_HA: [KeepAddis => R_PPC64_TOC16_HA, TO_TOC_DISTANCE]
-            R_PPC64_GOT16_LO_DS: [LdToAddi => R_PPC64_TOC16_LO, TO_TOC_DISTANCE]
-            R_PPC64_GOT_PCREL34: [PldToPaddi => R_PPC64_PCREL34, TO_DISTANCE]
-            R_PPC64_GOT_TPREL16_HA: [AddisToNop => R_PPC64_NONE, TO_LOCAL_EXEC]
-            R_PPC64_GOT_TPREL16_LO_DS: [LdToAddisThread => R_PPC64_TPREL16_HA, TO_LOCAL_EXEC]
-            R_PPC64_GOT_TPREL16_DS: [LdToAddisThread => R_PPC64_TPREL16_HA, TO_LOCAL_EXEC]
+            R_PPC64_TOC16_HA: [AddisToNop => R_PPC64_NONE, without_high_part]
+            R_PPC64_TOC16_LO: [BaseToToc => R_PPC64_TOC16, without_high_part]
+            R_PPC64_TOC16_LO_DS: [BaseToToc => R_PPC64_TOC16_DS, without_high_part]
+            R_PPC64_GOT16_HA: [KeepAddis => R_PPC64_TOC16_HA, to_toc_distance]
+            R_PPC64_GOT16_LO_DS: [LdToAddi => R_PPC64_TOC16_LO, to_toc_distance]
+            R_PPC64_GOT_PCREL34: [PldToPaddi => R_PPC64_PCREL34, to_distance]
+            R_PPC64_GOT_TPREL16_HA: [AddisToNop => R_PPC64_NONE, to_local_exec]
+            R_PPC64_GOT_TPREL16_LO_DS: [LdToAddisThread => R_PPC64_TPREL16_HA, to_local_exec]
+            R_PPC64_GOT_TPREL16_DS: [LdToAddisThread => R_PPC64_TPREL16_HA, to_local_exec]
             R_PPC64_TLS: [
-                AddToAddi => R_PPC64_TPREL16_LO, TO_LOCAL_EXEC;
-                IndexedToD => R_PPC64_TPREL16_LO, TO_LOCAL_EXEC;
-                IndexedToDs => R_PPC64_TPREL16_LO_DS, TO_LOCAL_EXEC_WORDS;
+                AddToAddi => R_PPC64_TPREL16_LO, to_local_exec;
+                IndexedToD => R_PPC64_TPREL16_LO, to_local_exec;
+                IndexedToDs => R_PPC64_TPREL16_LO_DS, to_local_exec_words;
             ]
             R_PPC64_GOT_TLSGD16_HA: [
-                AddisToNop => R_PPC64_NONE, TO_LOCAL_EXEC;
-                KeepAddis => R_PPC64_GOT_TPREL16_HA, TO_INITIAL_EXEC;
+                AddisToNop => R_PPC64_NONE, to_local_exec;
+                KeepAddis => R_PPC64_GOT_TPREL16_HA, to_initial_exec;
             ]
             R_PPC64_GOT_TLSGD16_LO: [
-                AddiToAddisThread => R_PPC64_TPREL16_HA, TO_LOCAL_EXEC;
-                AddiToLd => R_PPC64_GOT_TPREL16_LO_DS, TO_INITIAL_EXEC;
+                AddiToAddisThread => R_PPC64_TPREL16_HA, to_local_exec;
+                AddiToLd => R_PPC64_GOT_TPREL16_LO_DS, to_initial_exec;
             ]
             R_PPC64_GOT_TLSGD16: [
-                AddiToAddisThread => R_PPC64_TPREL16_HA, TO_LOCAL_EXEC;
-                AddiToLd => R_PPC64_GOT_TPREL16_DS, TO_NEAR_INITIAL_EXEC;
+                AddiToAddisThread => R_PPC64_TPREL16_HA, to_local_exec;
+                AddiToLd => R_PPC64_GOT_TPREL16_DS, to_near_initial_exec;
             ]
             R_PPC64_TLSGD: [
-                CallToAddi => R_PPC64_TPREL16_LO, TO_LOCAL_EXEC;
-                CallToAdd => R_PPC64_NONE, TO_INITIAL_EXEC;
+                CallToAddi => R_PPC64_TPREL16_LO, to_local_exec;
+                CallToAdd => R_PPC64_NONE, to_initial_exec;
             ]
-            R_PPC64_GOT_TLSLD16_HA: [AddisToNop => R_PPC64_NONE, TO_MODULE]
-            R_PPC64_GOT_TLSLD16_LO: [AddiToAddisThread => R_PPC64_NONE, TO_MODULE]
-            R_PPC64_GOT_TLSLD16: [AddiToAddisThread => R_PPC64_NONE, TO_MODULE]
-            R_PPC64_TLSLD: [CallToAddi4096 => R_PPC64_NONE, TO_MODULE]
-            R_PPC64_REL24: [NopToRestoreToc => R_PPC64_REL24, AFTER_CALL]
-            R_PPC64_REL16_HA: [AddisToLis => R_PPC64_ADDR16_HA, TO_ADDRESS_BY_ADDIS]
-            R_PPC64_REL16_LO: [AddiBehindLis => R_PPC64_ADDR16_LO, TO_ADDRESS_BY_ADDI]
-            R_PPC64_TPREL16_HA: [AddisThreadToNop => R_PPC64_NONE, WITHOUT_HIGH_OFFSET]
-            R_PPC64_TPREL16_LO: [BaseToThread => R_PPC64_TPREL16, WITHOUT_HIGH_OFFSET]
-            R_PPC64_TPREL16_LO_DS: [BaseToThread => R_PPC64_TPREL16_DS, WITHOUT_HIGH_OFFSET]
+            R_PPC64_GOT_TLSLD16_HA: [AddisToNop => R_PPC64_NONE, to_module]
+            R_PPC64_GOT_TLSLD16_LO: [AddiToAddisThread => R_PPC64_NONE, to_module]
+            R_PPC64_GOT_TLSLD16: [AddiToAddisThread => R_PPC64_NONE, to_module]
+            R_PPC64_TLSLD: [CallToAddi4096 => R_PPC64_NONE, to_module]
+            R_PPC64_REL24: [NopToRestoreToc => R_PPC64_REL24, after_call]
+            R_PPC64_REL16_HA: [AddisToLis => R_PPC64_ADDR16_HA, to_address(0)]
+            R_PPC64_REL16_LO: [AddiBehindLis => R_PPC64_ADDR16_LO, to_address(4)]
+            R_PPC64_TPREL16_HA: [AddisThreadToNop => R_PPC64_NONE, without_high_offset]
+            R_PPC64_TPREL16_LO: [BaseToThread => R_PPC64_TPREL16, without_high_offset]
+            R_PPC64_TPREL16_LO_DS: [BaseToThread => R_PPC64_TPREL16_DS, without_high_offset]
         }
     };
 }
 
-static TABLES: &[Table<RelaxationKind>] = choices!(all_tables());
+static TABLES: &[Table<RelaxationKind>] = choices!(all_tables(when));
 
 impl ChosenByTable for RelaxationKind {
     #[inline(always)]
     fn may_be_listed(name: Names) -> bool {
-        choices!(is_listed(name))
+        !Self::entries(name, &[], 0).is_empty()
     }
 
     #[inline(always)]
@@ -191,12 +170,7 @@ impl ChosenByTable for RelaxationKind {
     }
 
     #[inline(never)]
-    fn choose_listed(
-        name: Names,
-        section: &[u8],
-        offset: u64,
-        facts: &LinkFacts,
-    ) -> Choice<Self, Names> {
+    fn choose_listed(name: Names, section: &[u8], offset: u64, facts: &LinkFacts) -> Chosen<Self> {
         choices!(by_table(TABLES, name, table => choice_by(table, name, section, offset, facts)))
     }
 }

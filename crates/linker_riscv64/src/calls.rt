@@ -53,6 +53,7 @@ pub(super) fn destination(word: u32) -> u32
 /// that links the same register: `auipc` and then `jalr` with the same register as base and as
 /// both destinations. (RISC-V ELF psABI, "Function Call Relaxation"; linkers take the register of
 /// the `jalr`, `CallToJal` that of the `auipc`.)
+#[inline(always)]
 pub fn is_plain_call(section: &[u8], site: u64) -> bool
     ensures { IsTrue result ↔ IsPlainCall section.now site }
 {

@@ -15,9 +15,9 @@ use super::rewrites::{is_add_tp, is_addi_to_a0, is_auipc, is_ld, is_lui, word_at
 use super::{RelaxationKind, RiscVRelocation, RiscVRelocation as Names};
 use linker_base::rewrite::has_window;
 use linker_elf::elf::choice_table::{
-    BOUND, COMPRESSIBLE, ChosenByTable, ChosenKind, Conditions, EXECUTABLE, FIXED_ADDRESS,
+    BOUND, COMPRESSIBLE, Chosen, ChosenByTable, ChosenKind, EXECUTABLE, FIXED_ADDRESS,
     FIXED_DISTANCE, GOT_HIGH_PART, LABEL_RELAXABLE, RELAXABLE, Table, WITHOUT_PLT, all_tables,
-    by_table, choice_by, conditions, is_listed,
+    by_table, choice_by, conditions,
 };
 use linker_elf::elf::{Choice, LinkFacts, Operands};
 
@@ -69,73 +69,59 @@ impl ChosenKind for RelaxationKind {
 /// The numbers of 12 bits in two's complement.
 const SIGNED_12: (i64, i64) = (-0x800, 0x800);
 
-/// A `jal` reaches the symbol.
-const BY_JUMP: Conditions<Names> = conditions!(
-    FIXED_DISTANCE + RELAXABLE + WITHOUT_PLT,
-    None,
-    InReach(R_RISCV_JAL, 0)
-);
-
-/// A `c.j` reaches it.
-const BY_SHORT_JUMP: Conditions<Names> = conditions!(
-    FIXED_DISTANCE + COMPRESSIBLE + RELAXABLE + WITHOUT_PLT,
-    None,
-    InReach(R_RISCV_RVC_JUMP, 0)
-);
-
-/// 12 signed bits hold the address.
-const WITH_LOW_PART: Conditions<Names> = conditions!(FIXED_ADDRESS, None, Low12);
-
-/// And instructions may be deleted.
-const BY_LOW_PART: Conditions<Names> = conditions!(FIXED_ADDRESS + RELAXABLE, None, Low12);
-
-/// A `c.lui` holds the high part.
-const BY_SHORT_HIGH_PART: Conditions<Names> = conditions!(
-    FIXED_ADDRESS + COMPRESSIBLE + RELAXABLE,
-    None,
-    InReach(R_RISCV_RVC_LUI, 0)
-);
-
-/// 12 signed bits hold the offset from the thread pointer.
-const BY_LOW_OFFSET: Conditions<Names> = conditions!(
-    RELAXABLE,
-    None,
-    Within(R_RISCV_TPREL_LO12_I, SIGNED_12, 0)
-);
-
-/// That offset in two instructions in place of a descriptor, where a further fact holds, if any.
-macro_rules! to_local_exec {
-    ($($fact:ident)?) => {
-        conditions!(BOUND + EXECUTABLE $(+ $fact)?, Some(0), InReachIfKnown(R_RISCV_TPREL_HI20, 0))
+/// The conditions of entries, by the names that the definition has for them. Behind some a further fact
+/// stands that has to hold.
+macro_rules! when {
+    // a `jal` reaches the symbol
+    (by_jump) => {
+        conditions!(FIXED_DISTANCE + RELAXABLE + WITHOUT_PLT, InReach(R_RISCV_JAL))
     };
-}
-
-/// In one instruction.
-macro_rules! to_short_local_exec {
-    ($($fact:ident)?) => {
+    // a `c.j` reaches it
+    (by_short_jump) => {
+        conditions!(
+            FIXED_DISTANCE + COMPRESSIBLE + RELAXABLE + WITHOUT_PLT,
+            InReach(R_RISCV_RVC_JUMP)
+        )
+    };
+    // 12 signed bits hold the address
+    (with_low_part) => {
+        conditions!(FIXED_ADDRESS, Low12)
+    };
+    // and instructions may be deleted
+    (by_low_part) => {
+        conditions!(FIXED_ADDRESS + RELAXABLE, Low12)
+    };
+    // a `c.lui` holds the high part
+    (by_short_high_part) => {
+        conditions!(FIXED_ADDRESS + COMPRESSIBLE + RELAXABLE, InReach(R_RISCV_RVC_LUI))
+    };
+    // 12 signed bits hold the offset from the thread pointer
+    (by_low_offset) => {
+        conditions!(RELAXABLE, Within(R_RISCV_TPREL_LO12_I, SIGNED_12))
+    };
+    // that offset in two instructions in place of a descriptor
+    (to_local_exec $($fact:ident)?) => {
+        conditions!(BOUND + EXECUTABLE $(+ $fact)?, Some(0), InReachIfKnown(R_RISCV_TPREL_HI20))
+    };
+    // in one instruction
+    (to_short_local_exec $($fact:ident)?) => {
         conditions!(
             BOUND + EXECUTABLE $(+ $fact)?,
             Some(0),
-            InReachIfKnown(R_RISCV_TPREL_HI20, 0),
-            Within(R_RISCV_TPREL_LO12_I, SIGNED_12, 0)
+            InReachIfKnown(R_RISCV_TPREL_HI20),
+            Within(R_RISCV_TPREL_LO12_I, SIGNED_12)
         )
     };
-}
-
-/// In the GOT.
-macro_rules! to_initial_exec {
-    ($($fact:ident)?) => {
-        conditions!(EXECUTABLE $(+ $fact)?, None, InReachIfKnown(R_RISCV_TLS_GOT_HI20, 0))
+    // in the GOT
+    (to_initial_exec $($fact:ident)?) => {
+        conditions!(EXECUTABLE $(+ $fact)?, InReachIfKnown(R_RISCV_TLS_GOT_HI20))
     };
-}
-
-/// The distance to the symbol in place of its GOT entry, where a further fact holds, if any.
-macro_rules! without_got {
-    ($($fact:ident)?) => {
+    // the distance to the symbol in place of its GOT entry
+    (without_got $($fact:ident)?) => {
         conditions!(
             BOUND + FIXED_DISTANCE + LABEL_RELAXABLE $(+ $fact)?,
             Some(0),
-            InReachIfKnown(R_RISCV_PCREL_HI20, 0)
+            InReachIfKnown(R_RISCV_PCREL_HI20)
         )
     };
 }
@@ -146,56 +132,56 @@ macro_rules! choices {
         $make! {
             $arguments
             R_RISCV_CALL | R_RISCV_CALL_PLT: [
-                TailToCJ => R_RISCV_RVC_JUMP, BY_SHORT_JUMP;
-                TailToJal => R_RISCV_JAL, BY_JUMP;
-                CallToJal => R_RISCV_JAL, BY_JUMP;
+                TailToCJ => R_RISCV_RVC_JUMP, by_short_jump;
+                TailToJal => R_RISCV_JAL, by_jump;
+                CallToJal => R_RISCV_JAL, by_jump;
             ]
             R_RISCV_HI20: [
-                Hi20Delete => R_RISCV_NONE, BY_LOW_PART;
-                Hi20ToCLui => R_RISCV_RVC_LUI, BY_SHORT_HIGH_PART;
+                Hi20Delete => R_RISCV_NONE, by_low_part;
+                Hi20ToCLui => R_RISCV_RVC_LUI, by_short_high_part;
             ]
-            R_RISCV_RVC_LUI: [CLuiToCLi => R_RISCV_NONE, WITH_LOW_PART]
-            R_RISCV_LO12_I: [Lo12Rs1ToZero => R_RISCV_LO12_I, BY_LOW_PART]
-            R_RISCV_LO12_S: [Lo12Rs1ToZero => R_RISCV_LO12_S, BY_LOW_PART]
-            R_RISCV_TPREL_HI20: [Delete at Lui => R_RISCV_NONE, BY_LOW_OFFSET]
-            R_RISCV_TPREL_ADD: [Delete at AddTp => R_RISCV_NONE, BY_LOW_OFFSET]
-            R_RISCV_TPREL_LO12_I: [BaseToTp => R_RISCV_TPREL_LO12_I, BY_LOW_OFFSET]
-            R_RISCV_TPREL_LO12_S: [BaseToTp => R_RISCV_TPREL_LO12_S, BY_LOW_OFFSET]
+            R_RISCV_RVC_LUI: [CLuiToCLi => R_RISCV_NONE, with_low_part]
+            R_RISCV_LO12_I: [Lo12Rs1ToZero => R_RISCV_LO12_I, by_low_part]
+            R_RISCV_LO12_S: [Lo12Rs1ToZero => R_RISCV_LO12_S, by_low_part]
+            R_RISCV_TPREL_HI20: [Delete at Lui => R_RISCV_NONE, by_low_offset]
+            R_RISCV_TPREL_ADD: [Delete at AddTp => R_RISCV_NONE, by_low_offset]
+            R_RISCV_TPREL_LO12_I: [BaseToTp => R_RISCV_TPREL_LO12_I, by_low_offset]
+            R_RISCV_TPREL_LO12_S: [BaseToTp => R_RISCV_TPREL_LO12_S, by_low_offset]
             R_RISCV_TLSDESC_HI20: [
-                Delete at Auipc => R_RISCV_NONE, to_local_exec!(RELAXABLE);
-                ReplaceWithLongNop at Auipc => R_RISCV_NONE, to_local_exec!();
-                Delete at Auipc => R_RISCV_NONE, to_initial_exec!(RELAXABLE);
-                ReplaceWithLongNop at Auipc => R_RISCV_NONE, to_initial_exec!();
+                Delete at Auipc => R_RISCV_NONE, to_local_exec(RELAXABLE);
+                ReplaceWithLongNop at Auipc => R_RISCV_NONE, to_local_exec;
+                Delete at Auipc => R_RISCV_NONE, to_initial_exec(RELAXABLE);
+                ReplaceWithLongNop at Auipc => R_RISCV_NONE, to_initial_exec;
             ]
             R_RISCV_TLSDESC_LOAD_LO12: [
-                Delete at Ld => R_RISCV_NONE, to_local_exec!(RELAXABLE);
-                ReplaceWithLongNop at Ld => R_RISCV_NONE, to_local_exec!();
-                Delete at Ld => R_RISCV_NONE, to_initial_exec!(RELAXABLE);
-                ReplaceWithLongNop at Ld => R_RISCV_NONE, to_initial_exec!();
+                Delete at Ld => R_RISCV_NONE, to_local_exec(RELAXABLE);
+                ReplaceWithLongNop at Ld => R_RISCV_NONE, to_local_exec;
+                Delete at Ld => R_RISCV_NONE, to_initial_exec(RELAXABLE);
+                ReplaceWithLongNop at Ld => R_RISCV_NONE, to_initial_exec;
             ]
             R_RISCV_TLSDESC_ADD_LO12: [
-                Delete at AddiToA0 => R_RISCV_NONE, to_short_local_exec!(RELAXABLE);
-                ReplaceWithLongNop at AddiToA0 => R_RISCV_NONE, to_short_local_exec!();
-                AddiToLui => R_RISCV_TPREL_HI20, to_local_exec!();
-                AddiToAuipc => R_RISCV_TLS_GOT_HI20, to_initial_exec!();
+                Delete at AddiToA0 => R_RISCV_NONE, to_short_local_exec(RELAXABLE);
+                ReplaceWithLongNop at AddiToA0 => R_RISCV_NONE, to_short_local_exec;
+                AddiToLui => R_RISCV_TPREL_HI20, to_local_exec;
+                AddiToAuipc => R_RISCV_TLS_GOT_HI20, to_initial_exec;
             ]
             R_RISCV_TLSDESC_CALL: [
-                CallToAddiZero => R_RISCV_TPREL_LO12_I, to_short_local_exec!();
-                CallToAddi => R_RISCV_TPREL_LO12_I, to_local_exec!();
-                CallToLd => R_RISCV_PCREL_LO12_I, to_initial_exec!();
+                CallToAddiZero => R_RISCV_TPREL_LO12_I, to_short_local_exec;
+                CallToAddi => R_RISCV_TPREL_LO12_I, to_local_exec;
+                CallToLd => R_RISCV_PCREL_LO12_I, to_initial_exec;
             ]
-            R_RISCV_GOT_HI20: [NoOp at Auipc => R_RISCV_PCREL_HI20, without_got!()]
-            R_RISCV_PCREL_LO12_I: [LdToAddi => R_RISCV_PCREL_LO12_I, without_got!(GOT_HIGH_PART)]
+            R_RISCV_GOT_HI20: [NoOp at Auipc => R_RISCV_PCREL_HI20, without_got]
+            R_RISCV_PCREL_LO12_I: [LdToAddi => R_RISCV_PCREL_LO12_I, without_got(GOT_HIGH_PART)]
         }
     };
 }
 
-static TABLES: &[Table<RelaxationKind>] = choices!(all_tables());
+static TABLES: &[Table<RelaxationKind>] = choices!(all_tables(when));
 
 impl ChosenByTable for RelaxationKind {
     #[inline(always)]
     fn may_be_listed(name: Names) -> bool {
-        choices!(is_listed(name))
+        !Self::entries(name, &[], 0).is_empty()
     }
 
     #[inline(always)]
@@ -204,12 +190,7 @@ impl ChosenByTable for RelaxationKind {
     }
 
     #[inline(never)]
-    fn choose_listed(
-        name: Names,
-        section: &[u8],
-        offset: u64,
-        facts: &LinkFacts,
-    ) -> Choice<Self, Names> {
+    fn choose_listed(name: Names, section: &[u8], offset: u64, facts: &LinkFacts) -> Chosen<Self> {
         choices!(by_table(TABLES, name, table => choice_by(table, name, section, offset, facts)))
     }
 }

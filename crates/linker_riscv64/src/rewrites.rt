@@ -239,7 +239,7 @@ fn adds_immediate(word: u32) -> bool
 
 /// Whether the eight bytes at an offset of the section are a tail call: an `auipc`, and a `jalr`
 /// from its register that links none.
-#[inline]
+#[inline(always)]
 fn is_tail_call(section: &[u8], offset: u64) -> bool
     ensures { IsTrue result ↔ IsTailCall section.now offset }
 {
@@ -248,7 +248,7 @@ fn is_tail_call(section: &[u8], offset: u64) -> bool
     }
     let auipc = word_at(section, offset);
     let jalr = word_at(section, offset + 4);
-    is_call_pair(auipc, jalr) && destination(auipc) != 0 && destination(jalr) == 0
+    destination(jalr) == 0 && destination(auipc) != 0 && is_call_pair(auipc, jalr)
 }
 
 impl RelaxationKind {
@@ -378,39 +378,39 @@ impl RelaxationKind {
     /// section. `Lo12Rs1ToZero` and `BaseToTp` are meant for `addi`, `addiw`, `jalr`, loads and
     /// stores, which add the low part, and `LdToAddi` for `ld`. The instructions of a TLS
     /// descriptor are `addi a0, rs1` and `jalr t0, 0(rs1)`. `CLuiToCLi` needs only two bytes.
-    #[inline]
+    #[inline(always)]
     pub fn matches(self, section: &[u8], offset: u64) -> bool
         ensures exactly { IsTrue result ↔ riscv_matches self section.now offset }
         ensures rewritable { IsTrue result → CanRewrite (riscv_rewrite self) section.now offset }
     {
-        if let RelaxationKind::NoOp = self {
-            return true;
-        }
-        if let RelaxationKind::CLuiToCLi = self {
-            return has_window(section, offset, 0, 2) && is_c_lui(half_at(section, offset));
-        }
-        if !has_window(section, offset, 0, 4) {
-            return false;
-        }
-        let word = word_at(section, offset);
         match self {
-            RelaxationKind::NoOp
-            | RelaxationKind::CLuiToCLi
-            | RelaxationKind::ReplaceWithNop
+            RelaxationKind::NoOp => true,
+            RelaxationKind::CLuiToCLi => {
+                has_window(section, offset, 0, 2) && is_c_lui(half_at(section, offset))
+            }
+            RelaxationKind::TailToJal | RelaxationKind::TailToCJ => is_tail_call(section, offset),
+            RelaxationKind::CallToJal => {
+                is_plain_call(section, offset) && destination(word_at(section, offset)) != 0
+            }
+            _ if !has_window(section, offset, 0, 4) => false,
+            RelaxationKind::ReplaceWithNop
             | RelaxationKind::Delete
             | RelaxationKind::ReplaceWithLongNop => true,
-            RelaxationKind::CallToJal => is_plain_call(section, offset) && destination(word) != 0,
             RelaxationKind::Hi20ToCLui => {
+                let word = word_at(section, offset);
                 opcode(word) == 0x37 && RelaxationKind::rd_valid_for_clui(destination(word))
             }
-            RelaxationKind::Hi20Delete => opcode(word) == 0x37,
-            RelaxationKind::Lo12Rs1ToZero | RelaxationKind::BaseToTp => adds_immediate(word),
-            RelaxationKind::TailToJal | RelaxationKind::TailToCJ => is_tail_call(section, offset),
-            RelaxationKind::AddiToLui | RelaxationKind::AddiToAuipc => is_addi_to_a0(word),
+            RelaxationKind::Hi20Delete => opcode(word_at(section, offset)) == 0x37,
+            RelaxationKind::Lo12Rs1ToZero | RelaxationKind::BaseToTp => {
+                adds_immediate(word_at(section, offset))
+            }
+            RelaxationKind::AddiToLui | RelaxationKind::AddiToAuipc => {
+                is_addi_to_a0(word_at(section, offset))
+            }
             RelaxationKind::CallToAddi
             | RelaxationKind::CallToAddiZero
-            | RelaxationKind::CallToLd => is_call_of_descriptor(word),
-            RelaxationKind::LdToAddi => is_ld(word),
+            | RelaxationKind::CallToLd => is_call_of_descriptor(word_at(section, offset)),
+            RelaxationKind::LdToAddi => is_ld(word_at(section, offset)),
         }
     }
 

@@ -25,17 +25,23 @@ begins_not ps bs i at d inside there other =
     rw (drop-cons ps i d, drop-cons bs at 0, ne_eqb _ _ other) refl
 
 -- what is left to compare, by the loop's index
-pub after_byte : (ps : List (ℕ × ℕ)) (bs : List ℕ) (start i : ℕ) (d : ℕ × ℕ) → i < length ps → start + i < length bs → bit_and (get_or bs (start + i) 0) (get_or ps i d).0 ≡ (get_or ps i d).1 → begins (drop i ps) (drop (start + i) bs) ≡ begins (drop (i + 1) ps) (drop (start + (i + 1)) bs)
-after_byte ps bs start i d inside there same = begins_cons ps bs i (start + i) d inside there same ∙ ap (λ k. begins (drop (i + 1) ps) (drop k bs)) (let e : start + i + 1 ≡ start + (i + 1) = omega arith in e)
+pub after_byte : (ps : List (ℕ × ℕ)) (bs : List ℕ) (i : ℕ) (d : ℕ × ℕ) → i < length ps → length ps ≤ length bs → bit_and (get_or bs i 0) (get_or ps i d).0 ≡ (get_or ps i d).1 → begins (drop i ps) (drop i bs) ≡ begins (drop (i + 1) ps) (drop (i + 1) bs)
+after_byte ps bs i d inside room same = begins_cons ps bs i i d inside (omega arith) same
 
-pub not_there : (ps : List (ℕ × ℕ)) (bs : List ℕ) (back o i : ℕ) (d : ℕ × ℕ) → i < length ps → o - back + i < length bs → begins ps (drop (o - back) bs) ≡ begins (drop i ps) (drop (o - back + i) bs) → (bit_and (get_or bs (o - back + i) 0) (get_or ps i d).0 ≡ (get_or ps i d).1 → ⊥) → false ≡ is_at (original back ps) bs o
-not_there ps bs back o i d inside there so_far other = sym (ap (λ t. leb back o && t) (so_far ∙ begins_not ps bs i (o - back + i) d inside there other) ∙ and-false _)
+pub not_there : (ps : List (ℕ × ℕ)) (bs : List ℕ) (i : ℕ) (d : ℕ × ℕ) → i < length ps → length ps ≤ length bs → begins ps bs ≡ begins (drop i ps) (drop i bs) → (bit_and (get_or bs i 0) (get_or ps i d).0 ≡ (get_or ps i d).1 → ⊥) → false ≡ begins ps bs
+not_there ps bs i d inside room so_far other = sym (so_far ∙ begins_not ps bs i i d inside (omega arith) other)
 
-pub all_there : (ps : List (ℕ × ℕ)) (bs : List ℕ) (back o i : ℕ) → back ≤ o → i ≡ length ps → begins ps (drop (o - back) bs) ≡ begins (drop i ps) (drop (o - back + i) bs) → true ≡ is_at (original back ps) bs o
-all_there ps bs back o i low end so_far = sym (rw (le-leb back o low) (so_far ∙ rw (drop_of_length-le ps (let e : length ps ≤ i = omega arith in e)) refl))
+pub all_there : (ps : List (ℕ × ℕ)) (bs : List ℕ) (i : ℕ) → i ≡ length ps → begins ps bs ≡ begins (drop i ps) (drop i bs) → true ≡ begins ps bs
+all_there ps bs i end so_far = sym (so_far ∙ rw (drop_of_length-le ps (let e : length ps ≤ i = omega arith in e)) refl)
 
--- outside the section
-pub too_short : (ps : List (ℕ × ℕ)) (bs : List ℕ) (back o : ℕ) → 0 < length ps → length bs < o - back + length ps → false ≡ is_at (original back ps) bs o
+pub too_few : (ps : List (ℕ × ℕ)) (bs : List ℕ) → length bs < length ps → false ≡ begins ps bs
+too_few ps bs few = sym (begins_short ps bs few)
+
+-- in the section, and outside
+pub inside : (ps : List (ℕ × ℕ)) (bs : List ℕ) (back o : ℕ) → back ≤ o → begins ps (drop (o - back) bs) ≡ is_at (original back ps) bs o
+inside ps bs back o low = sym (rw (le-leb back o low) refl)
+
+pub too_short : (ps : List (ℕ × ℕ)) (bs : List ℕ) (back o : ℕ) → 0 < length ps → length bs < o - back → false ≡ is_at (original back ps) bs o
 too_short ps bs back o some short = sym (ap (λ t. leb back o && t) (begins_short ps (drop (o - back) bs) (omega (arith, length-drop (o - back) bs))) ∙ and-false _)
 
 pub too_low : (ps : List (ℕ × ℕ)) (bs : List ℕ) (back o : ℕ) → o < back → false ≡ is_at (original back ps) bs o

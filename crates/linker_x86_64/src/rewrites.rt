@@ -10,7 +10,7 @@ ghost use Rattle.linker_base.specs.RewriteWindow.{window_of_rewrite};
 ghost use Rattle.linker_x86_64.specs.X86Rewrites.{rex_reg_to_rm, evex_reg_to_rm, modrm_reg_to_rm, operand};
 ghost use Rattle.linker_x86_64.specs.X86Rewrites.{prefixed_operand, evex_operand, absolute, by_immediate};
 ghost use Rattle.linker_x86_64.specs.X86Rewrites.{x86_64_rewrite, x86_64_modifier, KeepsRegister};
-ghost use Rattle.linker_x86_64.specs.X86Rewrites.{original, is_at, is_one_at, legacy};
+ghost use Rattle.linker_x86_64.specs.X86Rewrites.{original, begins, is_at, is_one_at, legacy};
 ghost use Rattle.linker_x86_64.specs.X86Rewrites.{legacy_or_evex, lea_of_descriptor};
 ghost use Rattle.linker_x86_64.specs.X86Rewrites.{x86_64_originals, x86_64_matches};
 ghost use Rattle.linker_x86_64.specs.X86Rewrites.{x86_64_skipped, HaveFieldAt, x86_64_may_be_skipped};
@@ -308,6 +308,23 @@ const LARGE_BY_R15: [(u8, u8); 22] = pattern!(
     0xff 0xd0
 );
 
+/// Whether bytes begin with an instruction or a sequence.
+#[inline(always)]
+fn begins(bytes: &[u8], pattern: &[(u8, u8)]) -> bool
+    ensures { result ≡ begins pattern.now bytes.now }
+{
+    if bytes.len() < pattern.len() {
+        return false;
+    }
+    for index in 0..pattern.len() {
+        let (mask, value) = pattern[index];
+        if bytes[index] & mask != value {
+            return false;
+        }
+    }
+    true
+}
+
 /// Whether an instruction or a sequence with `back` bytes before the field is in the section, and
 /// the field is at the offset.
 #[inline(always)]
@@ -315,17 +332,10 @@ fn is_original(section: &[u8], offset: u64, back: u64, pattern: &[(u8, u8)]) -> 
     requires { 0 < length pattern.now }
     ensures { result ≡ is_at (original back pattern.now) section.now offset }
 {
-    if !has_window(section, offset, back, pattern.len() as u64) {
+    if offset < back || (section.len() as u64) < offset - back {
         return false;
     }
-    let start = (offset - back) as usize;
-    for index in 0..pattern.len() {
-        let (mask, value) = pattern[index];
-        if section[start + index] & mask != value {
-            return false;
-        }
-    }
-    true
+    begins(&section[(offset - back) as usize..], pattern)
 }
 
 /// Whether one of two is there.

@@ -7,8 +7,8 @@ use super::rewrites::{
 use crate::linker_base::rewrite::has_window;
 use crate::linker_elf::aarch64::{AArch64Relocation, AArch64Relocation as Names};
 use crate::linker_elf::elf::choice_table::{
-    BOUND, ChosenByTable, ChosenKind, Conditions, EXECUTABLE, FIXED_DISTANCE, GROUP_FITS, Table,
-    WEAK_ZERO, all_tables, by_table, choice_by, conditions, is_listed,
+    BOUND, Chosen, ChosenByTable, ChosenKind, EXECUTABLE, FIXED_DISTANCE, GROUP_FITS, Table,
+    WEAK_ZERO, all_tables, by_table, choice_by, conditions,
 };
 use crate::linker_elf::elf::{Choice, LinkFacts, Operands};
 
@@ -103,43 +103,33 @@ impl ChosenKind for RelaxationKind {
     }
 }
 
-/// The address itself in place of that of the GOT entry: `adrp` is so many bytes before.
-macro_rules! to_address {
-    ($back:expr) => {
-        conditions!(BOUND + FIXED_DISTANCE, None, InReachIfKnown(R_AARCH64_ADR_PREL_PG_HI21, $back))
+/// The conditions of entries, by the names that the definition has for them.
+macro_rules! when {
+    // the address itself in place of that of the GOT entry: `adrp` is so many bytes before
+    (to_address $back:literal) => {
+        conditions!(BOUND + FIXED_DISTANCE, InReachIfKnown(R_AARCH64_ADR_PREL_PG_HI21, $back))
+    };
+    // by `adr` alone, which reaches 1 MiB
+    (to_adr) => {
+        conditions!(FIXED_DISTANCE, InReach(R_AARCH64_ADR_PREL_LO21))
+    };
+    // the offset from the thread pointer in the instructions
+    (to_local_exec) => {
+        conditions!(BOUND + EXECUTABLE, InReachIfKnown(R_AARCH64_TLSLE_MOVW_TPREL_G1))
+    };
+    // the same by halves that may stand apart
+    (halves_to_local_exec) => {
+        conditions!(BOUND + EXECUTABLE + GROUP_FITS, InReachIfKnown(R_AARCH64_TLSLE_MOVW_TPREL_G1))
+    };
+    // that offset in the GOT: `adrp` is so many bytes before
+    (to_initial_exec $back:literal) => {
+        conditions!(EXECUTABLE, InReachIfKnown(R_AARCH64_TLSIE_ADR_GOTTPREL_PAGE21, $back))
+    };
+    // the address of the symbol is 0
+    (to_next) => {
+        conditions!(WEAK_ZERO)
     };
 }
-
-/// The offset from the thread pointer in the GOT: `adrp` is so many bytes before.
-macro_rules! to_initial_exec {
-    ($back:expr) => {
-        conditions!(EXECUTABLE, None, InReachIfKnown(R_AARCH64_TLSIE_ADR_GOTTPREL_PAGE21, $back))
-    };
-}
-
-/// By `adr` alone, which reaches 1 MiB.
-const TO_ADR: Conditions<Names> = conditions!(
-    FIXED_DISTANCE,
-    None,
-    InReach(R_AARCH64_ADR_PREL_LO21, 0)
-);
-
-/// The offset from the thread pointer in the instructions.
-const TO_LOCAL_EXEC: Conditions<Names> = conditions!(
-    BOUND + EXECUTABLE,
-    None,
-    InReachIfKnown(R_AARCH64_TLSLE_MOVW_TPREL_G1, 0)
-);
-
-/// The same by halves that may stand apart.
-const HALVES_TO_LOCAL_EXEC: Conditions<Names> = conditions!(
-    BOUND + EXECUTABLE + GROUP_FITS,
-    None,
-    InReachIfKnown(R_AARCH64_TLSLE_MOVW_TPREL_G1, 0)
-);
-
-/// The address of the symbol is 0.
-const TO_NEXT: Conditions<Names> = conditions!(WEAK_ZERO, None);
 
 /// The entries of each relocation.
 macro_rules! choices {
@@ -147,48 +137,48 @@ macro_rules! choices {
         $make! {
             $arguments
             R_AARCH64_ADR_GOT_PAGE: [
-                NoOp at AdrpOfPair => R_AARCH64_ADR_PREL_PG_HI21, to_address!(0);
+                NoOp at AdrpOfPair => R_AARCH64_ADR_PREL_PG_HI21, to_address(0);
             ]
             R_AARCH64_LD64_GOT_LO12_NC: [
-                LdrToAdd at LdrOfPair => R_AARCH64_ADD_ABS_LO12_NC, to_address!(4);
+                LdrToAdd at LdrOfPair => R_AARCH64_ADD_ABS_LO12_NC, to_address(4);
             ]
-            R_AARCH64_ADD_ABS_LO12_NC: [AdrpAddToNopAdr => R_AARCH64_ADR_PREL_LO21, TO_ADR]
+            R_AARCH64_ADD_ABS_LO12_NC: [AdrpAddToNopAdr => R_AARCH64_ADR_PREL_LO21, to_adr]
             R_AARCH64_TLSIE_ADR_GOTTPREL_PAGE21: [
-                MovzXnLsl16 => R_AARCH64_TLSLE_MOVW_TPREL_G1, HALVES_TO_LOCAL_EXEC;
+                MovzXnLsl16 => R_AARCH64_TLSLE_MOVW_TPREL_G1, halves_to_local_exec;
             ]
             R_AARCH64_TLSIE_LD64_GOTTPREL_LO12_NC: [
-                MovkXn => R_AARCH64_TLSLE_MOVW_TPREL_G0_NC, HALVES_TO_LOCAL_EXEC;
+                MovkXn => R_AARCH64_TLSLE_MOVW_TPREL_G0_NC, halves_to_local_exec;
             ]
             R_AARCH64_TLSDESC_ADR_PAGE21: [
-                MovzX0Lsl16 at OfDescriptor(0) => R_AARCH64_TLSLE_MOVW_TPREL_G1, TO_LOCAL_EXEC;
+                MovzX0Lsl16 at OfDescriptor(0) => R_AARCH64_TLSLE_MOVW_TPREL_G1, to_local_exec;
                 AdrpX0 at OfDescriptor(0)
-                    => R_AARCH64_TLSIE_ADR_GOTTPREL_PAGE21, to_initial_exec!(0);
+                    => R_AARCH64_TLSIE_ADR_GOTTPREL_PAGE21, to_initial_exec(0);
             ]
             R_AARCH64_TLSDESC_LD64_LO12: [
-                MovkX0 at OfDescriptor(4) => R_AARCH64_TLSLE_MOVW_TPREL_G0_NC, TO_LOCAL_EXEC;
+                MovkX0 at OfDescriptor(4) => R_AARCH64_TLSLE_MOVW_TPREL_G0_NC, to_local_exec;
                 LdrX0 at OfDescriptor(4)
-                    => R_AARCH64_TLSIE_LD64_GOTTPREL_LO12_NC, to_initial_exec!(4);
+                    => R_AARCH64_TLSIE_LD64_GOTTPREL_LO12_NC, to_initial_exec(4);
             ]
             R_AARCH64_TLSDESC_ADD_LO12: [
-                ReplaceWithNop at OfDescriptor(8) => R_AARCH64_NONE, TO_LOCAL_EXEC;
-                ReplaceWithNop at OfDescriptor(8) => R_AARCH64_NONE, to_initial_exec!(8);
+                ReplaceWithNop at OfDescriptor(8) => R_AARCH64_NONE, to_local_exec;
+                ReplaceWithNop at OfDescriptor(8) => R_AARCH64_NONE, to_initial_exec(8);
             ]
             R_AARCH64_TLSDESC_CALL: [
-                ReplaceWithNop at OfDescriptor(12) => R_AARCH64_NONE, TO_LOCAL_EXEC;
-                ReplaceWithNop at OfDescriptor(12) => R_AARCH64_NONE, to_initial_exec!(12);
+                ReplaceWithNop at OfDescriptor(12) => R_AARCH64_NONE, to_local_exec;
+                ReplaceWithNop at OfDescriptor(12) => R_AARCH64_NONE, to_initial_exec(12);
             ]
-            R_AARCH64_CALL26: [ReplaceWithNop at Bl => R_AARCH64_NONE, TO_NEXT]
-            R_AARCH64_JUMP26: [ReplaceWithNop at B => R_AARCH64_NONE, TO_NEXT]
+            R_AARCH64_CALL26: [ReplaceWithNop at Bl => R_AARCH64_NONE, to_next]
+            R_AARCH64_JUMP26: [ReplaceWithNop at B => R_AARCH64_NONE, to_next]
         }
     };
 }
 
-const TABLES: &[Table<RelaxationKind>] = choices!(all_tables());
+const TABLES: &[Table<RelaxationKind>] = choices!(all_tables(when));
 
 impl ChosenByTable for RelaxationKind {
     #[inline(always)]
     fn may_be_listed(name: Names) -> bool {
-        choices!(is_listed(name))
+        !Self::entries(name, &[], 0).is_empty()
     }
 
     #[inline(always)]
@@ -197,12 +187,7 @@ impl ChosenByTable for RelaxationKind {
     }
 
     #[inline(never)]
-    fn choose_listed(
-        name: Names,
-        section: &[u8],
-        offset: u64,
-        facts: &LinkFacts,
-    ) -> Choice<Self, Names> {
+    fn choose_listed(name: Names, section: &[u8], offset: u64, facts: &LinkFacts) -> Chosen<Self> {
         choices!(by_table(TABLES, name, table => choice_by(table, name, section, offset, facts)))
     }
 }

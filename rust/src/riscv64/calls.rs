@@ -38,6 +38,7 @@ pub(super) fn destination(word: u32) -> u32 {
 /// both destinations. (RISC-V ELF psABI, "Function Call Relaxation"; linkers take the register of
 /// the `jalr`, `CallToJal` that of the `auipc`.)
 #[must_use]
+#[inline(always)]
 pub fn is_plain_call(section: &[u8], site: u64) -> bool {
     if !has_window(section, site, 0, 8) {
         return false;

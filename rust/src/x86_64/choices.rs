@@ -4,9 +4,9 @@
 use super::rewrites::{is_lea_of_descriptor, is_legacy};
 use super::{RelaxationKind, X86_64Relocation, X86_64Relocation as Names};
 use crate::linker_elf::elf::choice_table::{
-    BOUND, ChosenByTable, ChosenKind, Conditions, EXECUTABLE, FIXED_ADDRESS, FIXED_DISTANCE,
+    BOUND, Chosen, ChosenByTable, ChosenKind, EXECUTABLE, FIXED_ADDRESS, FIXED_DISTANCE,
     GROUP_FITS, LOCAL_EXEC_BASE, Table, WEAK_ZERO, all_tables, by_table, choice_by, conditions,
-    is_listed, table_of,
+    table_of,
 };
 use crate::linker_elf::elf::{Choice, LinkFacts, Operands};
 
@@ -67,50 +67,51 @@ impl ChosenKind for RelaxationKind {
     }
 }
 
-/// The field's value counts from its end.
-const FROM_END_OF_FIELD: Option<i64> = Some(-4);
+/// The addend of a value that counts from the end of its field.
+const END_OF_FIELD: i64 = -4;
 
-/// The operand becomes the distance to the symbol.
-const DISTANCE: Conditions<Names> = conditions!(
-    BOUND + FIXED_DISTANCE,
-    FROM_END_OF_FIELD,
-    InReachIfKnown(R_X86_64_PC32, 0)
-);
-
-const LOCAL_EXEC: Conditions<Names> = conditions!(
-    BOUND + EXECUTABLE,
-    FROM_END_OF_FIELD,
-    InReachIfKnown(R_X86_64_TPOFF32, 0)
-);
-
-/// The entries of a sequence also require that all of it can be rewritten.
-const SEQUENCE_TO_LOCAL_EXEC: Conditions<Names> = conditions!(
-    BOUND + EXECUTABLE + GROUP_FITS,
-    FROM_END_OF_FIELD,
-    InReachIfKnown(R_X86_64_TPOFF32, 0)
-);
-
-const SEQUENCE_TO_INITIAL_EXEC: Conditions<Names> = conditions!(
-    EXECUTABLE + GROUP_FITS,
-    FROM_END_OF_FIELD,
-    InReachIfKnown(R_X86_64_GOTTPOFF, 0)
-);
-
-/// Nothing is relocated any more.
-const UNRELOCATED: Conditions<Names> = conditions!(EXECUTABLE + GROUP_FITS, None);
-
-/// An offset in the module's TLS block becomes one from the thread pointer.
-const FROM_THREAD_POINTER_32: Conditions<Names> = conditions!(
-    EXECUTABLE + LOCAL_EXEC_BASE,
-    None,
-    InReachIfKnown(R_X86_64_TPOFF32, 0)
-);
-
-const FROM_THREAD_POINTER_64: Conditions<Names> = conditions!(
-    EXECUTABLE + LOCAL_EXEC_BASE,
-    None,
-    InReachIfKnown(R_X86_64_TPOFF64, 0)
-);
+/// The conditions of entries.
+macro_rules! when {
+    // the operand becomes the distance to the symbol
+    (distance) => {
+        conditions!(
+            BOUND + FIXED_DISTANCE,
+            Some(END_OF_FIELD),
+            InReachIfKnown(R_X86_64_PC32)
+        )
+    };
+    // the operand becomes the symbol's address, that of a definition or 0
+    (address $fact:ident $reach:ident $name:ident) => {
+        conditions!($fact + FIXED_ADDRESS, Some(END_OF_FIELD), $reach($name))
+    };
+    // an access by the offset from the thread pointer
+    (local_exec $($fact:ident)?) => {
+        conditions!(
+            BOUND + EXECUTABLE $(+ $fact)?,
+            Some(END_OF_FIELD),
+            InReachIfKnown(R_X86_64_TPOFF32)
+        )
+    };
+    // the same of a sequence, which is rewritten whole or not at all, and that offset in the GOT
+    (to_local_exec) => {
+        when!(local_exec GROUP_FITS)
+    };
+    (to_initial_exec) => {
+        conditions!(
+            EXECUTABLE + GROUP_FITS,
+            Some(END_OF_FIELD),
+            InReachIfKnown(R_X86_64_GOTTPOFF)
+        )
+    };
+    // nothing is relocated any more
+    (unrelocated) => {
+        conditions!(EXECUTABLE + GROUP_FITS)
+    };
+    // an offset in the module's TLS block becomes one from the thread pointer
+    (from_thread_pointer $name:ident) => {
+        conditions!(EXECUTABLE + LOCAL_EXEC_BASE, InReachIfKnown($name))
+    };
+}
 
 /// The entries of each relocation whose table isn't one of an opcode.
 macro_rules! choices {
@@ -118,71 +119,56 @@ macro_rules! choices {
         $make! {
             $arguments
             R_X86_64_TLSGD: [
-                TlsGdToLocalExec => R_X86_64_TPOFF32, SEQUENCE_TO_LOCAL_EXEC;
-                TlsGdToLocalExecLarge => R_X86_64_TPOFF32, SEQUENCE_TO_LOCAL_EXEC;
-                TlsGdToInitialExec => R_X86_64_GOTTPOFF, SEQUENCE_TO_INITIAL_EXEC;
+                TlsGdToLocalExec => R_X86_64_TPOFF32, to_local_exec;
+                TlsGdToLocalExecLarge => R_X86_64_TPOFF32, to_local_exec;
+                TlsGdToInitialExec => R_X86_64_GOTTPOFF, to_initial_exec;
             ]
             R_X86_64_TLSLD: [
-                TlsLdToLocalExec => R_X86_64_NONE, UNRELOCATED;
-                TlsLdToLocalExecNoPlt => R_X86_64_NONE, UNRELOCATED;
-                TlsLdToLocalExec64 => R_X86_64_NONE, UNRELOCATED;
+                TlsLdToLocalExec => R_X86_64_NONE, unrelocated;
+                TlsLdToLocalExecNoPlt => R_X86_64_NONE, unrelocated;
+                TlsLdToLocalExec64 => R_X86_64_NONE, unrelocated;
             ]
-            R_X86_64_DTPOFF32: [NoOp => R_X86_64_TPOFF32, FROM_THREAD_POINTER_32]
-            R_X86_64_DTPOFF64: [NoOp => R_X86_64_TPOFF64, FROM_THREAD_POINTER_64]
+            R_X86_64_DTPOFF32: [NoOp => R_X86_64_TPOFF32, from_thread_pointer(R_X86_64_TPOFF32)]
+            R_X86_64_DTPOFF64: [NoOp => R_X86_64_TPOFF64, from_thread_pointer(R_X86_64_TPOFF64)]
             R_X86_64_GOTPC32_TLSDESC: [
-                TlsDescToLocalExec(3) at LeaOfDescriptor(3)
-                    => R_X86_64_TPOFF32, SEQUENCE_TO_LOCAL_EXEC;
-                TlsDescToInitialExec at LeaOfDescriptor(3)
-                    => R_X86_64_GOTTPOFF, SEQUENCE_TO_INITIAL_EXEC;
+                TlsDescToLocalExec(3) at LeaOfDescriptor(3) => R_X86_64_TPOFF32, to_local_exec;
+                TlsDescToInitialExec at LeaOfDescriptor(3) => R_X86_64_GOTTPOFF, to_initial_exec;
             ]
             R_X86_64_CODE_4_GOTPC32_TLSDESC: [
-                TlsDescToLocalExec(4) at LeaOfDescriptor(4)
-                    => R_X86_64_TPOFF32, SEQUENCE_TO_LOCAL_EXEC;
-                TlsDescToInitialExec at LeaOfDescriptor(4)
-                    => R_X86_64_GOTTPOFF, SEQUENCE_TO_INITIAL_EXEC;
+                TlsDescToLocalExec(4) at LeaOfDescriptor(4) => R_X86_64_TPOFF32, to_local_exec;
+                TlsDescToInitialExec at LeaOfDescriptor(4) => R_X86_64_GOTTPOFF, to_initial_exec;
             ]
             R_X86_64_CODE_5_GOTPC32_TLSDESC: [
-                TlsDescToLocalExec(5) at LeaOfDescriptor(5)
-                    => R_X86_64_TPOFF32, SEQUENCE_TO_LOCAL_EXEC;
-                TlsDescToInitialExec at LeaOfDescriptor(5)
-                    => R_X86_64_GOTTPOFF, SEQUENCE_TO_INITIAL_EXEC;
+                TlsDescToLocalExec(5) at LeaOfDescriptor(5) => R_X86_64_TPOFF32, to_local_exec;
+                TlsDescToInitialExec at LeaOfDescriptor(5) => R_X86_64_GOTTPOFF, to_initial_exec;
             ]
             R_X86_64_CODE_6_GOTPC32_TLSDESC: [
-                TlsDescToLocalExec(6) at LeaOfDescriptor(6)
-                    => R_X86_64_TPOFF32, SEQUENCE_TO_LOCAL_EXEC;
-                TlsDescToInitialExec at LeaOfDescriptor(6)
-                    => R_X86_64_GOTTPOFF, SEQUENCE_TO_INITIAL_EXEC;
+                TlsDescToLocalExec(6) at LeaOfDescriptor(6) => R_X86_64_TPOFF32, to_local_exec;
+                TlsDescToInitialExec at LeaOfDescriptor(6) => R_X86_64_GOTTPOFF, to_initial_exec;
             ]
-            R_X86_64_TLSDESC_CALL: [SkipTlsDescCall => R_X86_64_NONE, UNRELOCATED]
+            R_X86_64_TLSDESC_CALL: [SkipTlsDescCall => R_X86_64_NONE, unrelocated]
         }
     };
 }
 
-const TABLES: &[Table<RelaxationKind>] = choices!(all_tables());
+const TABLES: &[Table<RelaxationKind>] = choices!(all_tables(when));
 
 const OTHERS: Table<RelaxationKind> = &[];
 
-const BRANCH: Table<RelaxationKind> = table_of!([
-    CallIndirectToRelative => R_X86_64_PC32, DISTANCE;
-    JmpIndirectToRelative => R_X86_64_PC32, DISTANCE;
+const BRANCH: Table<RelaxationKind> = table_of!(when [
+    CallIndirectToRelative => R_X86_64_PC32, distance;
+    JmpIndirectToRelative => R_X86_64_PC32, distance;
 ]);
 
 const LOAD: Table<RelaxationKind> =
-    table_of!([MovIndirectToLea at Legacy(3, 0x8b) => R_X86_64_PC32, DISTANCE]);
-
-/// The conditions on which an operand becomes the symbol's address, that of a definition or 0.
-macro_rules! address {
-    ($fact:ident, $reach:ident $name:ident) => {
-        conditions!($fact + FIXED_ADDRESS, FROM_END_OF_FIELD, $reach($name, 0))
-    };
-}
+    table_of!(when [MovIndirectToLea at Legacy(3, 0x8b) => R_X86_64_PC32, distance]);
 
 /// The entries of an operation on an operand in the GOT.
 macro_rules! operation {
     ($kind:ident($n:literal) => $name:ident) => {
-        table_of!([
-            $kind($n) => $name, address!(BOUND, InReachIfKnown $name);
-            $kind($n) => $name, address!(WEAK_ZERO, InReachIfKnown $name);
+        table_of!(when [
+            $kind($n) => $name, address(BOUND InReachIfKnown $name);
+            $kind($n) => $name, address(WEAK_ZERO InReachIfKnown $name);
         ])
     };
 }
@@ -193,10 +179,10 @@ macro_rules! operation {
 macro_rules! operations {
     ($n:literal, $mov:ident $(($m:literal))? => $name:ident) => {
         [
-            table_of!([
-                $mov $(($m))? at Legacy($n, 0x8b) => $name, address!(BOUND, InReach $name);
-                $mov $(($m))? at Legacy($n, 0x8b) => $name, address!(WEAK_ZERO, InReach $name);
-                MovIndirectToLea at Legacy($n, 0x8b) => R_X86_64_PC32, DISTANCE;
+            table_of!(when [
+                $mov $(($m))? at Legacy($n, 0x8b) => $name, address(BOUND InReach $name);
+                $mov $(($m))? at Legacy($n, 0x8b) => $name, address(WEAK_ZERO InReach $name);
+                MovIndirectToLea at Legacy($n, 0x8b) => R_X86_64_PC32, distance;
             ]),
             operation!(RexAddIndirectToAbsolute($n) => $name),
             operation!(RexSubIndirectToAbsolute($n) => $name),
@@ -229,8 +215,8 @@ const GOT_6: &[Table<RelaxationKind>; 10] =
 macro_rules! accesses {
     ($n:literal) => {
         [
-            table_of!([RexMovIndirectToAbsolute($n) => R_X86_64_TPOFF32, LOCAL_EXEC]),
-            table_of!([RexAddIndirectToAbsolute($n) => R_X86_64_TPOFF32, LOCAL_EXEC]),
+            table_of!(when [RexMovIndirectToAbsolute($n) => R_X86_64_TPOFF32, local_exec]),
+            table_of!(when [RexAddIndirectToAbsolute($n) => R_X86_64_TPOFF32, local_exec]),
         ]
     };
 }
@@ -265,35 +251,22 @@ macro_rules! by_opcode {
     };
 }
 
-/// The tables of each relocation whose table is one of an opcode.
-macro_rules! opcode_choices {
-    ($make:ident $arguments:tt) => {
-        $make! {
-            $arguments
-            R_X86_64_GOTPCRELX: [GOT_2]
-            R_X86_64_REX_GOTPCRELX: [GOT_3]
-            R_X86_64_CODE_4_GOTPCRELX: [GOT_4]
-            R_X86_64_CODE_5_GOTPCRELX: [GOT_5]
-            R_X86_64_CODE_6_GOTPCRELX: [GOT_6]
-            R_X86_64_GOTTPOFF: [access GOTTPOFF_3]
-            R_X86_64_CODE_4_GOTTPOFF: [access GOTTPOFF_4]
-            R_X86_64_CODE_5_GOTTPOFF: [access GOTTPOFF_5]
-            R_X86_64_CODE_6_GOTTPOFF: [access GOTTPOFF_6]
-        }
-    };
-}
-
 /// What the table of a name and an opcode is used for.
 macro_rules! by_name {
-    (
-        ($name:expr, $opcode:expr, $table:ident => $use:expr)
-        $($listed:ident: [$($tables:ident)+])*
-    ) => {
+    ($name:expr, $opcode:expr, $table:ident => $use:expr) => {
         choices!(by_table(
             TABLES, $name, $table => $use;
             Names::R_X86_64_GOTPCREL if $opcode == 0x8b => { let $table = LOAD; $use }
             Names::R_X86_64_GOTPCRELX if $opcode == 0xff => { let $table = BRANCH; $use }
-            $(Names::$listed => by_opcode!($($tables)+, $opcode, $table => $use),)*
+            Names::R_X86_64_GOTPCRELX => by_opcode!(GOT_2, $opcode, $table => $use),
+            Names::R_X86_64_REX_GOTPCRELX => by_opcode!(GOT_3, $opcode, $table => $use),
+            Names::R_X86_64_CODE_4_GOTPCRELX => by_opcode!(GOT_4, $opcode, $table => $use),
+            Names::R_X86_64_CODE_5_GOTPCRELX => by_opcode!(GOT_5, $opcode, $table => $use),
+            Names::R_X86_64_CODE_6_GOTPCRELX => by_opcode!(GOT_6, $opcode, $table => $use),
+            Names::R_X86_64_GOTTPOFF => by_opcode!(access GOTTPOFF_3, $opcode, $table => $use),
+            Names::R_X86_64_CODE_4_GOTTPOFF => by_opcode!(access GOTTPOFF_4, $opcode, $table => $use),
+            Names::R_X86_64_CODE_5_GOTTPOFF => by_opcode!(access GOTTPOFF_5, $opcode, $table => $use),
+            Names::R_X86_64_CODE_6_GOTTPOFF => by_opcode!(access GOTTPOFF_6, $opcode, $table => $use),
         ))
     };
 }
@@ -301,7 +274,7 @@ macro_rules! by_name {
 /// The entries of a relocation, by the opcode, which is two bytes before the field.
 #[inline(always)]
 fn entries_by(name: Names, opcode: u8) -> Table<RelaxationKind> {
-    opcode_choices!(by_name(name, opcode, table => table))
+    by_name!(name, opcode, table => table)
 }
 
 /// The choice by a table of a name and an opcode.
@@ -313,7 +286,7 @@ fn choice_by_opcode(
     section: &[u8],
     offset: u64,
     facts: &LinkFacts,
-) -> Choice<RelaxationKind, Names> {
+) -> Chosen<RelaxationKind> {
     choice_by(table, name, section, offset, facts)
 }
 
@@ -329,9 +302,7 @@ fn opcode_before(section: &[u8], offset: u64) -> u8 {
 impl ChosenByTable for RelaxationKind {
     #[inline(always)]
     fn may_be_listed(name: Names) -> bool {
-        choices!(is_listed(name))
-            || opcode_choices!(is_listed(name))
-            || matches!(name, Names::R_X86_64_GOTPCREL)
+        !entries_by(name, 0x8b).is_empty()
     }
 
     #[inline(always)]
@@ -340,16 +311,11 @@ impl ChosenByTable for RelaxationKind {
     }
 
     #[inline(never)]
-    fn choose_listed(
-        name: Names,
-        section: &[u8],
-        offset: u64,
-        facts: &LinkFacts,
-    ) -> Choice<Self, Names> {
+    fn choose_listed(name: Names, section: &[u8], offset: u64, facts: &LinkFacts) -> Chosen<Self> {
         let opcode = opcode_before(section, offset);
-        opcode_choices!(by_name(
+        by_name!(
             name, opcode, table => choice_by_opcode(table, name, opcode, section, offset, facts)
-        ))
+        )
     }
 }
 

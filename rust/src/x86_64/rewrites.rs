@@ -260,21 +260,29 @@ const LARGE_BY_R15: [(u8, u8); 22] = pattern!(
     0xff 0xd0
 );
 
-/// Whether an instruction or a sequence with `back` bytes before the field is in the section, and
-/// the field is at the offset.
+/// Whether bytes begin with an instruction or a sequence.
 #[inline(always)]
-fn is_original(section: &[u8], offset: u64, back: u64, pattern: &[(u8, u8)]) -> bool {
-    if !has_window(section, offset, back, pattern.len() as u64) {
+fn begins(bytes: &[u8], pattern: &[(u8, u8)]) -> bool {
+    if bytes.len() < pattern.len() {
         return false;
     }
-    let start = (offset - back) as usize;
     for index in 0..pattern.len() {
         let (mask, value) = pattern[index];
-        if section[start + index] & mask != value {
+        if bytes[index] & mask != value {
             return false;
         }
     }
     true
+}
+
+/// Whether an instruction or a sequence with `back` bytes before the field is in the section, and
+/// the field is at the offset.
+#[inline(always)]
+fn is_original(section: &[u8], offset: u64, back: u64, pattern: &[(u8, u8)]) -> bool {
+    if offset < back || (section.len() as u64) < offset - back {
+        return false;
+    }
+    begins(&section[(offset - back) as usize..], pattern)
 }
 
 /// Whether one of two is there.

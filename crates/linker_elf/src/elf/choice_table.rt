@@ -138,12 +138,15 @@ pub type Table<K> = &'static [ChoiceEntry<
     <K as ChosenKind>::Relocation,
 >];
 
+/// The choice of a rewrite of an architecture.
+pub type Chosen<K> = Choice<K, <K as ChosenKind>::Relocation>;
+
 /// The rewrites of an architecture, which are chosen by tables.
 pub trait ChosenByTable: ChosenKind {
-    /// Whether a relocation may have entries: false only where it has none.
+    /// Whether a relocation has entries at an offset of some section.
     fn may_be_listed(name: Self::Relocation) -> bool
-        ensures { (result ≡ false) → (section : List ℕ) (o : ℕ)
-            → Self.tables.entries name section o ≡ [] };
+        ensures { (result ≡ false) ↔ ((section : List ℕ) (o : ℕ)
+            → Self.tables.entries name section o ≡ []) };
 
     /// The entries of a relocation at an offset of a section.
     fn entries(name: Self::Relocation, section: &[u8], offset: u64) -> Table<Self>
@@ -158,7 +161,7 @@ pub trait ChosenByTable: ChosenKind {
         section: &[u8],
         offset: u64,
         facts: &LinkFacts,
-    ) -> Choice<Self, Self::Relocation>
+    ) -> Chosen<Self>
         ensures { IsChoice Self.tables Self.Relocation.row_of name section.now offset facts.now
             result };
 
@@ -169,7 +172,7 @@ pub trait ChosenByTable: ChosenKind {
         section: &[u8],
         offset: u64,
         facts: &LinkFacts,
-    ) -> Choice<Self, Self::Relocation>
+    ) -> Chosen<Self>
         ensures { IsChoice Self.tables Self.Relocation.row_of name section.now offset facts.now
             result }
     {
@@ -327,7 +330,7 @@ fn choice_at<K: ChosenKind>(
     section: &[u8],
     offset: u64,
     facts: &LinkFacts,
-) -> Option<Choice<K, K::Relocation>>
+) -> Option<Chosen<K>>
     ensures { IsChoiceAt (EntryApplies K.are_at K.Relocation.row_of K.tables.after section.now offset facts.now)
         entries.now index result }
 {
@@ -345,7 +348,7 @@ fn choice_at<K: ChosenKind>(
 
 /// The choice that leaves the instruction and the relocation.
 #[inline(always)]
-fn unchanged<K: ChosenKind>(relocation: K::Relocation) -> Choice<K, K::Relocation>
+fn unchanged<K: ChosenKind>(relocation: K::Relocation) -> Chosen<K>
     ensures { result ≡ choice K.tables.no_op relocation }
 {
     Choice {
@@ -362,8 +365,8 @@ fn first_entry<K: ChosenKind>(
     section: &[u8],
     offset: u64,
     facts: &LinkFacts,
-    otherwise: Choice<K, K::Relocation>,
-) -> Choice<K, K::Relocation>
+    otherwise: Chosen<K>,
+) -> Chosen<K>
     requires { length entries.now ≤ 5 }
     ensures { IsFirstOf (EntryApplies K.are_at K.Relocation.row_of K.tables.after section.now offset
         facts.now) entries.now otherwise result }
@@ -394,7 +397,7 @@ pub fn choice_by<K: ChosenKind>(
     section: &[u8],
     offset: u64,
     facts: &LinkFacts,
-) -> Choice<K, K::Relocation>
+) -> Chosen<K>
     requires table { IsTableOf K.are_at (K.tables.required name section.now offset) entries.now
         (K.tables.entries name section.now offset) }
     requires few { length entries.now ≤ 5 }
@@ -407,27 +410,28 @@ pub fn choice_by<K: ChosenKind>(
 // or for several with `|` between, its entries in brackets. The module that calls them has the enums
 // `RelaxationKind`, `AskedFor` and, by the name `Names`, that of the relocations.
 
-/// Whether a name is listed.
-#[macro_export]
-macro_rules! is_listed {
-    (($name:expr) $($($listed:ident)|+: $entries:tt)*) => {
-        matches!($name, $($(Names::$listed)|+)|*)
-    };
-}
-
-/// Conditions: facts, the addend, and what holds of values, each as a `ValueCondition` with the name
-/// of a relocation.
+/// Conditions: facts, the addend as `Some(A)` if one is required, and what holds of values, each as a
+/// `ValueCondition` with the name of a relocation. No count of bytes before the place is 0.
 #[macro_export]
 macro_rules! conditions {
-    ($facts:expr, $addend:expr $(, $value:ident $(($name:ident $(, $argument:expr)*))?)*) => {
+    (
+        @ $facts:expr, $addend:expr,
+        [$($value:ident $(($name:ident $(, $bounds:ident)? $(, $back:literal)?))?),*]
+    ) => {
         $crate::elf::choice_table::Conditions {
             facts: $facts,
             addend: $addend,
             values: &[
                 $($crate::elf::choice_table::ValueCondition::$value
-                    $((Names::$name $(, $argument)*))?,)*
+                    $((Names::$name $(, $bounds)?, 0 $(+ $back)?))?,)*
             ],
         }
+    };
+    ($facts:expr, Some($addend:expr) $(, $($values:tt)+)?) => {
+        $crate::elf::choice_table::conditions!(@ $facts, Some($addend), [$($($values)+)?])
+    };
+    ($facts:expr $(, $($values:tt)+)?) => {
+        $crate::elf::choice_table::conditions!(@ $facts, None, [$($($values)+)?])
     };
 }
 
@@ -441,12 +445,12 @@ macro_rules! originals {
 }
 
 /// A table: of each entry the rewrite, the instructions behind `at`, the relocation after it, and the
-/// conditions.
+/// name that the macro `$when` has for the conditions.
 #[macro_export]
 macro_rules! table_of {
-    ([$(
+    ($when:ident [$(
         $kind:ident $(($n:expr))? $(at $originals:ident $(($($argument:expr),*))?)?
-            => $name:ident, $conditions:expr
+            => $name:ident, $conditions:ident $(($($of:tt)*))?
     );* $(;)?]) => {
         &[
             $($crate::elf::choice_table::ChoiceEntry {
@@ -455,7 +459,7 @@ macro_rules! table_of {
                 ),
                 kind: RelaxationKind::$kind $(($n))?,
                 relocation: Names::$name,
-                conditions: $conditions,
+                conditions: $when!($conditions $($($of)*)?),
             },)*
         ]
     };
@@ -464,8 +468,8 @@ macro_rules! table_of {
 /// All tables in their order, and behind them that of relocations that aren't listed, which is empty.
 #[macro_export]
 macro_rules! all_tables {
-    (() $($($name:ident)|+: $entries:tt)*) => {
-        &[$($crate::elf::choice_table::table_of!($entries),)* &[]]
+    (($when:ident) $($($name:ident)|+: $entries:tt)*) => {
+        &[$($crate::elf::choice_table::table_of!($when $entries),)* &[]]
     };
 }
 
@@ -503,6 +507,5 @@ macro_rules! by_table {
 pub use all_tables;
 pub use by_table;
 pub use conditions;
-pub use is_listed;
 pub use originals;
 pub use table_of;

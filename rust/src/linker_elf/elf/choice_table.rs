@@ -121,10 +121,13 @@ pub type Table<K> = &'static [ChoiceEntry<
     <K as ChosenKind>::Relocation,
 >];
 
+/// The choice of a rewrite of an architecture.
+pub type Chosen<K> = Choice<K, <K as ChosenKind>::Relocation>;
+
 /// The rewrites of an architecture, which are chosen by tables.
 #[doc(hidden)]
 pub trait ChosenByTable: ChosenKind {
-    /// Whether a relocation may have entries: false only where it has none.
+    /// Whether a relocation has entries at an offset of some section.
     #[must_use]
     fn may_be_listed(name: Self::Relocation) -> bool;
 
@@ -140,7 +143,7 @@ pub trait ChosenByTable: ChosenKind {
         section: &[u8],
         offset: u64,
         facts: &LinkFacts,
-    ) -> Choice<Self, Self::Relocation>;
+    ) -> Chosen<Self>;
 
     /// The choice for a relocation. It is inlined, so that one that isn't listed costs no call.
     #[must_use]
@@ -150,7 +153,7 @@ pub trait ChosenByTable: ChosenKind {
         section: &[u8],
         offset: u64,
         facts: &LinkFacts,
-    ) -> Choice<Self, Self::Relocation> {
+    ) -> Chosen<Self> {
         if Self::may_be_listed(name) {
             Self::choose_listed(name, section, offset, facts)
         } else {
@@ -287,7 +290,7 @@ fn choice_at<K: ChosenKind>(
     section: &[u8],
     offset: u64,
     facts: &LinkFacts,
-) -> Option<Choice<K, K::Relocation>> {
+) -> Option<Chosen<K>> {
     if index < entries.len() {
         let entry = &entries[index];
         if applies(entry, section, offset, facts) {
@@ -302,7 +305,7 @@ fn choice_at<K: ChosenKind>(
 
 /// The choice that leaves the instruction and the relocation.
 #[inline(always)]
-fn unchanged<K: ChosenKind>(relocation: K::Relocation) -> Choice<K, K::Relocation> {
+fn unchanged<K: ChosenKind>(relocation: K::Relocation) -> Chosen<K> {
     Choice {
         kind: K::none(),
         relocation,
@@ -317,8 +320,8 @@ fn first_entry<K: ChosenKind>(
     section: &[u8],
     offset: u64,
     facts: &LinkFacts,
-    otherwise: Choice<K, K::Relocation>,
-) -> Choice<K, K::Relocation> {
+    otherwise: Chosen<K>,
+) -> Chosen<K> {
     if let Some(chosen) = choice_at(entries, 0, section, offset, facts) {
         return chosen;
     }
@@ -352,7 +355,7 @@ pub fn choice_by<K: ChosenKind>(
     section: &[u8],
     offset: u64,
     facts: &LinkFacts,
-) -> Choice<K, K::Relocation> {
+) -> Chosen<K> {
     debug_assert!(entries.len() <= 5);
     first_entry(entries, section, offset, facts, unchanged(name))
 }
@@ -361,25 +364,27 @@ pub fn choice_by<K: ChosenKind>(
 // or for several with `|` between, its entries in brackets. The module that calls them has the enums
 // `RelaxationKind`, `AskedFor` and, by the name `Names`, that of the relocations.
 
-/// Whether a name is listed.
-macro_rules! is_listed {
-    (($name:expr) $($($listed:ident)|+: $entries:tt)*) => {
-        matches!($name, $($(Names::$listed)|+)|*)
-    };
-}
-
-/// Conditions: facts, the addend, and what holds of values, each as a `ValueCondition` with the name
-/// of a relocation.
+/// Conditions: facts, the addend as `Some(A)` if one is required, and what holds of values, each as a
+/// `ValueCondition` with the name of a relocation. No count of bytes before the place is 0.
 macro_rules! conditions {
-    ($facts:expr, $addend:expr $(, $value:ident $(($name:ident $(, $argument:expr)*))?)*) => {
+    (
+        @ $facts:expr, $addend:expr,
+        [$($value:ident $(($name:ident $(, $bounds:ident)? $(, $back:literal)?))?),*]
+    ) => {
         $crate::linker_elf::elf::choice_table::Conditions {
             facts: $facts,
             addend: $addend,
             values: &[
                 $($crate::linker_elf::elf::choice_table::ValueCondition::$value
-                    $((Names::$name $(, $argument)*))?,)*
+                    $((Names::$name $(, $bounds)?, 0 $(+ $back)?))?,)*
             ],
         }
+    };
+    ($facts:expr, Some($addend:expr) $(, $($values:tt)+)?) => {
+        $crate::linker_elf::elf::choice_table::conditions!(@ $facts, Some($addend), [$($($values)+)?])
+    };
+    ($facts:expr $(, $($values:tt)+)?) => {
+        $crate::linker_elf::elf::choice_table::conditions!(@ $facts, None, [$($($values)+)?])
     };
 }
 
@@ -392,11 +397,11 @@ macro_rules! originals {
 }
 
 /// A table: of each entry the rewrite, the instructions behind `at`, the relocation after it, and the
-/// conditions.
+/// name that the macro `$when` has for the conditions.
 macro_rules! table_of {
-    ([$(
+    ($when:ident [$(
         $kind:ident $(($n:expr))? $(at $originals:ident $(($($argument:expr),*))?)?
-            => $name:ident, $conditions:expr
+            => $name:ident, $conditions:ident $(($($of:tt)*))?
     );* $(;)?]) => {
         &[
             $($crate::linker_elf::elf::choice_table::ChoiceEntry {
@@ -405,7 +410,7 @@ macro_rules! table_of {
                 ),
                 kind: RelaxationKind::$kind $(($n))?,
                 relocation: Names::$name,
-                conditions: $conditions,
+                conditions: $when!($conditions $($($of)*)?),
             },)*
         ]
     };
@@ -413,8 +418,8 @@ macro_rules! table_of {
 
 /// All tables in their order, and behind them that of relocations that aren't listed, which is empty.
 macro_rules! all_tables {
-    (() $($($name:ident)|+: $entries:tt)*) => {
-        &[$($crate::linker_elf::elf::choice_table::table_of!($entries),)* &[]]
+    (($when:ident) $($($name:ident)|+: $entries:tt)*) => {
+        &[$($crate::linker_elf::elf::choice_table::table_of!($when $entries),)* &[]]
     };
 }
 
@@ -451,6 +456,5 @@ macro_rules! by_table {
 pub(crate) use all_tables;
 pub(crate) use by_table;
 pub(crate) use conditions;
-pub(crate) use is_listed;
 pub(crate) use originals;
 pub(crate) use table_of;
