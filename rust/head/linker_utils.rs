@@ -17,6 +17,7 @@ mod errors;
 mod linker_base;
 mod linker_elf;
 mod linker_reading;
+mod linker_rewriting;
 mod linker_runs;
 mod linker_section;
 pub mod names;
@@ -59,4 +60,13 @@ pub mod section {
     pub use crate::linker_section::relocations::{RELA_LEN, Rela, relocation_at, relocations_len};
     pub use crate::linker_section::sections::{RelocationError, SectionError, relocate_section};
     pub use crate::linker_section::values::{ValueError, value};
+}
+
+pub mod rewriting {
+    #![doc = include_str!("../doc/rewriting.md")]
+    pub use crate::linker_rewriting::decisions::{Decision, RewritingError};
+    pub use crate::linker_rewriting::facts::{OutputFacts, SymbolFacts};
+    pub use crate::linker_rewriting::groups::{Group, KeptGroups, Scope, scope_of};
+    pub use crate::linker_rewriting::sections::rewrite_section;
+    pub use crate::linker_rewriting::surveys::survey;
 }

@@ -1,0 +1,230 @@
+-- Decisions, relocation by relocation.
+use Rattle.std.proofs.Common.{◌≡◌, ℕ, zero, suc, ◌+◌, ◌-◌, ◌≤◌, ◌<◌, ◌⊎◌, inl, inr, ◌∙◌, List, length, ap, sym, subst, arith, refl, Bool, true, false, None, Some, slice_set}
+use Rattle.std.proofs.lemmas.List.{get_or-set_same, get_or-set_other}
+use Rattle.linker_rewriting.specs.Decisions.{window_of, CanBeMade, AllCanBeMade, AreApart, decision_at, is_taken, takes_next, len_at, start_at, end_at, IsDecidedAfter, IsDecidedAlone, IsDecisionAfter, IsNotSurveyed, IsOverlapping, AreDecided, IsEndBehind}
+use Rattle.linker_rewriting.specs.declared.decisions.Decision.{Decision}
+use Rattle.linker_rewriting.specs.declared.decisions.Decision.TheVariants.{Kept, TakenAlong}
+use Rattle.linker_rewriting.specs.declared.facts.OutputFacts.{OutputFacts}
+use Rattle.linker_rewriting.specs.declared.facts.SymbolFacts.{SymbolFacts}
+use Rattle.linker_rewriting.specs.declared.groups.KeptGroups.{KeptGroups}
+use Rattle.linker_section.specs.Relocations.{relocation_in}
+use Rattle.linker_section.specs.declared.relocations.Rela.{Rela}
+use Rattle.linker_utils.specs.declared.elf.Architecture.{Architecture}
+use borrow.Author.Count.{below_more}
+
+abbrev start_by : List ℕ → ℕ → Decision → ℕ
+start_by bytes n d = (relocation_in bytes n).offset - (window_of d).back
+
+abbrev end_by : List ℕ → ℕ → Decision → ℕ
+end_by bytes n d = start_by bytes n d + (window_of d).len
+
+-- windows so far end at or below the limit, which one of them reaches
+pub record EndsAt (bytes : List ℕ) (decisions : List Decision) (end k : ℕ) : Type 0 where
+  pub below : (n : ℕ) → n < k → 0 < len_at decisions n → end_at bytes decisions n ≤ end
+  pub reached : (end ≡ 0)
+      ⊎ ((n : ℕ) × (n < k) × (0 < len_at decisions n) × (end_at bytes decisions n ≡ end))
+
+pub record AreDecidedTo (architecture : Architecture) (output : OutputFacts)
+    (symbols : List SymbolFacts) (kept : List KeptGroups) (bytes section : List ℕ)
+    (decisions : List Decision) (end : ℕ) (taken : Bool) (k : ℕ) : Type 0 where
+  pub decided : AreDecided architecture output symbols kept bytes section decisions k
+  pub made : AllCanBeMade bytes section decisions k
+  pub apart : AreApart bytes decisions k
+  pub taken_is : taken ≡ is_taken decisions k
+  pub ends : EndsAt bytes decisions end k
+
+pub none_decided : (architecture : Architecture) (output : OutputFacts)
+    (symbols : List SymbolFacts) (kept : List KeptGroups) (bytes section : List ℕ)
+    (decisions : List Decision)
+    → AreDecidedTo architecture output symbols kept bytes section decisions 0 false 0
+none_decided architecture output symbols kept bytes section decisions =
+    record {
+      decided = λ n less. absurd (omega arith);
+      made = λ n less. absurd (omega arith);
+      apart = λ i j ij less. absurd (omega arith);
+      taken_is = refl;
+      ends = record { below = λ n less. absurd (omega arith); reached = inl refl };
+    }
+
+-- the decisions below an index are the same
+abbrev AreSame : List Decision → List Decision → ℕ → Type 0
+AreSame old new k = (n : ℕ) → n < k → decision_at new n ≡ decision_at old n
+
+same_taken : (old new : List Decision) (k n : ℕ) → AreSame old new k → n ≤ k
+    → is_taken new n ≡ is_taken old n
+same_taken old new k zero same le = refl
+same_taken old new k (suc n) same le = ap takes_next (same n (omega arith))
+
+taken_next : (decisions : List Decision) (k : ℕ)
+    → is_taken decisions (k + 1) ≡ takes_next (decision_at decisions k)
+taken_next decisions k =
+    let e : suc k ≡ k + 1 = omega arith in
+    subst (λ n. is_taken decisions n ≡ takes_next (decision_at decisions k)) e refl
+
+-- the end of one more window, as `end_behind` gives it
+abbrev pub IsGrown : List ℕ → ℕ → Decision → ℕ → ℕ → Type 0
+IsGrown bytes k d end new =
+    ((window_of d).len ≡ 0 × (new ≡ end))
+    ⊎ ((0 < (window_of d).len) × (end ≤ start_by bytes k d) × (new ≡ end_by bytes k d))
+
+grown_le : (bytes : List ℕ) (k : ℕ) (d : Decision) (end new : ℕ) → IsGrown bytes k d end new
+    → end ≤ new
+grown_le bytes k d end new (inl stays) = let e = stays.1 in omega arith
+grown_le bytes k d end new (inr grows) =
+    let a = grows.1 in let b = grows.2 in omega arith
+
+grown_start : (bytes : List ℕ) (k : ℕ) (d : Decision) (end new : ℕ) → IsGrown bytes k d end new
+    → 0 < (window_of d).len → end ≤ start_by bytes k d
+grown_start bytes k d end new (inl stays) some = let e = stays.0 in absurd (omega arith)
+grown_start bytes k d end new (inr grows) some = grows.1
+
+grown_end : (bytes : List ℕ) (k : ℕ) (d : Decision) (end new : ℕ) → IsGrown bytes k d end new
+    → 0 < (window_of d).len → end_by bytes k d ≤ new
+grown_end bytes k d end new (inl stays) some = let e = stays.0 in absurd (omega arith)
+grown_end bytes k d end new (inr grows) some = let e = grows.2 in omega arith
+
+-- one of the windows ends there
+abbrev IsReached : List ℕ → List Decision → ℕ → ℕ → Type 0
+IsReached bytes decisions end k =
+    (end ≡ 0)
+    ⊎ ((n : ℕ) × (n < k) × (0 < len_at decisions n) × (end_at bytes decisions n ≡ end))
+
+reached_on : (bytes : List ℕ) (old new : List Decision) (k end : ℕ) → AreSame old new k
+    → IsReached bytes old end k → IsReached bytes new end (k + 1)
+reached_on bytes old new k end same (inl none) = inl none
+reached_on bytes old new k end same (inr one) =
+    inr (
+      one.0,
+      omega (arith, one.1),
+      subst (λ x. 0 < (window_of x).len) (sym (same (one.0) (one.1))) (one.2),
+      ap (end_by bytes (one.0)) (same (one.0) (one.1)) ∙ one.3,
+    )
+
+reached_more : (bytes : List ℕ) (old new : List Decision) (k end grown : ℕ) (d : Decision)
+    → AreSame old new k → decision_at new k ≡ d → IsReached bytes old end k
+    → IsGrown bytes k d end grown → IsReached bytes new grown (k + 1)
+reached_more bytes old new k end grown d same here reached (inl stays) =
+    subst (λ e. IsReached bytes new e (k + 1)) (sym (stays.1))
+    (reached_on bytes old new k end same reached)
+reached_more bytes old new k end grown d same here reached (inr grows) =
+    inr (
+      k,
+      omega arith,
+      subst (λ x. 0 < (window_of x).len) (sym here) (grows.0),
+      ap (end_by bytes k) here ∙ sym (grows.2),
+    )
+
+ends_more : (bytes : List ℕ) (old new : List Decision) (k end grown : ℕ) (d : Decision)
+    → AreSame old new k → decision_at new k ≡ d → EndsAt bytes old end k
+    → IsGrown bytes k d end grown → EndsAt bytes new grown (k + 1)
+ends_more bytes old new k end grown d same here ends grow =
+    record {
+      below = below_more (λ n. 0 < len_at new n → end_at bytes new n ≤ grown) k
+          (λ n less. subst (λ x. 0 < (window_of x).len → end_by bytes n x ≤ grown) (sym (same n less))
+          (λ some. let a = ends.below n less some in let b = grown_le bytes k d end grown grow in omega arith))
+          (subst (λ x. 0 < (window_of x).len → end_by bytes k x ≤ grown) (sym here)
+          (grown_end bytes k d end grown grow));
+      reached = reached_more bytes old new k end grown d same here ends.reached grow;
+    }
+
+apart_more : (bytes : List ℕ) (old new : List Decision) (k end grown : ℕ) (d : Decision)
+    → AreSame old new k → decision_at new k ≡ d → EndsAt bytes old end k → AreApart bytes old k
+    → IsGrown bytes k d end grown → AreApart bytes new (k + 1)
+apart_more bytes old new k end grown d same here ends apart grow i j ij less =
+    below_more (λ m. (n : ℕ) → n < m → 0 < len_at new n → 0 < len_at new m → end_at bytes new n ≤ start_at bytes new m) k
+    (λ m mk n nm. subst (λ x. 0 < (window_of x).len → 0 < len_at new m → end_by bytes n x ≤ start_at bytes new m) (sym (same n (omega arith)))
+    (subst (λ x. 0 < len_at old n → 0 < (window_of x).len → end_at bytes old n ≤ start_by bytes m x) (sym (same m mk))
+    (apart n m nm mk)))
+    (λ n nk. subst (λ x. 0 < (window_of x).len → 0 < len_at new k → end_by bytes n x ≤ start_at bytes new k) (sym (same n nk))
+    (subst (λ x. 0 < len_at old n → 0 < (window_of x).len → end_at bytes old n ≤ start_by bytes k x) (sym here)
+    (λ some_n some_k. let a = ends.below n nk some_n in let b = grown_start bytes k d end grown grow some_k in omega arith)))
+    j less i ij
+
+pub more_decided : (architecture : Architecture) (output : OutputFacts)
+    (symbols : List SymbolFacts) (kept : List KeptGroups) (bytes section : List ℕ)
+    (old : List Decision) (end grown : ℕ) (taken : Bool) (k : ℕ) (d : Decision)
+    → AreDecidedTo architecture output symbols kept bytes section old end taken k
+    → k < length old
+    → IsDecidedAfter architecture output symbols kept bytes section k taken d
+    → CanBeMade d section (relocation_in bytes k).offset
+    → IsGrown bytes k d end grown
+    → AreDecidedTo architecture output symbols kept bytes section (slice_set old k d) grown
+    (takes_next d) (k + 1)
+more_decided architecture output symbols kept bytes section old end grown taken k d before within is can grow =
+    let new : List Decision = slice_set old k d in
+    let same : AreSame old new k =
+    λ n less. get_or-set_other old k n d Kept (λ e. absurd (omega (arith, e))) in
+    let here : decision_at new k ≡ d = get_or-set_same old k d Kept within in
+    record {
+      decided = below_more (λ n. IsDecidedAfter architecture output symbols kept bytes section n (is_taken new n) (decision_at new n)) k
+          (λ n less. subst (λ t. IsDecidedAfter architecture output symbols kept bytes section n t (decision_at new n)) (sym (same_taken old new k n same (omega arith)))
+          (subst (λ x. IsDecidedAfter architecture output symbols kept bytes section n (is_taken old n) x) (sym (same n less)) (before.decided n less)))
+          (subst (λ t. IsDecidedAfter architecture output symbols kept bytes section k t (decision_at new k)) (before.taken_is ∙ sym (same_taken old new k k same (omega arith)))
+          (subst (λ x. IsDecidedAfter architecture output symbols kept bytes section k taken x) (sym here) is));
+      made = below_more (λ n. CanBeMade (decision_at new n) section (relocation_in bytes n).offset) k
+          (λ n less. subst (λ x. CanBeMade x section (relocation_in bytes n).offset) (sym (same n less)) (before.made n less))
+          (subst (λ x. CanBeMade x section (relocation_in bytes k).offset) (sym here) can);
+      apart = apart_more bytes old new k end grown d same here before.ends before.apart grow;
+      taken_is = ap takes_next (sym here) ∙ sym (taken_next new k);
+      ends = ends_more bytes old new k end grown d same here before.ends grow;
+    }
+
+-- ---- one more decision, and errors
+
+pub not_surveyed : (architecture : Architecture) (output : OutputFacts)
+    (symbols : List SymbolFacts) (kept : List KeptGroups) (bytes section : List ℕ) (k : ℕ)
+    (r : Rela) (taken : Bool)
+    → IsDecisionAfter architecture output symbols kept bytes section k r taken None
+    → r ≡ relocation_in bytes k
+    → IsNotSurveyed architecture output symbols kept bytes section k (relocation_in bytes k)
+not_surveyed architecture output symbols kept bytes section k r true is same =
+    absurd (let e : None ≡ Some TakenAlong = is in cc)
+not_surveyed architecture output symbols kept bytes section k r false is same =
+    subst (IsNotSurveyed architecture output symbols kept bytes section k) same is
+
+pub decided_after : (architecture : Architecture) (output : OutputFacts)
+    (symbols : List SymbolFacts) (kept : List KeptGroups) (bytes section : List ℕ) (k : ℕ)
+    (r : Rela) (taken : Bool) (d : Decision)
+    → IsDecisionAfter architecture output symbols kept bytes section k r taken (Some d)
+    → r ≡ relocation_in bytes k
+    → IsDecidedAfter architecture output symbols kept bytes section k taken d
+decided_after architecture output symbols kept bytes section k r true d is same =
+    let e : Some d ≡ Some TakenAlong = is in cc
+decided_after architecture output symbols kept bytes section k r false d is same =
+    subst (λ x. IsDecidedAlone architecture output symbols kept bytes section k x d) same is
+
+-- one of the windows so far ends above the start
+overlapping_one : (architecture : Architecture) (output : OutputFacts)
+    (symbols : List SymbolFacts) (kept : List KeptGroups) (bytes section : List ℕ)
+    (decisions : List Decision) (end k : ℕ) (d : Decision)
+    → IsDecidedAlone architecture output symbols kept bytes section k (relocation_in bytes k) d
+    → IsEndBehind (window_of d) (relocation_in bytes k).offset end None
+    → IsReached bytes decisions end k
+    → IsOverlapping architecture output symbols kept bytes section decisions k
+overlapping_one architecture output symbols kept bytes section decisions end k d decided behind (inl none) =
+    absurd (let e = behind.1 in omega arith)
+overlapping_one architecture output symbols kept bytes section decisions end k d decided behind (inr one) =
+    record {
+      decision = d;
+      decided = decided;
+      writes = behind.0;
+      before = one.0;
+      is_before = one.1;
+      is_written = one.2;
+      overlap = let e = behind.1 in let reach = one.3 in omega arith;
+    }
+
+pub overlapping : (architecture : Architecture) (output : OutputFacts)
+    (symbols : List SymbolFacts) (kept : List KeptGroups) (bytes section : List ℕ)
+    (decisions : List Decision) (end k : ℕ) (r : Rela) (taken : Bool) (d : Decision)
+    → IsDecisionAfter architecture output symbols kept bytes section k r taken (Some d)
+    → r ≡ relocation_in bytes k → IsEndBehind (window_of d) r.offset end None
+    → EndsAt bytes decisions end k
+    → IsOverlapping architecture output symbols kept bytes section decisions k
+overlapping architecture output symbols kept bytes section decisions end k r true d is same behind ends =
+    absurd (let none : d ≡ TakenAlong = (let e : Some d ≡ Some TakenAlong = is in cc) in
+    let len = ap (λ x. (window_of x).len) none in let some = behind.0 in omega arith)
+overlapping architecture output symbols kept bytes section decisions end k r false d is same behind ends =
+    overlapping_one architecture output symbols kept bytes section decisions end k d
+    (subst (λ x. IsDecidedAlone architecture output symbols kept bytes section k x d) same is)
+    (subst (λ x. IsEndBehind (window_of d) x.offset end None) same behind) ends.reached

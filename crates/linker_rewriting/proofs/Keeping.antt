@@ -1,0 +1,176 @@
+-- Groups that stay, noted in a table.
+use Rattle.std.proofs.Common.{◌≡◌, ◌≢◌, ℕ, zero, suc, ◌≤◌, ◌<◌, ◌⊎◌, inl, inr, ◌∙◌, ◌↔◌, List, [], ◌∷◌, length, ap, sym, subst, arith, refl, IsTrue, None, Some, get_or, rules, slice_get, slice_set, true}
+use Rattle.linker_rewriting.specs.Groups.{keeps, with_kept, kept_by}
+use Rattle.linker_rewriting.specs.Surveys.{AreKeptToo, IsGroup, IsOfThreads}
+use Rattle.linker_rewriting.specs.declared.groups.Group.{Group}
+use Rattle.linker_rewriting.specs.declared.groups.Group.TheVariants.{InitialExec, GeneralDynamic, LocalDynamic, Descriptor, GotLoad}
+use Rattle.linker_rewriting.specs.declared.groups.KeptGroups.{KeptGroups}
+
+get_set_same : {X : Type 0} (xs : List X) (i : ℕ) (a : X) → i < length xs
+    → slice_get (slice_set xs i a) i ≡ Some a
+get_set_same [] i a less = absurd (omega arith)
+get_set_same (x ∷ xs) zero a less = refl
+get_set_same (x ∷ xs) (suc i) a less = get_set_same xs i a (omega arith)
+
+get_set_other : {X : Type 0} (xs : List X) (i j : ℕ) (a : X) → j ≢ i
+    → slice_get (slice_set xs i a) j ≡ slice_get xs j
+get_set_other [] i j a ne = refl
+get_set_other (x ∷ xs) zero zero a ne = absurd (ne refl)
+get_set_other (x ∷ xs) zero (suc j) a ne = refl
+get_set_other (x ∷ xs) (suc i) zero a ne = refl
+get_set_other (x ∷ xs) (suc i) (suc j) a ne = get_set_other xs i j a (λ e. ne (ap suc e))
+
+get_past : {X : Type 0} (xs : List X) (i : ℕ) → length xs ≤ i → slice_get xs i ≡ None
+get_past [] i le = refl
+get_past (x ∷ xs) zero le = absurd (omega arith)
+get_past (x ∷ xs) (suc i) le = get_past xs i (omega arith)
+
+pub get_there : {X : Type 0} (xs : List X) (i : ℕ) (x d : X) → i < length xs
+    → x ≡ get_or xs i d → slice_get xs i ≡ Some x
+get_there [] i x d less is = absurd (omega arith)
+get_there (y ∷ ys) zero x d less is = ap Some (sym is)
+get_there (y ∷ ys) (suc i) x d less is = get_there ys i x d (omega arith) is
+
+-- one more kind stays
+kept_with : (group g : Group) (k : KeptGroups)
+    → IsTrue (keeps g (with_kept group k)) ↔ (IsTrue (keeps g k) ⊎ (g ≡ group))
+kept_with InitialExec InitialExec k = (λ _. inr refl, λ _. refl)
+kept_with InitialExec GeneralDynamic k = (λ h. inl h, λ either. elim either [ inl h ↦ h | inr e ↦ absurd (cc) ])
+kept_with InitialExec LocalDynamic k = (λ h. inl h, λ either. elim either [ inl h ↦ h | inr e ↦ absurd (cc) ])
+kept_with InitialExec Descriptor k = (λ h. inl h, λ either. elim either [ inl h ↦ h | inr e ↦ absurd (cc) ])
+kept_with InitialExec GotLoad k = (λ h. inl h, λ either. elim either [ inl h ↦ h | inr e ↦ absurd (cc) ])
+kept_with GeneralDynamic InitialExec k = (λ h. inl h, λ either. elim either [ inl h ↦ h | inr e ↦ absurd (cc) ])
+kept_with GeneralDynamic GeneralDynamic k = (λ _. inr refl, λ _. refl)
+kept_with GeneralDynamic LocalDynamic k = (λ h. inl h, λ either. elim either [ inl h ↦ h | inr e ↦ absurd (cc) ])
+kept_with GeneralDynamic Descriptor k = (λ h. inl h, λ either. elim either [ inl h ↦ h | inr e ↦ absurd (cc) ])
+kept_with GeneralDynamic GotLoad k = (λ h. inl h, λ either. elim either [ inl h ↦ h | inr e ↦ absurd (cc) ])
+kept_with LocalDynamic InitialExec k = (λ h. inl h, λ either. elim either [ inl h ↦ h | inr e ↦ absurd (cc) ])
+kept_with LocalDynamic GeneralDynamic k = (λ h. inl h, λ either. elim either [ inl h ↦ h | inr e ↦ absurd (cc) ])
+kept_with LocalDynamic LocalDynamic k = (λ _. inr refl, λ _. refl)
+kept_with LocalDynamic Descriptor k = (λ h. inl h, λ either. elim either [ inl h ↦ h | inr e ↦ absurd (cc) ])
+kept_with LocalDynamic GotLoad k = (λ h. inl h, λ either. elim either [ inl h ↦ h | inr e ↦ absurd (cc) ])
+kept_with Descriptor InitialExec k = (λ h. inl h, λ either. elim either [ inl h ↦ h | inr e ↦ absurd (cc) ])
+kept_with Descriptor GeneralDynamic k = (λ h. inl h, λ either. elim either [ inl h ↦ h | inr e ↦ absurd (cc) ])
+kept_with Descriptor LocalDynamic k = (λ h. inl h, λ either. elim either [ inl h ↦ h | inr e ↦ absurd (cc) ])
+kept_with Descriptor Descriptor k = (λ _. inr refl, λ _. refl)
+kept_with Descriptor GotLoad k = (λ h. inl h, λ either. elim either [ inl h ↦ h | inr e ↦ absurd (cc) ])
+kept_with GotLoad InitialExec k = (λ h. inl h, λ either. elim either [ inl h ↦ h | inr e ↦ absurd (cc) ])
+kept_with GotLoad GeneralDynamic k = (λ h. inl h, λ either. elim either [ inl h ↦ h | inr e ↦ absurd (cc) ])
+kept_with GotLoad LocalDynamic k = (λ h. inl h, λ either. elim either [ inl h ↦ h | inr e ↦ absurd (cc) ])
+kept_with GotLoad Descriptor k = (λ h. inl h, λ either. elim either [ inl h ↦ h | inr e ↦ absurd (cc) ])
+kept_with GotLoad GotLoad k = (λ _. inr refl, λ _. refl)
+
+pub past_kept : (table : List KeptGroups) (group : Group) (symbol : ℕ) → length table ≤ symbol
+    → AreKeptToo table table (IsGroup group symbol)
+past_kept table group symbol le g s = (
+  λ h. inl h,
+  λ either. elim either [
+    | inl h ↦ h
+    | inr e ↦ subst (λ k. IsTrue (kept_by g k)) (sym (get_past table s (let same = e.1 in omega arith))) refl
+  ],
+)
+
+same_or : (s symbol : ℕ) → (s ≡ symbol) ⊎ (s ≢ symbol)
+same_or s symbol = search rules
+
+pub one_kept : (table : List KeptGroups) (group : Group) (symbol : ℕ) (old : KeptGroups)
+    → symbol < length table → slice_get table symbol ≡ Some old
+    → AreKeptToo table (slice_set table symbol (with_kept group old)) (IsGroup group symbol)
+one_kept table group symbol old less is g s =
+    let after = slice_set table symbol (with_kept group old) in
+    elim (same_or s symbol) [
+      | inl e ↦
+          let there : slice_get after s ≡ Some (with_kept group old) =
+          ap (slice_get after) e ∙ get_set_same table symbol (with_kept group old) less in
+          let was : slice_get table s ≡ Some old = ap (slice_get table) e ∙ is in (
+            λ h. elim ((kept_with group g old).0 (subst (λ k. IsTrue (kept_by g k)) there h)) [
+              | inl k ↦ inl (subst (λ x. IsTrue (kept_by g x)) (sym was) k)
+              | inr same ↦ inr (same, e)
+            ],
+            λ either. elim either [
+              | inl k ↦ subst (λ x. IsTrue (kept_by g x)) (sym there)
+                  ((kept_with group g old).1 (inl (subst (λ x. IsTrue (kept_by g x)) was k)))
+              | inr p ↦ subst (λ x. IsTrue (kept_by g x)) (sym there)
+                  ((kept_with group g old).1 (inr (p.0)))
+            ],
+          )
+      | inr ne ↦
+          let same : slice_get after s ≡ slice_get table s =
+          get_set_other table symbol s (with_kept group old) ne in (
+            λ h. inl (subst (λ x. IsTrue (kept_by g x)) same h),
+            λ either. elim either [
+              | inl k ↦ subst (λ x. IsTrue (kept_by g x)) (sym same) k
+              | inr p ↦ absurd (ne (p.1))
+            ],
+          )
+    ]
+
+pub both_kept : (a b c : List KeptGroups) (P Q R : Group → ℕ → Type 0) → AreKeptToo a b P
+    → AreKeptToo b c Q → ((g : Group) (s : ℕ) → (P g s ⊎ Q g s) ↔ R g s) → AreKeptToo a c R
+both_kept a b c P Q R first second same g s = (
+  λ h. elim ((second g s).0 h) [
+    | inl in_b ↦ elim ((first g s).0 in_b) [
+      | inl in_a ↦ inl in_a
+      | inr p ↦ inr ((same g s).0 (inl p))
+    ]
+    | inr q ↦ inr ((same g s).0 (inr q))
+  ],
+  λ either. elim either [
+    | inl in_a ↦ (second g s).1 (inl ((first g s).1 (inl in_a)))
+    | inr r ↦ elim ((same g s).1 r) [
+      | inl p ↦ (second g s).1 (inl ((first g s).1 (inr p)))
+      | inr q ↦ (second g s).1 (inr q)
+    ]
+  ],
+)
+
+pub nothing_kept : (table : List KeptGroups) (P : Group → ℕ → Type 0)
+    → ((g : Group) (s : ℕ) → P g s → ⊥) → AreKeptToo table table P
+nothing_kept table P none g s = (
+  λ h. inl h,
+  λ either. elim either [ inl h ↦ h | inr p ↦ absurd (none g s p) ],
+)
+
+abbrev pub IsEither : (Group → ℕ → Type 0) → (Group → ℕ → Type 0) → Group → ℕ → Type 0
+IsEither P Q g s = P g s ⊎ Q g s
+
+pub three_are_threads : (g : Group) (s : ℕ)
+    → (IsEither (IsGroup InitialExec 0) (IsGroup GeneralDynamic 0) g s ⊎ IsGroup LocalDynamic 0 g s)
+    ↔ IsOfThreads true g s
+three_are_threads InitialExec s = (
+  λ h. (refl, tt, elim h [ inl e ↦ elim e [ inl p ↦ p.1 | inr p ↦ p.1 ] | inr p ↦ p.1 ]),
+  λ h. inl (inl (refl, h.2)),
+)
+three_are_threads GeneralDynamic s = (
+  λ h. (refl, tt, elim h [ inl e ↦ elim e [ inl p ↦ p.1 | inr p ↦ p.1 ] | inr p ↦ p.1 ]),
+  λ h. inl (inr (refl, h.2)),
+)
+three_are_threads LocalDynamic s = (
+  λ h. (refl, tt, elim h [ inl e ↦ elim e [ inl p ↦ p.1 | inr p ↦ p.1 ] | inr p ↦ p.1 ]),
+  λ h. inr (refl, h.2),
+)
+three_are_threads Descriptor s = (
+  λ h. absurd (elim h [
+    | inl e ↦ elim e [ inl p ↦ let q : Descriptor ≡ InitialExec = p.0 in cc | inr p ↦ let q : Descriptor ≡ GeneralDynamic = p.0 in cc ]
+    | inr p ↦ let q : Descriptor ≡ LocalDynamic = p.0 in cc
+  ]),
+  λ h. absurd (h.1),
+)
+three_are_threads GotLoad s = (
+  λ h. absurd (elim h [
+    | inl e ↦ elim e [ inl p ↦ let q : GotLoad ≡ InitialExec = p.0 in cc | inr p ↦ let q : GotLoad ≡ GeneralDynamic = p.0 in cc ]
+    | inr p ↦ let q : GotLoad ≡ LocalDynamic = p.0 in cc
+  ]),
+  λ h. absurd (h.1),
+)
+
+get_is : {X : Type 0} (xs : List X) (i : ℕ) (d : X) → i < length xs
+    → slice_get xs i ≡ Some (get_or xs i d)
+get_is xs i d less = get_there xs i (get_or xs i d) d less refl
+
+pub set_kept : (table : List KeptGroups) (group : Group) (symbol : ℕ) (new d : KeptGroups)
+    → symbol < length table → new ≡ with_kept group (get_or table symbol d)
+    → AreKeptToo table (slice_set table symbol new) (IsGroup group symbol)
+set_kept table group symbol new d less is =
+    subst (λ x. AreKeptToo table (slice_set table symbol x) (IsGroup group symbol)) (sym is)
+    (one_kept table group symbol (get_or table symbol d) less (get_is table symbol d less))

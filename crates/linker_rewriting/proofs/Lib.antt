@@ -1,0 +1,6 @@
+pub mod Deciding
+pub mod Keeping
+pub mod Making
+pub mod Surveying
+pub mod Whole
+pub mod Windows

@@ -1,0 +1,203 @@
+-- What has been made of a section and of its relocations, one decision after the other.
+use Rattle.std.proofs.Common.{◌≡◌, ◌≢◌, ℕ, ◌+◌, ◌-◌, ◌≤◌, ◌<◌, inl, inr, ◌∙◌, List, length, take, drop, get_or, ap, sym, subst, arith, refl, IsTrue, Option, None, Some}
+use Rattle.linker_base.specs.Rewrite.{Rewrite, CanRewrite, IsRewritable, rewritten, rewrite_window}
+use Rattle.linker_base.specs.RewriteWindow.{window_of_rewrite}
+use Rattle.linker_rewriting.specs.Decisions.{window_of, CanBeMade, AllCanBeMade, AreApart, decision_at, len_at, start_at}
+use Rattle.linker_rewriting.specs.Rewritten.{section_after, relocation_after, IsMade, IsDone, AreDone, AreRelocationsAfter, OthersStay}
+use Rattle.linker_rewriting.specs.declared.decisions.Decision.{Decision}
+use Rattle.linker_rewriting.specs.declared.decisions.Decision.TheVariants.{Kept, Rewritten, TakenAlong}
+use Rattle.linker_rewriting.proofs.Windows.{IsReplaced, in_window, IsStep, step_of, step_below, step_above, step_outside, zero_or_more}
+use Rattle.linker_section.specs.Relocations.{relocation_in}
+use Rattle.linker_section.specs.declared.relocations.Rela.{Rela}
+use Rattle.std.proofs.lemmas.List.{get_or_default}
+use Rattle.linker_utils.specs.Architectures.{relaxation_rewrite}
+use borrow.Author.Count.{below_more}
+
+-- ---- one rewrite
+
+abbrev start_of : Option Rewrite → ℕ → ℕ
+start_of w o = o - (window_of_rewrite w).back
+
+-- the window is as it was
+abbrev IsAhead : Option Rewrite → ℕ → List ℕ → List ℕ → Type 0
+IsAhead w o first before =
+    0 < (window_of_rewrite w).len → drop (start_of w o) before ≡ drop (start_of w o) first
+
+same_window : (r : Rewrite) (o : ℕ) (first before : List ℕ) → IsAhead (Some r) o first before
+    → rewrite_window r before o ≡ rewrite_window r first o
+same_window r o first before ahead =
+    elim (zero_or_more r.len) [
+      | inl none ↦ ap (λ n. take n (drop (o - r.back) before)) none
+          ∙ sym (ap (λ n. take n (drop (o - r.back) first)) none)
+      | inr some ↦ ap (take r.len) (ahead some)
+    ]
+
+replaced : (r : Rewrite) (o : ℕ) (first before after : List ℕ) → IsRewritable r first o
+    → length before ≡ length first → length after ≡ length before
+    → after ≡ rewritten (Some r) before o
+    → IsReplaced (o - r.back) r.len (r.bytes (rewrite_window r before o)) before after
+replaced r o first before after can len same made =
+    record { inside = let e = can.ends in omega arith; same_len = same; made = made }
+
+step_by : (w : Option Rewrite) (o : ℕ) (first before after : List ℕ) → CanRewrite w first o
+    → length before ≡ length first → length after ≡ length before → after ≡ rewritten w before o
+    → IsStep (start_of w o) (window_of_rewrite w).len before after
+step_by None o first before after can len same made = inl made
+step_by (Some r) o first before after can len same made =
+    step_of (replaced r o first before after can len same made)
+
+made_by : (w : Option Rewrite) (o : ℕ) (first before after : List ℕ) → CanRewrite w first o
+    → length before ≡ length first → length after ≡ length before → after ≡ rewritten w before o
+    → IsAhead w o first before → IsMade w o first after
+made_by None o first before after can len same made ahead = tt
+made_by (Some r) o first before after can len same made ahead =
+    in_window (replaced r o first before after can len same made)
+    ∙ ap r.bytes (same_window r o first before ahead)
+
+can_by : (w : Option Rewrite) (o : ℕ) (first before : List ℕ) → CanRewrite w first o
+    → length before ≡ length first → IsAhead w o first before → CanRewrite w before o
+can_by None o first before can len ahead = tt
+can_by (Some r) o first before can len ahead =
+    record {
+      starts = can.starts;
+      ends = let e = can.ends in omega arith;
+      admitted = subst (λ x. IsTrue (r.admits x)) (sym (same_window r o first before ahead))
+          can.admitted;
+    }
+
+stays_by : (w : Option Rewrite) (o : ℕ) (first before after : List ℕ) → IsMade w o first before
+    → take (window_of_rewrite w).len (drop (start_of w o) after)
+    ≡ take (window_of_rewrite w).len (drop (start_of w o) before)
+    → IsMade w o first after
+stays_by None o first before after made same = tt
+stays_by (Some r) o first before after made same = same ∙ made
+
+-- ---- one decision
+
+abbrev start_in : Decision → ℕ → ℕ
+start_in d o = o - (window_of d).back
+
+pub can_make : (d : Decision) (o : ℕ) (first before : List ℕ) → CanBeMade d first o
+    → length before ≡ length first
+    → (0 < (window_of d).len → drop (start_in d o) before ≡ drop (start_in d o) first)
+    → CanBeMade d before o
+can_make Kept o first before can len ahead = tt
+can_make TakenAlong o first before can len ahead = tt
+can_make (Rewritten chosen) o first before can len ahead =
+    can_by (relaxation_rewrite chosen.kind) o first before can len ahead
+
+step_made : (d : Decision) (o : ℕ) (first before after : List ℕ) → CanBeMade d first o
+    → length before ≡ length first → length after ≡ length before
+    → after ≡ section_after d o before
+    → IsStep (start_in d o) (window_of d).len before after
+step_made Kept o first before after can len same made = inl made
+step_made TakenAlong o first before after can len same made = inl made
+step_made (Rewritten chosen) o first before after can len same made =
+    step_by (relaxation_rewrite chosen.kind) o first before after can len same made
+
+done_made : (d : Decision) (o : ℕ) (first before after : List ℕ) → CanBeMade d first o
+    → length before ≡ length first → length after ≡ length before
+    → after ≡ section_after d o before
+    → (0 < (window_of d).len → drop (start_in d o) before ≡ drop (start_in d o) first)
+    → IsDone d o first after
+done_made Kept o first before after can len same made ahead = tt
+done_made TakenAlong o first before after can len same made ahead = tt
+done_made (Rewritten chosen) o first before after can len same made ahead =
+    made_by (relaxation_rewrite chosen.kind) o first before after can len same made ahead
+
+done_stays : (d : Decision) (o : ℕ) (first before after : List ℕ) → IsDone d o first before
+    → take (window_of d).len (drop (start_in d o) after)
+    ≡ take (window_of d).len (drop (start_in d o) before)
+    → IsDone d o first after
+done_stays Kept o first before after done same = tt
+done_stays TakenAlong o first before after done same = tt
+done_stays (Rewritten chosen) o first before after done same =
+    stays_by (relaxation_rewrite chosen.kind) o first before after done same
+
+-- ---- all up to an index
+
+pub record AreMade (decisions : List Decision) (entries entries_now section section_now : List ℕ)
+    (limit k : ℕ) : Type 0 where
+  pub changed : AreRelocationsAfter decisions entries entries_now k
+  pub left : (n : ℕ) → k ≤ n → n < limit → relocation_in entries_now n ≡ relocation_in entries n
+  pub done : AreDone entries decisions section section_now k
+  pub ahead : (n : ℕ) → k ≤ n → n < limit → 0 < len_at decisions n
+      → drop (start_at entries decisions n) section_now
+      ≡ drop (start_at entries decisions n) section
+  pub others : OthersStay entries decisions section section_now k
+  pub same_len : length section_now ≡ length section
+  pub same_entries_len : length entries_now ≡ length entries
+
+pub none_made : (decisions : List Decision) (entries section : List ℕ) (limit : ℕ)
+    → AreMade decisions entries entries section section limit 0
+none_made decisions entries section limit =
+    record {
+      changed = λ n less. absurd (omega arith);
+      left = λ n le less. refl;
+      done = λ n less. absurd (omega arith);
+      ahead = λ n le less some. refl;
+      others = λ at outside. refl;
+      same_len = refl;
+      same_entries_len = refl;
+    }
+
+pub more_made : (decisions : List Decision) (entries old new section before after : List ℕ)
+    (limit k : ℕ) → AreMade decisions entries old section before limit k → k < limit
+    → AllCanBeMade entries section decisions limit → AreApart entries decisions limit
+    → after ≡ section_after (decision_at decisions k) (relocation_in entries k).offset before
+    → length after ≡ length before
+    → relocation_in new k ≡ relocation_after (decision_at decisions k) (relocation_in entries k)
+    → ((n : ℕ) → n < limit → n ≢ k → relocation_in new n ≡ relocation_in old n)
+    → length new ≡ length old
+    → AreMade decisions entries new section after limit (k + 1)
+more_made decisions entries old new section before after limit k made less can apart is same set others new_len =
+    let d = decision_at decisions k in
+    let o = (relocation_in entries k).offset in
+    let s = start_at entries decisions k in
+    let ahead = made.ahead k (omega arith) less in
+    let step : IsStep s (len_at decisions k) before after =
+    step_made d o section before after (can k less) made.same_len same is in
+    record {
+      changed = below_more (λ n. relocation_in new n ≡ relocation_after (decision_at decisions n) (relocation_in entries n)) k
+          (λ n le. others n (omega arith) (λ e. absurd (omega (arith, e))) ∙ made.changed n le) set;
+      left = λ n le lim. others n lim (λ e. absurd (omega (arith, e))) ∙ made.left n (omega arith) lim;
+      done = below_more (λ n. IsDone (decision_at decisions n) (relocation_in entries n).offset section after) k
+          (λ n le. done_stays (decision_at decisions n) (relocation_in entries n).offset section before after (made.done n le)
+          (step_below s (len_at decisions k) before after (start_at entries decisions n) (len_at decisions n) step
+          (λ some more. apart n k le less some more)))
+          (done_made d o section before after (can k less) made.same_len same is ahead);
+      ahead = λ n le lim some.
+          step_above s (len_at decisions k) before after (start_at entries decisions n) step
+          (λ more. apart k n (omega arith) lim more some)
+          ∙ made.ahead n (omega arith) lim some;
+      others = λ at outside.
+          step_outside s (len_at decisions k) before after at step (outside k (omega arith))
+          ∙ made.others at (λ n le. outside n (omega arith));
+      same_len = same ∙ made.same_len;
+      same_entries_len = new_len ∙ made.same_entries_len;
+    }
+
+-- the same, by what the code has
+pub made_next : (decisions : List Decision) (entries old new section before after : List ℕ)
+    (limit k : ℕ) (x : Decision) (r r_new : Rela)
+    → AreMade decisions entries old section before limit k → k < limit
+    → limit ≤ length decisions
+    → AllCanBeMade entries section decisions limit → AreApart entries decisions limit
+    → r ≡ relocation_in old k
+    → after ≡ section_after (get_or decisions k x) r.offset before
+    → length after ≡ length before
+    → relocation_in new k ≡ r_new → r_new ≡ relocation_after (get_or decisions k x) r
+    → ((n : ℕ) → n < limit → n ≢ k → relocation_in new n ≡ relocation_in old n)
+    → length new ≡ length old
+    → AreMade decisions entries new section after limit (k + 1)
+made_next decisions entries old new section before after limit k x r r_new made less enough can apart is_r is same set set_is others new_len =
+    let d : get_or decisions k x ≡ decision_at decisions k =
+    get_or_default decisions k x Kept (omega arith) in
+    let there : r ≡ relocation_in entries k = is_r ∙ made.left k (omega arith) less in
+    more_made decisions entries old new section before after limit k made less can apart
+    (is ∙ (ap (λ y. section_after y r.offset before) d
+    ∙ ap (λ y. section_after (decision_at decisions k) y.offset before) there))
+    same
+    (set ∙ (set_is ∙ (ap (λ y. relocation_after y r) d
+    ∙ ap (relocation_after (decision_at decisions k)) there)))
+    others new_len

@@ -1,0 +1,9 @@
+use Rattle.std.proofs.Common.{◌/◌, length}
+use Rattle.linker_rewriting.proofs.Whole.{whole}
+use Rattle.linker_rewriting.proofs.sections.rewrite_section.Goals as goal
+
+pub returns-in-Ok-clause-groups : goal.returns-in-Ok-clause-groups
+returns-in-Ok-clause-groups c =
+    let a = c.args in
+    whole a.architecture a.output.now a.symbols.now a.kept.now a.relocations.now a.section.now
+    c.decide_section.new.decisions (length a.relocations.now / 24) c.in-Ok.ensures.decided

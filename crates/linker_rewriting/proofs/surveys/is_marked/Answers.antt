@@ -1,0 +1,40 @@
+use Rattle.std.proofs.Common.{◌≡◌, ◌≢◌, ℕ, zero, suc, ◌-◌, List, Bool, true, false, ◌&&◌, ◌==◌, refl, subst, arith}
+use Rattle.linker_rewriting.specs.Groups.{IsMark}
+use Rattle.linker_rewriting.specs.Surveys.{IsMarked}
+use Rattle.linker_section.specs.Relocations.{relocation_in}
+use Rattle.linker_section.specs.declared.relocations.Rela.{Rela}
+use Rattle.linker_rewriting.proofs.surveys.is_marked.Goals as goal
+
+marked_by : (bytes : List ℕ) (n : ℕ) (r before : Rela) (marked is_mark : Bool) → n ≢ 0
+    → before ≡ relocation_in bytes (n - 1) → IsMark before.code is_mark
+    → marked ≡ (is_mark && before.offset == r.offset) → IsMarked bytes n r marked
+marked_by bytes zero r before marked is_mark some is marks value = absurd (some refl)
+marked_by bytes (suc n) r before marked is_mark some is marks value =
+    let e : suc n - 1 ≡ n = omega arith in
+    let there : before ≡ relocation_in bytes n = subst (λ m. before ≡ relocation_in bytes m) e is in (
+      is_mark,
+      subst (λ x. IsMark x.code is_mark) there marks,
+      subst (λ x. marked ≡ (is_mark && x.offset == r.offset)) there value,
+    )
+
+with_true : (a b : Bool) → a ≡ true → b ≡ (a && b)
+with_true true b is = refl
+with_true false b is = absurd (let e : false ≡ true = is in cc)
+
+with_false : (a b : Bool) → a ≡ false → a ≡ (a && b)
+with_false false b is = refl
+with_false true b is = absurd (let e : true ≡ false = is in cc)
+
+pub returns-then-is_mark : goal.returns-then-is_mark
+returns-then-is_mark c =
+    marked_by c.args.relocations.now c.args.index c.args.relocation.now
+    c.relocation_in-before.result _ c.marks_call-is_mark.result
+    (λ e. omega (arith, e, c.if-index-eq0.false)) c.relocation_in-before.ensures
+    c.marks_call-is_mark.ensures (with_true _ _ c.if-is_mark.true)
+
+pub returns-else-is_mark : goal.returns-else-is_mark
+returns-else-is_mark c =
+    marked_by c.args.relocations.now c.args.index c.args.relocation.now
+    c.relocation_in-before.result c.marks_call-is_mark.result c.marks_call-is_mark.result
+    (λ e. omega (arith, e, c.if-index-eq0.false)) c.relocation_in-before.ensures
+    c.marks_call-is_mark.ensures (with_false _ _ c.if-is_mark.false)

@@ -1,0 +1,168 @@
+-- Which relocations a rewrite is made at before addresses are known, and which are a group, whose
+-- instructions are rewritten all or not at all (ELF Handling For Thread-Local Storage; the psABIs'
+-- sections on relaxation, "TOC Optimizations" and "TLS Linkage Optimizations" of the 64-Bit ELF V2
+-- ABI).
+use Rattle.std.specs.Prelude.{◌≡◌, ℕ, Bool, true, false, ◌||◌, List, Option, Some, None, slice_get}
+use Rattle.linker_elf.specs.ElfNames.{ElfName, IsNameOf, IsNamed}
+use Rattle.linker_elf.specs.AArch64Relocations.{aarch64_name}
+use Rattle.linker_elf.specs.LoongArchRelocations.{loongarch_name}
+use Rattle.linker_elf.specs.Ppc64Relocations.{ppc64_name}
+use Rattle.linker_elf.specs.X86Relocations.{x86_64_name}
+use Rattle.linker_elf.specs.declared.aarch64.relocations.AArch64Relocation.{AArch64Relocation}
+use Rattle.linker_elf.specs.declared.aarch64.relocations.AArch64Relocation.TheVariants as aarch64
+use Rattle.linker_elf.specs.declared.loongarch64.relocations.LoongArch64Relocation.{LoongArch64Relocation}
+use Rattle.linker_elf.specs.declared.loongarch64.relocations.LoongArch64Relocation.TheVariants as loongarch64
+use Rattle.linker_elf.specs.declared.ppc64.relocations.Ppc64Relocation.{Ppc64Relocation}
+use Rattle.linker_elf.specs.declared.ppc64.relocations.Ppc64Relocation.TheVariants as ppc64
+use Rattle.linker_elf.specs.declared.x86_64.relocations.X86_64Relocation.{X86_64Relocation}
+use Rattle.linker_elf.specs.declared.x86_64.relocations.X86_64Relocation.TheVariants as x86_64
+use Rattle.linker_rewriting.specs.declared.groups.Group.{Group}
+use Rattle.linker_rewriting.specs.declared.groups.Group.TheVariants.{InitialExec, GeneralDynamic}
+use Rattle.linker_rewriting.specs.declared.groups.Group.TheVariants.{LocalDynamic, Descriptor}
+use Rattle.linker_rewriting.specs.declared.groups.Group.TheVariants.{GotLoad}
+use Rattle.linker_rewriting.specs.declared.groups.KeptGroups.{KeptGroups}
+use Rattle.linker_rewriting.specs.declared.groups.Scope.{Scope}
+use Rattle.linker_rewriting.specs.declared.groups.Scope.TheVariants.{Unlisted, Alone, Grouped}
+use Rattle.linker_utils.specs.Architectures.{IsOf}
+use Rattle.linker_utils.specs.declared.elf.Architecture.{Architecture}
+use Rattle.linker_utils.specs.declared.elf.Architecture.TheVariants.{AArch64, RiscV, LoongArch64}
+use Rattle.linker_utils.specs.declared.elf.Architecture.TheVariants.{Ppc64, X86_64}
+
+-- ---- scopes
+
+abbrev pub aarch64_scope : AArch64Relocation → Scope
+aarch64_scope aarch64.R_AARCH64_CALL26 = Alone
+aarch64_scope aarch64.R_AARCH64_JUMP26 = Alone
+aarch64_scope aarch64.R_AARCH64_TLSIE_ADR_GOTTPREL_PAGE21 = Grouped InitialExec
+aarch64_scope aarch64.R_AARCH64_TLSIE_LD64_GOTTPREL_LO12_NC = Grouped InitialExec
+aarch64_scope name = Unlisted
+
+abbrev pub loongarch_scope : LoongArch64Relocation → Scope
+loongarch_scope loongarch64.R_LARCH_TLS_IE_PC_HI20 = Grouped InitialExec
+loongarch_scope loongarch64.R_LARCH_TLS_IE_PC_LO12 = Grouped InitialExec
+loongarch_scope loongarch64.R_LARCH_TLS_IE64_PC_LO20 = Grouped InitialExec
+loongarch_scope loongarch64.R_LARCH_TLS_IE64_PC_HI12 = Grouped InitialExec
+loongarch_scope loongarch64.R_LARCH_TLS_DESC_PC_HI20 = Grouped Descriptor
+loongarch_scope loongarch64.R_LARCH_TLS_DESC_PC_LO12 = Grouped Descriptor
+loongarch_scope loongarch64.R_LARCH_TLS_DESC64_PC_LO20 = Grouped Descriptor
+loongarch_scope loongarch64.R_LARCH_TLS_DESC64_PC_HI12 = Grouped Descriptor
+loongarch_scope loongarch64.R_LARCH_TLS_DESC_LD = Grouped Descriptor
+loongarch_scope loongarch64.R_LARCH_TLS_DESC_CALL = Grouped Descriptor
+loongarch_scope name = Unlisted
+
+abbrev pub ppc64_scope : Ppc64Relocation → Scope
+ppc64_scope ppc64.R_PPC64_REL24 = Alone
+ppc64_scope ppc64.R_PPC64_GOT_PCREL34 = Alone
+ppc64_scope ppc64.R_PPC64_GOT16 = Grouped GotLoad
+ppc64_scope ppc64.R_PPC64_GOT16_DS = Grouped GotLoad
+ppc64_scope ppc64.R_PPC64_GOT16_LO = Grouped GotLoad
+ppc64_scope ppc64.R_PPC64_GOT16_LO_DS = Grouped GotLoad
+ppc64_scope ppc64.R_PPC64_GOT16_HI = Grouped GotLoad
+ppc64_scope ppc64.R_PPC64_GOT16_HA = Grouped GotLoad
+ppc64_scope ppc64.R_PPC64_GOT_TPREL16_DS = Grouped InitialExec
+ppc64_scope ppc64.R_PPC64_GOT_TPREL16_LO_DS = Grouped InitialExec
+ppc64_scope ppc64.R_PPC64_GOT_TPREL16_HI = Grouped InitialExec
+ppc64_scope ppc64.R_PPC64_GOT_TPREL16_HA = Grouped InitialExec
+ppc64_scope ppc64.R_PPC64_GOT_TPREL_PCREL34 = Grouped InitialExec
+ppc64_scope ppc64.R_PPC64_TLS = Grouped InitialExec
+ppc64_scope ppc64.R_PPC64_GOT_TLSGD16 = Grouped GeneralDynamic
+ppc64_scope ppc64.R_PPC64_GOT_TLSGD16_LO = Grouped GeneralDynamic
+ppc64_scope ppc64.R_PPC64_GOT_TLSGD16_HI = Grouped GeneralDynamic
+ppc64_scope ppc64.R_PPC64_GOT_TLSGD16_HA = Grouped GeneralDynamic
+ppc64_scope ppc64.R_PPC64_GOT_TLSGD_PCREL34 = Grouped GeneralDynamic
+ppc64_scope ppc64.R_PPC64_TLSGD = Grouped GeneralDynamic
+ppc64_scope ppc64.R_PPC64_GOT_TLSLD16 = Grouped LocalDynamic
+ppc64_scope ppc64.R_PPC64_GOT_TLSLD16_LO = Grouped LocalDynamic
+ppc64_scope ppc64.R_PPC64_GOT_TLSLD16_HI = Grouped LocalDynamic
+ppc64_scope ppc64.R_PPC64_GOT_TLSLD16_HA = Grouped LocalDynamic
+ppc64_scope ppc64.R_PPC64_GOT_TLSLD_PCREL34 = Grouped LocalDynamic
+ppc64_scope ppc64.R_PPC64_TLSLD = Grouped LocalDynamic
+ppc64_scope name = Unlisted
+
+abbrev pub x86_64_scope : X86_64Relocation → Scope
+x86_64_scope x86_64.R_X86_64_GOTPCREL = Alone
+x86_64_scope x86_64.R_X86_64_GOTPCRELX = Alone
+x86_64_scope x86_64.R_X86_64_REX_GOTPCRELX = Alone
+x86_64_scope x86_64.R_X86_64_CODE_4_GOTPCRELX = Alone
+x86_64_scope x86_64.R_X86_64_CODE_5_GOTPCRELX = Alone
+x86_64_scope x86_64.R_X86_64_CODE_6_GOTPCRELX = Alone
+x86_64_scope x86_64.R_X86_64_GOTTPOFF = Alone
+x86_64_scope x86_64.R_X86_64_CODE_4_GOTTPOFF = Alone
+x86_64_scope x86_64.R_X86_64_CODE_5_GOTTPOFF = Alone
+x86_64_scope x86_64.R_X86_64_CODE_6_GOTTPOFF = Alone
+x86_64_scope x86_64.R_X86_64_TLSGD = Alone
+x86_64_scope x86_64.R_X86_64_TLSLD = Grouped LocalDynamic
+x86_64_scope x86_64.R_X86_64_DTPOFF32 = Grouped LocalDynamic
+x86_64_scope x86_64.R_X86_64_DTPOFF64 = Grouped LocalDynamic
+x86_64_scope x86_64.R_X86_64_GOTPC32_TLSDESC = Grouped Descriptor
+x86_64_scope x86_64.R_X86_64_CODE_4_GOTPC32_TLSDESC = Grouped Descriptor
+x86_64_scope x86_64.R_X86_64_CODE_5_GOTPC32_TLSDESC = Grouped Descriptor
+x86_64_scope x86_64.R_X86_64_CODE_6_GOTPC32_TLSDESC = Grouped Descriptor
+x86_64_scope x86_64.R_X86_64_TLSDESC_CALL = Grouped Descriptor
+x86_64_scope name = Unlisted
+
+-- that of a code; RISC-V's rewrites all wait for addresses
+abbrev pub IsScope : Architecture → ℕ → Scope → Type 0
+IsScope AArch64 = IsOf aarch64_name aarch64_scope
+IsScope LoongArch64 = IsOf loongarch_name loongarch_scope
+IsScope Ppc64 = IsOf ppc64_name ppc64_scope
+IsScope X86_64 = IsOf x86_64_name x86_64_scope
+IsScope RiscV = λ code scope. scope ≡ Unlisted
+
+-- a code is of a group's kind, by its name among names
+pub record IsNamedInGroup {Name : Type 0} (elf : Name → ElfName) (scope_of : Name → Scope)
+    (code : ℕ) (group : Group) : Type 0 where
+  pub name : Name
+  pub is_name : IsNameOf elf code name
+  pub is_named : IsNamed (elf name)
+  pub grouped : scope_of name ≡ Grouped group
+
+abbrev pub IsInGroup : Architecture → ℕ → Group → Type 0
+IsInGroup AArch64 = IsNamedInGroup aarch64_name aarch64_scope
+IsInGroup LoongArch64 = IsNamedInGroup loongarch_name loongarch_scope
+IsInGroup Ppc64 = IsNamedInGroup ppc64_name ppc64_scope
+IsInGroup X86_64 = IsNamedInGroup x86_64_name x86_64_scope
+IsInGroup RiscV = λ code group. ⊥
+
+-- the index of the symbol whose groups it is one of: 0 of what is one group in the whole object
+abbrev pub symbol_of_group : Group → ℕ → ℕ
+symbol_of_group LocalDynamic symbol = 0
+symbol_of_group group symbol = symbol
+
+-- a name of PowerPC64 marks the call of `__tls_get_addr` at its place
+abbrev pub is_mark : Ppc64Relocation → Bool
+is_mark ppc64.R_PPC64_TLSGD = true
+is_mark ppc64.R_PPC64_TLSLD = true
+is_mark name = false
+
+abbrev pub IsMark : ℕ → Bool → Type 0
+IsMark = IsOf ppc64_name is_mark
+
+-- ---- groups that stay
+
+abbrev pub keeps : Group → KeptGroups → Bool
+keeps InitialExec kept = kept.initial_exec
+keeps GeneralDynamic kept = kept.general_dynamic
+keeps LocalDynamic kept = kept.local_dynamic
+keeps Descriptor kept = kept.descriptor
+keeps GotLoad kept = kept.got_load
+
+abbrev pub with_kept : Group → KeptGroups → KeptGroups
+with_kept InitialExec kept = record kept { initial_exec = true }
+with_kept GeneralDynamic kept = record kept { general_dynamic = true }
+with_kept LocalDynamic kept = record kept { local_dynamic = true }
+with_kept Descriptor kept = record kept { descriptor = true }
+with_kept GotLoad kept = record kept { got_load = true }
+
+abbrev pub kept_by : Group → Option KeptGroups → Bool
+kept_by group None = true
+kept_by group (Some kept) = keeps group kept
+
+-- by a table; all stay where it has no entry
+abbrev pub stays_at : List KeptGroups → Group → ℕ → Bool
+stays_at table group symbol = kept_by group (slice_get table symbol)
+
+-- of a symbol, or all of its kind in the object
+abbrev pub group_stays : List KeptGroups → Group → ℕ → Bool
+group_stays table group symbol =
+    stays_at table group 0 || stays_at table group (symbol_of_group group symbol)

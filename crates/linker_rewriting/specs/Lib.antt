@@ -1,0 +1,6 @@
+pub mod Candidates
+pub mod Decisions
+pub mod Facts
+pub mod Groups
+pub mod Rewritten
+pub mod Surveys

@@ -1,0 +1,82 @@
+-- A section and its relocations after their rewrites.
+use Rattle.std.specs.Prelude.{◌≡◌, ℕ, ◌<◌, ◌≤◌, ◌⊎◌, List, get_or}
+use Rattle.std.specs.Prelude.{Option, None, Some, false}
+use Rattle.linker_base.specs.Rewrite.{Rewrite, rewrite_window, rewritten}
+use Rattle.linker_base.specs.Rewrite.{offset_after, addend_after}
+use Rattle.linker_rewriting.specs.Decisions.{decision_at, is_taken, start_at, end_at}
+use Rattle.linker_rewriting.specs.Groups.{IsInGroup, symbol_of_group}
+use Rattle.linker_rewriting.specs.declared.decisions.Decision.{Decision}
+use Rattle.linker_rewriting.specs.declared.decisions.Decision.TheVariants.{Kept, Rewritten, TakenAlong}
+use Rattle.linker_rewriting.specs.declared.groups.Group.{Group}
+use Rattle.linker_section.specs.Relocations.{relocation_in}
+use Rattle.linker_section.specs.declared.relocations.Rela.{Rela}
+use Rattle.linker_utils.specs.Architectures.{relaxation_rewrite}
+use Rattle.linker_utils.specs.declared.elf.Architecture.{Architecture}
+
+-- ---- relocations
+
+-- one that goes gets the type 0, so that indexes stay
+abbrev pub relocation_after : Decision → Rela → Rela
+relocation_after Kept r = r
+relocation_after TakenAlong r = record r { code = 0 }
+relocation_after (Rewritten chosen) r =
+    record {
+      offset = offset_after (relaxation_rewrite chosen.kind) r.offset;
+      code = chosen.relocation;
+      symbol = r.symbol;
+      addend = addend_after (relaxation_rewrite chosen.kind) r.addend;
+    }
+
+abbrev pub AreRelocationsAfter : List Decision → List ℕ → List ℕ → ℕ → Type 0
+AreRelocationsAfter decisions before after limit =
+    (n : ℕ) → n < limit
+    → relocation_in after n ≡ relocation_after (decision_at decisions n) (relocation_in before n)
+
+-- ---- bytes
+
+-- the section after one rewrite
+abbrev pub section_after : Decision → ℕ → List ℕ → List ℕ
+section_after (Rewritten chosen) offset section =
+    rewritten (relaxation_rewrite chosen.kind) section offset
+section_after decision offset section = section
+
+-- the window has the bytes that the rewrite makes of those before it
+abbrev pub IsMade : Option Rewrite → ℕ → List ℕ → List ℕ → Type 0
+IsMade None offset before after = Unit {0}
+IsMade (Some r) offset before after =
+    rewrite_window r after offset ≡ r.bytes (rewrite_window r before offset)
+
+abbrev pub IsDone : Decision → ℕ → List ℕ → List ℕ → Type 0
+IsDone (Rewritten chosen) offset before after =
+    IsMade (relaxation_rewrite chosen.kind) offset before after
+IsDone decision offset before after = Unit {0}
+
+abbrev pub AreDone : List ℕ → List Decision → List ℕ → List ℕ → ℕ → Type 0
+AreDone bytes decisions before after limit =
+    (n : ℕ) → n < limit
+    → IsDone (decision_at decisions n) (relocation_in bytes n).offset before after
+
+-- outside the windows of all rewrites
+abbrev pub OthersStay : List ℕ → List Decision → List ℕ → List ℕ → ℕ → Type 0
+OthersStay bytes decisions before after limit =
+    (at : ℕ)
+    → ((n : ℕ) → n < limit
+    → (at < start_at bytes decisions n) ⊎ (end_at bytes decisions n ≤ at))
+    → get_or after at 0 ≡ get_or before at 0
+
+-- ---- groups
+
+abbrev pub IsRewritten : Decision → Type 0
+IsRewritten (Rewritten chosen) = Unit {0}
+IsRewritten decision = ⊥
+
+-- of a group the relocations that no other takes along are all rewritten, or none is
+abbrev pub GroupsAreWhole : Architecture → List ℕ → List Decision → ℕ → Type 0
+GroupsAreWhole architecture bytes decisions limit =
+    (i j : ℕ) (group : Group) → i < limit → j < limit
+    → IsInGroup architecture (relocation_in bytes i).code group
+    → IsInGroup architecture (relocation_in bytes j).code group
+    → symbol_of_group group (relocation_in bytes i).symbol
+    ≡ symbol_of_group group (relocation_in bytes j).symbol
+    → is_taken decisions i ≡ false → is_taken decisions j ≡ false
+    → IsRewritten (decision_at decisions i) → IsRewritten (decision_at decisions j)

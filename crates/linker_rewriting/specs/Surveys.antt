@@ -1,0 +1,126 @@
+-- Which groups stay, since one of their instructions can't be rewritten.
+use Rattle.std.specs.Prelude.{◌≡◌, ℕ, zero, suc, ◌<◌, ◌⊎◌, ◌↔◌, ◌&&◌, ◌==◌, not, Bool, true, false}
+use Rattle.std.specs.Prelude.{IsTrue, List, Option, Some, None, slice_get}
+use Rattle.linker_elf.specs.declared.elf.choice.Choice.{Choice}
+use Rattle.linker_rewriting.specs.Candidates.{IsCandidate, calls_tls_get_addr}
+use Rattle.linker_rewriting.specs.Groups.{IsScope, IsMark, stays_at, symbol_of_group}
+use Rattle.linker_rewriting.specs.declared.facts.OutputFacts.{OutputFacts}
+use Rattle.linker_rewriting.specs.declared.facts.SymbolFacts.{SymbolFacts}
+use Rattle.linker_rewriting.specs.declared.groups.Group.{Group}
+use Rattle.linker_rewriting.specs.declared.groups.Group.TheVariants.{InitialExec, GeneralDynamic}
+use Rattle.linker_rewriting.specs.declared.groups.Group.TheVariants.{LocalDynamic}
+use Rattle.linker_rewriting.specs.declared.groups.KeptGroups.{KeptGroups}
+use Rattle.linker_rewriting.specs.declared.groups.Scope.{Scope}
+use Rattle.linker_rewriting.specs.declared.groups.Scope.TheVariants.{Grouped}
+use Rattle.linker_section.specs.Relocations.{relocation_in}
+use Rattle.linker_section.specs.declared.relocations.Rela.{Rela}
+use Rattle.linker_utils.specs.declared.architecture.Relaxation.{Relaxation}
+use Rattle.linker_utils.specs.declared.elf.Architecture.{Architecture}
+use Rattle.linker_utils.specs.declared.elf.Architecture.TheVariants.{Ppc64}
+
+-- ---- what keeps groups
+
+-- PowerPC64: the relocation before is a mark at the same place
+abbrev pub IsMarked : List ℕ → ℕ → Rela → Bool → Type 0
+IsMarked bytes zero r marked = marked ≡ false
+IsMarked bytes (suc n) r marked =
+    (is_mark : Bool) × IsMark (relocation_in bytes n).code is_mark
+    × (marked ≡ (is_mark && (relocation_in bytes n).offset == r.offset))
+
+abbrev pub IsUnmarkedBy : Bool → List ℕ → ℕ → Rela → Bool → Type 0
+IsUnmarkedBy false bytes n r unmarked = unmarked ≡ false
+IsUnmarkedBy true bytes n r unmarked =
+    (marked : Bool) × IsMarked bytes n r marked × (unmarked ≡ not marked)
+
+-- PowerPC64: a use of `__tls_get_addr` without a mark, of which nobody knows whose address it is
+-- called for (64-Bit ELF V2 ABI, "TLS Linkage Optimizations")
+abbrev pub IsUnmarked : Architecture → List SymbolFacts → List ℕ → ℕ → Rela → Bool → Type 0
+IsUnmarked Ppc64 symbols bytes n r unmarked =
+    IsUnmarkedBy (calls_tls_get_addr (slice_get symbols r.symbol)) bytes n r unmarked
+IsUnmarked architecture symbols bytes n r unmarked = unmarked ≡ false
+
+-- it keeps these
+abbrev pub IsThreadLocal : Group → Type 0
+IsThreadLocal InitialExec = Unit {0}
+IsThreadLocal GeneralDynamic = Unit {0}
+IsThreadLocal LocalDynamic = Unit {0}
+IsThreadLocal group = ⊥
+
+abbrev pub HasRewrite : Architecture → OutputFacts → List SymbolFacts → List ℕ → List ℕ → ℕ → Rela
+    → Scope → Type 0
+HasRewrite architecture output symbols bytes section n r (Grouped group) =
+    (chosen : Choice Relaxation ℕ)
+    × IsCandidate architecture output symbols bytes section n r (Some chosen)
+HasRewrite architecture output symbols bytes section n r scope = Unit {0}
+
+-- the kind of groups that a relocation keeps, since it has no rewrite, though it is of one
+abbrev pub IsKeeping : Architecture → OutputFacts → List SymbolFacts → List ℕ → List ℕ → ℕ → Rela
+    → Option Group → Type 0
+IsKeeping architecture output symbols bytes section n r (Some group) =
+    IsScope architecture r.code (Grouped group)
+    × IsCandidate architecture output symbols bytes section n r None
+IsKeeping architecture output symbols bytes section n r None =
+    (scope : Scope) × IsScope architecture r.code scope
+    × HasRewrite architecture output symbols bytes section n r scope
+
+-- ---- tables before and after
+
+-- what stays is what stayed and these groups
+abbrev pub AreKeptToo : List KeptGroups → List KeptGroups → (Group → ℕ → Type 0) → Type 0
+AreKeptToo before after IsAdded =
+    (group : Group) (symbol : ℕ)
+    → (IsTrue (stays_at after group symbol)
+    ↔ (IsTrue (stays_at before group symbol) ⊎ IsAdded group symbol))
+
+abbrev pub IsGroup : Group → ℕ → Group → ℕ → Type 0
+IsGroup group symbol g s = (g ≡ group) × (s ≡ symbol)
+
+-- that of a kind among a symbol's
+abbrev pub IsGroupOf : Option Group → ℕ → Group → ℕ → Type 0
+IsGroupOf None symbol g s = ⊥
+IsGroupOf (Some group) symbol g s = IsGroup group (symbol_of_group group symbol) g s
+
+-- all of thread-local storage in the object
+abbrev pub IsOfThreads : Bool → Group → ℕ → Type 0
+IsOfThreads keeps g s = (keeps ≡ true) × IsThreadLocal g × (s ≡ 0)
+
+-- what a relocation keeps stays
+abbrev pub StaysBy : List KeptGroups → ℕ → Option Group → Type 0
+StaysBy after symbol None = Unit {0}
+StaysBy after symbol (Some group) = IsTrue (stays_at after group (symbol_of_group group symbol))
+
+abbrev pub AllStayIf : Bool → List KeptGroups → Type 0
+AllStayIf false after = Unit {0}
+AllStayIf true after = (group : Group) → IsThreadLocal group → IsTrue (stays_at after group 0)
+
+pub record IsNoted (architecture : Architecture) (output : OutputFacts)
+    (symbols : List SymbolFacts) (bytes section : List ℕ) (after : List KeptGroups) (n : ℕ)
+    : Type 0 where
+  pub group : Option Group
+  pub is_keeping : IsKeeping architecture output symbols bytes section n (relocation_in bytes n)
+      group
+  pub stays : StaysBy after (relocation_in bytes n).symbol group
+  pub unmarked : Bool
+  pub is_unmarked : IsUnmarked architecture symbols bytes n (relocation_in bytes n) unmarked
+  pub all_stay : AllStayIf unmarked after
+
+-- a relocation is why a group stays
+abbrev pub IsCause : Architecture → OutputFacts → List SymbolFacts → List ℕ → List ℕ → ℕ → Group
+    → ℕ → Type 0
+IsCause architecture output symbols bytes section n group symbol =
+    (IsKeeping architecture output symbols bytes section n (relocation_in bytes n) (Some group)
+    × (symbol ≡ symbol_of_group group (relocation_in bytes n).symbol))
+    ⊎ (IsUnmarked architecture symbols bytes n (relocation_in bytes n) true
+    × IsThreadLocal group × (symbol ≡ 0))
+
+-- Of the relocations with an index below a limit each that keeps a group is noted. What stayed
+-- before stays, and what else stays has a cause.
+pub record IsSurveyed (architecture : Architecture) (output : OutputFacts)
+    (symbols : List SymbolFacts) (bytes section : List ℕ) (before after : List KeptGroups)
+    (limit : ℕ) : Type 0 where
+  pub noted : (n : ℕ) → n < limit → IsNoted architecture output symbols bytes section after n
+  pub stayed : (group : Group) (symbol : ℕ) → IsTrue (stays_at before group symbol)
+      → IsTrue (stays_at after group symbol)
+  pub caused : (group : Group) (symbol : ℕ) → IsTrue (stays_at after group symbol)
+      → IsTrue (stays_at before group symbol)
+      ⊎ ((n : ℕ) × (n < limit) × IsCause architecture output symbols bytes section n group symbol)

@@ -1,0 +1,11 @@
+//! The rewrites of a section in one call, made before addresses are known: which instructions are
+//! rewritten, all of a group or none, and what becomes of their relocations.
+#![tactic(auto)]
+
+pub mod candidates;
+pub mod decisions;
+pub mod facts;
+pub mod groups;
+mod relocations;
+pub mod sections;
+pub mod surveys;

@@ -1,0 +1,11 @@
+// Made by tools/erase of crates/linker_rewriting/src/lib.rt.
+//! The rewrites of a section in one call, made before addresses are known: which instructions are
+//! rewritten, all of a group or none, and what becomes of their relocations.
+
+pub mod candidates;
+pub mod decisions;
+pub mod facts;
+pub mod groups;
+mod relocations;
+pub mod sections;
+pub mod surveys;

@@ -1,0 +1,251 @@
+// Made by tools/erase of crates/linker_rewriting/src/groups.rt.
+//! Which relocations a rewrite is made at, and which of them are a group: all of its instructions
+//! are rewritten, or none is.
+
+use crate::aarch64::AArch64Relocation;
+use crate::elf::Architecture;
+use crate::loongarch64::LoongArch64Relocation;
+use crate::ppc64::Ppc64Relocation;
+use crate::x86_64::X86_64Relocation;
+
+/// A kind of groups. The relocations of a group are those of one kind and one symbol in an object,
+/// whatever their addends; of local-dynamic TLS all of an object.
+#[derive(Debug, Clone, Copy, PartialEq, Eq)]
+pub enum Group {
+    /// Loads of an offset from the thread pointer, of initial-exec TLS.
+    InitialExec,
+    /// Calls for the address of a thread-local variable, of general-dynamic TLS.
+    GeneralDynamic,
+    /// Calls for the address of the module's TLS block, and offsets in it, of local-dynamic TLS.
+    LocalDynamic,
+    /// TLS descriptors.
+    Descriptor,
+    /// PowerPC64's loads of an address from the GOT by its two halves.
+    GotLoad,
+}
+
+/// What is rewritten together with the instruction of a relocation, before addresses are known.
+#[derive(Debug, Clone, Copy, PartialEq, Eq)]
+pub enum Scope {
+    /// It isn't rewritten.
+    Unlisted,
+    /// It alone, and what its rewrite takes along.
+    Alone,
+    /// All of its group.
+    Grouped(Group),
+}
+
+/// The groups of a symbol that stay as they are, since one of their instructions can't be rewritten.
+/// A table of these has those of an object at the indexes that its relocations name (`r_sym`). That
+/// of index 0 is of all of the object: it has local-dynamic TLS, and what stays whichever symbol it
+/// is of. By default none stays.
+#[repr(C)]
+#[derive(Debug, Default, Clone, Copy, PartialEq, Eq)]
+pub struct KeptGroups {
+    /// Those of `Group::InitialExec`.
+    pub initial_exec: bool,
+    /// Those of `Group::GeneralDynamic`.
+    pub general_dynamic: bool,
+    /// Those of `Group::LocalDynamic`.
+    pub local_dynamic: bool,
+    /// Those of `Group::Descriptor`.
+    pub descriptor: bool,
+    /// Those of `Group::GotLoad`.
+    pub got_load: bool,
+}
+
+impl KeptGroups {
+    /// Whether the group of a kind stays.
+    #[must_use]
+    #[inline(always)]
+    pub fn keeps(&self, group: Group) -> bool {
+        match group {
+            Group::InitialExec => self.initial_exec,
+            Group::GeneralDynamic => self.general_dynamic,
+            Group::LocalDynamic => self.local_dynamic,
+            Group::Descriptor => self.descriptor,
+            Group::GotLoad => self.got_load,
+        }
+    }
+
+    /// The same, where the group of a kind stays too.
+    #[inline(always)]
+    pub(crate) fn with_kept(self, group: Group) -> KeptGroups {
+        match group {
+            Group::InitialExec => KeptGroups {
+                initial_exec: true,
+                ..self
+            },
+            Group::GeneralDynamic => KeptGroups {
+                general_dynamic: true,
+                ..self
+            },
+            Group::LocalDynamic => KeptGroups {
+                local_dynamic: true,
+                ..self
+            },
+            Group::Descriptor => KeptGroups {
+                descriptor: true,
+                ..self
+            },
+            Group::GotLoad => KeptGroups {
+                got_load: true,
+                ..self
+            },
+        }
+    }
+}
+
+/// The scope of a relocation of AArch64.
+#[inline(always)]
+fn aarch64_scope(name: AArch64Relocation) -> Scope {
+    match name {
+        AArch64Relocation::R_AARCH64_CALL26 | AArch64Relocation::R_AARCH64_JUMP26 => Scope::Alone,
+        AArch64Relocation::R_AARCH64_TLSIE_ADR_GOTTPREL_PAGE21
+        | AArch64Relocation::R_AARCH64_TLSIE_LD64_GOTTPREL_LO12_NC => {
+            Scope::Grouped(Group::InitialExec)
+        }
+        _ => Scope::Unlisted,
+    }
+}
+
+/// That of a relocation of LoongArch.
+#[inline(always)]
+fn loongarch_scope(name: LoongArch64Relocation) -> Scope {
+    match name {
+        LoongArch64Relocation::R_LARCH_TLS_IE_PC_HI20
+        | LoongArch64Relocation::R_LARCH_TLS_IE_PC_LO12
+        | LoongArch64Relocation::R_LARCH_TLS_IE64_PC_LO20
+        | LoongArch64Relocation::R_LARCH_TLS_IE64_PC_HI12 => Scope::Grouped(Group::InitialExec),
+        LoongArch64Relocation::R_LARCH_TLS_DESC_PC_HI20
+        | LoongArch64Relocation::R_LARCH_TLS_DESC_PC_LO12
+        | LoongArch64Relocation::R_LARCH_TLS_DESC64_PC_LO20
+        | LoongArch64Relocation::R_LARCH_TLS_DESC64_PC_HI12
+        | LoongArch64Relocation::R_LARCH_TLS_DESC_LD
+        | LoongArch64Relocation::R_LARCH_TLS_DESC_CALL => Scope::Grouped(Group::Descriptor),
+        _ => Scope::Unlisted,
+    }
+}
+
+/// That of a relocation of PowerPC64.
+#[inline(always)]
+fn ppc64_scope(name: Ppc64Relocation) -> Scope {
+    match name {
+        Ppc64Relocation::R_PPC64_REL24 | Ppc64Relocation::R_PPC64_GOT_PCREL34 => Scope::Alone,
+        Ppc64Relocation::R_PPC64_GOT16
+        | Ppc64Relocation::R_PPC64_GOT16_DS
+        | Ppc64Relocation::R_PPC64_GOT16_LO
+        | Ppc64Relocation::R_PPC64_GOT16_LO_DS
+        | Ppc64Relocation::R_PPC64_GOT16_HI
+        | Ppc64Relocation::R_PPC64_GOT16_HA => Scope::Grouped(Group::GotLoad),
+        Ppc64Relocation::R_PPC64_GOT_TPREL16_DS
+        | Ppc64Relocation::R_PPC64_GOT_TPREL16_LO_DS
+        | Ppc64Relocation::R_PPC64_GOT_TPREL16_HI
+        | Ppc64Relocation::R_PPC64_GOT_TPREL16_HA
+        | Ppc64Relocation::R_PPC64_GOT_TPREL_PCREL34
+        | Ppc64Relocation::R_PPC64_TLS => Scope::Grouped(Group::InitialExec),
+        Ppc64Relocation::R_PPC64_GOT_TLSGD16
+        | Ppc64Relocation::R_PPC64_GOT_TLSGD16_LO
+        | Ppc64Relocation::R_PPC64_GOT_TLSGD16_HI
+        | Ppc64Relocation::R_PPC64_GOT_TLSGD16_HA
+        | Ppc64Relocation::R_PPC64_GOT_TLSGD_PCREL34
+        | Ppc64Relocation::R_PPC64_TLSGD => Scope::Grouped(Group::GeneralDynamic),
+        Ppc64Relocation::R_PPC64_GOT_TLSLD16
+        | Ppc64Relocation::R_PPC64_GOT_TLSLD16_LO
+        | Ppc64Relocation::R_PPC64_GOT_TLSLD16_HI
+        | Ppc64Relocation::R_PPC64_GOT_TLSLD16_HA
+        | Ppc64Relocation::R_PPC64_GOT_TLSLD_PCREL34
+        | Ppc64Relocation::R_PPC64_TLSLD => Scope::Grouped(Group::LocalDynamic),
+        _ => Scope::Unlisted,
+    }
+}
+
+/// That of a relocation of x86-64.
+#[inline(always)]
+fn x86_64_scope(name: X86_64Relocation) -> Scope {
+    match name {
+        X86_64Relocation::R_X86_64_GOTPCREL
+        | X86_64Relocation::R_X86_64_GOTPCRELX
+        | X86_64Relocation::R_X86_64_REX_GOTPCRELX
+        | X86_64Relocation::R_X86_64_CODE_4_GOTPCRELX
+        | X86_64Relocation::R_X86_64_CODE_5_GOTPCRELX
+        | X86_64Relocation::R_X86_64_CODE_6_GOTPCRELX
+        | X86_64Relocation::R_X86_64_GOTTPOFF
+        | X86_64Relocation::R_X86_64_CODE_4_GOTTPOFF
+        | X86_64Relocation::R_X86_64_CODE_5_GOTTPOFF
+        | X86_64Relocation::R_X86_64_CODE_6_GOTTPOFF
+        | X86_64Relocation::R_X86_64_TLSGD => Scope::Alone,
+        X86_64Relocation::R_X86_64_TLSLD
+        | X86_64Relocation::R_X86_64_DTPOFF32
+        | X86_64Relocation::R_X86_64_DTPOFF64 => Scope::Grouped(Group::LocalDynamic),
+        X86_64Relocation::R_X86_64_GOTPC32_TLSDESC
+        | X86_64Relocation::R_X86_64_CODE_4_GOTPC32_TLSDESC
+        | X86_64Relocation::R_X86_64_CODE_5_GOTPC32_TLSDESC
+        | X86_64Relocation::R_X86_64_CODE_6_GOTPC32_TLSDESC
+        | X86_64Relocation::R_X86_64_TLSDESC_CALL => Scope::Grouped(Group::Descriptor),
+        _ => Scope::Unlisted,
+    }
+}
+
+/// What is rewritten together with the instruction of a relocation with a code, before addresses are
+/// known. RISC-V's rewrites all wait for them.
+///
+/// ```
+/// use linker_utils::rewriting::{Group, Scope, scope_of};
+/// use linker_utils::elf::Architecture;
+///
+/// // R_X86_64_GOTPCRELX, R_X86_64_TLSLD and R_X86_64_PC32
+/// assert_eq!(scope_of(Architecture::X86_64, 41), Scope::Alone);
+/// assert_eq!(scope_of(Architecture::X86_64, 20), Scope::Grouped(Group::LocalDynamic));
+/// assert_eq!(scope_of(Architecture::X86_64, 2), Scope::Unlisted);
+/// ```
+#[must_use]
+#[inline(always)]
+pub fn scope_of(architecture: Architecture, code: u32) -> Scope {
+    match architecture {
+        Architecture::AArch64 => aarch64_scope(AArch64Relocation::from_elf(code)),
+        Architecture::LoongArch64 => loongarch_scope(LoongArch64Relocation::from_elf(code)),
+        Architecture::Ppc64 => ppc64_scope(Ppc64Relocation::from_elf(code)),
+        Architecture::X86_64 => x86_64_scope(X86_64Relocation::from_elf(code)),
+        Architecture::RiscV => Scope::Unlisted,
+    }
+}
+
+/// Whether a name of PowerPC64 marks a call of `__tls_get_addr`.
+#[inline(always)]
+fn is_mark(name: Ppc64Relocation) -> bool {
+    matches!(
+        name,
+        Ppc64Relocation::R_PPC64_TLSGD | Ppc64Relocation::R_PPC64_TLSLD
+    )
+}
+
+/// Whether a relocation with a code of PowerPC64 marks a call of `__tls_get_addr`.
+#[inline(always)]
+pub(crate) fn marks_call(code: u32) -> bool {
+    is_mark(Ppc64Relocation::from_elf(code))
+}
+
+/// The index of the symbol whose groups a group is one of.
+#[inline(always)]
+pub(crate) fn symbol_of_group(group: Group, symbol: u32) -> u32 {
+    match group {
+        Group::LocalDynamic => 0,
+        _ => symbol,
+    }
+}
+
+/// Whether the group of a kind stays at an index of a table. All do where the table has none.
+#[inline(always)]
+pub(crate) fn stays_at(kept: &[KeptGroups], group: Group, symbol: u32) -> bool {
+    match kept.get(symbol as usize) {
+        Some(kept) => kept.keeps(group),
+        None => true,
+    }
+}
+
+/// Whether the group of a kind and of a symbol stays.
+#[inline(always)]
+pub(crate) fn group_stays(kept: &[KeptGroups], group: Group, symbol: u32) -> bool {
+    stays_at(kept, group, 0) || stays_at(kept, group, symbol_of_group(group, symbol))
+}

@@ -1,0 +1,151 @@
+// Made by tools/erase of crates/linker_rewriting/src/surveys.rt.
+//! Which groups of an object stay as they are, since one of their instructions can't be rewritten.
+
+use crate::linker_rewriting::candidates::{candidate, is_tls_get_addr};
+use crate::linker_rewriting::facts::{OutputFacts, SymbolFacts};
+use crate::linker_rewriting::groups::{Group, KeptGroups, Scope, marks_call, scope_of, symbol_of_group};
+use crate::linker_rewriting::relocations::relocation_in;
+use crate::linker_section::relocations::{Rela, relocations_len};
+use crate::elf::Architecture;
+
+/// Notes that the group of a kind and of a symbol stays.
+#[inline(always)]
+fn keep(kept: &mut [KeptGroups], group: Group, symbol: u32) {
+    let index = symbol as usize;
+    if index < kept.len() {
+        kept[index] = kept[index].with_kept(group);
+    }
+}
+
+/// Notes that the group of a kind, if any, among a symbol's stays.
+#[inline(always)]
+fn keep_group(kept: &mut [KeptGroups], group: Option<Group>, symbol: u32) {
+    if let Some(group) = group {
+        keep(kept, group, symbol_of_group(group, symbol));
+    }
+}
+
+/// Notes that all groups of thread-local storage in the object stay, if they do.
+#[inline(always)]
+fn keep_threads(kept: &mut [KeptGroups], stay: bool) {
+    if stay {
+        keep(kept, Group::InitialExec, 0);
+        keep(kept, Group::GeneralDynamic, 0);
+        keep(kept, Group::LocalDynamic, 0);
+    }
+}
+
+/// The kind of the groups that a relocation keeps, since it has no rewrite, though it is of one.
+#[inline(always)]
+fn keeping(
+    architecture: Architecture,
+    output: &OutputFacts,
+    symbols: &[SymbolFacts],
+    relocations: &[u8],
+    section: &[u8],
+    index: usize,
+    relocation: &Rela,
+) -> Option<Group> {
+    let Scope::Grouped(group) = scope_of(architecture, relocation.code) else {
+        return None;
+    };
+    match candidate(
+        architecture,
+        output,
+        symbols,
+        relocations,
+        section,
+        index,
+        relocation,
+    ) {
+        Some(_) => None,
+        None => Some(group),
+    }
+}
+
+/// PowerPC64: whether the relocation before is a mark of a call at the same place.
+#[inline(always)]
+fn is_marked(relocations: &[u8], index: usize, relocation: &Rela) -> bool {
+    if index == 0 {
+        return false;
+    }
+    let before = relocation_in(relocations, index - 1);
+    let is_mark = marks_call(before.code);
+    is_mark && before.offset == relocation.offset
+}
+
+/// PowerPC64: whether a relocation is of `__tls_get_addr` and has no mark.
+#[inline(always)]
+fn ppc64_is_unmarked(
+    symbols: &[SymbolFacts],
+    relocations: &[u8],
+    index: usize,
+    relocation: &Rela,
+) -> bool {
+    if !is_tls_get_addr(symbols, relocation.symbol) {
+        return false;
+    }
+    !is_marked(relocations, index, relocation)
+}
+
+/// Whether a relocation is one that keeps all thread-local storage of its object.
+#[inline(always)]
+fn is_unmarked(
+    architecture: Architecture,
+    symbols: &[SymbolFacts],
+    relocations: &[u8],
+    index: usize,
+    relocation: &Rela,
+) -> bool {
+    match architecture {
+        Architecture::Ppc64 => ppc64_is_unmarked(symbols, relocations, index, relocation),
+        _ => false,
+    }
+}
+
+/// Notes which groups of an object stay as they are, since a relocation of this section is of them
+/// and has no rewrite: its instruction is none that a rewrite is meant for, its symbol may be of
+/// another file, or what the rewrite takes along isn't there. `rewrite_section` rewrites all of a
+/// group or none by these notes, so survey each section of code of an object before one of them is
+/// rewritten, with one table for the object, whose entries are `KeptGroups::default()` at first.
+/// What stays there already stays. A group stays too where the table has no entry for its symbol.
+///
+/// ```
+/// use linker_utils::rewriting::{OutputFacts, SymbolFacts};
+/// use linker_utils::rewriting::KeptGroups;
+/// use linker_utils::rewriting::survey;
+/// use linker_utils::elf::Architecture;
+///
+/// // nop, with R_X86_64_TLSDESC_CALL of symbol 1: not a call by a descriptor
+/// let mut relocations = [0; 24];
+/// (relocations[8], relocations[12]) = (35, 1);
+/// let output = OutputFacts { is_executable: true, is_fixed: true };
+/// let symbols = [SymbolFacts::default(); 2];
+/// let mut kept = [KeptGroups::default(); 2];
+/// survey(Architecture::X86_64, &output, &symbols, &relocations, &[0x90], &mut kept);
+/// assert_eq!(kept, [KeptGroups::default(), KeptGroups { descriptor: true, ..KeptGroups::default() }]);
+/// ```
+pub fn survey(
+    architecture: Architecture,
+    output: &OutputFacts,
+    symbols: &[SymbolFacts],
+    relocations: &[u8],
+    section: &[u8],
+    kept: &mut [KeptGroups],
+) {
+    for index in 0..relocations_len(relocations) {
+        let relocation = relocation_in(relocations, index);
+        let group = keeping(
+            architecture,
+            output,
+            symbols,
+            relocations,
+            section,
+            index,
+            &relocation,
+        );
+        keep_group(kept, group, relocation.symbol);
+        let unmarked = is_unmarked(architecture, symbols, relocations, index, &relocation);
+        keep_threads(kept, unmarked);
+    }
+}
