@@ -38,10 +38,12 @@ pub mod runs {
     pub use crate::linker_runs::{items, loongarch64, packing, relaxation, riscv64, shapes};
 }
 
-/// What stands in the fields of relocations: the bits of a value that are known from linked bytes,
-/// and the addresses that have such a value.
+/// Which forms an instruction has and the number in its immediate; what stands in the fields of
+/// relocations: the bits of a value that are known from linked bytes, and the addresses that have such
+/// a value.
 pub mod reading {
     pub use crate::linker_reading::fields::FieldValue;
+    pub use crate::linker_reading::operands::{forms_of, operand};
     pub use crate::linker_reading::reading::{read, read_row};
     pub use crate::linker_reading::solving::{Origin, Reference, Terms, join, solve, terms_of};
 }

@@ -1,7 +1,7 @@
 -- What an instruction holds, by what the form's read returns of it.
 use Rattle.std.proofs.Common.{◌≡◌, ℕ, suc, ◌+◌, ◌-◌, ◌*◌, ◌/◌, ◌%◌, ◌^◌, ◌<◌, ◌≤◌, refl}
 use Rattle.std.proofs.Common.{sym, ◌∙◌, ap, subst, arith, inl, inr, ℤ, pos, negsuc, ◌+ℤ◌, ◌-ℤ◌, ◌*ℤ◌, neg_ℤ, ◌≤ℤ◌, ◌<ℤ◌}
-use Rattle.std.proofs.Common.{true, false}
+use Rattle.std.proofs.Common.{Bool, true, false, zero, if◌then◌else◌}
 use Rattle.std.specs.Int.{w64, cast_unsigned}
 use Rattle.std.proofs.lemmas.Bool.{cases_lt}
 use Rattle.std.proofs.lemmas.Int.{ints}
@@ -14,7 +14,7 @@ use Rattle.linker_base.proofs.Fields.{signed_bits}
 use Rattle.linker_base.proofs.Immediates.{place_sum_below}
 use Rattle.linker_base.proofs.Pairs.{signed_cases}
 use Rattle.linker_base.proofs.Places.{sums}
-use Rattle.linker_elf.specs.AArch64.{aarch64_form}
+use Rattle.linker_elf.specs.AArch64.{aarch64_form, moved_value, shift_of}
 use Rattle.linker_elf.specs.LoongArch.{loongarch_form, shift10_low, pcaddu18i_imm, jirl_imm}
 use Rattle.linker_elf.specs.Ppc64.{ppc64_form}
 use Rattle.linker_elf.specs.Relocate.{ppc64_reads, is_dq_form}
@@ -250,3 +250,26 @@ call36_held x high low h l =
     ∙ ap (λ y. (cast_unsigned w64 (pcaddu18i_imm x) * 65536 % 2 ^ 64 + y) % 2 ^ 64) low_is
     ∙ two_words (pcaddu18i_imm x) (jirl_imm x) (short 20 (field x 5 25) (omega arith) f)
     (short 16 (field x 42 58) (omega arith) g)
+
+-- ---- moves of 16 bits
+
+moved_below : (f s : ℕ) → f < 2 ^ 16 → s < 4 → f * 2 ^ (16 * s) < 2 ^ 64
+moved_below f zero small few = omega (arith, small)
+moved_below f (suc zero) small few = omega (arith, small)
+moved_below f (suc (suc zero)) small few = omega (arith, small)
+moved_below f (suc (suc (suc zero))) small few = omega (arith, small)
+moved_below f (suc (suc (suc (suc s)))) small few = absurd (omega (arith, few))
+
+-- MOVN complements its bits, and MOVZ does not.
+pub moved_held : (x : ℕ) (negative : Bool)
+    → (if negative then 2 ^ 64 - 1 - field x 5 21 * 2 ^ shift_of x % 2 ^ 64
+    else field x 5 21 * 2 ^ shift_of x % 2 ^ 64)
+    ≡ cast_unsigned w64 (moved_value negative (field x 5 21) (shift_of x))
+moved_held x true =
+    ap (λ y. 2 ^ 64 - 1 - y) (mod-eq_of_lt (moved_below (field x 5 21) (field x 21 23) (omega arith) (omega arith)))
+    ∙ complement (field x 5 21 * 2 ^ shift_of x)
+  where
+    complement : (k : ℕ) → 2 ^ 64 - 1 - k ≡ cast_unsigned w64 (negsuc k)
+    complement k = omega arith
+moved_held x false =
+    mod-eq_of_lt (moved_below (field x 5 21) (field x 21 23) (omega arith) (omega arith))

@@ -1,3 +1,4 @@
+pub mod Encodings
 pub mod Equality
 pub mod Found
 pub mod Laws

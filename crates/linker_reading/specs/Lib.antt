@@ -1,3 +1,4 @@
+pub mod Encodings
 pub mod Fields
 pub mod FieldsOfBytes
 pub mod FoundByCode

@@ -135,7 +135,7 @@ fn loongarch_number(insn: LoongArch64Instruction, bytes: &[u8]) -> u64
 }
 
 /// What the machine reads of an instruction, in units of the first bit of its range, modulo 2^64.
-fn number_held(insn: RelocationInstruction, bytes: &[u8]) -> u64
+pub(crate) fn number_held(insn: RelocationInstruction, bytes: &[u8]) -> u64
     requires { byte_len (relocation_form insn).window ≤ length bytes.now }
     ensures { result ≡ cast_unsigned w64 (number_held insn
         (window_of (relocation_form insn) bytes.now)) }
@@ -230,7 +230,7 @@ fn rounding_of(insn: RelocationInstruction) -> u64
 }
 
 /// The number of the first `len` bytes.
-fn number_of_bytes(len: usize, bytes: &[u8]) -> u64
+pub(crate) fn number_of_bytes(len: usize, bytes: &[u8]) -> u64
     requires short { len ≤ 8 }
     requires room { len ≤ length bytes.now }
     ensures { result ≡ number_of_bytes len bytes.now }

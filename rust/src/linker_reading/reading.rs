@@ -97,7 +97,7 @@ fn loongarch_number(insn: LoongArch64Instruction, bytes: &[u8]) -> u64 {
 }
 
 /// What the machine reads of an instruction, in units of the first bit of its range, modulo 2^64.
-fn number_held(insn: RelocationInstruction, bytes: &[u8]) -> u64 {
+pub(crate) fn number_held(insn: RelocationInstruction, bytes: &[u8]) -> u64 {
     match insn {
         RelocationInstruction::AArch64(insn) => aarch64_number(insn, bytes),
         RelocationInstruction::RiscV(insn) => riscv_number(insn, bytes),
@@ -171,7 +171,7 @@ fn rounding_of(insn: RelocationInstruction) -> u64 {
 }
 
 /// The number of the first `len` bytes.
-fn number_of_bytes(len: usize, bytes: &[u8]) -> u64 {
+pub(crate) fn number_of_bytes(len: usize, bytes: &[u8]) -> u64 {
     let mut word = [0u8; 8];
     word[..len].copy_from_slice(&bytes[..len]);
     u64::from_le_bytes(word)

@@ -4,6 +4,7 @@
 mod aarch64;
 mod bits;
 mod deltas;
+mod forms;
 mod jumps;
 mod loongarch64;
 mod packing;
