@@ -7,11 +7,18 @@ usage: tools/over_rt_ci.py CRATE    prints them, one a line. Status 1: a library
                                     one of the checkout's own checks, which `rt ci` leaves.
        tools/over_rt_ci.py --wait LOG CRATE    returns once `rt ci`, which writes LOG, has proved all
                                                libraries below. Status 1: it ended before.
+       tools/over_rt_ci.py --build CRATE    proves and builds the libraries below by `rt lib`, on all
+                                            processors. `rt lib` of the crate builds one after the
+                                            other. Status 1: one isn't proved.
 """
+import os
 import re
 import shutil
+import subprocess
 import sys
 import time
+from concurrent.futures import FIRST_COMPLETED, ThreadPoolExecutor
+from concurrent.futures import wait as wait_for
 from pathlib import Path
 
 ROOT = Path(__file__).resolve().parent.parent
@@ -51,6 +58,40 @@ def wait(log, name):
         time.sleep(1)
 
 
+def size(name):
+    """How many bytes of source and proofs a crate has."""
+    return sum(file.stat().st_size for part in ("src", "specs", "proofs")
+               for file in (ROOT / "crates" / name / part).rglob("*.*"))
+
+
+def build_one(name, jobs):
+    """Whether a library is built, in so many jobs."""
+    ran = subprocess.run(["rt", "lib", "--jobs", str(jobs)], cwd=ROOT / "crates" / name, stdin=subprocess.DEVNULL)
+    return ran.returncode == 0
+
+
+def build(name):
+    """Builds the libraries below a crate, each once those below it are built, the largest first. Each has
+    twice its share of the processors, since none takes all of its jobs to its end. Returns whether all
+    are built."""
+    processors = len(os.sched_getaffinity(0))
+    left, built, running = set(libraries(name)), set(), {}
+    with ThreadPoolExecutor(processors) as pool:
+        while left or running:
+            ready = [lib for lib in left if built.issuperset(libraries(lib))]
+            ready = sorted(ready, key=size, reverse=True)[:processors - len(running)]
+            for lib in ready:
+                jobs = min(max(2 * processors // (len(running) + len(ready)), 1), processors)
+                running[pool.submit(build_one, lib, jobs)] = lib
+            left -= set(ready)
+            if not running:
+                return False
+            for one in wait_for(running, return_when=FIRST_COMPLETED).done:
+                lib = running.pop(one)
+                built |= {lib} if one.result() else set()
+    return built.issuperset(libraries(name))
+
+
 def arguments(name):
     """The arguments for a crate, or None where a library below it isn't one of `rt ci`."""
     is_static, needs = crates()[name]
@@ -73,6 +114,8 @@ def arguments(name):
 def main(words):
     if words[0] == "--wait":
         return not wait(*words[1:])
+    if words[0] == "--build":
+        return not build(*words[1:])
     if (found := arguments(*words)) is None:
         return 1
     print("\n".join(found))

@@ -5,6 +5,7 @@ mod aarch64;
 mod bits;
 mod deltas;
 mod forms;
+mod growth;
 mod jumps;
 mod loongarch64;
 mod packing;

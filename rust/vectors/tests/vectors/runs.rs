@@ -5,13 +5,15 @@ mod packing;
 mod random;
 mod relax;
 
+pub use relax::cascade;
+
 use linker_utils::runs::relaxation::{Alignment, Item, Shapes, Site};
 
 /// A site of eight bytes.
-fn site(offset: u64, target: u64, shapes: Shapes) -> Item {
+pub fn site(offset: u64, target: u64, shapes: Shapes) -> Item {
     Item::Site(Site { offset, len: 8, target, shapes })
 }
 
-fn aligned(offset: u64, nops: u32, alignment: u64, max_skip: Option<u64>) -> Item {
+pub fn aligned(offset: u64, nops: u32, alignment: u64, max_skip: Option<u64>) -> Item {
     Item::Aligned(Alignment { offset, nops, alignment, max_skip })
 }

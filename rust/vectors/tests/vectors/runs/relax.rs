@@ -177,7 +177,7 @@ fn alignments_below_the_unit_keep_their_nops() {
 
 /// Sites 20 bytes apart that reach 101 bytes ahead or 102 back, and go to 109 of them: each is in reach
 /// only with another short one in between.
-fn cascade(count: u64, ahead: bool, between: impl Fn(u64) -> Option<Item>) -> Vec<Item> {
+pub fn cascade(count: u64, ahead: bool, between: impl Fn(u64) -> Option<Item>) -> Vec<Item> {
     let shapes =
         Shapes { short: [reaching(4, 102, 102, 1), riscv64::CALL.short[0]], count: 1, longest: 8 };
     let call = |index| {

@@ -1,0 +1,501 @@
+//! How the work of calls over lists grows. Each call is made on a list and on one 16 times as long. What
+//! is O(n log n) takes about 22 times as long then, what is quadratic 256 times, and more than 64 times
+//! fails. Debug builds test what calls require, which takes longer. `.ci/nightly` makes the calls on lists
+//! of up to a million, which no cache holds: there up to 160 times pass, and memory that was freed has to
+//! stay in the process, as the variables say that it sets.
+
+use super::runs::{aligned, cascade, site};
+use linker_utils::elf::Architecture;
+use linker_utils::recognise::{self, FieldBits};
+use linker_utils::relaxation::{
+    AsDeletion, BlockHead, Call, DeltaSlice, RelaxDelta, RelaxDeltaMap, SectionRelaxDeltas,
+    calls_apart, calls_shrinkable, first_invalid, first_not_apart, first_not_shrinkable,
+    pack_section, shrink_calls,
+};
+use linker_utils::runs::items::Relocation;
+use linker_utils::runs::packing::{Machine, pack_run, packed_run_len};
+use linker_utils::runs::relaxation::{Item, are_items, deletions, first_faulty, relax};
+use linker_utils::runs::shapes::riscv64::CALL;
+use linker_utils::runs::{loongarch64, riscv64};
+use std::cell::Cell;
+use std::hint::black_box;
+use std::time::{Duration, Instant};
+
+/// How long lists are: in the gate, and in the nightly run.
+const SHORT: usize = 16_000;
+const LONG: usize = 1_000_000;
+
+/// The processor time of this thread, which other work on the machine doesn't lengthen much. Only Linux
+/// has this clock.
+fn processor_time() -> Option<Duration> {
+    unsafe extern "C" {
+        fn clock_gettime(clock: i32, time: *mut [i64; 2]) -> i32;
+    }
+    const CLOCK_THREAD_CPUTIME_ID: i32 = 3;
+    let mut time = [0; 2];
+    if !cfg!(all(target_os = "linux", target_pointer_width = "64")) {
+        return None;
+    }
+    // SAFETY: on 64-bit Linux a `timespec` is two numbers of 64 bits, which the call writes.
+    let status = unsafe { clock_gettime(CLOCK_THREAD_CPUTIME_ID, &mut time) };
+    (status == 0).then(|| Duration::new(time[0] as u64, time[1] as u32))
+}
+
+/// The least time of three calls, each on an input of its own.
+fn least<I>(count: usize, make: &impl Fn(usize) -> I, call: &impl Fn(I)) -> Duration {
+    let time = |()| {
+        let input = make(count);
+        let (started, before) = (Instant::now(), processor_time());
+        call(input);
+        match (before, processor_time()) {
+            (Some(before), Some(after)) => after - before,
+            _ => started.elapsed(),
+        }
+    };
+    [(); 3].map(time).into_iter().min().expect("three times")
+}
+
+/// Requires that a call takes at most 64 times as long on a list as on a sixteenth of it, and of long lists
+/// 160 times.
+fn expect_growth<I>(name: &str, count: usize, make: impl Fn(usize) -> I, call: impl Fn(I)) {
+    let most = if count < LONG { 64.0 } else { 160.0 };
+    let ratio = || {
+        let few = least(count / 16, &make, &call).max(Duration::from_micros(1));
+        least(count, &make, &call).as_secs_f64() / few.as_secs_f64()
+    };
+    // a machine with other work may double a time, but not in each of three tries
+    let mut ratios = Vec::new();
+    while ratios.last().is_none_or(|last| *last > most) {
+        assert!(ratios.len() < 3, "{name}: {ratios:?} times as long");
+        ratios.push(ratio());
+    }
+}
+
+fn pair(index: usize) -> (u64, u32) {
+    (8 * index as u64 + 4, 4)
+}
+
+/// Numbers below a count in no order.
+fn mixed(count: usize) -> Vec<usize> {
+    let mut all: Vec<usize> = (0..count).collect();
+    let mut state = 0x5eed_u64;
+    for last in (1..count).rev() {
+        state =
+            state.wrapping_mul(6_364_136_223_846_793_005).wrapping_add(1_442_695_040_888_963_407);
+        all.swap(last, (state >> 33) as usize % (last + 1));
+    }
+    all
+}
+
+/// How many numbers from each one on aren't below it: the numbers below a count, each once.
+fn not_below(numbers: &[usize]) -> Vec<u64> {
+    // a Fenwick tree of those that were passed, from the last to the first
+    let count = numbers.len();
+    let mut tree = vec![0; count + 1];
+    let mut found = vec![0; count];
+    for (place, number) in numbers.iter().enumerate().rev() {
+        let mut at = count - number;
+        while at <= count {
+            tree[at] += 1;
+            at += at & at.wrapping_neg();
+        }
+        at = count - number;
+        while at > 0 {
+            found[place] += tree[at];
+            at &= at - 1;
+        }
+    }
+    found
+}
+
+/// Inputs by a count, and their name.
+type Named<T> = (&'static str, fn(usize) -> Vec<T>);
+
+/// Deletions in all orders that a linker's passes make.
+const ORDERS: [Named<(u64, u32)>; 4] = [
+    ("ascending", |count| (0..count).map(pair).collect()),
+    ("descending", |count| (0..count).rev().map(pair).collect()),
+    ("four ascending lists", |count| {
+        (0..4).flat_map(|first| (first..count).step_by(4)).map(pair).collect()
+    }),
+    ("in no order", |count| mixed(count).into_iter().map(pair).collect()),
+];
+
+fn deltas(count: usize) -> SectionRelaxDeltas {
+    let pairs: Vec<_> = (0..count).map(pair).collect();
+    SectionRelaxDeltas::new(&pairs).expect("memory")
+}
+
+fn none() -> SectionRelaxDeltas {
+    SectionRelaxDeltas::new(&[]).expect("memory")
+}
+
+fn expect_merges(count: usize) {
+    for (order, pairs) in ORDERS {
+        let batches = |count: usize| -> Vec<Vec<(u64, u32)>> {
+            pairs(count).chunks(count.div_ceil(100)).map(<[_]>::to_vec).collect()
+        };
+        // the last overlaps the one before it
+        let overlapping = |count| {
+            let mut pairs = pairs(count);
+            let before = pairs[count - 2].0;
+            pairs[count - 1] = (before + 2, 4);
+            pairs
+        };
+        let name = |call: &str| format!("{call}, {order}");
+        expect_growth(&name("merge"), count, pairs, |pairs| {
+            none().merge_additional(&pairs).expect("memory");
+        });
+        expect_growth(
+            &name("merge into as many"),
+            count,
+            |count| (deltas(count), pairs(count)),
+            |it| {
+                let (mut listed, pairs) = it;
+                let between: Vec<_> = pairs.iter().map(|(offset, _)| (offset + 4, 4)).collect();
+                listed.merge_additional(&between).expect("memory");
+            },
+        );
+        expect_growth(&name("test"), count, pairs, |pairs| assert!(none().is_mergeable(&pairs)));
+        expect_growth(&name("refused test"), count, overlapping, |pairs| {
+            assert!(!none().is_mergeable(&pairs));
+        });
+        expect_growth(&name("test over a slice"), count, pairs, |pairs| {
+            assert!(DeltaSlice::new(&[]).can_merge_sorted(&pairs));
+        });
+        expect_growth(&name("first that overlaps"), count, overlapping, |pairs| {
+            let found = DeltaSlice::new(&[]).first_overlapping_sorted(&pairs);
+            assert_eq!(found, Some(pairs.len() - 1));
+        });
+        expect_growth(&name("merge of batches"), count, batches, |batches| {
+            none().merge_all(&batches).expect("memory");
+        });
+        expect_growth(&name("test of batches"), count, batches, |batches| {
+            assert!(none().are_mergeable(&batches));
+        });
+        let of_one =
+            |count| -> Vec<_> { pairs(count).into_iter().map(|pair| vec![pair]).collect() };
+        expect_growth(&name("merge of batches of one"), count, of_one, |batches| {
+            none().merge_all(&batches).expect("memory");
+        });
+        expect_growth(&name("test of batches of one"), count, of_one, |batches| {
+            assert!(none().are_mergeable(&batches));
+        });
+    }
+}
+
+/// Merges of one deletion each, as a pass over a section makes them.
+fn expect_merges_of_one(count: usize) {
+    expect_growth(
+        "merges of one",
+        count,
+        |count| count,
+        |count| {
+            let mut listed = none();
+            for index in 0..count {
+                assert!(listed.is_mergeable(&[pair(index)]));
+                listed.merge_additional(&[pair(index)]).expect("memory");
+            }
+        },
+    );
+}
+
+fn expect_deltas(count: usize) {
+    let ascending = ORDERS[0].1;
+    expect_growth("new", count, ascending, |pairs| {
+        assert!(SectionRelaxDeltas::is_valid(&pairs));
+        SectionRelaxDeltas::new(&pairs).expect("memory");
+    });
+    expect_growth("a copy", count, deltas, |listed| {
+        listed.try_clone().expect("memory");
+    });
+    expect_growth("valid deltas, heads", count, deltas, |listed| {
+        let slice = DeltaSlice::new(listed.deltas());
+        assert!(slice.has_valid_deltas());
+        let mut heads = vec![BlockHead { input_offset: 0, output_offset: 0 }; slice.block_count()];
+        slice.write_heads(&mut heads);
+        assert!(slice.with_heads(&heads).is_some());
+    });
+    let queries = |count| (deltas(count), (0..8 * count as u64).step_by(4).collect::<Vec<_>>());
+    expect_growth("translations", count, queries, |(listed, queries)| {
+        let mut sum = 0u64;
+        for &query in &queries {
+            sum ^= listed.input_to_output_offset(query) ^ listed.output_to_input_offset(query);
+            sum ^= u64::from(listed.is_inside(query));
+        }
+        black_box(sum);
+    });
+    expect_growth("translations without heads", count, queries, |(listed, queries)| {
+        let slice = DeltaSlice::new(listed.deltas());
+        let mut sum = 0u64;
+        for &query in &queries {
+            sum ^= slice.input_to_output_offset(query);
+            sum ^= slice.output_to_input_offset(query).unwrap_or(0);
+            sum ^= slice.kept_output_offset(query, 4).unwrap_or(0);
+        }
+        black_box(sum);
+    });
+    expect_growth("a cursor", count, queries, |(listed, queries)| {
+        let mut cursor = listed.cursor();
+        black_box(queries.iter().fold(0, |sum, &query| sum ^ cursor.translate(query)));
+    });
+    expect_growth("translations in one walk", count, queries, |(listed, queries)| {
+        let mut out = vec![0; queries.len()];
+        assert!(DeltaSlice::can_translate_all(&queries));
+        listed.as_delta_slice().translate_all(&queries, &mut out);
+        let mut cursor = listed.cursor();
+        assert!(cursor.can_translate_all(&queries));
+        cursor.translate_all(&queries, &mut out);
+    });
+    expect_growth(
+        "a map",
+        count,
+        |count| count,
+        |count| {
+            let mut map = RelaxDeltaMap::new();
+            for index in 0..count {
+                map.insert(index, none()).expect("memory");
+            }
+            assert!((0..count).all(|index| map.get(index).is_some()));
+        },
+    );
+}
+
+thread_local! {
+    static READS: Cell<usize> = const { Cell::new(0) };
+}
+
+/// A deletion. It counts how often it is read.
+#[derive(Clone, Copy)]
+struct Counted(u64, u32);
+
+impl AsDeletion for Counted {
+    fn as_deletion(self) -> (u64, u32) {
+        READS.set(READS.get() + 1);
+        (self.0, self.1)
+    }
+}
+
+/// How often deletions are read in a call.
+fn reads(call: impl FnOnce()) -> usize {
+    READS.set(0);
+    call();
+    READS.get()
+}
+
+/// Tests read each deletion a few times, whatever their order; so it is of `can_merge`, which doesn't
+/// allocate, where they ascend or descend.
+#[test]
+#[cfg_attr(debug_assertions, ignore = "of release builds")]
+fn each_deletion_is_read_a_few_times() {
+    for count in [1_000, 10_000] {
+        for (order, pairs) in ORDERS {
+            let counted: Vec<_> = pairs(count).into_iter().map(|it| Counted(it.0, it.1)).collect();
+            let slice = DeltaSlice::new(&[]);
+            let read = reads(|| assert!(slice.can_merge_sorted(&counted)));
+            assert!(read <= 6 * count, "{order}: {read}");
+            if ["ascending", "descending"].contains(&order) {
+                let read = reads(|| assert!(slice.can_merge(&counted)));
+                assert!(read <= 6 * count, "{order}: {read}");
+            }
+        }
+        let ascending: Vec<_> = (0..count).map(pair).map(|it| Counted(it.0, it.1)).collect();
+        assert!(reads(|| assert_eq!(first_invalid(&ascending), None)) <= 2 * count);
+        let listed: Vec<_> = (0..count).map(|index| (pair(index).0 + 4, 4)).collect();
+        let listed = SectionRelaxDeltas::new(&listed).expect("memory");
+        let slice = DeltaSlice::new(listed.deltas());
+        assert!(reads(|| assert!(slice.can_merge_ascending(&ascending))) <= 5 * count);
+        let zero = RelaxDelta { input_offset: 0, cumulative_deleted: 0, bytes_deleted: 0 };
+        let mut merged = vec![zero; 2 * count];
+        assert!(reads(|| slice.merge_ascending(&ascending, &mut merged)) <= 2 * count);
+    }
+}
+
+/// Calls that reach their targets only where others are shortened, from the first to the last, from the
+/// last to the first, and in no order; and all to one target.
+fn chains() -> [Named<Call>; 4] {
+    const REACH: u64 = 1 << 20;
+    fn site_of(index: usize) -> u64 {
+        2 * REACH + 8 * index as u64
+    }
+    /// In reach once so many calls from this one on have given up their bytes.
+    fn ahead(index: usize, needed: u64) -> Call {
+        Call { site: site_of(index), target: site_of(index) + REACH - 2 + 4 * needed }
+    }
+    [
+        ("each without the next", |count| (0..count).map(|index| ahead(index, 2)).collect()),
+        ("each without the one before", |count| {
+            let behind = |index| Call { site: site_of(index), target: site_of(index) - REACH - 4 };
+            (0..count).map(behind).collect()
+        }),
+        // out of reach once those behind it are of which the turn comes first
+        ("in no order", |count| {
+            let turns = mixed(count);
+            let left = not_below(&turns);
+            (0..count).map(|index| ahead(index, left[index] + 1)).collect()
+        }),
+        ("all to one target", |count| {
+            (0..count).map(|index| Call { site: site_of(index), target: 2 * REACH }).collect()
+        }),
+    ]
+}
+
+fn expect_shrinking(count: usize) {
+    for (name, calls) in chains() {
+        let as_pairs = |count| -> Vec<_> {
+            calls(count).into_iter().map(|call| (call.site, call.target)).collect()
+        };
+        expect_growth(&format!("calls, {name}"), count, as_pairs, |calls| {
+            assert!(calls_apart(&calls));
+            assert_eq!(first_not_apart(&calls), None);
+            assert!(calls_shrinkable(&none(), &calls));
+            assert_eq!(first_not_shrinkable(&[], &calls), None);
+            let chosen = shrink_calls(&none(), &calls).expect("memory");
+            // of the chains each call is dropped because another is
+            assert!(name == "all to one target" || !chosen.contains(&true), "{name}");
+        });
+    }
+}
+
+/// Runs of calls that reach their targets only where others are shortened, in both directions, also
+/// with alignments between them; of calls to one target; and of alignments inside of one another's nops.
+fn runs() -> [Named<Item>; 6] {
+    fn nested(count: usize, powers: u32) -> Vec<Item> {
+        let mut items = Vec::new();
+        let mut offset = 0;
+        for index in 0..count / 2 {
+            items.push(site(offset, 0, CALL));
+            let alignment = 4 << (index as u32).trailing_zeros().min(powers);
+            let nops = alignment as u32 - 2;
+            items.push(aligned(offset + 8, nops, alignment, None));
+            offset += 8 + u64::from(nops);
+        }
+        items
+    }
+    [
+        ("each long because of the next", |count| cascade(count as u64, true, |_| None)),
+        ("each long because of the one before", |count| cascade(count as u64, false, |_| None)),
+        ("ahead between alignments", |count| {
+            cascade(count as u64 / 2, true, |offset| Some(aligned(offset + 6, 3, 4, None)))
+        }),
+        ("back between alignments", |count| {
+            cascade(count as u64 / 2, false, |offset| Some(aligned(offset + 6, 3, 4, None)))
+        }),
+        ("all to one target", |count| {
+            (0..count as u64).map(|index| site(8 * index, 0, CALL)).collect()
+        }),
+        ("nested alignments", |count| nested(count, 10)),
+    ]
+}
+
+fn expect_runs(count: usize) {
+    for (name, items) in runs() {
+        expect_growth(&format!("relax, {name}"), count, items, |items| {
+            assert_eq!(first_faulty(&items, 0), None, "{name}");
+            assert!(are_items(&items, 0));
+            let plan = relax(&items, 0).expect("memory");
+            deletions(&items, 0, &plan.kept).expect("memory");
+        });
+    }
+}
+
+/// `call f`, with its relocations, one after the other.
+const RISCV_CALL: [u8; 8] = [0x97, 0, 0, 0, 0xe7, 0x80, 0, 0];
+/// `pcaddu18i $ra, 0` and `jirl $ra, $ra, 0`.
+const LOONGARCH_CALL: [u8; 8] = [0x01, 0, 0, 0x1e, 0x21, 0, 0, 0x4c];
+
+fn expect_sections(count: usize) {
+    let call = |code, mark| {
+        move |index: usize| {
+            let (offset, target) = (8 * index as u64, Some(0));
+            let one = Relocation {
+                offset,
+                code,
+                has_symbol: true,
+                addend: 0,
+                target,
+                may_compress: true,
+            };
+            [one, Relocation { code: mark, target: None, ..one }]
+        }
+    };
+    // R_RISCV_CALL_PLT and R_RISCV_RELAX, R_LARCH_CALL36 and R_LARCH_RELAX
+    let of_riscv = |count: usize| {
+        let all: Vec<_> = (0..count).flat_map(call(19, 51)).collect();
+        (RISCV_CALL.repeat(count), all)
+    };
+    let of_loongarch = |count: usize| {
+        let all: Vec<_> = (0..count).flat_map(call(110, 100)).collect();
+        (LOONGARCH_CALL.repeat(count), all)
+    };
+    expect_growth("items of RISC-V", count, of_riscv, |(section, relocations)| {
+        assert_eq!(riscv64::first_malformed(&section, &relocations), None);
+        let items = riscv64::items(&section, 0, &relocations).expect("memory");
+        assert_eq!(items.len(), section.len() / 8);
+    });
+    expect_growth("items of LoongArch", count, of_loongarch, |(section, relocations)| {
+        assert_eq!(loongarch64::first_malformed(&section, &relocations), None);
+        let items = loongarch64::items(&section, 0, &relocations).expect("memory");
+        assert_eq!(items.len(), section.len() / 8);
+    });
+    let to_pack = |count: usize| {
+        let (section, relocations) = of_riscv(count);
+        let items = riscv64::items(&section, 0, &relocations).expect("memory");
+        let plan = relax(&items, 0).expect("memory");
+        let deltas = deletions(&items, 0, &plan.kept).expect("memory");
+        (section, items, deltas)
+    };
+    expect_growth("packing of a run", count, to_pack, |(section, items, deltas)| {
+        let mut packed = vec![0; packed_run_len(0, section.len(), deltas.deltas())];
+        pack_run(Machine::RiscV64, &section, 0, &items, deltas.deltas(), 0, &mut packed)
+            .expect("items");
+    });
+    let shrunk = |count: usize| {
+        let calls: Vec<_> = (0..count as u64).map(|index| (8 * index, 8 * (index / 2))).collect();
+        (RISCV_CALL.repeat(count), deltas(count), calls)
+    };
+    expect_growth("packing of a section", count, shrunk, |(section, deltas, calls)| {
+        // a call of a far one fails at the first that is too far
+        let near = &calls[..calls.len().min(100_000)];
+        pack_section(&section, &deltas, near).expect("calls");
+    });
+}
+
+/// The fields of other relocations may be many.
+fn expect_recognising(count: usize) {
+    let others = |count: usize| -> Vec<FieldBits> {
+        (0..count as u64).map(|index| FieldBits { offset: 16 + 8 * index, bits: 0xff }).collect()
+    };
+    // call *f@GOTPCREL(%rip), which became addr32 call f
+    let (was, is) = ([0xff, 0x15, 0, 0, 0, 0], [0x67, 0xe8, 0, 0, 0, 0]);
+    expect_growth("recognising", count, others, |others| {
+        for _ in 0..4 {
+            let found =
+                recognise::architecture::recognise(Architecture::X86_64, 41, &was, 2, &others, &is);
+            assert!(found.iter().flatten().count() > 0);
+        }
+    });
+}
+
+fn expect_all(count: usize) {
+    expect_merges(count);
+    expect_merges_of_one(count);
+    expect_deltas(count);
+    // more reach into one another's bytes
+    expect_shrinking(count.min(100_000));
+    expect_runs(count);
+    expect_sections(count);
+    expect_recognising(count);
+}
+
+#[test]
+#[cfg_attr(debug_assertions, ignore = "of release builds")]
+fn short_lists_take_n_log_n() {
+    expect_all(SHORT);
+}
+
+#[test]
+#[ignore = "it takes minutes: .ci/nightly"]
+fn long_lists_take_n_log_n() {
+    expect_all(LONG);
+}
