@@ -365,7 +365,7 @@ pub fn choice_by<K: ChosenKind>(
 // `RelaxationKind`, `AskedFor` and, by the name `Names`, that of the relocations.
 
 /// Conditions: facts, the addend as `Some(A)` if one is required, and what holds of values, each as a
-/// `ValueCondition` with the name of a relocation. No count of bytes before the place is 0.
+/// `ValueCondition` with the name of a relocation. Without a count of bytes before the place that is 0.
 macro_rules! conditions {
     (
         @ $facts:expr, $addend:expr,
