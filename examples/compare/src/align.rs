@@ -8,7 +8,7 @@
 use crate::elf::{Linked, Relocation, Section};
 use crate::made;
 use crate::map::Anchors;
-use crate::recognise;
+use crate::recognise::Deletable;
 use linker_utils::elf::Architecture;
 use std::ops::Range;
 
@@ -190,7 +190,7 @@ impl Site {
     }
 }
 
-impl Walk<'_> {
+impl<'a> Walk<'a> {
     /// The deletions between two offsets, with what the address of the first is above it, and what
     /// that of the last has to be. Returned is how unlikely they are.
     fn part(
@@ -205,7 +205,8 @@ impl Walk<'_> {
         let mut at = from;
         for site in sites {
             self.compare(&mut states, at, site.start);
-            let after = states.iter().flat_map(|state| self.deletions_of(*state, site));
+            let values = self.values(site);
+            let after = states.iter().flat_map(|state| self.deletions_of(*state, site, &values));
             states = self.best(after.collect());
             at = at.max(site.end);
         }
@@ -225,13 +226,14 @@ impl Walk<'_> {
         for site in sites.iter().rev() {
             self.compare(&mut states, site.end, at);
             let most = if site.is_alignment { site.len() } else { site.len().min(8) };
+            let values = self.values(site);
             let before = states.iter().flat_map(|state| {
                 let before = (0..=most).step_by(2).map(|deleted| State {
                     delta: state.delta.wrapping_add(deleted),
                     ..*state
                 });
                 let all = before.flat_map(|before| {
-                    let after = self.deletions_of(before, site).into_iter();
+                    let after = self.deletions_of(before, site, &values).into_iter();
                     let after = after.filter(|(after, _)| after.delta == state.delta);
                     after.map(move |(after, place)| {
                         (State { delta: before.delta, ..after }, place)
@@ -301,9 +303,24 @@ impl Walk<'_> {
         best.into_iter().map(with_deletion).collect()
     }
 
+    /// The relocations at an offset that have a value.
+    fn values(&self, site: &Site) -> Vec<Deletable<'a>> {
+        let architecture = self.linked.architecture;
+        let is_value = |index: &usize| {
+            !site.is_alignment && !made::is_mark(architecture, self.it.relocations[*index].code)
+        };
+        let values = site.indices.clone().filter(is_value);
+        values.map(|index| Deletable::new(self.linked, self.it, index)).collect()
+    }
+
     /// The states behind the relocations at an offset, and the offset behind deleted bytes with its
     /// address.
-    fn deletions_of(&self, state: State, site: &Site) -> Vec<(State, Option<(u64, u64)>)> {
+    fn deletions_of(
+        &self,
+        state: State,
+        site: &Site,
+        values: &[Deletable],
+    ) -> Vec<(State, Option<(u64, u64)>)> {
         let architecture = self.linked.architecture;
         let place = site.start.wrapping_add(state.delta);
         let after = |deleted: u64, cost: u32| State {
@@ -322,21 +339,18 @@ impl Walk<'_> {
                 _ => vec![(after(0, 0), None)],
             };
         }
-        let is_value = |index: &usize| {
-            !made::is_mark(architecture, self.it.relocations[*index].code)
-        };
-        let values: Vec<usize> = site.indices.clone().filter(is_value).collect();
         let counts: &[u64] = if site.is_relaxable { &[0, 2, 4, 6, 8] } else { &[0] };
         let counts = counts.iter().copied().take_while(|count| *count <= site.len());
         let all = counts.map(|count| {
-            let starts = values
-                .iter()
-                .map(|index| recognise::deletion(self.linked, self.it, *index, place, count));
-            let starts: Vec<_> = starts.collect();
-            let unknown = starts.iter().filter(|one| one.is_none()).count();
-            let start = starts.into_iter().flatten().next().unwrap_or(site.len() - count);
+            let (mut first, mut unknown) = (None, 0);
+            for value in values {
+                let start = value.start(place, count);
+                unknown += u32::from(start.is_none());
+                first = first.or(start);
+            }
+            let start = first.unwrap_or(site.len() - count);
             let past = (site.start + start + count, place.wrapping_add(start));
-            (after(count, UNKNOWN * unknown as u32), (count > 0).then_some(past))
+            (after(count, UNKNOWN * unknown), (count > 0).then_some(past))
         });
         all.collect()
     }

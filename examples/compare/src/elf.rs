@@ -1,16 +1,20 @@
 //! Relocatable objects, archives of them, and linked files.
 
+use crate::hash::HashMap;
 use crate::stubs::{self, Stubs};
 use linker_utils::elf::Architecture;
 use object::LittleEndian;
 use object::elf::{self, FileHeader64, SectionHeader64};
 use object::read::archive::ArchiveFile;
 use object::read::elf::{FileHeader, ProgramHeader, Rela, SectionHeader, SectionTable, Sym};
-use std::collections::HashMap;
 
 /// Whether a name is that of a compiler's or an assembler's label.
 pub fn is_label(name: &str) -> bool {
-    name.starts_with(['.', '$']) || name.contains(char::is_control)
+    let has_control = || match name.is_ascii() {
+        true => name.bytes().any(|byte| byte.is_ascii_control()),
+        false => name.contains(char::is_control),
+    };
+    name.starts_with(['.', '$']) || has_control()
 }
 
 /// Why a file can't be read, in a sentence without its name.
@@ -292,7 +296,7 @@ pub fn read_linked<'a>(bytes: &'a [u8]) -> Result<Linked<'a>, Reason> {
     if symbols.is_empty() {
         return Err("it has no symbol table".into());
     }
-    let (mut globals, mut locals) = (HashMap::new(), HashMap::<String, Vec<Definition>>::new());
+    let (mut globals, mut locals) = (HashMap::default(), HashMap::<String, Vec<Definition>>::default());
     let mut by_address = Vec::new();
     for symbol in symbols {
         let is_other = matches!(symbol.kind, elf::STT_SECTION | elf::STT_FILE);
@@ -313,7 +317,7 @@ pub fn read_linked<'a>(bytes: &'a [u8]) -> Result<Linked<'a>, Reason> {
     by_address.sort_by(|(a, one), (b, other)| {
         (a, is_label(one), one).cmp(&(b, is_label(other), other))
     });
-    let (mut moved, mut resolvers) = (HashMap::new(), HashMap::new());
+    let (mut moved, mut resolvers) = (HashMap::default(), HashMap::default());
     for section in table.iter().filter(|section| section.sh_flags(LE) & 2 != 0) {
         let Some((all, link)) = section.rela(LE, bytes).map_err(because)? else {
             continue;
@@ -353,7 +357,7 @@ pub fn read_linked<'a>(bytes: &'a [u8]) -> Result<Linked<'a>, Reason> {
         }
     }
     got.sort_by_key(|(at, _)| *at);
-    let mut got_of = HashMap::<u64, Vec<u64>>::new();
+    let mut got_of = HashMap::<u64, Vec<u64>>::default();
     for (at, entry) in &got {
         let content = match entry {
             Entry::Address(address) => Some(*address),

@@ -3,6 +3,7 @@
 mod align;
 pub mod elf;
 mod forms;
+mod hash;
 mod made;
 mod map;
 mod recognise;
@@ -69,12 +70,12 @@ pub fn compare<'a>(
     }
     let mut counts = Counts::default();
     for (at, object) in objects.iter().enumerate() {
+        let names = report::names_of(object);
         for (index, section) in object.sections.iter().enumerate() {
             advance();
             if !section.is_allocated || section.relocations.is_empty() {
                 continue;
             }
-            let names = report::names_of(object, index);
             let [a, b] = &mut sides;
             let both = a.take_made(at, index).into_iter().zip(b.take_made(at, index));
             let addresses = |offset| {
@@ -92,7 +93,7 @@ pub fn compare<'a>(
                 counts.different += usize::from(a != b);
                 each(Line {
                     object: object.path.clone(),
-                    place: report::place(&names, &section.name, one.offset),
+                    place: report::place(&names[index], &section.name, one.offset),
                     architecture: object.architecture,
                     relocation: one.code,
                     addresses: addresses(one.offset),

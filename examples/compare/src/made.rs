@@ -9,6 +9,7 @@ use linker_utils::ppc64;
 use linker_utils::reading::{FieldValue, read, solve};
 use linker_utils::recognise::{self, FieldBits};
 use linker_utils::relaxation::RelocationModifier;
+use std::sync::OnceLock;
 
 /// A rewrite.
 #[derive(Clone, Copy)]
@@ -71,27 +72,72 @@ impl Chosen {
     }
 }
 
+/// What a relocation's name and row say, which is asked for often.
+#[derive(Clone, Copy)]
+struct Properties {
+    row: Option<Row>,
+    is_mark: bool,
+    is_uleb128: bool,
+    may_delete: bool,
+    is_alignment: bool,
+}
+
+impl Properties {
+    fn new(architecture: Architecture, code: u32) -> Properties {
+        let name = architecture.name(code).unwrap_or("");
+        Properties {
+            row: architecture.row(code),
+            is_mark: ["_NONE", "_RELAX", "_ALIGN"].iter().any(|end| name.ends_with(end)),
+            is_uleb128: name.ends_with("_ULEB128"),
+            may_delete: name.ends_with("_RELAX") || name.starts_with("R_RISCV_TLSDESC_"),
+            is_alignment: matches!(name, "R_LARCH_ALIGN" | "R_RISCV_ALIGN"),
+        }
+    }
+}
+
+/// The numbers that have properties of their own; the psABIs' are below.
+const CODES: u32 = 2048;
+
+fn properties(architecture: Architecture, code: u32) -> Properties {
+    static TABLES: [OnceLock<Vec<Properties>>; 5] = [const { OnceLock::new() }; 5];
+    let table = match architecture {
+        Architecture::AArch64 => &TABLES[0],
+        Architecture::LoongArch64 => &TABLES[1],
+        Architecture::Ppc64 => &TABLES[2],
+        Architecture::RiscV => &TABLES[3],
+        Architecture::X86_64 => &TABLES[4],
+        _ => return Properties::new(architecture, code),
+    };
+    let all = || (0..CODES).map(|code| Properties::new(architecture, code)).collect();
+    match table.get_or_init(all).get(code as usize) {
+        Some(found) => *found,
+        None => Properties::new(architecture, code),
+    }
+}
+
+/// The row of a relocation, as `Architecture::row`.
+pub fn row(architecture: Architecture, code: u32) -> Option<Row> {
+    properties(architecture, code).row
+}
+
 /// Whether a relocation only marks or pads.
 pub fn is_mark(architecture: Architecture, code: u32) -> bool {
-    let name = architecture.name(code).unwrap_or("");
-    ["_NONE", "_RELAX", "_ALIGN"].iter().any(|end| name.ends_with(end))
+    properties(architecture, code).is_mark
 }
 
 pub fn is_uleb128(architecture: Architecture, code: u32) -> bool {
-    architecture.name(code).is_some_and(|name| name.ends_with("_ULEB128"))
+    properties(architecture, code).is_uleb128
 }
 
 /// Whether a relocation says that bytes of those at its offset may be deleted. A mark of the first
 /// instruction of RISC-V's TLS descriptors counts for all four.
 pub fn may_delete(architecture: Architecture, code: u32) -> bool {
-    architecture
-        .name(code)
-        .is_some_and(|name| name.ends_with("_RELAX") || name.starts_with("R_RISCV_TLSDESC_"))
+    properties(architecture, code).may_delete
 }
 
 /// How many bytes of instructions or data a relocation is of.
 pub fn len(architecture: Architecture, code: u32) -> u64 {
-    let window = architecture.row(code).map_or(0, |row| row.window() as u64);
+    let window = row(architecture, code).map_or(0, |row| row.window() as u64);
     match architecture {
         Architecture::X86_64 => window,
         _ if window > 0 || is_mark(architecture, code) => window,
@@ -102,6 +148,9 @@ pub fn len(architecture: Architecture, code: u32) -> u64 {
 
 /// Of an alignment how many bytes of nops the object has, and how many stay at a place.
 pub fn alignment(architecture: Architecture, one: &Relocation, place: u64) -> Option<(u64, u64)> {
+    if !properties(architecture, one.code).is_alignment {
+        return None;
+    }
     let (nops, to, most) = match architecture.name(one.code)? {
         "R_LARCH_ALIGN" if one.symbol != 0 => {
             // the psABI: the power of two, and from bit 8 on how many bytes of nops may stay
@@ -156,7 +205,11 @@ impl Before {
     }
 
     /// The library's choices after which the linked bytes are as they are.
-    pub fn choices(&self, others: &[FieldBits], linked: &[u8]) -> Vec<Chosen> {
+    pub fn choices(
+        &self,
+        others: &[FieldBits],
+        linked: &[u8],
+    ) -> impl Iterator<Item = Chosen> + use<> {
         let (bytes, offset) = (&self.bytes, self.offset);
         recognise::architecture::recognise(
             self.architecture, self.code, bytes, offset, others, linked,
@@ -167,7 +220,6 @@ impl Before {
             let kind = Kind::Library(made.choice.kind);
             Chosen { kind, relocation: made.choice.relocation }
         })
-        .collect()
     }
 
     /// A rewrite that the library doesn't list.
@@ -223,7 +275,7 @@ impl Before {
                 at = at.saturating_sub(count).max(start);
             }
         }
-        let row = self.architecture.row(chosen.relocation)?;
+        let row = row(self.architecture, chosen.relocation)?;
         let bytes = linked.get(usize::try_from(at).ok()?..)?;
         let value = read(&row, bytes)?;
         Some(Field { row, value, place: address.wrapping_add(at), addend, base })

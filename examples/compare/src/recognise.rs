@@ -147,7 +147,7 @@ impl Side<'_> {
         let alone = |chosen| (before.clone(), chosen, None);
         let mut found: Vec<_> = match pass {
             Pass::Library => {
-                before.choices(&others, &window.bytes).into_iter().map(alone).collect()
+                before.choices(&others, &window.bytes).map(alone).collect()
             }
             Pass::Own => before.own_choice(&window.bytes).into_iter().map(alone).collect(),
             Pass::Twice => before.choices_after(&others, &window.bytes),
@@ -193,37 +193,53 @@ fn has_same_opcode(linked: &Linked, at: At) -> bool {
     there.is_some_and(|there| there.starts_with(original))
 }
 
-/// Whether some choice leaves the bytes that are at a place, without the bytes behind those of the
-/// relocation, after a deletion of so many; returned is where the deletion begins, behind the
-/// relocation's offset.
-pub fn deletion(
-    linked: &Linked,
-    it: &Section,
-    index: usize,
-    place: u64,
-    deleted: u64,
-) -> Option<u64> {
-    let one = &it.relocations[index];
-    let architecture = linked.architecture;
-    let past = one.offset + made::len(architecture, one.code);
-    let kept = (past - one.offset).checked_sub(deleted)?;
-    let there: &[u8] = match kept {
-        0 => &[],
-        _ => linked.bytes_at(place)?.get(..kept as usize)?,
-    };
-    [one.offset + 8, past].into_iter().find_map(|end| {
-        let end = end.max(past).min(it.bytes.len() as u64);
-        let (start, end, others) = fields(architecture, it, index, one.offset, end)?;
-        if start != one.offset {
-            return None;
-        }
-        let behind = it.bytes.get(past as usize..end as usize)?;
-        let before = Before::new(architecture, one, it, (start, end));
-        let linked = [there, behind].concat();
-        let found = before.choices(&others, &linked).into_iter().chain(before.own_choice(&linked));
-        let found = found.into_iter().find(|one| one.deleted_count() == deleted)?;
-        Some(found.deleted().map_or(0, |(start, _)| start))
-    })
+/// A relocation of which bytes may be deleted, in one or two windows of its section.
+pub struct Deletable<'a> {
+    linked: &'a Linked<'a>,
+    /// How many bytes the relocation is of.
+    len: u64,
+    /// Before a deletion, the fields of other relocations, and the bytes behind the relocation's.
+    windows: Vec<(Before, Vec<FieldBits>, &'a [u8])>,
+}
+
+impl<'a> Deletable<'a> {
+    pub fn new(linked: &'a Linked<'a>, it: &'a Section<'a>, index: usize) -> Deletable<'a> {
+        let one = &it.relocations[index];
+        let architecture = linked.architecture;
+        let len = made::len(architecture, one.code);
+        let past = one.offset + len;
+        let ends = [one.offset + 8, past].map(|end| end.max(past).min(it.bytes.len() as u64));
+        let window = |end: u64| {
+            let (start, end, others) = fields(architecture, it, index, one.offset, end)?;
+            if start != one.offset {
+                return None;
+            }
+            let behind = it.bytes.get(past as usize..end as usize)?;
+            Some((Before::new(architecture, one, it, (start, end)), others, behind))
+        };
+        let ends = if ends[0] == ends[1] { &ends[..1] } else { &ends[..] };
+        Deletable { linked, len, windows: ends.iter().filter_map(|end| window(*end)).collect() }
+    }
+
+    /// Whether some choice leaves the bytes that are at a place, without the bytes behind those of the
+    /// relocation, after a deletion of so many; returned is where the deletion begins, behind the
+    /// relocation's offset.
+    pub fn start(&self, place: u64, deleted: u64) -> Option<u64> {
+        let kept = self.len.checked_sub(deleted)?;
+        let there: &[u8] = match kept {
+            0 => &[],
+            _ => self.linked.bytes_at(place)?.get(..kept as usize)?,
+        };
+        self.windows.iter().find_map(|(before, others, behind)| {
+            let mut linked = [0; 128];
+            let linked = linked.get_mut(..there.len() + behind.len())?;
+            linked[..there.len()].copy_from_slice(there);
+            linked[there.len()..].copy_from_slice(behind);
+            let found = before.choices(others, linked).chain(before.own_choice(linked));
+            let found = { found }.find(|one| one.deleted_count() == deleted)?;
+            Some(found.deleted().map_or(0, |(start, _)| start))
+        })
+    }
 }
 
 /// A window that cuts no field, and the fields of the other relocations in it.
@@ -242,7 +258,7 @@ fn fields(
     for (_, other) in before.take_while(|(_, other)| !is_far(other)).chain(
         after.take_while(|(_, other)| !is_far(other)),
     ) {
-        if let Some(row) = architecture.row(other.code) {
+        if let Some(row) = made::row(architecture, other.code) {
             near.push((row, other.offset));
         }
     }

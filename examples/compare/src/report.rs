@@ -7,16 +7,17 @@ use linker_utils::elf::Architecture;
 use object::elf::{STT_FILE, STT_SECTION};
 use serde_json::{Value, json};
 
-/// Offset and name of the symbols of a section, by offset.
-pub fn names_of<'a>(object: &'a Object<'a>, section: usize) -> Vec<(u64, &'a str)> {
-    let mut names: Vec<(u64, &str)> = object
-        .symbols
-        .iter()
-        .filter(|one| one.home == Home::Section(section) && !is_label(&one.name))
-        .filter(|one| !one.name.is_empty() && !matches!(one.kind, STT_SECTION | STT_FILE))
-        .map(|one| (one.value, one.name.as_str()))
-        .collect();
-    names.sort_unstable();
+/// Offset and name of the symbols of each section, by offset.
+pub fn names_of<'a>(object: &'a Object<'a>) -> Vec<Vec<(u64, &'a str)>> {
+    let mut names = vec![Vec::new(); object.sections.len()];
+    for one in &object.symbols {
+        let Home::Section(section) = one.home else { continue };
+        let is_other = matches!(one.kind, STT_SECTION | STT_FILE);
+        if !is_other && !one.name.is_empty() && !is_label(&one.name) {
+            names[section].push((one.value, one.name.as_str()));
+        }
+    }
+    names.iter_mut().for_each(|names| names.sort_unstable());
     names
 }
 

@@ -44,7 +44,10 @@ pub struct Side<'a> {
     pub maps: Vec<Vec<Anchors>>,
     /// Objects, sections and anchors by local symbols whose names are there more than once.
     repeated: Vec<(usize, usize, (u64, u64))>,
-    pub pending: Vec<Pending>,
+    /// By object.
+    pub pending: Vec<Vec<Pending>>,
+    /// The objects of which places were found since `walk` was there, which asks for those of no other.
+    pub is_stale: Vec<bool>,
     /// What `locate` found last, by object and section.
     pub made: Vec<Vec<Vec<Made>>>,
 }
@@ -102,7 +105,8 @@ impl<'a> Side<'a> {
             false => linked.globals.get(&one.name).copied(),
         };
         let globals = objects.iter().map(|it| it.symbols.iter().map(global).collect()).collect();
-        let (pending, made) = (Vec::new(), Vec::new());
+        let pending = objects.iter().map(|_| Vec::new()).collect();
+        let (is_stale, made) = (vec![true; objects.len()], vec![Vec::new(); objects.len()]);
         Ok(Side {
             linked,
             objects,
@@ -112,6 +116,7 @@ impl<'a> Side<'a> {
             maps,
             repeated,
             pending,
+            is_stale,
             made,
         })
     }
@@ -122,17 +127,18 @@ impl<'a> Side<'a> {
         let frames = Frames::new(self.linked);
         for _ in 0..5 {
             self.find_tables(&frames);
-            self.pending.clear();
-            self.made.clear();
-            for object in 0..self.objects.len() {
-                let mut made = Vec::new();
+            let none = vec![false; self.objects.len()];
+            let is_stale = std::mem::replace(&mut self.is_stale, none);
+            for object in (0..self.objects.len()).filter(|object| is_stale[*object]) {
+                self.pending[object].clear();
+                self.made[object].clear();
                 for section in 0..self.objects[object].sections.len() {
-                    made.push(self.walk(object, section));
+                    let made = self.walk(object, section);
+                    self.made[object].push(made);
                     step();
                 }
-                self.made.push(made);
             }
-            if !self.learn() && !self.use_repeated() {
+            if !self.learn(&is_stale) && !self.use_repeated() {
                 break;
             }
         }
@@ -159,6 +165,7 @@ impl<'a> Side<'a> {
             anchors.dedup_by_key(|(offset, _)| *offset);
             let it = &self.objects[*object].sections[*section];
             self.maps[*object][*section] = align::map_of(self.linked, it, anchors);
+            self.is_stale[*object] = true;
         }
         !new.is_empty()
     }

@@ -1,9 +1,9 @@
 //! The stubs by which indirect functions are called: each jumps to what a word holds, and a
 //! relocation of the type IRELATIVE says which function tells the address in the word.
 
+use crate::hash::HashMap;
 use linker_utils::elf::Architecture;
 use object::elf;
-use std::collections::HashMap;
 
 // types that `object` doesn't name
 const R_PPC64_JMP_IREL: u32 = 247;
@@ -25,7 +25,7 @@ impl Stubs {
         resolvers: &HashMap<u64, u64>,
         toc: u64,
     ) -> Stubs {
-        let mut by_resolver = HashMap::<u64, Vec<u64>>::new();
+        let mut by_resolver = HashMap::<u64, Vec<u64>>::default();
         if resolvers.is_empty() {
             return Stubs::default();
         }
@@ -47,7 +47,7 @@ impl Stubs {
                 }
             }
         }
-        let mut all = HashMap::new();
+        let mut all = HashMap::default();
         for same in by_resolver.into_values() {
             for one in &same {
                 all.insert(*one, same.clone());

@@ -2,8 +2,8 @@
 
 use crate::align;
 use crate::elf::{Home, Linked, Object, Reason, Symbol, is_label};
+use crate::hash::{HashMap, HashSet};
 use object::elf::{STT_FILE, STT_GNU_IFUNC, STT_SECTION, STT_TLS};
-use std::collections::{HashMap, HashSet};
 
 /// What the objects define that is in a linked file.
 pub struct Definers<'a> {
@@ -17,7 +17,7 @@ pub struct Definers<'a> {
 
 impl<'a> Definers<'a> {
     pub fn new(linked: &Linked, objects: &'a [Object<'a>]) -> Definers<'a> {
-        let mut all = HashMap::<&str, Vec<(usize, &Symbol)>>::new();
+        let mut all = HashMap::<&str, Vec<(usize, &Symbol)>>::default();
         for (index, object) in objects.iter().enumerate() {
             for symbol in object.symbols.iter().filter(|one| !one.is_local) {
                 if matches!(symbol.home, Home::Section(_)) {
@@ -27,7 +27,7 @@ impl<'a> Definers<'a> {
         }
         // those members are that define a symbol of the file which no other object does
         let is_linked = objects.iter().map(|object| !object.is_member).collect();
-        let mut it = Definers { is_linked, of: HashMap::new(), locals: HashSet::new() };
+        let mut it = Definers { is_linked, of: HashMap::default(), locals: HashSet::default() };
         it.locals.extend(it.local_names(objects));
         for (name, symbols) in &all {
             if let [(index, symbol)] = symbols[..] {
@@ -98,7 +98,7 @@ impl LocalSymbols {
     /// The file has a name as often as the objects that are linked do, in their order. Where it
     /// doesn't seem to, the bytes of the sections tell which symbol is which.
     pub fn new(linked: &Linked, objects: &[Object], definers: &Definers) -> LocalSymbols {
-        let mut by_name = HashMap::<&str, Vec<(usize, usize)>>::new();
+        let mut by_name = HashMap::<&str, Vec<(usize, usize)>>::default();
         for (index, object) in objects.iter().enumerate() {
             for (at, symbol) in object.symbols.iter().enumerate() {
                 let Home::Section(section) = symbol.home else { continue };
@@ -107,7 +107,7 @@ impl LocalSymbols {
                 }
             }
         }
-        let mut found = LocalSymbols { addresses: HashMap::new(), repeated: HashSet::new() };
+        let mut found = LocalSymbols { addresses: HashMap::default(), repeated: HashSet::default() };
         for (name, symbols) in by_name {
             let Some(there) = linked.locals.get(name) else { continue };
             let there: Vec<u64> = there.iter().map(|one| one.address).collect();

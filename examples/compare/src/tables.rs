@@ -3,9 +3,9 @@
 //! they sort.
 
 use crate::elf::{Entry, Home, Linked, Relocation, Section};
+use crate::hash::{HashMap, HashSet};
 use crate::map::{self, Anchors};
 use crate::side::Side;
-use std::collections::{HashMap, HashSet};
 
 /// A record of `.eh_frame`: DWARF's Common Information Entry, or Frame Description Entry.
 struct Frame {
@@ -80,7 +80,7 @@ pub struct Frames(HashMap<u64, (u64, u64)>);
 
 impl Frames {
     pub fn new(linked: &Linked) -> Frames {
-        let mut found = HashMap::new();
+        let mut found = HashMap::default();
         for (address, bytes) in linked.tables(".eh_frame") {
             for frame in frames(bytes) {
                 let cie = frame.cie.and_then(|cie| bytes.get(cie as usize..));
@@ -105,7 +105,7 @@ impl Frames {
 
     /// The records of an object's section; `function` says where a relocation's symbol is.
     fn anchors(&self, it: &Section, function: impl Fn(&Relocation) -> Option<u64>) -> Anchors {
-        let mut anchors = HashMap::new();
+        let mut anchors = HashMap::default();
         for frame in frames(it.bytes) {
             let (Some(cie), at) = (frame.cie, frame.start + 8) else { continue };
             let first = it.relocations.partition_point(|one| one.offset < at);
@@ -136,10 +136,13 @@ impl Side<'_> {
     /// are new ones.
     pub fn find_tables(&mut self, frames: &Frames) -> bool {
         let mut new = Vec::new();
-        let mut taken = HashSet::new();
+        let mut taken = HashSet::default();
         for (object, it) in self.objects.iter().enumerate() {
             for (index, section) in it.sections.iter().enumerate() {
                 let anchors = if section.name == ".eh_frame" {
+                    if !self.is_stale[object] {
+                        continue;
+                    }
                     frames.anchors(section, |one| {
                         let symbol = &it.symbols[one.symbol];
                         let Home::Section(home) = symbol.home else { return None };
@@ -161,6 +164,7 @@ impl Side<'_> {
         for (object, section, anchors) in new {
             self.maps[object][section].clone_from(&anchors);
             self.anchors[object][section] = anchors;
+            self.is_stale[object] = true;
         }
         is_any
     }

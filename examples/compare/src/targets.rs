@@ -2,11 +2,11 @@
 
 use crate::elf::{Entry, Home, Relocation, Symbol};
 use crate::forms::Base;
+use crate::hash::HashMap;
 use crate::made::{self, Field};
 use crate::side::{Side, Target};
 use linker_utils::elf::{Architecture, Operands, RelocationKind};
 use object::elf::STT_TLS;
-use std::collections::HashMap;
 
 /// The field of a relocation against a section whose place isn't known.
 pub struct Pending {
@@ -131,7 +131,7 @@ impl<'a> Side<'a> {
         let address = self.address_of(object, one.symbol);
         if let (None, Home::Section(section)) = (address, symbol.home) {
             let (home, value) = ((object, section), symbol.value);
-            self.add_pending(Pending { home, value, field: *field, operands });
+            self.add_pending(object, Pending { home, value, field: *field, operands });
         }
         if symbol.kind == STT_TLS {
             operands.tls_base = 0;
@@ -141,30 +141,31 @@ impl<'a> Side<'a> {
 
     /// Whether a relocation is of the low part of an address, by the label of its high part.
     fn is_low(&self, one: &Relocation) -> bool {
-        let row = self.linked.architecture.row(one.code);
+        let row = made::row(self.linked.architecture, one.code);
         row.is_some_and(|row| row.kind() == RelocationKind::RelativeRiscVLow12)
     }
 
     /// Once for each relocation and each choice of it.
-    fn add_pending(&mut self, one: Pending) {
+    fn add_pending(&mut self, object: usize, one: Pending) {
         let is_same = |last: &&Pending| {
             (last.field.place, last.field.row.kind()) == (one.field.place, one.field.row.kind())
         };
-        if !self.pending.iter().rev().take(2).any(|last| is_same(&last)) {
-            self.pending.push(one);
+        let pending = &mut self.pending[object];
+        if !pending.iter().rev().take(2).any(|last| is_same(&last)) {
+            pending.push(one);
         }
     }
 
     /// What the low part of a RISC-V address leads to: the symbol of the high part.
     fn low_target(&mut self, object: usize, label: &Symbol, field: &Field, low: Operands) -> Target {
         let Some((high, place)) = self.high_part(object, label) else { return self.bits(field) };
-        let Some(row) = self.linked.architecture.row(high.code) else { return self.bits(field) };
+        let Some(row) = made::row(self.linked.architecture, high.code) else { return self.bits(field) };
         let symbol = &self.objects[object].symbols[high.symbol];
         let low = Operands { place, addend: high.addend, ..low };
         let Some((address, _)) = self.address_of(object, high.symbol) else {
             if let (Home::Section(section), false) = (symbol.home, row.asks_for_got()) {
                 let (home, value) = ((object, section), symbol.value);
-                self.add_pending(Pending { home, value, field: *field, operands: low });
+                self.add_pending(object, Pending { home, value, field: *field, operands: low });
             }
             return self.bits(field);
         };
@@ -189,11 +190,12 @@ impl<'a> Side<'a> {
         }
     }
 
-    /// Finds sections that have no symbol by what relocations against them lead to. Whether any was
-    /// found.
-    pub fn learn(&mut self) -> bool {
-        let mut by_home = HashMap::<(usize, usize), Vec<&Pending>>::new();
-        for one in &self.pending {
+    /// Finds sections that have no symbol by what relocations against them lead to: those of objects
+    /// that were walked again. Whether any was found.
+    pub fn learn(&mut self, was_walked: &[bool]) -> bool {
+        let mut by_home = HashMap::<(usize, usize), Vec<&Pending>>::default();
+        let walked = self.pending.iter().zip(was_walked).filter(|(_, is_it)| **is_it);
+        for one in walked.flat_map(|(pending, _)| pending) {
             by_home.entry(one.home).or_default().push(one);
         }
         let mut found = Vec::new();
