@@ -22,6 +22,7 @@ pub mod compat;
 mod errors;
 mod linker_base;
 mod linker_elf;
+mod linker_output;
 mod linker_reading;
 mod linker_rewriting;
 mod linker_runs;
@@ -77,6 +78,18 @@ pub mod rewriting {
     pub use crate::linker_rewriting::groups::{Group, KeptGroups, Scope, scope_of};
     pub use crate::linker_rewriting::sections::rewrite_section;
     pub use crate::linker_rewriting::surveys::survey;
+}
+
+pub mod output {
+    #![doc = include_str!("../doc/output.md")]
+    pub use crate::linker_output::dynamic::{DynamicType, DynamicTypes};
+    pub use crate::linker_output::flags::FlagRules;
+    pub use crate::linker_output::got::{
+        GotHeader, GotLayout, Origins, ThreadPointer, entry_words, static_words,
+    };
+    pub use crate::linker_output::layout::{CodeUnit, Interpreter, ProvidedSymbol, SymbolPlace};
+    pub use crate::linker_output::stubs::{Stub, StubError, StubField, StubKind};
+    pub use crate::linker_output::target::Target;
 }
 
 pub mod architecture;

@@ -1,0 +1,255 @@
+-- PowerPC64's stubs go to their targets.
+use Rattle.std.proofs.Common.{◌≡◌, ℕ, ◌+◌, ◌-◌, ◌*◌, ◌%◌, ◌^◌, Bool, true, false, refl, sym, ◌∙◌, ap, subst, arith}
+use Rattle.std.proofs.Common.{List, [], ◌∷◌, ◌++◌, eqb, cond, Some, None, Option, drop, length, pos, ℤ, ◌+ℤ◌, ◌*ℤ◌}
+use Rattle.std.specs.Prelude.{IsSomeAnd, ◌||◌, ◌&&◌, ◌==◌, if◌then◌else◌}
+use Rattle.std.proofs.lemmas.Bool.{eq-eqb, cond-true}
+use Rattle.std.proofs.lemmas.List.{drop-drop}
+use Rattle.linker_base.specs.Bits.{field}
+use Rattle.linker_base.specs.Form.{place_sum}
+use Rattle.linker_elf.specs.Ppc64.{ppc64_form}
+use Rattle.linker_elf.specs.Ppc64Relocations.{ppc64_name, ppc64_row}
+use Rattle.linker_elf.specs.Value.{sum_64}
+use Rattle.linker_elf.specs.declared.ppc64.forms.Ppc64Instruction.TheVariants.{D, Ds}
+use Rattle.linker_elf.specs.declared.ppc64.relocations.Ppc64Relocation.TheVariants as r
+use Rattle.linker_laws.specs.Machine.{loaded, moved}
+use Rattle.linker_laws.specs.Ppc64Machine.{State, Formats, step, next_pc, go_on}
+use Rattle.linker_laws.specs.Ppc64RelocationLaws.{TocAddresses}
+use Rattle.linker_laws.specs.Ppc64RewriteLaws.{word_of}
+use Rattle.linker_laws.specs.Schemes.{IsAddress, symbol_address}
+use Rattle.linker_laws.proofs.Ppc64Addresses.{reads_ds, same_parts}
+use Rattle.linker_laws.proofs.Ppc64Words.{HasParts, d_after, ds_after, sum_leads, set, step_addis, step_addi, step_ld}
+use Rattle.linker_output.proofs.StubWords.{front_word, first_is, second_is, third_is, applies, no_addend, are_addresses}
+use Rattle.linker_output.specs.Ppc64Output.{ppc64_output}
+use Rattle.linker_output.specs.Ppc64Stubs.{Counted, step_counted, stepped, lifted, with_state, run, continue, entered, at, GoesTo, moved_from_link, moved_to_link, linked, at_count, is_mflr, is_mtlr, is_mtctr}
+use Rattle.linker_output.specs.Ppc64Stubs as stubs
+use Rattle.linker_output.specs.Stubs.{StubCode, operands_of}
+use Rattle.linker_output.specs.Tables.{field_of}
+use Rattle.linker_ppc64.specs.Ppc64Rewrites.{opcode_of, rt_of, ra_of}
+
+-- ---- steps
+
+run_more : (f : Formats) (x y : ℕ) (words : List ℕ) (c d : Counted) (end : Option Counted)
+    → step_counted f x c ≡ Some d → d.state.pc ≡ next_pc c.state → run f (y ∷ words) d ≡ end
+    → run f (x ∷ y ∷ words) c ≡ end
+run_more f x y words c d end first on rest =
+    ap (continue (next_pc c.state) (λ e. run f (y ∷ words) e)) first
+    ∙ cond-true (eqb d.state.pc (next_pc c.state)) (run f (y ∷ words) d) None (eq-eqb d.state.pc (next_pc c.state) on)
+    ∙ rest
+
+-- an instruction of none of the opcodes that the further ones have
+by_tests : (p q e : Bool) → Formats → ℕ → Counted → Option Counted
+by_tests p q e f x c =
+    if p && is_mflr x then Some (with_state (moved_from_link (rt_of x) c.state) c)
+    else (if p && is_mtlr x then Some (with_state (moved_to_link (rt_of x) c.state) c)
+    else (if p && is_mtctr x
+    then Some (record { state = go_on c.state; count = c.state.registers (rt_of x) })
+    else (if q && x == 0x429f0005 then Some (with_state (linked c.state) c)
+    else (if e && x == 0x4e800420 then Some (at_count c)
+    else lifted c (step f x c.state)))))
+
+other_opcode : (p q e : Bool) (f : Formats) (x : ℕ) (c : Counted) → p ≡ false → q ≡ false
+    → e ≡ false → by_tests p q e f x c ≡ lifted c (step f x c.state)
+unfolding by_tests
+other_opcode true q e f x c a b d = cc
+other_opcode false true e f x c a b d = cc
+other_opcode false false true f x c a b d = cc
+other_opcode false false false f x c a b d = refl
+
+-- an instruction of the machine
+of_machine : (f : Formats) (x k : ℕ) (c : Counted) (s : State) → opcode_of x ≡ k → (k == 31) ≡ false
+    → (k == 16) ≡ false → (k == 19) ≡ false → step f x c.state ≡ Some s
+    → step_counted f x c ≡ Some (with_state s c)
+unfolding by_tests
+of_machine f x k c s is a b d stepping =
+    ap (λ o. stepped f o x c) is
+    ∙ other_opcode (k == 31) (k == 16) (k == 19) f x c a b d ∙ ap (lifted c) stepping
+
+-- the states behind the instructions, of which the pair puts v and then w in r12
+abbrev behind_1 : Counted → Counted
+behind_1 c = with_state (moved_from_link 0 c.state) c
+
+abbrev behind_2 : Counted → Counted
+behind_2 c = with_state (linked (behind_1 c).state) (behind_1 c)
+
+abbrev behind_3 : Counted → Counted
+behind_3 c = with_state (moved_from_link 12 (behind_2 c).state) (behind_2 c)
+
+abbrev behind_4 : Counted → Counted
+behind_4 c = with_state (moved_to_link 0 (behind_3 c).state) (behind_3 c)
+
+abbrev behind_5 : ℕ → Counted → Counted
+behind_5 v c = with_state (set 12 v (behind_4 c).state) (behind_4 c)
+
+abbrev behind_6 : ℕ → ℕ → Counted → Counted
+behind_6 v w c = with_state (set 12 w (behind_5 v c).state) (behind_5 v c)
+
+abbrev behind_7 : ℕ → ℕ → Counted → Counted
+behind_7 v w c = record { state = go_on (behind_6 v w c).state; count = w }
+
+pub runs : (f : Formats) (c : Counted) (x y v w : ℕ)
+    → step_counted f x (behind_4 c) ≡ Some (behind_5 v c)
+    → step_counted f y (behind_5 v c) ≡ Some (behind_6 v w c)
+    → run f
+    (0x7c0802a6 ∷ 0x429f0005 ∷ 0x7d8802a6 ∷ 0x7c0803a6 ∷ x ∷ y ∷ 0x7d8903a6 ∷ 0x4e800420 ∷ []) c
+    ≡ Some (at_count (behind_7 v w c))
+runs f c x y v w first second =
+    let six : List ℕ = 0x7d8903a6 ∷ 0x4e800420 ∷ [] in
+    let four : List ℕ = x ∷ y ∷ six in
+    run_more f 0x7c0802a6 0x429f0005 (0x7d8802a6 ∷ 0x7c0803a6 ∷ four) c (behind_1 c) _ refl refl
+    (run_more f 0x429f0005 0x7d8802a6 (0x7c0803a6 ∷ four) (behind_1 c) (behind_2 c) _ refl refl
+    (run_more f 0x7d8802a6 0x7c0803a6 four (behind_2 c) (behind_3 c) _ refl refl
+    (run_more f 0x7c0803a6 x (y ∷ six) (behind_3 c) (behind_4 c) _ refl refl
+    (run_more f x y six (behind_4 c) (behind_5 v c) _ first refl
+    (run_more f y 0x7d8903a6 (0x4e800420 ∷ []) (behind_5 v c) (behind_6 v w c) _ second refl
+    (run_more f 0x7d8903a6 0x4e800420 [] (behind_6 v w c) (behind_7 v w c) _ refl refl refl))))))
+
+kept : (a b : Bool) (w v l k r : ℕ) → (a || b) ≡ false
+    → cond b w (cond b v (cond b l (cond a k r))) ≡ r
+kept true b w v l k r e = cc
+kept false true w v l k r e = cc
+kept false false w v l k r e = refl
+
+-- what is left at the target
+left : (c : Counted) (v w target : ℕ) → w ≡ target → target % 4 ≡ 0
+    → GoesTo target c (at_count (behind_7 v w c))
+left c v w target is even =
+    record {
+      pc = ap (λ n. n - n % 4) is ∙ omega (arith, even);
+      r12 = is;
+      registers = λ n e. kept (eqb n 0) (eqb n 12) _ _ _ _ (c.state.registers n) e;
+      floats = refl;
+      link = refl;
+      memory = refl;
+    }
+
+-- ---- the code
+
+-- its words, by the pair
+module _ (code pair tail : List ℕ) (len : length pair ≡ 8)
+    (is : code ≡ ppc64_output.load_stub.head ++ (pair ++ tail)) where
+  first_at : at 20 code ≡ word_of pair
+  first_at = ap (at 20) is ∙ first_is (pair ++ tail) pair tail len refl
+
+  second_at : at 24 code ≡ word_of (drop 4 pair)
+  second_at = ap (at 24) is ∙ second_is (pair ++ tail) pair tail len refl
+
+  tail_at : drop 28 code ≡ tail
+  tail_at = ap (drop 28) is ∙ third_is (pair ++ tail) pair tail len refl
+
+  last_at : drop 32 code ≡ drop 4 tail
+  last_at = ap (drop 32) is ∙ sym (drop-drop 4 8 (pair ++ tail)) ∙ ap (drop 4) (third_is (pair ++ tail) pair tail len refl)
+
+-- from where a call enters
+entered_is : (code pair : List ℕ) (x y : ℕ) → length pair ≡ 8
+    → code ≡ ppc64_output.load_stub.head ++ (pair ++ ppc64_output.load_stub.tail)
+    → word_of pair ≡ x → word_of (drop 4 pair) ≡ y
+    → entered code
+    ≡ 0x7c0802a6 ∷ 0x429f0005 ∷ 0x7d8802a6 ∷ 0x7c0803a6 ∷ x ∷ y ∷ 0x7d8903a6 ∷ 0x4e800420 ∷ []
+entered_is code pair x y len is first second =
+    let tail = ppc64_output.load_stub.tail in
+    let a : at 4 code ≡ 0x7c0802a6 = ap (at 4) is in
+    let b : at 8 code ≡ 0x429f0005 = ap (at 8) is in
+    let d : at 12 code ≡ 0x7d8802a6 = ap (at 12) is in
+    let e : at 16 code ≡ 0x7c0803a6 = ap (at 16) is in
+    let g : at 20 code ≡ x = first_at code pair tail len is ∙ first in
+    let h : at 24 code ≡ y = second_at code pair tail len is ∙ second in
+    let i : at 28 code ≡ 0x7d8903a6 = ap word_of (tail_at code pair tail len is) in
+    let j : at 32 code ≡ 0x4e800420 = ap word_of (last_at code pair tail len is) in
+    cc
+
+twelve_on : (p : ℕ) → sum_64 (sum_64 (sum_64 p 4) 4) 4 ≡ sum_64 p 12
+twelve_on p = omega arith
+
+-- ---- the laws
+
+pub loads_go : TocAddresses → stubs.Loads
+loads_go toc place word target inside below small even code is f c entry holds =
+    let stub = ppc64_output.load_stub in
+    let o = operands_of stub place word in
+    let addresses = are_addresses stub place word below in
+    let pair = is.0 in
+    let half = is.2.0 in
+    let template = stub.pair in
+    let high = applies ppc64_name ppc64_row r.R_PPC64_TOC16_HA stub.first o template half tt refl
+    is.2.1.0 is.2.1.1 is.2.1.2 in
+    let low = applies ppc64_name ppc64_row r.R_PPC64_TOC16_LO_DS (field_of 4 (ppc64_name r.R_PPC64_TOC16_LO_DS)) o half pair tt refl
+    is.2.2.0 is.2.2.1 is.2.2.2 in
+    let x = word_of half in
+    let y = word_of (drop 4 pair) in
+    let old : word_of (drop 4 half) ≡ 0xe98c0000 = ap word_of high.applied.written.rest in
+    let front : word_of pair ≡ x = sym (front_word pair) ∙ ap word_of low.kept ∙ front_word half in
+    let first : HasParts 15 12 12 x = d_after _ _ template half high.applied.written in
+    let after = ds_after _ _ (drop 4 half) (drop 4 pair) low.applied.written in
+    let second : HasParts 58 12 12 y =
+    same_parts (ap opcode_of old) (ap rt_of old) (ap ra_of old) after.0 in
+    let zero : field y 0 2 ≡ 0 = after.1 ∙ ap (λ n. field n 0 2) old in
+    let a = (ppc64_form D).machine x *ℤ pos (2 ^ 16) in
+    let b = (ppc64_form Ds).machine y in
+    let t = sum_64 (sum_64 c.state.pc 4) 4 in
+    let v = moved t a in
+    let w = loaded 8 c.state.memory (moved v b) in
+    let begin : t ≡ o.got_base = ap (λ p. sum_64 (sum_64 p 4) 4) entry ∙ twelve_on place in
+    let leads : moved v b ≡ word =
+    ap (λ p. moved (moved p a) b) begin
+    ∙ sum_leads o.got_base (symbol_address o) a b
+    (subst (λ z. IsAddress ((pos o.got_base +ℤ a) +ℤ z) (symbol_address o)) (reads_ds y second.opcode_is)
+    (toc.1 o addresses o.place template half high.applied tt o.place (drop 4 half) (drop 4 pair) low.applied tt))
+    ∙ no_addend word below in
+    let value : w ≡ target = ap (loaded 8 c.state.memory) leads ∙ holds in
+    subst (λ end. IsSomeAnd end (GoesTo target c))
+    (sym (ap (λ ws. run f ws c) (entered_is code pair x y is.1 is.3 front refl)
+    ∙ runs f c x y v w
+    (of_machine f x 15 (behind_4 c) (behind_5 v c).state first.opcode_is refl refl refl
+    (step_addis f x 12 12 (behind_4 c).state first))
+    (of_machine f y 58 (behind_5 v c) (behind_6 v w c).state second.opcode_is refl refl refl
+    (step_ld f y 12 12 (behind_5 v c).state second zero))))
+    (left c v w target value even)
+
+-- the code of a stub
+abbrev some_or : StubCode → Option StubCode → StubCode
+some_or other None = other
+some_or other (Some stub) = stub
+
+pub jumps_go : TocAddresses → stubs.Jumps
+jumps_go toc place target inside below even code is f c entry =
+    let stub = some_or ppc64_output.load_stub ppc64_output.jump_stub in
+    let o = operands_of stub place target in
+    let addresses = are_addresses stub place target below in
+    let pair = is.0 in
+    let half = is.2.0 in
+    let template = stub.pair in
+    let high = applies ppc64_name ppc64_row r.R_PPC64_TOC16_HA stub.first o template half tt refl
+    is.2.1.0 is.2.1.1 is.2.1.2 in
+    let low = applies ppc64_name ppc64_row r.R_PPC64_TOC16_LO (field_of 4 (ppc64_name r.R_PPC64_TOC16_LO)) o half pair tt refl
+    is.2.2.0 is.2.2.1 is.2.2.2 in
+    let x = word_of half in
+    let y = word_of (drop 4 pair) in
+    let old : word_of (drop 4 half) ≡ 0x398c0000 = ap word_of high.applied.written.rest in
+    let front : word_of pair ≡ x = sym (front_word pair) ∙ ap word_of low.kept ∙ front_word half in
+    let first : HasParts 15 12 12 x = d_after _ _ template half high.applied.written in
+    let second : HasParts 14 12 12 y =
+    same_parts (ap opcode_of old) (ap rt_of old) (ap ra_of old)
+    (d_after _ _ (drop 4 half) (drop 4 pair) low.applied.written) in
+    let a = (ppc64_form D).machine x *ℤ pos (2 ^ 16) in
+    let b = (ppc64_form D).machine y in
+    let t = sum_64 (sum_64 c.state.pc 4) 4 in
+    let v = moved t a in
+    let w = moved v b in
+    let begin : t ≡ o.got_base = ap (λ p. sum_64 (sum_64 p 4) 4) entry ∙ twelve_on place in
+    let value : w ≡ target =
+    ap (λ p. moved (moved p a) b) begin
+    ∙ sum_leads o.got_base (symbol_address o) a b
+    (toc.0 o addresses o.place template half high.applied tt o.place (drop 4 half) (drop 4 pair) low.applied tt)
+    ∙ no_addend target below in
+    subst (λ end. IsSomeAnd end (GoesTo target c))
+    (sym (ap (λ ws. run f ws c) (entered_is code pair x y is.1 is.3 front refl)
+    ∙ runs f c x y v w
+    (of_machine f x 15 (behind_4 c) (behind_5 v c).state first.opcode_is refl refl refl
+    (step_addis f x 12 12 (behind_4 c).state first))
+    (of_machine f y 14 (behind_5 v c) (behind_6 v w c).state second.opcode_is refl refl refl
+    (step_addi f y 12 12 (behind_5 v c).state second))))
+    (left c v w target value even)
+
+pub first_stores : stubs.FirstStoresToc
+unfolding place_sum
+first_stores place target code is f s = ap (λ b. step f (at 0 b) s) is.3

@@ -1,0 +1,155 @@
+-- RISC-V's stub goes to the address in its word.
+use Rattle.std.proofs.Common.{◌≡◌, ℕ, ◌+◌, ◌-◌, ◌%◌, ◌^◌, ◌<◌, refl, sym, ◌∙◌, ap, subst, arith, inl, inr, ℤ, Some, false}
+use Rattle.std.proofs.Common.{List, length, drop, pos, ◌+ℤ◌, w64}
+use Rattle.std.specs.Prelude.{◌==◌}
+use Rattle.std.specs.Int.{cast_signed, cast_unsigned}
+use Rattle.std.proofs.lemmas.Int.{ints, to_z_pos, of_z-to_z}
+use Rattle.std.proofs.lemmas.List.{length-drop, length-append}
+use Rattle.linker_base.specs.Bits.{field, signed}
+use Rattle.linker_base.specs.Form.{place_sum}
+use Rattle.linker_base.proofs.Bits.{cast_negative}
+use Rattle.linker_base.proofs.Pairs.{signed_cases}
+use Rattle.linker_elf.specs.RiscV.{riscv_form}
+use Rattle.linker_elf.specs.Value.{sum_64, difference_64}
+use Rattle.linker_elf.specs.declared.elf.RelocationKind.TheVariants.{Relative, RelativeRiscVLow12}
+use Rattle.linker_elf.specs.declared.riscv64.forms.RiscVInstruction.TheVariants.{UType, IType}
+use Rattle.linker_riscv64.specs.RiscVRewrites.{opcode_of, funct3_of, rd_of}
+use Rattle.linker_laws.specs.Machine.{wrapped, moved, loaded, extended}
+use Rattle.linker_laws.specs.RiscVMachine.{Hart, register, auipc, sums, loads, jumps, executed, Runs, fetched, of_word, rs1_of, load_number}
+use Rattle.linker_laws.specs.RiscVRelocationLaws.{RelativeAddresses}
+use Rattle.linker_laws.specs.RiscVRewriteLaws.{word_of}
+use Rattle.linker_laws.proofs.RiscVDescriptors.{upper_word, upper_long, load_word, low_long}
+use Rattle.linker_laws.proofs.RiscVMachine.{at_start, at_second, fetched_word, steps, moved_twice, address_is, other, written, unwritten}
+use Rattle.linker_elf.specs.RiscVRelocations.{riscv_name, riscv_relocation}
+use Rattle.linker_elf.specs.declared.riscv64.relocations.RiscVRelocation.TheVariants as r
+use Rattle.linker_output.specs.RiscVOutput.{riscv_output}
+use Rattle.linker_output.specs.Stubs.{operands_of}
+use Rattle.linker_output.specs.Tables.{field_of}
+use Rattle.linker_output.specs.RiscVStubs.{GoesTo}
+use Rattle.linker_output.specs.RiscVStubs as stubs
+use Rattle.linker_output.proofs.StubWords.{front_word, first_is, second_is, third_is, applies, no_addend, at_place, are_addresses}
+
+-- a load of 64 bits
+whole_number : (v : ℕ) → v < 2 ^ 64 → extended 64 v ≡ v
+whole_number v small =
+    let same : signed 64 v ≡ cast_signed w64 v = elim (signed_cases 64 v) [
+      | inl a ↦ a.1 ∙ sym (to_z_pos w64 v a.0)
+      | inr a ↦ a.1 ∙ (let high = a.0 in omega (arith, ints)) ∙ sym (cast_negative v small a.0)
+    ] in
+    ap (cast_unsigned w64) same ∙ of_z-to_z w64 v small
+
+at_third : (pc : ℕ) → pc < 2 ^ 64 → difference_64 (sum_64 (sum_64 pc 4) 4) pc ≡ 8
+at_third pc small = omega arith
+
+-- `jr t3`
+jr_is : of_word 0x000e0067 ≡ Some (sums jumps 0 28 0 (pos 0))
+unfolding place_sum
+jr_is = refl
+
+-- the three instructions
+module _ (h : Hart) (u : ℤ) (i : ℤ) (word target : ℕ) (small : target < 2 ^ 64) (even : target % 2 ≡ 0)
+    (leads : moved (moved h.pc u) i ≡ word) (holds : loaded 8 h.memory word ≡ target) where
+  pub one : Hart
+  one = executed 4 (auipc 28 u) h
+
+  pub two : Hart
+  two = executed 4 (sums (loads 3) 28 28 0 i) one
+
+  pub three : Hart
+  three = executed 4 (sums jumps 0 28 0 (pos 0)) two
+
+  base_is : register one 28 ≡ moved h.pc u
+  unfolding one
+  base_is = written 28 (moved h.pc u) h (λ e. absurd (omega (arith, e)))
+
+  loaded_is : load_number 3 (loaded 8 one.memory word) ≡ target
+  unfolding one
+  loaded_is = ap (load_number 3) holds ∙ whole_number target small
+
+  target_is : register two 28 ≡ target
+  unfolding two
+  target_is =
+      let address : moved (register one 28) i ≡ word = ap (λ n. moved n i) base_is ∙ leads in
+      written 28 (load_number 3 (loaded 8 one.memory (moved (register one 28) i))) one (λ e. absurd (omega (arith, e)))
+      ∙ ap (λ n. load_number 3 (loaded 8 one.memory n)) address
+      ∙ loaded_is
+
+  same : moved target (pos 0) ≡ target
+  same = omega (arith, ints, small)
+
+  pc_is : three.pc ≡ target
+  unfolding three
+  pc_is =
+      ap (λ n. moved n (pos 0) - moved n (pos 0) % 2) target_is
+      ∙ ap (λ n. n - n % 2) same ∙ omega (arith, even)
+
+  others : (r : ℕ) → (r == 28) ≡ false → register three r ≡ register h r
+  unfolding one two three
+  others r a =
+      unwritten (sum_64 two.pc 4) two r
+      ∙ other 28 (load_number 3 (loaded 8 one.memory (moved (register one 28) i))) one r a
+      ∙ other 28 (moved h.pc u) h r a
+
+  pub goes : GoesTo target h three
+  unfolding one two three
+  goes = record { pc = pc_is; integers = others; floats = refl; memory = refl }
+
+  pub runs : (code : List ℕ) → h.pc < 2 ^ 64 → fetched code ≡ Some (4, auipc 28 u)
+      → fetched (drop 4 code) ≡ Some (4, sums (loads 3) 28 28 0 i)
+      → fetched (drop 8 code) ≡ Some (4, sums jumps 0 28 0 (pos 0))
+      → Runs 3 code h.pc h three
+  unfolding one two three
+  runs code inside first second third = (
+    one,
+    steps code h.pc 0 4 (auipc 28 u) h (at_start h.pc inside) first,
+    (
+      two,
+      steps code h.pc 4 4 (sums (loads 3) 28 28 0 i) one (at_second h.pc inside) second,
+      (three, steps code h.pc 8 4 (sums jumps 0 28 0 (pos 0)) two (at_third h.pc inside) third, refl),
+    ),
+  )
+
+pub loads_go : RelativeAddresses → stubs.Loads
+loads_go relative place word target inside below small even code is h at holds =
+    let stub = riscv_output.load_stub in
+    let o = operands_of stub place word in
+    let addresses = are_addresses stub place word below in
+    let pair = is.0 in
+    let half = is.2.0 in
+    let template = stub.pair in
+    let high = applies riscv_name (λ name. (riscv_relocation name).row) r.R_RISCV_PCREL_HI20 stub.first o template half tt refl
+    is.2.1.0 is.2.1.1 is.2.1.2 in
+    let low = applies riscv_name (λ name. (riscv_relocation name).row) r.R_RISCV_PCREL_LO12_I (field_of 4 (riscv_name r.R_RISCV_PCREL_LO12_I)) o half pair tt refl
+    is.2.2.0 is.2.2.1 is.2.2.2 in
+    let a = high.applied in
+    let b = low.applied in
+    let old : word_of (drop 4 half) ≡ 0x000e3e03 = ap word_of a.written.rest in
+    let front : word_of code ≡ word_of half =
+    first_is code pair stub.tail is.1 is.3 ∙ sym (front_word pair) ∙ ap word_of low.kept ∙ front_word half in
+    let next = second_is code pair stub.tail is.1 is.3 in
+    let rest = third_is code pair stub.tail is.1 is.3 in
+    let len : length code ≡ 12 = ap length is.3 ∙ length-append pair stub.tail ∙ omega (arith, is.1) in
+    let u = (riscv_form UType).machine (word_of half) in
+    let i = (riscv_form IType).machine (word_of (drop 4 pair)) in
+    let here : h.pc < 2 ^ 64 = subst (λ p. p < 2 ^ 64) (sym at) inside in
+    let leads : moved (moved h.pc u) i ≡ word =
+    moved_twice h.pc u i ∙ ap (λ p. wrapped (pos p +ℤ (u +ℤ i))) (at ∙ sym (at_place place inside))
+    ∙ address_is _ _ (relative.0 o addresses o.place template half a tt o.place (drop 4 half) (drop 4 pair) b tt)
+    ∙ no_addend word below in
+    let first : fetched code ≡ Some (4, auipc 28 u) =
+    fetched_word code (auipc 28 u)
+    (ap (λ w. field w 0 2) front ∙ upper_long Relative o template half a 0x17 refl refl)
+    (omega (arith, len)) (ap of_word front ∙ upper_word Relative o template half a 28 refl refl) in
+    let second : fetched (drop 4 code) ≡ Some (4, sums (loads 3) 28 28 0 i) =
+    fetched_word (drop 4 code) (sums (loads 3) 28 28 0 i)
+    (ap (λ w. field w 0 2) next ∙ low_long RelativeRiscVLow12 o (drop 4 half) (drop 4 pair) b 0x03 refl (ap opcode_of old))
+    (omega (arith, len, length-drop 4 code))
+    (ap of_word next ∙ load_word RelativeRiscVLow12 o (drop 4 half) (drop 4 pair) b 28 28 (ap opcode_of old) (ap funct3_of old) (ap rd_of old) (ap rs1_of old)) in
+    let third : fetched (drop 8 code) ≡ Some (4, sums jumps 0 28 0 (pos 0)) =
+    fetched_word (drop 8 code) (sums jumps 0 28 0 (pos 0)) (ap (λ b. field (word_of b) 0 2) rest)
+    (omega (arith, len, length-drop 8 code)) (ap (λ b. of_word (word_of b)) rest ∙ jr_is) in (
+      three h u i word target small even leads holds,
+      subst (λ p. Runs 3 code p h (three h u i word target small even leads holds)) at
+          (runs h u i word target small even leads holds code here first second third),
+      goes h u i word target small even leads holds,
+    )

@@ -1,0 +1,133 @@
+-- What the code of stubs is made of, as it is written.
+use Rattle.std.proofs.Common.{ℕ, ℤ, ◌≡◌, ◌+◌, ◌-◌, ◌++◌, ◌∙◌, List, [], Option, Some, refl, sym, ap, subst, arith}
+use Rattle.std.proofs.Common.{inl, inr, length, take, drop}
+use Rattle.std.specs.Prelude.{Result, Ok, Err, OnOk, IfErr}
+use Rattle.std.proofs.lemmas.List.{take_all, drop_all, take_at, drop_at, drop-drop, append-nil, append_assoc}
+use Rattle.std.proofs.lemmas.List.{length-take, length-drop, length-append}
+use Rattle.linker_elf.specs.Elf.{IsAllowed}
+use Rattle.linker_elf.specs.Relocate.{IsCause, WritesRow, RejectsValue}
+use Rattle.linker_elf.specs.Value.{value_of}
+use Rattle.linker_elf.specs.declared.elf.AllowedRange.{AllowedRange}
+use Rattle.linker_elf.specs.declared.elf.RelocationKindInfo.{RelocationKindInfo}
+use Rattle.linker_elf.specs.declared.elf.relocate.RelocateError.{RelocateError}
+use Rattle.linker_elf.specs.declared.elf.relocate.RelocateError.TheVariants.{OutOfReach}
+use Rattle.linker_elf.specs.declared.elf.value.Operands.{Operands}
+use Rattle.linker_output.specs.Stubs.{IsValueCause, WritesField, RejectsField, AppliesAt, offset_in}
+use Rattle.linker_output.specs.declared.stubs.StubField.{StubField}
+use Rattle.linker_utils.specs.Architectures.{IsRow}
+use Rattle.linker_utils.specs.declared.elf.Architecture.{Architecture}
+
+-- ---- a field
+
+pub not_allowed : (range : AllowedRange) (row : RelocationKindInfo) (found : Option ℤ) (v : ℤ)
+    (bytes : List ℕ) → found ≡ Some v → ¬ IsAllowed range v
+    → IsValueCause range row found bytes OutOfReach
+not_allowed range row found v bytes is not =
+    subst (λ f. IsValueCause range row f bytes OutOfReach) (sym is) (inl (not, refl))
+
+rejected : (range : AllowedRange) (row : RelocationKindInfo) (found : Option ℤ) (v : ℤ)
+    (bytes : List ℕ) (error : RelocateError) → found ≡ Some v → IsAllowed range v
+    → IsCause row v bytes error → IsValueCause range row found bytes error
+rejected range row found v bytes error is allowed cause =
+    subst (λ f. IsValueCause range row f bytes error) (sym is) (inr (allowed, cause))
+
+-- the bytes from an offset on
+from_there : (m : ℕ) (pair : List ℕ) → length pair ≡ 8 → take (8 - m) (drop m pair) ≡ drop m pair
+from_there m pair len = take_all (8 - m) (drop m pair) (let e = length-drop m pair in omega arith)
+
+none_behind : (m : ℕ) (pair : List ℕ) → length pair ≡ 8 → drop (8 - m) (drop m pair) ≡ []
+none_behind m pair len = drop_all (8 - m) (drop m pair) (let e = length-drop m pair in omega arith)
+
+applied_at : (field : StubField) (o : Operands) (pair after : List ℕ) (row : RelocationKindInfo)
+    (v : ℤ) (m : ℕ) → m ≡ offset_in field → WritesRow row v (drop m pair) (drop m after)
+    → value_of row o ≡ Some v → take m after ≡ take m pair → IsAllowed field.range v
+    → AppliesAt field o pair after row
+applied_at field o pair after row v m at w is_value kept allowed =
+    let x : WritesRow row v (drop (offset_in field) pair) (drop (offset_in field) after) =
+    subst (λ k. WritesRow row v (drop k pair) (drop k after)) at w in
+    record {
+      applied = record { value = v; value_is = is_value; accepted = x.accepted; written = x.written };
+      kept = subst (λ k. take k after ≡ take k pair) at kept;
+      within = allowed;
+    }
+
+module _ (architecture : Architecture) (field : StubField) (o : Operands) (pair bytes : List ℕ)
+    (row : RelocationKindInfo) (v : ℤ) (m : ℕ) (at : m ≡ offset_in field) (len : length pair ≡ 8)
+    (is_row : IsRow architecture field.relocation (Some row)) (is_value : value_of row o ≡ Some v)
+    (allowed : IsAllowed field.range v) where
+  after : List ℕ
+  after = take m pair ++ (bytes ++ drop (8 - m) (drop m pair))
+
+  front_len : length (take m pair) ≡ m
+  front_len = length-take m pair ∙ omega (arith, at, len)
+
+  kept : take m after ≡ take m pair
+  unfolding after
+  kept = take_at (take m pair) (bytes ++ drop (8 - m) (drop m pair)) m front_len
+
+  there : drop m after ≡ bytes
+  unfolding after
+  there =
+      drop_at (take m pair) (bytes ++ drop (8 - m) (drop m pair)) m front_len
+      ∙ ap (λ b. bytes ++ b) (none_behind m pair len) ∙ append-nil bytes
+
+  pub field_written : (result : Result Unit RelocateError)
+      → OnOk result (WritesRow row v (take (8 - m) (drop m pair)) bytes)
+      → OnOk result (WritesField architecture field o pair
+      (take m pair ++ (bytes ++ drop (8 - m) (drop m pair))))
+  unfolding after
+  field_written (Ok u) written =
+      let w : WritesRow row v (drop m pair) (drop m after) =
+      subst (λ b. WritesRow row v (drop m pair) b) (sym there)
+      (subst (λ b. WritesRow row v b bytes) (from_there m pair len) written) in (
+        row,
+        is_row,
+        applied_at field o pair after row v m at w is_value kept allowed,
+      )
+  field_written (Err error) written = tt
+
+  pub field_rejected : (result : Result Unit RelocateError)
+      → IfErr result (RejectsValue row v (take (8 - m) (drop m pair)) bytes)
+      → IfErr result (RejectsField architecture field o pair)
+  field_rejected (Ok u) why = tt
+  field_rejected (Err error) why = (
+    Some row,
+    is_row,
+    rejected field.range row (value_of row o) v (drop (offset_in field) pair) error is_value allowed
+        (subst (λ k. IsCause row v (drop k pair) error) at
+        (subst (λ b. IsCause row v b error) (from_there m pair len) (why.0))),
+  )
+
+-- ---- pieces that are written one behind the other
+
+next : (front piece rest old new : List ℕ) (k : ℕ) → k ≡ length front → old ≡ front ++ rest
+    → new ≡ (take k old ++ piece) ++ drop (k + length piece) old
+    → new ≡ (front ++ piece) ++ drop (length piece) rest
+next front piece rest old new k at is made =
+    let kept : take k old ≡ front = ap (take k) is ∙ take_at front rest k (sym at) in
+    let behind : drop (k + length piece) old ≡ drop (length piece) rest =
+    sym (drop-drop (length piece) k old)
+    ∙ ap (λ b. drop (length piece) (drop k b)) is
+    ∙ ap (drop (length piece)) (drop_at front rest k (sym at)) in
+    made ∙ ap (λ b. (b ++ piece) ++ drop (k + length piece) old) kept
+    ∙ ap (λ b. (front ++ piece) ++ b) behind
+
+pub pieces : (out head pair tail first second third : List ℕ) → length pair ≡ 8
+    → first ≡ (take 0 out ++ head) ++ drop (0 + length head) out
+    → second ≡ (take (length head) first ++ pair) ++ drop (length head + length pair) first
+    → third ≡ (take (length head + 8) second ++ tail) ++ drop (length head + 8 + length tail) second
+    → third ≡ (head ++ (pair ++ tail)) ++ drop (length head + 8 + length tail) out
+pieces out head pair tail first second third len a b d =
+    let one : first ≡ head ++ drop (length head) out = next [] head out out first 0 refl refl a in
+    let two = next head pair (drop (length head) out) first second (length head) refl one b in
+    let both : length head + 8 ≡ length (head ++ pair) =
+    sym (length-append head pair ∙ ap (λ n. length head + n) len) in
+    let three =
+    next (head ++ pair) tail (drop (length pair) (drop (length head) out)) second third
+    (length head + 8) both two d in
+    three
+    ∙ ap (λ c. c ++ drop (length tail) (drop (length pair) (drop (length head) out)))
+    (append_assoc head pair tail)
+    ∙ ap (λ n. (head ++ (pair ++ tail)) ++ drop (length tail) (drop n (drop (length head) out))) len
+    ∙ ap (λ l. (head ++ (pair ++ tail)) ++ drop (length tail) l) (drop-drop 8 (length head) out)
+    ∙ ap (λ l. (head ++ (pair ++ tail)) ++ l) (drop-drop (length tail) (length head + 8) out)

@@ -1,0 +1,90 @@
+-- The words of a stub's code, and the relocations of its fields.
+use Rattle.std.proofs.Common.{◌≡◌, ℕ, ◌+◌, ◌^◌, ◌<◌, refl, ◌∙◌, ap, subst, arith, List, [], ◌∷◌, ◌++◌}
+use Rattle.std.proofs.Common.{length, take, drop, Option, Some, pos}
+use Rattle.std.specs.Prelude.{IsSomeAnd}
+use Rattle.std.specs.Int.{w32, w64, from_le_bytes, cast_unsigned}
+use Rattle.std.proofs.lemmas.List.{drop_at}
+use Rattle.linker_elf.specs.ElfNames.{ElfName, IsNamed, code_of}
+use Rattle.linker_elf.specs.Value.{sum_64}
+use Rattle.linker_elf.specs.declared.elf.RelocationKindInfo.{RelocationKindInfo}
+use Rattle.linker_elf.specs.declared.elf.value.Operands.{Operands}
+use Rattle.linker_laws.specs.Schemes.{AreAddresses}
+use Rattle.linker_output.specs.Stubs.{AppliesAt, StubCode, operands_of}
+use Rattle.linker_output.specs.declared.stubs.StubField.{StubField}
+use Rattle.linker_utils.specs.Architectures.{IsOf}
+
+abbrev pub word : List ℕ → ℕ
+word bytes = from_le_bytes w32 bytes
+
+-- ---- words of code
+
+pub front_word : (xs : List ℕ) → word (take 4 xs) ≡ word xs
+front_word [] = refl
+front_word (a ∷ []) = refl
+front_word (a ∷ b ∷ []) = refl
+front_word (a ∷ b ∷ c ∷ []) = refl
+front_word (a ∷ b ∷ c ∷ d ∷ xs) = refl
+
+first_word : (xs ys : List ℕ) → length xs ≡ 8 → word (xs ++ ys) ≡ word xs
+first_word [] ys len = absurd (omega arith)
+first_word (a ∷ []) ys len = absurd (omega arith)
+first_word (a ∷ b ∷ []) ys len = absurd (omega arith)
+first_word (a ∷ b ∷ c ∷ []) ys len = absurd (omega arith)
+first_word (a ∷ b ∷ c ∷ d ∷ xs) ys len = refl
+
+later_word : (xs ys : List ℕ) → length xs ≡ 4 → word (xs ++ ys) ≡ word xs
+later_word [] ys len = absurd (omega arith)
+later_word (a ∷ []) ys len = absurd (omega arith)
+later_word (a ∷ b ∷ []) ys len = absurd (omega arith)
+later_word (a ∷ b ∷ c ∷ []) ys len = absurd (omega arith)
+later_word (a ∷ b ∷ c ∷ d ∷ xs) ys len = refl
+
+second_word : (xs ys : List ℕ) → length xs ≡ 8 → word (drop 4 (xs ++ ys)) ≡ word (drop 4 xs)
+second_word [] ys len = absurd (omega arith)
+second_word (a ∷ []) ys len = absurd (omega arith)
+second_word (a ∷ b ∷ []) ys len = absurd (omega arith)
+second_word (a ∷ b ∷ c ∷ []) ys len = absurd (omega arith)
+second_word (a ∷ b ∷ c ∷ d ∷ xs) ys len = later_word xs ys (omega arith)
+
+-- of code that is a pair and what stands behind it
+module _ (code pair tail : List ℕ) (len : length pair ≡ 8) (is : code ≡ pair ++ tail) where
+  pub first_is : word code ≡ word pair
+  first_is = ap word is ∙ first_word pair tail len
+
+  pub second_is : word (drop 4 code) ≡ word (drop 4 pair)
+  second_is = ap (λ c. word (drop 4 c)) is ∙ second_word pair tail len
+
+  pub third_is : drop 8 code ≡ tail
+  third_is = ap (drop 8) is ∙ drop_at pair tail 8 len
+
+-- ---- relocations by their codes
+
+pub applies : {N : Type 0} (elf : N → ElfName) (row_of : N → Option RelocationKindInfo) (name : N)
+    (field : StubField) (o : Operands) (before after : List ℕ) → IsNamed (elf name)
+    → code_of (elf name) ≡ field.relocation
+    → (row : RelocationKindInfo) → IsOf elf row_of field.relocation (Some row)
+    → AppliesAt field o before after row
+    → IsSomeAnd (row_of name) (λ row. AppliesAt field o before after row)
+applies elf row_of name field o before after named same row is applied =
+    subst (λ v. IsSomeAnd v (λ row. AppliesAt field o before after row))
+    (is.value_is ∙ ap row_of (is.is_name.named name named same)) applied
+
+-- ---- operands
+
+pub no_addend : (n : ℕ) → n < 2 ^ 64 → sum_64 n (cast_unsigned w64 (pos 0)) ≡ n
+no_addend n small = omega arith
+
+pub at_place : (n : ℕ) → n < 2 ^ 64 → sum_64 n 0 ≡ n
+at_place n small = omega arith
+
+pub are_addresses : (stub : StubCode) (place target : ℕ) → target < 2 ^ 64
+    → AreAddresses (operands_of stub place target)
+are_addresses stub place target small =
+    record {
+      symbol = small;
+      place = omega arith;
+      got_entry = small;
+      got_base = omega arith;
+      plt_entry = small;
+      tls_base = omega arith;
+    }

@@ -1,0 +1,67 @@
+-- AArch64: what a linker adds to an output (ELF for the Arm 64-bit Architecture, "Relocation";
+-- System V ABI for the Arm 64-bit Architecture; paths as glibc has them). ELF for the Arm 64-bit
+-- Architecture leaves 1028 and 1029 to the platform, and glibc has the module's number first.
+use Rattle.std.specs.Prelude.{codes, [], None, Some, ◌∷◌, pos}
+use Rattle.linker_elf.specs.AArch64Relocations.{aarch64_name}
+use Rattle.linker_elf.specs.declared.aarch64.relocations.AArch64Relocation.TheVariants as r
+use Rattle.linker_output.specs.Tables.{field_of, code_of_words, kind, units_of, no_flags, only, four}
+use Rattle.linker_output.specs.View.{Description}
+use Rattle.linker_output.specs.declared.got.ThreadPointer.TheVariants.{BelowImage}
+use Rattle.linker_utils.specs.declared.elf.Architecture.TheVariants.{AArch64}
+
+abbrev pub aarch64_output : Description
+aarch64_output =
+    record {
+      dynamic =
+          record {
+            word = kind 257 (codes "R_AARCH64_ABS64");
+            relative = kind 1027 (codes "R_AARCH64_RELATIVE");
+            glob_dat = kind 1025 (codes "R_AARCH64_GLOB_DAT");
+            jump_slot = kind 1026 (codes "R_AARCH64_JUMP_SLOT");
+            copy = kind 1024 (codes "R_AARCH64_COPY");
+            irelative = kind 1032 (codes "R_AARCH64_IRELATIVE");
+            module_number = kind 1028 (codes "R_AARCH64_TLS_DTPMOD");
+            module_offset = kind 1029 (codes "R_AARCH64_TLS_DTPREL");
+            thread_offset = kind 1030 (codes "R_AARCH64_TLS_TPREL");
+            descriptor = Some (kind 1031 (codes "R_AARCH64_TLSDESC"));
+          };
+      -- 16 bytes above the thread pointer are the run-time library's
+      thread_pointer = BelowImage 16 0;
+      module_bias = 0;
+      got = record { header = None; bias = 0 };
+      -- 64 KiB
+      page = 0x10000;
+      code_unit = units_of 4;
+      -- `udf 0`
+      filler = four 0 0 0 0;
+      flags = no_flags;
+      symbols = [];
+      interpreter_flags = 0;
+      paths = only (codes "/lib/ld-linux-aarch64.so.1");
+      instructions = AArch64;
+      -- `adrp x16`, `ldr x17, [x16]`, `br x17`
+      load_stub =
+          record {
+            head = [];
+            pair = code_of_words (0x90000010 ∷ 0xf9400211 ∷ []);
+            first = field_of 0 (aarch64_name r.R_AARCH64_ADR_PREL_PG_HI21);
+            second = Some (field_of 4 (aarch64_name r.R_AARCH64_LDST64_ABS_LO12_NC));
+            tail = code_of_words (0xd61f0220 ∷ []);
+            entry = 0;
+            origin = 0;
+            addend = pos 0;
+          };
+      -- `adrp x16`, `add x16, x16`, `br x16`
+      jump_stub =
+          Some
+          (record {
+            head = [];
+            pair = code_of_words (0x90000010 ∷ 0x91000210 ∷ []);
+            first = field_of 0 (aarch64_name r.R_AARCH64_ADR_PREL_PG_HI21);
+            second = Some (field_of 4 (aarch64_name r.R_AARCH64_ADD_ABS_LO12_NC));
+            tail = code_of_words (0xd61f0200 ∷ []);
+            entry = 0;
+            origin = 0;
+            addend = pos 0;
+          });
+    }

@@ -1,0 +1,81 @@
+-- PowerPC64: what a linker adds to an output (64-bit ELF V2 ABI for Power, "Relocation Types"; paths
+-- as glibc has them).
+use Rattle.std.specs.Prelude.{codes, [], ◌∷◌, None, Some, ℕ, pos, List}
+use Rattle.linker_elf.specs.Ppc64Relocations.{ppc64_name}
+use Rattle.linker_elf.specs.declared.ppc64.relocations.Ppc64Relocation.TheVariants as r
+use Rattle.linker_output.specs.Tables.{field_of, code_of_words, kind, units_of, symbol, only, four}
+use Rattle.linker_output.specs.View.{Description}
+use Rattle.linker_output.specs.declared.got.ThreadPointer.TheVariants.{BelowImage}
+use Rattle.linker_output.specs.declared.got.GotHeader.TheVariants.{Base}
+use Rattle.linker_output.specs.declared.layout.SymbolPlace.TheVariants.{Got}
+use Rattle.linker_utils.specs.declared.elf.Architecture.TheVariants.{Ppc64}
+
+-- `e_flags`: the version of the ABI
+abbrev pub version_2 : ℕ
+version_2 = 2
+
+-- stubs: `std 2, 24(1)`, `mflr 0`, `bcl 20, 31, .+4`, `mflr 12`, which puts its own address in r12,
+-- and `mtlr 0`
+abbrev pub address_to_r12 : List ℕ
+address_to_r12 = 0xf8410018 ∷ 0x7c0802a6 ∷ 0x429f0005 ∷ 0x7d8802a6 ∷ 0x7c0803a6 ∷ []
+
+-- `mtctr 12`, `bctr`
+abbrev pub jump_to_r12 : List ℕ
+jump_to_r12 = 0x7d8903a6 ∷ 0x4e800420 ∷ []
+
+abbrev pub ppc64_output : Description
+ppc64_output =
+    record {
+      dynamic =
+          record {
+            word = kind 38 (codes "R_PPC64_ADDR64");
+            relative = kind 22 (codes "R_PPC64_RELATIVE");
+            glob_dat = kind 20 (codes "R_PPC64_GLOB_DAT");
+            jump_slot = kind 21 (codes "R_PPC64_JMP_SLOT");
+            copy = kind 19 (codes "R_PPC64_COPY");
+            irelative = kind 248 (codes "R_PPC64_IRELATIVE");
+            module_number = kind 68 (codes "R_PPC64_DTPMOD64");
+            module_offset = kind 78 (codes "R_PPC64_DTPREL64");
+            thread_offset = kind 73 (codes "R_PPC64_TPREL64");
+            descriptor = None;
+          };
+      thread_pointer = BelowImage 0 0x7000;
+      module_bias = 0x8000;
+      -- the TOC pointer is 0x8000 above the GOT, whose first word has it
+      got = record { header = Some Base; bias = 0x8000 };
+      page = 0x10000;
+      code_unit = units_of 4;
+      -- `trap`
+      filler = four 0x08 0 0xe0 0x7f;
+      -- version 2 of the ABI, or 0, which leaves it open; an output has 2
+      flags = record { same = 0; joined = version_2; own = version_2 };
+      symbols = symbol (codes ".TOC.") Got 0x8000 ∷ [];
+      interpreter_flags = 0;
+      paths = only (codes "/lib64/ld64.so.2");
+      instructions = Ppc64;
+      load_stub =
+          record {
+            head = code_of_words address_to_r12;
+            -- `addis 12, 12`, `ld 12, (12)`
+            pair = code_of_words (0x3d8c0000 ∷ 0xe98c0000 ∷ []);
+            first = field_of 0 (ppc64_name r.R_PPC64_TOC16_HA);
+            second = Some (field_of 4 (ppc64_name r.R_PPC64_TOC16_LO_DS));
+            tail = code_of_words jump_to_r12;
+            entry = 4;
+            origin = 12;
+            addend = pos 0;
+          };
+      jump_stub =
+          Some
+          (record {
+            head = code_of_words address_to_r12;
+            -- `addis 12, 12`, `addi 12, 12`
+            pair = code_of_words (0x3d8c0000 ∷ 0x398c0000 ∷ []);
+            first = field_of 0 (ppc64_name r.R_PPC64_TOC16_HA);
+            second = Some (field_of 4 (ppc64_name r.R_PPC64_TOC16_LO));
+            tail = code_of_words jump_to_r12;
+            entry = 4;
+            origin = 12;
+            addend = pos 0;
+          });
+    }

@@ -1,0 +1,120 @@
+-- PowerPC64: stubs go to their targets (Power ISA, version 3.1, book I, "Branch Facility" and "Move To/From
+-- System Register Instructions").
+use Rattle.std.specs.Prelude.{◌≡◌, ◌==◌, ◌&&◌, ◌||◌, ◌+◌, ◌-◌, ◌*◌, ◌%◌, ◌^◌, ◌<◌, ◌∷◌, [], ℕ, List}
+use Rattle.std.specs.Prelude.{false, Bool, Option, Some, None, IsSomeAnd, if◌then◌else◌, drop, pos}
+use Rattle.linker_elf.specs.Value.{sum_64}
+use Rattle.linker_laws.specs.Machine.{loaded, moved}
+use Rattle.linker_laws.specs.Ppc64Machine.{State, Formats, step, write, go_on, go_to, next_pc, store, base}
+use Rattle.linker_laws.specs.Ppc64RewriteLaws.{word_of}
+use Rattle.linker_output.specs.Ppc64Output.{ppc64_output}
+use Rattle.linker_output.specs.Stubs.{IsStub}
+use Rattle.linker_ppc64.specs.Ppc64Rewrites.{opcode_of, rt_of}
+use Rattle.linker_utils.specs.declared.elf.Architecture.TheVariants.{Ppc64}
+
+-- ---- instructions of the link and the count register
+
+-- the state of the machine, with the count register
+pub record Counted : Type 0 where
+  pub state : State
+  pub count : ℕ
+
+abbrev pub with_state : State → Counted → Counted
+with_state s c = record c { state = s }
+
+-- "Move From Special Purpose Register" and "Move To Special Purpose Register": `mflr`, `mtlr`, `mtctr`
+abbrev pub is_mflr : ℕ → Bool
+is_mflr word = word == 0x7c0802a6 + rt_of word * 2 ^ 21
+
+abbrev pub is_mtlr : ℕ → Bool
+is_mtlr word = word == 0x7c0803a6 + rt_of word * 2 ^ 21
+
+abbrev pub is_mtctr : ℕ → Bool
+is_mtctr word = word == 0x7c0903a6 + rt_of word * 2 ^ 21
+
+abbrev pub moved_from_link : ℕ → State → State
+moved_from_link r s = go_on (write r s.link s)
+
+abbrev pub moved_to_link : ℕ → State → State
+moved_to_link r s = go_on (record s { link = s.registers r })
+
+-- "Branch Conditional" by `bcl 20, 31, .+4`, to the next instruction
+abbrev pub linked : State → State
+linked s = go_on (record s { link = next_pc s })
+
+-- "Branch Conditional to Count Register", always
+abbrev pub at_count : Counted → Counted
+at_count c = with_state (go_to (c.count - c.count % 4) c.state) c
+
+abbrev pub lifted : Counted → Option State → Option Counted
+lifted c None = None
+lifted c (Some s) = Some (with_state s c)
+
+abbrev pub stepped : Formats → ℕ → ℕ → Counted → Option Counted
+stepped f opcode word c =
+    if opcode == 31 && is_mflr word then Some (with_state (moved_from_link (rt_of word) c.state) c)
+    else (if opcode == 31 && is_mtlr word
+    then Some (with_state (moved_to_link (rt_of word) c.state) c)
+    else (if opcode == 31 && is_mtctr word
+    then Some (record { state = go_on c.state; count = c.state.registers (rt_of word) })
+    else (if opcode == 16 && word == 0x429f0005 then Some (with_state (linked c.state) c)
+    else (if opcode == 19 && word == 0x4e800420 then Some (at_count c)
+    else lifted c (step f word c.state)))))
+
+abbrev pub step_counted : Formats → ℕ → Counted → Option Counted
+step_counted f word c = stepped f (opcode_of word) word c
+
+abbrev pub continue : ℕ → (Counted → Option Counted) → Option Counted → Option Counted
+continue next rest None = None
+continue next rest (Some c) = if c.state.pc == next then rest c else None
+
+-- Words that stand one after the other are executed, each after the one before it, and then the last.
+abbrev pub run : Formats → List ℕ → Counted → Option Counted
+run f [] c = Some c
+run f (word ∷ []) c = step_counted f word c
+run f (word ∷ words) c = continue (next_pc c.state) (run f words) (step_counted f word c)
+
+-- ---- the laws
+
+-- the word at an offset of code
+abbrev pub at : ℕ → List ℕ → ℕ
+at offset code = word_of (drop offset code)
+
+-- the instructions from where a call enters
+abbrev pub entered : List ℕ → List ℕ
+entered code =
+    at 4 code ∷ at 8 code ∷ at 12 code ∷ at 16 code ∷ at 20 code ∷ at 24 code ∷ at 28 code
+    ∷ at 32 code ∷ []
+
+-- It goes to the target, which r12 has, and changes only r0, r12 and the count register.
+pub record GoesTo (target : ℕ) (c d : Counted) : Type 0 where
+  pub pc : d.state.pc ≡ target
+  pub r12 : d.state.registers 12 ≡ target
+  pub registers : (n : ℕ) → (n == 0 || n == 12) ≡ false
+      → d.state.registers n ≡ c.state.registers n
+  pub floats : d.state.floats ≡ c.state.floats
+  pub link : d.state.link ≡ c.state.link
+  pub memory : d.state.memory ≡ c.state.memory
+
+-- The word has the address of a function, a multiple of 4.
+abbrev pub Loads : Type 0
+Loads =
+    (place word target : ℕ) → place < 2 ^ 64 → word < 2 ^ 64 → target < 2 ^ 64 → target % 4 ≡ 0
+    → (code : List ℕ) → IsStub Ppc64 ppc64_output.load_stub place word code
+    → (f : Formats) (c : Counted) → c.state.pc ≡ sum_64 place 4
+    → loaded 8 c.state.memory word ≡ target
+    → IsSomeAnd (run f (entered code) c) (GoesTo target c)
+
+abbrev pub Jumps : Type 0
+Jumps =
+    (place target : ℕ) → place < 2 ^ 64 → target < 2 ^ 64 → target % 4 ≡ 0
+    → (code : List ℕ) → IsSomeAnd ppc64_output.jump_stub (λ stub. IsStub Ppc64 stub place target code)
+    → (f : Formats) (c : Counted) → c.state.pc ≡ sum_64 place 4
+    → IsSomeAnd (run f (entered code) c) (GoesTo target c)
+
+-- The first instruction, where calls enter whose `nop` became `ld 2,24(1)`, stores the TOC pointer
+-- there and goes on to the entry.
+abbrev pub FirstStoresToc : Type 0
+FirstStoresToc =
+    (place target : ℕ) (code : List ℕ) → IsStub Ppc64 ppc64_output.load_stub place target code
+    → (f : Formats) (s : State)
+    → step f (at 0 code) s ≡ Some (go_on (store 8 (s.registers 2) (moved (base 1 s) (pos 24)) s))

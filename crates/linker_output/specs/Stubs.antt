@@ -1,0 +1,140 @@
+-- Stubs: the fields of their code have the values of relocations.
+use Rattle.std.specs.Prelude.{◌≡◌, ◌≤◌, ◌<◌, ◌+◌, ◌++◌, ◌⊎◌, ℕ, ℤ, List, length, take, drop, min, ◌^◌, ◌-◌}
+use Rattle.std.specs.Prelude.{Option, Some, None}
+use Rattle.linker_elf.specs.Applied.{IsApplied}
+use Rattle.linker_elf.specs.Relocate.{IsCause}
+use Rattle.linker_elf.specs.Value.{sum_64, value_of}
+use Rattle.linker_elf.specs.declared.elf.RelocationKindInfo.{RelocationKindInfo}
+use Rattle.linker_elf.specs.declared.elf.relocate.RelocateError.{RelocateError}
+use Rattle.linker_elf.specs.declared.elf.relocate.RelocateError.TheVariants.{Unsupported}
+use Rattle.linker_elf.specs.declared.elf.relocate.RelocateError.TheVariants.{OutOfReach}
+use Rattle.linker_elf.specs.declared.elf.AllowedRange.{AllowedRange}
+use Rattle.linker_elf.specs.Elf.{IsAllowed}
+use Rattle.linker_elf.specs.declared.elf.value.Operands.{Operands}
+use Rattle.linker_output.specs.declared.stubs.StubError.{StubError}
+use Rattle.linker_output.specs.declared.stubs.StubError.TheVariants as errors
+use Rattle.linker_output.specs.declared.stubs.StubField.{StubField}
+use Rattle.linker_utils.specs.Architectures.{IsRow}
+use Rattle.linker_utils.specs.declared.elf.Architecture.{Architecture}
+
+-- A stub's code: 8 bytes that have the fields, and what stands before and behind them.
+pub record StubCode : Type 0 where
+  pub head : List ℕ
+  pub pair : List ℕ
+  pub first : StubField
+  pub second : Option StubField
+  pub tail : List ℕ
+  -- where a call enters
+  pub entry : ℕ
+  -- where the address is that values are relative to
+  pub origin : ℕ
+  pub addend : ℤ
+
+abbrev pub stub_len : StubCode → ℕ
+stub_len stub = length stub.head + 8 + length stub.tail
+
+-- the same as a number of 64 bits, the largest one if there are more
+abbrev pub told_len : StubCode → ℕ
+told_len stub = min (stub_len stub) (2 ^ 64 - 1)
+
+-- S, L and the GOT entry are the target, and P and the TOC base are the origin
+abbrev pub operands_of : StubCode → ℕ → ℕ → Operands
+operands_of stub place target =
+    record {
+      symbol = target;
+      addend = stub.addend;
+      place = sum_64 place stub.origin;
+      got_entry = target;
+      got_base = sum_64 place stub.origin;
+      plt_entry = target;
+      symbol_size = 0;
+      tls_base = 0;
+    }
+
+-- ---- a field
+
+abbrev pub offset_in : StubField → ℕ
+offset_in field = min field.offset 8
+
+-- the relocation is applied at the field's offset, and what stands before it is left
+pub record AppliesAt (field : StubField) (o : Operands) (before after : List ℕ)
+    (row : RelocationKindInfo) : Type 0 where
+  pub applied : IsApplied row o (drop (offset_in field) before) (drop (offset_in field) after)
+  pub kept : take (offset_in field) after ≡ take (offset_in field) before
+  pub within : IsAllowed field.range applied.value
+
+abbrev pub WritesField : Architecture → StubField → Operands → List ℕ → List ℕ → Type 0
+WritesField architecture field o before after =
+    (row : RelocationKindInfo) × IsRow architecture field.relocation (Some row)
+    × AppliesAt field o before after row
+
+-- why a relocation with a row isn't applied: it has no value, or one that doesn't lead to the target
+-- or is rejected
+abbrev pub IsValueCause : AllowedRange → RelocationKindInfo → Option ℤ → List ℕ → RelocateError
+    → Type 0
+IsValueCause range row None bytes error = error ≡ Unsupported
+IsValueCause range row (Some v) bytes error =
+    (¬ IsAllowed range v × (error ≡ OutOfReach))
+    ⊎ (IsAllowed range v × IsCause row v bytes error)
+
+abbrev pub IsFieldCause : AllowedRange → Option RelocationKindInfo → Operands → List ℕ
+    → RelocateError → Type 0
+IsFieldCause range None o bytes error = error ≡ Unsupported
+IsFieldCause range (Some row) o bytes error =
+    IsValueCause range row (value_of row o) bytes error
+
+abbrev pub RejectsField : Architecture → StubField → Operands → List ℕ → RelocateError → Type 0
+RejectsField architecture field o before error =
+    (row : Option RelocationKindInfo) × IsRow architecture field.relocation row
+    × IsFieldCause field.range row o (drop (offset_in field) before) error
+
+-- ---- both fields
+
+abbrev pub WritesSecond : Architecture → Option StubField → Operands → List ℕ → List ℕ → Type 0
+WritesSecond architecture None o before after = after ≡ before
+WritesSecond architecture (Some field) o before after = WritesField architecture field o before after
+
+abbrev pub RejectsSecond : Architecture → Option StubField → Operands → List ℕ → RelocateError
+    → Type 0
+RejectsSecond architecture None o before error = ⊥
+RejectsSecond architecture (Some field) o before error =
+    RejectsField architecture field o before error
+
+abbrev pub WritesPair : Architecture → StubCode → Operands → List ℕ → Type 0
+WritesPair architecture stub o pair =
+    (half : List ℕ) × WritesField architecture stub.first o stub.pair half
+    × WritesSecond architecture stub.second o half pair
+
+-- the first field that is rejected
+abbrev pub RejectsPair : Architecture → StubCode → Operands → RelocateError → Type 0
+RejectsPair architecture stub o error =
+    RejectsField architecture stub.first o stub.pair error
+    ⊎ ((half : List ℕ) × WritesField architecture stub.first o stub.pair half
+    × RejectsSecond architecture stub.second o half error)
+
+-- ---- a stub
+
+-- the code of a stub at an address, to a target
+abbrev pub IsStub : Architecture → StubCode → ℕ → ℕ → List ℕ → Type 0
+IsStub architecture stub place target code =
+    (pair : List ℕ) × (length pair ≡ 8) × WritesPair architecture stub (operands_of stub place target) pair
+    × (code ≡ stub.head ++ (pair ++ stub.tail))
+
+-- bytes begin with the code, and those behind it are left
+abbrev pub WritesStub : Architecture → Option StubCode → ℕ → ℕ → List ℕ → List ℕ → Type 0
+WritesStub architecture None place target before after = ⊥
+WritesStub architecture (Some stub) place target before after =
+    (code : List ℕ) × IsStub architecture stub place target code
+    × (after ≡ code ++ drop (stub_len stub) before)
+
+-- why there is none, in so many bytes
+abbrev pub IsCauseOf : Architecture → StubCode → ℕ → ℕ → ℕ → StubError → Type 0
+IsCauseOf architecture stub place target len errors.Missing = ⊥
+IsCauseOf architecture stub place target len errors.TooShort = len < stub_len stub
+IsCauseOf architecture stub place target len (errors.Field error) =
+    (stub_len stub ≤ len) × RejectsPair architecture stub (operands_of stub place target) error
+
+abbrev pub RejectsStub : Architecture → Option StubCode → ℕ → ℕ → List ℕ → StubError → Type 0
+RejectsStub architecture None place target out error = error ≡ errors.Missing
+RejectsStub architecture (Some stub) place target out error =
+    IsCauseOf architecture stub place target (length out) error

@@ -1,0 +1,57 @@
+-- The vocabulary of the architectures' tables.
+use Rattle.std.specs.Prelude.{ℕ, List, [], ◌∷◌, ◌++◌, Some, None}
+use Rattle.std.specs.Int.{w32, to_le_bytes}
+use Rattle.linker_elf.specs.Elf.{bit_bounds}
+use Rattle.linker_elf.specs.ElfNames.{ElfName, code_of}
+use Rattle.linker_elf.specs.declared.elf.Sign.TheVariants.{Signed}
+use Rattle.linker_output.specs.Dynamic.{DynamicKind}
+use Rattle.linker_output.specs.Layout.{Path}
+use Rattle.linker_output.specs.View.{Symbol}
+use Rattle.linker_output.specs.declared.flags.FlagRules.{FlagRules}
+use Rattle.linker_output.specs.declared.layout.CodeUnit.{CodeUnit}
+use Rattle.linker_output.specs.declared.layout.SymbolPlace.{SymbolPlace}
+use Rattle.linker_output.specs.declared.stubs.StubField.{StubField}
+
+abbrev pub kind : ℕ → List ℕ → DynamicKind
+kind code name = record { code = code; name = name }
+
+-- instructions of so many bytes, whatever `e_flags` is
+abbrev pub units_of : ℕ → CodeUnit
+units_of n = record { len = n; flag = 0; flagged_len = n }
+
+-- the psABI defines no bit of `e_flags`
+abbrev pub no_flags : FlagRules
+no_flags = record { same = 0; joined = 0; own = 0 }
+
+abbrev pub symbol : List ℕ → SymbolPlace → ℕ → Symbol
+symbol name place offset = record { name = name; place = place; offset = offset }
+
+abbrev pub path : ℕ → List ℕ → Path
+path flags text = record { flags = flags; path = text }
+
+-- one path, whatever `e_flags` is
+abbrev pub only : List ℕ → List Path
+only text = path 0 text ∷ []
+
+-- little-endian bytes of an instruction of 4
+abbrev pub four : ℕ → ℕ → ℕ → ℕ → List ℕ
+four a b c d = a ∷ b ∷ c ∷ d ∷ []
+
+-- the bytes of instructions
+abbrev pub code_of_words : List ℕ → List ℕ
+code_of_words [] = []
+code_of_words (word ∷ words) = to_le_bytes w32 word ++ code_of_words words
+
+-- a field at an offset, with the value of a relocation
+abbrev pub field_of : ℕ → ElfName → StubField
+field_of offset name =
+    record { offset = offset; relocation = code_of name; range = record { bounds = None } }
+
+-- the same, of a value of 32 bits in two's complement
+abbrev pub field_of_32 : ℕ → ElfName → StubField
+field_of_32 offset name =
+    record {
+      offset = offset;
+      relocation = code_of name;
+      range = record { bounds = Some (bit_bounds 32 Signed) };
+    }

@@ -1,0 +1,121 @@
+-- What the code's descriptions say, with texts and tables as lists.
+use Rattle.std.specs.Prelude.{ℕ, List, [], ◌∷◌, Option, Some, None}
+use Rattle.linker_output.specs.Dynamic.{DynamicKind, DynamicKinds}
+use Rattle.linker_output.specs.Layout.{Path}
+use Rattle.linker_output.specs.Stubs.{StubCode}
+use Rattle.linker_output.specs.declared.dynamic.DynamicType.{DynamicType}
+use Rattle.linker_output.specs.declared.dynamic.DynamicTypes.{DynamicTypes}
+use Rattle.linker_output.specs.declared.flags.FlagRules.{FlagRules}
+use Rattle.linker_output.specs.declared.got.GotLayout.{GotLayout}
+use Rattle.linker_output.specs.declared.got.ThreadPointer.{ThreadPointer}
+use Rattle.linker_output.specs.declared.layout.CodeUnit.{CodeUnit}
+use Rattle.linker_output.specs.declared.layout.Interpreter.{Interpreter}
+use Rattle.linker_output.specs.declared.layout.ProvidedSymbol.{ProvidedSymbol}
+use Rattle.linker_output.specs.declared.layout.SymbolPlace.{SymbolPlace}
+use Rattle.linker_output.specs.declared.stubs.Stub.{Stub}
+use Rattle.linker_output.specs.declared.stubs.StubKind.{StubKind}
+use Rattle.linker_output.specs.declared.stubs.StubKind.TheVariants.{Load, Jump}
+use Rattle.linker_output.specs.declared.target.Target.{Target}
+use Rattle.linker_utils.specs.declared.elf.Architecture.{Architecture}
+
+-- a symbol that a linker defines: its name, and how far it is above a place
+pub record Symbol : Type 0 where
+  pub name : List ℕ
+  pub place : SymbolPlace
+  pub offset : ℕ
+
+-- what an architecture's psABI, or its linkers, lay down for an output
+pub record Description : Type 0 where
+  pub dynamic : DynamicKinds
+  pub thread_pointer : ThreadPointer
+  pub module_bias : ℕ
+  pub got : GotLayout
+  pub page : ℕ
+  pub code_unit : CodeUnit
+  pub filler : List ℕ
+  pub flags : FlagRules
+  pub symbols : List Symbol
+  pub interpreter_flags : ℕ
+  pub paths : List Path
+  -- whose relocations the fields of stubs have
+  pub instructions : Architecture
+  pub load_stub : StubCode
+  pub jump_stub : Option StubCode
+
+-- ---- of the code
+
+abbrev pub view_type : DynamicType → DynamicKind
+view_type t = record { code = t.code; name = t.name.now }
+
+abbrev pub view_list : List DynamicType → List DynamicKind
+view_list [] = []
+view_list (t ∷ ts) = view_type t ∷ view_list ts
+
+abbrev pub view_optional : Option DynamicType → Option DynamicKind
+view_optional None = None
+view_optional (Some t) = Some (view_type t)
+
+abbrev pub view_types : DynamicTypes → DynamicKinds
+view_types t =
+    record {
+      word = view_type t.word;
+      relative = view_type t.relative;
+      glob_dat = view_type t.glob_dat;
+      jump_slot = view_type t.jump_slot;
+      copy = view_type t.copy;
+      irelative = view_type t.irelative;
+      module_number = view_type t.module_number;
+      module_offset = view_type t.module_offset;
+      thread_offset = view_type t.thread_offset;
+      descriptor = view_optional t.descriptor;
+    }
+
+abbrev pub view_symbols : List ProvidedSymbol → List Symbol
+view_symbols [] = []
+view_symbols (s ∷ ss) =
+    record { name = s.name.now; place = s.place; offset = s.offset } ∷ view_symbols ss
+
+abbrev pub view_paths : List Interpreter → List Path
+view_paths [] = []
+view_paths (i ∷ is) = record { flags = i.flags; path = i.path.now } ∷ view_paths is
+
+abbrev pub view_stub : Stub → StubCode
+view_stub s =
+    record {
+      head = s.head.now;
+      pair = s.pair;
+      first = s.first;
+      second = s.second;
+      tail = s.tail.now;
+      entry = s.entry;
+      origin = s.origin;
+      addend = s.addend;
+    }
+
+abbrev pub view_jump : Option Stub → Option StubCode
+view_jump None = None
+view_jump (Some s) = Some (view_stub s)
+
+-- the stub of a kind
+abbrev pub stub_of : Target → StubKind → Option StubCode
+stub_of t Load = Some (view_stub t.load_stub)
+stub_of t Jump = view_jump t.jump_stub
+
+abbrev pub view : Target → Description
+view t =
+    record {
+      dynamic = view_types t.dynamic;
+      thread_pointer = t.thread_pointer;
+      module_bias = t.module_bias;
+      got = t.got;
+      page = t.page;
+      code_unit = t.code_unit;
+      filler = t.filler;
+      flags = t.flags;
+      symbols = view_symbols t.symbols.now;
+      interpreter_flags = t.interpreter_flags;
+      paths = view_paths t.interpreters.now;
+      instructions = t.instructions;
+      load_stub = view_stub t.load_stub;
+      jump_stub = view_jump t.jump_stub;
+    }

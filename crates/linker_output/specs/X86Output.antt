@@ -1,0 +1,53 @@
+-- x86-64: what a linker adds to an output (x86-64 psABI, "Relocation Types"; ELF Handling For
+-- Thread-Local Storage; paths as glibc has them).
+use Rattle.std.specs.Prelude.{codes, [], ◌∷◌, None, Some, negsuc}
+use Rattle.linker_elf.specs.X86Relocations.{x86_64_name}
+use Rattle.linker_elf.specs.declared.x86_64.relocations.X86_64Relocation.TheVariants as r
+use Rattle.linker_output.specs.Tables.{field_of, kind, units_of, no_flags, symbol, only, four}
+use Rattle.linker_output.specs.View.{Description}
+use Rattle.linker_output.specs.declared.got.ThreadPointer.TheVariants.{AboveImage}
+use Rattle.linker_output.specs.declared.layout.SymbolPlace.TheVariants.{ThreadLocal}
+use Rattle.linker_utils.specs.declared.elf.Architecture.TheVariants.{X86_64}
+
+abbrev pub x86_64_output : Description
+x86_64_output =
+    record {
+      dynamic =
+          record {
+            word = kind 1 (codes "R_X86_64_64");
+            relative = kind 8 (codes "R_X86_64_RELATIVE");
+            glob_dat = kind 6 (codes "R_X86_64_GLOB_DAT");
+            jump_slot = kind 7 (codes "R_X86_64_JUMP_SLOT");
+            copy = kind 5 (codes "R_X86_64_COPY");
+            irelative = kind 37 (codes "R_X86_64_IRELATIVE");
+            module_number = kind 16 (codes "R_X86_64_DTPMOD64");
+            module_offset = kind 17 (codes "R_X86_64_DTPOFF64");
+            thread_offset = kind 18 (codes "R_X86_64_TPOFF64");
+            descriptor = Some (kind 36 (codes "R_X86_64_TLSDESC"));
+          };
+      thread_pointer = AboveImage;
+      module_bias = 0;
+      got = record { header = None; bias = 0 };
+      page = 0x1000;
+      code_unit = units_of 1;
+      -- `int3`
+      filler = four 0xcc 0xcc 0xcc 0xcc;
+      flags = no_flags;
+      symbols = symbol (codes "_TLS_MODULE_BASE_") ThreadLocal 0 ∷ [];
+      interpreter_flags = 0;
+      paths = only (codes "/lib64/ld-linux-x86-64.so.2");
+      instructions = X86_64;
+      -- `jmp *word(%rip)`, of which the field is relative to the next instruction, and 2 of `int3`
+      load_stub =
+          record {
+            head = [];
+            pair = 0xff ∷ 0x25 ∷ 0 ∷ 0 ∷ 0 ∷ 0 ∷ 0xcc ∷ 0xcc ∷ [];
+            first = field_of 2 (x86_64_name r.R_X86_64_PC32);
+            second = None;
+            tail = [];
+            entry = 0;
+            origin = 2;
+            addend = negsuc 3;
+          };
+      jump_stub = None;
+    }

@@ -1,0 +1,50 @@
+//! Laws of stubs: they go to their targets.
+//!
+//! The functions do nothing, and the contract of each has the laws of one architecture, over the
+//! machine that `linker_laws` has of it. From the address at which a stub of `Target::of` stands, with
+//! any registers, its code ends at the address that the word at its target has (`Load`), or at its
+//! target (`Jump`), and has changed only the registers that a call may change on its way.
+
+ghost use Rattle.linker_output.specs.AArch64Stubs as aarch64_stubs;
+ghost use Rattle.linker_output.specs.LoongArchStubs as loongarch_stubs;
+ghost use Rattle.linker_output.specs.Ppc64Stubs as ppc64_stubs;
+ghost use Rattle.linker_output.specs.RiscVStubs as riscv_stubs;
+ghost use Rattle.linker_output.specs.X86Stubs as x86_stubs;
+
+/// AArch64: x16 and x17 change. BR, which the machine of `linker_laws` has not, is defined with the laws.
+pub fn aarch64()
+    ensures loads { aarch64_stubs.Loads }
+    ensures jumps { aarch64_stubs.Jumps }
+{
+    linker_laws::relocations::aarch64();
+}
+
+/// LoongArch: $t3 changes.
+pub fn loongarch64()
+    ensures loads { loongarch_stubs.Loads }
+    ensures jumps { loongarch_stubs.Jumps }
+{
+    linker_laws::relocations::loongarch64();
+}
+
+/// PowerPC64: r0, r12, which has the target, and the count register change. The instructions of the
+/// link and the count register, which the machine of `linker_laws` has not, are defined with the laws.
+pub fn ppc64()
+    ensures loads { ppc64_stubs.Loads }
+    ensures jumps { ppc64_stubs.Jumps }
+    ensures first { ppc64_stubs.FirstStoresToc }
+{
+    linker_laws::relocations::ppc64();
+}
+
+/// RISC-V: t3 changes.
+pub fn riscv64()
+    ensures { riscv_stubs.Loads }
+{
+    linker_laws::relocations::riscv64();
+}
+
+/// x86-64: nothing changes.
+pub fn x86_64()
+    ensures { x86_stubs.Loads }
+{}

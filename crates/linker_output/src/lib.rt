@@ -1,0 +1,16 @@
+//! What a linker adds to an output, by architecture: the types of dynamic relocations, words of the
+//! GOT, origins of thread-local storage, `e_flags`, and the code of stubs.
+#![tactic(auto)]
+
+mod aarch64;
+pub mod dynamic;
+pub mod flags;
+pub mod got;
+pub mod laws;
+pub mod layout;
+mod loongarch64;
+mod ppc64;
+mod riscv64;
+pub mod stubs;
+pub mod target;
+mod x86_64;

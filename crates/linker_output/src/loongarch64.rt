@@ -1,0 +1,91 @@
+//! What a linker adds to an output of LoongArch.
+
+use crate::dynamic::{DynamicType, DynamicTypes, named};
+use crate::flags::FlagRules;
+use crate::got::{GotLayout, ThreadPointer};
+use crate::layout::{CodeUnit, Interpreter};
+use crate::stubs::{Stub, StubField, field};
+use crate::target::Target;
+use linker_utils::elf::{AllowedRange, Architecture};
+
+/// The description.
+pub(crate) static TARGET: Target = Target {
+    dynamic: DynamicTypes {
+        word: named!(2, "R_LARCH_64"),
+        relative: named!(3, "R_LARCH_RELATIVE"),
+        glob_dat: named!(2, "R_LARCH_64"),
+        jump_slot: named!(5, "R_LARCH_JUMP_SLOT"),
+        copy: named!(4, "R_LARCH_COPY"),
+        irelative: named!(12, "R_LARCH_IRELATIVE"),
+        module_number: named!(7, "R_LARCH_TLS_DTPMOD64"),
+        module_offset: named!(9, "R_LARCH_TLS_DTPREL64"),
+        thread_offset: named!(11, "R_LARCH_TLS_TPREL64"),
+        descriptor: Some(named!(14, "R_LARCH_TLS_DESC64")),
+    },
+    thread_pointer: ThreadPointer::BelowImage {
+        reserved: 0,
+        bias: 0,
+    },
+    module_bias: 0,
+    got: GotLayout {
+        header: None,
+        bias: 0,
+    },
+    page: 0x10000,
+    code_unit: CodeUnit {
+        len: 4,
+        flag: 0,
+        flagged_len: 4,
+    },
+    filler: [0, 0, 0x2a, 0],
+    flags: FlagRules {
+        same: 0xc7,
+        joined: 0,
+        own: 0,
+    },
+    symbols: &[],
+    interpreter_flags: 7,
+    interpreters: &[
+        Interpreter {
+            flags: 1,
+            path: "/lib64/ld-linux-loongarch-lp64s.so.1",
+        },
+        Interpreter {
+            flags: 2,
+            path: "/lib64/ld-linux-loongarch-lp64f.so.1",
+        },
+        Interpreter {
+            flags: 3,
+            path: "/lib64/ld-linux-loongarch-lp64d.so.1",
+        },
+    ],
+    instructions: Architecture::LoongArch64,
+    load_stub: Stub {
+        head: &[],
+        pair: [
+            0x0f, 0, 0, 0x1a, // pcalau12i $t3, 0
+            0xef, 1, 0xc0, 0x28, // ld.d $t3, $t3, 0
+        ],
+        first: field!(0, 75, -0x8000_0000, 0x8000_0000),
+        second: Some(field!(4, 76)),
+        tail: &[
+            0xe0, 1, 0, 0x4c, // jirl $zero, $t3, 0
+        ],
+        entry: 0,
+        origin: 0,
+        addend: 0,
+    },
+    jump_stub: Some(Stub {
+        head: &[],
+        pair: [
+            0x0f, 0, 0, 0x1e, // pcaddu18i $t3, 0
+            0xe0, 1, 0, 0x4c, // jirl $zero, $t3, 0
+        ],
+        first: field!(0, 110),
+        second: None,
+        tail: &[],
+        entry: 0,
+        origin: 0,
+        addend: 0,
+    }),
+};

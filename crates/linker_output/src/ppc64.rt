@@ -1,0 +1,101 @@
+//! What a linker adds to an output of PowerPC64.
+
+use crate::dynamic::{DynamicType, DynamicTypes, named};
+use crate::flags::FlagRules;
+use crate::got::{GotHeader, GotLayout, ThreadPointer};
+use crate::layout::{CodeUnit, Interpreter, ProvidedSymbol, SymbolPlace};
+use crate::stubs::{Stub, StubField, field};
+use crate::target::Target;
+use linker_utils::elf::{AllowedRange, Architecture};
+
+/// The description.
+pub(crate) static TARGET: Target = Target {
+    dynamic: DynamicTypes {
+        word: named!(38, "R_PPC64_ADDR64"),
+        relative: named!(22, "R_PPC64_RELATIVE"),
+        glob_dat: named!(20, "R_PPC64_GLOB_DAT"),
+        jump_slot: named!(21, "R_PPC64_JMP_SLOT"),
+        copy: named!(19, "R_PPC64_COPY"),
+        irelative: named!(248, "R_PPC64_IRELATIVE"),
+        module_number: named!(68, "R_PPC64_DTPMOD64"),
+        module_offset: named!(78, "R_PPC64_DTPREL64"),
+        thread_offset: named!(73, "R_PPC64_TPREL64"),
+        descriptor: None,
+    },
+    thread_pointer: ThreadPointer::BelowImage {
+        reserved: 0,
+        bias: 0x7000,
+    },
+    module_bias: 0x8000,
+    got: GotLayout {
+        header: Some(GotHeader::Base),
+        bias: 0x8000,
+    },
+    page: 0x10000,
+    code_unit: CodeUnit {
+        len: 4,
+        flag: 0,
+        flagged_len: 4,
+    },
+    filler: [0x8, 0, 0xe0, 0x7f],
+    flags: FlagRules {
+        same: 0,
+        joined: 2,
+        own: 2,
+    },
+    symbols: &[ProvidedSymbol {
+        name: ".TOC.",
+        place: SymbolPlace::Got,
+        offset: 0x8000,
+    }],
+    interpreter_flags: 0,
+    interpreters: &[Interpreter {
+        flags: 0,
+        path: "/lib64/ld64.so.2",
+    }],
+    instructions: Architecture::Ppc64,
+    load_stub: Stub {
+        head: &[
+            0x18, 0, 0x41, 0xf8, // std 2, 24(1)
+            0xa6, 2, 8, 0x7c, // mflr 0
+            5, 0, 0x9f, 0x42, // bcl 20, 31, .+4
+            0xa6, 2, 0x88, 0x7d, // mflr 12
+            0xa6, 3, 8, 0x7c, // mtlr 0
+        ],
+        pair: [
+            0, 0, 0x8c, 0x3d, // addis 12, 12, 0
+            0, 0, 0x8c, 0xe9, // ld 12, 0(12)
+        ],
+        first: field!(0, 50),
+        second: Some(field!(4, 64)),
+        tail: &[
+            0xa6, 3, 0x89, 0x7d, // mtctr 12
+            0x20, 4, 0x80, 0x4e, // bctr
+        ],
+        entry: 4,
+        origin: 12,
+        addend: 0,
+    },
+    jump_stub: Some(Stub {
+        head: &[
+            0x18, 0, 0x41, 0xf8, // std 2, 24(1)
+            0xa6, 2, 8, 0x7c, // mflr 0
+            5, 0, 0x9f, 0x42, // bcl 20, 31, .+4
+            0xa6, 2, 0x88, 0x7d, // mflr 12
+            0xa6, 3, 8, 0x7c, // mtlr 0
+        ],
+        pair: [
+            0, 0, 0x8c, 0x3d, // addis 12, 12, 0
+            0, 0, 0x8c, 0x39, // addi 12, 12, 0
+        ],
+        first: field!(0, 50),
+        second: Some(field!(4, 48)),
+        tail: &[
+            0xa6, 3, 0x89, 0x7d, // mtctr 12
+            0x20, 4, 0x80, 0x4e, // bctr
+        ],
+        entry: 4,
+        origin: 12,
+        addend: 0,
+    }),
+};

@@ -1,0 +1,83 @@
+//! What a linker adds to an output of RISC-V.
+
+use crate::dynamic::{DynamicType, DynamicTypes, named};
+use crate::flags::FlagRules;
+use crate::got::{GotHeader, GotLayout, ThreadPointer};
+use crate::layout::{CodeUnit, Interpreter, ProvidedSymbol, SymbolPlace};
+use crate::stubs::{Stub, StubField, field};
+use crate::target::Target;
+use linker_utils::elf::{AllowedRange, Architecture};
+
+/// The description.
+pub(crate) static TARGET: Target = Target {
+    dynamic: DynamicTypes {
+        word: named!(2, "R_RISCV_64"),
+        relative: named!(3, "R_RISCV_RELATIVE"),
+        glob_dat: named!(2, "R_RISCV_64"),
+        jump_slot: named!(5, "R_RISCV_JUMP_SLOT"),
+        copy: named!(4, "R_RISCV_COPY"),
+        irelative: named!(58, "R_RISCV_IRELATIVE"),
+        module_number: named!(7, "R_RISCV_TLS_DTPMOD64"),
+        module_offset: named!(9, "R_RISCV_TLS_DTPREL64"),
+        thread_offset: named!(11, "R_RISCV_TLS_TPREL64"),
+        descriptor: Some(named!(12, "R_RISCV_TLSDESC")),
+    },
+    thread_pointer: ThreadPointer::BelowImage {
+        reserved: 0,
+        bias: 0,
+    },
+    module_bias: 0x800,
+    got: GotLayout {
+        header: Some(GotHeader::Dynamic),
+        bias: 0,
+    },
+    page: 0x1000,
+    code_unit: CodeUnit {
+        len: 4,
+        flag: 1,
+        flagged_len: 2,
+    },
+    filler: [0, 0, 0, 0],
+    flags: FlagRules {
+        same: 0xe,
+        joined: 0x11,
+        own: 0,
+    },
+    symbols: &[ProvidedSymbol {
+        name: "__global_pointer$",
+        place: SymbolPlace::SmallData,
+        offset: 0x800,
+    }],
+    interpreter_flags: 0xe,
+    interpreters: &[
+        Interpreter {
+            flags: 0,
+            path: "/lib/ld-linux-riscv64-lp64.so.1",
+        },
+        Interpreter {
+            flags: 2,
+            path: "/lib/ld-linux-riscv64-lp64f.so.1",
+        },
+        Interpreter {
+            flags: 4,
+            path: "/lib/ld-linux-riscv64-lp64d.so.1",
+        },
+    ],
+    instructions: Architecture::RiscV,
+    load_stub: Stub {
+        head: &[],
+        pair: [
+            0x17, 0x0e, 0, 0, // auipc t3, 0
+            3, 0x3e, 0x0e, 0, // ld t3, 0(t3)
+        ],
+        first: field!(0, 23),
+        second: Some(field!(4, 24)),
+        tail: &[
+            0x67, 0, 0x0e, 0, // jr t3
+        ],
+        entry: 0,
+        origin: 0,
+        addend: 0,
+    },
+    jump_stub: None,
+};

@@ -1,0 +1,15 @@
+// Made by tools/erase of crates/linker_output/src/lib.rt.
+//! What a linker adds to an output, by architecture: the types of dynamic relocations, words of the
+//! GOT, origins of thread-local storage, `e_flags`, and the code of stubs.
+
+mod aarch64;
+pub mod dynamic;
+pub mod flags;
+pub mod got;
+pub mod layout;
+mod loongarch64;
+mod ppc64;
+mod riscv64;
+pub mod stubs;
+pub mod target;
+mod x86_64;

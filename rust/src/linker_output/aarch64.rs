@@ -1,0 +1,84 @@
+// Made by tools/erase of crates/linker_output/src/aarch64.rt.
+//! What a linker adds to an output of AArch64.
+
+use crate::linker_output::dynamic::{DynamicType, DynamicTypes, named};
+use crate::linker_output::flags::FlagRules;
+use crate::linker_output::got::{GotLayout, ThreadPointer};
+use crate::linker_output::layout::{CodeUnit, Interpreter};
+use crate::linker_output::stubs::{Stub, StubField, field};
+use crate::linker_output::target::Target;
+use crate::elf::{AllowedRange, Architecture};
+
+/// The description.
+pub(crate) static TARGET: Target = Target {
+    dynamic: DynamicTypes {
+        word: named!(257, "R_AARCH64_ABS64"),
+        relative: named!(1027, "R_AARCH64_RELATIVE"),
+        glob_dat: named!(1025, "R_AARCH64_GLOB_DAT"),
+        jump_slot: named!(1026, "R_AARCH64_JUMP_SLOT"),
+        copy: named!(1024, "R_AARCH64_COPY"),
+        irelative: named!(1032, "R_AARCH64_IRELATIVE"),
+        module_number: named!(1028, "R_AARCH64_TLS_DTPMOD"),
+        module_offset: named!(1029, "R_AARCH64_TLS_DTPREL"),
+        thread_offset: named!(1030, "R_AARCH64_TLS_TPREL"),
+        descriptor: Some(named!(1031, "R_AARCH64_TLSDESC")),
+    },
+    thread_pointer: ThreadPointer::BelowImage {
+        reserved: 16,
+        bias: 0,
+    },
+    module_bias: 0,
+    got: GotLayout {
+        header: None,
+        bias: 0,
+    },
+    page: 0x10000,
+    code_unit: CodeUnit {
+        len: 4,
+        flag: 0,
+        flagged_len: 4,
+    },
+    filler: [0, 0, 0, 0],
+    flags: FlagRules {
+        same: 0,
+        joined: 0,
+        own: 0,
+    },
+    symbols: &[],
+    interpreter_flags: 0,
+    interpreters: &[Interpreter {
+        flags: 0,
+        path: "/lib/ld-linux-aarch64.so.1",
+    }],
+    instructions: Architecture::AArch64,
+    load_stub: Stub {
+        head: &[],
+        pair: [
+            0x10, 0, 0, 0x90, // adrp x16, 0
+            0x11, 2, 0x40, 0xf9, // ldr x17, [x16]
+        ],
+        first: field!(0, 275),
+        second: Some(field!(4, 286)),
+        tail: &[
+            0x20, 2, 0x1f, 0xd6, // br x17
+        ],
+        entry: 0,
+        origin: 0,
+        addend: 0,
+    },
+    jump_stub: Some(Stub {
+        head: &[],
+        pair: [
+            0x10, 0, 0, 0x90, // adrp x16, 0
+            0x10, 2, 0, 0x91, // add x16, x16, 0
+        ],
+        first: field!(0, 275),
+        second: Some(field!(4, 277)),
+        tail: &[
+            0, 2, 0x1f, 0xd6, // br x16
+        ],
+        entry: 0,
+        origin: 0,
+        addend: 0,
+    }),
+};

@@ -1,0 +1,104 @@
+// Made by tools/erase of crates/linker_output/src/layout.rt.
+//! Code's shortest instruction and filler, the symbols that linkers define, and the path of the
+//! dynamic linker.
+
+use crate::linker_output::target::Target;
+
+/// How long the shortest instruction is, in bytes: what code is aligned to.
+#[derive(Debug, Clone, Copy, PartialEq, Eq)]
+pub struct CodeUnit {
+    /// Without the flag.
+    pub len: u64,
+    /// The bit of `e_flags` that says that shorter instructions are there; 0 where none says so.
+    pub flag: u32,
+    /// With it.
+    pub flagged_len: u64,
+}
+
+/// Where a symbol is that a linker defines.
+#[derive(Debug, Clone, Copy, PartialEq, Eq)]
+pub enum SymbolPlace {
+    /// At the TLS image in a shared library; in an executable at the address that the thread
+    /// pointer stands for. The symbol is thread-local.
+    ThreadLocal,
+    /// At the GOT.
+    Got,
+    /// At the section `.sdata`.
+    SmallData,
+}
+
+/// A symbol that a linker defines if an object refers to it.
+#[derive(Debug, Clone, Copy, PartialEq, Eq)]
+pub struct ProvidedSymbol {
+    /// Its name.
+    pub name: &'static str,
+    /// Where it is.
+    pub place: SymbolPlace,
+    /// How many bytes above that.
+    pub offset: u64,
+}
+
+/// The path of the dynamic linker in glibc.
+#[derive(Debug, Clone, Copy, PartialEq, Eq)]
+pub struct Interpreter {
+    /// What the bits of `e_flags` are that `Target::interpreter_flags` has.
+    pub flags: u32,
+    /// The path.
+    pub path: &'static str,
+}
+
+impl Target {
+    /// How many bytes the shortest instruction of an output with such `e_flags` has.
+    ///
+    /// ```
+    /// use linker_utils::output::Target;
+    /// use linker_utils::elf::Architecture;
+    ///
+    /// assert_eq!(Target::of(Architecture::RiscV).unit(5), 2);
+    /// assert_eq!(Target::of(Architecture::RiscV).unit(4), 4);
+    /// ```
+    #[must_use]
+    pub fn unit(&self, flags: u32) -> u64 {
+        let unit = &self.code_unit;
+        if flags & unit.flag == 0 {
+            unit.len
+        } else {
+            unit.flagged_len
+        }
+    }
+
+    /// The byte at an offset of a gap in code, which counts from a multiple of 4.
+    ///
+    /// ```
+    /// use linker_utils::output::Target;
+    /// use linker_utils::elf::Architecture;
+    ///
+    /// // `int3`
+    /// assert_eq!(Target::of(Architecture::X86_64).filler(7), 0xcc);
+    /// ```
+    #[must_use]
+    pub fn filler(&self, offset: u64) -> u8 {
+        self.filler[(offset % 4) as usize]
+    }
+
+    /// The path of the dynamic linker in glibc, for an output with such `e_flags`. None where
+    /// glibc has none for them.
+    ///
+    /// ```
+    /// use linker_utils::output::Target;
+    /// use linker_utils::elf::Architecture;
+    ///
+    /// let path = Target::of(Architecture::RiscV).interpreter(5);
+    /// assert_eq!(path, Some("/lib/ld-linux-riscv64-lp64d.so.1"));
+    /// ```
+    #[must_use]
+    pub fn interpreter(&self, flags: u32) -> Option<&'static str> {
+        let flags = flags & self.interpreter_flags;
+        for listed in self.interpreters {
+            if listed.flags == flags {
+                return Some(listed.path);
+            }
+        }
+        None
+    }
+}

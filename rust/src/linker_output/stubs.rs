@@ -1,0 +1,202 @@
+// Made by tools/erase of crates/linker_output/src/stubs.rt.
+//! Code that a linker adds: stubs that jump to the address that a word has, or to a far target.
+
+use crate::linker_output::target::Target;
+use crate::linker_base::rewrite::overwrite;
+use crate::elf::{AllowedRange, Architecture, Operands, RelocateError};
+
+/// A stub that a linker adds to code.
+#[derive(Debug, Clone, Copy, PartialEq, Eq)]
+pub enum StubKind {
+    /// It jumps to the address that a word of 8 bytes has: to a function of another output, whose
+    /// address the dynamic linker puts there, or to what an indirect function returns.
+    Load,
+    /// It jumps to its target, which branches may not reach.
+    Jump,
+}
+
+/// Why a stub isn't written.
+#[derive(Debug, Clone, Copy, PartialEq, Eq)]
+pub enum StubError {
+    /// The architecture has no such stub: branches reach as far as it would.
+    Missing,
+    /// There are fewer bytes than the stub has.
+    TooShort,
+    /// The distance to the target, or its low bits, can't be written. The first such field's error.
+    Field(RelocateError),
+}
+
+/// A field of a stub's code.
+#[derive(Debug, Clone, Copy, PartialEq, Eq)]
+pub struct StubField {
+    /// Its offset in the pair.
+    pub offset: usize,
+    /// The code of the relocation whose value it takes, `r_type` in ELF files.
+    pub relocation: u32,
+    /// The values that lead to the target, where the relocation takes others too.
+    pub range: AllowedRange,
+}
+
+/// The code of a stub: 8 bytes with the fields, and what stands before and behind these.
+#[derive(Debug, Clone, Copy, PartialEq, Eq)]
+pub struct Stub {
+    /// The code before the pair.
+    pub head: &'static [u8],
+    /// The bytes with the fields, which are 0.
+    pub pair: [u8; 8],
+    /// The first field.
+    pub first: StubField,
+    /// The second one.
+    pub second: Option<StubField>,
+    /// The code behind the pair.
+    pub tail: &'static [u8],
+    /// The offset at which a call enters. PowerPC64's calls whose `nop` becomes `ld 2,24(1)` enter at
+    /// 0, where the stub stores the TOC pointer.
+    pub entry: u64,
+    /// The offset of the address that the fields' values are relative to.
+    pub origin: u64,
+    /// The addend of the fields.
+    pub addend: i64,
+}
+
+/// A field at an offset, with the value of a relocation, from the first bound up and below the second.
+macro_rules! field {
+    ($offset:literal, $relocation:literal) => {
+        StubField {
+            offset: $offset,
+            relocation: $relocation,
+            range: AllowedRange { bounds: None },
+        }
+    };
+    ($offset:literal, $relocation:literal, $min:literal, $end:literal) => {
+        StubField {
+            offset: $offset,
+            relocation: $relocation,
+            range: AllowedRange {
+                bounds: Some(($min, $end)),
+            },
+        }
+    };
+}
+
+pub(crate) use field;
+
+/// What the values of a stub's fields are computed from.
+#[inline]
+fn operands_of(stub: &Stub, place: u64, target: u64) -> Operands {
+    let origin = place.wrapping_add(stub.origin);
+    Operands {
+        got_entry: target,
+        got_base: origin,
+        ..Operands::new(target, stub.addend, origin)
+    }
+}
+
+/// Writes the value of a field.
+fn write_field(
+    architecture: Architecture,
+    field: StubField,
+    operands: &Operands,
+    pair: &mut [u8; 8],
+) -> Result<(), RelocateError> {
+    let Some(row) = architecture.row(field.relocation) else {
+        return Err(RelocateError::Unsupported);
+    };
+    let Some(value) = row.value(operands) else {
+        return Err(RelocateError::Unsupported);
+    };
+    if !field.range.contains(value) {
+        return Err(RelocateError::OutOfReach);
+    }
+    row.write(value, &mut pair[field.offset.min(8)..])
+}
+
+/// The 8 bytes of a stub with its fields.
+fn pair_of(
+    architecture: Architecture,
+    stub: &Stub,
+    operands: &Operands,
+) -> Result<[u8; 8], RelocateError> {
+    let mut pair = stub.pair;
+    write_field(architecture, stub.first, operands, &mut pair)?;
+    if let Some(second) = stub.second {
+        write_field(architecture, second, operands, &mut pair)?;
+    }
+    Ok(pair)
+}
+
+impl Stub {
+    /// How many bytes it has, or `u64::MAX` if those are more.
+    #[must_use]
+    #[inline]
+    pub fn len(&self) -> u64 {
+        let others = self.head.len() as u64 + self.tail.len() as u64;
+        others.saturating_add(8)
+    }
+}
+
+impl Target {
+    /// The code of a stub. None where the architecture has none of the kind.
+    ///
+    /// ```
+    /// use linker_utils::output::StubKind;
+    /// use linker_utils::output::Target;
+    /// use linker_utils::elf::Architecture;
+    ///
+    /// let target = Target::of(Architecture::AArch64);
+    /// assert_eq!(target.stub(StubKind::Jump).map(|stub| stub.len()), Some(12));
+    /// // RISC-V's calls reach 2 GiB
+    /// assert_eq!(Target::of(Architecture::RiscV).stub(StubKind::Jump), None);
+    /// ```
+    #[must_use]
+    pub fn stub(&self, kind: StubKind) -> Option<&Stub> {
+        match kind {
+            StubKind::Load => Some(&self.load_stub),
+            StubKind::Jump => self.jump_stub.as_ref(),
+        }
+    }
+
+    /// Writes the stub of a kind that stands at an address: to the word at `target` (`Load`) or to the
+    /// address `target` (`Jump`). Bytes behind the stub are left, and with an error all are.
+    ///
+    /// What a call changes on its way through a stub are registers that a function may change, in
+    /// which no argument is: x16 and x17 of AArch64, t3 of RISC-V and LoongArch, and r0, r12 and ctr
+    /// of PowerPC64, whose r12 has the target's address.
+    ///
+    /// ```
+    /// use linker_utils::output::StubKind;
+    /// use linker_utils::output::Target;
+    /// use linker_utils::elf::Architecture;
+    ///
+    /// // `jmp *word(%rip)` and 2 of `int3`
+    /// let mut stub = [0; 8];
+    /// let target = Target::of(Architecture::X86_64);
+    /// target.write_stub(StubKind::Load, 0x40_1000, 0x40_3010, &mut stub)?;
+    /// assert_eq!(stub, [0xff, 0x25, 0x0a, 0x20, 0, 0, 0xcc, 0xcc]);
+    /// # Ok::<(), linker_utils::output::StubError>(())
+    /// ```
+    pub fn write_stub(
+        &self,
+        kind: StubKind,
+        place: u64,
+        target: u64,
+        out: &mut [u8],
+    ) -> Result<(), StubError> {
+        let Some(stub) = self.stub(kind) else {
+            return Err(StubError::Missing);
+        };
+        if (out.len() as u64) < stub.len() {
+            return Err(StubError::TooShort);
+        }
+        let operands = operands_of(stub, place, target);
+        let pair = match pair_of(self.instructions, stub, &operands) {
+            Ok(pair) => pair,
+            Err(error) => return Err(StubError::Field(error)),
+        };
+        let head_len = stub.head.len() as u64;
+        overwrite(out, 0, stub.head);
+        overwrite(out, head_len, &pair);
+        overwrite(out, head_len + 8, stub.tail);
+        Ok(())
+    }
+}

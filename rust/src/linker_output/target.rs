@@ -1,0 +1,68 @@
+// Made by tools/erase of crates/linker_output/src/target.rt.
+//! The description of an architecture.
+
+use crate::linker_output::dynamic::DynamicTypes;
+use crate::linker_output::flags::FlagRules;
+use crate::linker_output::got::{GotLayout, ThreadPointer};
+use crate::linker_output::layout::{CodeUnit, Interpreter, ProvidedSymbol};
+use crate::linker_output::stubs::Stub;
+use crate::linker_output::{aarch64, loongarch64, ppc64, riscv64, x86_64};
+use crate::elf::Architecture;
+
+/// What a linker adds to an output of an architecture, in numbers and texts.
+///
+/// The fields are public, so that a linker can describe a further architecture by a value of its own.
+pub struct Target {
+    /// The dynamic relocations.
+    pub dynamic: DynamicTypes,
+    /// Where the thread pointer is.
+    pub thread_pointer: ThreadPointer,
+    /// How far above the TLS image the address is that offsets in a module's block count from.
+    pub module_bias: u64,
+    /// The GOT's first word, and what offsets from the GOT count from.
+    pub got: GotLayout,
+    /// The largest page, in bytes, for which an output has to be right.
+    pub page: u64,
+    /// How long the shortest instruction is.
+    pub code_unit: CodeUnit,
+    /// What fills gaps in code, from each multiple of 4 on.
+    pub filler: [u8; 4],
+    /// How `e_flags` of objects go together.
+    pub flags: FlagRules,
+    /// The symbols that a linker defines if an object refers to them.
+    pub symbols: &'static [ProvidedSymbol],
+    /// The bits of `e_flags` that the path of the dynamic linker depends on.
+    pub interpreter_flags: u32,
+    /// The paths of the dynamic linker.
+    pub interpreters: &'static [Interpreter],
+    /// The architecture whose relocations the fields of stubs have.
+    pub instructions: Architecture,
+    /// The stub to the address that a word has.
+    pub load_stub: Stub,
+    /// The stub to a far target, if the architecture has one.
+    pub jump_stub: Option<Stub>,
+}
+
+impl Target {
+    /// The description of an architecture.
+    ///
+    /// ```
+    /// use linker_utils::output::Target;
+    /// use linker_utils::elf::Architecture;
+    ///
+    /// let target = Target::of(Architecture::X86_64);
+    /// assert_eq!(target.dynamic.relative.code, 8);
+    /// assert_eq!(target.dynamic.relative.name, "R_X86_64_RELATIVE");
+    /// assert_eq!(target.page, 0x1000);
+    /// ```
+    #[must_use]
+    pub fn of(architecture: Architecture) -> &'static Target {
+        match architecture {
+            Architecture::AArch64 => &aarch64::TARGET,
+            Architecture::RiscV => &riscv64::TARGET,
+            Architecture::LoongArch64 => &loongarch64::TARGET,
+            Architecture::Ppc64 => &ppc64::TARGET,
+            Architecture::X86_64 => &x86_64::TARGET,
+        }
+    }
+}

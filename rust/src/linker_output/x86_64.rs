@@ -1,0 +1,66 @@
+// Made by tools/erase of crates/linker_output/src/x86_64.rt.
+//! What a linker adds to an output of x86-64.
+
+use crate::linker_output::dynamic::{DynamicType, DynamicTypes, named};
+use crate::linker_output::flags::FlagRules;
+use crate::linker_output::got::{GotLayout, ThreadPointer};
+use crate::linker_output::layout::{CodeUnit, Interpreter, ProvidedSymbol, SymbolPlace};
+use crate::linker_output::stubs::{Stub, StubField, field};
+use crate::linker_output::target::Target;
+use crate::elf::{AllowedRange, Architecture};
+
+/// The description.
+pub(crate) static TARGET: Target = Target {
+    dynamic: DynamicTypes {
+        word: named!(1, "R_X86_64_64"),
+        relative: named!(8, "R_X86_64_RELATIVE"),
+        glob_dat: named!(6, "R_X86_64_GLOB_DAT"),
+        jump_slot: named!(7, "R_X86_64_JUMP_SLOT"),
+        copy: named!(5, "R_X86_64_COPY"),
+        irelative: named!(37, "R_X86_64_IRELATIVE"),
+        module_number: named!(16, "R_X86_64_DTPMOD64"),
+        module_offset: named!(17, "R_X86_64_DTPOFF64"),
+        thread_offset: named!(18, "R_X86_64_TPOFF64"),
+        descriptor: Some(named!(36, "R_X86_64_TLSDESC")),
+    },
+    thread_pointer: ThreadPointer::AboveImage,
+    module_bias: 0,
+    got: GotLayout {
+        header: None,
+        bias: 0,
+    },
+    page: 0x1000,
+    code_unit: CodeUnit {
+        len: 1,
+        flag: 0,
+        flagged_len: 1,
+    },
+    filler: [0xcc, 0xcc, 0xcc, 0xcc],
+    flags: FlagRules {
+        same: 0,
+        joined: 0,
+        own: 0,
+    },
+    symbols: &[ProvidedSymbol {
+        name: "_TLS_MODULE_BASE_",
+        place: SymbolPlace::ThreadLocal,
+        offset: 0,
+    }],
+    interpreter_flags: 0,
+    interpreters: &[Interpreter {
+        flags: 0,
+        path: "/lib64/ld-linux-x86-64.so.2",
+    }],
+    instructions: Architecture::X86_64,
+    load_stub: Stub {
+        head: &[],
+        pair: [0xff, 0x25, 0, 0, 0, 0, 0xcc, 0xcc],
+        first: field!(2, 2),
+        second: None,
+        tail: &[],
+        entry: 0,
+        origin: 2,
+        addend: -4,
+    },
+    jump_stub: None,
+};

@@ -1,0 +1,298 @@
+//! What a linker adds to an output, against `<elf.h>` of the machine and numbers of linkers.
+
+use linker_utils::elf::{Architecture, RelocateError};
+use linker_utils::output::{
+    DynamicType, DynamicTypes, Origins, StubError, StubKind, Target, entry_words, static_words,
+};
+use linker_utils::section::EntryClass;
+use std::collections::HashMap;
+use std::fs;
+
+const ALL: [Architecture; 5] = [
+    Architecture::AArch64,
+    Architecture::RiscV,
+    Architecture::LoongArch64,
+    Architecture::Ppc64,
+    Architecture::X86_64,
+];
+
+/// The constants that `<elf.h>` defines as numbers, or as other constants.
+fn constants() -> HashMap<String, u32> {
+    let text = fs::read_to_string("/usr/include/elf.h").unwrap();
+    let mut numbers: HashMap<String, u32> = HashMap::new();
+    for line in text.lines() {
+        let mut words = line.split_whitespace();
+        if words.next() != Some("#define") {
+            continue;
+        }
+        let (Some(name), Some(value)) = (words.next(), words.next()) else {
+            continue;
+        };
+        let number = match value.strip_prefix("0x") {
+            Some(digits) => u32::from_str_radix(digits, 16).ok(),
+            None => value.parse().ok().or_else(|| numbers.get(value).copied()),
+        };
+        if let Some(number) = number {
+            numbers.insert(name.to_string(), number);
+        }
+    }
+    numbers
+}
+
+fn listed(types: &DynamicTypes) -> Vec<DynamicType> {
+    let mut all = vec![
+        types.word,
+        types.relative,
+        types.glob_dat,
+        types.jump_slot,
+        types.copy,
+        types.irelative,
+        types.module_number,
+        types.module_offset,
+        types.thread_offset,
+    ];
+    all.extend(types.descriptor);
+    all
+}
+
+#[test]
+fn types_have_the_codes_of_elf_h() {
+    // glibc has these since 2.38 and 2.39
+    let newer = [("R_LARCH_TLS_DESC64", 14), ("R_RISCV_TLSDESC", 12)];
+    let constants = constants();
+    let mut compared = 0;
+    for architecture in ALL {
+        let target = Target::of(architecture);
+        for kind in listed(&target.dynamic) {
+            let known = constants.get(kind.name).copied().or_else(|| {
+                newer.iter().find(|(name, _)| *name == kind.name).map(|(_, code)| *code)
+            });
+            assert_eq!(Some(kind.code), known, "{}", kind.name);
+            assert_eq!(target.dynamic_name(kind.code), Some(kind.name));
+            compared += 1;
+        }
+        assert_eq!(target.dynamic_name(0), None);
+    }
+    assert_eq!(compared, 49);
+}
+
+#[test]
+fn flags_are_those_of_elf_h() {
+    let constants = constants();
+    let of = |name: &str| constants[name];
+
+    let riscv = Target::of(Architecture::RiscV);
+    let (rvc, rve, tso) = (of("EF_RISCV_RVC"), of("EF_RISCV_RVE"), of("EF_RISCV_TSO"));
+    let double = of("EF_RISCV_FLOAT_ABI_DOUBLE");
+    assert_eq!(riscv.flags.same, of("EF_RISCV_FLOAT_ABI") | rve);
+    assert_eq!(riscv.flags.joined, rvc | tso);
+    assert_eq!(riscv.join_flags(double | rvc, double | tso), Some(double | rvc | tso));
+    assert_eq!(riscv.join_flags(double, of("EF_RISCV_FLOAT_ABI_SINGLE")), None);
+    assert_eq!(riscv.join_flags(double, 0), None);
+    assert_eq!(riscv.join_flags(rve, 0), None);
+    assert_eq!(riscv.join_flags(0x20, 0), None);
+
+    let loongarch = Target::of(Architecture::LoongArch64);
+    let hard = of("EF_LARCH_ABI_DOUBLE_FLOAT") | of("EF_LARCH_OBJABI_V1");
+    assert_eq!(loongarch.join_flags(hard, hard), Some(hard));
+    let soft = of("EF_LARCH_ABI_SOFT_FLOAT") | of("EF_LARCH_OBJABI_V1");
+    assert_eq!(loongarch.join_flags(hard, soft), None);
+    assert_eq!(loongarch.join_flags(hard, of("EF_LARCH_ABI_DOUBLE_FLOAT")), None);
+
+    let ppc64 = Target::of(Architecture::Ppc64);
+    assert_eq!(of("EF_PPC64_ABI"), 3);
+    assert_eq!(ppc64.join_flags(0, 2), Some(2));
+    assert_eq!(ppc64.join_flags(2, 0), Some(2));
+    assert_eq!(ppc64.join_flags(0, 0).map(|joined| ppc64.output_flags(joined)), Some(2));
+    assert_eq!(ppc64.join_flags(2, 1), None);
+    assert_eq!(ppc64.join_flags(1, 1), None);
+
+    for architecture in [Architecture::AArch64, Architecture::X86_64] {
+        assert_eq!(Target::of(architecture).join_flags(0, 0), Some(0));
+        assert_eq!(Target::of(architecture).join_flags(0, 1), None);
+    }
+}
+
+/// `local-exec` offsets of a variable at the start of an image with these addresses, lengths and
+/// alignments, as ld.lld writes them.
+#[test]
+fn thread_pointers_are_where_linkers_have_them() {
+    // architecture, image, length, alignment, offset from the thread pointer, offset in the block
+    let cases: &[(Architecture, u64, u64, u64, i64, i64)] = &[
+        (Architecture::X86_64, 0x20_0000, 0x14, 8, -0x18, 0),
+        (Architecture::X86_64, 0x20_0000, 0x40, 64, -0x40, 0),
+        (Architecture::AArch64, 0x20_0000, 0x14, 8, 0x10, 0),
+        (Architecture::AArch64, 0x20_0000, 0x14, 64, 0x40, 0),
+        (Architecture::RiscV, 0x20_0000, 0x14, 64, 0, -0x800),
+        (Architecture::LoongArch64, 0x20_0000, 0x14, 64, 0, 0),
+        (Architecture::Ppc64, 0x20_0000, 0x14, 64, -0x7000, -0x8000),
+    ];
+    for &(architecture, image, len, alignment, thread, block) in cases {
+        let origins = Target::of(architecture).origins(image, len, alignment);
+        assert_eq!(image.wrapping_sub(origins.thread_pointer).cast_signed(), thread);
+        assert_eq!(image.wrapping_sub(origins.module_block).cast_signed(), block);
+        let none = Target::of(architecture).origins(image, len, 0);
+        assert_eq!(none, Target::of(architecture).origins(image, len, 1));
+    }
+}
+
+#[test]
+fn entries_have_the_words_of_their_class() {
+    let origins = Origins { thread_pointer: 0x3_0000, module_block: 0x2_0800 };
+    for (class, len, words) in [
+        (EntryClass::Address, 1, Some([0x2_0010, 0])),
+        (EntryClass::ThreadOffset, 1, Some([0_u64.wrapping_sub(0xfff0), 0])),
+        (EntryClass::ModuleOffset, 2, Some([1, 0_u64.wrapping_sub(0x7f0)])),
+        (EntryClass::Module, 2, Some([1, 0])),
+        (EntryClass::Descriptor, 2, None),
+    ] {
+        assert_eq!(entry_words(class), len);
+        assert_eq!(static_words(class, 0x2_0010, origins), words);
+    }
+}
+
+#[test]
+fn dynamic_relocations_are_those_of_words_that_are_not_known() {
+    for architecture in ALL {
+        let target = Target::of(architecture);
+        let types = &target.dynamic;
+        let all = |class| {
+            [(false, false), (false, true), (true, false), (true, true)].map(
+                |(is_bound, is_executable)| target.dynamic_words(class, is_bound, is_executable),
+            )
+        };
+        let imported = [Some(types.glob_dat.code), None];
+        let own = [Some(types.relative.code), None];
+        assert_eq!(all(EntryClass::Address), [imported, imported, own, own]);
+        let offset = [Some(types.thread_offset.code), None];
+        assert_eq!(all(EntryClass::ThreadOffset), [offset, offset, offset, [None, None]]);
+        let module = [Some(types.module_number.code), None];
+        let both = [Some(types.module_number.code), Some(types.module_offset.code)];
+        assert_eq!(all(EntryClass::ModuleOffset), [both, both, module, [None, None]]);
+        let unknown = [None, None];
+        assert_eq!(all(EntryClass::Module), [module, unknown, module, unknown]);
+        let descriptor = [types.descriptor.map(|kind| kind.code), None];
+        assert_eq!(all(EntryClass::Descriptor), [descriptor; 4]);
+    }
+}
+
+#[test]
+fn texts_and_fillers_are_those_of_each_architecture() {
+    // paths as `-dumpspecs` of GCC has them
+    for (architecture, flags, path) in [
+        (Architecture::AArch64, 0, Some("/lib/ld-linux-aarch64.so.1")),
+        (Architecture::RiscV, 1, Some("/lib/ld-linux-riscv64-lp64.so.1")),
+        (Architecture::RiscV, 0x13, Some("/lib/ld-linux-riscv64-lp64f.so.1")),
+        (Architecture::RiscV, 4, Some("/lib/ld-linux-riscv64-lp64d.so.1")),
+        (Architecture::RiscV, 6, None),
+        (Architecture::LoongArch64, 0x41, Some("/lib64/ld-linux-loongarch-lp64s.so.1")),
+        (Architecture::LoongArch64, 0x42, Some("/lib64/ld-linux-loongarch-lp64f.so.1")),
+        (Architecture::LoongArch64, 0x43, Some("/lib64/ld-linux-loongarch-lp64d.so.1")),
+        (Architecture::LoongArch64, 0x40, None),
+        (Architecture::Ppc64, 2, Some("/lib64/ld64.so.2")),
+        (Architecture::X86_64, 0, Some("/lib64/ld-linux-x86-64.so.2")),
+    ] {
+        assert_eq!(Target::of(architecture).interpreter(flags), path);
+    }
+    let filler = |architecture| {
+        let target = Target::of(architecture);
+        u32::from_le_bytes([4, 5, 6, 7].map(|offset| target.filler(offset)))
+    };
+    // `udf #0`, `break 0`, `trap` and four of `int3`
+    assert_eq!(filler(Architecture::AArch64), 0);
+    assert_eq!(filler(Architecture::LoongArch64), 0x002a_0000);
+    assert_eq!(filler(Architecture::Ppc64), 0x7fe0_0008);
+    assert_eq!(filler(Architecture::X86_64), 0xcccc_cccc);
+    assert_eq!(Target::of(Architecture::Ppc64).symbols[0].name, ".TOC.");
+    assert_eq!(Target::of(Architecture::RiscV).symbols[0].offset, 0x800);
+    assert_eq!(Target::of(Architecture::X86_64).symbols[0].name, "_TLS_MODULE_BASE_");
+}
+
+const PLACE: u64 = 0x40_1000;
+const WORD: u64 = 0x4_1238;
+const FAR: u64 = 0x334_5678;
+
+/// Of each stub the bytes that clang 19 and ld.lld 19 make of its instructions, and of PowerPC64's GNU
+/// as, at `PLACE`, for a word at `WORD` or a target at `FAR`.
+const STUBS: [(Architecture, StubKind, &str); 8] = [
+    (Architecture::X86_64, StubKind::Load, "ff253202c4ffcccc"),
+    (Architecture::AArch64, StubKind::Load, "10e2ff90111e41f920021fd6"),
+    (Architecture::AArch64, StubKind::Jump, "307a019010e2199100021fd6"),
+    (Architecture::RiscV, StubKind::Load, "170ec4ff033e8e2367000e00"),
+    (Architecture::LoongArch64, StubKind::Load, "0f88ff1befe1c828e001004c"),
+    (Architecture::LoongArch64, StubKind::Jump, "af17001ee079464c"),
+    (
+        Architecture::Ppc64,
+        StubKind::Load,
+        "180041f8a602087c05009f42a602887da603087cc4ff8c3d2c028ce9a603897d2004804e",
+    ),
+    (
+        Architecture::Ppc64,
+        StubKind::Jump,
+        "180041f8a602087c05009f42a602887da603087cf4028c3d6c468c39a603897d2004804e",
+    ),
+];
+
+fn bytes(hex: &str) -> Vec<u8> {
+    let digits = |at: usize| u8::from_str_radix(&hex[at..at + 2], 16).unwrap();
+    (0..hex.len()).step_by(2).map(digits).collect()
+}
+
+#[test]
+fn stubs_are_what_assemblers_make_of_their_instructions() {
+    for (architecture, kind, hex) in STUBS {
+        let target = Target::of(architecture);
+        let expected = bytes(hex);
+        let to = if kind == StubKind::Load { WORD } else { FAR };
+        let stub = target.stub(kind).unwrap();
+        assert_eq!(stub.len(), expected.len() as u64);
+
+        let mut out = vec![0x55; expected.len() + 3];
+        assert_eq!(target.write_stub(kind, PLACE, to, &mut out), Ok(()));
+        assert_eq!(out[..expected.len()], expected, "{architecture:?} {kind:?}");
+        assert_eq!(out[expected.len()..], [0x55; 3]);
+
+        let mut short = vec![0x55; expected.len() - 1];
+        assert_eq!(target.write_stub(kind, PLACE, to, &mut short), Err(StubError::TooShort));
+        assert_eq!(short, vec![0x55; expected.len() - 1]);
+    }
+    for architecture in [Architecture::X86_64, Architecture::RiscV] {
+        let written = Target::of(architecture).write_stub(StubKind::Jump, PLACE, FAR, &mut [0; 64]);
+        assert_eq!(written, Err(StubError::Missing));
+    }
+}
+
+/// The last address that a stub reaches above its own, and the first beyond, and the same below.
+#[test]
+fn stubs_reach_as_far_as_their_fields() {
+    use Architecture::{AArch64, LoongArch64, Ppc64, RiscV, X86_64};
+    let place = 1 << 40;
+    for (architecture, kind, least, last, unit) in [
+        // from the next instruction, 6 bytes on
+        (X86_64, StubKind::Load, -(1 << 31) + 6, (1 << 31) - 1 + 6, 1),
+        // pages within 4 GiB
+        (AArch64, StubKind::Load, -(1i64 << 32), (1 << 32) - 8, 8),
+        (AArch64, StubKind::Jump, -(1i64 << 32), (1 << 32) - 1, 1),
+        (RiscV, StubKind::Load, -(1 << 31) - 0x800, (1 << 31) - 0x801, 1),
+        (LoongArch64, StubKind::Load, -(1 << 31) - 0x800, (1 << 31) - 0x801, 1),
+        (LoongArch64, StubKind::Jump, -(1i64 << 37) - 0x2_0000, (1i64 << 37) - 0x2_0004, 4),
+        // from the fourth instruction
+        (Ppc64, StubKind::Load, -(1 << 31) - 0x8000 + 12, (1 << 31) - 0x8004 + 12, 4),
+        (Ppc64, StubKind::Jump, -(1 << 31) - 0x8000 + 12, (1 << 31) - 0x8001 + 12, 1),
+    ] {
+        let target = Target::of(architecture);
+        let mut out = [0; 64];
+        let mut write = |distance: i64| {
+            target.write_stub(kind, place, place.wrapping_add_signed(distance), &mut out)
+        };
+        assert_eq!(write(least), Ok(()), "{architecture:?} {kind:?}");
+        assert_eq!(write(last), Ok(()), "{architecture:?} {kind:?}");
+        let beyond = Err(StubError::Field(RelocateError::OutOfReach));
+        assert_eq!(write(least - unit), beyond, "{architecture:?} {kind:?}");
+        assert_eq!(write(last + unit), beyond, "{architecture:?} {kind:?}");
+        if unit > 1 {
+            let misaligned = Err(StubError::Field(RelocateError::Misaligned));
+            assert_eq!(write(0x101), misaligned, "{architecture:?} {kind:?}");
+        }
+    }
+}
