@@ -8,4 +8,5 @@ pub mod facts;
 pub mod groups;
 mod relocations;
 pub mod sections;
+mod sequences;
 pub mod surveys;

@@ -372,6 +372,60 @@ fn descriptors_may_be_apart() {
     expect_unchanged(LoongArch64, &section(0x4c00_0081));
 }
 
+/// adrp x0, :tlsdesc:x; ldr x1, [x0, :tlsdesc_lo12:x]; add x0, x0, :tlsdesc_lo12:x; blr x1
+fn descriptor(symbol: u32) -> Section {
+    Section {
+        bytes: words(&[0x9000_0000, 0xf940_0001, 0x9100_0000, 0xd63f_0020]),
+        relocations: vec![
+            rela(0, 562, symbol, 0),
+            rela(4, 563, symbol, 0),
+            rela(8, 564, symbol, 0),
+            rela(12, 569, symbol, 0),
+        ],
+    }
+}
+
+#[test]
+fn descriptors_of_aarch64_are_whole() {
+    const NOP: u32 = 0xd503_201f;
+    // movz x0, #:tprel_g1:x, lsl #16; movk x0, #:tprel_g0_nc:x
+    let local = Section {
+        bytes: words(&[0xd2a0_0000, 0xf280_0000, NOP, NOP]),
+        relocations: vec![
+            rela(0, 545, 1, 0),
+            rela(4, 548, 1, 0),
+            rela(8, 0, 1, 0),
+            rela(12, 0, 1, 0),
+        ],
+    };
+    expect(AArch64, &descriptor(1), &local);
+    // adrp x0, :gottprel:x; ldr x0, [x0, :gottprel_lo12:x]
+    let imported = Section {
+        bytes: words(&[0x9000_0000, 0xf940_0000, NOP, NOP]),
+        relocations: vec![
+            rela(0, 541, 4, 0),
+            rela(4, 542, 4, 0),
+            rela(8, 0, 4, 0),
+            rela(12, 0, 4, 0),
+        ],
+    };
+    expect(AArch64, &descriptor(4), &imported);
+    // one of another symbol, of another addend, at another place, or none at all
+    for n in 0..4 {
+        let damaged = |change: &dyn Fn(&mut Rela)| {
+            let mut section = descriptor(1);
+            change(&mut section.relocations[n]);
+            section
+        };
+        expect_unchanged(AArch64, &damaged(&|it| it.symbol = 4));
+        expect_unchanged(AArch64, &damaged(&|it| it.addend = 8));
+        expect_unchanged(AArch64, &damaged(&|it| it.code = 0));
+        let mut section = descriptor(1);
+        section.relocations.remove(n);
+        expect_unchanged(AArch64, &section);
+    }
+}
+
 #[test]
 fn calls_of_undefined_weak_functions_are_erased() {
     let mut symbols = symbols();

@@ -3,6 +3,7 @@ use Rattle.std.specs.Prelude.{◌≡◌, ℕ, ◌+◌, ◌⊎◌, Bool, true, fa
 use Rattle.std.specs.Prelude.{slice_get}
 use Rattle.linker_elf.specs.declared.elf.choice.Choice.{Choice}
 use Rattle.linker_rewriting.specs.Facts.{facts_of}
+use Rattle.linker_rewriting.specs.Sequences.{IsWhole}
 use Rattle.linker_rewriting.specs.declared.facts.OutputFacts.{OutputFacts}
 use Rattle.linker_rewriting.specs.declared.facts.SymbolFacts.{SymbolFacts}
 use Rattle.linker_section.specs.Relocations.{relocation_at}
@@ -37,16 +38,18 @@ abbrev pub IsChosen : Architecture → OutputFacts → List ℕ → Rela → Sym
 IsChosen architecture output section r symbol chosen =
     IsArchitectureChoice architecture r.code section r.offset (facts_of output symbol r.addend) chosen
 
--- It changes something, and what it takes along is there.
+-- It changes something, what it takes along is there, and so is the sequence that the relocation is of.
 abbrev pub IsCandidateBy : Architecture → OutputFacts → List SymbolFacts → List ℕ → List ℕ → ℕ
     → Rela → SymbolFacts → Option (Choice Relaxation ℕ) → Type 0
 IsCandidateBy architecture output symbols bytes section n r symbol (Some chosen) =
     IsChosen architecture output section r symbol chosen × (¬ IsUnchanged r.code chosen)
     × IsTaken architecture symbols bytes n r.offset (relaxation_skipped chosen.kind) true
+    × IsWhole architecture bytes n r true
 IsCandidateBy architecture output symbols bytes section n r symbol None =
     (chosen : Choice Relaxation ℕ) × IsChosen architecture output section r symbol chosen
     × (IsUnchanged r.code chosen
-    ⊎ IsTaken architecture symbols bytes n r.offset (relaxation_skipped chosen.kind) false)
+    ⊎ (IsTaken architecture symbols bytes n r.offset (relaxation_skipped chosen.kind) false
+    ⊎ IsWhole architecture bytes n r false))
 
 abbrev pub IsCandidateOf : Architecture → OutputFacts → List SymbolFacts → List ℕ → List ℕ → ℕ
     → Rela → Option SymbolFacts → Option (Choice Relaxation ℕ) → Type 0

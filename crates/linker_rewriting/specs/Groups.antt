@@ -35,6 +35,10 @@ aarch64_scope aarch64.R_AARCH64_CALL26 = Alone
 aarch64_scope aarch64.R_AARCH64_JUMP26 = Alone
 aarch64_scope aarch64.R_AARCH64_TLSIE_ADR_GOTTPREL_PAGE21 = Grouped InitialExec
 aarch64_scope aarch64.R_AARCH64_TLSIE_LD64_GOTTPREL_LO12_NC = Grouped InitialExec
+aarch64_scope aarch64.R_AARCH64_TLSDESC_ADR_PAGE21 = Grouped Descriptor
+aarch64_scope aarch64.R_AARCH64_TLSDESC_LD64_LO12 = Grouped Descriptor
+aarch64_scope aarch64.R_AARCH64_TLSDESC_ADD_LO12 = Grouped Descriptor
+aarch64_scope aarch64.R_AARCH64_TLSDESC_CALL = Grouped Descriptor
 aarch64_scope name = Unlisted
 
 abbrev pub loongarch_scope : LoongArch64Relocation → Scope

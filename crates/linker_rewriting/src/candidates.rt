@@ -1,6 +1,6 @@
 //! Whether the instruction of a relocation can be rewritten, if each other one of its group can.
 
-ghost use Rattle.std.specs.Prelude.{◌≡◌, ◌<◌, slice_get, IfSome};
+ghost use Rattle.std.specs.Prelude.{◌≡◌, ◌+◌, ◌<◌, ◌≤◌, slice_get, IfSome};
 ghost use Rattle.linker_base.specs.Rewrite.{CanRewrite};
 ghost use Rattle.linker_utils.specs.Architectures.{relaxation_rewrite, relaxation_skipped};
 ghost use Rattle.linker_section.specs.Relocations.{relocation_at};
@@ -8,6 +8,7 @@ ghost use Rattle.linker_rewriting.specs.Candidates.{IsCallIn, IsTaken, IsCandida
 ghost use Rattle.linker_rewriting.specs.Candidates.{calls_tls_get_addr};
 
 use crate::facts::{OutputFacts, SymbolFacts, facts_of};
+use crate::sequences::is_whole;
 use linker_section::relocations::{Rela, relocation_at};
 use linker_utils::architecture::Relaxation;
 use linker_utils::elf::{Architecture, Choice};
@@ -67,7 +68,8 @@ fn finds_next(
 
 /// The rewrite of the instruction of the relocation with an index, if each other one of its group is
 /// rewritten, and the code of the relocation after it. None where there is none: `choose` has no
-/// rewrite for it, or the one that it has takes a relocation along that isn't the next one.
+/// rewrite for it, the one that it has takes a relocation along that isn't the next one, or it is of a
+/// sequence whose relocations aren't all next to it.
 pub(crate) fn candidate(
     architecture: Architecture,
     output: &OutputFacts,
@@ -77,7 +79,7 @@ pub(crate) fn candidate(
     index: usize,
     relocation: &Rela,
 ) -> Option<Choice<Relaxation, u32>>
-    requires { index < usize.MAX }
+    requires { index + 3 ≤ usize.MAX }
     ensures candidate { IsCandidate architecture output.now symbols.now relocations.now section.now
         index relocation.now result }
     ensures rewritable { IfSome result (λ chosen. CanRewrite (relaxation_rewrite chosen.kind)
@@ -99,6 +101,9 @@ pub(crate) fn candidate(
         relocation.offset,
         chosen.kind,
     ) {
+        return None;
+    }
+    if !is_whole(architecture, relocations, index, relocation) {
         return None;
     }
     Some(chosen)

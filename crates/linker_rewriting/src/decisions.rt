@@ -75,7 +75,7 @@ fn decide(
     index: usize,
     relocation: &Rela,
 ) -> Option<Decision>
-    requires { index < usize.MAX }
+    requires { index + 3 ≤ usize.MAX }
     ensures decision { IsDecision architecture output.now symbols.now kept.now relocations.now
         section.now index relocation.now result }
     ensures made { IfSome result (λ d. CanBeMade d section.now relocation.now.offset) }
@@ -129,7 +129,7 @@ fn decide_after(
     index: usize,
     relocation: &Rela,
 ) -> Option<Decision>
-    requires { index < usize.MAX }
+    requires { index + 3 ≤ usize.MAX }
     ensures decision { IsDecisionAfter architecture output.now symbols.now kept.now relocations.now
         section.now index relocation.now is_taken result }
     ensures made { IfSome result (λ d. CanBeMade d section.now relocation.now.offset) }

@@ -67,7 +67,8 @@ fn make_all(decisions: &[Decision], relocations: &mut [u8], section: &mut [u8])
 /// that indexes stay. A relocation of a symbol that isn't in the table isn't rewritten.
 ///
 /// What became of each relocation is in `decisions`, which needs room for each of them. Nothing is
-/// deleted. What this call doesn't rewrite, a linker may rewrite by `choose`.
+/// deleted. Since no address is known, a value after a rewrite may turn out to be out of reach. What
+/// this call doesn't rewrite, a linker may rewrite by `choose`.
 ///
 /// # Errors
 ///

@@ -2,6 +2,7 @@
 //! Whether the instruction of a relocation can be rewritten, if each other one of its group can.
 
 use crate::linker_rewriting::facts::{OutputFacts, SymbolFacts, facts_of};
+use crate::linker_rewriting::sequences::is_whole;
 use crate::linker_section::relocations::{Rela, relocation_at};
 use crate::architecture::Relaxation;
 use crate::elf::{Architecture, Choice};
@@ -53,7 +54,8 @@ fn finds_next(
 
 /// The rewrite of the instruction of the relocation with an index, if each other one of its group is
 /// rewritten, and the code of the relocation after it. None where there is none: `choose` has no
-/// rewrite for it, or the one that it has takes a relocation along that isn't the next one.
+/// rewrite for it, the one that it has takes a relocation along that isn't the next one, or it is of a
+/// sequence whose relocations aren't all next to it.
 pub(crate) fn candidate(
     architecture: Architecture,
     output: &OutputFacts,
@@ -79,6 +81,9 @@ pub(crate) fn candidate(
         relocation.offset,
         chosen.kind,
     ) {
+        return None;
+    }
+    if !is_whole(architecture, relocations, index, relocation) {
         return None;
     }
     Some(chosen)

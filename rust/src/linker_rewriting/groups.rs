@@ -105,6 +105,10 @@ fn aarch64_scope(name: AArch64Relocation) -> Scope {
         | AArch64Relocation::R_AARCH64_TLSIE_LD64_GOTTPREL_LO12_NC => {
             Scope::Grouped(Group::InitialExec)
         }
+        AArch64Relocation::R_AARCH64_TLSDESC_ADR_PAGE21
+        | AArch64Relocation::R_AARCH64_TLSDESC_LD64_LO12
+        | AArch64Relocation::R_AARCH64_TLSDESC_ADD_LO12
+        | AArch64Relocation::R_AARCH64_TLSDESC_CALL => Scope::Grouped(Group::Descriptor),
         _ => Scope::Unlisted,
     }
 }
