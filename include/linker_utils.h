@@ -1620,9 +1620,8 @@ static inline uint32_t linker_utils_loongarch_items(
  * LINKER_UTILS_ITEMS_OVERLAP on say what is required of them. The run's granularity is the greatest of
  * its short shapes, and 1 where there are none.
  *
- * LINKER_UTILS_OUT_OF_MEMORY where a copy of the items can't be allocated. Else the first fault of
- * the first faulty item, in the order of these statuses and with LINKER_UTILS_MAY_BE_MISALIGNED as
- * the last, and `faulty` is this item. Those from LINKER_UTILS_UNEVEN_SHAPE on are returned only
+ * The status is the first fault of the first faulty item, in the order of these statuses and with
+ * LINKER_UTILS_MAY_BE_MISALIGNED as the last, and `faulty` is this item. Those from LINKER_UTILS_UNEVEN_SHAPE on are returned only
  * where no item has one of those before. O(n log n) for n items.
  *
  * LINKER_UTILS_MAY_BE_MISALIGNED: an alignment without a limit needs as many nops as it is itself
@@ -1712,9 +1711,8 @@ static inline uint32_t linker_utils_has_its_instructions(uint16_t machine, const
  * LINKER_UTILS_UNKNOWN_ARCHITECTURE for each machine except for LINKER_UTILS_RISCV and
  * LINKER_UTILS_LOONGARCH64.
  * LINKER_UTILS_ENDS_TOO_HIGH where `base` and `section_len` add up to 2^64 or more.
- * LINKER_UTILS_DIFFERENT_LENGTHS where `packed_len` is not `linker_utils_packed_run_len`.
- * LINKER_UTILS_OUT_OF_MEMORY where a copy of the items can't be allocated. Else `faulty` is the
- * first item that can't be written, and the status the first that applies to it of
+ * LINKER_UTILS_DIFFERENT_LENGTHS where `packed_len` is not `linker_utils_packed_run_len`. Else
+ * `faulty` is the first item that can't be written, and the status the first that applies to it of
  * LINKER_UTILS_ITEMS_OVERLAP, LINKER_UTILS_ITEM_OUT_OF_SECTION, LINKER_UTILS_DELETED_OUTSIDE,
  * LINKER_UTILS_NOT_ITS_FIRST_BYTES, LINKER_UTILS_NOT_ITS_INSTRUCTIONS, LINKER_UTILS_NO_SHAPE and
  * LINKER_UTILS_TARGET_OUT_OF_REACH, of which only the first three can be of a site with one shape.

@@ -7,4 +7,5 @@ pub mod loongarch64;
 pub mod packing;
 pub mod relaxation;
 pub mod riscv64;
+mod search;
 pub mod shapes;

@@ -1166,23 +1166,15 @@ static void call_relax(void) {
     struct buffer *freed = place(WRITTEN, lens[3], sizeof(uint64_t));
     size_t *faulty = any_faulty();
     uint32_t can = CALL(items_relaxable, ITEMS(items), start, faulty);
-    expect(was_refused == (can == LINKER_UTILS_OUT_OF_MEMORY), "tells nothing of memory");
-    expect_status(can, 0 OR(OUT_OF_MEMORY) FAULTS);
-    finish_faulty(faulty, can != LINKER_UTILS_OK && can != LINKER_UTILS_OUT_OF_MEMORY, count);
-    allocations = 0;
+    expect_status(can, 0 FAULTS);
+    finish_faulty(faulty, can != LINKER_UTILS_OK, count);
+    expect(allocations == 0, "allocates");
     finish_buffers(false);
-    bool was_told = !was_refused;
     uint32_t status = CALL(relax, ITEMS(items), start, shapes->given, lens[0], kept->given, lens[1],
                            places->given, lens[2], freed->given, lens[3], faulty);
-    expect(have_lens || !was_refused, "allocates for another length");
-    uint32_t wanted = !have_lens     ? LINKER_UTILS_DIFFERENT_LENGTHS
-                      : was_refused  ? LINKER_UTILS_OUT_OF_MEMORY
-                      : was_told     ? can
-                                     : status;
+    uint32_t wanted = have_lens ? can : LINKER_UTILS_DIFFERENT_LENGTHS;
     expect(status == wanted, "`items_relaxable` and `relax` differ");
-    finish_faulty(faulty,
-                  status != LINKER_UTILS_OK && status != LINKER_UTILS_OUT_OF_MEMORY &&
-                      status != LINKER_UTILS_DIFFERENT_LENGTHS,
+    finish_faulty(faulty, status != LINKER_UTILS_OK && status != LINKER_UTILS_DIFFERENT_LENGTHS,
                   count);
     const uint8_t *shape = filled(shapes);
     const uint64_t *stay = filled(kept), *before = filled(freed);
@@ -1193,9 +1185,7 @@ static void call_relax(void) {
         sum += item[i].len - stay[i];
     }
     expect(status != LINKER_UTILS_OK || before[count] == sum, "loses another sum");
-    expect(live == 0, "keeps memory");
-    allocations = 0;
-    finish_with(status, 0 OR(DIFFERENT_LENGTHS) OR(OUT_OF_MEMORY) FAULTS);
+    finish_with(status, 0 OR(DIFFERENT_LENGTHS) FAULTS);
 }
 
 static void call_run_deltas(void) {
@@ -1342,19 +1332,15 @@ static void call_pack_run(void) {
     expect((status == LINKER_UTILS_ENDS_TOO_HIGH) == (is_packed && is_high), "another end");
     expect((status == LINKER_UTILS_DIFFERENT_LENGTHS) == (is_packed && !is_high && len != wanted),
            "another length");
-    expect(was_refused == (status == LINKER_UTILS_OUT_OF_MEMORY), "tells nothing of memory");
     finish_faulty(faulty,
                   status != LINKER_UTILS_OK && status != LINKER_UTILS_UNKNOWN_ARCHITECTURE &&
                       status != LINKER_UTILS_ENDS_TOO_HIGH &&
-                      status != LINKER_UTILS_DIFFERENT_LENGTHS &&
-                      status != LINKER_UTILS_OUT_OF_MEMORY,
+                      status != LINKER_UTILS_DIFFERENT_LENGTHS,
                   count + (status == LINKER_UTILS_DELETED_OUTSIDE));
-    expect(live == 0, "keeps memory");
-    allocations = 0;
     finish_with(status, 0 OR(UNKNOWN_ARCHITECTURE) OR(ENDS_TOO_HIGH) OR(DIFFERENT_LENGTHS)
-                            OR(OUT_OF_MEMORY) OR(ITEMS_OVERLAP) OR(ITEM_OUT_OF_SECTION)
-                            OR(DELETED_OUTSIDE) OR(NOT_ITS_FIRST_BYTES) OR(NOT_ITS_INSTRUCTIONS)
-                            OR(NO_SHAPE) OR(TARGET_OUT_OF_REACH));
+                            OR(ITEMS_OVERLAP) OR(ITEM_OUT_OF_SECTION) OR(DELETED_OUTSIDE)
+                            OR(NOT_ITS_FIRST_BYTES) OR(NOT_ITS_INSTRUCTIONS) OR(NO_SHAPE)
+                            OR(TARGET_OUT_OF_REACH));
 }
 
 /* Known bits, most of them as the library returns them: of a value from bit 0, 2 or 12 up. */

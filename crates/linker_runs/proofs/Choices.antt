@@ -1,7 +1,7 @@
 -- The rounds of a run that can be relaxed are nowhere longer than a choice in reach.
 use Rattle.std.proofs.Common.{◌≡◌, ◌≢◌, ◌^◌, ℕ, zero, suc, ◌+◌, ◌-◌, ◌<◌, ◌≤◌, ◌∙◌, true, false, List, length, get_or, refl, ap, sym, ⊎_elim, add-one, arith}
-use Rattle.std.specs.Prelude.{nat_le}
-use Rattle.std.proofs.lemmas.Bool.{cases_lt, both_ways}
+use Rattle.std.specs.Prelude.{nat_le, ◌⊎◌}
+use Rattle.std.proofs.lemmas.Bool.{cases_lt, cases_order, both_ways}
 use Rattle.std.proofs.lemmas.Bool.Decides.{nat_tests}
 use Rattle.std.proofs.lemmas.List.{get_or_default}
 use Rattle.linker_runs.specs.declared.relaxation.Item.{Item}
@@ -74,6 +74,21 @@ place_is start items order offset =
     fails k d h within =
         let e = ap end_of (get_or_default items k d no_item within) in
         let g : offset < end_of (get_or items k d) = omega arith in grind (arith, nat_tests)
+
+-- an index behind an item that ends at or below an offset, at which one ends above it, is the place
+pub place_unique : (start : ℕ) (items : List Item) → AreInOrder start items → (offset p : ℕ) → p ≤ length items → (0 < p → end_of (item_at items (p - 1)) ≤ offset) → (p < length items → offset < end_of (item_at items p))
+    → p ≡ place_of items offset
+place_unique start items order offset p within below above =
+    let place = place_is start items order offset in
+    let q = place_of items offset in
+    let inside = place.within in
+    ⊎_elim
+    (λ (same : p ≡ q). same)
+    (λ (apart : (p < q) ⊎ (q < p)). ⊎_elim
+    (λ (low : p < q). let a = place.below p low in let b = above (omega arith) in absurd (omega arith))
+    (λ (high : q < p). let a = place.others (p - 1) (omega arith) (omega arith) in let b = below (omega arith) in absurd (omega arith))
+    apart)
+    (cases_order p q)
 
 -- where alignments keep all, items free multiples of the granularity too
 cautious_item : (u start : ℕ) (item : Item) (k : ℕ) → ItemSuits u start item → IsSound item → ItemFrees u item (freed_cautiously item k)
@@ -171,6 +186,16 @@ both_less start items choice other are bound j within =
     let c = kept_less (run_granularity items) start (item_at items j) (choice j) (other j) (item_suits start items are j within) (bound j within) in
     omega arith
 
+-- A site that is out of reach is so with the same shape in each choice that is nowhere shorter.
+pub still_out : (start : ℕ) (items : List Item) (choice other : ℕ → ℕ) → AreItems start items → ((i : ℕ) → i < length items → choice i ≤ other i)
+    → (i : ℕ) → i < length items → choice i ≡ other i → is_in_reach_cautiously items choice i ≡ false → is_in_reach_cautiously items other i ≡ true → ⊥
+still_out start items choice other are bound i within same out reached =
+    let p = place_of items (target_of (item_at items i)) in
+    let there = all_nearer start items (cautious_before items other) (cautious_before items choice) (choice i) are (cautious_frees start items other are) (cautious_frees start items choice are)
+    (both_less start items choice other are bound) (place_is start items are.in_order) i within
+    (ap (λ k. item_reaches (item_at items i) k (cautious_before items other i) (cautious_before items other p)) same ∙ reached) in
+    both_ways (is_in_reach_cautiously items choice i) out there
+
 -- A site that is out of reach has a longer shape in each choice in reach.
 pub forced_next : (start : ℕ) (items : List Item) (choice other : ℕ → ℕ) → AreItems start items → ((i : ℕ) → i < length items → choice i ≤ other i) → IsInReachCautiously items other
     → (i : ℕ) → i < length items → is_in_reach_cautiously items choice i ≡ false → choice i + 1 ≤ other i
@@ -178,13 +203,7 @@ forced_next start items choice other are bound reached i within out =
     let up = bound i within in
     ⊎_elim
     (λ (less : choice i < other i). omega arith)
-    (λ (more : other i ≤ choice i).
-    let same : choice i ≡ other i = omega arith in
-    let p = place_of items (target_of (item_at items i)) in
-    let there = all_nearer start items (cautious_before items other) (cautious_before items choice) (choice i) are (cautious_frees start items other are) (cautious_frees start items choice are)
-    (both_less start items choice other are bound) (place_is start items are.in_order) i within
-    (ap (λ k. item_reaches (item_at items i) k (cautious_before items other i) (cautious_before items other p)) same ∙ reached i within) in
-    absurd (both_ways (is_in_reach_cautiously items choice i) out there))
+    (λ (more : other i ≤ choice i). absurd (still_out start items choice other are bound i within (omega arith) out (reached i within)))
     (cases_lt (choice i) (other i))
 
 -- what is in reach where alignments keep all is in reach with what it frees

@@ -6,7 +6,10 @@ ghost use Rattle.linker_runs.specs.declared.items.Relocation.{Relocation as relo
 ghost use Rattle.linker_runs.specs.declared.relaxation.Item.{Item as items};
 ghost use Rattle.linker_runs.specs.Relocations.{relocation_at, IsMarked};
 
+mod list;
+
 use crate::relaxation::Item;
+pub(crate) use list::ItemList;
 use std::alloc::{AllocError, AllocFailed};
 
 /// A relocation of a section.

@@ -1,6 +1,6 @@
 //! A section of a relaxed run, packed.
 
-ghost use Rattle.std.specs.Prelude.{◌≡◌, ◌+◌, ◌-◌, ◌≤◌, ◌<◌, ◌^◌, ◌++◌, ◌↔◌, ◌*◌, ◌%◌, ℕ, length};
+ghost use Rattle.std.specs.Prelude.{◌≡◌, ◌+◌, ◌-◌, ◌≤◌, ◌<◌, ◌^◌, ◌++◌, ◌↔◌, ◌*◌, ◌%◌, ℕ, length, map};
 ghost use Rattle.std.specs.Prelude.{take, drop, true, false};
 ghost use Rattle.std.specs.Prelude.{List, IsTrue, IfOk, IfErr, OnOk, OnErr, IfSome, IfNone};
 ghost use Rattle.linker_base.specs.Deletions.{rank};
@@ -24,8 +24,9 @@ mod copying;
 mod loongarch64;
 mod riscv64;
 
+use crate::items::{AsItem, ItemList};
 use crate::packing::code::Code;
-use crate::packing::copying::{begun_at, copy_kept, to_output};
+use crate::packing::copying::{begun_about, begun_at, copy_kept, to_output};
 use crate::relaxation::{Item, Site};
 use linker_base::relaxation::{DeltaSlice, RelaxDelta};
 
@@ -81,15 +82,15 @@ pub(crate) enum Piece {
 }
 
 /// Whether the item at an index begins at or above the end of the one before it.
-fn is_apart(items: &[Item], index: usize) -> bool
+fn is_apart<I: AsItem>(items: &ItemList<'_, I>, index: usize) -> bool
     requires { index < length items.now }
     ensures { IsTrue result ↔ IsApart items.now index }
 {
     if index == 0 {
         return true;
     }
-    let before = &items[index - 1];
-    let offset = items[index].offset();
+    let before = items.at(index - 1);
+    let offset = items.at(index).offset();
     before.offset() <= offset && before.len() <= offset - before.offset()
 }
 
@@ -107,7 +108,7 @@ fn is_inside(section: &[u8], base: u64, item: &Item) -> bool
 }
 
 /// Where the bytes before the item at an index, which are of no item, begin.
-fn gap_start(base: u64, items: &[Item], index: usize) -> u64
+fn gap_start<I: AsItem>(base: u64, items: &ItemList<'_, I>, index: usize) -> u64
     requires index { index ≤ length items.now }
     requires small { (i : ℕ) → i < index → end_of (item_at items.now i) < 2 ^ 64 }
     ensures { (bytes : List ℕ) (deletions : List (ℕ × ℕ)) (start : ℕ)
@@ -116,7 +117,7 @@ fn gap_start(base: u64, items: &[Item], index: usize) -> u64
     if index == 0 {
         return base;
     }
-    let before = &items[index - 1];
+    let before = items.at(index - 1);
     before.offset() + before.len()
 }
 
@@ -161,7 +162,8 @@ fn code_of_site(
         return Err(ItemError::NotItsInstructions);
     }
     let place = start.wrapping_add(to_output(deltas, near, site.offset));
-    let target = start.wrapping_add(to_output(deltas, near, site.target));
+    let there = begun_about(deltas, near, site.offset, site.target);
+    let target = start.wrapping_add(to_output(deltas, there, site.target));
     match machine {
         Machine::RiscV64 => riscv64::code_of(section, site.offset - base, kept, place, target),
         Machine::LoongArch64 => {
@@ -289,11 +291,11 @@ fn piece_of(
 }
 
 /// Whether each item can be written; the error is that of the first that can't.
-fn test_items(
+fn test_items<I: AsItem>(
     machine: Machine,
     section: &[u8],
     base: u64,
-    items: &[Item],
+    items: &ItemList<'_, I>,
     deltas: &[RelaxDelta],
     start: u64,
 ) -> Result<(), RejectedItem>
@@ -316,8 +318,8 @@ fn test_items(
                 error: ItemError::Overlaps,
             });
         }
-        let item = &items[index];
-        if !is_inside(section, base, item) {
+        let item = items.at(index);
+        if !is_inside(section, base, &item) {
             return Err(RejectedItem {
                 index,
                 error: ItemError::OutOfSection,
@@ -330,7 +332,7 @@ fn test_items(
             });
         }
         near = begun_at(deltas, near, item.offset());
-        if let Err(error) = piece_of(machine, section, base, deltas, near, start, item) {
+        if let Err(error) = piece_of(machine, section, base, deltas, near, start, &item) {
             return Err(RejectedItem { index, error });
         }
     }
@@ -409,11 +411,11 @@ fn put_piece(machine: Machine, packed: &mut [u8], at: u64, piece: Piece)
 }
 
 /// Puts what is written of each item, where it can be written.
-fn put_items(
+fn put_items<I: AsItem>(
     machine: Machine,
     section: &[u8],
     base: u64,
-    items: &[Item],
+    items: &ItemList<'_, I>,
     deltas: &[RelaxDelta],
     start: u64,
     packed: &mut [u8],
@@ -433,12 +435,12 @@ fn put_items(
     let mut near = begun_at(deltas, 0, base);
     let before = to_output(deltas, near, base);
     for index in 0..items.len() {
-        let item = &items[index];
-        if !is_inside(section, base, item) {
+        let item = items.at(index);
+        if !is_inside(section, base, &item) {
             return;
         }
         near = begun_at(deltas, near, item.offset());
-        match piece_of(machine, section, base, deltas, near, start, item) {
+        match piece_of(machine, section, base, deltas, near, start, &item) {
             Err(_error) => return,
             Ok(piece) => {
                 let at = to_output(deltas, near, item.offset()).saturating_sub(before);
@@ -512,11 +514,11 @@ pub fn has_its_instructions(machine: Machine, section: &[u8], base: u64, item: &
 /// that are of no item, and nothing is written then.
 ///
 /// It doesn't allocate. It takes O(section + deltas + items log deltas).
-pub fn pack_run(
+pub fn pack_run<I: AsItem>(
     machine: Machine,
     section: &[u8],
     base: u64,
-    items: &[Item],
+    items: &[I],
     deltas: &[RelaxDelta],
     start: u64,
     out: &mut [u8],
@@ -528,16 +530,17 @@ pub fn pack_run(
         (base + length section.now) }
     ensures packed { AreValidDeltas deltas.now
         → OnOk result
-        (IsPackedRun machine (section_of section.now base (deletions_of deltas.now) start) items.now
-        out.new) }
+        (IsPackedRun machine (section_of section.now base (deletions_of deltas.now) start)
+        (map I.item items.now) out.new) }
     ensures rejected { AreValidDeltas deltas.now
         → IfErr result
         (IsFirstRejected machine (section_of section.now base (deletions_of deltas.now) start)
-        items.now) }
+        (map I.item items.now)) }
     ensures unchanged { OnErr result (out.new ≡ out.old) }
 {
-    test_items(machine, section, base, items, deltas, start)?;
+    let list = ItemList::new(items);
+    test_items(machine, section, base, &list, deltas, start)?;
     copy_kept(section, base, deltas, out);
-    put_items(machine, section, base, items, deltas, start, out);
+    put_items(machine, section, base, &list, deltas, start, out);
     Ok(())
 }

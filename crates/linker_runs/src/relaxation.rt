@@ -1,7 +1,7 @@
 //! Sites of instructions that can become shorter, alignments between them, and the choice of a
 //! shape for each site.
 
-ghost use Rattle.std.specs.Prelude.{◌≡◌, ◌+◌, ◌-◌, ◌<◌, ◌≤◌, ◌^◌, ℕ, length, true, false, nat_le};
+ghost use Rattle.std.specs.Prelude.{◌≡◌, ◌+◌, ◌-◌, ◌<◌, ◌≤◌, ◌^◌, ℕ, length, map, true, false, nat_le};
 ghost use Rattle.std.specs.Prelude.{IfOk};
 ghost use Rattle.linker_runs.specs.Relaxing.{offset_of, len_of, end_of, target_of, needed};
 ghost use Rattle.linker_runs.specs.Relaxing.{padding_at};
@@ -11,6 +11,7 @@ ghost use Rattle.linker_runs.specs.Relaxing.{AreInOrder};
 ghost use Rattle.linker_runs.specs.Choosing.{AreItems, IsRelaxation};
 ghost use Rattle.linker_runs.specs.Deleting.{deletions_of_run, TranslationsAreExact};
 
+use crate::items::{AsItem, ItemList};
 use linker_base::relaxation::{OutOfMemory, SectionRelaxDeltas};
 use std::alloc::Global;
 
@@ -87,6 +88,7 @@ pub enum Item {
 
 impl Item {
     /// The input offset of its first byte.
+    #[inline(always)]
     pub fn offset(&self) -> u64
         ensures { result ≡ offset_of self.now }
     {
@@ -97,6 +99,7 @@ impl Item {
     }
 
     /// How many bytes it has.
+    #[inline(always)]
     pub fn len(&self) -> u64
         ensures { result ≡ len_of self.now }
     {
@@ -109,6 +112,7 @@ impl Item {
 
 impl Shape {
     /// Whether a target is in reach, both given by output offsets.
+    #[inline(always)]
     fn reaches(&self, from: u64, to: u64) -> bool
         requires { 0 < self.now.granularity }
         ensures { result ≡ is_reached self.now from to }
@@ -126,6 +130,7 @@ impl Shape {
 
 impl Alignment {
     /// How many bytes of nops it takes from an address to the next multiple of the alignment.
+    #[inline(always)]
     fn needed_at(&self, address: u64) -> u64
         requires { 0 < self.now.alignment }
         ensures { result ≡ needed self.now.alignment address }
@@ -134,6 +139,7 @@ impl Alignment {
     }
 
     /// How many nops stay where the first one has an output address.
+    #[inline(always)]
     fn padding_at(&self, address: u64) -> u64
         requires { 0 < self.now.alignment }
         ensures kept { result ≡ padding_at self.now address }
@@ -151,13 +157,15 @@ impl Alignment {
 
 impl Item {
     /// Whether it ends at or below an offset.
-    fn ends_by(&self, offset: u64) -> bool
+    #[inline(always)]
+    pub(crate) fn ends_by(&self, offset: u64) -> bool
         ensures { result ≡ nat_le (end_of self.now) offset }
     {
         self.offset() <= offset && self.len() <= offset - self.offset()
     }
 
     /// How many of its bytes go where so many stay.
+    #[inline(always)]
     fn lost(&self, kept: u64) -> u32
         requires { kept < len_of self.now }
         ensures { result ≡ len_of self.now - kept }
@@ -169,6 +177,7 @@ impl Item {
     }
 
     /// The input offset that it has to reach: its own where it has nothing to reach.
+    #[inline(always)]
     fn target(&self) -> u64
         ensures { result ≡ target_of self.now }
     {
@@ -179,6 +188,7 @@ impl Item {
     }
 
     /// How many of its bytes stay with the shape at an index, where so many before it are freed.
+    #[inline(always)]
     fn kept_by(&self, start: u64, shape: u8, freed: u64) -> u64
         requires sound { IsSound self.now }
         requires fits { start + end_of self.now < 2 ^ 64 }
@@ -194,6 +204,7 @@ impl Item {
 
     /// Whether it reaches its target with the shape at an index, where so many bytes are freed
     /// before it, and so many before the target.
+    #[inline(always)]
     fn reaches(&self, shape: u8, here: u64, there: u64) -> bool
         requires { IsSound self.now }
         ensures reached { result ≡ item_reaches self.now shape here there }
@@ -212,6 +223,7 @@ impl Item {
 
 impl Shapes {
     /// How many bytes stay with the shape at an index.
+    #[inline(always)]
     fn kept_by(&self, shape: u8) -> u64
         requires { self.now.count ≤ 2 }
         ensures { result ≡ shape_len self.now shape }
@@ -224,6 +236,7 @@ impl Shapes {
     }
 
     /// Whether the shape at an index reaches a target, both given by output offsets.
+    #[inline(always)]
     fn reaches(&self, shape: u8, from: u64, to: u64) -> bool
         requires count { self.now.count ≤ 2 }
         requires units { (k : ℕ) → k < self.now.count → 0 < (short_shape self.now k).granularity }
@@ -253,8 +266,26 @@ impl Shapes {
 /// It doesn't allocate. A round is two passes over the items and takes O(n) for n items, and so does
 /// a sweep, of which there are only after 64 rounds: one in each direction finds all sites that
 /// become long one because of another in one direction. The places of targets take O(n log n) once.
-pub fn relax_into(
-    items: &[Item],
+pub fn relax_into<I: AsItem>(
+    items: &[I],
+    start: u64,
+    shapes: &mut [u8],
+    kept: &mut [u64],
+    places: &mut [usize],
+    freed: &mut [u64],
+)
+    requires items { AreItems start (map I.item items.now) }
+    requires shapes { length shapes.old ≡ length items.now }
+    requires kept { length kept.old ≡ length items.now }
+    requires places { length places.old ≡ length items.now }
+    requires freed { length freed.old ≡ length items.now + 1 }
+    ensures { IsRelaxation start (map I.item items.now) shapes.new kept.new freed.new }
+{
+    relax_items(&ItemList::new(items), start, shapes, kept, places, freed);
+}
+
+fn relax_items<I: AsItem>(
+    items: &ItemList<'_, I>,
     start: u64,
     shapes: &mut [u8],
     kept: &mut [u64],
@@ -291,9 +322,23 @@ pub struct Plan {
 
 /// What a run loses, where so many bytes of each item stay from its first one on: a deletion for
 /// each item that loses some. It allocates two times, and once more for more than 1,024 deletions.
-pub fn deletions(
+pub fn deletions<I: AsItem>(
     alloc: Global,
-    items: &[Item],
+    items: &[I],
+    start: u64,
+    kept: &[u64],
+) -> Result<SectionRelaxDeltas, OutOfMemory>
+    requires items { AreInOrder start (map I.item items.now) }
+    requires one_each { length kept.now ≡ length items.now }
+    ensures { IfOk result
+        (λ deltas. deltas ≡ deletions_of_run (map I.item items.now) kept.now) }
+{
+    deletions_in(alloc, &ItemList::new(items), start, kept)
+}
+
+fn deletions_in<I: AsItem>(
+    alloc: Global,
+    items: &ItemList<'_, I>,
     start: u64,
     kept: &[u64],
 ) -> Result<SectionRelaxDeltas, OutOfMemory>
@@ -303,7 +348,7 @@ pub fn deletions(
 {
     let mut raw = Vec::with_capacity(alloc, items.len())?;
     for index in 0..items.len() {
-        let item = &items[index];
+        let item = items.at(index);
         if kept[index] < item.len() {
             raw.push((item.offset() + kept[index], item.lost(kept[index])))?;
         }
@@ -313,17 +358,18 @@ pub fn deletions(
 
 /// `relax_into` in memory of its own, with the deletions. It allocates six times, once for each
 /// array and as `deletions` does.
-pub fn relax(alloc: Global, items: &[Item], start: u64) -> Result<Plan, OutOfMemory>
-    requires { AreItems start items.now }
+pub fn relax<I: AsItem>(alloc: Global, items: &[I], start: u64) -> Result<Plan, OutOfMemory>
+    requires { AreItems start (map I.item items.now) }
     ensures relaxed { IfOk result (λ plan.
-        IsRelaxation start items.now plan.shapes.items plan.kept.items plan.freed.items) }
+        IsRelaxation start (map I.item items.now) plan.shapes.items plan.kept.items
+        plan.freed.items) }
     ensures deleted { IfOk result
-        (λ plan. plan.deletions ≡ deletions_of_run items.now plan.kept.items) }
+        (λ plan. plan.deletions ≡ deletions_of_run (map I.item items.now) plan.kept.items) }
 {
     let mut shapes = vec![in alloc; 0; items.len()]?;
     let mut kept = vec![in alloc; 0; items.len()]?;
     let mut places = vec![in alloc; 0; items.len()]?;
-    let mut freed = vec![in alloc; 0; items.len() + 1]?;
+    let mut freed = vec![in alloc; 0; kept.len() + 1]?;
     relax_into(
         items,
         start,

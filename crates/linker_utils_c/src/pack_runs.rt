@@ -11,13 +11,12 @@ ghost use Rattle.linker_utils_c.specs.PackRuns.{IsRunPackedOrRejected, SaysOfIns
 ghost use Rattle.linker_utils_c.specs.Relaxing.{item_of, items_in};
 ghost use Rattle.linker_utils_c.specs.Status.{code, IsOneOf};
 
-use crate::relaxing::{ItemNumbers, items_of};
+use crate::relaxing::ItemNumbers;
 use crate::status::Status;
 use linker_runs::items::AsItem;
 use linker_runs::packing::{ItemError, Machine, has_its_instructions, pack_run, packed_run_len};
 use linker_utils::elf::Architecture;
 use linker_utils::relaxation::RelaxDelta;
-use std::alloc::Global;
 
 /// The machine whose sections are packed, by `e_machine`.
 #[inline]
@@ -99,15 +98,13 @@ pub extern "C" fn linker_utils_has_its_instructions_nonnull(
 ///
 /// The first that applies of `UnknownArchitecture`, where no section of the machine is packed;
 /// `EndsTooHigh`, where `base` and the section's length add up to 2^64 or more;
-/// `DifferentLengths`, where `packed` has not `linker_utils_packed_run_len` bytes; `OutOfMemory`,
-/// where there is none for a copy of the items; and of the first item that can't be written, whose index
-/// is `faulty`, the first that applies of `ItemsOverlap`, `ItemOutOfSection`, `DeletedOutside`,
+/// `DifferentLengths`, where `packed` has not `linker_utils_packed_run_len` bytes; and of the first
+/// item that can't be written, whose index is `faulty`, the first that applies of `ItemsOverlap`, `ItemOutOfSection`, `DeletedOutside`,
 /// `NotItsFirstBytes`, `NotItsInstructions`, `NoShape` and `TargetOutOfReach`. `DeletedOutside` may
 /// also be of what is behind the last item, and `faulty` is how many there are then. `packed` is
 /// unchanged then. `faulty` changes only with a status that is about an item.
 #[unsafe(no_mangle)]
 pub extern "C" fn linker_utils_pack_run_nonnull(
-    alloc: Global,
     machine: u16,
     section: &[u8],
     base: u64,
@@ -118,7 +115,7 @@ pub extern "C" fn linker_utils_pack_run_nonnull(
     faulty: &mut usize,
 ) -> u32
     ensures listed { IsOneOf (Status.Success ∷ Status.UnknownArchitecture ∷ Status.EndsTooHigh
-        ∷ Status.DifferentLengths ∷ Status.OutOfMemory ∷ item_statuses) result }
+        ∷ Status.DifferentLengths ∷ item_statuses) result }
     ensures unknown_machine { (result ≡ code Status.UnknownArchitecture)
         ↔ IsNone (packing_machine machine) }
     ensures too_high { IfSome (packing_machine machine) (λ known.
@@ -131,22 +128,18 @@ pub extern "C" fn linker_utils_pack_run_nonnull(
         (base + length section.now))) }
     ensures outcome { AreValidDeltas deltas.now → IfSome (packing_machine machine) (λ known.
         (result ≡ code Status.EndsTooHigh) ⊎ (result ≡ code Status.DifferentLengths)
-        ⊎ (result ≡ code Status.OutOfMemory)
         ⊎ IsRunPackedOrRejected known (section_of section.now base (deletions_of deltas.now) start)
         (items_in items.now) packed.new faulty.new result) }
     ensures unchanged { result ≢ code Status.Success → packed.new ≡ packed.old }
     ensures faulty_stays { ¬ IsOneOf item_statuses result → faulty.new ≡ faulty.old }
 {
     match packing_machine(machine) {
-        Some(known) => pack(
-            alloc, known, section, base, items, deltas, start, packed, faulty,
-        ),
+        Some(known) => pack(known, section, base, items, deltas, start, packed, faulty),
         None => Status::UnknownArchitecture.number(),
     }
 }
 
 fn pack(
-    alloc: Global,
     machine: Machine,
     section: &[u8],
     base: u64,
@@ -157,7 +150,7 @@ fn pack(
     faulty: &mut usize,
 ) -> u32
     ensures listed { IsOneOf (Status.Success ∷ Status.EndsTooHigh ∷ Status.DifferentLengths
-        ∷ Status.OutOfMemory ∷ item_statuses) result }
+        ∷ item_statuses) result }
     ensures known { result ≢ code Status.UnknownArchitecture }
     ensures too_high { (result ≡ code Status.EndsTooHigh) ↔ (2 ^ 64 ≤ base + length section.now) }
     ensures different_lengths { AreValidDeltas deltas.now → base + length section.now < 2 ^ 64
@@ -166,7 +159,7 @@ fn pack(
         ≢ packed_offset (section_of section.now base (deletions_of deltas.now) start)
         (base + length section.now)) }
     ensures outcome { AreValidDeltas deltas.now → (result ≡ code Status.EndsTooHigh)
-        ⊎ (result ≡ code Status.DifferentLengths) ⊎ (result ≡ code Status.OutOfMemory)
+        ⊎ (result ≡ code Status.DifferentLengths)
         ⊎ IsRunPackedOrRejected machine
         (section_of section.now base (deletions_of deltas.now) start) (items_in items.now)
         packed.new faulty.new result }
@@ -179,10 +172,7 @@ fn pack(
     if packed.len() != packed_run_len(base, section.len(), deltas) {
         return Status::DifferentLengths.number();
     }
-    let Ok(items) = items_of(alloc, items) else {
-        return Status::OutOfMemory.number();
-    };
-    match pack_run(machine, section, base, &items, deltas, start, packed) {
+    match pack_run(machine, section, base, items, deltas, start, packed) {
         Ok(()) => Status::Success.number(),
         Err(rejected) => {
             *faulty = rejected.index;

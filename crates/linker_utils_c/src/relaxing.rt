@@ -1,6 +1,6 @@
 //! A run of items that is relaxed, in arrays of the caller's.
 
-ghost use Rattle.std.specs.Prelude.{◌≡◌, ◌≢◌, ◌+◌, ◌-◌, ◌^◌, ◌<◌, ◌≤◌, ◌↔◌, ◌⊎◌, ℕ, IsTrue, IfOk};
+ghost use Rattle.std.specs.Prelude.{◌≡◌, ◌≢◌, ◌+◌, ◌-◌, ◌^◌, ◌<◌, ◌≤◌, ◌↔◌, ◌⊎◌, ℕ, IsTrue};
 ghost use Rattle.std.specs.Prelude.{IfSome, IfNone, length, take, slice_index_or};
 ghost use Rattle.linker_runs.specs.Relaxing.{AreInOrder};
 ghost use Rattle.linker_runs.specs.Choosing.{AreItems, IsRelaxation};
@@ -16,8 +16,7 @@ use linker_runs::relaxation::{Alignment, Fault, Item, Shapes, Site, first_faulty
 use linker_runs::shapes::fixed;
 use linker_runs::shapes::loongarch64::{CALL36, PCALA};
 use linker_runs::shapes::riscv64::{CALL, CALL_WITHOUT_C, TAIL_C};
-use linker_utils::relaxation::{OutOfMemory, RelaxDelta};
-use std::alloc::Global;
+use linker_utils::relaxation::RelaxDelta;
 
 /// A part of a run that relaxation may shorten.
 #[repr(C)]
@@ -126,17 +125,6 @@ fn status_of(fault: Fault) -> u32
     status.number()
 }
 
-/// The items that C's structs are.
-pub(crate) fn items_of(alloc: Global, items: &[ItemNumbers]) -> Result<Vec<Item>, OutOfMemory>
-    ensures { IfOk result (λ made. made.items ≡ items_in items.now) }
-{
-    let mut made = Vec::with_capacity(alloc, items.len())?;
-    for numbers in items {
-        made.push_reserved(numbers.as_item());
-    }
-    Ok(made)
-}
-
 #[inline]
 fn shapes_named(number: u32) -> Option<Shapes>
     ensures { result ≡ standard_shapes number }
@@ -178,25 +166,18 @@ pub extern "C" fn linker_utils_standard_shapes(number: u32, shapes: &mut Shapes)
 /// Whether `linker_utils_relax` accepts the items of a run that begins at the address `start`. The
 /// status is else that of the first fault of the first faulty item, whose index is `faulty`, in the
 /// order of the statuses from `ItemsOverlap` on, with `MayBeMisaligned` as the last; those from
-/// `UnevenShape` on count only where no item has one of those before. `OutOfMemory` where there is
-/// none for a copy of the items.
+/// `UnevenShape` on count only where no item has one of those before.
 #[unsafe(no_mangle)]
 pub extern "C" fn linker_utils_items_relaxable_nonnull(
-    alloc: Global,
     items: &[ItemNumbers],
     start: u64,
     faulty: &mut usize,
 ) -> u32
-    ensures outcome { (result ≡ code Status.OutOfMemory)
-        ⊎ ((result ≡ code Status.Success) × AreItems start (items_in items.now))
+    ensures outcome { ((result ≡ code Status.Success) × AreItems start (items_in items.now))
         ⊎ IsRunFault start (items_in items.now) faulty.new result }
-    ensures faulty_stays { (result ≡ code Status.Success) ⊎ (result ≡ code Status.OutOfMemory)
-        → faulty.new ≡ faulty.old }
+    ensures faulty_stays { result ≡ code Status.Success → faulty.new ≡ faulty.old }
 {
-    let Ok(items) = items_of(alloc, items) else {
-        return Status::OutOfMemory.number();
-    };
-    match first_faulty(&items, start) {
+    match first_faulty(items, start) {
         None => Status::Success.number(),
         Some(found) => {
             *faulty = found.index;
@@ -212,13 +193,11 @@ pub extern "C" fn linker_utils_items_relaxable_nonnull(
 /// free, and at the end how many all do. `places` is room for the work, with an element for each
 /// item.
 ///
-/// The first that applies of `DifferentLengths`, where an array has another length; `OutOfMemory`,
-/// where there is none for a copy of the items; and those of `linker_utils_items_relaxable`, of the item at
-/// `faulty`. The arrays are unchanged then. `faulty` changes only with a status that is about an
-/// item.
+/// The first that applies of `DifferentLengths`, where an array has another length; and those of
+/// `linker_utils_items_relaxable`, of the item at `faulty`. The arrays are unchanged then. `faulty`
+/// changes only with a status that is about an item.
 #[unsafe(no_mangle)]
 pub extern "C" fn linker_utils_relax_nonnull(
-    alloc: Global,
     items: &[ItemNumbers],
     start: u64,
     shapes: &mut [u8],
@@ -231,13 +210,12 @@ pub extern "C" fn linker_utils_relax_nonnull(
         ↔ ¬ HaveLengths (length items.now) (length shapes.old) (length kept.old)
         (length places.old) (length freed.old) }
     ensures outcome { (result ≡ code Status.DifferentLengths)
-        ⊎ (result ≡ code Status.OutOfMemory)
         ⊎ ((result ≡ code Status.Success) × AreItems start (items_in items.now)
         × IsRelaxation start (items_in items.now) shapes.new kept.new freed.new)
         ⊎ IsRunFault start (items_in items.now) faulty.new result }
     ensures unchanged { result ≢ code Status.Success → (shapes.new ≡ shapes.old)
         × (kept.new ≡ kept.old) × (places.new ≡ places.old) × (freed.new ≡ freed.old) }
-    ensures faulty_stays { (result ≡ code Status.Success) ⊎ (result ≡ code Status.OutOfMemory)
+    ensures faulty_stays { (result ≡ code Status.Success)
         ⊎ (result ≡ code Status.DifferentLengths) → faulty.new ≡ faulty.old }
 {
     if !have_lengths(
@@ -249,12 +227,9 @@ pub extern "C" fn linker_utils_relax_nonnull(
     ) {
         return Status::DifferentLengths.number();
     }
-    let Ok(items) = items_of(alloc, items) else {
-        return Status::OutOfMemory.number();
-    };
-    match first_faulty(&items, start) {
+    match first_faulty(items, start) {
         None => {
-            relax_into(&items, start, shapes, kept, places, freed);
+            relax_into(items, start, shapes, kept, places, freed);
             Status::Success.number()
         }
         Some(found) => {

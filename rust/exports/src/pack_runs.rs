@@ -1,7 +1,7 @@
 // Made by tools/erase of crates/linker_utils_c/src/pack_runs.rt.
 //! The sections of a relaxed run, packed.
 
-use crate::relaxing::{ItemNumbers, items_of};
+use crate::relaxing::ItemNumbers;
 use crate::status::Status;
 use linker_utils::runs::items::AsItem;
 use linker_utils::runs::packing::{ItemError, Machine, has_its_instructions, pack_run, packed_run_len};
@@ -74,9 +74,8 @@ pub fn linker_utils_has_its_instructions_nonnull(
 ///
 /// The first that applies of `UnknownArchitecture`, where no section of the machine is packed;
 /// `EndsTooHigh`, where `base` and the section's length add up to 2^64 or more;
-/// `DifferentLengths`, where `packed` has not `linker_utils_packed_run_len` bytes; `OutOfMemory`,
-/// where there is none for a copy of the items; and of the first item that can't be written, whose index
-/// is `faulty`, the first that applies of `ItemsOverlap`, `ItemOutOfSection`, `DeletedOutside`,
+/// `DifferentLengths`, where `packed` has not `linker_utils_packed_run_len` bytes; and of the first
+/// item that can't be written, whose index is `faulty`, the first that applies of `ItemsOverlap`, `ItemOutOfSection`, `DeletedOutside`,
 /// `NotItsFirstBytes`, `NotItsInstructions`, `NoShape` and `TargetOutOfReach`. `DeletedOutside` may
 /// also be of what is behind the last item, and `faulty` is how many there are then. `packed` is
 /// unchanged then. `faulty` changes only with a status that is about an item.
@@ -91,9 +90,7 @@ pub fn linker_utils_pack_run_nonnull(
     faulty: &mut usize,
 ) -> u32 {
     match packing_machine(machine) {
-        Some(known) => pack(
-            known, section, base, items, deltas, start, packed, faulty,
-        ),
+        Some(known) => pack(known, section, base, items, deltas, start, packed, faulty),
         None => Status::UnknownArchitecture.number(),
     }
 }
@@ -114,10 +111,7 @@ fn pack(
     if packed.len() != packed_run_len(base, section.len(), deltas) {
         return Status::DifferentLengths.number();
     }
-    let Ok(items) = items_of(items) else {
-        return Status::OutOfMemory.number();
-    };
-    match pack_run(machine, section, base, &items, deltas, start, packed) {
+    match pack_run(machine, section, base, items, deltas, start, packed) {
         Ok(()) => Status::Success.number(),
         Err(rejected) => {
             *faulty = rejected.index;

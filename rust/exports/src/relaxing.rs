@@ -1,15 +1,13 @@
 // Made by tools/erase of crates/linker_utils_c/src/relaxing.rt.
 //! A run of items that is relaxed, in arrays of the caller's.
 
-use alloc::vec::Vec;
-use crate::support::*;
 use crate::status::Status;
 use linker_utils::runs::items::AsItem;
 use linker_utils::runs::relaxation::{Alignment, Fault, Item, Shapes, Site, first_faulty, relax_into};
 use linker_utils::runs::shapes::fixed;
 use linker_utils::runs::shapes::loongarch64::{CALL36, PCALA};
 use linker_utils::runs::shapes::riscv64::{CALL, CALL_WITHOUT_C, TAIL_C};
-use linker_utils::relaxation::{OutOfMemory, RelaxDelta};
+use linker_utils::relaxation::RelaxDelta;
 
 /// A part of a run that relaxation may shorten.
 #[repr(C)]
@@ -110,15 +108,6 @@ fn status_of(fault: Fault) -> u32 {
     status.number()
 }
 
-/// The items that C's structs are.
-pub(crate) fn items_of(items: &[ItemNumbers]) -> Result<Vec<Item>, OutOfMemory> {
-    let mut made = Vec::fallible_with_capacity(items.len())?;
-    for numbers in items {
-        made.push_reserved(numbers.as_item());
-    }
-    Ok(made)
-}
-
 #[inline]
 fn shapes_named(number: u32) -> Option<Shapes> {
     if number == 0 {
@@ -152,17 +141,13 @@ pub fn linker_utils_standard_shapes(number: u32, shapes: &mut Shapes) -> u32 {
 /// Whether `linker_utils_relax` accepts the items of a run that begins at the address `start`. The
 /// status is else that of the first fault of the first faulty item, whose index is `faulty`, in the
 /// order of the statuses from `ItemsOverlap` on, with `MayBeMisaligned` as the last; those from
-/// `UnevenShape` on count only where no item has one of those before. `OutOfMemory` where there is
-/// none for a copy of the items.
+/// `UnevenShape` on count only where no item has one of those before.
 pub fn linker_utils_items_relaxable_nonnull(
     items: &[ItemNumbers],
     start: u64,
     faulty: &mut usize,
 ) -> u32 {
-    let Ok(items) = items_of(items) else {
-        return Status::OutOfMemory.number();
-    };
-    match first_faulty(&items, start) {
+    match first_faulty(items, start) {
         None => Status::Success.number(),
         Some(found) => {
             *faulty = found.index;
@@ -178,10 +163,9 @@ pub fn linker_utils_items_relaxable_nonnull(
 /// free, and at the end how many all do. `places` is room for the work, with an element for each
 /// item.
 ///
-/// The first that applies of `DifferentLengths`, where an array has another length; `OutOfMemory`,
-/// where there is none for a copy of the items; and those of `linker_utils_items_relaxable`, of the item at
-/// `faulty`. The arrays are unchanged then. `faulty` changes only with a status that is about an
-/// item.
+/// The first that applies of `DifferentLengths`, where an array has another length; and those of
+/// `linker_utils_items_relaxable`, of the item at `faulty`. The arrays are unchanged then. `faulty`
+/// changes only with a status that is about an item.
 pub fn linker_utils_relax_nonnull(
     items: &[ItemNumbers],
     start: u64,
@@ -200,12 +184,9 @@ pub fn linker_utils_relax_nonnull(
     ) {
         return Status::DifferentLengths.number();
     }
-    let Ok(items) = items_of(items) else {
-        return Status::OutOfMemory.number();
-    };
-    match first_faulty(&items, start) {
+    match first_faulty(items, start) {
         None => {
-            relax_into(&items, start, shapes, kept, places, freed);
+            relax_into(items, start, shapes, kept, places, freed);
             Status::Success.number()
         }
         Some(found) => {

@@ -1,8 +1,11 @@
 // Made by tools/erase of crates/linker_runs/src/items.rt.
 //! Relocations of a section, and why no items are made of them.
 
+mod list;
+
 use crate::support::*;
 use crate::linker_runs::relaxation::Item;
+pub(crate) use list::ItemList;
 
 /// A relocation of a section.
 #[derive(Debug, Clone, Copy, PartialEq, Eq, Hash)]

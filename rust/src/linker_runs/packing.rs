@@ -6,8 +6,9 @@ mod copying;
 mod loongarch64;
 mod riscv64;
 
+use crate::linker_runs::items::{AsItem, ItemList};
 use crate::linker_runs::packing::code::Code;
-use crate::linker_runs::packing::copying::{begun_at, copy_kept, to_output};
+use crate::linker_runs::packing::copying::{begun_about, begun_at, copy_kept, to_output};
 use crate::linker_runs::relaxation::{Item, Site};
 use crate::linker_base::relaxation::{DeltaSlice, RelaxDelta};
 
@@ -63,12 +64,12 @@ pub(crate) enum Piece {
 }
 
 /// Whether the item at an index begins at or above the end of the one before it.
-fn is_apart(items: &[Item], index: usize) -> bool {
+fn is_apart<I: AsItem>(items: &ItemList<'_, I>, index: usize) -> bool {
     if index == 0 {
         return true;
     }
-    let before = &items[index - 1];
-    let offset = items[index].offset();
+    let before = items.at(index - 1);
+    let offset = items.at(index).offset();
     before.offset() <= offset && before.len() <= offset - before.offset()
 }
 
@@ -83,11 +84,11 @@ fn is_inside(section: &[u8], base: u64, item: &Item) -> bool {
 }
 
 /// Where the bytes before the item at an index, which are of no item, begin.
-fn gap_start(base: u64, items: &[Item], index: usize) -> u64 {
+fn gap_start<I: AsItem>(base: u64, items: &ItemList<'_, I>, index: usize) -> u64 {
     if index == 0 {
         return base;
     }
-    let before = &items[index - 1];
+    let before = items.at(index - 1);
     before.offset() + before.len()
 }
 
@@ -112,7 +113,8 @@ fn code_of_site(
         return Err(ItemError::NotItsInstructions);
     }
     let place = start.wrapping_add(to_output(deltas, near, site.offset));
-    let target = start.wrapping_add(to_output(deltas, near, site.target));
+    let there = begun_about(deltas, near, site.offset, site.target);
+    let target = start.wrapping_add(to_output(deltas, there, site.target));
     match machine {
         Machine::RiscV64 => riscv64::code_of(section, site.offset - base, kept, place, target),
         Machine::LoongArch64 => {
@@ -196,11 +198,11 @@ fn piece_of(
 }
 
 /// Whether each item can be written; the error is that of the first that can't.
-fn test_items(
+fn test_items<I: AsItem>(
     machine: Machine,
     section: &[u8],
     base: u64,
-    items: &[Item],
+    items: &ItemList<'_, I>,
     deltas: &[RelaxDelta],
     start: u64,
 ) -> Result<(), RejectedItem> {
@@ -212,8 +214,8 @@ fn test_items(
                 error: ItemError::Overlaps,
             });
         }
-        let item = &items[index];
-        if !is_inside(section, base, item) {
+        let item = items.at(index);
+        if !is_inside(section, base, &item) {
             return Err(RejectedItem {
                 index,
                 error: ItemError::OutOfSection,
@@ -226,7 +228,7 @@ fn test_items(
             });
         }
         near = begun_at(deltas, near, item.offset());
-        if let Err(error) = piece_of(machine, section, base, deltas, near, start, item) {
+        if let Err(error) = piece_of(machine, section, base, deltas, near, start, &item) {
             return Err(RejectedItem { index, error });
         }
     }
@@ -290,11 +292,11 @@ fn put_piece(machine: Machine, packed: &mut [u8], at: u64, piece: Piece) {
 }
 
 /// Puts what is written of each item, where it can be written.
-fn put_items(
+fn put_items<I: AsItem>(
     machine: Machine,
     section: &[u8],
     base: u64,
-    items: &[Item],
+    items: &ItemList<'_, I>,
     deltas: &[RelaxDelta],
     start: u64,
     packed: &mut [u8],
@@ -302,12 +304,12 @@ fn put_items(
     let mut near = begun_at(deltas, 0, base);
     let before = to_output(deltas, near, base);
     for index in 0..items.len() {
-        let item = &items[index];
-        if !is_inside(section, base, item) {
+        let item = items.at(index);
+        if !is_inside(section, base, &item) {
             return;
         }
         near = begun_at(deltas, near, item.offset());
-        match piece_of(machine, section, base, deltas, near, start, item) {
+        match piece_of(machine, section, base, deltas, near, start, &item) {
             Err(_error) => return,
             Ok(piece) => {
                 let at = to_output(deltas, near, item.offset()).saturating_sub(before);
@@ -388,19 +390,20 @@ pub fn has_its_instructions(machine: Machine, section: &[u8], base: u64, item: &
 /// - small: `(base as u128) + (section.len() as u128) < 1 << 64`
 /// - room: `!DeltaSlice::new(deltas).has_valid_deltas() || packed_run_len(base, section.len(), deltas) == out.len()`
 #[cfg_attr(debug_assertions, track_caller)]
-pub fn pack_run(
+pub fn pack_run<I: AsItem>(
     machine: Machine,
     section: &[u8],
     base: u64,
-    items: &[Item],
+    items: &[I],
     deltas: &[RelaxDelta],
     start: u64,
     out: &mut [u8],
 ) -> Result<(), RejectedItem> {
     debug_assert!((base as u128) + (section.len() as u128) < 1 << 64);
     debug_assert!(!DeltaSlice::new(deltas).has_valid_deltas() || packed_run_len(base, section.len(), deltas) == out.len());
-    test_items(machine, section, base, items, deltas, start)?;
+    let list = ItemList::new(items);
+    test_items(machine, section, base, &list, deltas, start)?;
     copy_kept(section, base, deltas, out);
-    put_items(machine, section, base, items, deltas, start, out);
+    put_items(machine, section, base, &list, deltas, start, out);
     Ok(())
 }

@@ -4,6 +4,7 @@
 
 use alloc::vec::Vec;
 use crate::support::*;
+use crate::linker_runs::items::{AsItem, ItemList};
 use crate::linker_base::relaxation::{OutOfMemory, SectionRelaxDeltas};
 
 mod cautious;
@@ -80,6 +81,7 @@ pub enum Item {
 impl Item {
     /// The input offset of its first byte.
     #[must_use]
+    #[inline(always)]
     pub fn offset(&self) -> u64 {
         match self {
             Item::Site(site) => site.offset,
@@ -89,6 +91,7 @@ impl Item {
 
     /// How many bytes it has.
     #[must_use]
+    #[inline(always)]
     pub fn len(&self) -> u64 {
         match self {
             Item::Site(site) => u64::from(site.len),
@@ -99,6 +102,7 @@ impl Item {
 
 impl Shape {
     /// Whether a target is in reach, both given by output offsets.
+    #[inline(always)]
     fn reaches(&self, from: u64, to: u64) -> bool {
         let granularity = u64::from(self.granularity);
         if from <= to {
@@ -113,11 +117,13 @@ impl Shape {
 
 impl Alignment {
     /// How many bytes of nops it takes from an address to the next multiple of the alignment.
+    #[inline(always)]
     fn needed_at(&self, address: u64) -> u64 {
         (self.alignment - address % self.alignment) % self.alignment
     }
 
     /// How many nops stay where the first one has an output address.
+    #[inline(always)]
     fn padding_at(&self, address: u64) -> u64 {
         let needed = self.needed_at(address);
         let nops = u64::from(self.nops);
@@ -131,11 +137,13 @@ impl Alignment {
 
 impl Item {
     /// Whether it ends at or below an offset.
-    fn ends_by(&self, offset: u64) -> bool {
+    #[inline(always)]
+    pub(crate) fn ends_by(&self, offset: u64) -> bool {
         self.offset() <= offset && self.len() <= offset - self.offset()
     }
 
     /// How many of its bytes go where so many stay.
+    #[inline(always)]
     fn lost(&self, kept: u64) -> u32 {
         match self {
             Item::Site(site) => site.len - kept as u32,
@@ -144,6 +152,7 @@ impl Item {
     }
 
     /// The input offset that it has to reach: its own where it has nothing to reach.
+    #[inline(always)]
     fn target(&self) -> u64 {
         match self {
             Item::Site(site) if site.shapes.count > 0 => site.target,
@@ -152,6 +161,7 @@ impl Item {
     }
 
     /// How many of its bytes stay with the shape at an index, where so many before it are freed.
+    #[inline(always)]
     fn kept_by(&self, start: u64, shape: u8, freed: u64) -> u64 {
         match self {
             Item::Site(site) => site.shapes.kept_by(shape),
@@ -161,6 +171,7 @@ impl Item {
 
     /// Whether it reaches its target with the shape at an index, where so many bytes are freed
     /// before it, and so many before the target.
+    #[inline(always)]
     fn reaches(&self, shape: u8, here: u64, there: u64) -> bool {
         match self {
             Item::Site(site) => site.shapes.reaches(
@@ -175,6 +186,7 @@ impl Item {
 
 impl Shapes {
     /// How many bytes stay with the shape at an index.
+    #[inline(always)]
     fn kept_by(&self, shape: u8) -> u64 {
         if shape < self.count {
             u64::from(self.short[usize::from(shape)].kept)
@@ -184,6 +196,7 @@ impl Shapes {
     }
 
     /// Whether the shape at an index reaches a target, both given by output offsets.
+    #[inline(always)]
     fn reaches(&self, shape: u8, from: u64, to: u64) -> bool {
         if shape < self.count {
             self.short[usize::from(shape)].reaches(from, to)
@@ -217,8 +230,8 @@ impl Shapes {
 /// - places: `places.len() == items.len()`
 /// - freed: `(freed.len() as u128) == (items.len() as u128) + 1`
 #[cfg_attr(debug_assertions, track_caller)]
-pub fn relax_into(
-    items: &[Item],
+pub fn relax_into<I: AsItem>(
+    items: &[I],
     start: u64,
     shapes: &mut [u8],
     kept: &mut [u64],
@@ -230,6 +243,17 @@ pub fn relax_into(
     debug_assert!(kept.len() == items.len());
     debug_assert!(places.len() == items.len());
     debug_assert!((freed.len() as u128) == (items.len() as u128) + 1);
+    relax_items(&ItemList::new(items), start, shapes, kept, places, freed);
+}
+
+fn relax_items<I: AsItem>(
+    items: &ItemList<'_, I>,
+    start: u64,
+    shapes: &mut [u8],
+    kept: &mut [u64],
+    places: &mut [usize],
+    freed: &mut [u64],
+) {
     find_places(items, start, places);
     if !settle(items, start, places, freed, shapes) {
         choose_cautiously(items, start, places, freed, shapes);
@@ -259,15 +283,23 @@ pub struct Plan {
 /// - items: the items are in order, as `are_items` accepts them
 /// - one_each: `kept.len() == items.len()`
 #[cfg_attr(debug_assertions, track_caller)]
-pub fn deletions(
-    items: &[Item],
+pub fn deletions<I: AsItem>(
+    items: &[I],
     start: u64,
     kept: &[u64],
 ) -> Result<SectionRelaxDeltas, OutOfMemory> {
     debug_assert!(kept.len() == items.len());
+    deletions_in(&ItemList::new(items), start, kept)
+}
+
+fn deletions_in<I: AsItem>(
+    items: &ItemList<'_, I>,
+    start: u64,
+    kept: &[u64],
+) -> Result<SectionRelaxDeltas, OutOfMemory> {
     let mut raw = Vec::fallible_with_capacity(items.len())?;
     for index in 0..items.len() {
-        let item = &items[index];
+        let item = items.at(index);
         if kept[index] < item.len() {
             raw.fallible_push((item.offset() + kept[index], item.lost(kept[index])))?;
         }
@@ -282,12 +314,12 @@ pub fn deletions(
 ///
 /// - `are_items(items, start)`
 #[cfg_attr(debug_assertions, track_caller)]
-pub fn relax(items: &[Item], start: u64) -> Result<Plan, OutOfMemory> {
+pub fn relax<I: AsItem>(items: &[I], start: u64) -> Result<Plan, OutOfMemory> {
     debug_assert!(are_items(items, start));
     let mut shapes = try_vec![0; items.len()]?;
     let mut kept = try_vec![0; items.len()]?;
     let mut places = try_vec![0; items.len()]?;
-    let mut freed = try_vec![0; items.len() + 1]?;
+    let mut freed = try_vec![0; kept.len() + 1]?;
     relax_into(
         items,
         start,

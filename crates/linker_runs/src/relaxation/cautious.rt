@@ -4,7 +4,7 @@
 //! first, or from the first to the last. Of calls of which each depends on the next one, all are
 //! found in a sweep that goes to meet them.
 
-ghost use Rattle.std.specs.Prelude.{◌≡◌, ◌+◌, ◌<◌, ◌≤◌, ℕ, length, true, false, sum};
+ghost use Rattle.std.specs.Prelude.{◌≡◌, ◌≢◌, ◌+◌, ◌<◌, ◌≤◌, ℕ, length, true, false, sum};
 ghost use Rattle.linker_runs.specs.Relaxing.{choice_of, IsSound};
 ghost use Rattle.linker_runs.specs.Choosing.{AreItems, freed_cautiously};
 ghost use Rattle.linker_runs.specs.Choosing.{IsInReachCautiously, IsGreatestCautious};
@@ -12,9 +12,11 @@ ghost use Rattle.linker_runs.specs.Inner.Relaxing.{ArePlaces, AreCautious, AreFo
 ghost use Rattle.linker_runs.specs.Inner.Relaxing.{is_in_reach_cautiously};
 
 use super::Item;
+use crate::items::{AsItem, ItemList};
 
 impl Item {
     /// How many bytes it frees with the shape at an index, where alignments keep all.
+    #[inline(always)]
     fn freed_cautiously(&self, shape: u8) -> u64
         requires { IsSound self.now }
         ensures { result ≡ freed_cautiously self.now shape }
@@ -28,7 +30,12 @@ impl Item {
 
 /// For each item how many bytes those before it free where alignments keep all, and at the end how
 /// many all do.
-fn lay_out_cautiously(items: &[Item], start: u64, shapes: &[u8], freed: &mut [u64])
+fn lay_out_cautiously<I: AsItem>(
+    items: &ItemList<'_, I>,
+    start: u64,
+    shapes: &[u8],
+    freed: &mut [u64],
+)
     requires items { AreItems start items.now }
     requires shapes { length shapes.now ≡ length items.now }
     requires one_more { length freed.old ≡ length items.now + 1 }
@@ -37,15 +44,16 @@ fn lay_out_cautiously(items: &[Item], start: u64, shapes: &[u8], freed: &mut [u6
     let mut before = 0;
     for index in 0..items.len() {
         freed[index] = before;
-        before += items[index].freed_cautiously(shapes[index]);
+        let item = items.at(index);
+        before += item.freed_cautiously(shapes[index]);
     }
     freed[items.len()] = before;
 }
 
 /// Gives the site at an index its next shape if it is out of reach, and returns how many bytes fewer
 /// it then frees. What `freed` has behind the index is `more` above what the choice frees.
-fn lengthen_at(
-    items: &[Item],
+fn lengthen_at<I: AsItem>(
+    items: &ItemList<'_, I>,
     start: u64,
     places: &[usize],
     freed: &[u64],
@@ -67,6 +75,8 @@ fn lengthen_at(
     ensures same { result ≡ 0 → shapes.new ≡ shapes.old }
     ensures reached { result ≡ 0
         → is_in_reach_cautiously items.now (choice_of shapes.old) index ≡ true }
+    ensures next { 0 < result → choice_of shapes.new index ≡ choice_of shapes.old index + 1 }
+    ensures others { (i : ℕ) → i ≢ index → choice_of shapes.new i ≡ choice_of shapes.old i }
     ensures longer { 0 < result → sum shapes.old < sum shapes.new }
 {
     let place = places[index];
@@ -78,7 +88,7 @@ fn lengthen_at(
     } else {
         freed[place] - more
     };
-    let item = &items[index];
+    let item = items.at(index);
     let shape = shapes[index];
     if item.reaches(shape, freed[index], there) {
         return 0;
@@ -88,8 +98,8 @@ fn lengthen_at(
 }
 
 /// A sweep from the last site to the first. Whether a shape is longer after it. `freed` is used up.
-fn sweep_back(
-    items: &[Item],
+fn sweep_back<I: AsItem>(
+    items: &ItemList<'_, I>,
     start: u64,
     places: &[usize],
     freed: &mut [u64],
@@ -117,8 +127,15 @@ fn sweep_back(
     more > 0
 }
 
-/// A sweep from the first site to the last. `freed` is used up.
-fn sweep_ahead(items: &[Item], start: u64, places: &[usize], freed: &mut [u64], shapes: &mut [u8])
+/// A sweep from the first site to the last. Each site that was out of reach before it has a longer
+/// shape after it. `freed` is used up.
+fn sweep_ahead<I: AsItem>(
+    items: &ItemList<'_, I>,
+    start: u64,
+    places: &[usize],
+    freed: &mut [u64],
+    shapes: &mut [u8],
+)
     requires items { AreItems start items.now }
     requires shapes { length shapes.old ≡ length items.now }
     requires places { length places.now ≡ length items.now }
@@ -130,6 +147,9 @@ fn sweep_ahead(items: &[Item], start: u64, places: &[usize], freed: &mut [u64], 
     ensures short { (i : ℕ) → choice_of shapes.new i ≤ 2 }
     ensures forced { AreForced items.now shapes.new }
     ensures longer { sum shapes.old ≤ sum shapes.new }
+    ensures lengthened { (i : ℕ) → i < length items.now
+        → is_in_reach_cautiously items.now (choice_of shapes.old) i ≡ false
+        → choice_of shapes.old i < choice_of shapes.new i }
 {
     let mut more = 0;
     for index in 0..items.len() {
@@ -139,8 +159,8 @@ fn sweep_ahead(items: &[Item], start: u64, places: &[usize], freed: &mut [u64], 
 }
 
 /// Sweeps until no site is out of reach where alignments keep all.
-pub(super) fn choose_cautiously(
-    items: &[Item],
+pub(super) fn choose_cautiously<I: AsItem>(
+    items: &ItemList<'_, I>,
     start: u64,
     places: &[usize],
     freed: &mut [u64],

@@ -1,6 +1,6 @@
 //! Which runs can be relaxed, and what is wrong with the others.
 
-ghost use Rattle.std.specs.Prelude.{◌+◌, ◌<◌, ◌^◌, ◌↔◌, ℕ, length, IsTrue, MatchOption};
+ghost use Rattle.std.specs.Prelude.{◌+◌, ◌<◌, ◌^◌, ◌↔◌, ℕ, length, map, IsTrue, MatchOption};
 ghost use Rattle.linker_runs.specs.Relaxing.{end_of, AreInOrder};
 ghost use Rattle.linker_runs.specs.Choosing.{run_granularity, AreItems};
 ghost use Rattle.linker_runs.specs.Faults.{ShapesMeet, ItemMeets, OwnMeets, AlignmentMeets};
@@ -9,6 +9,7 @@ ghost use Rattle.linker_runs.specs.Faults.{IsFirstFault};
 
 use super::validity::{has_its_nops, is_clear, run_granularity};
 use super::{Alignment, Item, Shapes};
+use crate::items::{AsItem, ItemList};
 
 /// Why a run can't be relaxed: what is wrong with one of its items. Of an item that has several
 /// faults, the one that comes first here is told. u is the greatest granularity of all short shapes.
@@ -60,6 +61,7 @@ pub struct ItemFault {
 
 impl Shapes {
     /// What is wrong with shapes of a site of so many bytes.
+    #[inline]
     fn fault(&self, len: u64) -> Option<Fault>
         ensures { IsFirstIn (ShapesMeet self.now len) result }
     {
@@ -81,6 +83,7 @@ impl Shapes {
 
 impl Alignment {
     /// What is wrong with it in a run of a granularity at an address.
+    #[inline]
     fn fault(&self, granularity: u64, start: u64) -> Option<Fault>
         requires granularity { 0 < granularity }
         requires power { 0 < self.now.alignment }
@@ -105,6 +108,7 @@ impl Alignment {
 
 impl Item {
     /// What is wrong with it by itself.
+    #[inline]
     fn fault(&self) -> Option<Fault>
         ensures { IsFirstIn (ItemMeets self.now) result }
     {
@@ -121,6 +125,7 @@ impl Item {
     }
 
     /// What is wrong with it in a run of a granularity at an address.
+    #[inline]
     fn granularity_fault(&self, granularity: u64, start: u64) -> Option<Fault>
         requires granularity { 0 < granularity }
         requires ends { start + end_of self.now < 2 ^ 64 }
@@ -141,12 +146,12 @@ impl Item {
 }
 
 /// What is wrong with the item at an index by itself or by its place.
-fn own_fault(items: &[Item], start: u64, index: usize) -> Option<Fault>
+fn own_fault<I: AsItem>(items: &ItemList<'_, I>, start: u64, index: usize) -> Option<Fault>
     requires { index < length items.now }
     ensures { IsFirstIn (OwnMeets start items.now index) result }
 {
-    let item = &items[index];
-    if index > 0 && !items[index - 1].ends_by(item.offset()) {
+    let item = items.at(index);
+    if index > 0 && !items.at(index - 1).ends_by(item.offset()) {
         Some(Fault::Overlaps)
     } else if !item.ends_below(start) {
         Some(Fault::TooHigh)
@@ -156,18 +161,23 @@ fn own_fault(items: &[Item], start: u64, index: usize) -> Option<Fault>
 }
 
 /// What is wrong with the item at an index among the others, in a run of a granularity.
-fn run_fault(items: &[Item], start: u64, granularity: u64, index: usize) -> Option<Fault>
+fn run_fault<I: AsItem>(
+    items: &ItemList<'_, I>,
+    start: u64,
+    granularity: u64,
+    index: usize,
+) -> Option<Fault>
     requires in_order { AreInOrder start items.now }
     requires sound { AreSound start items.now }
     requires within { index < length items.now }
     requires granularity { 0 < granularity }
     ensures { IsFirstIn (RunMeets granularity start items.now index) result }
 {
-    let item = &items[index];
+    let item = items.at(index);
     if let Some(fault) = item.granularity_fault(granularity, start) {
         return Some(fault);
     }
-    if !is_clear(items, start, item.target()) {
+    if !is_clear(items, start, item.target(), index) {
         Some(Fault::TargetInside)
     } else if !has_its_nops(items, start, granularity, index) {
         Some(Fault::MayBeMisaligned)
@@ -177,7 +187,7 @@ fn run_fault(items: &[Item], start: u64, granularity: u64, index: usize) -> Opti
 }
 
 /// The first item with a fault by itself or by its place.
-fn first_own_fault(items: &[Item], start: u64) -> Option<ItemFault>
+fn first_own_fault<I: AsItem>(items: &ItemList<'_, I>, start: u64) -> Option<ItemFault>
     ensures { MatchOption result (AreSound start items.now)
         (IsFirstAt (OwnMeets start items.now) (length items.now)) }
 {
@@ -190,7 +200,7 @@ fn first_own_fault(items: &[Item], start: u64) -> Option<ItemFault>
 }
 
 /// The first item with a fault among the others.
-fn first_run_fault(items: &[Item], start: u64) -> Option<ItemFault>
+fn first_run_fault<I: AsItem>(items: &ItemList<'_, I>, start: u64) -> Option<ItemFault>
     requires in_order { AreInOrder start items.now }
     requires sound { AreSound start items.now }
     ensures { MatchOption result ((i : ℕ) → i < length items.now → (fault : Fault)
@@ -213,7 +223,14 @@ fn first_run_fault(items: &[Item], start: u64) -> Option<ItemFault>
 /// item has one of those before.
 ///
 /// It doesn't allocate, and takes O(n log n) for n items.
-pub fn first_faulty(items: &[Item], start: u64) -> Option<ItemFault>
+pub fn first_faulty<I: AsItem>(items: &[I], start: u64) -> Option<ItemFault>
+    ensures { MatchOption result (AreItems start (map I.item items.now))
+        (IsFirstFault start (map I.item items.now)) }
+{
+    first_fault(&ItemList::new(items), start)
+}
+
+fn first_fault<I: AsItem>(items: &ItemList<'_, I>, start: u64) -> Option<ItemFault>
     ensures { MatchOption result (AreItems start items.now) (IsFirstFault start items.now) }
 {
     if let Some(found) = first_own_fault(items, start) {
@@ -242,8 +259,8 @@ pub fn first_faulty(items: &[Item], start: u64) -> Option<ItemFault>
 /// the alignment, its nops and the bytes from there.
 ///
 /// It doesn't allocate, and takes O(n log n) for n items. `first_faulty` says what is wrong.
-pub fn are_items(items: &[Item], start: u64) -> bool
-    ensures { IsTrue result ↔ AreItems start items.now }
+pub fn are_items<I: AsItem>(items: &[I], start: u64) -> bool
+    ensures { IsTrue result ↔ AreItems start (map I.item items.now) }
 {
     first_faulty(items, start).is_none()
 }

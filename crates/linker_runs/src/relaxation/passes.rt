@@ -2,38 +2,29 @@
 
 ghost use Rattle.std.specs.Prelude.{◌≡◌, ◌+◌, ◌<◌, ◌≤◌, ◌^◌, ℕ, length, true, false, sum};
 ghost use Rattle.std.specs.Prelude.{List};
-ghost use Rattle.linker_runs.specs.Relaxing.{place_of, choice_of, lengthened};
+ghost use Rattle.linker_runs.specs.Relaxing.{choice_of, lengthened};
 ghost use Rattle.linker_runs.specs.Relaxing.{is_in_reach};
 ghost use Rattle.linker_runs.specs.Relaxing.{AreInOrder, AreFreed, AreKeptBytes, kept_by};
 ghost use Rattle.linker_runs.specs.Relaxing.{AreRelaxed};
 ghost use Rattle.linker_runs.specs.Choosing.{AreItems, IsInReachExactly, AreTooFewRounds};
 ghost use Rattle.linker_runs.specs.Inner.Relaxing.{ArePlaces, AreForced};
 
-use super::Item;
-
-/// How many items end at or below an offset.
-pub(super) fn place_of(items: &[Item], offset: u64, start: u64) -> usize
-    requires { AreInOrder start items.now }
-    ensures place { result ≡ place_of items.now offset }
-    ensures within { result ≤ length items.now }
-{
-    items.partition_point(|item| item.ends_by(offset))
-}
+use crate::items::{AsItem, ItemList};
 
 /// For each item the place of its target, or `usize::MAX` where its shortest shape reaches that while
 /// nothing is freed: then it is always in reach.
-pub(super) fn find_places(items: &[Item], start: u64, places: &mut [usize])
+pub(super) fn find_places<I: AsItem>(items: &ItemList<'_, I>, start: u64, places: &mut [usize])
     requires items { AreItems start items.now }
     requires fewer { length items.now + 1 < 2 ^ 64 }
     requires one_each { length places.old ≡ length items.now }
     ensures { ArePlaces start items.now places.new }
 {
     for index in 0..items.len() {
-        let item = &items[index];
+        let item = items.at(index);
         places[index] = if item.reaches(0, 0, 0) {
             usize::MAX
         } else {
-            place_of(items, item.target(), start)
+            items.place_of(item.target(), index, start)
         };
     }
 }
@@ -48,7 +39,12 @@ pub(super) fn shorten(shapes: &mut [u8])
 }
 
 /// For each item how many bytes those before it free, and at the end how many all do.
-pub(super) fn lay_out(items: &[Item], start: u64, shapes: &[u8], freed: &mut [u64])
+pub(super) fn lay_out<I: AsItem>(
+    items: &ItemList<'_, I>,
+    start: u64,
+    shapes: &[u8],
+    freed: &mut [u64],
+)
     requires in_order { AreInOrder start items.now }
     requires one_each { length shapes.now ≡ length items.now }
     requires one_more { length freed.old ≡ length items.now + 1 }
@@ -56,7 +52,7 @@ pub(super) fn lay_out(items: &[Item], start: u64, shapes: &[u8], freed: &mut [u6
 {
     let mut before = 0;
     for index in 0..items.len() {
-        let item = &items[index];
+        let item = items.at(index);
         freed[index] = before;
         before += item.len() - item.kept_by(start, shapes[index], before);
     }
@@ -64,7 +60,13 @@ pub(super) fn lay_out(items: &[Item], start: u64, shapes: &[u8], freed: &mut [u6
 }
 
 /// For each item how many of its bytes stay.
-pub(super) fn keep(items: &[Item], start: u64, shapes: &[u8], freed: &[u64], kept: &mut [u64])
+pub(super) fn keep<I: AsItem>(
+    items: &ItemList<'_, I>,
+    start: u64,
+    shapes: &[u8],
+    freed: &[u64],
+    kept: &mut [u64],
+)
     requires in_order { AreInOrder start items.now }
     requires shapes { length shapes.now ≡ length items.now }
     requires kept { length kept.old ≡ length items.now }
@@ -73,14 +75,15 @@ pub(super) fn keep(items: &[Item], start: u64, shapes: &[u8], freed: &[u64], kep
     ensures { AreKeptBytes start items.now shapes.now kept.new }
 {
     for index in 0..items.len() {
-        kept[index] = items[index].kept_by(start, shapes[index], freed[index]);
+        let item = items.at(index);
+        kept[index] = item.kept_by(start, shapes[index], freed[index]);
     }
 }
 
 /// Whether the item at an index, which has a shape, is in reach of its target by a layout.
 #[inline(always)]
-fn is_in_reach(
-    items: &[Item],
+fn is_in_reach<I: AsItem>(
+    items: &ItemList<'_, I>,
     start: u64,
     places: &[usize],
     freed: &[u64],
@@ -98,12 +101,13 @@ fn is_in_reach(
     ensures can_grow { result ≡ false → shape < 2 }
 {
     let place = places[index];
-    place > items.len() || items[index].reaches(shape, freed[index], freed[place])
+    let item = items.at(index);
+    place > items.len() || item.reaches(shape, freed[index], freed[place])
 }
 
 /// Gives each site that is out of reach its next shape. Whether there is one.
-pub(super) fn lengthen(
-    items: &[Item],
+pub(super) fn lengthen<I: AsItem>(
+    items: &ItemList<'_, I>,
     start: u64,
     places: &[usize],
     freed: &[u64],
@@ -142,8 +146,8 @@ pub(super) fn lengthen(
 const MOST_ROUNDS: u32 = 64;
 
 /// Rounds until no site is out of reach. Whether there are few enough.
-pub(super) fn settle(
-    items: &[Item],
+pub(super) fn settle<I: AsItem>(
+    items: &ItemList<'_, I>,
     start: u64,
     places: &[usize],
     freed: &mut [u64],

@@ -18,10 +18,11 @@ ghost use Rattle.linker_runs.specs.Choosing.{HasItsNops};
 ghost use Rattle.linker_runs.specs.Faults.{ShapesMeet, AlignmentMeets};
 ghost use Rattle.linker_runs.specs.Inner.Validity.{IsClearRun};
 
-use super::passes::place_of;
 use super::{Alignment, Item, Shapes};
+use crate::items::{AsItem, ItemList};
 
 /// Whether a number is a power of two.
+#[inline]
 fn is_power_of_two(number: u64) -> bool
     ensures { IsTrue result ↔ IsPowerOfTwo number }
 {
@@ -30,6 +31,7 @@ fn is_power_of_two(number: u64) -> bool
 
 impl Shapes {
     /// Whether no shape keeps more than so many bytes.
+    #[inline]
     pub(super) fn are_within(&self, len: u64) -> bool
         requires { self.now.count ≤ 2 }
         ensures { IsTrue result ↔ ShapesMeet self.now len ShapeTooLong }
@@ -40,6 +42,7 @@ impl Shapes {
     }
 
     /// Whether each short shape keeps fewer bytes than the next.
+    #[inline]
     pub(super) fn are_ascending(&self) -> bool
         requires { self.now.count ≤ 2 }
         ensures { (len : ℕ) → IsTrue result ↔ ShapesMeet self.now len ShapesNotAscending }
@@ -49,6 +52,7 @@ impl Shapes {
     }
 
     /// Whether the short shape at an index, if there is one, has a power of two as its granularity.
+    #[inline]
     fn has_granularity(&self, shape: u8) -> bool
         requires { shape < 2 }
         ensures { IsTrue result
@@ -59,6 +63,7 @@ impl Shapes {
     }
 
     /// Whether all units are powers of two.
+    #[inline]
     fn have_powers(&self) -> bool
         requires { self.now.count ≤ 2 }
         ensures { IsTrue result
@@ -68,6 +73,7 @@ impl Shapes {
     }
 
     /// Whether the second granularity, if there is one, is no greater than the first.
+    #[inline]
     fn units_descend(&self) -> bool
         requires { self.now.count ≤ 2 }
         ensures { IsTrue result ↔ (1 < self.now.count
@@ -78,6 +84,7 @@ impl Shapes {
     }
 
     /// Whether the units are powers of two, none less than the next.
+    #[inline]
     pub(super) fn have_units(&self) -> bool
         requires { self.now.count ≤ 2 }
         ensures { (len : ℕ) → IsTrue result ↔ ShapesMeet self.now len BadGranularity }
@@ -86,6 +93,7 @@ impl Shapes {
     }
 
     /// Whether each short shape reaches its own offset, and none farther than the next.
+    #[inline]
     pub(super) fn have_reaches(&self) -> bool
         requires { self.now.count ≤ 2 }
         ensures { (len : ℕ) → IsTrue result ↔ ShapesMeet self.now len BadReach }
@@ -99,6 +107,7 @@ impl Shapes {
     }
 
     /// Whether each shape of a site of so many bytes frees a multiple of a granularity.
+    #[inline]
     pub(super) fn are_even(&self, granularity: u64, len: u64) -> bool
         requires granularity { 0 < granularity }
         requires count { self.now.count ≤ 2 }
@@ -111,6 +120,7 @@ impl Shapes {
     }
 
     /// The greatest granularity of the short ones, and 1 where there is none.
+    #[inline]
     fn granularity(&self) -> u64
         requires { self.now.count ≤ 2 }
         ensures { result ≡ shapes_granularity self.now }
@@ -127,6 +137,7 @@ impl Shapes {
 
 impl Alignment {
     /// Whether it is a power of two.
+    #[inline]
     pub(super) fn has_power(&self) -> bool
         ensures { IsTrue result ↔ IsPowerOfTwo self.now.alignment }
     {
@@ -134,6 +145,7 @@ impl Alignment {
     }
 
     /// Whether it keeps the nops that its input address needs in each layout of a run of a granularity.
+    #[inline]
     pub(super) fn is_still(&self, granularity: u64, start: u64) -> bool
         requires granularity { 0 < granularity }
         requires power { 0 < self.now.alignment }
@@ -149,6 +161,7 @@ impl Alignment {
     }
 
     /// Whether it has as many nops as it may need in a run of a granularity, if it has a limit.
+    #[inline]
     pub(super) fn has_nops(&self, granularity: u64) -> bool
         ensures { (start : ℕ) → IsTrue result ↔ AlignmentMeets granularity start self.now TooFewNops }
     {
@@ -160,6 +173,7 @@ impl Alignment {
     }
 
     /// Whether its nops are a multiple of a granularity, if it has a limit.
+    #[inline]
     pub(super) fn has_even_nops(&self, granularity: u64) -> bool
         requires { 0 < granularity }
         ensures { (start : ℕ) → IsTrue result ↔ AlignmentMeets granularity start self.now UnevenNops }
@@ -173,6 +187,7 @@ impl Alignment {
 
 impl Item {
     /// Whether it ends at or below the address 2^64 - 1 in a run at an address.
+    #[inline]
     pub(super) fn ends_below(&self, start: u64) -> bool
         ensures { IsTrue result ↔ (start + end_of self.now < 2 ^ 64) }
     {
@@ -181,6 +196,7 @@ impl Item {
     }
 
     /// The greatest granularity of its short shapes.
+    #[inline]
     fn granularity(&self) -> u64
         requires { IsSound self.now }
         ensures { result ≡ item_granularity self.now }
@@ -192,6 +208,7 @@ impl Item {
     }
 
     /// Whether it aligns an offset behind it to a multiple of a number in every layout.
+    #[inline]
     fn is_anchor(&self, number: u64, offset: u64) -> bool
         requires number { 0 < number }
         requires behind { end_of self.now ≤ offset }
@@ -208,6 +225,7 @@ impl Item {
     }
 
     /// Whether it frees only multiples of a number that divides the address of an offset behind it.
+    #[inline]
     fn frees_multiples(&self, number: u64, offset: u64) -> bool
         requires number { 0 < number }
         requires sound { IsSound self.now }
@@ -225,6 +243,7 @@ impl Item {
     }
 
     /// How many of its bytes stay in each choice.
+    #[inline]
     fn least_len(&self) -> u64
         requires { IsSound self.now }
         ensures { result ≡ least_len self.now }
@@ -237,38 +256,54 @@ impl Item {
 }
 
 /// The greatest granularity of a run.
-pub(super) fn run_granularity(items: &[Item], start: u64) -> u64
+pub(super) fn run_granularity<I: AsItem>(items: &ItemList<'_, I>, start: u64) -> u64
     requires { AreInOrder start items.now }
     ensures granularity { result ≡ run_granularity items.now }
     ensures some { 0 < result }
 {
     let mut granularity = 1;
-    for item in items {
+    for index in 0..items.len() {
+        let item = items.at(index);
         granularity = granularity.max(item.granularity());
     }
     granularity
 }
 
 /// Whether an offset is not inside what an item may lose.
-pub(super) fn is_clear(items: &[Item], start: u64, offset: u64) -> bool
+pub(super) fn is_clear<I: AsItem>(
+    items: &ItemList<'_, I>,
+    start: u64,
+    offset: u64,
+    near: usize,
+) -> bool
     requires { AreInOrder start items.now }
     ensures { IsTrue result ↔ IsClearRun items.now offset }
 {
-    let place = place_of(items, offset, start);
-    place == items.len() || offset.saturating_sub(items[place].offset()) <= items[place].least_len()
+    let place = items.place_of(offset, near, start);
+    if place == items.len() {
+        return true;
+    }
+    let item = items.at(place);
+    offset.saturating_sub(item.offset()) <= item.least_len()
 }
 
 /// Whether a number divides the output address of the item at an index in every layout.
-fn is_always_multiple(items: &[Item], start: u64, number: u64, index: usize) -> bool
+fn is_always_multiple<I: AsItem>(
+    items: &ItemList<'_, I>,
+    start: u64,
+    number: u64,
+    index: usize,
+) -> bool
     requires number { 0 < number }
     requires in_order { AreInOrder start items.now }
     requires within { index < length items.now }
     ensures { IsTrue result
         ↔ IsAlwaysMultiple number start (offset_of (item_at items.now index)) items.now index }
 {
-    let offset = items[index].offset();
+    let here = items.at(index);
+    let offset = here.offset();
     for behind in 0..index {
-        let item = &items[index - 1 - behind];
+        let item = items.at(index - 1 - behind);
         if item.is_anchor(number, offset) {
             return true;
         }
@@ -281,8 +316,8 @@ fn is_always_multiple(items: &[Item], start: u64, number: u64, index: usize) -> 
 
 /// Whether an alignment, the item at an index, has as many nops as it needs in every layout of a run
 /// of a granularity.
-fn are_always_enough(
-    items: &[Item],
+fn are_always_enough<I: AsItem>(
+    items: &ItemList<'_, I>,
     start: u64,
     granularity: u64,
     index: usize,
@@ -302,17 +337,22 @@ fn are_always_enough(
 
 /// Whether the item at an index has as many nops as it needs in every layout of a run of a granularity, if
 /// it is an alignment without a limit.
-pub(super) fn has_its_nops(items: &[Item], start: u64, granularity: u64, index: usize) -> bool
+pub(super) fn has_its_nops<I: AsItem>(
+    items: &ItemList<'_, I>,
+    start: u64,
+    granularity: u64,
+    index: usize,
+) -> bool
     requires in_order { AreInOrder start items.now }
     requires within { index < length items.now }
     requires formed { IsFormed (item_at items.now index) }
     ensures { IsTrue result ↔ HasItsNops granularity start items.now index (item_at items.now index) }
 {
-    match &items[index] {
+    match items.at(index) {
         Item::Site(_) => true,
         Item::Aligned(alignment) => {
             alignment.max_skip.is_some()
-                || are_always_enough(items, start, granularity, index, alignment)
+                || are_always_enough(items, start, granularity, index, &alignment)
         }
     }
 }

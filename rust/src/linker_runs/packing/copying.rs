@@ -1,6 +1,7 @@
 // Made by tools/erase of crates/linker_runs/src/packing/copying.rt.
 //! The bytes of a section that stay, in order.
 
+use crate::linker_runs::search::{Tested, passing_near};
 use crate::linker_base::relaxation::RelaxDelta;
 
 /// The bytes of a section from an input offset up to another, as far as they lie in it.
@@ -25,6 +26,24 @@ fn put(packed: &mut [u8], at: usize, bytes: &[u8]) -> usize {
     end
 }
 
+/// Deltas, and whether one begins below an offset.
+struct Begun<'a> {
+    deltas: &'a [RelaxDelta],
+    offset: u64,
+}
+
+impl<'a> Tested for Begun<'a> {
+    #[inline(always)]
+    fn len(&self) -> usize {
+        self.deltas.len()
+    }
+
+    #[inline(always)]
+    fn passes(&self, index: usize) -> bool {
+        self.deltas[index].input_offset < self.offset
+    }
+}
+
 /// How far from an index on deltas are looked at one by one.
 const NEAR: usize = 4;
 
@@ -37,7 +56,7 @@ fn are_begun(deltas: &[RelaxDelta], begun: usize, offset: u64) -> bool {
 }
 
 /// How many of the deltas begin below an offset. `near` is where a walk through the deltas stands,
-/// which finds a number that is little more without a search.
+/// which finds a number that is little more without a search, and one that is near by a short one.
 #[inline(always)]
 pub(crate) fn begun_at(deltas: &[RelaxDelta], near: usize, offset: u64) -> usize {
     for begun in near..near.saturating_add(NEAR) {
@@ -45,7 +64,23 @@ pub(crate) fn begun_at(deltas: &[RelaxDelta], near: usize, offset: u64) -> usize
             return begun;
         }
     }
-    deltas.partition_point(|delta| delta.input_offset < offset)
+    passing_near(&Begun { deltas, offset }, near)
+}
+
+/// About how many of the deltas begin below an offset, if they are as far apart everywhere, and so
+/// many begin below another one. It is where a search begins.
+#[inline(always)]
+pub(crate) fn begun_about(deltas: &[RelaxDelta], begun: usize, from: u64, to: u64) -> usize {
+    if deltas.is_empty() {
+        return begun;
+    }
+    let end = deltas[deltas.len() - 1].input_offset;
+    let apart = (end / deltas.len() as u64).max(1);
+    if from <= to {
+        begun.saturating_add(((to - from) / apart) as usize)
+    } else {
+        begun.saturating_sub(((from - to) / apart) as usize)
+    }
 }
 
 /// The output offset of an input offset, for a walk that stands near an index of the deltas.

@@ -6,9 +6,11 @@
 //! found in a sweep that goes to meet them.
 
 use super::Item;
+use crate::linker_runs::items::{AsItem, ItemList};
 
 impl Item {
     /// How many bytes it frees with the shape at an index, where alignments keep all.
+    #[inline(always)]
     fn freed_cautiously(&self, shape: u8) -> u64 {
         match self {
             Item::Site(site) => u64::from(site.len) - site.shapes.kept_by(shape),
@@ -19,19 +21,25 @@ impl Item {
 
 /// For each item how many bytes those before it free where alignments keep all, and at the end how
 /// many all do.
-fn lay_out_cautiously(items: &[Item], start: u64, shapes: &[u8], freed: &mut [u64]) {
+fn lay_out_cautiously<I: AsItem>(
+    items: &ItemList<'_, I>,
+    start: u64,
+    shapes: &[u8],
+    freed: &mut [u64],
+) {
     let mut before = 0;
     for index in 0..items.len() {
         freed[index] = before;
-        before += items[index].freed_cautiously(shapes[index]);
+        let item = items.at(index);
+        before += item.freed_cautiously(shapes[index]);
     }
     freed[items.len()] = before;
 }
 
 /// Gives the site at an index its next shape if it is out of reach, and returns how many bytes fewer
 /// it then frees. What `freed` has behind the index is `more` above what the choice frees.
-fn lengthen_at(
-    items: &[Item],
+fn lengthen_at<I: AsItem>(
+    items: &ItemList<'_, I>,
     start: u64,
     places: &[usize],
     freed: &[u64],
@@ -48,7 +56,7 @@ fn lengthen_at(
     } else {
         freed[place] - more
     };
-    let item = &items[index];
+    let item = items.at(index);
     let shape = shapes[index];
     if item.reaches(shape, freed[index], there) {
         return 0;
@@ -58,8 +66,8 @@ fn lengthen_at(
 }
 
 /// A sweep from the last site to the first. Whether a shape is longer after it. `freed` is used up.
-fn sweep_back(
-    items: &[Item],
+fn sweep_back<I: AsItem>(
+    items: &ItemList<'_, I>,
     start: u64,
     places: &[usize],
     freed: &mut [u64],
@@ -74,8 +82,15 @@ fn sweep_back(
     more > 0
 }
 
-/// A sweep from the first site to the last. `freed` is used up.
-fn sweep_ahead(items: &[Item], start: u64, places: &[usize], freed: &mut [u64], shapes: &mut [u8]) {
+/// A sweep from the first site to the last. Each site that was out of reach before it has a longer
+/// shape after it. `freed` is used up.
+fn sweep_ahead<I: AsItem>(
+    items: &ItemList<'_, I>,
+    start: u64,
+    places: &[usize],
+    freed: &mut [u64],
+    shapes: &mut [u8],
+) {
     let mut more = 0;
     for index in 0..items.len() {
         freed[index] -= more;
@@ -84,8 +99,8 @@ fn sweep_ahead(items: &[Item], start: u64, places: &[usize], freed: &mut [u64], 
 }
 
 /// Sweeps until no site is out of reach where alignments keep all.
-pub(super) fn choose_cautiously(
-    items: &[Item],
+pub(super) fn choose_cautiously<I: AsItem>(
+    items: &ItemList<'_, I>,
     start: u64,
     places: &[usize],
     freed: &mut [u64],

@@ -3,6 +3,7 @@
 
 use super::validity::{has_its_nops, is_clear, run_granularity};
 use super::{Alignment, Item, Shapes};
+use crate::linker_runs::items::{AsItem, ItemList};
 
 /// Why a run can't be relaxed: what is wrong with one of its items. Of an item that has several
 /// faults, the one that comes first here is told. u is the greatest granularity of all short shapes.
@@ -55,6 +56,7 @@ pub struct ItemFault {
 
 impl Shapes {
     /// What is wrong with shapes of a site of so many bytes.
+    #[inline]
     fn fault(&self, len: u64) -> Option<Fault> {
         if self.count > 2 {
             Some(Fault::TooManyShapes)
@@ -74,6 +76,7 @@ impl Shapes {
 
 impl Alignment {
     /// What is wrong with it in a run of a granularity at an address.
+    #[inline]
     fn fault(&self, granularity: u64, start: u64) -> Option<Fault> {
         if self.is_still(granularity, start) {
             None
@@ -93,6 +96,7 @@ impl Alignment {
 
 impl Item {
     /// What is wrong with it by itself.
+    #[inline]
     fn fault(&self) -> Option<Fault> {
         match self {
             Item::Site(site) => site.shapes.fault(u64::from(site.len)),
@@ -107,6 +111,7 @@ impl Item {
     }
 
     /// What is wrong with it in a run of a granularity at an address.
+    #[inline]
     fn granularity_fault(&self, granularity: u64, start: u64) -> Option<Fault> {
         match self {
             Item::Site(site) => {
@@ -122,9 +127,9 @@ impl Item {
 }
 
 /// What is wrong with the item at an index by itself or by its place.
-fn own_fault(items: &[Item], start: u64, index: usize) -> Option<Fault> {
-    let item = &items[index];
-    if index > 0 && !items[index - 1].ends_by(item.offset()) {
+fn own_fault<I: AsItem>(items: &ItemList<'_, I>, start: u64, index: usize) -> Option<Fault> {
+    let item = items.at(index);
+    if index > 0 && !items.at(index - 1).ends_by(item.offset()) {
         Some(Fault::Overlaps)
     } else if !item.ends_below(start) {
         Some(Fault::TooHigh)
@@ -134,12 +139,17 @@ fn own_fault(items: &[Item], start: u64, index: usize) -> Option<Fault> {
 }
 
 /// What is wrong with the item at an index among the others, in a run of a granularity.
-fn run_fault(items: &[Item], start: u64, granularity: u64, index: usize) -> Option<Fault> {
-    let item = &items[index];
+fn run_fault<I: AsItem>(
+    items: &ItemList<'_, I>,
+    start: u64,
+    granularity: u64,
+    index: usize,
+) -> Option<Fault> {
+    let item = items.at(index);
     if let Some(fault) = item.granularity_fault(granularity, start) {
         return Some(fault);
     }
-    if !is_clear(items, start, item.target()) {
+    if !is_clear(items, start, item.target(), index) {
         Some(Fault::TargetInside)
     } else if !has_its_nops(items, start, granularity, index) {
         Some(Fault::MayBeMisaligned)
@@ -149,7 +159,7 @@ fn run_fault(items: &[Item], start: u64, granularity: u64, index: usize) -> Opti
 }
 
 /// The first item with a fault by itself or by its place.
-fn first_own_fault(items: &[Item], start: u64) -> Option<ItemFault> {
+fn first_own_fault<I: AsItem>(items: &ItemList<'_, I>, start: u64) -> Option<ItemFault> {
     for index in 0..items.len() {
         if let Some(fault) = own_fault(items, start, index) {
             return Some(ItemFault { index, fault });
@@ -159,7 +169,7 @@ fn first_own_fault(items: &[Item], start: u64) -> Option<ItemFault> {
 }
 
 /// The first item with a fault among the others.
-fn first_run_fault(items: &[Item], start: u64) -> Option<ItemFault> {
+fn first_run_fault<I: AsItem>(items: &ItemList<'_, I>, start: u64) -> Option<ItemFault> {
     let granularity = run_granularity(items, start);
     for index in 0..items.len() {
         if let Some(fault) = run_fault(items, start, granularity, index) {
@@ -177,7 +187,11 @@ fn first_run_fault(items: &[Item], start: u64) -> Option<ItemFault> {
 ///
 /// It doesn't allocate, and takes O(n log n) for n items.
 #[must_use]
-pub fn first_faulty(items: &[Item], start: u64) -> Option<ItemFault> {
+pub fn first_faulty<I: AsItem>(items: &[I], start: u64) -> Option<ItemFault> {
+    first_fault(&ItemList::new(items), start)
+}
+
+fn first_fault<I: AsItem>(items: &ItemList<'_, I>, start: u64) -> Option<ItemFault> {
     if let Some(found) = first_own_fault(items, start) {
         return Some(found);
     }
@@ -205,6 +219,6 @@ pub fn first_faulty(items: &[Item], start: u64) -> Option<ItemFault> {
 ///
 /// It doesn't allocate, and takes O(n log n) for n items. `first_faulty` says what is wrong.
 #[must_use]
-pub fn are_items(items: &[Item], start: u64) -> bool {
+pub fn are_items<I: AsItem>(items: &[I], start: u64) -> bool {
     first_faulty(items, start).is_none()
 }

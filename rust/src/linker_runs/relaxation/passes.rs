@@ -1,22 +1,17 @@
 // Made by tools/erase of crates/linker_runs/src/relaxation/passes.rt.
 //! Passes over a run: the places of targets, a layout, and one round.
 
-use super::Item;
-
-/// How many items end at or below an offset.
-pub(super) fn place_of(items: &[Item], offset: u64, start: u64) -> usize {
-    items.partition_point(|item| item.ends_by(offset))
-}
+use crate::linker_runs::items::{AsItem, ItemList};
 
 /// For each item the place of its target, or `usize::MAX` where its shortest shape reaches that while
 /// nothing is freed: then it is always in reach.
-pub(super) fn find_places(items: &[Item], start: u64, places: &mut [usize]) {
+pub(super) fn find_places<I: AsItem>(items: &ItemList<'_, I>, start: u64, places: &mut [usize]) {
     for index in 0..items.len() {
-        let item = &items[index];
+        let item = items.at(index);
         places[index] = if item.reaches(0, 0, 0) {
             usize::MAX
         } else {
-            place_of(items, item.target(), start)
+            items.place_of(item.target(), index, start)
         };
     }
 }
@@ -29,10 +24,15 @@ pub(super) fn shorten(shapes: &mut [u8]) {
 }
 
 /// For each item how many bytes those before it free, and at the end how many all do.
-pub(super) fn lay_out(items: &[Item], start: u64, shapes: &[u8], freed: &mut [u64]) {
+pub(super) fn lay_out<I: AsItem>(
+    items: &ItemList<'_, I>,
+    start: u64,
+    shapes: &[u8],
+    freed: &mut [u64],
+) {
     let mut before = 0;
     for index in 0..items.len() {
-        let item = &items[index];
+        let item = items.at(index);
         freed[index] = before;
         before += item.len() - item.kept_by(start, shapes[index], before);
     }
@@ -40,16 +40,23 @@ pub(super) fn lay_out(items: &[Item], start: u64, shapes: &[u8], freed: &mut [u6
 }
 
 /// For each item how many of its bytes stay.
-pub(super) fn keep(items: &[Item], start: u64, shapes: &[u8], freed: &[u64], kept: &mut [u64]) {
+pub(super) fn keep<I: AsItem>(
+    items: &ItemList<'_, I>,
+    start: u64,
+    shapes: &[u8],
+    freed: &[u64],
+    kept: &mut [u64],
+) {
     for index in 0..items.len() {
-        kept[index] = items[index].kept_by(start, shapes[index], freed[index]);
+        let item = items.at(index);
+        kept[index] = item.kept_by(start, shapes[index], freed[index]);
     }
 }
 
 /// Whether the item at an index, which has a shape, is in reach of its target by a layout.
 #[inline(always)]
-fn is_in_reach(
-    items: &[Item],
+fn is_in_reach<I: AsItem>(
+    items: &ItemList<'_, I>,
     start: u64,
     places: &[usize],
     freed: &[u64],
@@ -57,12 +64,13 @@ fn is_in_reach(
     index: usize,
 ) -> bool {
     let place = places[index];
-    place > items.len() || items[index].reaches(shape, freed[index], freed[place])
+    let item = items.at(index);
+    place > items.len() || item.reaches(shape, freed[index], freed[place])
 }
 
 /// Gives each site that is out of reach its next shape. Whether there is one.
-pub(super) fn lengthen(
-    items: &[Item],
+pub(super) fn lengthen<I: AsItem>(
+    items: &ItemList<'_, I>,
     start: u64,
     places: &[usize],
     freed: &[u64],
@@ -84,8 +92,8 @@ pub(super) fn lengthen(
 const MOST_ROUNDS: u32 = 64;
 
 /// Rounds until no site is out of reach. Whether there are few enough.
-pub(super) fn settle(
-    items: &[Item],
+pub(super) fn settle<I: AsItem>(
+    items: &ItemList<'_, I>,
     start: u64,
     places: &[usize],
     freed: &mut [u64],

@@ -1,16 +1,18 @@
 // Made by tools/erase of crates/linker_runs/src/relaxation/validity.rt.
 //! What is tested of the items of a run.
 
-use super::passes::place_of;
 use super::{Alignment, Item, Shapes};
+use crate::linker_runs::items::{AsItem, ItemList};
 
 /// Whether a number is a power of two.
+#[inline]
 fn is_power_of_two(number: u64) -> bool {
     number.is_power_of_two()
 }
 
 impl Shapes {
     /// Whether no shape keeps more than so many bytes.
+    #[inline]
     pub(super) fn are_within(&self, len: u64) -> bool {
         u64::from(self.longest) <= len
             && (self.count < 1 || u64::from(self.short[0].kept) <= len)
@@ -18,34 +20,40 @@ impl Shapes {
     }
 
     /// Whether each short shape keeps fewer bytes than the next.
+    #[inline]
     pub(super) fn are_ascending(&self) -> bool {
         (self.count < 1 || self.kept_by(0) < self.kept_by(1))
             && (self.count < 2 || self.kept_by(1) < self.kept_by(2))
     }
 
     /// Whether the short shape at an index, if there is one, has a power of two as its granularity.
+    #[inline]
     fn has_granularity(&self, shape: u8) -> bool {
         shape >= self.count
             || is_power_of_two(u64::from(self.short[usize::from(shape)].granularity))
     }
 
     /// Whether all units are powers of two.
+    #[inline]
     fn have_powers(&self) -> bool {
         self.has_granularity(0) && self.has_granularity(1)
     }
 
     /// Whether the second granularity, if there is one, is no greater than the first.
+    #[inline]
     fn units_descend(&self) -> bool {
         let [first, second] = &self.short;
         self.count < 2 || second.granularity <= first.granularity
     }
 
     /// Whether the units are powers of two, none less than the next.
+    #[inline]
     pub(super) fn have_units(&self) -> bool {
         self.have_powers() && self.units_descend()
     }
 
     /// Whether each short shape reaches its own offset, and none farther than the next.
+    #[inline]
     pub(super) fn have_reaches(&self) -> bool {
         let [first, second] = &self.short;
         (self.count < 1 || first.max_forward > 0)
@@ -56,6 +64,7 @@ impl Shapes {
     }
 
     /// Whether each shape of a site of so many bytes frees a multiple of a granularity.
+    #[inline]
     pub(super) fn are_even(&self, granularity: u64, len: u64) -> bool {
         (len - self.kept_by(0)) % granularity == 0
             && (len - self.kept_by(1)) % granularity == 0
@@ -63,6 +72,7 @@ impl Shapes {
     }
 
     /// The greatest granularity of the short ones, and 1 where there is none.
+    #[inline]
     fn granularity(&self) -> u64 {
         if self.count > 1 {
             u64::from(self.short[0].granularity.max(self.short[1].granularity))
@@ -76,11 +86,13 @@ impl Shapes {
 
 impl Alignment {
     /// Whether it is a power of two.
+    #[inline]
     pub(super) fn has_power(&self) -> bool {
         is_power_of_two(self.alignment)
     }
 
     /// Whether it keeps the nops that its input address needs in each layout of a run of a granularity.
+    #[inline]
     pub(super) fn is_still(&self, granularity: u64, start: u64) -> bool {
         let nops = u64::from(self.nops);
         let needed = self.needed_at(start + self.offset);
@@ -91,6 +103,7 @@ impl Alignment {
     }
 
     /// Whether it has as many nops as it may need in a run of a granularity, if it has a limit.
+    #[inline]
     pub(super) fn has_nops(&self, granularity: u64) -> bool {
         let nops = u64::from(self.nops);
         match self.max_skip {
@@ -100,6 +113,7 @@ impl Alignment {
     }
 
     /// Whether its nops are a multiple of a granularity, if it has a limit.
+    #[inline]
     pub(super) fn has_even_nops(&self, granularity: u64) -> bool {
         match self.max_skip {
             None => true,
@@ -110,12 +124,14 @@ impl Alignment {
 
 impl Item {
     /// Whether it ends at or below the address 2^64 - 1 in a run at an address.
+    #[inline]
     pub(super) fn ends_below(&self, start: u64) -> bool {
         let room = u64::MAX - start;
         self.offset() <= room && self.len() <= room - self.offset()
     }
 
     /// The greatest granularity of its short shapes.
+    #[inline]
     fn granularity(&self) -> u64 {
         match self {
             Item::Site(site) => site.shapes.granularity(),
@@ -124,6 +140,7 @@ impl Item {
     }
 
     /// Whether it aligns an offset behind it to a multiple of a number in every layout.
+    #[inline]
     fn is_anchor(&self, number: u64, offset: u64) -> bool {
         match self {
             Item::Site(_) => false,
@@ -136,6 +153,7 @@ impl Item {
     }
 
     /// Whether it frees only multiples of a number that divides the address of an offset behind it.
+    #[inline]
     fn frees_multiples(&self, number: u64, offset: u64) -> bool {
         match self {
             Item::Site(site) => site.shapes.are_even(number, u64::from(site.len)),
@@ -148,6 +166,7 @@ impl Item {
     }
 
     /// How many of its bytes stay in each choice.
+    #[inline]
     fn least_len(&self) -> u64 {
         match self {
             Item::Site(site) => site.shapes.kept_by(0),
@@ -157,25 +176,41 @@ impl Item {
 }
 
 /// The greatest granularity of a run.
-pub(super) fn run_granularity(items: &[Item], start: u64) -> u64 {
+pub(super) fn run_granularity<I: AsItem>(items: &ItemList<'_, I>, start: u64) -> u64 {
     let mut granularity = 1;
-    for item in items {
+    for index in 0..items.len() {
+        let item = items.at(index);
         granularity = granularity.max(item.granularity());
     }
     granularity
 }
 
 /// Whether an offset is not inside what an item may lose.
-pub(super) fn is_clear(items: &[Item], start: u64, offset: u64) -> bool {
-    let place = place_of(items, offset, start);
-    place == items.len() || offset.saturating_sub(items[place].offset()) <= items[place].least_len()
+pub(super) fn is_clear<I: AsItem>(
+    items: &ItemList<'_, I>,
+    start: u64,
+    offset: u64,
+    near: usize,
+) -> bool {
+    let place = items.place_of(offset, near, start);
+    if place == items.len() {
+        return true;
+    }
+    let item = items.at(place);
+    offset.saturating_sub(item.offset()) <= item.least_len()
 }
 
 /// Whether a number divides the output address of the item at an index in every layout.
-fn is_always_multiple(items: &[Item], start: u64, number: u64, index: usize) -> bool {
-    let offset = items[index].offset();
+fn is_always_multiple<I: AsItem>(
+    items: &ItemList<'_, I>,
+    start: u64,
+    number: u64,
+    index: usize,
+) -> bool {
+    let here = items.at(index);
+    let offset = here.offset();
     for behind in 0..index {
-        let item = &items[index - 1 - behind];
+        let item = items.at(index - 1 - behind);
         if item.is_anchor(number, offset) {
             return true;
         }
@@ -188,8 +223,8 @@ fn is_always_multiple(items: &[Item], start: u64, number: u64, index: usize) -> 
 
 /// Whether an alignment, the item at an index, has as many nops as it needs in every layout of a run
 /// of a granularity.
-fn are_always_enough(
-    items: &[Item],
+fn are_always_enough<I: AsItem>(
+    items: &ItemList<'_, I>,
     start: u64,
     granularity: u64,
     index: usize,
@@ -203,12 +238,17 @@ fn are_always_enough(
 
 /// Whether the item at an index has as many nops as it needs in every layout of a run of a granularity, if
 /// it is an alignment without a limit.
-pub(super) fn has_its_nops(items: &[Item], start: u64, granularity: u64, index: usize) -> bool {
-    match &items[index] {
+pub(super) fn has_its_nops<I: AsItem>(
+    items: &ItemList<'_, I>,
+    start: u64,
+    granularity: u64,
+    index: usize,
+) -> bool {
+    match items.at(index) {
         Item::Site(_) => true,
         Item::Aligned(alignment) => {
             alignment.max_skip.is_some()
-                || are_always_enough(items, start, granularity, index, alignment)
+                || are_always_enough(items, start, granularity, index, &alignment)
         }
     }
 }

@@ -6,7 +6,7 @@ use Rattle.linker_runs.specs.Inner.Packing.{AreReady, IsFilled, IsWrittenTo}
 use Rattle.linker_runs.proofs.packing.put_items.Given as goal
 
 abbrev pub invariant-loop-index : goal.invariant-loop-index
-invariant-loop-index l = AreValidDeltas l.deltas
+invariant-loop-index g l = AreValidDeltas l.deltas
     → length l.packed ≡ packed_offset (section_of l.section l.base (deletions_of l.deltas) l.start) (l.base + length l.section)
     → AreReady l.machine (section_of l.section l.base (deletions_of l.deltas) l.start) l.items (length l.items)
     → IsFilled (deletions_of l.deltas) l.base l.section l.initial.packed

@@ -8,7 +8,7 @@ use Rattle.linker_runs.proofs.packing.test_items.Given as goal
 
 -- the items so far lie in the section, and can be written
 abbrev pub invariant-loop-index : goal.invariant-loop-index
-invariant-loop-index l = record {
+invariant-loop-index g l = record {
   inside : (i : ℕ) → i < l.index → end_of (item_at l.items i) ≤ l.base + length l.section;
   ready : AreValidDeltas l.deltas → AreReady l.machine (section_of l.section l.base (deletions_of l.deltas) l.start) l.items l.index;
 }

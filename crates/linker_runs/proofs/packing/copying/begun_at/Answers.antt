@@ -1,15 +1,17 @@
-use Rattle.std.proofs.Common.{rules, arith}
+use Rattle.std.proofs.Common.{◌≡◌, ◌<◌, ◌≤◌, ℕ, true, false, arith}
 use Rattle.std.specs.Prelude.{nat_lt}
-use Rattle.std.proofs.lemmas.List.Sorted.{IsPartitionPoint-from_clause}
-use Rattle.linker_base.specs.declared.relaxation.RelaxDelta.{RelaxDelta}
-use Rattle.linker_runs.proofs.Copied.{deltas_parted, begun_at_point}
+use Rattle.std.proofs.lemmas.Bool.Decides.{nat_tests}
 use Rattle.linker_runs.proofs.packing.copying.begun_at.Goals as goal
 
+begins : (a b : ℕ) → nat_lt a b ≡ true → a < b
+begins a b test = grind (arith, nat_tests)
+
+past : (a b : ℕ) → nat_lt a b ≡ false → b ≤ a
+past a b test = grind (arith, nat_tests)
+
 pub returns-clause-begun : goal.returns-clause-begun
-returns-clause-begun c = λ valid.
-    let deltas = c.args.deltas.now in
-    let offset = c.args.offset in
-    let first = c.partition_point.result in
-    begun_at_point deltas offset first
-    (IsPartitionPoint-from_clause (λ (d : RelaxDelta). nat_lt d.input_offset offset) deltas first c.partition_point.ensures.partitioned (deltas_parted deltas offset valid) (λ a r f called. search rules))
-    (omega arith)
+returns-clause-begun c = λ valid. record {
+  within = c.passing_near.ensures.within;
+  below = λ some. begins _ _ (c.passing_near.ensures.below some);
+  above = λ more. past _ _ (c.passing_near.ensures.above more);
+}

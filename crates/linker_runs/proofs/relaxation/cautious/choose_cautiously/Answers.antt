@@ -3,7 +3,7 @@ use Rattle.linker_runs.proofs.Rounds.{sum_of_shapes}
 use Rattle.linker_runs.proofs.relaxation.cautious.choose_cautiously.Goals as goal
 
 pub loop-shapes-smaller : goal.loop-shapes-smaller
-loop-shapes-smaller c =
+loop-shapes-smaller g c =
     let back = c.sweep_back.ensures.longer c.loop-shapes-test.true in
     let ahead = c.sweep_ahead.ensures.longer in
     let bound = sum_of_shapes c.sweep_ahead.new.shapes c.sweep_ahead.ensures.short in

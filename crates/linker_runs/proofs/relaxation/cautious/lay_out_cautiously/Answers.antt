@@ -1,15 +1,15 @@
-use Rattle.std.proofs.Common.{◌≡◌, ◌≢◌, ◌<◌, ◌≤◌, length, ap, sym, ⊎_elim, arith, below_more, get_or-set_other, get_or-set_same}
+use Rattle.std.proofs.Common.{◌≡◌, ◌≢◌, ◌<◌, ◌≤◌, ◌∙◌, length, ap, sym, ⊎_elim, arith, below_more, get_or-set_other, get_or-set_same}
 use Rattle.std.proofs.lemmas.Bool.{cases_lt}
 use Rattle.linker_runs.specs.Relaxing.{choice_of}
-use Rattle.linker_runs.specs.Choosing.{cautious_before}
+use Rattle.linker_runs.specs.Choosing.{cautious_before, freed_cautiously}
 use Rattle.linker_runs.proofs.Choices.{cautious_none, cautious_next, cautious_fits}
 use Rattle.linker_runs.proofs.relaxation.cautious.lay_out_cautiously.Goals as goal
 
 pub loop-index-init : goal.loop-index-init
-loop-index-init c = record { before = sym (cautious_none c.args.items.now (choice_of c.args.shapes.now)); written = λ k below. absurd (omega arith) }
+loop-index-init g c = record { before = sym (cautious_none c.args.items.now (choice_of c.args.shapes.now)); written = λ k below. absurd (omega arith) }
 
 pub overflow_add-before : goal.overflow_add-before
-overflow_add-before c =
+overflow_add-before g c =
     let items = c.args.items.now in
     let choice = choice_of c.args.shapes.now in
     let i = c.loop-index.index in
@@ -17,24 +17,24 @@ overflow_add-before c =
     let fits = cautious_fits c.args.start items choice c.requires.items i (omega arith) in
     let ends = c.requires.items.in_order.ends i (omega arith) in
     let before = c.loop-index.invariant.before in
-    let more = c.freed_cautiously-before.ensures in
+    let more = c.freed_cautiously-before.ensures ∙ ap (λ it. freed_cautiously it (choice i)) c.at-item.ensures in
     omega arith
 
 pub loop-index-preserved : goal.loop-index-preserved
-loop-index-preserved c =
+loop-index-preserved g c =
     let items = c.args.items.now in
     let choice = choice_of c.args.shapes.now in
     let i = c.loop-index.index in
     record {
-      before = omega (arith, cautious_next items choice i, c.loop-index.invariant.before, c.freed_cautiously-before.ensures);
+      before = omega (arith, cautious_next items choice i, c.loop-index.invariant.before, c.freed_cautiously-before.ensures ∙ ap (λ it. freed_cautiously it (choice i)) c.at-item.ensures);
       written = below_more _ _
           (λ k h. let ne : k ≢ i = omega arith in rw get_or-set_other (c.loop-index.invariant.written k h))
           (let lt : i < length c.loop-index.freed = omega arith in rw get_or-set_same c.loop-index.invariant.before);
     }
 
 pub returns : goal.returns
-returns c =
-    let n = length c.args.items.now in
+returns g c =
+    let n = c.len.result in
     record {
       below = λ j low. absurd (omega arith);
       above = λ j high within. ⊎_elim

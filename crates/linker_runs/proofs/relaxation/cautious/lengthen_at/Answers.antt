@@ -1,18 +1,18 @@
-use Rattle.std.proofs.Common.{◌≡◌, ◌∙◌, false, get_or, refl, ap, sym, ⊎_elim, arith}
+use Rattle.std.proofs.Common.{◌≡◌, ◌+◌, ◌∙◌, false, get_or, refl, ap, sym, ⊎_elim, arith}
 use Rattle.linker_runs.specs.Relaxing.{item_at, choice_of, place_of, target_of, item_reaches}
-use Rattle.linker_runs.specs.Choosing.{cautious_before}
+use Rattle.linker_runs.specs.Choosing.{cautious_before, freed_cautiously}
 use Rattle.linker_runs.specs.Inner.Relaxing.{is_in_reach_cautiously}
 use Rattle.linker_runs.proofs.Sweeps.{next_layout, next_forced}
 use Rattle.linker_runs.proofs.relaxation.cautious.lengthen_at.Goals as goal
 use Rattle.linker_runs.proofs.relaxation.cautious.lengthen_at.Goals.{then-place-index, else-place-index}
 
 pub returns-clause-freed : goal.returns-clause-freed
-returns-clause-freed c =
+returns-clause-freed g c =
     next_layout c.args.start c.args.items.now c.args.shapes.now _ c.args.index c.requires.items c.requires.within c.requires.shapes refl c.args.freed.now c.args.more
-    c.freed_cautiously-2.result c.freed_cautiously.result c.freed_cautiously.ensures c.freed_cautiously-2.ensures c.requires.freed
+    c.freed_cautiously-2.result c.freed_cautiously.result (c.freed_cautiously.ensures ∙ ap (λ it. freed_cautiously it (choice_of c.args.shapes.now c.args.index)) c.at-item.ensures) (c.freed_cautiously-2.ensures ∙ ap (λ it. freed_cautiously it (choice_of c.args.shapes.now c.args.index + 1)) c.at-item.ensures) c.requires.freed
 
 pub returns-clause-forced : goal.returns-clause-forced
-returns-clause-forced c =
+returns-clause-forced g c =
     let items = c.args.items.now in
     let i = c.args.index in
     let choice = choice_of c.args.shapes.now in
@@ -30,5 +30,5 @@ returns-clause-forced c =
     let out : is_in_reach_cautiously items choice i ≡ false =
     ap (λ x. item_reaches (item_at items i) (choice i) x (cautious_before items choice target)) (sym here)
     ∙ ap (λ x. item_reaches (item_at items i) (choice i) (get_or freed i 0) x) (sym there)
-    ∙ sym c.reaches.ensures.reached ∙ c.if-reaches.false in
+    ∙ ap (λ it. item_reaches it (choice i) (get_or freed i 0) c.if-place-index.there) (sym c.at-item.ensures) ∙ sym c.reaches.ensures.reached ∙ c.if-reaches.false in
     next_forced c.args.start items c.args.shapes.now _ i c.requires.items c.requires.within c.requires.shapes refl out

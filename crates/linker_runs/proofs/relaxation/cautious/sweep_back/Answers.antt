@@ -6,7 +6,7 @@ use Rattle.linker_runs.proofs.Sweeps.{back_step, whole_layout, last_fits, more_f
 use Rattle.linker_runs.proofs.relaxation.cautious.sweep_back.Goals as goal
 
 pub loop-behind-init : goal.loop-behind-init
-loop-behind-init c = record {
+loop-behind-init g c = record {
   freed = whole_layout c.args.items.now c.args.shapes.now c.args.freed.now (length c.args.items.now - 0) (omega arith) c.requires.freed;
   fits = last_fits c.args.start c.args.items.now c.args.shapes.now c.args.freed.now c.requires.items c.requires.freed;
   short = c.requires.short;
@@ -17,23 +17,23 @@ loop-behind-init c = record {
 }
 
 pub overflow_add-more : goal.overflow_add-more
-overflow_add-more c =
+overflow_add-more g c =
     let n = length c.args.items.now in
     let laid = c.lengthen_at-more.ensures.freed.above n (omega arith) (omega arith) in
     let fits = c.loop-behind.invariant.fits in
     omega arith
 
 pub overflow_add-freed : goal.overflow_add-freed
-overflow_add-freed c =
-    let fits = more_fits c.args.start c.args.items.now c.lengthen_at-more.new.shapes c.loop-behind.freed (length c.args.items.now - 1 - c.loop-behind.behind) (c.loop-behind.more + c.lengthen_at-more.result) (omega arith)
+overflow_add-freed g c =
+    let fits = more_fits c.args.start c.args.items.now c.lengthen_at-more.new.shapes c.loop-behind.freed (c.len.result - 1 - c.loop-behind.behind) (c.loop-behind.more + c.lengthen_at-more.result) (omega arith)
     c.lengthen_at-more.ensures.freed c.loop-behind.invariant.fits in
     omega arith
 
 pub loop-behind-preserved : goal.loop-behind-preserved
-loop-behind-preserved c =
+loop-behind-preserved g c =
     let items = c.args.items.now in
     let n = length items in
-    let i = n - 1 - c.loop-behind.behind in
+    let i = c.len.result - 1 - c.loop-behind.behind in
     let old = c.loop-behind.shapes in
     let new = c.lengthen_at-more.new.shapes in
     let fewer = c.lengthen_at-more.result in

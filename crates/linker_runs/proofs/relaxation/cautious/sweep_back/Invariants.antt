@@ -4,7 +4,7 @@ use Rattle.linker_runs.specs.Inner.Relaxing.{AreCautious, AreForced, is_in_reach
 use Rattle.linker_runs.proofs.relaxation.cautious.sweep_back.Given as goal
 
 abbrev pub invariant-loop-behind : goal.invariant-loop-behind
-invariant-loop-behind l = record {
+invariant-loop-behind g l = record {
   freed : AreCautious l.items l.shapes l.freed (length l.items - l.behind) l.more;
   fits : get_or l.freed (length l.items) 0 < 2 ^ 64;
   short : (i : ℕ) → choice_of l.shapes i ≤ 2;

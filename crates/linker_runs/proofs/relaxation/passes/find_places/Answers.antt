@@ -1,21 +1,21 @@
 use Rattle.std.proofs.Common.{◌≡◌, ◌∙◌, ◌<◌, ◌≢◌, length, ap, sym, inl, inr, arith, below_more, get_or-set_other, get_or-set_same}
 use Rattle.std.specs.Prelude.{◌⊎◌}
-use Rattle.linker_runs.specs.Relaxing.{place_of, target_of, item_at}
+use Rattle.linker_runs.specs.Relaxing.{place_of, target_of, item_at, item_reaches}
 use Rattle.linker_runs.specs.Inner.Relaxing.{IsAlwaysInReach}
 use Rattle.linker_runs.proofs.AlwaysInReach.{always_in_reach}
 use Rattle.linker_runs.proofs.relaxation.passes.find_places.Goals as goal
 use Rattle.linker_runs.proofs.relaxation.passes.find_places.Goals.{then-reaches, else-reaches}
 
 pub loop-index-preserved : goal.loop-index-preserved
-loop-index-preserved c =
+loop-index-preserved g c =
     let start = c.args.start in
     let items = c.args.items.now in
     let i = c.loop-index.index in
     let lt : i < length c.loop-index.places = omega arith in
     let here : (c.if-reaches.places ≡ place_of items (target_of (item_at items i))) ⊎ ((length items < c.if-reaches.places) × IsAlwaysInReach start items i) =
     elim c.if-reaches.branch [
-      | then-reaches w ↦ inr (omega (arith, w.places-is, c.requires.fewer), always_in_reach start items c.requires.items i c.loop-index-test.true (sym c.reaches.ensures.reached ∙ w.if-reaches.true))
-      | else-reaches w ↦ inl (w.places-is ∙ w.place_of.ensures.place ∙ ap (place_of items) w.target.ensures)
+      | then-reaches w ↦ inr (omega (arith, w.places-is, c.requires.fewer), always_in_reach start items c.requires.items i (omega arith) (sym (c.reaches.ensures.reached ∙ ap (λ it. item_reaches it 0 0 0) c.at-item.ensures) ∙ w.if-reaches.true))
+      | else-reaches w ↦ inl (w.places-is ∙ w.place_of.ensures.place ∙ ap (place_of items) (w.target.ensures ∙ ap target_of c.at-item.ensures))
     ] in
     record {
       each = below_more _ _

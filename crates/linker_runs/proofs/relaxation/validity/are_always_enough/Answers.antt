@@ -14,13 +14,13 @@ at_most n power fits = ⊎_elim
     (cases_lt 63 power.0)
 
 pub next_power_of_two-requires : goal.next_power_of_two-requires
-next_power_of_two-requires c =
+next_power_of_two-requires g c =
     let most = at_most c.args.alignment.now.alignment c.requires.power (omega arith) in
     let e = c.saturating_sub-unfilled.ensures in
     omega arith
 
 pub returns-else-unfilled-granularity : goal.returns-else-unfilled-granularity
-returns-else-unfilled-granularity c =
+returns-else-unfilled-granularity g c =
     let alignment = c.args.alignment.now in
     let start = c.args.start in
     let items = c.args.items.now in

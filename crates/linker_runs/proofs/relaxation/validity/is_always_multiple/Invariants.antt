@@ -4,4 +4,4 @@ use Rattle.linker_runs.proofs.relaxation.validity.is_always_multiple.Given as go
 
 -- what is left to be told is what all items tell
 abbrev pub invariant-loop-behind : goal.invariant-loop-behind
-invariant-loop-behind l = IsAlwaysMultiple l.number l.start l.offset l.items (l.index - l.behind) ↔ IsAlwaysMultiple l.number l.start l.offset l.items l.index
+invariant-loop-behind g l = IsAlwaysMultiple l.number l.start l.offset l.items (l.index - l.behind) ↔ IsAlwaysMultiple l.number l.start l.offset l.items l.index

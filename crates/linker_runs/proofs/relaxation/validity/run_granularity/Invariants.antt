@@ -2,5 +2,5 @@ use Rattle.std.proofs.Common.{◌≡◌, ◌<◌, take}
 use Rattle.linker_runs.specs.Choosing.{run_granularity}
 use Rattle.linker_runs.proofs.relaxation.validity.run_granularity.Given as goal
 
-abbrev pub invariant-loop-item : goal.invariant-loop-item
-invariant-loop-item l = (l.granularity ≡ run_granularity (take l.item-index l.items)) × (0 < l.granularity)
+abbrev pub invariant-loop-index : goal.invariant-loop-index
+invariant-loop-index g l = (l.granularity ≡ run_granularity (take l.index l.items)) × (0 < l.granularity)

@@ -6,8 +6,8 @@ use Rattle.linker_runs.specs.Choosing.{AreItems, AreChosen, AreTooFewRounds, IsG
 use Rattle.linker_runs.specs.Inner.Relaxing.{AreForced}
 use Rattle.linker_runs.proofs.Choices.{relaxed_exact, cautious_exactly, exactly_cautious}
 use Rattle.linker_runs.proofs.Frees.{all_exact}
-use Rattle.linker_runs.proofs.relaxation.relax_into.Goals as goal
-use Rattle.linker_runs.proofs.relaxation.relax_into.Goals.{then-not-settle, else-not-settle}
+use Rattle.linker_runs.proofs.relaxation.relax_items.Goals as goal
+use Rattle.linker_runs.proofs.relaxation.relax_items.Goals.{then-not-settle, else-not-settle}
 
 -- what the shapes are, however they were chosen
 record Chosen (start : ℕ) (items : List Item) (shapes freed : List ℕ) : Type 0 where
@@ -36,7 +36,7 @@ swept start items shapes freed are few greatest laid = record {
 }
 
 pub returns : goal.returns
-returns c =
+returns g c =
     let start = c.args.start in
     let items = c.args.items.now in
     let shapes = c.if-not-settle.shapes in
@@ -64,7 +64,7 @@ returns c =
     }
 
 pub keep-requires-clause-freed : goal.keep-requires-clause-freed
-keep-requires-clause-freed c =
+keep-requires-clause-freed g c =
     let start = c.args.start in
     let items = c.args.items.now in
     elim c.if-not-settle.branch [

@@ -1,0 +1,10 @@
+use Rattle.std.proofs.Common.{◌≡◌, ◌<◌, ◌∙◌, length, ap, sym, arith, rules}
+use Rattle.std.proofs.lemmas.List.{length-map}
+use Rattle.linker_runs.proofs.items.list.ItemList.at.Goals as goal
+
+pub offset_bounds-elements-index : goal.offset_bounds-elements-index
+offset_bounds-elements-index g c =
+    let elements = c.self.inside.elements.now in
+    let len : length c.args.self.now ≡ length elements = ap length (sym c.self.view_is) ∙ length-map elements g.I.AsItem.item in
+    let within : c.args.index < length elements = omega arith in
+    search rules

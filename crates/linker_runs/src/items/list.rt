@@ -1,0 +1,92 @@
+//! The items of a run, in an array of the caller's.
+
+ghost use Rattle.std.specs.Prelude.{◌≡◌, ◌<◌, ◌≤◌, length, map};
+ghost use Rattle.linker_runs.specs.Relaxing.{item_at, place_of, AreInOrder};
+
+use crate::items::AsItem;
+use crate::relaxation::Item;
+use crate::search::{Tested, passing_near};
+use std::marker::Model;
+
+/// The items of a run. Contracts see the list of items that the array's elements say.
+#[derive(Drop)]
+pub(crate) struct ItemList<'a, I: AsItem> {
+    elements: &'a [I],
+}
+
+impl<'a, I: AsItem> Model for ItemList<'a, I> {
+    ghost use Rattle.std.specs.Prelude.{List, map};
+    ghost use Rattle.linker_runs.specs.declared.relaxation.Item.{Item as items};
+
+    ghost Value = { List items };
+
+    ghost view = { λ list. map I.item list.elements.now };
+}
+
+impl<'a, I: AsItem> ItemList<'a, I> {
+    /// The items of an array.
+    #[inline(always)]
+    pub(crate) fn new(elements: &'a [I]) -> ItemList<'a, I>
+        ensures { result ≡ map I.item elements.now }
+    {
+        ItemList { elements }
+    }
+
+    /// How many there are.
+    #[inline(always)]
+    pub(crate) fn len(&self) -> usize
+        ensures { result ≡ length self.now }
+    {
+        self.elements.len()
+    }
+
+    /// The item at an index.
+    #[inline(always)]
+    pub(crate) fn at(&self, index: usize) -> Item
+        requires { index < length self.now }
+        ensures { result ≡ item_at self.now index }
+    {
+        let elements = self.elements;
+        elements[index].as_item()
+    }
+
+    /// How many items end at or below an offset. It is found faster where it is near `near`.
+    pub(crate) fn place_of(&self, offset: u64, near: usize, start: u64) -> usize
+        requires { AreInOrder start self.now }
+        ensures place { result ≡ place_of self.now offset }
+        ensures within { result ≤ length self.now }
+    {
+        let ended = Ended {
+            elements: self.elements,
+            offset,
+        };
+        passing_near(&ended, near)
+    }
+}
+
+/// Elements that are items, and whether an item ends at or below an offset.
+#[derive(Drop)]
+struct Ended<'a, I: AsItem> {
+    elements: &'a [I],
+    offset: u64,
+}
+
+impl<'a, I: AsItem> Tested for Ended<'a, I> {
+    ghost use Rattle.std.specs.Prelude.{◌<◌, length, map, nat_le};
+    ghost use Rattle.linker_runs.specs.Relaxing.{item_at, end_of};
+
+    ghost size = { λ list. length list.elements.now };
+
+    ghost test = { λ list index.
+        nat_le (end_of (item_at (map I.item list.elements.now) index)) list.offset };
+
+    #[inline(always)]
+    fn len(&self) -> usize {
+        self.elements.len()
+    }
+
+    #[inline(always)]
+    fn passes(&self, index: usize) -> bool {
+        self.elements[index].as_item().ends_by(self.offset)
+    }
+}
