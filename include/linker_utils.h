@@ -28,7 +28,7 @@
  *   parts of one section at once, each through a slice that no other overlaps.
  * - With such pointers and counts each call is defined, whatever the numbers and bytes.
  * - A call that returns `uint32_t` returns a status of `enum linker_utils_status`. With any except
- *   `LINKER_UTILS_OK` it has written nothing, except for `faulty`, and for what
+ *   `LINKER_UTILS_OK` it has written nothing, except for `faulty` and `memory`, and for what
  *   `linker_utils_relocate_all` and `linker_utils_deltas_create_in_one_pass` write before the entry
  *   that they reject. Where several statuses apply, the first in the order that the call names is
  *   returned. A call that returns anything else can't fail.
@@ -153,7 +153,17 @@ extern "C" {
            "The alignment has no limit, and in some layout more nops may be needed than there " \
            "are.") \
     STATUS(DELETED_OUTSIDE, 60, \
-           "Bytes before the item, or behind the last one, are deleted that are of no item.")
+           "Bytes before the item, or behind the last one, are deleted that are of no item.") \
+    STATUS(NO_SYMBOL, 61, \
+           "The relocation's symbol, or that of its high part, is not in the table.") \
+    STATUS(NO_ENTRY, 62, \
+           "The relocation requires an entry of the GOT, and there is none of its class with its " \
+           "addend.") \
+    STATUS(NO_HIGH_PART, 63, \
+           "No high part is at the label that the symbol of the relocation is.") \
+    STATUS(OVERLAPS, 64, \
+           "The relocation's field overlaps that of one before it, and the two do not compose.") \
+    STATUS(SHORT_MEMORY, 65, "The memory has fewer elements than the call needs.")
 
 enum linker_utils_status {
 #define LINKER_UTILS_STATUS(name, number, text) LINKER_UTILS_##name = number,
@@ -1203,6 +1213,123 @@ static inline uint32_t linker_utils_relocate_all(
     uint16_t machine, uint8_t *section, size_t section_len,
     const struct linker_utils_relocation_entry *relocations, size_t relocations_len,
     size_t *faulty);
+
+/* ---- Sections: what each relocation requires, its value, and the values of all of them.
+ *
+ * Relocations are the bytes of a section of relocations as the file has them: 24 bytes each, ELF's
+ * `Elf64_Rela`, little-endian and at any alignment. `relocations_len` counts bytes; those behind the
+ * last whole relocation count for nothing. Symbols are an array, by the indexes that relocations name
+ * (`r_sym`). A linker says what it knows of symbols and of the output; the library knows which of it
+ * a relocation takes. */
+
+/* What an entry of the GOT holds, of S + `entry_addend`. */
+enum linker_utils_entry_class {
+    LINKER_UTILS_ENTRY_NONE = 0, /* no entry is required */
+    LINKER_UTILS_ENTRY_ADDRESS = 1, /* a word: the address */
+    LINKER_UTILS_ENTRY_THREAD_OFFSET = 2, /* a word: the offset from the thread pointer */
+    /* two words: the module's number and the offset in its TLS block */
+    LINKER_UTILS_ENTRY_MODULE_OFFSET = 3,
+    LINKER_UTILS_ENTRY_MODULE = 4, /* two words: the module's number and 0; one serves all */
+    LINKER_UTILS_ENTRY_DESCRIPTOR = 5 /* two words: a TLS descriptor */
+};
+
+/* What a relocation requires of a linker. A fact holds where its number is 1; else it is 0. */
+struct linker_utils_requirements {
+    /* The addend of the entry's address or offset. Other than 0 only for AArch64 and PowerPC64, which
+     * have an entry for each S + A; 0 of LINKER_UTILS_ENTRY_MODULE. */
+    int64_t entry_addend;
+    /* By `enum linker_utils_entry_class`. Of PowerPC64's calls that load the function's address
+     * themselves, as R_PPC64_PLT16_LO_DS, the entry is a word with that address. */
+    uint32_t entry_class;
+    uint8_t is_branch; /* its value goes into a branch, conditional or not */
+    /* A stub or an entry of the PLT may serve as its target. Not of PowerPC64's calls that load the
+     * function's address themselves. */
+    uint8_t may_use_stub;
+    uint8_t is_word; /* it is a word of 8 bytes with S + A, which a dynamic linker can write too */
+    /* What is written depends on where the output is loaded, if that is a multiple of 4 KiB beside
+     * where it was linked for. Of both halves of a difference of symbols, as R_RISCV_ADD32 and
+     * R_RISCV_SUB32, it doesn't. */
+    uint8_t depends_on_load;
+};
+
+/* What a relocation requires, into `required`, before addresses are known. `is_thread_local` says
+ * whether its symbol is (STT_TLS). Where a relocation is rewritten, ask for the one that it becomes.
+ * LINKER_UTILS_UNKNOWN_ARCHITECTURE; LINKER_UTILS_UNKNOWN_RELOCATION. */
+uint32_t linker_utils_needs(uint16_t machine, uint32_t r_type, int64_t addend,
+                            bool is_thread_local, struct linker_utils_requirements *required);
+
+/* What a linker knows of a symbol, once addresses are known. All are 0 at index 0, which is no
+ * symbol. An entry that there isn't has the address 0. */
+struct linker_utils_symbol {
+    uint64_t address; /* S; of a thread-local symbol its address in the TLS segment's image */
+    uint64_t size; /* Z: `st_size` */
+    /* of the stub or the entry of the PLT by which branches go to it; 0 if they go to `address` */
+    uint64_t stub;
+    uint64_t address_entry; /* of its LINKER_UTILS_ENTRY_ADDRESS */
+    uint64_t thread_entry; /* of its LINKER_UTILS_ENTRY_THREAD_OFFSET */
+    uint64_t module_entry; /* of its LINKER_UTILS_ENTRY_MODULE_OFFSET */
+    uint64_t descriptor; /* of its LINKER_UTILS_ENTRY_DESCRIPTOR */
+    /* The addend of these four entries. A symbol with entries for several addends is several symbols
+     * of the array. */
+    int64_t entry_addend;
+    uint8_t other; /* `st_other`, of which PowerPC64's branches take the local entry point */
+    bool is_thread_local; /* STT_TLS */
+    bool is_undefined_weak; /* weak, and nothing defines it: `address` isn't read */
+};
+
+/* What a linker knows of a section and of the output that it is in. */
+struct linker_utils_addresses {
+    uint64_t section; /* of the section's first byte, from which `r_offset` counts */
+    uint64_t got_base; /* GOT, as in `struct linker_utils_operands` */
+    /* The thread pointer as an address in the TLS segment's image, and the origin of offsets in the
+     * module's TLS block, as `tls_base` of `struct linker_utils_operands` says. */
+    uint64_t thread_origin;
+    uint64_t module_origin;
+    uint64_t module_entry; /* of the output's LINKER_UTILS_ENTRY_MODULE; 0 if there is none */
+};
+
+/* The value of the relocation at an index, into `value`: that of `linker_utils_value`, with the
+ * operands that the relocation takes.
+ * - A branch goes to the symbol's stub, if it has one. On PowerPC64 a branch to the symbol itself
+ *   goes to the local entry point.
+ * - A low part of RISC-V takes the operands of the high part at the label that its symbol is, and its
+ *   own addend isn't read. For this the relocations have to ascend by offset.
+ * - A branch to an undefined weak symbol goes to the next instruction on AArch64, and on RISC-V and
+ *   PowerPC64 to itself. What else is relative to the place is then 0 on AArch64. The offset of such
+ *   a thread-local symbol is the addend.
+ * - Each of a pair at a ULEB128 number, and of R_RISCV_ADD32 and its like, has a value of its own.
+ *
+ * LINKER_UTILS_UNKNOWN_ARCHITECTURE; LINKER_UTILS_TOO_SHORT where there is no relocation at the
+ * index; LINKER_UTILS_UNKNOWN_RELOCATION; LINKER_UTILS_NO_VALUE; LINKER_UTILS_NO_SYMBOL where the
+ * index of its symbol, or of its high part's, isn't below `symbols_len`; LINKER_UTILS_NO_HIGH_PART;
+ * LINKER_UTILS_NO_ENTRY. O(1), and of a low part O(log n) for n relocations. */
+static inline uint32_t linker_utils_value_at(
+    uint16_t machine, const struct linker_utils_addresses *addresses, const uint8_t *relocations,
+    size_t relocations_len, const struct linker_utils_symbol *symbols, size_t symbols_len,
+    size_t index, int64_t *value);
+
+/* How many elements of memory `linker_utils_relocate_section` needs for these relocations. */
+static inline size_t linker_utils_relocate_memory(const uint8_t *relocations,
+                                                  size_t relocations_len);
+
+/* Writes the values of a section's relocations, or none of them: with any status but
+ * LINKER_UTILS_OK all bytes of the section are unchanged. What `memory` holds afterwards isn't
+ * specified with any status. Its elements need not be initialised.
+ *
+ * Relocations of one object at one offset compose in their order, as R_RISCV_ADD32 and R_RISCV_SUB32
+ * do. Two next to each other that are a pair at a ULEB128 number write one number. A relocation
+ * without a value writes nothing.
+ *
+ * LINKER_UTILS_UNKNOWN_ARCHITECTURE; LINKER_UTILS_SHORT_MEMORY where `memory_len` is below
+ * `linker_utils_relocate_memory`. Else `faulty` is the first relocation whose value can't be
+ * written, and the status says why: one of `linker_utils_value_at`, but LINKER_UTILS_NO_VALUE; one
+ * of `linker_utils_relocate`, of which LINKER_UTILS_TOO_SHORT is also an offset past the section's
+ * end, and LINKER_UTILS_UNSUPPORTED a relocation of a ULEB128 number that isn't of a pair; of a pair
+ * one of `linker_utils_write_uleb128`; or LINKER_UTILS_OVERLAPS. */
+static inline uint32_t linker_utils_relocate_section(
+    uint16_t machine, const struct linker_utils_addresses *addresses, const uint8_t *relocations,
+    size_t relocations_len, const struct linker_utils_symbol *symbols, size_t symbols_len,
+    uint8_t *section, size_t section_len, uint64_t *memory, size_t memory_len, size_t *faulty);
 
 /* ---- RISC-V calls that become jumps (RISC-V ELF psABI, "Function Call Relaxation"), and the tests
  * for shorter instructions. */

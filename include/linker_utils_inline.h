@@ -137,6 +137,42 @@ static inline uint32_t linker_utils_relocate_all(uint16_t machine, uint8_t *sect
         relocations_len, faulty ? faulty : &ignored);
 }
 
+uint32_t linker_utils_value_at_nonnull(
+    uint16_t machine, const struct linker_utils_addresses *addresses, const uint8_t *relocations,
+    size_t relocations_len, const struct linker_utils_symbol *symbols, size_t symbols_len,
+    size_t index, int64_t *value);
+static inline uint32_t linker_utils_value_at(
+    uint16_t machine, const struct linker_utils_addresses *addresses, const uint8_t *relocations,
+    size_t relocations_len, const struct linker_utils_symbol *symbols, size_t symbols_len,
+    size_t index, int64_t *value) {
+    return linker_utils_value_at_nonnull(
+        machine, addresses, LINKER_UTILS_SLICE(const uint8_t, relocations), relocations_len,
+        LINKER_UTILS_SLICE(const struct linker_utils_symbol, symbols), symbols_len, index, value);
+}
+
+size_t linker_utils_relocate_memory_nonnull(const uint8_t *relocations, size_t relocations_len);
+static inline size_t linker_utils_relocate_memory(const uint8_t *relocations,
+                                                  size_t relocations_len) {
+    return linker_utils_relocate_memory_nonnull(LINKER_UTILS_SLICE(const uint8_t, relocations),
+                                                relocations_len);
+}
+
+uint32_t linker_utils_relocate_section_nonnull(
+    uint16_t machine, const struct linker_utils_addresses *addresses, const uint8_t *relocations,
+    size_t relocations_len, const struct linker_utils_symbol *symbols, size_t symbols_len,
+    uint8_t *section, size_t section_len, uint64_t *memory, size_t memory_len, size_t *faulty);
+static inline uint32_t linker_utils_relocate_section(
+    uint16_t machine, const struct linker_utils_addresses *addresses, const uint8_t *relocations,
+    size_t relocations_len, const struct linker_utils_symbol *symbols, size_t symbols_len,
+    uint8_t *section, size_t section_len, uint64_t *memory, size_t memory_len, size_t *faulty) {
+    size_t ignored;
+    return linker_utils_relocate_section_nonnull(
+        machine, addresses, LINKER_UTILS_SLICE(const uint8_t, relocations), relocations_len,
+        LINKER_UTILS_SLICE(const struct linker_utils_symbol, symbols), symbols_len,
+        LINKER_UTILS_SLICE(uint8_t, section), section_len, LINKER_UTILS_SLICE(uint64_t, memory),
+        memory_len, faulty ? faulty : &ignored);
+}
+
 uint32_t linker_utils_jal_site_nonnull(uint8_t *section, size_t section_len, uint64_t site,
                                        int64_t distance);
 static inline uint32_t linker_utils_jal_site(uint8_t *section, size_t section_len, uint64_t site,

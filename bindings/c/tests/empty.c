@@ -25,6 +25,8 @@ int main(void) {
     struct linker_utils_recognised found[LINKER_UTILS_CANDIDATES];
     struct linker_utils_link_facts facts;
     memset(&facts, 0, sizeof facts);
+    struct linker_utils_addresses addresses;
+    memset(&addresses, 0, sizeof addresses);
 
     EXPECT(TOO_SHORT, fits(machine, 0, 0, NULL, 0));
     EXPECT(TOO_SHORT, write(machine, 0, 0, false, NULL, 0));
@@ -33,6 +35,9 @@ int main(void) {
     EXPECT(OK, matches(machine, LINKER_UTILS_AARCH64_REWRITE_NO_OP, 0, NULL, 0, 0));
     EXPECT(OK, apply(machine, LINKER_UTILS_AARCH64_REWRITE_NO_OP, 0, NULL, 0, &offset, &addend));
     EXPECT(TOO_SHORT, relocation_name(machine, 0, NULL, 0, &count));
+    EXPECT(TOO_SHORT, value_at(machine, &addresses, NULL, 0, NULL, 0, 0, &addend));
+    if (linker_utils_relocate_memory(NULL, 0)) failures++;
+    EXPECT(OK, relocate_section(machine, &addresses, NULL, 0, NULL, 0, NULL, 0, NULL, 0, NULL));
     EXPECT(OUT_OF_SECTION, jal_site(NULL, 0, 0, 0));
     EXPECT(OUT_OF_SECTION, relax_call(NULL, 0, NULL, 0, 0, 0));
     if (linker_utils_is_plain_call(NULL, 0, 0)) failures++;

@@ -108,9 +108,12 @@ static uint16_t any_machine(void) {
     return once_in(16) ? (uint16_t)any_number() : known[below(5)];
 }
 
-/* The number of a form, a rewrite or a status, which are below 64. */
+/* More than there are statuses. */
+#define STATUSES 128
+
+/* The number of a form, a rewrite or a status. */
 static uint32_t any_of_enum(void) {
-    return once_in(16) ? (uint32_t)any_number() : (uint32_t)below(once_in(4) ? 64 : 12);
+    return once_in(16) ? (uint32_t)any_number() : (uint32_t)below(once_in(4) ? STATUSES : 12);
 }
 
 static uint32_t any_relocation_type(void) {
@@ -204,7 +207,8 @@ void *__wrap_aligned_alloc(size_t alignment, size_t size) {
 #define BUFFERS 8
 #define BUFFER_LEN ((size_t)1 << 17)
 
-enum use { READ, WRITTEN };
+/* Of SCRATCH nothing is known after a call. */
+enum use { READ, WRITTEN, SCRATCH };
 
 /* Pages that are mapped twice: the call may not write to the second. */
 static struct buffer {
@@ -403,8 +407,9 @@ static void finish_buffers(bool has_written) {
         size_t from = has_written ? buffer->changes_from : 0;
         size_t to = has_written ? buffer->changes_to : 0;
         if (from > to) from = to = 0;
-        expect(memcmp(is, buffer->was, from) == 0 &&
-                   memcmp(is + to, buffer->was + to, buffer->len - to) == 0,
+        bool is_kept = memcmp(is, buffer->was, from) == 0 &&
+                       memcmp(is + to, buffer->was + to, buffer->len - to) == 0;
+        expect(is_kept || buffer->use == SCRATCH,
                has_written ? "writes more than it says" : "writes, and returns an error");
         look_around(buffer, once_in(1000) ? BUFFER_LEN : AROUND);
     }
@@ -419,20 +424,22 @@ static void finish(bool has_written) {
     used = 0;
 }
 
-#define OR(status) | (uint64_t)1 << LINKER_UTILS_##status
+/* A bit for each status. */
+__extension__ typedef unsigned __int128 statuses;
+#define OR(status) | (statuses)1 << LINKER_UTILS_##status
 #define NO_FORM OR(UNKNOWN_ARCHITECTURE) OR(UNKNOWN_FORM)
 #define NO_REWRITE OR(UNKNOWN_ARCHITECTURE) OR(UNKNOWN_REWRITE)
 #define NO_RELOCATION OR(UNKNOWN_ARCHITECTURE) OR(UNKNOWN_RELOCATION)
 
 /* How often each status was returned. */
-static uint64_t returned[64];
+static uint64_t returned[STATUSES];
 
-static void expect_status(uint32_t status, uint64_t allowed) {
-    expect(status < 64 && ((allowed | 1) >> status & 1), "returns a status that it doesn't name");
+static void expect_status(uint32_t status, statuses allowed) {
+    expect(status < STATUSES && ((allowed | 1) >> status & 1), "returns a status that it doesn't name");
     returned[status]++;
 }
 
-static void finish_with(uint32_t status, uint64_t allowed) {
+static void finish_with(uint32_t status, statuses allowed) {
     expect_status(status, allowed);
     finish(status == LINKER_UTILS_OK);
 }
@@ -726,6 +733,114 @@ static void call_relocate_all(void) {
     bool is_of_entry = status != LINKER_UTILS_OK && status != LINKER_UTILS_UNKNOWN_ARCHITECTURE;
     finish_faulty(faulty, is_of_entry, count);
     finish(status == LINKER_UTILS_OK || is_of_entry);
+}
+
+static void call_needs(void) {
+    uint16_t machine = any_machine();
+    uint32_t r_type = any_relocation_type();
+    struct linker_utils_requirements *required = output(sizeof *required);
+    int64_t addend = (int64_t)any_number();
+    uint32_t status = CALL(needs, machine, r_type, addend, once_in(2), required);
+    if (status == LINKER_UTILS_OK) {
+        expect(required->entry_class <= LINKER_UTILS_ENTRY_DESCRIPTOR && required->is_branch <= 1 &&
+                   required->may_use_stub <= 1 && required->is_word <= 1 &&
+                   required->depends_on_load <= 1 &&
+                   (required->entry_class ? required->entry_addend == 0 ||
+                                                required->entry_addend == addend
+                                          : required->entry_addend == 0),
+               "no requirements");
+    }
+    finish_with(status, 0 NO_RELOCATION);
+}
+
+/* Relocations of RISC-V and LoongArch that compose, a high part, and a low part. */
+static uint32_t any_type_of_section(uint16_t machine) {
+    static const uint32_t riscv[8] = {60, 61, 35, 39, 23, 24, 20, 2}, larch[4] = {107, 108, 50, 55};
+    if (machine == LINKER_UTILS_RISCV && once_in(2)) return riscv[below(8)];
+    if (machine == LINKER_UTILS_LOONGARCH64 && once_in(2)) return larch[below(4)];
+    return once_in(8) ? any_relocation_type() : (uint32_t)below(60);
+}
+
+/* What a linker knows of symbols, usually that they are near. */
+static struct buffer *symbols(size_t count) {
+    struct buffer *buffer = place(READ, count, sizeof(struct linker_utils_symbol));
+    struct linker_utils_symbol *at = filled(buffer);
+    for (size_t i = 0; i < count; i++) {
+        uint64_t entry = once_in(4) ? 0 : once_in(8) ? any_number() : 0x12000 + 8 * below(8);
+        at[i] = (struct linker_utils_symbol){
+            .address = once_in(8) ? any_number() : 0x11000 + 4 * below(12), .size = any_number(),
+            .stub = once_in(4) ? 0x11800 : 0, .address_entry = entry, .thread_entry = entry,
+            .module_entry = entry, .descriptor = entry,
+            .entry_addend = once_in(4) ? (int64_t)any_number() : 0, .other = (uint8_t)any(),
+            .is_thread_local = once_in(4), .is_undefined_weak = once_in(4)};
+    }
+    return buffer;
+}
+
+/* Relocations, of which some bytes may be behind the last, and often several are at one offset. */
+static struct buffer *relocations(uint16_t machine, size_t section_len, size_t symbols_len) {
+    size_t count = any_count();
+    struct buffer *buffer = place(READ, 24 * count + (once_in(4) ? below(24) : 0), 1);
+    uint8_t *at = filled(buffer);
+    uint64_t words[3] = {0};
+    for (size_t i = 0; i < count; i++, at += sizeof words) {
+        if (!once_in(3)) words[0] = once_in(2) ? words[0] + 4 : any_offset(section_len);
+        uint64_t symbol = once_in(8) ? any_number() >> 32 : below(symbols_len + 1);
+        words[1] = symbol << 32 | any_type_of_section(machine);
+        words[2] = once_in(4) ? any_number() : 4 * below(4);
+        memcpy(at, words, sizeof words);
+    }
+    return buffer;
+}
+
+static struct buffer *addresses(void) {
+    struct buffer *buffer = place(READ, 1, sizeof(struct linker_utils_addresses));
+    struct linker_utils_addresses *at = filled(buffer);
+    bool is_wild = once_in(8);
+    uint64_t any_address = any_number();
+    *at = (struct linker_utils_addresses){
+        .section = is_wild ? any_address : 0x11000, .got_base = is_wild ? any_address : 0x12000,
+        .thread_origin = is_wild ? any_address : 0x11000, .module_origin = 0x11000,
+        .module_entry = once_in(2) ? 0 : 0x12040};
+    return buffer;
+}
+
+#define SYMBOLS(buffer) (buffer)->given, LEN(buffer, struct linker_utils_symbol)
+#define NO_VALUE_AT NO_RELOCATION OR(NO_SYMBOL) OR(NO_ENTRY) OR(NO_HIGH_PART)
+
+static void call_value_at(void) {
+    uint16_t machine = any_machine();
+    struct buffer *known = symbols(any_len(8)), *where = addresses();
+    struct buffer *given = relocations(machine, 40, LEN(known, struct linker_utils_symbol));
+    size_t index = once_in(8) ? (size_t)any_number() : below(given->len / 24 + 1);
+    int64_t *value = output(sizeof(int64_t));
+    uint32_t status = CALL(value_at, machine, where->given, given->given, given->len, SYMBOLS(known),
+                           index, value);
+    expect((status != LINKER_UTILS_TOO_SHORT) | (index >= given->len / 24), "a relocation is there");
+    finish_with(status, 0 NO_VALUE_AT OR(TOO_SHORT) OR(NO_VALUE));
+}
+
+static void call_relocate_section(void) {
+    uint16_t machine = any_machine();
+    struct buffer *section = bytes(WRITTEN, any_section_len());
+    struct buffer *known = symbols(any_len(8)), *where = addresses();
+    struct buffer *given = relocations(machine, section->len, LEN(known, struct linker_utils_symbol));
+    size_t needed = CALL(relocate_memory, given->given, given->len);
+    expect(needed <= 2 * (given->len / 24), "it needs too much memory");
+    size_t count = needed + (once_in(4) ? below(4) : 0);
+    bool is_short = needed > 0 && once_in(16);
+    if (is_short) count = below(needed);
+    struct buffer *memory = place(SCRATCH, count, sizeof(uint64_t));
+    size_t *faulty = any_faulty();
+    uint32_t status = CALL(relocate_section, machine, where->given, given->given, given->len,
+                           SYMBOLS(known), section->given, section->len, memory->given, count, faulty);
+    expect_status(status, 0 NO_VALUE_AT NOT_RELOCATED OR(ULEB128_ENDED) OR(ULEB128_TOO_LARGE)
+                              OR(DOES_NOT_FIT) OR(OVERLAPS) OR(SHORT_MEMORY));
+    expect((status == LINKER_UTILS_SHORT_MEMORY) <= is_short, "the memory is long enough");
+    bool is_of_entry = status != LINKER_UTILS_OK && status != LINKER_UTILS_UNKNOWN_ARCHITECTURE &&
+                       status != LINKER_UTILS_SHORT_MEMORY;
+    finish_faulty(faulty, is_of_entry, given->len / 24);
+    finish(status == LINKER_UTILS_OK);
 }
 
 static void call_clui_rel_info(void) {
@@ -1499,7 +1614,7 @@ static void (*const all[])(void) = {
     call_status_text, call_operands_of, call_version, call_window, call_write, call_read, call_apply, call_matches,
     call_choose, call_relocation_fits, call_is_unchanged, call_rewrite_window,
     call_next_modifier, call_relocation, call_relocation_name, call_value, call_reach, call_relocate,
-    call_relocate_all,
+    call_relocate_all, call_needs, call_value_at, call_relocate_section,
     call_clui_rel_info, call_jal_site, call_jal_site_with, call_relax_call,
     call_tests, call_write_mov_sequence, call_write_address_sequence, call_write_ha_lo,
     call_u32_from_slice, call_u64_from_slice, call_read_u32, call_read_uleb128, call_write_uleb128,
@@ -1534,7 +1649,7 @@ int main(int count, char **arguments) {
     /* each status is returned by some call */
     calling = "all calls";
     const char *unused = linker_utils_status_text(UINT32_MAX);
-    for (uint32_t status = 0; calls >= 1000000 && status < 64; status++) {
+    for (uint32_t status = 0; calls >= 1000000 && status < STATUSES; status++) {
         const char *text = linker_utils_status_text(status);
         if (strcmp(text, unused) != 0 && returned[status] == 0) fail(text);
     }

@@ -332,6 +332,73 @@ pub struct Rela {
     pub may_compress: u8,
 }
 
+/// What a linker knows of a symbol, once addresses are known. Each field is explained at
+/// `struct linker_utils_symbol` in `include/linker_utils.h`.
+#[repr(C)]
+#[derive(Debug, Clone, Copy, Default, PartialEq, Eq)]
+pub struct Symbol {
+    pub address: u64,
+    pub size: u64,
+    pub stub: u64,
+    pub address_entry: u64,
+    pub thread_entry: u64,
+    pub module_entry: u64,
+    pub descriptor: u64,
+    pub entry_addend: i64,
+    pub other: u8,
+    pub is_thread_local: bool,
+    pub is_undefined_weak: bool,
+}
+
+/// What a linker knows of a section and of the output that it is in. Each field is explained at
+/// `struct linker_utils_addresses` in `include/linker_utils.h`.
+#[repr(C)]
+#[derive(Debug, Clone, Copy, Default, PartialEq, Eq)]
+pub struct Addresses {
+    pub section: u64,
+    pub got_base: u64,
+    pub thread_origin: u64,
+    pub module_origin: u64,
+    pub module_entry: u64,
+}
+
+/// An entry of the GOT that a relocation requires, of S + `addend`.
+#[derive(Debug, Clone, Copy, PartialEq, Eq)]
+pub struct Entry {
+    pub class: EntryClass,
+    pub addend: i64,
+}
+
+/// What a relocation requires of a linker, as `struct linker_utils_requirements` in
+/// `include/linker_utils.h` explains.
+#[derive(Debug, Clone, Copy, PartialEq, Eq)]
+pub struct Requirements {
+    pub entry: Option<Entry>,
+    pub is_branch: bool,
+    /// Whether a stub or an entry of the PLT may serve as its target.
+    pub may_use_stub: bool,
+    /// Whether it is a word of 8 bytes with S + A.
+    pub is_word: bool,
+    /// Whether what is written depends on where the output is loaded.
+    pub depends_on_load: bool,
+}
+
+impl From<raw::Requirements> for Requirements {
+    fn from(required: raw::Requirements) -> Requirements {
+        let entry = EntryClass::from_number(required.entry_class);
+        Requirements {
+            entry: entry.map(|class| Entry {
+                class,
+                addend: required.entry_addend,
+            }),
+            is_branch: required.is_branch != 0,
+            may_use_stub: required.may_use_stub != 0,
+            is_word: required.is_word != 0,
+            depends_on_load: required.depends_on_load != 0,
+        }
+    }
+}
+
 /// What is known of a number of 64 bits, a relocation's value or an address: bits `first_bit` and up,
 /// below `end_bit`, of the sum of the number and `rounding`, modulo 2^64. The first of them is bit 0
 /// of `bits`.
@@ -433,6 +500,7 @@ fn result_over(call: impl FnOnce(&mut usize) -> u32) -> Result<(), ArrayError> {
     result_of(call(&mut faulty), ()).map_err(|status| match status {
         Status::DifferentLengths
         | Status::OutOfMemory
+        | Status::ShortMemory
         | Status::UnknownArchitecture
         | Status::UnknownLinkRegister => status.into(),
         _ => ArrayError {
@@ -656,6 +724,82 @@ pub fn relocate_all(
             len,
             relocations.as_ptr(),
             relocations.len(),
+            faulty,
+        )
+    })
+}
+
+/// What a relocation requires, by whether its symbol is thread-local.
+pub fn needs(
+    architecture: Architecture,
+    r_type: u32,
+    addend: i64,
+    is_thread_local: bool,
+) -> Result<Requirements, Status> {
+    let (machine, mut required) = (architecture.machine(), raw::Requirements::default());
+    let status = unsafe {
+        raw::linker_utils_needs(machine, r_type, addend, is_thread_local, &mut required)
+    };
+    result_of(status, required.into())
+}
+
+/// The value of the relocation at an index of a section's relocations, which are the bytes of
+/// `Elf64_Rela`s; `None` of one without a value.
+pub fn value_at(
+    architecture: Architecture,
+    addresses: &Addresses,
+    relocations: &[u8],
+    symbols: &[Symbol],
+    index: usize,
+) -> Result<Option<i64>, Status> {
+    let mut value = 0;
+    let status = unsafe {
+        raw::linker_utils_value_at_nonnull(
+            architecture.machine(),
+            addresses,
+            relocations.as_ptr(),
+            relocations.len(),
+            symbols.as_ptr(),
+            symbols.len(),
+            index,
+            &mut value,
+        )
+    };
+    match result_of(status, value) {
+        Err(Status::NoValue) => Ok(None),
+        value => value.map(Some),
+    }
+}
+
+/// How many elements of memory `relocate_section` needs for these relocations.
+pub fn relocate_memory(relocations: &[u8]) -> usize {
+    let (at, len) = (relocations.as_ptr(), relocations.len());
+    unsafe { raw::linker_utils_relocate_memory_nonnull(at, len) }
+}
+
+/// Writes the values of a section's relocations, which are the bytes of `Elf64_Rela`s, or none of
+/// them. `memory` has as many elements as `relocate_memory` says, or more. The entry at fault is the
+/// first relocation whose value can't be written.
+pub fn relocate_section(
+    architecture: Architecture,
+    addresses: &Addresses,
+    relocations: &[u8],
+    symbols: &[Symbol],
+    section: &mut [u8],
+    memory: &mut [u64],
+) -> Result<(), ArrayError> {
+    result_over(|faulty| unsafe {
+        raw::linker_utils_relocate_section_nonnull(
+            architecture.machine(),
+            addresses,
+            relocations.as_ptr(),
+            relocations.len(),
+            symbols.as_ptr(),
+            symbols.len(),
+            section.as_mut_ptr(),
+            section.len(),
+            memory.as_mut_ptr(),
+            memory.len(),
             faulty,
         )
     })

@@ -200,6 +200,11 @@ linker_utils_mask! { numbered_or_none
     PageMask: u32
 }
 
+linker_utils_entry_class! { numbered_or_none
+    /// What an entry of the GOT holds.
+    EntryClass: u32
+}
+
 linker_utils_reference! { numbered
     /// Which address a relocation's value is computed from, in the letters that
     /// `include/linker_utils.h` explains at `enum linker_utils_relocation_kind`.

@@ -1,8 +1,8 @@
 //! The static library's own symbols, as `include/linker_utils.h` declares them: what each of them
 //! requires of pointers and counts, and does, is said there. No pointer to a slice may be null.
 
-pub use crate::{BlockHead, Call, Deletion, Delta, FieldBits, FieldValue, Item, Operands};
-pub use crate::{Relocation, RewriteWindow, Rela, Shape, Shapes};
+pub use crate::{Addresses, BlockHead, Call, Deletion, Delta, FieldBits, FieldValue, Item, Operands};
+pub use crate::{Relocation, RewriteWindow, Rela, Shape, Shapes, Symbol};
 use std::ffi::c_char;
 
 /// `struct linker_utils_relocation_info`.
@@ -55,6 +55,18 @@ pub struct LinkFacts {
     pub has_addresses: u8,
     pub group_fits: u8,
     pub operands: Operands,
+}
+
+/// `struct linker_utils_requirements`.
+#[repr(C)]
+#[derive(Debug, Clone, Copy, Default, PartialEq, Eq)]
+pub struct Requirements {
+    pub entry_addend: i64,
+    pub entry_class: u32,
+    pub is_branch: u8,
+    pub may_use_stub: u8,
+    pub is_word: u8,
+    pub depends_on_load: u8,
 }
 
 /// `struct linker_utils_choice`.
@@ -189,6 +201,40 @@ extern "C" {
         section_len: usize,
         relocations: *const Relocation,
         relocations_len: usize,
+        faulty: *mut usize,
+    ) -> u32;
+    pub fn linker_utils_needs(
+        machine: u16,
+        r_type: u32,
+        addend: i64,
+        is_thread_local: bool,
+        required: *mut Requirements,
+    ) -> u32;
+    pub fn linker_utils_value_at_nonnull(
+        machine: u16,
+        addresses: *const Addresses,
+        relocations: *const u8,
+        relocations_len: usize,
+        symbols: *const Symbol,
+        symbols_len: usize,
+        index: usize,
+        value: *mut i64,
+    ) -> u32;
+    pub fn linker_utils_relocate_memory_nonnull(
+        relocations: *const u8,
+        relocations_len: usize,
+    ) -> usize;
+    pub fn linker_utils_relocate_section_nonnull(
+        machine: u16,
+        addresses: *const Addresses,
+        relocations: *const u8,
+        relocations_len: usize,
+        symbols: *const Symbol,
+        symbols_len: usize,
+        section: *mut u8,
+        section_len: usize,
+        memory: *mut u64,
+        memory_len: usize,
         faulty: *mut usize,
     ) -> u32;
     pub fn linker_utils_jal_site_nonnull(

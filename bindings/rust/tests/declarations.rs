@@ -113,6 +113,9 @@ fn type_of_c(text: &str) -> String {
         "struct linker_utils_shapes" => "Shapes",
         "struct linker_utils_item" => "Item",
         "struct linker_utils_rela" => "Rela",
+        "struct linker_utils_symbol" => "Symbol",
+        "struct linker_utils_addresses" => "Addresses",
+        "struct linker_utils_requirements" => "Requirements",
         "struct linker_utils_field_value" => "FieldValue",
         "struct linker_utils_window_bits" => "FieldBits",
         "struct linker_utils_recognised" => "Recognised",
@@ -230,6 +233,7 @@ fn element(kind: &str) -> String {
         "ItemNumbers" => "Item".to_string(),
         "FieldValueNumbers" => "FieldValue".to_string(),
         "RecognisedNumbers" => "Recognised".to_string(),
+        "RequirementNumbers" => "Requirements".to_string(),
         other => other.to_string(),
     }
 }
@@ -383,6 +387,7 @@ fn c_element(kind: &str, element: &str) -> String {
         "Relocation" => "struct linker_utils_relocation_entry".to_string(),
         "Item" => "struct linker_utils_item".to_string(),
         "Rela" => "struct linker_utils_rela".to_string(),
+        "Symbol" => "struct linker_utils_symbol".to_string(),
         "FieldBits" => "struct linker_utils_window_bits".to_string(),
         "Recognised" => "struct linker_utils_recognised".to_string(),
         "usize" => "size_t".to_string(),
@@ -427,7 +432,7 @@ fn print_by_c() -> BTreeMap<String, String> {
             );
         }
     }
-    program += "for (unsigned i = 0; i < 64; i++) ";
+    program += "for (unsigned i = 0; i < 80; i++) ";
     program += "printf(\"%u=%s\\n\", i, linker_utils_status_text(i));\nreturn 0;\n}\n";
 
     let folder = Path::new(env!("CARGO_TARGET_TMPDIR"));
@@ -617,6 +622,10 @@ fn the_numbers_are_those_of_the_library() {
     assert_eq!(roles.remove("None"), Some(0));
     assert_eq!(numbers(Uleb128Role::ALL, Uleb128Role::number), roles);
     assert_eq!(
+        numbers(EntryClass::ALL, EntryClass::number),
+        equations("linker_utils_c/specs/Sections", "class_number")
+    );
+    assert_eq!(
         numbers(RelocationKind::ALL, RelocationKind::number),
         variants("linker_elf/src/elf", "RelocationKind")
     );
@@ -640,7 +649,7 @@ fn the_version_is_the_same() {
 #[test]
 fn the_statuses_say_the_same() {
     let printed = printed_by_c();
-    for number in 1..64 {
+    for number in 1..80 {
         let text = match Status::from_number(number) {
             Some(status) => status.to_string(),
             None => "No status has this number.".to_string(),
@@ -752,6 +761,16 @@ fn the_structs_are_those_of_the_library() {
         "linker_utils_rela": Rela {
             offset, target, addend, r_type, has_symbol, has_target, may_compress,
         }
+        "linker_utils_requirements": raw::Requirements {
+            entry_addend, entry_class, is_branch, may_use_stub, is_word, depends_on_load,
+        }
+        "linker_utils_symbol": Symbol {
+            address, size, stub, address_entry, thread_entry, module_entry, descriptor,
+            entry_addend, other, is_thread_local, is_undefined_weak,
+        }
+        "linker_utils_addresses": Addresses {
+            section, got_base, thread_origin, module_origin, module_entry,
+        }
         "linker_utils_field_value": FieldValue { bits, rounding, first_bit, end_bit, }
         "linker_utils_window_bits": FieldBits { offset, bits, }
         "linker_utils_recognised": raw::Recognised { choice, offset, value, }
@@ -767,7 +786,8 @@ fn the_structs_are_those_of_the_library() {
         + &repository("crates/linker_elf/src/elf/value.rt")
         + &repository("crates/linker_elf/src/elf/numbers.rt")
         + &repository("crates/linker_runs/src/relaxation.rt")
-        + &repository("crates/linker_reading/src/recognise/fields.rt");
+        + &repository("crates/linker_reading/src/recognise/fields.rt")
+        + &repository("crates/linker_section/src/facts.rt");
     for (name, of_library) in [
         ("linker_utils_deletion", "Deletion"),
         ("linker_utils_call", "Call"),
@@ -784,6 +804,9 @@ fn the_structs_are_those_of_the_library() {
         ("linker_utils_shapes", "Shapes"),
         ("linker_utils_item", "ItemNumbers"),
         ("linker_utils_rela", "Rela"),
+        ("linker_utils_requirements", "RequirementNumbers"),
+        ("linker_utils_symbol", "Symbol"),
+        ("linker_utils_addresses", "Addresses"),
         ("linker_utils_field_value", "FieldValueNumbers"),
         ("linker_utils_window_bits", "FieldBits"),
         ("linker_utils_recognised", "RecognisedNumbers"),

@@ -10,5 +10,6 @@ pub mod Relocate
 pub mod Relocations
 pub mod Rewrites
 pub mod SectionItems
+pub mod Sections
 pub mod Shrinking
 pub mod Status

@@ -36,6 +36,8 @@ use Rattle.linker_utils_c.specs.declared.status.Status.TheVariants.{TargetOutOfR
 use Rattle.linker_utils_c.specs.declared.status.Status.TheVariants.{LeavesOtherBytes}
 use Rattle.linker_utils_c.specs.declared.status.Status.TheVariants.{MayBeMisaligned}
 use Rattle.linker_utils_c.specs.declared.status.Status.TheVariants.{DeletedOutside}
+use Rattle.linker_utils_c.specs.declared.status.Status.TheVariants.{NoSymbol, NoEntry, NoHighPart}
+use Rattle.linker_utils_c.specs.declared.status.Status.TheVariants.{Overlaps, ShortMemory}
 
 abbrev pub code : Status → ℕ
 code Success = 0
@@ -97,6 +99,11 @@ code TargetOutOfReach = 57
 code LeavesOtherBytes = 58
 code MayBeMisaligned = 59
 code DeletedOutside = 60
+code NoSymbol = 61
+code NoEntry = 62
+code NoHighPart = 63
+code Overlaps = 64
+code ShortMemory = 65
 
 -- the status is one of these
 abbrev pub IsOneOf : List Status → ℕ → Type 0

@@ -17,6 +17,7 @@ mod relocate;
 mod relocations;
 mod rewrites;
 mod section_items;
+mod sections;
 mod sequences;
 mod shrinking;
 mod status;

@@ -88,7 +88,7 @@ pub extern "C" fn linker_utils_reach(machine: u16, r_type: u32, reach: &mut Reac
 }
 
 #[inline(always)]
-fn status_of(outcome: Result<(), RelocateError>) -> u32
+pub(crate) fn status_of(outcome: Result<(), RelocateError>) -> u32
     ensures { result ≡ code (write_status outcome) }
 {
     match outcome {
@@ -230,7 +230,7 @@ pub extern "C" fn linker_utils_uleb128_role(machine: u16, r_type: u32) -> u32
 }
 
 #[inline(always)]
-fn uleb_status_of(outcome: Result<(), Uleb128Error>) -> u32
+pub(crate) fn uleb_status_of(outcome: Result<(), Uleb128Error>) -> u32
     ensures { result ≡ code (uleb_status outcome) }
 {
     match outcome {

@@ -7,6 +7,7 @@ use linker_utils::recognise::FieldBits;
 use linker_utils::relaxation::{BlockHead, Call, RelaxDelta};
 use linker_utils::runs::relaxation::{Shape, Shapes};
 use linker_utils::runs::shapes::{fixed, loongarch64, riscv64};
+use linker_utils::section::{Addresses, Symbol};
 use std::cell::Cell;
 use std::ffi::c_void;
 
@@ -144,6 +145,7 @@ impl Random {
             "items" | "shapes" | "kept" | "places" if is_of_run => self.run,
             "freed" if is_of_run => self.run + 1,
             "found" if is_of_run => 6,
+            "memory" if is_of_run => 12,
             _ => self.below(5) as usize,
         }
     }
@@ -232,8 +234,13 @@ impl Made for u8 {
         }
     }
 
-    /// Instructions that some call takes, and any bytes.
+    /// Instructions that some call takes, relocations, and any bytes.
     fn several(random: &mut Random, name: &str) -> Vec<u8> {
+        if name == "relocations" {
+            let mut bytes: Vec<u8> = (0..random.below(6)).flat_map(|_| relocation(random)).collect();
+            bytes.truncate(bytes.len().saturating_sub(random.below(3) as usize));
+            return bytes;
+        }
         if name == "shapes" {
             let len = random.len(name);
             return (0..len).map(|_| random.word() as u8).collect();
@@ -267,6 +274,15 @@ impl Made for u8 {
         }
         bytes
     }
+}
+
+/// A relocation as files have it, mostly near the beginning of a section and of a symbol that is there.
+fn relocation(random: &mut Random) -> Vec<u8> {
+    let r_type = [random.below(1200), random.below(60), 60, 61, 35, 39][random.below(6) as usize];
+    let symbol = [random.below(4), random.below(1 << 32)][usize::from(random.below(8) == 0)];
+    let offset = [4 * random.below(8), random.number()][usize::from(random.below(8) == 0)];
+    let words = [offset, symbol << 32 | r_type, random.number()];
+    words.iter().flat_map(|word| word.to_le_bytes()).collect()
 }
 
 impl Seen for u8 {
@@ -310,6 +326,11 @@ fields! { BlockHead: input_offset, output_offset, }
 fields! { Call: site, target, }
 fields! { FieldBits: offset, bits, }
 fields! { RewriteWindow: back, len, }
+fields! {
+    Symbol: address, size, stub, address_entry, thread_entry, module_entry, descriptor,
+    entry_addend, other, is_thread_local, is_undefined_weak,
+}
+fields! { Addresses: section, got_base, thread_origin, module_origin, module_entry, }
 fields! { Operands: symbol, addend, place, got_entry, got_base, plt_entry, symbol_size, tls_base, }
 fields! {
     RelocationNumbers: kind, form, mask, machine, is_bits, byte_size, first_bit, end_bit,

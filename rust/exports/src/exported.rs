@@ -11,6 +11,7 @@ use crate::relaxing::ItemNumbers;
 use crate::relocate::Reach;
 use crate::relocate::Relocation;
 use crate::section_items::Rela;
+use crate::sections::RequirementNumbers;
 use linker_utils::elf::Operands;
 use linker_utils::elf::RelocationNumbers;
 use linker_utils::elf::RewriteWindow;
@@ -19,6 +20,8 @@ use linker_utils::relaxation::BlockHead;
 use linker_utils::relaxation::RelaxDelta;
 use linker_utils::riscv64::Call;
 use linker_utils::runs::relaxation::Shapes;
+use linker_utils::section::Addresses;
+use linker_utils::section::Symbol;
 use core::slice::{from_raw_parts, from_raw_parts_mut};
 
 #[unsafe(no_mangle)]
@@ -1232,6 +1235,91 @@ unsafe extern "C" fn linker_utils_loongarch_items_nonnull(
             from_raw_parts(relocations, relocations_len),
             from_raw_parts_mut(items, items_len),
             &mut *len,
+            &mut *faulty,
+        )
+    }
+}
+
+#[unsafe(no_mangle)]
+unsafe extern "C" fn linker_utils_needs(
+    machine: u16,
+    r_type: u32,
+    addend: i64,
+    is_thread_local: bool,
+    required: *mut RequirementNumbers,
+) -> u32 {
+    // SAFETY: the arguments are as the head of the header says.
+    unsafe {
+        crate::sections::linker_utils_needs(
+            machine,
+            r_type,
+            addend,
+            is_thread_local,
+            &mut *required,
+        )
+    }
+}
+
+#[unsafe(no_mangle)]
+unsafe extern "C" fn linker_utils_value_at_nonnull(
+    machine: u16,
+    addresses: *const Addresses,
+    relocations: *const u8,
+    relocations_len: usize,
+    symbols: *const Symbol,
+    symbols_len: usize,
+    index: usize,
+    value: *mut i64,
+) -> u32 {
+    // SAFETY: the arguments are as the head of the header says.
+    unsafe {
+        crate::sections::linker_utils_value_at_nonnull(
+            machine,
+            &*addresses,
+            from_raw_parts(relocations, relocations_len),
+            from_raw_parts(symbols, symbols_len),
+            index,
+            &mut *value,
+        )
+    }
+}
+
+#[unsafe(no_mangle)]
+unsafe extern "C" fn linker_utils_relocate_memory_nonnull(
+    relocations: *const u8,
+    relocations_len: usize,
+) -> usize {
+    // SAFETY: the arguments are as the head of the header says.
+    unsafe {
+        crate::sections::linker_utils_relocate_memory_nonnull(
+            from_raw_parts(relocations, relocations_len),
+        )
+    }
+}
+
+#[unsafe(no_mangle)]
+unsafe extern "C" fn linker_utils_relocate_section_nonnull(
+    machine: u16,
+    addresses: *const Addresses,
+    relocations: *const u8,
+    relocations_len: usize,
+    symbols: *const Symbol,
+    symbols_len: usize,
+    section: *mut u8,
+    section_len: usize,
+    memory: *mut u64,
+    memory_len: usize,
+    faulty: *mut usize,
+) -> u32 {
+    // SAFETY: the arguments are as the head of the header says.
+    unsafe {
+        crate::sections::linker_utils_relocate_section_nonnull(
+            machine,
+            &*addresses,
+            from_raw_parts(relocations, relocations_len),
+            from_raw_parts(symbols, symbols_len),
+            from_raw_parts_mut(section, section_len),
+            from_raw_parts_mut(memory, memory_len),
             &mut *faulty,
         )
     }

@@ -35,6 +35,7 @@ pub mod relocate;
 pub mod relocations;
 pub mod rewrites;
 pub mod section_items;
+pub mod sections;
 pub mod sequences;
 pub mod shrinking;
 pub mod status;

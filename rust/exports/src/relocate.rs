@@ -67,7 +67,7 @@ pub fn linker_utils_reach(machine: u16, r_type: u32, reach: &mut Reach) -> u32 {
 }
 
 #[inline(always)]
-fn status_of(outcome: Result<(), RelocateError>) -> u32 {
+pub(crate) fn status_of(outcome: Result<(), RelocateError>) -> u32 {
     match outcome {
         Ok(()) => Status::Success.number(),
         Err(RelocateError::Unsupported) => Status::Unsupported.number(),
@@ -183,7 +183,7 @@ pub fn linker_utils_uleb128_role(machine: u16, r_type: u32) -> u32 {
 }
 
 #[inline(always)]
-fn uleb_status_of(outcome: Result<(), Uleb128Error>) -> u32 {
+pub(crate) fn uleb_status_of(outcome: Result<(), Uleb128Error>) -> u32 {
     match outcome {
         Ok(()) => Status::Success.number(),
         Err(Uleb128Error::Ended) => Status::Uleb128Ended.number(),

@@ -128,6 +128,16 @@ pub enum Status {
     MayBeMisaligned,
     /// Bytes before the item, or behind the last one, are deleted that are of no item.
     DeletedOutside,
+    /// The relocation's symbol, or that of its high part, is not in the table.
+    NoSymbol,
+    /// The relocation requires an entry of the GOT, and there is none of its class with its addend.
+    NoEntry,
+    /// No high part is at the label that the symbol of the relocation is.
+    NoHighPart,
+    /// The relocation's field overlaps that of one before it, and the two do not compose.
+    Overlaps,
+    /// The memory has fewer elements than the call needs.
+    ShortMemory,
 }
 
 impl Status {

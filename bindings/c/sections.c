@@ -1,0 +1,47 @@
+/* Sections: what the relocations of RISC-V code require, and all of their values written at once. */
+#include <elf.h>
+#include <stdio.h>
+
+#include "linker_utils.h"
+
+int main(void) {
+    /* auipc a0 and ld a0, of the GOT; auipc ra and jalr ra. The symbols are `variable`, the label at
+     * the first auipc, and `function`. */
+    uint32_t code[4] = {0x00000517, 0x00053503, 0x00000097, 0x000080e7};
+    const Elf64_Rela relas[3] = {{0, ELF64_R_INFO(UINT64_C(1), R_RISCV_GOT_HI20), 0},
+                                 {4, ELF64_R_INFO(UINT64_C(2), R_RISCV_PCREL_LO12_I), 0},
+                                 {8, ELF64_R_INFO(UINT64_C(3), R_RISCV_CALL_PLT), 0}};
+    for (int i = 0; i < 3; i++) {
+        struct linker_utils_requirements required;
+        uint32_t r_type = ELF64_R_TYPE(relas[i].r_info);
+        if (linker_utils_needs(EM_RISCV, r_type, relas[i].r_addend, false, &required)) return 1;
+        bool has_address = required.entry_class == LINKER_UTILS_ENTRY_ADDRESS;
+        printf("%d: %s%s\n", i, has_address ? "its address in the GOT" : "no entry of the GOT",
+               required.may_use_stub ? ", may use a stub" : "");
+    }
+
+    /* what is known once addresses are: also where the GOT has the address of `variable` */
+    struct linker_utils_symbol none = {0, 0, 0, 0, 0, 0, 0, 0, 0, false, false};
+    struct linker_utils_symbol symbols[4] = {none, none, none, none};
+    symbols[1].address = 0x412344;
+    symbols[1].address_entry = 0x413008;
+    symbols[2].address = 0x401000;
+    symbols[3].address = 0x402000;
+    const struct linker_utils_addresses addresses = {0x401000, 0x413000, 0, 0, 0};
+    const uint8_t *relocations = (const uint8_t *)relas;
+    uint64_t memory[6];
+    if (linker_utils_relocate_memory(relocations, sizeof relas) > 6) return 1;
+    for (int step = 0; step < 2; step++) {
+        size_t faulty = 0;
+        uint32_t status = linker_utils_relocate_section(
+            EM_RISCV, &addresses, relocations, sizeof relas, symbols, 4, (uint8_t *)code, sizeof code,
+            memory, 6, &faulty);
+        for (int i = 0; i < 4; i++) printf("%08x ", (unsigned)code[i]);
+        printf("%s", linker_utils_status_text(status));
+        if (status) printf(" It is relocation %zu.", faulty);
+        printf("\n");
+        symbols[1].address_entry = 0; /* there isn't one: nothing is written */
+        symbols[3].address = 0x501000;
+    }
+    return 0;
+}
