@@ -2,6 +2,7 @@
 #include "link.h"
 
 struct output *got, *stubs, *slots, *irelatives;
+struct entry *module_entry;
 
 /* Code that the linker adds: a stub goes to the address in a word, a thunk to its target. Fields
  * have relocations. On PowerPC64 both begin with an instruction that stores the TOC pointer, which
@@ -121,30 +122,18 @@ static unsigned toc_of(const struct symbol *s) {
     return machine == EM_PPC64 && is_defined(s) ? s->elf.st_other >> 5 : 0;
 }
 
-/* What the entry of the GOT has that a relocation requires. */
-static enum class class_of(const struct relocation *r, uint32_t kind) {
-    bool is_larch = machine == EM_LOONGARCH;
-    if (kind >= LINKER_UTILS_KIND_GOT_TP_OFF && kind <= LINKER_UTILS_KIND_GOT_TP_OFF_LOONG_ARCH64)
-        return THREAD_OFFSET;
-    if (kind >= LINKER_UTILS_KIND_TLS_LD && kind <= LINKER_UTILS_KIND_TLS_LD_GOT_BASE)
-        return is_larch ? MODULE_OFFSET : MODULE;
-    if ((kind >= LINKER_UTILS_KIND_TLS_GD && kind <= LINKER_UTILS_KIND_TLS_GD_GOT_BASE) ||
-        (is_larch && ELF64_ST_TYPE(r->symbol->elf.st_info) == STT_TLS))
-        return MODULE_OFFSET; /* also for the low half of a LoongArch address of such an entry */
-    return ADDRESS;
-}
-
-/* The entry of the GOT that a relocation requires. */
-static struct entry *entry_of(const struct relocation *r, uint32_t kind) {
-    struct entry **at = &r->symbol->entries;
-    int64_t addend = machine == EM_AARCH64 || machine == EM_PPC64 ? r->addend : 0;
-    enum class class = class_of(r, kind);
-    if (kind >= LINKER_UTILS_KIND_TLS_DESC || (class == MODULE && machine == EM_X86_64))
+/* The entry of the GOT that a relocation requires; one of the module serves all. */
+static struct entry *entry_of(const struct relocation *r,
+                              const struct linker_utils_requirements *needs) {
+    bool is_module = needs->entry_class == LINKER_UTILS_ENTRY_MODULE;
+    struct entry **at = is_module ? &module_entry : &r->symbol->entries;
+    if (needs->entry_class == LINKER_UTILS_ENTRY_DESCRIPTOR || (is_module && machine == EM_X86_64))
         fail("%s is not supported", place_of(r));
-    while (*at && ((*at)->class != class || (*at)->addend != addend)) at = &(*at)->next;
+    while (*at && ((*at)->class != needs->entry_class || (*at)->addend != needs->entry_addend))
+        at = &(*at)->next;
     if (!*at) *at = take(1, sizeof **at);
-    (*at)->class = class;
-    (*at)->addend = addend;
+    (*at)->class = needs->entry_class;
+    (*at)->addend = needs->entry_addend;
     got->has_bytes = true;
     return *at;
 }
@@ -212,21 +201,23 @@ static struct linker_utils_link_facts early_facts(const struct relocation *r) {
         .may_change_toc = is_ifunc(r->symbol) || toc_of(r->symbol) == 1};
 }
 
-/* The sequence of thread-local storage that a relocation is part of, by what the entry of the GOT has
- * that it loads or hands to `__tls_get_addr`; else ADDRESS. */
-static enum class sequence_of(const struct relocation *r) {
-    uint32_t kind = row_of(r)->info.kind;
+/* The sequence of thread-local storage that a relocation is part of, by the class of the entry of the
+ * GOT that it loads or hands to `__tls_get_addr`; 0 where it is part of none. */
+static uint32_t sequence_of(const struct relocation *r) {
     bool is_load = machine == EM_LOONGARCH && r->type == LARCH_TLS_DESC_LD; /* without a value */
-    if (kind >= LINKER_UTILS_KIND_TLS_DESC || is_load) return DESCRIPTOR;
-    if (machine == EM_PPC64 && r->type == R_PPC64_TLS) return THREAD_OFFSET;
-    if (machine == EM_PPC64 && r->type == R_PPC64_TLSGD) return MODULE_OFFSET;
-    return machine == EM_PPC64 && r->type == R_PPC64_TLSLD ? MODULE : class_of(r, kind);
+    if (row_of(r)->info.kind == LINKER_UTILS_KIND_TLS_DESC_CALL || is_load)
+        return LINKER_UTILS_ENTRY_DESCRIPTOR;
+    if (machine == EM_PPC64 && r->type == R_PPC64_TLS) return LINKER_UTILS_ENTRY_THREAD_OFFSET;
+    if (machine == EM_PPC64 && r->type == R_PPC64_TLSGD) return LINKER_UTILS_ENTRY_MODULE_OFFSET;
+    if (machine == EM_PPC64 && r->type == R_PPC64_TLSLD) return LINKER_UTILS_ENTRY_MODULE;
+    uint32_t class = needs_of(r).entry_class;
+    return class == LINKER_UTILS_ENTRY_ADDRESS ? 0 : class;
 }
 
 /* Whether the sequences of a class and a symbol stay. Those of the module are all one, and those of
  * no class are all. */
-static bool *stays(const struct object *o, enum class class, uint64_t symbol) {
-    return &o->stays[class == MODULE || class == ADDRESS ? 0 : symbol][class];
+static bool *stays(const struct object *o, uint32_t class, uint64_t symbol) {
+    return &o->stays[class == LINKER_UTILS_ENTRY_MODULE || !class ? 0 : symbol][class];
 }
 
 /* PowerPC64: whether a relocation's symbol is called for the address of a variable though no mark
@@ -278,8 +269,8 @@ void note_sequences(struct object *o) {
         if (s->output && s->relocations) elf = copy_table(o, s->relocations, sizeof *elf, &len);
         for (size_t i = 0; i < len; i++) {
             struct relocation r = relocation_of(s, &elf[i]);
-            enum class class = sequence_of(&r);
-            if (machine == EM_PPC64 && is_unmarked(&r, elf, i)) *stays(o, ADDRESS, 0) = true;
+            uint32_t class = sequence_of(&r);
+            if (machine == EM_PPC64 && is_unmarked(&r, elf, i)) *stays(o, 0, 0) = true;
             if (class && !fits(s, elf + i, elf + len, bytes))
                 *stays(o, class, ELF64_R_SYM(elf[i].r_info)) = true;
         }
@@ -306,7 +297,7 @@ void read_relocations(struct section *s) {
         if (machine == EM_PPC64) note_low_half(r, bytes, size);
         struct linker_utils_link_facts facts = early_facts(r);
         if (o->stays && (machine != EM_PPC64 || sequence_of(r))) /* (ld.lld leaves REL16_HA) */
-            facts.group_fits = !*stays(o, ADDRESS, 0) &&
+            facts.group_fits = !*stays(o, 0, 0) &&
                                !*stays(o, sequence_of(r), ELF64_R_SYM(elf[i].r_info));
         check(r, linker_utils_choose(machine, r->type, bytes, size, elf[i].r_offset, &facts,
                                      &choices[i]));
@@ -332,9 +323,9 @@ void read_relocations(struct section *s) {
             fail("%s: undefined symbol '%s'", place_of(r), r->symbol->name);
         if (row->info.kind == LINKER_UTILS_KIND_ALIGNMENT && !s->output->shrinks)
             fail("%s is not supported", place_of(r));
-        bool is_direct = machine == EM_RISCV && row->info.kind == LINKER_UTILS_KIND_TLS_DESC;
-        if ((row->asks_for_got && !is_direct) || row->loads_plt)
-            r->entry = entry_of(r, row->info.kind);
+        struct linker_utils_requirements needs = needs_of(r);
+        bool is_direct = machine == EM_RISCV && needs.entry_class == LINKER_UTILS_ENTRY_DESCRIPTOR;
+        if (needs.entry_class && !is_direct) r->entry = entry_of(r, &needs);
         if (row->info.kind && is_ifunc(r->symbol)) r->symbol->needs_stub = true;
         if (r->restores_toc && is_ifunc(r->symbol)) r->addend -= 4;
         bool is_page = i && r[-1].type == R_AARCH64_ADR_GOT_PAGE;
@@ -372,12 +363,30 @@ void make_entries(void) {
             if (locals != (ELF64_ST_BIND(s->elf.st_info) == STB_LOCAL)) continue;
             if (s->needs_stub) make_stub(s);
             for (struct entry *e = s->entries; e; e = e->next) {
-                bool has_module = e->class == MODULE_OFFSET || e->class == MODULE;
+                bool has_module = e->class == LINKER_UTILS_ENTRY_MODULE_OFFSET;
                 e->offset = make_room(got, 8, has_module ? 16 : 8);
                 if (has_module) got->bytes[e->offset] = 1; /* the program's own number */
-                if (e->class == MODULE) continue;
-                add_own(got, e->offset + (has_module ? 8 : 0), word->type, s, e->addend)->entry = e;
+                if (e->class == LINKER_UTILS_ENTRY_ADDRESS)
+                    add_own(got, e->offset, word->type, s, e->addend);
             }
+        }
+    }
+    if (!module_entry) return;
+    module_entry->offset = make_room(got, 8, 16);
+    got->bytes[module_entry->offset] = 1;
+}
+
+/* Writes the words of the GOT that are offsets of thread-local variables; of a weak one that nothing
+ * defines as ld.lld does. */
+void write_offsets(void) {
+    for (const struct symbol *s = symbols; s; s = s->later) {
+        for (const struct entry *e = s->entries; e; e = e->next) {
+            bool has_module = e->class == LINKER_UTILS_ENTRY_MODULE_OFFSET;
+            if (!has_module && e->class != LINKER_UTILS_ENTRY_THREAD_OFFSET) continue;
+            uint64_t nowhere = has_module ? tls.image : tls.thread;
+            uint64_t at = is_undefined_weak(s) ? nowhere : address_of(s->output, s->offset);
+            at += (uint64_t)e->addend - (has_module ? tls.module : tls.thread);
+            memcpy(got->bytes + e->offset + (has_module ? 8 : 0), &at, sizeof at);
         }
     }
 }
@@ -406,8 +415,8 @@ bool add_thunks(void) {
         for (size_t j = 0; j < len; j++) {
             struct relocation *r = &o->relocations[j];
             struct symbol *s = r->symbol;
-            if (!r->section || !row_of(r)->may_use_plt || row_of(r)->loads_plt || s->is_thunk ||
-                !is_defined(s) || is_left_out(r))
+            if (!r->section || !needs_of(r).may_use_stub || s->is_thunk || !is_defined(s) ||
+                is_left_out(r))
                 continue;
             bool is_notoc = machine == EM_PPC64 && r->type == PPC64_REL24_NOTOC;
             bool is_needed = is_notoc ? toc_of(s) > 1 : toc_of(s) == 1;

@@ -7,7 +7,7 @@
  * - layout.c: which sections the linked file has, and where they are
  * - entries.c: rewrites, the GOT, thread-local storage, indirect functions and thunks
  * - relax.c: what is deleted of RISC-V and LoongArch code
- * - relocate.c: values, and the instructions of AArch64 that depend on them
+ * - relocate.c: rewrites that depend on addresses, and all values
  * - output.c: the table of unwind information, and the file with its symbols
  *
  * The first error ends it, and it never frees memory. */
@@ -33,7 +33,7 @@
 /* relocation types that older versions of <elf.h> lack */
 enum { LARCH_PCALA_HI20 = 71, LARCH_PCALA_LO12 = 72, LARCH_RELAX = 100, LARCH_ALIGN = 102 };
 enum { LARCH_CALL36 = 110, LARCH_TLS_DESC_LD = 119, PPC64_REL24_NOTOC = 116 };
-enum { RISCV_TLSDESC_HI20 = 62, RISCV_TLSDESC_CALL = 65, AARCH64_PLT32 = 314 };
+enum { RISCV_TLSDESC_HI20 = 62, RISCV_TLSDESC_CALL = 65 };
 
 /* the order of the sections of the linked file; there are three kinds of arrays */
 enum { RANK_HEADERS, RANK_FIXED, RANK_CODE, RANK_TLS, RANK_TLS_BSS, RANK_ARRAYS, RANK_RELOCATED = 8,
@@ -80,7 +80,7 @@ struct object {
     uint32_t flags; /* `e_flags` */
     bool has_other_low_halves; /* PowerPC64: not all can be over the TOC pointer */
     bool has_other_offsets; /* and of local-exec, not all can be over the thread pointer */
-    bool (*stays)[5]; /* by symbol and class, what of thread-local storage stays; or null */
+    bool (*stays)[6]; /* by symbol and class, what of thread-local storage stays; or null */
 };
 
 struct section {
@@ -113,16 +113,16 @@ struct symbol {
     struct symbol *thunks; /* to it */
     int64_t thunk_addend;
     bool is_listed, needs_stub, is_thunk; /* (an indirect function that is used needs one) */
+    uint32_t number; /* in the table that the library reads; 0 where it isn't there yet */
 };
 
-/* What an entry of the GOT has. */
-enum class { ADDRESS, THREAD_OFFSET, MODULE_OFFSET, MODULE, DESCRIPTOR };
-
+/* An entry of the GOT. */
 struct entry {
     struct entry *next;
-    enum class class;
+    uint32_t class; /* `enum linker_utils_entry_class` */
     int64_t addend; /* on AArch64 and PowerPC64 the entry is of S + A */
     uint64_t offset;
+    uint32_t number; /* of its symbol with this entry, in the table that the library reads */
 };
 
 struct relocation {
@@ -139,9 +139,7 @@ struct relocation {
 /* What the library says of a relocation type. */
 struct row {
     struct linker_utils_relocation_info info;
-    enum linker_utils_role role;
-    bool is_known, asks_for_got, may_use_plt;
-    bool loads_plt; /* PowerPC64: of code that itself loads what the PLT has */
+    bool is_known;
 };
 
 /* The TLS segment: where its image is, its length and alignment, the thread pointer, and the origin
@@ -160,12 +158,14 @@ extern struct symbol *module_base; /* `_TLS_MODULE_BASE_`; null where no object 
 extern struct output *outputs[256], *headers, *got, *stubs, *slots, *irelatives, *frames, *index_of;
 extern size_t outputs_len;
 extern struct tls tls;
+extern struct entry *module_entry; /* of the GOT; null where no relocation requires it */
 
 void *take(uint64_t count, size_t size), *grow(void *array, size_t need, size_t *room, size_t size);
 uint64_t round_up(uint64_t at, uint64_t align);
 const char *place_of(const struct relocation *r);
 void check(const struct relocation *r, uint32_t status);
 const struct row *row_of(const struct relocation *r);
+struct linker_utils_requirements needs_of(const struct relocation *r);
 
 void *copy_table(const struct object *o, const Elf64_Shdr *head, size_t size, size_t *len);
 void read_file(const char *path), load_member(struct archive *a, uint64_t offset);
@@ -184,6 +184,7 @@ void place_outputs(void), set_addresses(void);
 void add_section(struct section *s), copy_section(struct section *s), sort_outputs(void);
 
 void note_sequences(struct object *o), read_relocations(struct section *s), make_entries(void);
+void write_offsets(void);
 struct section *toc_section(const struct relocation *r, uint64_t *offset);
 bool add_thunks(void);
 void rewrite(const struct relocation *r, uint8_t *bytes, uint64_t len, uint64_t *offset,
@@ -192,7 +193,8 @@ bool is_relaxable(const struct output *o, const struct relocation *r);
 void relax(void), relocate(struct output *o);
 struct relocation *high_part(const struct output *o, const struct relocation *low);
 int64_t value_of(const struct output *o, const struct relocation *r);
-bool is_left_out(const struct relocation *r);
+bool is_left_out(const struct relocation *r), is_undefined_weak(const struct symbol *s);
+bool is_thread_local(const struct symbol *s);
 uint64_t read_frames(const struct section *s, const uint8_t *bytes, uint8_t *rows);
 void index_frames(void), write_file(const char *path, uint64_t entry, bool has_symbols);
 

@@ -109,6 +109,7 @@ int main(int argc, char **argv) {
     while (add_thunks());
     relax();
     for (size_t i = 0; i < outputs_len; i++) relocate(outputs[i]);
+    write_offsets();
     index_frames();
     struct symbol *start = *global("_start");
     if (!start || !start->output) fail("undefined symbol '_start'");

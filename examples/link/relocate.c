@@ -1,4 +1,4 @@
-/* The values of relocations, and the instructions of AArch64 that depend on addresses. */
+/* Rewrites that depend on addresses, and the values of all relocations. */
 #include "link.h"
 
 struct tls tls;
@@ -7,16 +7,17 @@ struct tls tls;
 const struct row *row_of(const struct relocation *r) {
     static struct row rows[2048];
     struct row *row = &rows[r->type < 2048 ? r->type : 2047];
-    if (row->is_known) return row;
-    check(r, linker_utils_relocation(machine, r->type, &row->info));
-    row->role = linker_utils_uleb128_role(machine, r->type);
-    row->asks_for_got = linker_utils_asks_for_got(machine, r->type);
-    row->may_use_plt = linker_utils_may_use_plt(machine, r->type);
-    row->loads_plt = machine == EM_PPC64 &&
-                     (row->info.kind == LINKER_UTILS_KIND_PLT_RELATIVE ||
-                      row->info.kind == LINKER_UTILS_KIND_PLT_REL_GOT_BASE);
+    if (!row->is_known) check(r, linker_utils_relocation(machine, r->type, &row->info));
     row->is_known = true;
     return row;
+}
+
+/* What a relocation requires. */
+struct linker_utils_requirements needs_of(const struct relocation *r) {
+    struct linker_utils_requirements needs;
+    bool is_tls = r->symbol && is_thread_local(r->symbol);
+    check(r, linker_utils_needs(machine, r->type, r->addend, is_tls, &needs));
+    return needs;
 }
 
 /* Whether a relocation's symbol is in a discarded section, where that is nothing wrong: in tables
@@ -53,7 +54,7 @@ static void rewrite_aarch64(struct output *o, struct relocation *page, struct re
     rewrite(low, bytes, len, &next, &low->addend, &low->type, &facts);
 }
 
-static bool is_undefined_weak(const struct symbol *s) {
+bool is_undefined_weak(const struct symbol *s) {
     return s->elf.st_shndx == SHN_UNDEF && ELF64_ST_BIND(s->elf.st_info) == STB_WEAK;
 }
 
@@ -193,95 +194,132 @@ static void rewrite_riscv(struct output *o) {
     }
 }
 
-int64_t value_of(const struct output *o, const struct relocation *r) {
-    const struct row *row = row_of(r);
-    bool is_low = row->info.kind == LINKER_UTILS_KIND_RELATIVE_RISC_V_LOW12;
-    const struct relocation *of = is_low ? high_part(o, r) : r;
-    const struct symbol *s = of->symbol;
+/* What is known of a relocation's symbol, and of the entry of the GOT that it requires. */
+static struct linker_utils_symbol known_of(const struct relocation *r) {
+    const struct symbol *s = r->symbol;
     if (!s->output && s->elf.st_shndx && s->elf.st_shndx < SHN_LORESERVE)
         fail("%s: '%s' is in a section that is left out", place_of(r), s->name);
-    uint64_t entry = of->entry ? address_of(got, of->entry->offset) : 0;
-    bool is_nowhere = is_undefined_weak(s);
-    bool is_word = !r->section && r->entry && r->entry->class != ADDRESS; /* of the GOT */
-    bool is_of_thread = row->info.kind == LINKER_UTILS_KIND_TP_OFF ||
-                        (is_word && r->entry->class == THREAD_OFFSET);
-    uint64_t origin = is_of_thread ? tls.thread : tls.module;
-    struct linker_utils_operands operands = {
-        .symbol = address_of(s->output, s->offset), .addend = of->addend,
-        .place = address_of(o, of->offset), .got_entry = entry,
-        .got_base = got->address + (machine == EM_PPC64 ? 0x8000 : 0),
-        .symbol_size = s->elf.st_size, .tls_base = origin};
-    if (is_low && of->entry) operands.symbol = entry;
-    if (is_nowhere && (is_of_thread || is_word || row->info.kind == LINKER_UTILS_KIND_DTP_OFF))
-        operands.symbol = is_of_thread ? tls.thread : tls.image; /* as in ld.lld */
-    if (is_word) operands.addend -= (int64_t)origin;
-    if (is_nowhere && machine == EM_AARCH64 &&
-        (row->info.kind == LINKER_UTILS_KIND_RELATIVE || row->may_use_plt)) {
-        /* its address is the place, and of a branch the next instruction, as in ld.lld */
-        bool is_branch = row->may_use_plt && r->type != AARCH64_PLT32;
-        operands.symbol = operands.place + (is_branch ? 4 : 0);
-    } else if (is_nowhere && row->may_use_plt) {
-        /* a call of it goes where ld.lld lets it go */
-        if (machine == EM_RISCV || (machine == EM_PPC64 && (r->type == R_PPC64_REL24 ||
-                                                            r->type == R_PPC64_REL14)))
-            operands.symbol = operands.place;
-    } else if (row->may_use_plt && machine == EM_PPC64) {
-        operands.symbol += PPC64_LOCAL_ENTRY_OFFSET(s->elf.st_other);
-    }
-    operands.plt_entry = operands.symbol;
-    if (row->loads_plt) { /* there the entry of S + A is in the GOT */
-        operands.plt_entry = entry;
-        operands.addend = 0;
-    }
+    struct linker_utils_symbol known = {
+        .address = address_of(s->output, s->offset), .size = s->elf.st_size,
+        .other = s->elf.st_other, .is_thread_local = is_thread_local(s),
+        .is_undefined_weak = is_undefined_weak(s)};
+    if (!r->entry) return known;
+    uint64_t at = address_of(got, r->entry->offset);
+    if (r->entry->class == LINKER_UTILS_ENTRY_ADDRESS) known.address_entry = at;
+    if (r->entry->class == LINKER_UTILS_ENTRY_THREAD_OFFSET) known.thread_entry = at;
+    if (r->entry->class == LINKER_UTILS_ENTRY_MODULE_OFFSET) known.module_entry = at;
+    known.entry_addend = r->entry->addend;
+    return known;
+}
+
+/* What is known of the linked file, for relocations that count from an address. */
+static struct linker_utils_addresses addresses_of(uint64_t start) {
+    return (struct linker_utils_addresses){
+        .section = start, .got_base = got->address + (machine == EM_PPC64 ? 0x8000 : 0),
+        .thread_origin = tls.thread, .module_origin = tls.module,
+        .module_entry = module_entry ? address_of(got, module_entry->offset) : 0};
+}
+
+/* The value of a branch, by what is known of addresses so far. */
+int64_t value_of(const struct output *o, const struct relocation *r) {
     int64_t value = 0;
-    check(r, linker_utils_value(machine, r->type, &operands, &value));
+    Elf64_Rela elf = {address_of(o, r->offset) - o->address, ELF64_R_INFO(UINT64_C(1), r->type),
+                      r->addend};
+    struct linker_utils_symbol known[] = {{.address = 0}, known_of(r)};
+    struct linker_utils_addresses addresses = addresses_of(o->address);
+    check(r, linker_utils_value_at(machine, &addresses, (const uint8_t *)&elf, sizeof elf, known, 2,
+                                   0, &value));
     return value;
 }
 
-/* Computes a ULEB128 number by a pair of relocations, or on LoongArch, as in ld.lld, by one alone,
- * modulo what the number's bytes hold. Returns whether the next relocation is of the pair. */
-static bool relocate_uleb128(const struct output *o, const struct relocation *r, bool is_last,
-                             uint8_t *bytes, uint64_t len) {
-    const struct relocation *next = r + 1;
-    enum linker_utils_role role = row_of(r)->role;
-    bool is_pair = role != LINKER_UTILS_ROLE_SUBTRACTS && !is_last && next->section == r->section &&
-                   next->offset == r->offset && row_of(next)->role == LINKER_UTILS_ROLE_SUBTRACTS;
-    uint64_t number = 0, value = (uint64_t)value_of(o, r);
-    size_t used = 0;
-    if (!is_pair && machine == EM_RISCV) fail("%s has no other half", place_of(r));
-    if (role != LINKER_UTILS_ROLE_SETS)
-        check(r, linker_utils_read_uleb128(bytes, len, &number, &used));
-    number += role == LINKER_UTILS_ROLE_SUBTRACTS ? -value : value;
-    if (is_pair) number -= (uint64_t)value_of(o, next);
-    else if (used < 9) number &= (UINT64_C(1) << 7 * used) - 1;
-    check(r, linker_utils_write_uleb128(bytes, len, number));
-    return is_pair;
+/* The table of symbols that the library reads. A symbol is there once, and once more for each of its
+ * entries of the GOT. The first is no symbol. */
+static struct linker_utils_symbol none, *table = &none;
+static size_t table_len = 1, table_room;
+
+/* Where a relocation's symbol is in the table. PowerPC64's calls without a TOC to what nothing defines
+ * go to address 0, as ld.lld's. */
+static uint64_t number_of(const struct relocation *r) {
+    if (machine == EM_PPC64 && r->type == PPC64_REL24_NOTOC && is_undefined_weak(r->symbol)) return 0;
+    bool has_entry = r->entry && r->entry != module_entry;
+    uint32_t *number = has_entry ? &r->entry->number : &r->symbol->number;
+    if (*number) return *number;
+    table = grow(table == &none ? NULL : table, table_len + 1, &table_room, sizeof *table);
+    table[0] = none;
+    table[table_len] = known_of(r);
+    return *number = (uint32_t)table_len++;
 }
 
+/* Whether a relocation adds to a ULEB128 number or subtracts from it without another one, as on
+ * LoongArch. */
+static bool is_alone(const struct relocation *r, size_t i, size_t len) {
+    if (machine != EM_LOONGARCH) return false;
+    uint32_t role = linker_utils_uleb128_role(machine, r[i].type);
+    bool adds = role == LINKER_UTILS_ROLE_ADDS;
+    uint32_t wanted = adds ? LINKER_UTILS_ROLE_SUBTRACTS : LINKER_UTILS_ROLE_ADDS;
+    size_t other = adds ? i + 1 : i - 1;
+    return role && (other >= len || r[other].offset != r[i].offset ||
+                    linker_utils_uleb128_role(machine, r[other].type) != wanted);
+}
+
+/* Computes such a number, modulo what its bytes hold, as in ld.lld. */
+static void add_alone(const struct output *o, const struct relocation *r, uint8_t *bytes,
+                      uint64_t len) {
+    uint64_t number = 0, value = (uint64_t)value_of(o, r);
+    size_t used = 0;
+    check(r, linker_utils_read_uleb128(bytes, len, &number, &used));
+    bool subtracts = linker_utils_uleb128_role(machine, r->type) == LINKER_UTILS_ROLE_SUBTRACTS;
+    number += subtracts ? -value : value;
+    if (used < 9) number &= (UINT64_C(1) << 7 * used) - 1;
+    check(r, linker_utils_write_uleb128(bytes, len, number));
+}
+
+/* Writes the values of relocations of one section, or of some that the linker itself adds. */
+static void relocate_some(struct output *o, const struct relocation *r, size_t len) {
+    const struct section *s = r->section;
+    uint64_t start = s ? address_of(o, s->offset) : o->address;
+    uint64_t end = s ? address_of(o, s->end) : o->address + o->len;
+    size_t size = len * sizeof(Elf64_Rela), at = 0;
+    Elf64_Rela *elf = take(len, sizeof *elf);
+    for (size_t i = 0; i < len; i++) {
+        bool has_value = row_of(&r[i])->info.kind && r[i].symbol && !is_left_out(&r[i]);
+        elf[i].r_offset = address_of(o, r[i].offset) - start;
+        if (has_value && is_alone(r, i, len)) {
+            uint64_t place = start + elf[i].r_offset;
+            add_alone(o, &r[i], o->bytes + (place - o->address), end - place);
+            has_value = false;
+        }
+        elf[i].r_info = has_value ? ELF64_R_INFO(number_of(&r[i]), r[i].type) : 0;
+        elf[i].r_addend = r[i].addend;
+    }
+    const uint8_t *relocations = (const uint8_t *)elf;
+    size_t memory_len = linker_utils_relocate_memory(relocations, size);
+    uint64_t *memory = take(memory_len, sizeof *memory);
+    struct linker_utils_addresses addresses = addresses_of(start);
+    uint32_t status = linker_utils_relocate_section(
+        machine, &addresses, relocations, size, table, table_len, o->bytes + (start - o->address),
+        end - start, memory, memory_len, &at);
+    int64_t value;
+    struct linker_utils_relocation_reach reach;
+    if (status == LINKER_UTILS_OUT_OF_REACH &&
+        !linker_utils_value_at(machine, &addresses, relocations, size, table, table_len, at, &value) &&
+        !linker_utils_reach(machine, r[at].type, &reach))
+        fail("%s out of reach: %" PRId64 " is not in [%" PRId64 ", %" PRId64 "), to '%s'",
+             place_of(&r[at]), value, reach.min, reach.max, r[at].symbol->name);
+    check(&r[at], status);
+}
+
+/* Rewrites what waits for addresses, and writes all values. */
 void relocate(struct output *o) {
-    struct relocation *end = o->relocations + o->relocations_len;
+    struct relocation *r = o->relocations, *end = r + o->relocations_len, *first;
     if (machine == EM_RISCV) rewrite_riscv(o);
-    for (struct relocation *r = o->relocations; r < end; r++) {
+    for (; r < end; r++) {
         if (relaxes && machine == EM_AARCH64 && r + 1 < end) rewrite_aarch64(o, r, r + 1);
         if (relaxes && machine == EM_PPC64) rewrite_ppc64(o, r);
         if (has_short_offsets && machine == EM_PPC64) shorten_offset(o, r);
-        const struct row *row = row_of(r);
-        if (row->info.kind == LINKER_UTILS_KIND_NONE || is_left_out(r) ||
-            row->info.kind == LINKER_UTILS_KIND_ALIGNMENT ||
-            row->info.kind == LINKER_UTILS_KIND_TLS_DESC_CALL)
-            continue;
-        uint64_t at = address_of(o, r->offset) - o->address;
-        uint64_t len = (r->section ? address_of(o, r->section->end) - o->address : o->len) - at;
-        if (row->role) {
-            r += relocate_uleb128(o, r, r + 1 == end, o->bytes + at, len);
-            continue;
-        }
-        int64_t value = value_of(o, r);
-        uint32_t status = linker_utils_relocate(machine, r->type, value, o->bytes + at, len);
-        struct linker_utils_relocation_reach reach;
-        if (status == LINKER_UTILS_OUT_OF_REACH && !linker_utils_reach(machine, r->type, &reach))
-            fail("%s out of reach: %" PRId64 " is not in [%" PRId64 ", %" PRId64 "), to '%s'",
-                 place_of(r), value, reach.min, reach.max, r->symbol->name);
-        check(r, status);
+    }
+    for (first = r = o->relocations; first < end; first = r) {
+        while (r < end && r->section == first->section) r++;
+        relocate_some(o, first, (size_t)(r - first));
     }
 }

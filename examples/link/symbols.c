@@ -39,7 +39,7 @@ static void want(const struct symbol *s) {
     if (s->object && s->archive && rank(s) == 1) load_member(s->archive, s->member);
 }
 
-static bool is_thread_local(const struct symbol *s) {
+bool is_thread_local(const struct symbol *s) {
     return ELF64_ST_TYPE(s->elf.st_info) == STT_TLS;
 }
 
