@@ -12,6 +12,8 @@ pub fn growth(report: &mut Report) {
     );
     rejected_merges(report);
     cascades(report);
+    let name = "`linker_utils_relocate_section`, ascending";
+    line(report, name, crate::sections::many, 10_000_000);
 }
 
 fn line<'a>(report: &mut Report, name: &str, of: impl Fn(usize) -> Side<'a>, count: usize) {

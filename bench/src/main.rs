@@ -13,6 +13,7 @@ mod inputs;
 mod library;
 mod measure;
 mod relaxing;
+mod sections;
 mod table;
 mod threads;
 
@@ -58,7 +59,7 @@ fn main() {
         let mut parts = args.iter().filter(|arg| !arg.starts_with("--")).peekable();
         parts.peek().is_none() || parts.any(|arg| arg == part)
     };
-    let parts: [(&str, fn(&mut Report)); 17] = [
+    let parts: [(&str, fn(&mut Report)); 18] = [
         ("forms", forms),
         ("rewrites", rewrites),
         ("choices", choices::choices),
@@ -72,6 +73,7 @@ fn main() {
         ("calls", calls),
         ("relaxing", relaxing::relaxing),
         ("packing", packing),
+        ("sections", sections::sections),
         ("more", more),
         ("further", further::further),
         ("growth", growth::growth),
