@@ -34,9 +34,9 @@
  *   returned. A call that returns anything else can't fail.
  * - `faulty` may be null. If the status is about one entry of an array, the index of that entry is
  *   written there; with any other status nothing is.
- * - Only a call that may return `LINKER_UTILS_OUT_OF_MEMORY` allocates, and
- *   `linker_utils_shrink_calls`. Such a call is not for a signal handler, nor for the forked child
- *   of a process with threads.
+ * - Only a call that may return `LINKER_UTILS_OUT_OF_MEMORY` allocates, and for their speed
+ *   `linker_utils_shrink_calls` and `linker_utils_deletions_mergeable`. Such a call is not for a signal
+ *   handler, nor for the forked child of a process with threads.
  *
  * A machine is ELF's `e_machine`, and a relocation type the low 32 bits of ELF's `r_info`, as
  * <elf.h> names them (`EM_X86_64`, `R_X86_64_PC32`). Bits are numbered from the least
@@ -1487,10 +1487,11 @@ static inline uint32_t linker_utils_deltas_create_in_one_pass(
 /* LINKER_UTILS_OK where `linker_utils_deltas_merge` takes the additional deletions, in any order:
  * each ends at 2^64 - 1 or below, and of any two, old or additional, one has the lower offset and
  * does not reach past the other's. LINKER_UTILS_INVALID_DELETIONS where the deltas list no valid
- * deletions, LINKER_UTILS_NOT_MERGEABLE. It doesn't allocate. k additional deletions that ascend or
- * descend take one pass besides the searches in the deltas; others take up to k searches for each
- * 1,024 of them, which are sorted on the stack, in 16 KB, and for each longer run that ascends or
- * descends. */
+ * deletions, LINKER_UTILS_NOT_MERGEABLE. k additional deletions that ascend or descend take one pass
+ * besides the searches in the deltas. It doesn't allocate for those, nor for 1,024 or fewer. Others
+ * are sorted, in a copy of 16 bytes each. Without memory for the copy they take up to k searches for
+ * each 1,024 of them, which are sorted on the stack, in 16 KB, and for each longer run that ascends
+ * or descends. */
 static inline uint32_t linker_utils_deletions_mergeable(
     const struct linker_utils_delta *deltas, size_t deltas_len,
     const struct linker_utils_deletion *additional, size_t additional_len);

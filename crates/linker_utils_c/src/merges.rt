@@ -16,11 +16,11 @@ use linker_utils::relaxation::{AsDeletion, DeltaSlice, OutOfMemory, RelaxDelta, 
 use std::alloc::Global;
 
 /// Whether `linker_utils_deltas_merge` accepts the additional deletions, in any order. The first
-/// that applies of `InvalidDeletions`, which the deltas' own are, and `NotMergeable`. It takes no
-/// memory. For k additional deletions and n deltas the work is O(n) and that of
-/// `DeltaSlice::can_merge`.
+/// that applies of `InvalidDeletions`, which the deltas' own are, and `NotMergeable`. For k
+/// additional deletions and n deltas the work is O(n) and that of `DeltaSlice::can_merge_sorted`.
 #[unsafe(no_mangle)]
 pub extern "C" fn linker_utils_deletions_mergeable_nonnull(
+    alloc: Global,
     deltas: &[RelaxDelta],
     additional: &[Deletion],
 ) -> u32
@@ -40,7 +40,7 @@ pub extern "C" fn linker_utils_deletions_mergeable_nonnull(
     if let Some(_) = first_invalid(deltas) {
         return Status::InvalidDeletions.number();
     }
-    if !slice.can_merge(additional) {
+    if !slice.can_merge_sorted(alloc, additional) {
         return Status::NotMergeable.number();
     }
     Status::Success.number()

@@ -8,9 +8,8 @@ use crate::status::Status;
 use linker_utils::relaxation::{AsDeletion, DeltaSlice, OutOfMemory, RelaxDelta, first_invalid};
 
 /// Whether `linker_utils_deltas_merge` accepts the additional deletions, in any order. The first
-/// that applies of `InvalidDeletions`, which the deltas' own are, and `NotMergeable`. It takes no
-/// memory. For k additional deletions and n deltas the work is O(n) and that of
-/// `DeltaSlice::can_merge`.
+/// that applies of `InvalidDeletions`, which the deltas' own are, and `NotMergeable`. For k
+/// additional deletions and n deltas the work is O(n) and that of `DeltaSlice::can_merge_sorted`.
 pub fn linker_utils_deletions_mergeable_nonnull(
     deltas: &[RelaxDelta],
     additional: &[Deletion],
@@ -22,7 +21,7 @@ pub fn linker_utils_deletions_mergeable_nonnull(
     if let Some(_) = first_invalid(deltas) {
         return Status::InvalidDeletions.number();
     }
-    if !slice.can_merge(additional) {
+    if !slice.can_merge_sorted(additional) {
         return Status::NotMergeable.number();
     }
     Status::Success.number()

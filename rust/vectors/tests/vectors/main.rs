@@ -11,6 +11,7 @@ mod loongarch64;
 mod packing;
 mod poke;
 mod ppc64;
+mod ratio;
 mod readers;
 mod reading;
 mod recognise;
