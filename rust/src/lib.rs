@@ -87,7 +87,9 @@ pub mod output {
     pub use crate::linker_output::got::{
         GotHeader, GotLayout, Origins, ThreadPointer, entry_words, static_words,
     };
-    pub use crate::linker_output::layout::{CodeUnit, Interpreter, ProvidedSymbol, SymbolPlace};
+    pub use crate::linker_output::layout::{
+        CodeUnit, Interpreter, ProvidedRun, ProvidedSymbol, SymbolPlace,
+    };
     pub use crate::linker_output::stubs::{Stub, StubError, StubField, StubKind};
     pub use crate::linker_output::target::Target;
 }

@@ -1,8 +1,9 @@
 //! What a linker adds to an output, against `<elf.h>` of the machine and numbers of linkers.
 
-use linker_utils::elf::{Architecture, RelocateError};
+use linker_utils::elf::{AllowedRange, Architecture, RelocateError};
 use linker_utils::output::{
-    DynamicType, DynamicTypes, Origins, StubError, StubKind, Target, entry_words, static_words,
+    CodeUnit, DynamicType, DynamicTypes, FlagRules, GotHeader, GotLayout, Origins, Stub, StubError,
+    StubField, StubKind, Target, ThreadPointer, entry_words, static_words,
 };
 use linker_utils::section::EntryClass;
 use std::collections::HashMap;
@@ -294,5 +295,106 @@ fn stubs_reach_as_far_as_their_fields() {
             let misaligned = Err(StubError::Field(RelocateError::Misaligned));
             assert_eq!(write(0x101), misaligned, "{architecture:?} {kind:?}");
         }
+    }
+}
+
+/// A further architecture: RISC-V's instructions, with other numbers and a longer stub.
+#[test]
+fn a_further_architecture_is_a_value() {
+    let riscv = Target::of(Architecture::RiscV);
+    let load = &riscv.load_stub;
+    let kind = |code| DynamicType { code, name: "R_SIXTH" };
+    let sixth = Target {
+        dynamic: DynamicTypes {
+            word: kind(101),
+            relative: kind(102),
+            glob_dat: kind(103),
+            jump_slot: kind(104),
+            copy: kind(105),
+            irelative: kind(106),
+            module_number: kind(107),
+            module_offset: kind(108),
+            thread_offset: kind(109),
+            descriptor: None,
+        },
+        thread_pointer: ThreadPointer::BelowImage { reserved: 24, bias: 0x100 },
+        module_bias: 0x10,
+        got: GotLayout { header: Some(GotHeader::Base), bias: 0x20 },
+        page: 0x4000,
+        code_unit: CodeUnit { len: 8, flag: 0x100, flagged_len: 4 },
+        filler: [1, 2, 3, 4],
+        flags: FlagRules { same: 0xf0, joined: 0x0f, own: 1 },
+        symbols: &[],
+        runs: &[],
+        interpreter_flags: 0,
+        interpreters: &[],
+        instructions: Architecture::RiscV,
+        // `nop` in front, and behind
+        load_stub: Stub {
+            head: &[0x13, 0, 0, 0],
+            pair: load.pair,
+            first: load.first,
+            second: load.second,
+            tail: &[0x67, 0, 0x0e, 0, 0x13, 0, 0, 0],
+            entry: 4,
+            origin: 4,
+            addend: 0,
+        },
+        jump_stub: None,
+    };
+    assert_eq!(sixth.dynamic_words(EntryClass::Address, false, true), [Some(103), None]);
+    assert_eq!(sixth.dynamic_words(EntryClass::Descriptor, false, true), [None, None]);
+    // 24 bytes below the image, down to a multiple of 32, and 0x100 above that
+    let origins = sixth.origins(0x1_0000, 0x40, 32);
+    assert_eq!(origins, Origins { thread_pointer: 0x1_00e0, module_block: 0x1_0010 });
+    assert_eq!(sixth.got_header(0x2000, 0x3000), Some(0x2020));
+    assert_eq!((sixth.unit(0x100), sixth.unit(0)), (4, 8));
+    assert_eq!(sixth.join_flags(0x31, 0x34), Some(0x35));
+    assert_eq!(sixth.join_flags(0x31, 0x41), None);
+    assert_eq!(sixth.interpreter(0), None);
+
+    let mut out = [0; 20];
+    sixth.write_stub(StubKind::Load, PLACE - 4, WORD, &mut out).unwrap();
+    let (_, _, code) = STUBS[3];
+    assert_eq!(out[4..16], bytes(code));
+    assert_eq!((&out[..4], &out[16..]), (&[0x13, 0, 0, 0][..], &[0x13, 0, 0, 0][..]));
+    // a field behind the pair, and one without a row
+    for (offset, relocation, error) in [
+        (9, 23, RelocateError::TooShort),
+        (usize::MAX, 23, RelocateError::TooShort),
+        (0, 0xffff, RelocateError::Unsupported),
+        // R_RISCV_RELAX has no value
+        (0, 51, RelocateError::Unsupported),
+    ] {
+        let first = StubField { offset, relocation, range: AllowedRange { bounds: None } };
+        let load_stub = Stub { first, ..sixth.load_stub };
+        let faulty = Target { load_stub, ..sixth };
+        let written = faulty.write_stub(StubKind::Load, PLACE, WORD, &mut [0; 64]);
+        assert_eq!(written, Err(StubError::Field(error)));
+    }
+}
+
+/// `_savegpr0_30` and so on, as GNU as makes them of their instructions.
+#[test]
+fn provided_functions_are_what_an_assembler_makes_of_them() {
+    let runs = Target::of(Architecture::Ppc64).runs;
+    for (prefix, words) in [
+        ("_savegpr0_", &[0xfbc1_fff0, 0xfbe1_fff8, 0xf801_0010, 0x4e80_0020][..]),
+        ("_restgpr0_", &[0xebc1_fff0, 0xebe1_fff8, 0xe801_0010, 0x7c08_03a6, 0x4e80_0020][..]),
+        ("_savegpr1_", &[0xfbcc_fff0, 0xfbec_fff8, 0x4e80_0020][..]),
+        ("_restgpr1_", &[0xebcc_fff0, 0xebec_fff8, 0x4e80_0020][..]),
+        ("_savefpr_", &[0xdbc1_fff0, 0xdbe1_fff8, 0xf801_0010, 0x4e80_0020][..]),
+        ("_restfpr_", &[0xcbc1_fff0, 0xcbe1_fff8, 0xe801_0010, 0x7c08_03a6, 0x4e80_0020][..]),
+    ] {
+        let run = runs.iter().find(|run| run.prefix == prefix).unwrap();
+        assert_eq!((run.first, run.count), (14, 18));
+        assert_eq!(run.len(), 16 + words.len() as u64);
+        for (at, word) in words.iter().enumerate() {
+            assert_eq!(run.word_at(16 + at as u64), Some(*word), "{prefix} {at}");
+        }
+        assert_eq!(run.word_at(run.len()), None);
+        // that of register 14 is 128 bytes below that of register 30
+        let between = (16 << 21) - 0xff70 + 0xfff0;
+        assert_eq!(run.word_at(0), Some(words[0] - between));
     }
 }

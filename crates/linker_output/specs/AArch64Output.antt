@@ -36,6 +36,7 @@ aarch64_output =
       filler = four 0 0 0 0;
       flags = no_flags;
       symbols = [];
+      runs = [];
       interpreter_flags = 0;
       paths = only (codes "/lib/ld-linux-aarch64.so.1");
       instructions = AArch64;

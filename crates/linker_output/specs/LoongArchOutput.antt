@@ -49,6 +49,7 @@ loongarch_output =
       filler = four 0 0 0x2a 0;
       flags = record { same = base_abi + abi_version; joined = 0; own = 0 };
       symbols = [];
+      runs = [];
       interpreter_flags = base_abi;
       paths =
           path soft_float (codes "/lib64/ld-linux-loongarch-lp64s.so.1")

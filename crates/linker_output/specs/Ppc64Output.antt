@@ -1,8 +1,9 @@
 -- PowerPC64: what a linker adds to an output (64-bit ELF V2 ABI for Power, "Relocation Types"; paths
 -- as glibc has them).
-use Rattle.std.specs.Prelude.{codes, [], ◌∷◌, None, Some, ℕ, pos, List}
+use Rattle.std.specs.Prelude.{◌+◌, ◌^◌, codes, [], ◌∷◌, None, Some, ℕ, pos, List}
 use Rattle.linker_elf.specs.Ppc64Relocations.{ppc64_name}
 use Rattle.linker_elf.specs.declared.ppc64.relocations.Ppc64Relocation.TheVariants as r
+use Rattle.linker_output.specs.Layout.{Run}
 use Rattle.linker_output.specs.Tables.{field_of, code_of_words, kind, units_of, symbol, only, four}
 use Rattle.linker_output.specs.View.{Description}
 use Rattle.linker_output.specs.declared.got.ThreadPointer.TheVariants.{BelowImage}
@@ -22,6 +23,32 @@ address_to_r12 = 0xf8410018 ∷ 0x7c0802a6 ∷ 0x429f0005 ∷ 0x7d8802a6 ∷ 0x7
 -- `mtctr 12`, `bctr`
 abbrev pub jump_to_r12 : List ℕ
 jump_to_r12 = 0x7d8903a6 ∷ 0x4e800420 ∷ []
+
+-- functions that save or restore registers 14 to 31, each 8 bytes above the one before it (64-bit ELF V2 ABI
+-- for Power): an instruction of each register, and those that all end with
+abbrev pub of_registers : List ℕ → ℕ → List ℕ → Run
+of_registers prefix word tail =
+    record {
+      prefix = prefix;
+      first = 14;
+      count = 18;
+      word = word;
+      step = 2 ^ 21 + 8;
+      tail = tail;
+    }
+
+-- `std 0,16(1)` and `ld 0,16(1)`; `mtlr 0`; `blr`
+abbrev pub save_link : ℕ
+save_link = 0xf8010010
+
+abbrev pub load_link : ℕ
+load_link = 0xe8010010
+
+abbrev pub mtlr_0 : ℕ
+mtlr_0 = 0x7c0803a6
+
+abbrev pub blr : ℕ
+blr = 0x4e800020
 
 abbrev pub ppc64_output : Description
 ppc64_output =
@@ -50,6 +77,14 @@ ppc64_output =
       -- version 2 of the ABI, or 0, which leaves it open; an output has 2
       flags = record { same = 0; joined = version_2; own = version_2 };
       symbols = symbol (codes ".TOC.") Got 0x8000 ∷ [];
+      -- from `std`, `ld`, `stfd` and `lfd` of register 14 and -144(1), or -144(12), on
+      runs =
+          of_registers (codes "_savegpr0_") 0xf9c1ff70 (save_link ∷ blr ∷ [])
+          ∷ of_registers (codes "_restgpr0_") 0xe9c1ff70 (load_link ∷ mtlr_0 ∷ blr ∷ [])
+          ∷ of_registers (codes "_savegpr1_") 0xf9ccff70 (blr ∷ [])
+          ∷ of_registers (codes "_restgpr1_") 0xe9ccff70 (blr ∷ [])
+          ∷ of_registers (codes "_savefpr_") 0xd9c1ff70 (save_link ∷ blr ∷ [])
+          ∷ of_registers (codes "_restfpr_") 0xc9c1ff70 (load_link ∷ mtlr_0 ∷ blr ∷ []) ∷ [];
       interpreter_flags = 0;
       paths = only (codes "/lib64/ld64.so.2");
       instructions = Ppc64;

@@ -55,6 +55,7 @@ riscv_output =
       filler = four 0 0 0 0;
       flags = record { same = float_abi + has_rve; joined = has_c + has_tso; own = 0 };
       symbols = symbol (codes "__global_pointer$") SmallData 0x800 ∷ [];
+      runs = [];
       interpreter_flags = float_abi + has_rve;
       paths =
           path 0 (codes "/lib/ld-linux-riscv64-lp64.so.1")

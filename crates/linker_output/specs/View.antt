@@ -1,7 +1,7 @@
 -- What the code's descriptions say, with texts and tables as lists.
 use Rattle.std.specs.Prelude.{ℕ, List, [], ◌∷◌, Option, Some, None}
 use Rattle.linker_output.specs.Dynamic.{DynamicKind, DynamicKinds}
-use Rattle.linker_output.specs.Layout.{Path}
+use Rattle.linker_output.specs.Layout.{Path, Run}
 use Rattle.linker_output.specs.Stubs.{StubCode}
 use Rattle.linker_output.specs.declared.dynamic.DynamicType.{DynamicType}
 use Rattle.linker_output.specs.declared.dynamic.DynamicTypes.{DynamicTypes}
@@ -10,6 +10,7 @@ use Rattle.linker_output.specs.declared.got.GotLayout.{GotLayout}
 use Rattle.linker_output.specs.declared.got.ThreadPointer.{ThreadPointer}
 use Rattle.linker_output.specs.declared.layout.CodeUnit.{CodeUnit}
 use Rattle.linker_output.specs.declared.layout.Interpreter.{Interpreter}
+use Rattle.linker_output.specs.declared.layout.ProvidedRun.{ProvidedRun}
 use Rattle.linker_output.specs.declared.layout.ProvidedSymbol.{ProvidedSymbol}
 use Rattle.linker_output.specs.declared.layout.SymbolPlace.{SymbolPlace}
 use Rattle.linker_output.specs.declared.stubs.Stub.{Stub}
@@ -35,6 +36,7 @@ pub record Description : Type 0 where
   pub filler : List ℕ
   pub flags : FlagRules
   pub symbols : List Symbol
+  pub runs : List Run
   pub interpreter_flags : ℕ
   pub paths : List Path
   -- whose relocations the fields of stubs have
@@ -75,6 +77,21 @@ view_symbols [] = []
 view_symbols (s ∷ ss) =
     record { name = s.name.now; place = s.place; offset = s.offset } ∷ view_symbols ss
 
+abbrev pub view_run : ProvidedRun → Run
+view_run r =
+    record {
+      prefix = r.prefix.now;
+      first = r.first;
+      count = r.count;
+      word = r.word;
+      step = r.step;
+      tail = r.tail.now;
+    }
+
+abbrev pub view_runs : List ProvidedRun → List Run
+view_runs [] = []
+view_runs (r ∷ rs) = view_run r ∷ view_runs rs
+
 abbrev pub view_paths : List Interpreter → List Path
 view_paths [] = []
 view_paths (i ∷ is) = record { flags = i.flags; path = i.path.now } ∷ view_paths is
@@ -113,6 +130,7 @@ view t =
       filler = t.filler;
       flags = t.flags;
       symbols = view_symbols t.symbols.now;
+      runs = view_runs t.runs.now;
       interpreter_flags = t.interpreter_flags;
       paths = view_paths t.interpreters.now;
       instructions = t.instructions;

@@ -34,6 +34,7 @@ x86_64_output =
       filler = four 0xcc 0xcc 0xcc 0xcc;
       flags = no_flags;
       symbols = symbol (codes "_TLS_MODULE_BASE_") ThreadLocal 0 ∷ [];
+      runs = [];
       interpreter_flags = 0;
       paths = only (codes "/lib64/ld-linux-x86-64.so.2");
       instructions = X86_64;

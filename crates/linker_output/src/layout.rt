@@ -2,8 +2,8 @@
 //! dynamic linker.
 
 ghost use Rattle.std.specs.Prelude.{◌≡◌, IfSome, IfNone, ◌%◌, slice_index};
-ghost use Rattle.linker_output.specs.Layout.{unit_by, path_of};
-ghost use Rattle.linker_output.specs.View.{view_paths};
+ghost use Rattle.linker_output.specs.Layout.{unit_by, path_of, run_word, run_len};
+ghost use Rattle.linker_output.specs.View.{view_paths, view_run};
 
 use crate::target::Target;
 
@@ -39,6 +39,58 @@ pub struct ProvidedSymbol {
     pub place: SymbolPlace,
     /// How many bytes above that.
     pub offset: u64,
+}
+
+/// Functions that compilers call and linkers provide, which save or restore registers: one run of code,
+/// whose function with a number n begins 4 * (n - `first`) bytes behind the run's start.
+#[derive(Debug, Clone, Copy, PartialEq, Eq)]
+pub struct ProvidedRun {
+    /// The functions' names without the number, which stands behind it in decimal.
+    pub prefix: &'static str,
+    /// The least number.
+    pub first: u32,
+    /// How many functions there are.
+    pub count: u32,
+    /// The first instruction.
+    pub word: u32,
+    /// What each further function's first instruction has more than the one before it.
+    pub step: u32,
+    /// The instructions behind all these.
+    pub tail: &'static [u32],
+}
+
+impl ProvidedRun {
+    /// How many instructions of 4 bytes the run has.
+    pub fn len(&self) -> u64
+        ensures { result ≡ run_len (view_run self.now) }
+    {
+        self.count as u64 + self.tail.len() as u64
+    }
+
+    /// The instruction at an index. None from `len` on.
+    ///
+    /// ```
+    /// use linker_output::target::Target;
+    /// use linker_utils::elf::Architecture;
+    ///
+    /// let runs = Target::of(Architecture::Ppc64).runs;
+    /// let save = runs.iter().find(|run| run.prefix == "_savegpr0_").unwrap();
+    /// // `std 31,-8(1)` of `_savegpr0_31`, and behind it `std 0,16(1)` and `blr`
+    /// let index = u64::from(31 - save.first);
+    /// assert_eq!(save.word_at(index), Some(0xfbe1_fff8));
+    /// assert_eq!(save.word_at(index + 1), Some(0xf801_0010));
+    /// assert_eq!(save.word_at(index + 2), Some(0x4e80_0020));
+    /// assert_eq!(save.len(), index + 3);
+    /// ```
+    pub fn word_at(&self, index: u64) -> Option<u32>
+        ensures { result ≡ run_word (view_run self.now) index }
+    {
+        if index < self.count as u64 {
+            Some(self.word.wrapping_add(self.step.wrapping_mul(index as u32)))
+        } else {
+            self.tail.get((index - self.count as u64) as usize).copied()
+        }
+    }
 }
 
 /// The path of the dynamic linker in glibc.

@@ -44,6 +44,7 @@ pub(crate) static TARGET: Target = Target {
         own: 0,
     },
     symbols: &[],
+    runs: &[],
     interpreter_flags: 7,
     interpreters: &[
         Interpreter {

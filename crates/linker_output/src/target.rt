@@ -7,7 +7,7 @@ ghost use Rattle.linker_output.specs.View.{view};
 use crate::dynamic::DynamicTypes;
 use crate::flags::FlagRules;
 use crate::got::{GotLayout, ThreadPointer};
-use crate::layout::{CodeUnit, Interpreter, ProvidedSymbol};
+use crate::layout::{CodeUnit, Interpreter, ProvidedRun, ProvidedSymbol};
 use crate::stubs::Stub;
 use crate::{aarch64, loongarch64, ppc64, riscv64, x86_64};
 use linker_utils::elf::Architecture;
@@ -15,6 +15,7 @@ use linker_utils::elf::Architecture;
 /// What a linker adds to an output of an architecture, in numbers and texts.
 ///
 /// The fields are public, so that a linker can describe a further architecture by a value of its own.
+#[derive(Clone, Copy)]
 pub struct Target {
     /// The dynamic relocations.
     pub dynamic: DynamicTypes,
@@ -34,6 +35,8 @@ pub struct Target {
     pub flags: FlagRules,
     /// The symbols that a linker defines if an object refers to them.
     pub symbols: &'static [ProvidedSymbol],
+    /// The functions that a linker defines if an object calls them.
+    pub runs: &'static [ProvidedRun],
     /// The bits of `e_flags` that the path of the dynamic linker depends on.
     pub interpreter_flags: u32,
     /// The paths of the dynamic linker.

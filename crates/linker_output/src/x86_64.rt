@@ -45,6 +45,7 @@ pub(crate) static TARGET: Target = Target {
         place: SymbolPlace::ThreadLocal,
         offset: 0,
     }],
+    runs: &[],
     interpreter_flags: 0,
     interpreters: &[Interpreter {
         flags: 0,

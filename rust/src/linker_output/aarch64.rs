@@ -45,6 +45,7 @@ pub(crate) static TARGET: Target = Target {
         own: 0,
     },
     symbols: &[],
+    runs: &[],
     interpreter_flags: 0,
     interpreters: &[Interpreter {
         flags: 0,

@@ -4,7 +4,7 @@
 use crate::linker_output::dynamic::{DynamicType, DynamicTypes, named};
 use crate::linker_output::flags::FlagRules;
 use crate::linker_output::got::{GotHeader, GotLayout, ThreadPointer};
-use crate::linker_output::layout::{CodeUnit, Interpreter, ProvidedSymbol, SymbolPlace};
+use crate::linker_output::layout::{CodeUnit, Interpreter, ProvidedRun, ProvidedSymbol, SymbolPlace};
 use crate::linker_output::stubs::{Stub, StubField, field};
 use crate::linker_output::target::Target;
 use crate::elf::{AllowedRange, Architecture};
@@ -49,6 +49,62 @@ pub(crate) static TARGET: Target = Target {
         place: SymbolPlace::Got,
         offset: 0x8000,
     }],
+    runs: &[
+        // `std 14,-144(1)` and so on
+        ProvidedRun {
+            prefix: "_savegpr0_",
+            first: 14,
+            count: 18,
+            word: 0xf9c1_ff70,
+            step: 0x20_0008,
+            tail: &[0xf801_0010, 0x4e80_0020],
+        },
+        // `ld 14,-144(1)` and so on
+        ProvidedRun {
+            prefix: "_restgpr0_",
+            first: 14,
+            count: 18,
+            word: 0xe9c1_ff70,
+            step: 0x20_0008,
+            tail: &[0xe801_0010, 0x7c08_03a6, 0x4e80_0020],
+        },
+        // `std 14,-144(12)` and so on
+        ProvidedRun {
+            prefix: "_savegpr1_",
+            first: 14,
+            count: 18,
+            word: 0xf9cc_ff70,
+            step: 0x20_0008,
+            tail: &[0x4e80_0020],
+        },
+        // `ld 14,-144(12)` and so on
+        ProvidedRun {
+            prefix: "_restgpr1_",
+            first: 14,
+            count: 18,
+            word: 0xe9cc_ff70,
+            step: 0x20_0008,
+            tail: &[0x4e80_0020],
+        },
+        // `stfd 14,-144(1)` and so on
+        ProvidedRun {
+            prefix: "_savefpr_",
+            first: 14,
+            count: 18,
+            word: 0xd9c1_ff70,
+            step: 0x20_0008,
+            tail: &[0xf801_0010, 0x4e80_0020],
+        },
+        // `lfd 14,-144(1)` and so on
+        ProvidedRun {
+            prefix: "_restfpr_",
+            first: 14,
+            count: 18,
+            word: 0xc9c1_ff70,
+            step: 0x20_0008,
+            tail: &[0xe801_0010, 0x7c08_03a6, 0x4e80_0020],
+        },
+    ],
     interpreter_flags: 0,
     interpreters: &[Interpreter {
         flags: 0,

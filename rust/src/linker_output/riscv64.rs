@@ -49,6 +49,7 @@ pub(crate) static TARGET: Target = Target {
         place: SymbolPlace::SmallData,
         offset: 0x800,
     }],
+    runs: &[],
     interpreter_flags: 0xe,
     interpreters: &[
         Interpreter {

@@ -4,7 +4,7 @@
 use crate::linker_output::dynamic::DynamicTypes;
 use crate::linker_output::flags::FlagRules;
 use crate::linker_output::got::{GotLayout, ThreadPointer};
-use crate::linker_output::layout::{CodeUnit, Interpreter, ProvidedSymbol};
+use crate::linker_output::layout::{CodeUnit, Interpreter, ProvidedRun, ProvidedSymbol};
 use crate::linker_output::stubs::Stub;
 use crate::linker_output::{aarch64, loongarch64, ppc64, riscv64, x86_64};
 use crate::elf::Architecture;
@@ -12,6 +12,7 @@ use crate::elf::Architecture;
 /// What a linker adds to an output of an architecture, in numbers and texts.
 ///
 /// The fields are public, so that a linker can describe a further architecture by a value of its own.
+#[derive(Clone, Copy)]
 pub struct Target {
     /// The dynamic relocations.
     pub dynamic: DynamicTypes,
@@ -31,6 +32,8 @@ pub struct Target {
     pub flags: FlagRules,
     /// The symbols that a linker defines if an object refers to them.
     pub symbols: &'static [ProvidedSymbol],
+    /// The functions that a linker defines if an object calls them.
+    pub runs: &'static [ProvidedRun],
     /// The bits of `e_flags` that the path of the dynamic linker depends on.
     pub interpreter_flags: u32,
     /// The paths of the dynamic linker.
