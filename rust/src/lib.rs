@@ -67,7 +67,9 @@ pub mod section {
     pub use crate::linker_section::facts::{Addresses, Symbol};
     pub use crate::linker_section::needed::{Entry, EntryClass, Requirements, needs};
     pub use crate::linker_section::relocations::{RELA_LEN, Rela, relocation_at, relocations_len};
-    pub use crate::linker_section::sections::{RelocationError, SectionError, relocate_section};
+    pub use crate::linker_section::sections::{
+        RelocationError, SectionError, memory_len, relocate_section,
+    };
     pub use crate::linker_section::values::{ValueError, value};
 }
 

@@ -3,7 +3,10 @@
 //! linker, and the value of each from what is known of symbols and of the output.
 
 pub mod facts;
+mod fields;
 pub mod needed;
+mod order;
 pub mod relocations;
+mod saved;
 pub mod sections;
 pub mod values;

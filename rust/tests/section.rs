@@ -4,8 +4,8 @@
 use linker_utils::elf::Architecture::{self, AArch64, LoongArch64, Ppc64, RiscV, X86_64};
 use linker_utils::elf::RelocateError;
 use linker_utils::section::{
-    Addresses, Entry, EntryClass, Rela, RelocationError, SectionError, Symbol, ValueError, needs,
-    relocate_section, relocation_at, relocations_len, value,
+    Addresses, Entry, EntryClass, Rela, RelocationError, SectionError, Symbol, ValueError,
+    memory_len, needs, relocation_at, relocations_len, value,
 };
 use linker_utils::utils::Uleb128Error;
 
@@ -53,6 +53,28 @@ fn of(
         &[Symbol::default(), symbol],
         &relocation,
     )
+}
+
+/// `relocate_section` with memory of its own; with an error the section is as before.
+fn relocate_section(
+    architecture: Architecture,
+    addresses: &Addresses,
+    relocations: &[u8],
+    symbols: &[Symbol],
+    section: &mut [u8],
+) -> Result<(), SectionError> {
+    let before = section.to_vec();
+    let mut memory = vec![0x5555; memory_len(relocations)];
+    let result = linker_utils::section::relocate_section(
+        architecture,
+        addresses,
+        relocations,
+        symbols,
+        section,
+        &mut memory,
+    );
+    assert!(result.is_ok() || section == before);
+    result
 }
 
 /// The 24 bytes of a relocation.
@@ -576,6 +598,14 @@ fn sections_are_relocated_in_order() {
         (
             2,
             Rela {
+                offset: 7,
+                ..relocations[2]
+            },
+            RelocationError::Overlaps,
+        ),
+        (
+            2,
+            Rela {
                 offset: u64::MAX,
                 ..relocations[2]
             },
@@ -592,9 +622,10 @@ fn sections_are_relocated_in_order() {
         (
             3,
             Rela {
+                offset: 16,
                 code: 60,
                 symbol: 1,
-                ..relocations[3]
+                addend: 0,
             },
             unsupported,
         ),
@@ -686,6 +717,273 @@ fn pairs_write_uleb128_numbers() {
         let result = relocate_section(RiscV, &ADDRESSES, relocations, &symbols, &mut section);
         assert_eq!(result, Err(SectionError { index: 0, error }));
         assert_eq!(section, before);
+    }
+}
+
+/// The relocations' codes and offsets, of symbol 1 with the addend 0.
+fn at(relocations: &[(u32, u64)]) -> Vec<u8> {
+    let relas: Vec<Rela> = relocations
+        .iter()
+        .map(|&(code, offset)| Rela {
+            offset,
+            code,
+            symbol: 1,
+            addend: 0,
+        })
+        .collect();
+    bytes_of(&relas)
+}
+
+#[test]
+fn fields_that_overlap_have_to_compose() {
+    let symbols = [Symbol::default(), SYMBOL];
+    let overlaps = |index| {
+        Err(SectionError {
+            index,
+            error: RelocationError::Overlaps,
+        })
+    };
+    for (name, architecture, relocations, expected) in [
+        // R_X86_64_64 is 1, R_X86_64_32 is 10, R_X86_64_NONE 0
+        ("apart", X86_64, vec![(1, 0), (1, 8), (10, 16)], Ok(())),
+        (
+            "apart, in another order",
+            X86_64,
+            vec![(1, 8), (10, 16), (1, 0)],
+            Ok(()),
+        ),
+        ("by one byte", X86_64, vec![(1, 0), (1, 7)], overlaps(1)),
+        (
+            "by one byte, behind",
+            X86_64,
+            vec![(1, 7), (1, 0)],
+            overlaps(1),
+        ),
+        ("written twice", X86_64, vec![(1, 4), (1, 4)], overlaps(1)),
+        ("inside", X86_64, vec![(1, 4), (10, 6)], overlaps(1)),
+        (
+            "with the one before the last",
+            X86_64,
+            vec![(1, 0), (0, 4), (10, 4)],
+            overlaps(2),
+        ),
+        (
+            "a mark has no field",
+            X86_64,
+            vec![(1, 0), (0, 4), (0, 4), (1, 8)],
+            Ok(()),
+        ),
+        (
+            "the least of three",
+            X86_64,
+            vec![(1, 20), (1, 0), (10, 4), (1, 16)],
+            overlaps(2),
+        ),
+        // R_RISCV_ADD32 35, SUB32 39, SET32 56, ADD8 33, SUB8 37, SET6 53, SUB6 52, 32 1, RELAX 51
+        ("ADD and SUB", RiscV, vec![(35, 4), (39, 4)], Ok(())),
+        ("SET and SUB", RiscV, vec![(56, 4), (39, 4)], Ok(())),
+        (
+            "SET, a mark and SUB",
+            RiscV,
+            vec![(56, 4), (51, 4), (39, 4)],
+            Ok(()),
+        ),
+        ("6 bits", RiscV, vec![(53, 4), (52, 4)], Ok(())),
+        ("SUB and SET", RiscV, vec![(39, 4), (56, 4)], overlaps(1)),
+        ("SET twice", RiscV, vec![(56, 4), (56, 4)], overlaps(1)),
+        ("a word and SUB", RiscV, vec![(1, 4), (39, 4)], overlaps(1)),
+        (
+            "of 4 and of 1 byte",
+            RiscV,
+            vec![(35, 4), (37, 4)],
+            overlaps(1),
+        ),
+        (
+            "6 bits and a byte",
+            RiscV,
+            vec![(53, 4), (37, 4)],
+            overlaps(1),
+        ),
+        ("a byte further", RiscV, vec![(35, 4), (39, 5)], overlaps(1)),
+        (
+            "apart from each other",
+            RiscV,
+            vec![(35, 4), (33, 8), (39, 4), (37, 8)],
+            Ok(()),
+        ),
+        // R_RISCV_SET_ULEB128 60, SUB_ULEB128 61; numbers of one byte, at 1 of two
+        ("a pair", RiscV, vec![(60, 0), (61, 0)], Ok(())),
+        (
+            "a pair behind",
+            RiscV,
+            vec![(35, 4), (39, 4), (60, 0), (61, 0)],
+            Ok(()),
+        ),
+        (
+            "a byte in a number",
+            RiscV,
+            vec![(60, 1), (61, 1), (33, 2)],
+            overlaps(2),
+        ),
+        (
+            "a byte behind a number",
+            RiscV,
+            vec![(60, 1), (61, 1), (33, 3)],
+            Ok(()),
+        ),
+        (
+            "a pair twice",
+            RiscV,
+            vec![(60, 1), (61, 1), (60, 1), (61, 1)],
+            overlaps(2),
+        ),
+        (
+            "a pair over a byte",
+            RiscV,
+            vec![(33, 2), (60, 1), (61, 1)],
+            overlaps(1),
+        ),
+    ] {
+        let mut section = [0u8; 28];
+        section[1] = 0x80;
+        let relocations = at(&relocations);
+        let result = relocate_section(
+            architecture,
+            &ADDRESSES,
+            &relocations,
+            &symbols,
+            &mut section,
+        );
+        assert_eq!(result, expected, "{name}");
+    }
+}
+
+#[test]
+fn the_second_of_a_pair_without_a_value_is_the_error() {
+    let relocation = |code, symbol| Rela {
+        offset: 0,
+        code,
+        symbol,
+        addend: 0,
+    };
+    let relocations = bytes_of(&[relocation(60, 1), relocation(61, 2)]);
+    let symbols = [Symbol::default(), SYMBOL];
+    let result = relocate_section(RiscV, &ADDRESSES, &relocations, &symbols, &mut [0; 4]);
+    let error = RelocationError::Value(ValueError::NoSymbol);
+    assert_eq!(result, Err(SectionError { index: 1, error }));
+}
+
+/// Numbers by a seed.
+struct Random(u64);
+
+impl Random {
+    fn below(&mut self, end: u64) -> u64 {
+        self.0 ^= self.0 << 13;
+        self.0 ^= self.0 >> 7;
+        self.0 ^= self.0 << 17;
+        self.0 % end
+    }
+}
+
+/// The section with each value written by `row`, `value` and `write`, and the number of a pair by
+/// `write_uleb128`.
+fn one_by_one(
+    architecture: Architecture,
+    relocations: &[u8],
+    symbols: &[Symbol],
+    section: &mut [u8],
+) {
+    let mut index = 0;
+    while let Some(it) = relocation_at(relocations, index) {
+        index += 1;
+        let Some(v) = value(architecture, &ADDRESSES, relocations, symbols, &it).unwrap() else {
+            continue;
+        };
+        let there = &mut section[it.offset as usize..];
+        if architecture.uleb128_role(it.code).is_some() {
+            let second = relocation_at(relocations, index).unwrap();
+            index += 1;
+            let w = value(architecture, &ADDRESSES, relocations, symbols, &second).unwrap();
+            let difference = (v as u64).wrapping_sub(w.unwrap() as u64);
+            let number = match architecture {
+                LoongArch64 => linker_utils::utils::read_uleb128(&mut &there[..])
+                    .unwrap()
+                    .wrapping_add(difference),
+                _ => difference,
+            };
+            linker_utils::utils::write_uleb128(there, number).unwrap();
+        } else {
+            architecture.row(it.code).unwrap().write(v, there).unwrap();
+        }
+    }
+}
+
+#[test]
+fn damaged_sections_change_nothing_or_are_written_as_one_by_one() {
+    for (architecture, codes) in [
+        (AArch64, 256..600),
+        (RiscV, 0..70),
+        (LoongArch64, 0..130),
+        (Ppc64, 0..256),
+        (X86_64, 0..50),
+    ] {
+        let codes: Vec<u32> = codes.collect();
+        let has_row = |&code: &u32| architecture.row(code).is_some();
+        let rows: Vec<u32> = codes.iter().copied().filter(has_row).collect();
+        let mut random = Random(0x1234_5678_9abc_def1);
+        let (mut written, mut rejected) = (0, 0);
+        for _ in 0..10_000 {
+            let len = random.below(65);
+            let mut section: Vec<u8> = (0..len).map(|_| random.below(256) as u8).collect();
+            let before = section.clone();
+            let symbols: Vec<Symbol> = (0..1 + random.below(3))
+                .map(|_| Symbol {
+                    address: SECTION + 8 * random.below(8),
+                    is_undefined_weak: random.below(8) == 0,
+                    ..SYMBOL
+                })
+                .collect();
+            let mut offset = 0;
+            let relas: Vec<Rela> = (0..1 + random.below(3))
+                .map(|_| {
+                    offset = match random.below(16) {
+                        0 => random.below(80),
+                        1 => random.0,
+                        2..6 => offset,
+                        _ => offset.wrapping_add(8),
+                    };
+                    // mostly a code with a row
+                    let known = if random.below(16) == 0 { &codes } else { &rows };
+                    let code = known[random.below(known.len() as u64) as usize];
+                    let damage = u32::from(random.below(64) == 0) << random.below(32);
+                    let out_of_table = u64::from(random.below(16) == 0);
+                    Rela {
+                        offset,
+                        code: code ^ damage,
+                        symbol: random.below(symbols.len() as u64 + out_of_table) as u32,
+                        addend: 8 * random.below(8) as i64 - 32,
+                    }
+                })
+                .collect();
+            let bytes = bytes_of(&relas);
+            // an error changes nothing, as `relocate_section` tests
+            match relocate_section(architecture, &ADDRESSES, &bytes, &symbols, &mut section) {
+                Ok(()) => {
+                    written += 1;
+                    let mut expected = before;
+                    one_by_one(architecture, &bytes, &symbols, &mut expected);
+                    assert_eq!(section, expected, "{relas:?}");
+                }
+                Err(error) => {
+                    rejected += 1;
+                    assert!(error.index < relas.len());
+                }
+            }
+        }
+        assert!(
+            500 < written && 500 < rejected,
+            "{architecture:?} {written} {rejected}"
+        );
     }
 }
 

@@ -1,1 +1,10 @@
+pub mod All
+pub mod Claims
+pub mod Composing
+pub mod Local
+pub mod Rows
+pub mod Saving
+pub mod Stepping
+pub mod Ulebs
+pub mod Valued
 pub mod Writing

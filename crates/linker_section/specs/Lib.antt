@@ -1,3 +1,5 @@
+pub mod Fields
+pub mod Inner
 pub mod Needed
 pub mod Relocations
 pub mod Sections

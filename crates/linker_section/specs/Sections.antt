@@ -1,28 +1,27 @@
 -- The values of a section's relocations, written.
-use Rattle.std.specs.Prelude.{◌≡◌, ℕ, ◌+◌, ◌/◌, ◌<◌, ◌≤◌, ◌==◌, Bool, true, false, ℤ, List, ◌++◌}
-use Rattle.std.specs.Prelude.{length, take, drop, Option, Some, None, Result, Ok, Err}
+use Rattle.std.specs.Prelude.{◌≡◌, ◌⊎◌, ℕ, ◌+◌, ◌/◌, ◌<◌, ◌≤◌, true, ℤ, List}
+use Rattle.std.specs.Prelude.{◌++◌, length, take, drop, slice_index, Option, Some, None, Result}
+use Rattle.std.specs.Prelude.{Ok, Err}
 use Rattle.std.specs.Int.{w64, cast_unsigned}
 use Rattle.linker_base.specs.Uleb.{Uleb, IsUlebWritten, IsUlebCause}
 use Rattle.linker_base.specs.declared.utils.Uleb128Error.{Uleb128Error}
 use Rattle.linker_elf.specs.Relocate.{WritesRow, IsCause}
 use Rattle.linker_elf.specs.Value.{sum_64, difference_64}
 use Rattle.linker_elf.specs.declared.elf.RelocationKind.{RelocationKind}
-use Rattle.linker_elf.specs.declared.elf.RelocationKind.TheVariants.{Relative}
-use Rattle.linker_elf.specs.declared.elf.RelocationKind.TheVariants.{PairSubtractionULEB128RiscV}
 use Rattle.linker_elf.specs.declared.elf.RelocationKind.TheVariants.{PairSubtractionULEB128LoongArch}
 use Rattle.linker_elf.specs.declared.elf.RelocationKindInfo.{RelocationKindInfo}
-use Rattle.linker_elf.specs.declared.elf.RelocationSize.{RelocationSize}
-use Rattle.linker_elf.specs.declared.elf.RelocationSize.TheVariants.{ByteSize}
 use Rattle.linker_elf.specs.declared.elf.relocate.RelocateError.{RelocateError}
 use Rattle.linker_elf.specs.declared.elf.relocate.RelocateError.TheVariants.{TooShort}
+use Rattle.linker_section.specs.Fields.{begins_pair, ends_pair, field_end, IsField}
+use Rattle.linker_section.specs.Fields.{AreApart, IsOverlapped}
 use Rattle.linker_section.specs.Relocations.{relocation_in}
-use Rattle.linker_section.specs.Values.{IsValueIn}
+use Rattle.linker_section.specs.Values.{IsValueIn, IsValue, offset_at}
 use Rattle.linker_section.specs.declared.facts.Addresses.{Addresses}
 use Rattle.linker_section.specs.declared.facts.Symbol.{Symbol}
 use Rattle.linker_section.specs.declared.relocations.Rela.{Rela}
 use Rattle.linker_section.specs.declared.sections.RelocationError.{RelocationError}
-use Rattle.linker_section.specs.declared.sections.RelocationError.TheVariants.{Value, Write}
-use Rattle.linker_section.specs.declared.sections.RelocationError.TheVariants.{Uleb128}
+use Rattle.linker_section.specs.declared.sections.RelocationError.TheVariants.{Value, Overlaps}
+use Rattle.linker_section.specs.declared.sections.RelocationError.TheVariants.{Write, Uleb128}
 use Rattle.linker_section.specs.declared.sections.SectionError.{SectionError}
 use Rattle.linker_section.specs.declared.values.ValueError.{ValueError}
 use Rattle.linker_utils.specs.Architectures.{IsRow}
@@ -30,66 +29,47 @@ use Rattle.linker_utils.specs.declared.elf.Architecture.{Architecture}
 
 -- ---- one value, at an offset
 
--- The bytes from the offset on are what a write of the row makes of them, and those before it stay.
+-- The bytes from the offset on are what a write of the row makes of them, as many as before, and
+-- those before it stay.
 pub record IsWritten (row : RelocationKindInfo) (v : ℤ) (offset : ℕ) (before after : List ℕ)
     : Type 0 where
   pub inside : offset ≤ length before
   pub rest : List ℕ
   pub around : after ≡ take offset before ++ rest
+  pub same_length : length after ≡ length before
   pub written : WritesRow row v (drop offset before) rest
 
--- The row rejects the value there, or the offset is past the end. All bytes stay.
-pub record IsRejected (row : RelocationKindInfo) (v : ℤ) (offset : ℕ) (before after : List ℕ)
+-- the row rejects the value there, or the offset is past the end
+pub record IsRejected (row : RelocationKindInfo) (v : ℤ) (offset : ℕ) (before : List ℕ)
     (error : RelocateError) : Type 0 where
   pub outside : length before < offset → error ≡ TooShort
   pub inside : offset ≤ length before → IsCause row v (drop offset before) error
-  pub unchanged : after ≡ before
 
 abbrev pub IsWrittenAt : RelocationKindInfo → ℤ → ℕ → List ℕ → List ℕ → Result Unit RelocateError
     → Type 0
 IsWrittenAt row v offset before after (Ok u) = IsWritten row v offset before after
-IsWrittenAt row v offset before after (Err error) = IsRejected row v offset before after error
+IsWrittenAt row v offset before after (Err error) =
+    IsRejected row v offset before error × (after ≡ before)
 
 -- ---- one relocation
 
-abbrev pub as_write : Result Unit RelocateError → Result Unit RelocationError
-as_write (Ok u) = Ok u
-as_write (Err error) = Err (Write error)
+-- a relocation among those of its section has a row and a value
+pub record HasValue (architecture : Architecture) (addresses : Addresses) (bytes : List ℕ)
+    (symbols : List Symbol) (r : Rela) (row : RelocationKindInfo) (v : ℤ) : Type 0 where
+  pub is_row : IsRow architecture r.code (Some row)
+  pub is_value : IsValueIn architecture addresses bytes symbols r (Some row) (Ok (Some v))
 
--- what becomes of a relocation with a row and a value, or with none
-abbrev pub IsOutcome : Option RelocationKindInfo → ℕ → Result (Option ℤ) ValueError → List ℕ
-    → List ℕ → Result Unit RelocationError → Type 0
-IsOutcome row offset (Err error) before after result =
-    (result ≡ Err (Value error)) × (after ≡ before)
-IsOutcome row offset (Ok None) before after result = (result ≡ Ok tt) × (after ≡ before)
-IsOutcome None offset (Ok (Some v)) before after result = ⊥
-IsOutcome (Some row) offset (Ok (Some v)) before after result =
-    (outcome : Result Unit RelocateError) × (result ≡ as_write outcome)
-    × IsWrittenAt row v offset before after outcome
-
--- a relocation's value, by its row, is written, or the result says why not
-pub record IsRelocated (architecture : Architecture) (addresses : Addresses) (bytes : List ℕ)
-    (symbols : List Symbol) (r : Rela) (before after : List ℕ)
-    (result : Result Unit RelocationError) : Type 0 where
-  pub row : Option RelocationKindInfo
-  pub is_row : IsRow architecture r.code row
-  pub value : Result (Option ℤ) ValueError
-  pub is_value : IsValueIn architecture addresses bytes symbols r row value
-  pub outcome : IsOutcome row r.offset value before after result
+-- its row and value, or none of a relocation without a value, or why there is none
+abbrev pub IsRowValue : Architecture → Addresses → List ℕ → List Symbol → Rela
+    → Result (Option (RelocationKindInfo × ℤ)) ValueError → Type 0
+IsRowValue architecture addresses bytes symbols r (Ok (Some found)) =
+    HasValue architecture addresses bytes symbols r (found.0) (found.1)
+IsRowValue architecture addresses bytes symbols r (Ok None) =
+    IsValue architecture addresses bytes symbols r (Ok None)
+IsRowValue architecture addresses bytes symbols r (Err error) =
+    IsValue architecture addresses bytes symbols r (Err error)
 
 -- ---- a pair at a ULEB128 number
-
--- the rows of the first and of the second of a pair: RISC-V's sets the number to a difference of
--- symbols, LoongArch's adds one to it (RISC-V ELF psABI, "Relocations"; LoongArch ELF psABI,
--- "Relocation Types")
-abbrev pub begins_pair : RelocationSize → RelocationKind → Bool
-begins_pair (ByteSize n) Relative = n == 0
-begins_pair size kind = false
-
-abbrev pub ends_pair : RelocationKind → Bool
-ends_pair PairSubtractionULEB128RiscV = true
-ends_pair PairSubtractionULEB128LoongArch = true
-ends_pair kind = false
 
 -- the number that a pair writes over another, modulo 2 ^ 64
 abbrev pub IsPairNumber : RelocationKind → List ℕ → ℤ → ℤ → ℕ → Type 0
@@ -102,67 +82,71 @@ IsPairNumber kind before v w number =
 -- the number stands at an offset in place of the one there, or the bytes there don't hold it
 abbrev pub IsNumberWrittenAt : ℕ → ℕ → List ℕ → List ℕ → Result Unit Uleb128Error → Type 0
 IsNumberWrittenAt number offset before after (Ok u) =
-    (rest : List ℕ) × (after ≡ take offset before ++ rest)
+    (offset ≤ length before) × (rest : List ℕ) × (after ≡ take offset before ++ rest)
     × IsUlebWritten (drop offset before) number rest
 IsNumberWrittenAt number offset before after (Err error) =
     IsUlebCause (drop offset before) number error × (after ≡ before)
 
--- two relocations at one place are such a pair, whose values make the number over the bytes there
+-- two relocations at one offset are such a pair, whose values make the number over the bytes there
 pub record IsPair (architecture : Architecture) (addresses : Addresses) (bytes : List ℕ)
-    (symbols : List Symbol) (first second : Rela) (before : List ℕ) (number : ℕ) : Type 0 where
-  pub same_place : second.offset ≡ first.offset
+    (symbols : List Symbol) (first second : Rela) (there : List ℕ) (number : ℕ) : Type 0 where
+  pub same_offset : second.offset ≡ first.offset
   pub row : RelocationKindInfo
-  pub is_row : IsRow architecture first.code (Some row)
+  pub value : ℤ
+  pub has_value : HasValue architecture addresses bytes symbols first row value
   pub begins : begins_pair row.size row.kind ≡ true
   pub other : RelocationKindInfo
-  pub is_other : IsRow architecture second.code (Some other)
-  pub ends : ends_pair other.kind ≡ true
-  pub value : ℤ
-  pub is_value : IsValueIn architecture addresses bytes symbols first (Some row) (Ok (Some value))
   pub subtracted : ℤ
-  pub is_subtracted : IsValueIn architecture addresses bytes symbols second (Some other)
-      (Ok (Some subtracted))
-  pub is_number : IsPairNumber other.kind (drop first.offset before) value subtracted number
+  pub has_subtracted : HasValue architecture addresses bytes symbols second other subtracted
+  pub ends : ends_pair other.size other.kind ≡ true
+  pub is_number : IsPairNumber other.kind there value subtracted number
 
 -- the number is written in place of the one there, in as many bytes, and all other bytes stay
 pub record IsPairWritten (architecture : Architecture) (addresses : Addresses) (bytes : List ℕ)
     (symbols : List Symbol) (first second : Rela) (before after : List ℕ) : Type 0 where
   pub inside : first.offset ≤ length before
   pub number : ℕ
-  pub pair : IsPair architecture addresses bytes symbols first second before number
+  pub pair : IsPair architecture addresses bytes symbols first second (drop first.offset before)
+      number
   pub rest : List ℕ
   pub around : after ≡ take first.offset before ++ rest
   pub written : IsUlebWritten (drop first.offset before) number rest
 
--- there is no number to write over, or it has too few bytes, and all bytes stay
+-- there is no number to write over, as past the section's end, or it has too few bytes
 pub record IsPairRejected (architecture : Architecture) (addresses : Addresses) (bytes : List ℕ)
-    (symbols : List Symbol) (first second : Rela) (before after : List ℕ) (error : Uleb128Error)
+    (symbols : List Symbol) (first second : Rela) (before : List ℕ) (error : Uleb128Error)
     : Type 0 where
-  pub inside : first.offset ≤ length before
   pub number : ℕ
-  pub pair : IsPair architecture addresses bytes symbols first second before number
+  pub pair : IsPair architecture addresses bytes symbols first second (drop first.offset before)
+      number
   pub cause : IsUlebCause (drop first.offset before) number error
-  pub unchanged : after ≡ before
 
-abbrev pub IsPairOutcome : Architecture → Addresses → List ℕ → List Symbol → Rela → Rela → List ℕ
-    → List ℕ → Result Bool Uleb128Error → Type 0
-IsPairOutcome architecture addresses bytes symbols first second before after (Ok true) =
-    IsPairWritten architecture addresses bytes symbols first second before after
-IsPairOutcome architecture addresses bytes symbols first second before after (Ok false) =
-    after ≡ before
-IsPairOutcome architecture addresses bytes symbols first second before after (Err error) =
-    IsPairRejected architecture addresses bytes symbols first second before after error
+-- the relocation at an index is followed by the second of a pair, whose first it is
+pub record BeginsPair (architecture : Architecture) (bytes : List ℕ) (i : ℕ) : Type 0 where
+  pub within : i + 1 < length bytes / 24
+  pub same_offset : offset_at bytes (i + 1) ≡ offset_at bytes i
+  pub row : RelocationKindInfo
+  pub is_row : IsRow architecture (relocation_in bytes i).code (Some row)
+  pub begins : begins_pair row.size row.kind ≡ true
+  pub other : RelocationKindInfo
+  pub is_other : IsRow architecture (relocation_in bytes (i + 1)).code (Some other)
+  pub ends : ends_pair other.size other.kind ≡ true
 
 -- ---- all relocations
 
--- those below an index are written, one after the other, or two that are a pair
+-- The values of those below an index are written, one after the other: nothing of a relocation
+-- without a value, and one number of two relocations that are a pair.
 pub data AreRelocated (architecture : Architecture) (addresses : Addresses) (bytes : List ℕ)
     (symbols : List Symbol) (before : List ℕ) : ℕ → List ℕ → Type 0 where
   none : AreRelocated architecture addresses bytes symbols before 0 before
-  one : {n : ℕ} {middle after : List ℕ}
+  mark : {n : ℕ} {middle : List ℕ}
       → AreRelocated architecture addresses bytes symbols before n middle
-      → IsRelocated architecture addresses bytes symbols (relocation_in bytes n) middle after
-      (Ok tt)
+      → IsValue architecture addresses bytes symbols (relocation_in bytes n) (Ok None)
+      → AreRelocated architecture addresses bytes symbols before (n + 1) middle
+  one : {n : ℕ} {middle after : List ℕ} {row : RelocationKindInfo} {v : ℤ}
+      → AreRelocated architecture addresses bytes symbols before n middle
+      → HasValue architecture addresses bytes symbols (relocation_in bytes n) row v
+      → IsWritten row v (offset_at bytes n) middle after
       → AreRelocated architecture addresses bytes symbols before (n + 1) after
   pair : {n : ℕ} {middle after : List ℕ}
       → AreRelocated architecture addresses bytes symbols before n middle
@@ -170,18 +154,59 @@ pub data AreRelocated (architecture : Architecture) (addresses : Addresses) (byt
       (relocation_in bytes (n + 1)) middle after
       → AreRelocated architecture addresses bytes symbols before (n + 2) after
 
--- why the relocation at an index isn't written: by itself, or as the first of a pair
-abbrev pub IsNotWritten : Architecture → Addresses → List ℕ → List Symbol → ℕ → List ℕ
-    → RelocationError → Type 0
-IsNotWritten architecture addresses bytes symbols n after (Uleb128 error) =
-    IsPairRejected architecture addresses bytes symbols (relocation_in bytes n)
-    (relocation_in bytes (n + 1)) after after error
-IsNotWritten architecture addresses bytes symbols n after error =
-    IsRelocated architecture addresses bytes symbols (relocation_in bytes n) after after (Err error)
+-- ---- all bytes
 
--- Those before the index are written. That at the index isn't, and changes nothing.
+-- no field has the byte
+abbrev pub IsInNoField : Architecture → List ℕ → List ℕ → ℕ → ℕ → Type 0
+IsInNoField architecture bytes section n p =
+    (i : ℕ) (row : RelocationKindInfo) → i < n → IsField architecture bytes section i row
+    → (p < offset_at bytes i) ⊎ (field_end bytes section i row ≤ p)
+
+-- Fields that overlap compose. The values of all relocations are written, one after the other, and
+-- all bytes that no field has stay.
+pub record AreAllRelocated (architecture : Architecture) (addresses : Addresses) (bytes : List ℕ)
+    (symbols : List Symbol) (before after : List ℕ) : Type 0 where
+  pub apart : AreApart architecture bytes before (length bytes / 24)
+  pub relocated : AreRelocated architecture addresses bytes symbols before (length bytes / 24) after
+  pub others : (p : ℕ) → IsInNoField architecture bytes before (length bytes / 24) p
+      → slice_index after p ≡ slice_index before p
+  pub same_length : length after ≡ length before
+
+-- ---- errors
+
+-- why the relocation at an index isn't written, where those before it are
+pub record IsNotAccepted (architecture : Architecture) (addresses : Addresses) (bytes : List ℕ)
+    (symbols : List Symbol) (i : ℕ) (now : List ℕ) (error : RelocateError) : Type 0 where
+  pub row : RelocationKindInfo
+  pub value : ℤ
+  pub has_value : HasValue architecture addresses bytes symbols (relocation_in bytes i) row value
+  pub rejected : IsRejected row value (offset_at bytes i) now error
+  pub alone : ¬ BeginsPair architecture bytes i
+
+-- The value is tested first, then the field, and then the bytes there.
+abbrev pub IsCauseAt : Architecture → Addresses → List ℕ → List Symbol → List ℕ → ℕ → List ℕ
+    → RelocationError → Type 0
+IsCauseAt architecture addresses bytes symbols before i now (Value error) =
+    IsValue architecture addresses bytes symbols (relocation_in bytes i) (Err error)
+IsCauseAt architecture addresses bytes symbols before i now Overlaps =
+    IsOverlapped architecture bytes before i
+IsCauseAt architecture addresses bytes symbols before i now (Write error) =
+    AreApart architecture bytes before (i + 1)
+    × IsNotAccepted architecture addresses bytes symbols i now error
+IsCauseAt architecture addresses bytes symbols before i now (Uleb128 error) =
+    AreApart architecture bytes before (i + 1)
+    × IsPairRejected architecture addresses bytes symbols (relocation_in bytes i)
+    (relocation_in bytes (i + 1)) now error
+
+-- Those before the index would be written, and that at the index not. Where it is the second of a
+-- pair, the first has a value.
 pub record IsFirstRejected (architecture : Architecture) (addresses : Addresses) (bytes : List ℕ)
-    (symbols : List Symbol) (before after : List ℕ) (error : SectionError) : Type 0 where
+    (symbols : List Symbol) (before : List ℕ) (error : SectionError) : Type 0 where
   pub within : error.index < length bytes / 24
-  pub written : AreRelocated architecture addresses bytes symbols before error.index after
-  pub rejected : IsNotWritten architecture addresses bytes symbols error.index after error.error
+  pub apart : AreApart architecture bytes before error.index
+  pub written : ℕ
+  pub is_next : (error.index ≡ written)
+      ⊎ ((error.index ≡ written + 1) × BeginsPair architecture bytes written)
+  pub now : List ℕ
+  pub relocated : AreRelocated architecture addresses bytes symbols before written now
+  pub cause : IsCauseAt architecture addresses bytes symbols before error.index now error.error

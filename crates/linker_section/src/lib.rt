@@ -3,7 +3,10 @@
 #![tactic(auto)]
 
 pub mod facts;
+mod fields;
 pub mod needed;
+mod order;
 pub mod relocations;
+mod saved;
 pub mod sections;
 pub mod values;

@@ -1,25 +1,35 @@
 //! The values of a section's relocations, written.
 
-ghost use Rattle.std.specs.Prelude.{◌≡◌, ◌≤◌, ◌/◌, ℕ, List, length, IfErr, IfSome, OnOk};
+ghost use Rattle.std.specs.Prelude.{◌≡◌, ◌≤◌, ◌<◌, ◌+◌, ◌/◌, ℕ, List, length, drop, IfErr, IfSome};
+ghost use Rattle.std.specs.Prelude.{IfNone, OnOk, take, true};
 ghost use Rattle.linker_base.specs.Uleb.{Uleb};
+ghost use Rattle.linker_section.specs.Fields.{uleb_len, begins_pair};
 ghost use Rattle.linker_section.specs.Relocations.{relocation_in};
-ghost use Rattle.linker_section.specs.Sections.{IsWrittenAt, IsRelocated, AreRelocated};
-ghost use Rattle.linker_section.specs.Sections.{begins_pair, ends_pair, IsPairNumber, IsPair};
-ghost use Rattle.linker_section.specs.Sections.{IsNumberWrittenAt, IsPairOutcome, IsFirstRejected};
+ghost use Rattle.linker_section.specs.Sections.{IsWrittenAt, IsRowValue, IsPairNumber};
+ghost use Rattle.linker_section.specs.Sections.{IsNumberWrittenAt, AreAllRelocated, IsFirstRejected};
+ghost use Rattle.linker_section.specs.Sections.{BeginsPair, HasValue};
+ghost use Rattle.linker_section.specs.Inner.Steps.{IsLimit, IsStopped, IsSecond, clear_in, field_of_row};
+ghost use Rattle.linker_section.specs.Inner.Steps.{IsPairOutcome};
+ghost use Rattle.linker_section.specs.Values.{has_value};
+ghost use Rattle.linker_utils.specs.Architectures.{IsRow};
+ghost use Rattle.linker_elf.specs.declared.elf.RelocationKindInfo.{RelocationKindInfo};
 
 use crate::facts::{Addresses, Symbol};
+use crate::fields::{Field, begins_pair, ends_pair, is_of_pair, uleb_len};
+use crate::order::{first_overlap, is_ascending};
 use crate::relocations::{Rela, relocation_in, relocations_len};
+use crate::saved::{restore, word_at};
 use crate::values::{ValueError, value_of};
 use linker_base::utils::{self, Uleb128Error};
-use linker_utils::elf::{
-    Architecture, RelocateError, RelocationKind, RelocationKindInfo, RelocationSize, Row,
-};
+use linker_utils::elf::{Architecture, RelocateError, RelocationKind, Row};
 
 /// Why a relocation's value isn't written.
 #[derive(Debug, Clone, Copy, PartialEq, Eq)]
 pub enum RelocationError {
     /// It has no value.
     Value(ValueError),
+    /// Its field has a byte of that of an earlier relocation, with which it doesn't compose.
+    Overlaps,
     /// Its value can't be written, as `Row::write` says. An offset past the section's end is
     /// `TooShort`. A relocation of a ULEB128 number is `Unsupported` where it isn't of a pair.
     Write(RelocateError),
@@ -47,21 +57,20 @@ fn write_at(row: &Row, value: i64, offset: u64, section: &mut [u8]) -> Result<()
     row.write(value, &mut section[offset as usize..])
 }
 
-/// Writes the value of a relocation among those of its section.
+/// The row and the value of a relocation among those of its section.
 #[inline(always)]
-fn relocate(
+fn row_value(
     architecture: Architecture,
     addresses: &Addresses,
     relocations: &[u8],
     symbols: &[Symbol],
     relocation: &Rela,
-    section: &mut [u8],
-) -> Result<(), RelocationError>
-    ensures { IsRelocated architecture addresses.now relocations.now symbols.now relocation.now
-        section.old section.new result }
+) -> Result<Option<(Row, i64)>, ValueError>
+    ensures { IsRowValue architecture addresses.now relocations.now symbols.now relocation.now
+        result }
 {
     let Some(row) = architecture.row(relocation.code) else {
-        return Err(RelocationError::Value(ValueError::UnknownType));
+        return Err(ValueError::UnknownType);
     };
     let info = row.info();
     match value_of(
@@ -72,34 +81,10 @@ fn relocate(
         &info,
         relocation,
     ) {
-        Ok(Some(value)) => match write_at(&row, value, relocation.offset, section) {
-            Ok(()) => Ok(()),
-            Err(error) => Err(RelocationError::Write(error)),
-        },
-        Ok(None) => Ok(()),
-        Err(error) => Err(RelocationError::Value(error)),
+        Ok(Some(value)) => Ok(Some((row, value))),
+        Ok(None) => Ok(None),
+        Err(error) => Err(error),
     }
-}
-
-/// Whether a row is that of the first of a pair at a ULEB128 number.
-#[inline(always)]
-fn begins_pair(info: &RelocationKindInfo) -> bool
-    ensures { result ≡ begins_pair info.now.size info.now.kind }
-{
-    matches!(info.kind, RelocationKind::Relative)
-        && matches!(info.size, RelocationSize::ByteSize(0))
-}
-
-/// Whether a row is that of the second of such a pair.
-#[inline(always)]
-fn ends_pair(kind: RelocationKind) -> bool
-    ensures { result ≡ ends_pair kind }
-{
-    matches!(
-        kind,
-        RelocationKind::PairSubtractionULEB128RiscV
-            | RelocationKind::PairSubtractionULEB128LoongArch
-    )
 }
 
 /// The number that bytes begin with; 0 if they begin with none.
@@ -124,104 +109,294 @@ fn pair_number(kind: RelocationKind, bytes: &[u8], first: i64, second: i64) -> u
     }
 }
 
+/// The number that a pair writes over that at an offset.
+fn number_of_pair(kind: RelocationKind, first: i64, second: i64, offset: u64, section: &[u8]) -> u64
+    ensures { IsPairNumber kind (drop offset section.now) first second result }
+{
+    if (section.len() as u64) < offset {
+        return pair_number(kind, &[], first, second);
+    }
+    pair_number(kind, &section[offset as usize..], first, second)
+}
+
 /// Writes a number in place of the ULEB128 number at an offset.
 #[inline(always)]
 fn write_number_at(number: u64, offset: u64, section: &mut [u8]) -> Result<(), Uleb128Error>
-    requires { offset ≤ length section.old }
     ensures { IsNumberWrittenAt number offset section.old section.new result }
 {
+    if (section.len() as u64) < offset {
+        return Err(Uleb128Error::Ended);
+    }
     utils::write_uleb128(&mut section[offset as usize..], number)
 }
 
-/// What two relocations write, if they are a pair at a ULEB128 number in the section.
-fn number_of_pair(
-    architecture: Architecture,
-    addresses: &Addresses,
-    relocations: &[u8],
-    symbols: &[Symbol],
-    first: &Rela,
-    second: &Rela,
-    section: &[u8],
-) -> Option<u64>
-    ensures { IfSome result (λ number. (first.now.offset ≤ length section.now)
-        × IsPair architecture addresses.now relocations.now symbols.now first.now second.now
-        section.now number) }
+/// The field of a relocation of a row at an offset.
+#[inline(always)]
+pub(crate) fn field_at(row: &Row, offset: u64, section: &[u8]) -> Field
+    requires { has_value row.now.kind ≡ true }
+    ensures { result ≡ field_of_row row.now offset section.now }
 {
-    if second.offset != first.offset || (section.len() as u64) < first.offset {
+    let info = row.info();
+    let len = if is_of_pair(&info) {
+        number_len_at(offset, section)
+    } else {
+        row.window()
+    };
+    Field {
+        offset,
+        len,
+        kind: info.kind,
+    }
+}
+
+/// How many bytes the ULEB128 number at an offset has.
+#[inline(never)]
+fn number_len_at(offset: u64, section: &[u8]) -> usize
+    ensures { result ≡ uleb_len (take 10 (drop offset section.now)) }
+{
+    if (section.len() as u64) < offset {
+        return 0;
+    }
+    uleb_len(&section[offset as usize..])
+}
+
+/// Whether a field overlaps none of those before it, except those with which its relocation
+/// composes. The last of them says so where relocations ascend by offset; else there is the index
+/// of the first that does.
+#[inline(always)]
+fn is_clear(limit: Option<usize>, index: usize, field: &Field, last: &Field) -> bool
+    requires { IfNone limit (last.now.offset ≤ field.now.offset) }
+    ensures { result ≡ clear_in limit index field.now last.now }
+{
+    match limit {
+        None => field.len == 0 || field.is_clear_of(last),
+        Some(limit) => index != limit,
+    }
+}
+
+/// The second of a pair at a ULEB128 number whose first is at an index and has a row.
+#[inline(always)]
+pub(crate) fn second_of_pair(
+    architecture: Architecture,
+    relocations: &[u8],
+    index: usize,
+    row: &Row,
+) -> Option<Rela>
+    requires within { index < length relocations.now / 24 }
+    requires row { IsRow architecture (relocation_in relocations.now index).code (Some row.now) }
+    ensures found { IfSome result (λ second. (second ≡ relocation_in relocations.now (index + 1))
+        × BeginsPair architecture relocations.now index) }
+    ensures none { IfNone result (¬ BeginsPair architecture relocations.now index) }
+{
+    let info = row.info();
+    if begins_pair(info.size, info.kind) {
+        next_of_pair(architecture, relocations, index)
+    } else {
+        None
+    }
+}
+
+/// The next relocation, if it is the second of a pair at the same offset.
+#[inline(never)]
+fn next_of_pair(architecture: Architecture, relocations: &[u8], index: usize) -> Option<Rela>
+    requires { index < length relocations.now / 24 }
+    ensures found { IfSome result (λ second. (second ≡ relocation_in relocations.now (index + 1))
+        × IsSecond architecture relocations.now index) }
+    ensures none { IfNone result (¬ IsSecond architecture relocations.now index) }
+{
+    if relocations_len(relocations) - index < 2 {
         return None;
     }
-    let Some(row) = architecture.row(first.code) else {
+    let first = relocation_in(relocations, index);
+    let second = relocation_in(relocations, index + 1);
+    if second.offset != first.offset {
         return None;
-    };
-    let info = row.info();
+    }
     let Some(row) = architecture.row(second.code) else {
         return None;
     };
-    let other = row.info();
-    if !begins_pair(&info) || !ends_pair(other.kind) {
-        return None;
+    let info = row.info();
+    if ends_pair(info.size, info.kind) {
+        Some(second)
+    } else {
+        None
     }
-    let Ok(Some(value)) = value_of(architecture, addresses, relocations, symbols, &info, first)
-    else {
-        return None;
-    };
-    let Ok(Some(subtracted)) = value_of(
-        architecture,
-        addresses,
-        relocations,
-        symbols,
-        &other,
-        second,
-    ) else {
-        return None;
-    };
-    let bytes = &section[first.offset as usize..];
-    Some(pair_number(other.kind, bytes, value, subtracted))
 }
 
-/// Writes the number of two relocations, if they are a pair at a ULEB128 number. Whether they are.
-#[inline(never)]
+/// Writes the number of a pair at a ULEB128 number, whose first relocation has a value.
 fn relocate_pair(
     architecture: Architecture,
     addresses: &Addresses,
     relocations: &[u8],
     symbols: &[Symbol],
-    first: &Rela,
+    index: usize,
+    value: i64,
     second: &Rela,
     section: &mut [u8],
-) -> Result<bool, Uleb128Error>
-    ensures { IsPairOutcome architecture addresses.now relocations.now symbols.now first.now
-        second.now section.old section.new result }
+) -> Result<(), SectionError>
+    requires within { index < length relocations.now / 24 }
+    requires pair { BeginsPair architecture relocations.now index }
+    requires second { second.now ≡ relocation_in relocations.now (index + 1) }
+    requires value { (row : RelocationKindInfo) × HasValue architecture addresses.now
+        relocations.now symbols.now (relocation_in relocations.now index) row value }
+    ensures { IsPairOutcome architecture addresses.now relocations.now symbols.now index
+        section.old section.new result }
 {
-    let Some(number) = number_of_pair(
-        architecture,
-        addresses,
-        relocations,
-        symbols,
-        first,
-        second,
-        section,
-    ) else {
-        return Ok(false);
+    let (row, subtracted) = match row_value(architecture, addresses, relocations, symbols, second) {
+        Ok(Some(found)) => found,
+        // the second of a pair has a value
+        Ok(None) => return Ok(()),
+        Err(error) => {
+            return Err(SectionError {
+                index: index + 1,
+                error: RelocationError::Value(error),
+            });
+        }
     };
-    match write_number_at(number, first.offset, section) {
-        Ok(()) => Ok(true),
-        Err(error) => Err(error),
+    let offset = second.offset;
+    let number = number_of_pair(row.kind(), value, subtracted, offset, section);
+    match write_number_at(number, offset, section) {
+        Ok(()) => Ok(()),
+        Err(error) => Err(SectionError {
+            index,
+            error: RelocationError::Uleb128(error),
+        }),
     }
 }
 
-/// Writes the values of a section's relocations, `value`'s, in their order: so relocations at one
-/// offset compose, as `R_RISCV_ADD32` and `R_RISCV_SUB32` do. Two next to each other that are a pair
-/// at a ULEB128 number are written at once. Whether fields overlap isn't tested.
+/// Where the values of a section's relocations stopped to be written.
+#[derive(Drop)]
+struct Stopped {
+    /// Below which index the bytes are kept that were there before.
+    count: usize,
+    /// Why.
+    error: SectionError,
+}
+
+/// Writes the values of a section's relocations in their order, and keeps the bytes that were there
+/// before.
+fn write_values(
+    architecture: Architecture,
+    addresses: &Addresses,
+    relocations: &[u8],
+    symbols: &[Symbol],
+    limit: Option<usize>,
+    section: &mut [u8],
+    memory: &mut [u64],
+) -> Result<(), Stopped>
+    requires memory { length relocations.now / 24 ≤ length memory.old }
+    requires limit { IsLimit architecture relocations.now section.old limit }
+    ensures len { length memory.new ≡ length memory.old }
+    ensures ok { OnOk result (AreAllRelocated architecture addresses.now relocations.now
+        symbols.now section.old section.new) }
+    ensures err { IfErr result (IsStopped architecture addresses.now relocations.now symbols.now
+        section.old section.new memory.new) }
+{
+    let len = relocations_len(relocations);
+    let mut last = Field {
+        offset: 0,
+        len: 0,
+        kind: RelocationKind::None,
+    };
+    let mut index = 0;
+    while index < len {
+        let relocation = relocation_in(relocations, index);
+        memory[index] = word_at(section, relocation.offset);
+        let (row, value) = match row_value(
+            architecture,
+            addresses,
+            relocations,
+            symbols,
+            &relocation,
+        ) {
+            Ok(Some(found)) => found,
+            Ok(None) => {
+                index += 1;
+                continue;
+            }
+            Err(error) => {
+                let error = RelocationError::Value(error);
+                let error = SectionError { index, error };
+                return Err(Stopped {
+                    count: index,
+                    error,
+                });
+            }
+        };
+        let field = field_at(&row, relocation.offset, section);
+        if !is_clear(limit, index, &field, &last) {
+            let error = RelocationError::Overlaps;
+            let error = SectionError { index, error };
+            return Err(Stopped {
+                count: index,
+                error,
+            });
+        }
+        last = field.or(last);
+        if let Some(second) = second_of_pair(architecture, relocations, index, &row) {
+            memory[index + 1] = word_at(section, relocation.offset.wrapping_add(8));
+            if let Err(error) = relocate_pair(
+                architecture,
+                addresses,
+                relocations,
+                symbols,
+                index,
+                value,
+                &second,
+                section,
+            ) {
+                return Err(Stopped {
+                    count: index,
+                    error,
+                });
+            }
+            index += 2;
+            continue;
+        }
+        if let Err(error) = write_at(&row, value, relocation.offset, section) {
+            let error = RelocationError::Write(error);
+            let error = SectionError { index, error };
+            return Err(Stopped {
+                count: index,
+                error,
+            });
+        }
+        index += 1;
+    }
+    Ok(())
+}
+
+/// How many elements of memory `relocate_section` takes: one for each relocation.
+#[inline(always)]
+pub fn memory_len(relocations: &[u8]) -> usize
+    ensures { result ≡ length relocations.now / 24 }
+{
+    relocations_len(relocations)
+}
+
+/// Writes the values of a section's relocations, `value`'s. Bytes that are in no relocation's field
+/// stay. `memory` is for its work: as many elements as `memory_len` says, with any numbers.
+///
+/// The bytes that a relocation writes are its field. Relocations whose fields overlap have to
+/// compose: to be at one offset and, in their order,
+///
+/// - to change the number that those before them set or change, in as many bytes (`R_RISCV_SET8`,
+///   `R_RISCV_ADD8`, `R_RISCV_SUB8` and those of 16, 32 and 64 bits, LoongArch's of these names and
+///   of 24 bits; and `R_RISCV_SET6`, `R_RISCV_SUB6`, `R_LARCH_ADD6` and `R_LARCH_SUB6`), or
+/// - to be a pair at a ULEB128 number, next to each other.
+///
+/// A relocation without a value, as `R_RISCV_RELAX`, has no field. Where relocations ascend by
+/// offset this takes time in proportion to their number, and in any other order they are sorted.
 ///
 /// # Errors
 ///
-/// The first relocation whose value isn't written. The values of those before it are written; it and
-/// those behind it have changed nothing.
+/// Nothing is written, and the error has the least index of a relocation that has no value, whose
+/// field overlaps that of an earlier one with which it doesn't compose, or whose value can't be
+/// written, and the first of these that applies.
 ///
 /// ```
 /// use linker_section::facts::{Addresses, Symbol};
-/// use linker_section::sections::relocate_section;
+/// use linker_section::sections::{memory_len, relocate_section};
 /// use linker_utils::elf::Architecture;
 ///
 /// // call f, with R_X86_64_PLT32 of symbol 1 at offset 1, whose addend is -4
@@ -232,8 +407,10 @@ fn relocate_pair(
 /// let addresses = Addresses { section: 0x401000, ..Addresses::default() };
 /// let function = Symbol { address: 0x402005, ..Symbol::default() };
 /// let symbols = [Symbol::default(), function];
+/// let mut memory = [0; 1];
+/// assert_eq!(memory_len(&relocations), 1);
 /// let of = Architecture::X86_64;
-/// relocate_section(of, &addresses, &relocations, &symbols, &mut section).unwrap();
+/// relocate_section(of, &addresses, &relocations, &symbols, &mut section, &mut memory).unwrap();
 /// assert_eq!(section, [0xe8, 0x00, 0x10, 0, 0]);
 /// ```
 pub fn relocate_section(
@@ -242,49 +419,33 @@ pub fn relocate_section(
     relocations: &[u8],
     symbols: &[Symbol],
     section: &mut [u8],
+    memory: &mut [u64],
 ) -> Result<(), SectionError>
-    ensures ok { OnOk result (AreRelocated architecture addresses.now relocations.now symbols.now
-        section.old (length relocations.now / 24) section.new) }
-    ensures err { IfErr result (IsFirstRejected architecture addresses.now relocations.now
+    requires memory { length relocations.now / 24 ≤ length memory.old }
+    ensures ok { OnOk result (AreAllRelocated architecture addresses.now relocations.now
         symbols.now section.old section.new) }
+    ensures err { IfErr result (IsFirstRejected architecture addresses.now relocations.now
+        symbols.now section.old) }
+    ensures unchanged { IfErr result (λ _. section.new ≡ section.old) }
 {
-    let len = relocations_len(relocations);
-    let mut index = 0;
-    while index < len {
-        let relocation = relocation_in(relocations, index);
-        let Err(error) = relocate(
-            architecture,
-            addresses,
-            relocations,
-            symbols,
-            &relocation,
-            section,
-        ) else {
-            index += 1;
-            continue;
-        };
-        if index + 1 == len {
-            return Err(SectionError { index, error });
-        }
-        let second = relocation_in(relocations, index + 1);
-        match relocate_pair(
-            architecture,
-            addresses,
-            relocations,
-            symbols,
-            &relocation,
-            &second,
-            section,
-        ) {
-            Ok(true) => index += 2,
-            Ok(false) => return Err(SectionError { index, error }),
-            Err(error) => {
-                return Err(SectionError {
-                    index,
-                    error: RelocationError::Uleb128(error),
-                });
-            }
+    let limit = if is_ascending(relocations) {
+        None
+    } else {
+        Some(first_overlap(architecture, relocations, section))
+    };
+    match write_values(
+        architecture,
+        addresses,
+        relocations,
+        symbols,
+        limit,
+        section,
+        memory,
+    ) {
+        Ok(()) => Ok(()),
+        Err(stopped) => {
+            restore(architecture, relocations, stopped.count, memory, section);
+            Err(stopped.error)
         }
     }
-    Ok(())
 }

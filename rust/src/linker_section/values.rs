@@ -248,7 +248,7 @@ fn operands_of(
 
 /// Whether a relocation of a kind has a value.
 #[inline(always)]
-fn has_value(kind: RelocationKind) -> bool {
+pub(crate) fn has_value(kind: RelocationKind) -> bool {
     !matches!(
         kind,
         RelocationKind::None | RelocationKind::Alignment | RelocationKind::TlsDescCall
@@ -326,7 +326,7 @@ fn is_high_part(low: RelocationKind, info: &RelocationKindInfo) -> bool {
 
 /// The offset of the relocation at an index.
 #[inline(always)]
-fn offset_at(relocations: &[u8], index: usize) -> u64 {
+pub(crate) fn offset_at(relocations: &[u8], index: usize) -> u64 {
     relocation_in(relocations, index).offset
 }
 

@@ -18,5 +18,6 @@ returns c =
     let value = to_z-of_z w64 c.args.value c.ranges.value in
     written_at row c.args.value offset section _ rest c.write.result inside
     (sym (take_all (offset + length rest) _ (search rules)) ∙ take-put_mid offset (length section - offset) section rest (offset + length rest) refl inside)
+    (search rules)
     (subst (λ v. OnOk c.write.result (WritesRow row v (drop offset section) rest)) value (rw (take_rest section offset) at c.write.ensures.ok))
     (subst (λ v. IfErr c.write.result (RejectsValue row v (drop offset section) rest)) value (rw (take_rest section offset) at c.write.ensures.err))

@@ -1,0 +1,178 @@
+-- What is written to a section, byte by byte.
+use Rattle.std.proofs.Common.{◌≡◌, ℕ, ℤ, ◌+◌, ◌-◌, ◌/◌, ◌<◌, ◌≤◌, ◌⊎◌, List, [], ◌∷◌, zero, suc, length, take, drop, get_or, cond, ltb, true, true≢false, refl, sym, ap, ◌∙◌, inl, inr, arith}
+use Rattle.std.proofs.lemmas.Bool.{cases_eq, cases_lt, cases_Bool, or_left, cond_both, cond-true, cond-false}
+use Rattle.linker_section.proofs.Ulebs.{uleb_len_is, some_uleb}
+use Rattle.std.proofs.lemmas.List.{get_or-take, get_or-drop, length-drop}
+use Rattle.std.specs.Prelude.{slice_index}
+use Rattle.linker_elf.specs.Relocate.{window_len}
+use Rattle.linker_elf.specs.declared.elf.RelocationKindInfo.{RelocationKindInfo}
+use Rattle.linker_section.proofs.Composing.{begun_is_continued_none, begun_ends_none, begun_has_value}
+use Rattle.linker_section.proofs.Local.{IsLocal, one_local, pair_local}
+use Rattle.linker_section.proofs.Stepping.{len_alone, len_paired, written_alone, unchanged}
+use Rattle.linker_section.proofs.Valued.{some_value}
+use Rattle.linker_section.specs.Fields.{IsField, field_end, field_len, begins_pair, ends_pair, uleb_len, of_number, of_pair, AreApart}
+use Rattle.linker_section.specs.Relocations.{relocation_in}
+use Rattle.linker_section.specs.Sections.{AreRelocated, none, mark, one, pair, IsInNoField, AreAllRelocated, HasValue, IsWritten, IsPairWritten}
+use Rattle.linker_section.specs.Values.{offset_at}
+use Rattle.linker_section.specs.declared.facts.Addresses.{Addresses}
+use Rattle.linker_section.specs.declared.facts.Symbol.{Symbol}
+use Rattle.linker_utils.specs.declared.elf.Architecture.{Architecture}
+
+-- ---- bytes outside of a field
+
+place : (o w p : ℕ) → o + w ≤ p → p ≡ o + w + (p - (o + w))
+place o w p behind = omega (arith, behind)
+
+local_byte : (o w p : ℕ) (now after : List ℕ) → IsLocal o w now after
+    → (p < o) ⊎ (o + w ≤ p) → slice_index after p ≡ slice_index now p
+local_byte o w p now after local outside =
+    elim outside [
+      | inl below ↦
+          sym (get_or-take o after p 0 below) ∙ (ap (λ x. get_or x p 0) local.kept ∙ get_or-take o now p 0 below)
+      | inr behind ↦
+          ap (λ n. get_or after n 0) (place o w p behind)
+          ∙ (sym (get_or-drop (o + w) after (p - (o + w)) 0)
+          ∙ (ap (λ x. get_or x (p - (o + w)) 0) local.behind
+          ∙ (get_or-drop (o + w) now (p - (o + w)) 0 ∙ ap (λ n. get_or now n 0) (sym (place o w p behind)))))
+    ]
+
+-- ---- a ULEB128 number of the same bytes
+
+same_uleb : (fuel : ℕ) (xs ys : List ℕ) → length ys ≡ length xs
+    → ((j : ℕ) → j < uleb_len (take fuel xs) → slice_index ys j ≡ slice_index xs j)
+    → uleb_len (take fuel ys) ≡ uleb_len (take fuel xs)
+same_uleb zero xs ys len same = refl
+same_uleb (suc fuel) [] [] len same = refl
+same_uleb (suc fuel) [] (y ∷ ys) len same = absurd (omega (arith, len))
+same_uleb (suc fuel) (x ∷ xs) [] len same = absurd (omega (arith, len))
+same_uleb (suc fuel) (x ∷ xs) (y ∷ ys) len same =
+    let head : y ≡ x = same 0 (cond_both (ltb x 0x80) 1 (1 + uleb_len (take fuel xs)) (λ n. 0 < n) (λ _. omega arith) (λ _. omega arith)) in
+    ap (λ z. cond (ltb z 0x80) 1 (1 + uleb_len (take fuel ys))) head
+    ∙ elim (cases_Bool (ltb x 0x80)) [
+      | inl ends ↦
+          cond-true (ltb x 0x80) 1 (1 + uleb_len (take fuel ys)) ends
+          ∙ sym (cond-true (ltb x 0x80) 1 (1 + uleb_len (take fuel xs)) ends)
+      | inr on ↦
+          let more = cond-false (ltb x 0x80) 1 (1 + uleb_len (take fuel xs)) on in
+          cond-false (ltb x 0x80) 1 (1 + uleb_len (take fuel ys)) on
+          ∙ (ap (λ n. 1 + n) (same_uleb fuel xs ys (omega (arith, len)) (λ j below. same (suc j) (omega (arith, below, more))))
+          ∙ sym more)
+    ]
+
+-- ---- all writes
+
+-- the bytes that no field below an index has
+abbrev AreUntouched : Architecture → List ℕ → List ℕ → ℕ → List ℕ → Type 0
+AreUntouched architecture bytes before n now =
+    (length now ≡ length before)
+    × ((p : ℕ) → IsInNoField architecture bytes before n p → slice_index now p ≡ slice_index before p)
+
+fewer : (architecture : Architecture) (bytes before : List ℕ) (n m p : ℕ) → n ≤ m
+    → IsInNoField architecture bytes before m p → IsInNoField architecture bytes before n p
+fewer architecture bytes before n m p most outside i row below is_field =
+    outside i row (omega (arith, below, most)) is_field
+
+one_untouched : (architecture : Architecture) (addresses : Addresses) (bytes before middle now : List ℕ)
+    (symbols : List Symbol) (n : ℕ) (row : RelocationKindInfo) (v : ℤ)
+    → AreUntouched architecture bytes before n middle
+    → HasValue architecture addresses bytes symbols (relocation_in bytes n) row v
+    → IsWritten row v (offset_at bytes n) middle now
+    → AreUntouched architecture bytes before (n + 1) now
+one_untouched architecture addresses bytes before middle now symbols n row v so_far has written =
+    let o = offset_at bytes n in
+    let local = one_local row v o middle now written in
+    let some = some_value architecture addresses bytes symbols (relocation_in bytes n) row v has in
+    let len : field_len row (drop o before) ≡ window_len row = len_alone row (drop o before) some (written_alone row v o middle now written) in (
+      (local.same_length ∙ so_far.0),
+      (λ p outside. elim (cases_eq (window_len row) 0) [
+        | inl empty ↦
+            ap (λ x. slice_index x p) (unchanged o (window_len row) middle now local empty)
+            ∙ so_far.1 p (fewer architecture bytes before n (n + 1) p (omega arith) outside)
+        | inr wide ↦
+            local_byte o (window_len row) p middle now local
+            (elim (outside n row (omega arith) (record { is_row = has.is_row; some = omega (arith, wide, len) })) [
+              | inl below ↦ inl below
+              | inr behind ↦ inr (omega (arith, behind, len))
+            ])
+            ∙ so_far.1 p (fewer architecture bytes before n (n + 1) p (omega arith) outside)
+      ]),
+    )
+
+-- a byte of the number of a pair is in no earlier field
+pair_byte : (architecture : Architecture) (bytes before : List ℕ) (n : ℕ)
+    (row : RelocationKindInfo) (p : ℕ) → AreApart architecture bytes before (n + 2)
+    → IsField architecture bytes before n row → begins_pair row.size row.kind ≡ true
+    → offset_at bytes n ≤ p → p < field_end bytes before n row
+    → IsInNoField architecture bytes before n p
+pair_byte architecture bytes before n row p apart is_field begins from to i other below is_other =
+    elim (cases_lt p (offset_at bytes i)) [
+      | inl under ↦ inl under
+      | inr at ↦ elim (cases_lt p (field_end bytes before i other)) [
+        | inr behind ↦ inr behind
+        | inl inside ↦
+            absurd (elim (apart i n other row below (omega arith) is_other is_field ((omega (arith, at, to)), (omega (arith, from, inside)))) [
+              | of_number offset window on ↦ true≢false (sym on ∙ begun_is_continued_none row.size row.kind other.kind begins)
+              | of_pair offset after begun ended ↦ true≢false (sym ended ∙ begun_ends_none row.size row.kind begins)
+            ])
+      ]
+    ]
+
+pair_untouched : (architecture : Architecture) (addresses : Addresses) (bytes before middle now : List ℕ)
+    (symbols : List Symbol) (n : ℕ) → AreApart architecture bytes before (n + 2)
+    → AreUntouched architecture bytes before n middle
+    → IsPairWritten architecture addresses bytes symbols (relocation_in bytes n) (relocation_in bytes (n + 1)) middle now
+    → AreUntouched architecture bytes before (n + 2) now
+pair_untouched architecture addresses bytes before middle now symbols n apart so_far written =
+    let o = offset_at bytes n in
+    let pair = written.pair in
+    let row = pair.row in
+    let local = pair_local architecture addresses bytes symbols (relocation_in bytes n) (relocation_in bytes (n + 1)) middle now written in
+    let has = begun_has_value row.size row.kind pair.begins in
+    let paired = or_left (begins_pair row.size row.kind) (ends_pair row.size row.kind) pair.begins in
+    let len : field_len row (drop o before) ≡ uleb_len (take 10 (drop o before)) = len_paired row (drop o before) has paired in
+    let same = so_far.0 in
+    let d = length-drop o before in let dm = length-drop o middle in
+    let number = uleb_len_is (drop o middle) written.written.old written.written.rest written.written.was in
+    let there = written.written.was.there in
+    let some = some_uleb (drop o before) (omega (arith, there, d, dm, same)) in
+    let is_field : IsField architecture bytes before n row = record { is_row = pair.has_value.is_row; some = omega (arith, some, len) } in
+    let uleb : uleb_len (take 10 (drop o middle)) ≡ uleb_len (take 10 (drop o before)) =
+    same_uleb 10 (drop o before) (drop o middle) (omega (arith, d, dm, same))
+    (λ j below. get_or-drop o middle j 0 ∙ (so_far.1 (o + j)
+    (pair_byte architecture bytes before n row (o + j) apart is_field pair.begins (omega arith) (omega (arith, below, len)))
+    ∙ sym (get_or-drop o before j 0))) in (
+      (local.same_length ∙ same),
+      (λ p outside.
+          local_byte o (uleb_len (take 10 (drop o middle))) p middle now local
+          (elim (outside n row (omega arith) is_field) [
+            | inl below ↦ inl below
+            | inr behind ↦ inr (omega (arith, behind, len, uleb))
+          ])
+          ∙ so_far.1 p (fewer architecture bytes before n (n + 2) p (omega arith) outside)),
+    )
+
+untouched : (architecture : Architecture) (addresses : Addresses) (bytes before : List ℕ)
+    (symbols : List Symbol) {n : ℕ} {now : List ℕ} → AreApart architecture bytes before n
+    → AreRelocated architecture addresses bytes symbols before n now
+    → AreUntouched architecture bytes before n now
+untouched architecture addresses bytes before symbols apart none = (refl, λ p outside. refl)
+untouched architecture addresses bytes before symbols apart (mark {n} {middle} relocated value) =
+    let so_far = untouched architecture addresses bytes before symbols (λ i j row other below under. apart i j row other below (omega (arith, under))) relocated in (
+      (so_far.0),
+      (λ p outside. so_far.1 p (fewer architecture bytes before n (n + 1) p (omega arith) outside)),
+    )
+untouched architecture addresses bytes before symbols apart (one {n} {middle} {after} {row} {v} relocated has written) =
+    one_untouched architecture addresses bytes before middle after symbols n row v
+    (untouched architecture addresses bytes before symbols (λ i j row other below under. apart i j row other below (omega (arith, under))) relocated) has written
+untouched architecture addresses bytes before symbols apart (pair {n} {middle} {after} relocated written) =
+    pair_untouched architecture addresses bytes before middle after symbols n apart
+    (untouched architecture addresses bytes before symbols (λ i j row other below under. apart i j row other below (omega (arith, under))) relocated) written
+
+pub all_relocated : (architecture : Architecture) (addresses : Addresses)
+    (bytes before after : List ℕ) (symbols : List Symbol)
+    → AreApart architecture bytes before (length bytes / 24)
+    → AreRelocated architecture addresses bytes symbols before (length bytes / 24) after
+    → AreAllRelocated architecture addresses bytes symbols before after
+all_relocated architecture addresses bytes before after symbols apart relocated =
+    let all = untouched architecture addresses bytes before symbols apart relocated in
+    record { apart = apart; relocated = relocated; others = all.1; same_length = all.0 }

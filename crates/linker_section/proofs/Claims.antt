@@ -1,0 +1,478 @@
+-- Fields that are gone through by ascending offsets are apart, if each is clear of the last one.
+use Rattle.std.proofs.Common.{◌≡◌, ℕ, ◌+◌, ◌-◌, ◌/◌, ◌<◌, ◌≤◌, ◌⊎◌, ◌&&◌, eqb, leb, sym, ap, subst, ◌∙◌, inl, inr, arith, true, false, true≢false, List, length, Some}
+use Rattle.std.proofs.lemmas.Bool.{or_cases, or_parts, and_parts, eqb-true, eq-eqb, leb-true, leb-false, cases_eq, cases_lt, and_from, both_ways}
+use Rattle.linker_elf.specs.Relocate.{window_len}
+use Rattle.linker_elf.specs.declared.elf.RelocationKindInfo.{RelocationKindInfo}
+use Rattle.linker_section.proofs.Composing.{no, continues_on, second_is_none, first_is_none, begun_continues_none, begun_is_continued_none, begun_ends_none}
+use Rattle.linker_section.proofs.Rows.{one_info}
+use Rattle.linker_section.specs.Fields.{IsField, continues, field_end, begins_pair, ends_pair, is_of_pair, Overlap, Composes, of_number, of_pair, AreApart, IsOverlapped}
+use Rattle.linker_section.specs.Relocations.{relocation_in}
+use Rattle.linker_section.specs.Sections.{BeginsPair}
+use Rattle.linker_utils.specs.Architectures.{IsRow}
+use Rattle.linker_section.specs.Inner.Claims.{continues_at, is_clear_of, IsContinued, IsLastField, AreClaimed, HasField, IsClear}
+use Rattle.linker_section.specs.declared.relocations.Rela.{Rela}
+use Rattle.std.specs.Prelude.{IfSome, is_some, Option, None}
+use Rattle.linker_section.specs.Values.{offset_at}
+use Rattle.linker_section.specs.declared.fields.Field.{Field}
+use Rattle.linker_utils.specs.declared.elf.Architecture.{Architecture}
+
+-- ---- what the test says
+
+pub record Joins (field last : Field) : Type 0 where
+  pub offset_is : field.offset ≡ last.offset
+  pub len_is : field.len ≡ last.len
+  pub continues_is : continues last.kind field.kind ≡ true
+
+pub clear_cases : (field last : Field) → last.offset ≤ field.offset → is_clear_of field last ≡ true
+    → (last.offset + last.len ≤ field.offset) ⊎ Joins field last
+clear_cases field last order clear =
+    elim (or_cases (leb last.len (field.offset - last.offset)) (eqb (field.offset - last.offset) 0 && continues_at field last) clear) [
+      | inl far ↦ inl (let l = leb-true _ _ far in omega (arith, l, order))
+      | inr same ↦
+          let parts = and_parts (eqb (field.offset - last.offset) 0) (continues_at field last) same in
+          let both = and_parts (eqb field.len last.len) (continues last.kind field.kind) (parts.1) in
+          inr (record {
+            offset_is = let e = eqb-true _ _ (parts.0) in omega (arith, e, order);
+            len_is = eqb-true _ _ (both.0);
+            continues_is = both.1;
+          })
+    ]
+
+pub not_clear : (field last : Field) → last.offset ≤ field.offset → is_clear_of field last ≡ false
+    → (field.offset < last.offset + last.len) × (Joins field last → ⊥)
+not_clear field last order clear =
+    let parts = or_parts (leb last.len (field.offset - last.offset)) (eqb (field.offset - last.offset) 0 && continues_at field last) clear in (
+      (let l = leb-false _ _ (parts.0) in omega (arith, l, order)),
+      (λ joins. both_ways _ (parts.1)
+          (and_from _ _ (eq-eqb (field.offset - last.offset) 0 (let e = joins.offset_is in omega (arith, e)))
+          (and_from _ _ (eq-eqb _ _ joins.len_is) joins.continues_is))),
+    )
+
+-- ---- one more field
+
+-- relocations that were seen compose where their fields overlap
+abbrev pub ApartIn : Architecture → List ℕ → List ℕ → (ℕ → Type 0) → Type 0
+ApartIn architecture bytes section IsSeen =
+    (i j : ℕ) (row other : RelocationKindInfo) → IsSeen i → IsSeen j → i < j
+    → IsField architecture bytes section i row → IsField architecture bytes section j other
+    → Overlap bytes section i row j other → Composes bytes i row j other
+
+pub some_len : (architecture : Architecture) (bytes section : List ℕ) (k : ℕ)
+    (row : RelocationKindInfo) (field : Field) → HasField architecture bytes section k row field
+    → 0 < field.len
+some_len architecture bytes section k row field h =
+    let s = h.is_field.some in let e = h.end_is in let o = h.offset_is in omega (arith, s, e, o)
+
+own_continued : (architecture : Architecture) (bytes section : List ℕ) (k : ℕ)
+    (row : RelocationKindInfo) (field : Field) → HasField architecture bytes section k row field
+    → IsContinued row field
+own_continued architecture bytes section k row field h kind is =
+    let own : continues row.kind kind ≡ true = subst (λ x. continues x kind ≡ true) (sym h.kind_is) is in
+    (h.window_is (first_is_none row.kind kind row.size own), own)
+
+-- what is behind an earlier field is behind the new one, or they compose
+earlier_composes : (architecture : Architecture) (bytes section : List ℕ) (IsSeen : ℕ → Type 0)
+    (last : Field) (k : ℕ) (row : RelocationKindInfo) (field : Field)
+    → AreClaimed architecture bytes section IsSeen last
+    → HasField architecture bytes section k row field → last.offset ≤ field.offset
+    → is_clear_of field last ≡ true → (i : ℕ) (other : RelocationKindInfo) → IsSeen i
+    → IsField architecture bytes section i other
+    → (field_end bytes section i other ≤ field.offset)
+    ⊎ ((offset_at bytes i ≡ field.offset)
+    × (field_end bytes section i other ≡ field.offset + field.len) × IsContinued other field
+    × Composes bytes i other k row)
+earlier_composes architecture bytes section IsSeen last k row field claimed h order clear i other seen is_field =
+    elim (claimed.others i other seen is_field) [
+      | inl before ↦ inl (omega (arith, before, order))
+      | inr same ↦ elim (clear_cases field last order clear) [
+        | inl far ↦ inl (let e = same.1 in omega (arith, e, far))
+        | inr joins ↦
+            let o = joins.offset_is in let l = joins.len_is in let e = same.1 in
+            let continued = same.2 field.kind joins.continues_is in
+            inr (
+              (same.0 ∙ sym o),
+              (omega (arith, o, l, e)),
+              (λ kind is. let on = same.2 kind (continues_on last.kind field.kind kind joins.continues_is is) in
+                  ((on.0 ∙ sym l), on.1)),
+              of_number (same.0 ∙ (sym o ∙ sym h.offset_is))
+                  (continued.0 ∙ (sym l ∙ sym (h.window_is (second_is_none last.kind row.kind row.size
+                  (subst (λ x. continues last.kind x ≡ true) (sym h.kind_is) joins.continues_is)))))
+                  (subst (λ x. continues other.kind x ≡ true) (sym h.kind_is) (continued.1)),
+            )
+      ]
+    ]
+
+-- a set with one more
+pub record OneMore (IsSeen IsSeenNow : ℕ → Type 0) (k : ℕ) : Type 0 where
+  pub before : (i : ℕ) → IsSeenNow i → IsSeen i ⊎ (i ≡ k)
+  pub now : IsSeenNow k
+
+pub apart_more : (architecture : Architecture) (bytes section : List ℕ)
+    (IsSeen IsSeenNow : ℕ → Type 0) (last : Field) (k : ℕ) (row : RelocationKindInfo)
+    (field : Field) → OneMore IsSeen IsSeenNow k
+    → ((i : ℕ) → IsSeen i → offset_at bytes i ≡ offset_at bytes k → i ≤ k)
+    → ApartIn architecture bytes section IsSeen → AreClaimed architecture bytes section IsSeen last
+    → HasField architecture bytes section k row field → last.offset ≤ field.offset
+    → is_clear_of field last ≡ true → ApartIn architecture bytes section IsSeenNow
+apart_more architecture bytes section IsSeen IsSeenNow last k row field more later apart claimed h order clear i j one other seen_i seen_j below is_one is_other overlap =
+    elim (more.before i seen_i) [
+      | inl was_i ↦ elim (more.before j seen_j) [
+        | inl was_j ↦ apart i j one other was_i was_j below is_one is_other overlap
+        | inr new ↦
+            let here : IsField architecture bytes section k other = subst (λ x. IsField architecture bytes section x other) new is_other in
+            let same : row ≡ other = one_info architecture _ row other h.is_field.is_row here.is_row in
+            elim (earlier_composes architecture bytes section IsSeen last k row field claimed h order clear i one was_i is_one) [
+              | inl before ↦
+                  absurd (let o = h.offset_is in let b = overlap.1 in let n = ap (offset_at bytes) new in omega (arith, before, o, b, n))
+              | inr found ↦
+                  subst (λ x. Composes bytes i one x other) (sym new) (subst (λ x. Composes bytes i one k x) same (found.3))
+            ]
+      ]
+      | inr new ↦ elim (more.before j seen_j) [
+        | inl was_j ↦ elim (earlier_composes architecture bytes section IsSeen last k row field claimed h order clear j other was_j is_other) [
+          | inl before ↦
+              absurd (let o = h.offset_is in let b = overlap.0 in let n = ap (offset_at bytes) new in omega (arith, before, o, b, n))
+          | inr found ↦ absurd (let l = later j was_j (found.0 ∙ sym h.offset_is) in omega (arith, l, new, below))
+        ]
+        | inr also ↦ absurd (omega (arith, new, also, below))
+      ]
+    ]
+
+pub claimed_more : (architecture : Architecture) (bytes section : List ℕ)
+    (IsSeen IsSeenNow : ℕ → Type 0) (last : Field) (k : ℕ) (row : RelocationKindInfo)
+    (field : Field) → OneMore IsSeen IsSeenNow k
+    → AreClaimed architecture bytes section IsSeen last
+    → HasField architecture bytes section k row field → last.offset ≤ field.offset
+    → is_clear_of field last ≡ true → AreClaimed architecture bytes section IsSeenNow field
+claimed_more architecture bytes section IsSeen IsSeenNow last k row field more claimed h order clear =
+    record {
+      is_last = λ some. record {
+        index = k;
+        seen = more.now;
+        row = row;
+        is_field = h.is_field;
+        offset_is = h.offset_is;
+        end_is = h.end_is;
+        kind_is = h.kind_is;
+        continued = own_continued architecture bytes section k row field h;
+      };
+      others = λ i other seen is_other. elim (more.before i seen) [
+        | inl was ↦ elim (earlier_composes architecture bytes section IsSeen last k row field claimed h order clear i other was is_other) [
+          | inl before ↦ inl before
+          | inr found ↦ inr (found.0, found.1, found.2)
+        ]
+        | inr new ↦
+            let here : IsField architecture bytes section k other = subst (λ x. IsField architecture bytes section x other) new is_other in
+            let same : row ≡ other = one_info architecture _ row other h.is_field.is_row here.is_row in
+            inr (
+              (ap (offset_at bytes) new ∙ h.offset_is),
+              (subst (λ x. field_end bytes section x other ≡ field.offset + field.len) (sym new)
+                  (subst (λ x. field_end bytes section k x ≡ field.offset + field.len) same h.end_is)),
+              (subst (λ x. IsContinued x field) same (own_continued architecture bytes section k row field h)),
+            )
+      ];
+    }
+
+-- ---- a field that isn't clear
+
+pub overlapped : (architecture : Architecture) (bytes section : List ℕ) (IsSeen : ℕ → Type 0)
+    (last : Field) (k : ℕ) (row : RelocationKindInfo) (field : Field)
+    → AreClaimed architecture bytes section IsSeen last
+    → IsField architecture bytes section k row → offset_at bytes k ≡ field.offset
+    → row.kind ≡ field.kind → (is_of_pair row ≡ false → window_len row ≡ field.len)
+    → last.offset ≤ field.offset → is_clear_of field last ≡ false
+    → (at : IsLastField architecture bytes section IsSeen last)
+    × Overlap bytes section at.index at.row k row
+    × ((begins_pair at.row.size at.row.kind ≡ true → at.index + 1 ≡ k → ends_pair row.size row.kind ≡ true → ⊥)
+    → Composes bytes at.index at.row k row → ⊥)
+overlapped architecture bytes section IsSeen last k row field claimed is_field p kind_is window_is order clear =
+    let not = not_clear field last order clear in
+    let near = not.0 in
+    let at = claimed.is_last (omega (arith, near, order)) in
+    let some = is_field.some in
+    let o = at.offset_is in let e = at.end_is in (
+      at,
+      ((omega (arith, o, p, some, order)), (omega (arith, p, e, near))),
+      (λ no_pair composes. elim composes [
+        | of_number offset window on ↦
+            let kinds : continues last.kind field.kind ≡ true =
+            subst (λ x. continues x field.kind ≡ true) at.kind_is (subst (λ x. continues at.row.kind x ≡ true) kind_is on) in
+            not.1 (record {
+              offset_is = sym p ∙ (sym offset ∙ o);
+              len_is = sym (window_is (second_is_none at.row.kind row.kind row.size on)) ∙ (sym window ∙ (at.continued field.kind kinds).0);
+              continues_is = kinds;
+            })
+        | of_pair offset next begins ends ↦ no_pair begins (sym next) ends
+      ]),
+    )
+
+-- ---- the second of a pair, at the first's field
+
+pub apart_pair : (architecture : Architecture) (bytes section : List ℕ) (k : ℕ)
+    (row other : RelocationKindInfo) (field : Field)
+    → ApartIn architecture bytes section (λ i. i < k + 1)
+    → AreClaimed architecture bytes section (λ i. i < k + 1) field
+    → HasField architecture bytes section k row field → begins_pair row.size row.kind ≡ true
+    → IsField architecture bytes section (k + 1) other
+    → offset_at bytes (k + 1) ≡ offset_at bytes k
+    → field_end bytes section (k + 1) other ≡ field_end bytes section k row
+    → ends_pair other.size other.kind ≡ true
+    → ApartIn architecture bytes section (λ i. i < k + 2)
+apart_pair architecture bytes section k row other field apart claimed h begins is_other same_offset same_end ends i j one next seen_i seen_j below is_one is_next overlap =
+    elim (cases_lt j (k + 1)) [
+      | inl under ↦ apart i j one next (omega (arith, below, under)) under below is_one is_next overlap
+      | inr from ↦
+          let new : j ≡ k + 1 = omega (arith, from, seen_j) in
+          let here : IsField architecture bytes section (k + 1) next = subst (λ x. IsField architecture bytes section x next) new is_next in
+          let same : other ≡ next = one_info architecture _ other next is_other.is_row here.is_row in
+          let o = ap (offset_at bytes) new in
+          let overlap_0 = overlap.0 in let overlap_1 = overlap.1 in
+          let end : field_end bytes section j next ≡ field_end bytes section k row =
+          subst (λ x. field_end bytes section x next ≡ field_end bytes section k row) (sym new)
+          (subst (λ x. field_end bytes section (k + 1) x ≡ field_end bytes section k row) same same_end) in
+          elim (cases_eq i k) [
+            | inl is ↦
+                let first : row ≡ one = one_info architecture _ row one h.is_field.is_row
+                (subst (λ x. IsField architecture bytes section x one) is is_one).is_row in
+                of_pair (ap (offset_at bytes) is ∙ (sym same_offset ∙ sym o)) (new ∙ ap (λ x. x + 1) (sym is))
+                (subst (λ x. begins_pair x.size x.kind ≡ true) first begins)
+                (subst (λ x. ends_pair x.size x.kind ≡ true) same ends)
+            | inr isnt ↦
+                let before : i < k = omega (arith, isnt, below, new) in
+                absurd (elim (apart i k one row (omega (arith, before)) (omega arith) before is_one h.is_field
+                ((omega (arith, overlap_0, end)), (omega (arith, overlap_1, o, same_offset)))) [
+                  | of_number offset window on ↦
+                      true≢false (sym on ∙ begun_is_continued_none row.size row.kind one.kind begins)
+                  | of_pair offset after begun ended ↦
+                      true≢false (sym ended ∙ begun_ends_none row.size row.kind begins)
+                ])
+          ]
+    ]
+
+pub claimed_pair : (architecture : Architecture) (bytes section : List ℕ) (k : ℕ)
+    (row other : RelocationKindInfo) (field : Field)
+    → AreClaimed architecture bytes section (λ i. i < k + 1) field
+    → HasField architecture bytes section k row field → begins_pair row.size row.kind ≡ true
+    → offset_at bytes (k + 1) ≡ offset_at bytes k
+    → IsField architecture bytes section (k + 1) other
+    → field_end bytes section (k + 1) other ≡ field_end bytes section k row
+    → AreClaimed architecture bytes section (λ i. i < k + 2) field
+claimed_pair architecture bytes section k row other field claimed h begins same_offset is_other same_end =
+    record {
+      is_last = λ some.
+          let at = claimed.is_last some in
+          let seen = at.seen in
+          record {
+            index = at.index;
+            seen = omega (arith, seen);
+            row = at.row;
+            is_field = at.is_field;
+            offset_is = at.offset_is;
+            end_is = at.end_is;
+            kind_is = at.kind_is;
+            continued = at.continued;
+          };
+      others = λ i next seen is_next. elim (cases_lt i (k + 1)) [
+        | inl under ↦ claimed.others i next under is_next
+        | inr from ↦
+            let new : i ≡ k + 1 = omega (arith, from, seen) in
+            let here : IsField architecture bytes section (k + 1) next = subst (λ x. IsField architecture bytes section x next) new is_next in
+            let same : other ≡ next = one_info architecture _ other next is_other.is_row here.is_row in
+            inr (
+              (ap (offset_at bytes) new ∙ (same_offset ∙ h.offset_is)),
+              (subst (λ x. field_end bytes section x next ≡ field.offset + field.len) (sym new)
+                  (subst (λ x. field_end bytes section (k + 1) x ≡ field.offset + field.len) same (same_end ∙ h.end_is))),
+              (λ kind is. absurd (true≢false (sym is ∙ subst (λ x. continues x kind ≡ false) h.kind_is (begun_continues_none row.size row.kind kind begins)))),
+            )
+      ];
+    }
+
+-- ---- a relocation without a field
+
+pub apart_mark : (architecture : Architecture) (bytes section : List ℕ) (k : ℕ)
+    → ((row : RelocationKindInfo) → IsField architecture bytes section k row → ⊥)
+    → AreApart architecture bytes section k → AreApart architecture bytes section (k + 1)
+apart_mark architecture bytes section k none apart i j row other below under is_field is_other overlap =
+    elim (cases_eq j k) [
+      | inl is ↦ absurd (none other (subst (λ x. IsField architecture bytes section x other) is is_other))
+      | inr isnt ↦ apart i j row other below (omega (arith, isnt, under)) is_field is_other overlap
+    ]
+
+pub claimed_mark : (architecture : Architecture) (bytes section : List ℕ) (k : ℕ) (last : Field)
+    → ((row : RelocationKindInfo) → IsField architecture bytes section k row → ⊥)
+    → AreClaimed architecture bytes section (λ i. i < k) last
+    → AreClaimed architecture bytes section (λ i. i < k + 1) last
+claimed_mark architecture bytes section k last none claimed =
+    record {
+      is_last = λ some.
+          let at = claimed.is_last some in
+          let seen = at.seen in
+          record {
+            index = at.index;
+            seen = omega (arith, seen);
+            row = at.row;
+            is_field = at.is_field;
+            offset_is = at.offset_is;
+            end_is = at.end_is;
+            kind_is = at.kind_is;
+            continued = at.continued;
+          };
+      others = λ i other seen is_other. elim (cases_eq i k) [
+        | inl is ↦ absurd (none other (subst (λ x. IsField architecture bytes section x other) is is_other))
+        | inr isnt ↦ claimed.others i other (omega (arith, isnt, seen)) is_other
+      ];
+    }
+
+-- ---- indexes below a number
+
+pub to_in : (architecture : Architecture) (bytes section : List ℕ) (k : ℕ)
+    → AreApart architecture bytes section k → ApartIn architecture bytes section (λ i. i < k)
+to_in architecture bytes section k apart i j row other seen_i seen_j below is_field is_other overlap =
+    apart i j row other below seen_j is_field is_other overlap
+
+pub from_in : (architecture : Architecture) (bytes section : List ℕ) (k : ℕ)
+    → ApartIn architecture bytes section (λ i. i < k) → AreApart architecture bytes section k
+from_in architecture bytes section k apart i j row other below under is_field is_other overlap =
+    apart i j row other (omega (arith, below, under)) under below is_field is_other overlap
+
+pub one_below : (k : ℕ) → OneMore (λ i. i < k) (λ i. i < k + 1) k
+one_below k =
+    record {
+      before = λ i below. elim (cases_eq i k) [ inl is ↦ inr is | inr isnt ↦ inl (omega (arith, isnt, below)) ];
+      now = omega arith;
+    }
+
+-- ---- two fields
+
+-- the relocation of another index is the second of a pair whose first is at an index
+pub pair_composes : (architecture : Architecture) (bytes : List ℕ) (i j : ℕ)
+    (row other : RelocationKindInfo) → j ≡ i + 1 → BeginsPair architecture bytes i
+    → IsRow architecture (relocation_in bytes i).code (Some row)
+    → IsRow architecture (relocation_in bytes j).code (Some other) → Composes bytes i row j other
+pair_composes architecture bytes i j row other next pair is_row is_other =
+    let one : pair.row ≡ row = one_info architecture _ pair.row row pair.is_row is_row in
+    let two : pair.other ≡ other = one_info architecture _ pair.other other pair.is_other
+    (subst (λ x. IsRow architecture (relocation_in bytes x).code (Some other)) next is_other) in
+    of_pair (sym pair.same_offset ∙ ap (offset_at bytes) (sym next)) next
+    (subst (λ x. begins_pair x.size x.kind ≡ true) one pair.begins)
+    (subst (λ x. ends_pair x.size x.kind ≡ true) two pair.ends)
+
+pub pair_begins : (architecture : Architecture) (bytes : List ℕ) (i j : ℕ)
+    (row other : RelocationKindInfo) → offset_at bytes i ≡ offset_at bytes j → j ≡ i + 1
+    → j < length bytes / 24 → begins_pair row.size row.kind ≡ true
+    → ends_pair other.size other.kind ≡ true
+    → IsRow architecture (relocation_in bytes i).code (Some row)
+    → IsRow architecture (relocation_in bytes j).code (Some other) → BeginsPair architecture bytes i
+pair_begins architecture bytes i j row other offset next under begins ends is_row is_other =
+    record {
+      within = omega (arith, under, next);
+      same_offset = ap (offset_at bytes) (sym next) ∙ sym offset;
+      row = row;
+      is_row = is_row;
+      begins = begins;
+      other = other;
+      is_other = subst (λ x. IsRow architecture (relocation_in bytes x).code (Some other)) next is_other;
+      ends = ends;
+    }
+
+-- the later field isn't before the earlier one
+pub ordered_composes : (architecture : Architecture) (bytes section : List ℕ) (i j : ℕ)
+    (row other : RelocationKindInfo) (first second : Field)
+    → HasField architecture bytes section i row first
+    → HasField architecture bytes section j other second → first.offset ≤ second.offset
+    → is_clear_of second first ≡ true → Overlap bytes section i row j other
+    → Composes bytes i row j other
+ordered_composes architecture bytes section i j row other first second h g order clear overlap =
+    elim (clear_cases second first order clear) [
+      | inl far ↦ absurd (let e = h.end_is in let o = g.offset_is in let b = overlap.1 in omega (arith, far, e, o, b))
+      | inr joins ↦
+          let on : continues row.kind other.kind ≡ true =
+          subst (λ x. continues x other.kind ≡ true) (sym h.kind_is) (subst (λ x. continues first.kind x ≡ true) (sym g.kind_is) joins.continues_is) in
+          of_number (h.offset_is ∙ (sym joins.offset_is ∙ sym g.offset_is))
+          (h.window_is (first_is_none row.kind other.kind row.size on)
+          ∙ (sym joins.len_is ∙ sym (g.window_is (second_is_none row.kind other.kind other.size on)))) on
+    ]
+
+pub behind_overlap_none : (architecture : Architecture) (bytes section : List ℕ) (i j : ℕ)
+    (row other : RelocationKindInfo) (first second : Field)
+    → HasField architecture bytes section i row first
+    → HasField architecture bytes section j other second → second.offset < first.offset
+    → is_clear_of first second ≡ true → Overlap bytes section i row j other → ⊥
+behind_overlap_none architecture bytes section i j row other first second h g order clear overlap =
+    elim (clear_cases first second (omega (arith, order)) clear) [
+      | inl far ↦ let e = g.end_is in let o = h.offset_is in let b = overlap.0 in omega (arith, far, e, o, b)
+      | inr joins ↦ let o = joins.offset_is in omega (arith, o, order)
+    ]
+
+-- a collision
+pub ordered_overlapped : (architecture : Architecture) (bytes section : List ℕ) (i j : ℕ)
+    (row other : RelocationKindInfo) (first second : Field) → i < j → j < length bytes / 24
+    → HasField architecture bytes section i row first
+    → HasField architecture bytes section j other second → first.offset ≤ second.offset
+    → is_clear_of second first ≡ false
+    → (j ≡ i + 1 → BeginsPair architecture bytes i → ⊥)
+    → IsOverlapped architecture bytes section j
+ordered_overlapped architecture bytes section i j row other first second below under h g order clear no_pair =
+    let not = not_clear second first order clear in
+    let near = not.0 in
+    let some = g.is_field.some in let o = h.offset_is in let p = g.offset_is in let e = h.end_is in
+    record {
+      earlier = i;
+      order = below;
+      row = row;
+      is_field = h.is_field;
+      other = other;
+      is_other = g.is_field;
+      overlap = ((omega (arith, o, p, some, order)), (omega (arith, p, e, near)));
+      apart = λ composes. elim composes [
+        | of_number offset window on ↦ not.1 (record {
+          offset_is = sym p ∙ (sym offset ∙ o);
+          len_is = sym (g.window_is (second_is_none row.kind other.kind other.size on)) ∙ (sym window ∙ h.window_is (first_is_none row.kind other.kind row.size on));
+          continues_is = subst (λ x. continues x second.kind ≡ true) h.kind_is (subst (λ x. continues row.kind x ≡ true) g.kind_is on);
+        })
+        | of_pair offset next begins ends ↦
+            no_pair next (pair_begins architecture bytes i j row other offset next under begins ends h.is_field.is_row g.is_field.is_row)
+      ];
+    }
+
+pub behind_overlapped : (architecture : Architecture) (bytes section : List ℕ) (i j : ℕ)
+    (row other : RelocationKindInfo) (first second : Field) → i < j
+    → HasField architecture bytes section i row first
+    → HasField architecture bytes section j other second → second.offset < first.offset
+    → is_clear_of first second ≡ false → IsOverlapped architecture bytes section j
+behind_overlapped architecture bytes section i j row other first second below h g order clear =
+    let not = not_clear first second (omega (arith, order)) clear in
+    let near = not.0 in
+    let some = h.is_field.some in let o = h.offset_is in let p = g.offset_is in let e = g.end_is in
+    record {
+      earlier = i;
+      order = below;
+      row = row;
+      is_field = h.is_field;
+      other = other;
+      is_other = g.is_field;
+      overlap = ((omega (arith, o, e, near)), (omega (arith, o, p, some, order)));
+      apart = λ composes. elim composes [
+        | of_number offset window on ↦ omega (arith, offset, o, p, order)
+        | of_pair offset next begins ends ↦ omega (arith, offset, o, p, order)
+      ];
+    }
+
+pub apart_upto : (architecture : Architecture) (bytes section : List ℕ) (k : ℕ)
+    → AreApart architecture bytes section k → IsClear architecture bytes section k k
+    → AreApart architecture bytes section (k + 1)
+apart_upto architecture bytes section k apart clear i j row other below under is_one is_other overlap =
+    elim (cases_eq j k) [
+      | inl is ↦
+          subst (λ x. Composes bytes i row x other) (sym is) (clear i (omega (arith, is, below)) row other is_one
+          (subst (λ x. IsField architecture bytes section x other) is is_other)
+          (subst (λ x. Overlap bytes section i row x other) is overlap))
+      | inr isnt ↦ apart i j row other below (omega (arith, isnt, under)) is_one is_other overlap
+    ]
+
+pub begun_of : (architecture : Architecture) (bytes : List ℕ) (first : ℕ) (result : Option Rela)
+    → is_some result ≡ true
+    → IfSome result (λ second. (second ≡ relocation_in bytes (first + 1)) × BeginsPair architecture bytes first)
+    → BeginsPair architecture bytes first
+begun_of architecture bytes first None is found = no is
+begun_of architecture bytes first (Some second) is found = found.1

@@ -1,0 +1,645 @@
+-- What is known of a section after one more relocation.
+use Rattle.std.proofs.Common.{◌≡◌, ◌≢◌, ℕ, ℤ, ◌+◌, ◌-◌, ◌/◌, ◌<◌, ◌≤◌, ◌⊎◌, ◌||◌, eqb, set, not, refl, sym, ap, subst, ◌∙◌, inl, inr, arith, true, false, true≢false, Bool, ◌++◌, List, length, take, drop, Option, Some, None}
+use Rattle.std.proofs.lemmas.Bool.{or_cases, or_parts, eqb-true, eqb-false, eq-eqb, ne_eqb, cases_eq, cases_Bool, cond-true, cond-false, and_parts, not-true, not-false}
+use Rattle.std.proofs.lemmas.List.{length-drop, drop_all, drop-drop, take-append-drop, get_or-set_other}
+use Rattle.linker_elf.specs.Relocate.{window_len, takes_size}
+use Rattle.linker_elf.specs.declared.elf.RelocationKind.{RelocationKind}
+use Rattle.linker_elf.specs.declared.elf.RelocationKind.TheVariants as kinds
+use Rattle.linker_elf.specs.declared.elf.RelocationKindInfo.{RelocationKindInfo}
+use Rattle.linker_elf.specs.declared.elf.RelocationSize.{RelocationSize}
+use Rattle.linker_elf.specs.declared.elf.RelocationSize.TheVariants.{ByteSize, BitMasking}
+use Rattle.linker_section.proofs.Claims.{clear_cases, apart_more, claimed_more, overlapped, apart_pair, claimed_pair, apart_mark, claimed_mark, to_in, from_in, one_below}
+use Rattle.linker_section.proofs.Composing.{no, second_is_none, begun_is_continued_none, begun_ends_none, ended_begins_none, ended_has_value, unvalued_begins_none, unvalued_ends_none}
+use Rattle.linker_section.proofs.Local.{IsLocal, one_local, pair_local, small_row, takes}
+use Rattle.linker_section.proofs.Saving.{undone, restores_more, restores_by, restores_local, restores_pair, plus_one}
+use Rattle.linker_elf.specs.Value.{sum_64}
+use Rattle.linker_section.specs.Inner.Saved.{IsSavedAt, with_word, saved_place, Restores}
+use Rattle.std.specs.Prelude.{slice_index}
+use Rattle.linker_section.specs.declared.sections.SectionError.{SectionError}
+use Rattle.linker_section.proofs.Rows.{one_info}
+use Rattle.linker_section.proofs.Ulebs.{some_uleb, uleb_len_is, uleb_len_most}
+use Rattle.std.proofs.Common.{mod-eq_of_lt, ◌^◌}
+use Rattle.std.proofs.lemmas.Bool.{or_left, or_right}
+use Rattle.linker_section.proofs.Valued.{no_value}
+use Rattle.linker_section.specs.Fields.{IsField, continues, field_end, field_len, begins_pair, ends_pair, is_of_pair, uleb_len, of_number, of_pair, AreApart, IsOverlapped}
+use Rattle.linker_section.specs.Inner.Claims.{is_clear_of, next_field, AreClaimed, HasField}
+use Rattle.linker_section.specs.Inner.Steps.{Ascends, IsInOrder, IsLimit, IsStopped, clear_in, field_of_row}
+use Rattle.linker_section.specs.Relocations.{relocation_in}
+use Rattle.linker_section.specs.Sections.{IsWritten, BeginsPair, IsPairWritten, IsFirstRejected}
+use Rattle.linker_section.specs.Values.{has_value, offset_at, IsAscending, IsValue}
+use Rattle.linker_section.specs.declared.facts.Addresses.{Addresses}
+use Rattle.linker_section.specs.declared.facts.Symbol.{Symbol}
+use Rattle.std.specs.Prelude.{Ok, IfNone}
+use Rattle.linker_section.specs.declared.fields.Field.{Field}
+use Rattle.linker_utils.specs.Architectures.{IsRow}
+use Rattle.linker_utils.specs.declared.elf.Architecture.{Architecture}
+
+-- ---- the length of a field
+
+pub len_alone : (row : RelocationKindInfo) (bytes : List ℕ) → has_value row.kind ≡ true
+    → is_of_pair row ≡ false → field_len row bytes ≡ window_len row
+len_alone row bytes has alone =
+    cond-true (has_value row.kind) _ 0 has
+    ∙ cond-false (is_of_pair row) (uleb_len (take 10 bytes)) (window_len row) alone
+
+pub len_paired : (row : RelocationKindInfo) (bytes : List ℕ) → has_value row.kind ≡ true
+    → is_of_pair row ≡ true → field_len row bytes ≡ uleb_len (take 10 bytes)
+len_paired row bytes has paired =
+    cond-true (has_value row.kind) _ 0 has
+    ∙ cond-true (is_of_pair row) (uleb_len (take 10 bytes)) (window_len row) paired
+
+no_bytes : (bytes other : List ℕ) → uleb_len (take 10 bytes) ≡ 0 → length other ≡ length bytes
+    → uleb_len (take 10 other) ≡ 0
+no_bytes bytes other none same =
+    elim (cases_eq (length other) 0) [
+      | inl empty ↦
+          ap (λ x. uleb_len (take 10 x)) (sym (take-append-drop 0 other) ∙ drop_all 0 other (omega (arith, empty)))
+      | inr some ↦ absurd (let s = some_uleb bytes (omega (arith, some, same)) in omega (arith, s, none))
+    ]
+
+pair_continues_none : (row : RelocationKindInfo) (first : RelocationKind) → is_of_pair row ≡ true
+    → continues first row.kind ≡ true → ⊥
+pair_continues_none row first paired on =
+    true≢false (sym paired ∙ second_is_none first row.kind row.size on)
+
+-- ---- the field of a relocation, as it was before all writes
+
+same_len : (architecture : Architecture) (bytes before now : List ℕ) (k : ℕ) (last : Field)
+    (row : RelocationKindInfo) → Ascends architecture bytes before now k last
+    → length now ≡ length before → has_value row.kind ≡ true → last.offset ≤ offset_at bytes k
+    → clear_in None k (field_of_row row (offset_at bytes k) now) last ≡ true
+    → field_len row (drop (offset_at bytes k) now) ≡ field_len row (drop (offset_at bytes k) before)
+same_len architecture bytes before now k last row order same has after clear =
+    let o = offset_at bytes k in
+    let field = field_of_row row o now in
+    let lengths : length (drop o before) ≡ length (drop o now) =
+    length-drop o before ∙ (ap (λ n. n - o) (sym same) ∙ sym (length-drop o now)) in
+    elim (cases_Bool (is_of_pair row)) [
+      | inr alone ↦ len_alone row (drop o now) has alone ∙ sym (len_alone row (drop o before) has alone)
+      | inl paired ↦
+          let len = len_paired row (drop o now) has paired in
+          elim (cases_eq field.len 0) [
+            | inl none ↦
+                none ∙ sym (len_paired row (drop o before) has paired
+                ∙ no_bytes (drop o now) (drop o before) (sym len ∙ none) lengths)
+            | inr some ↦ elim (or_cases (eqb field.len 0) (is_clear_of field last) clear) [
+              | inl is ↦ absurd (some (eqb-true field.len 0 is))
+              | inr is ↦ elim (clear_cases field last after is) [
+                | inl far ↦ ap (field_len row) (order.behind o far)
+                | inr joins ↦ absurd (pair_continues_none row last.kind paired joins.continues_is)
+              ]
+            ]
+          ]
+    ]
+
+-- it has no field, or its field is clear of the last
+pub data IsClearField (architecture : Architecture) (bytes before : List ℕ) (k : ℕ)
+    (row : RelocationKindInfo) (field last : Field) : Type 0 where
+  without : field.len ≡ 0
+      → ((other : RelocationKindInfo) → IsField architecture bytes before k other → ⊥)
+      → IsClearField architecture bytes before k row field last
+  having : 0 < field.len → HasField architecture bytes before k row field
+      → is_clear_of field last ≡ true → IsClearField architecture bytes before k row field last
+
+pub clear_field : (architecture : Architecture) (bytes before now : List ℕ) (k : ℕ) (last : Field)
+    (row : RelocationKindInfo) → Ascends architecture bytes before now k last
+    → length now ≡ length before → IsRow architecture (relocation_in bytes k).code (Some row)
+    → has_value row.kind ≡ true → last.offset ≤ offset_at bytes k
+    → clear_in None k (field_of_row row (offset_at bytes k) now) last ≡ true
+    → IsClearField architecture bytes before k row (field_of_row row (offset_at bytes k) now) last
+clear_field architecture bytes before now k last row order same is_row has after clear =
+    let o = offset_at bytes k in
+    let field = field_of_row row o now in
+    let len = same_len architecture bytes before now k last row order same has after clear in
+    elim (cases_eq field.len 0) [
+      | inl none ↦ without none (λ other is_field.
+          let s = is_field.some in
+          let e = ap (λ x. field_len x (drop o before)) (one_info architecture _ row other is_row is_field.is_row) in
+          omega (arith, s, e, len, none))
+      | inr some ↦ elim (or_cases (eqb field.len 0) (is_clear_of field last) clear) [
+        | inl is ↦ absurd (some (eqb-true field.len 0 is))
+        | inr is ↦ having (omega (arith, some)) (record {
+          is_field = record { is_row = is_row; some = omega (arith, some, len) };
+          offset_is = refl;
+          end_is = ap (λ n. o + n) (sym len);
+          kind_is = refl;
+          window_is = λ alone. sym (len_alone row (drop o now) has alone);
+        }) is
+      ]
+    ]
+
+-- ---- where relocations ascend
+
+pub apart_after : (architecture : Architecture) (bytes before now : List ℕ) (k : ℕ)
+    (last field : Field) (row : RelocationKindInfo) → Ascends architecture bytes before now k last
+    → last.offset ≤ offset_at bytes k → offset_at bytes k ≡ field.offset
+    → IsClearField architecture bytes before k row field last
+    → AreApart architecture bytes before (k + 1)
+apart_after architecture bytes before now k last field row order after offset clear =
+    elim clear [
+      | without len none ↦ apart_mark architecture bytes before k none order.apart
+      | having some h is ↦
+          from_in architecture bytes before (k + 1)
+          (apart_more architecture bytes before (λ i. i < k) (λ i. i < k + 1) last k row field (one_below k)
+          (λ i below same. omega (arith, below)) (to_in architecture bytes before k order.apart) order.claimed h
+          (omega (arith, after, offset)) is)
+    ]
+
+claimed_after : (architecture : Architecture) (bytes before now : List ℕ) (k : ℕ)
+    (last field : Field) (row : RelocationKindInfo) → Ascends architecture bytes before now k last
+    → last.offset ≤ offset_at bytes k → offset_at bytes k ≡ field.offset
+    → IsClearField architecture bytes before k row field last
+    → AreClaimed architecture bytes before (λ i. i < k + 1) (next_field field last)
+claimed_after architecture bytes before now k last field row order after offset clear =
+    elim clear [
+      | without len none ↦
+          subst (AreClaimed architecture bytes before (λ i. i < k + 1)) (sym (cond-true (eqb field.len 0) last field (eq-eqb field.len 0 len)))
+          (claimed_mark architecture bytes before k last none order.claimed)
+      | having some h is ↦
+          subst (AreClaimed architecture bytes before (λ i. i < k + 1)) (sym (cond-false (eqb field.len 0) last field (ne_eqb field.len 0 (λ e. omega (arith, e, some)))))
+          (claimed_more architecture bytes before (λ i. i < k) (λ i. i < k + 1) last k row field (one_below k) order.claimed h
+          (omega (arith, after, offset)) is)
+    ]
+
+-- the next field ends at or behind the last
+pub record IsBehind (field last next : Field) : Type 0 where
+  pub end : last.offset + last.len ≤ next.offset + next.len
+  pub own : field.offset + field.len ≤ next.offset + next.len ⊎ (field.len ≡ 0)
+  pub is_one : (next ≡ last) ⊎ ((next ≡ field) × (0 < field.len))
+
+next_is : (architecture : Architecture) (bytes before : List ℕ) (k : ℕ) (last field : Field)
+    (row : RelocationKindInfo) → last.offset ≤ field.offset
+    → IsClearField architecture bytes before k row field last
+    → IsBehind field last (next_field field last)
+next_is architecture bytes before k last field row after clear =
+    elim clear [
+      | without len none ↦
+          subst (IsBehind field last) (sym (cond-true (eqb field.len 0) last field (eq-eqb field.len 0 len)))
+          (record { end = omega arith; own = inr len; is_one = inl refl })
+      | having some h is ↦
+          subst (IsBehind field last) (sym (cond-false (eqb field.len 0) last field (ne_eqb field.len 0 (λ e. omega (arith, e, some)))))
+          (record {
+            end = elim (clear_cases field last after is) [
+              | inl far ↦ omega (arith, far)
+              | inr joins ↦ let o = joins.offset_is in let l = joins.len_is in omega (arith, o, l)
+            ];
+            own = inl (omega arith);
+            is_one = inr (refl, some);
+          })
+    ]
+
+or_first : (x : Bool) → x ≡ false → (x || false) ≡ false
+or_first x is = ap (λ y. y || false) is
+
+-- a row of a pair is written with the other only
+bytes_alone : (size : RelocationSize) (kind : RelocationKind) → takes_size kind size ≡ true
+    → (begins_pair size kind || ends_pair size kind) ≡ false
+bytes_alone (ByteSize n) kinds.Relative takes =
+    or_first (eqb n 0) (not-true (eqb n 0) (and_parts _ (not (eqb n 0)) takes).1)
+bytes_alone (ByteSize n) kinds.PairSubtractionULEB128RiscV takes = no ((and_parts _ false takes).1)
+bytes_alone (ByteSize n) kinds.PairSubtractionULEB128LoongArch takes = no ((and_parts _ false takes).1)
+bytes_alone (ByteSize n) _ takes = refl
+bytes_alone (BitMasking bits insn) _ takes = refl
+
+pub written_alone : (row : RelocationKindInfo) (v : ℤ) (offset : ℕ) (before after : List ℕ)
+    → IsWritten row v offset before after → is_of_pair row ≡ false
+written_alone row v offset before after written =
+    bytes_alone row.size row.kind (takes row written.written.accepted.supported)
+
+-- ---- bytes behind a write
+
+plus_none : (o w : ℕ) → w ≡ 0 → o + w ≡ o
+plus_none o w none = omega (arith, none)
+
+pub unchanged : (o w : ℕ) (now after : List ℕ) → IsLocal o w now after → w ≡ 0 → after ≡ now
+unchanged o w now after local none =
+    sym (take-append-drop o after)
+    ∙ (ap (λ x. x ++ drop o after) local.kept
+    ∙ (ap (λ x. take o now ++ x) (ap (λ n. drop n after) (sym (plus_none o w none)) ∙ (local.behind ∙ ap (λ n. drop n now) (plus_none o w none)))
+    ∙ take-append-drop o now))
+
+split : (o w offset : ℕ) → o + w ≤ offset → offset ≡ o + w + (offset - (o + w))
+split o w offset behind = omega (arith, behind)
+
+drop_behind : (o w offset : ℕ) (now after : List ℕ) → IsLocal o w now after
+    → o + w ≤ offset ⊎ (w ≡ 0) → drop offset after ≡ drop offset now
+drop_behind o w offset now after local window =
+    elim window [
+      | inl behind ↦
+          ap (λ n. drop n after) (split o w offset behind)
+          ∙ (sym (drop-drop (offset - (o + w)) (o + w) after)
+          ∙ (ap (drop (offset - (o + w))) local.behind
+          ∙ (drop-drop (offset - (o + w)) (o + w) now ∙ ap (λ n. drop n now) (sym (split o w offset behind)))))
+      | inr none ↦ ap (drop offset) (unchanged o w now after local none)
+    ]
+
+-- ---- one more relocation
+
+pub ascends_one : (architecture : Architecture) (bytes before now after : List ℕ) (k : ℕ)
+    (last : Field) (row : RelocationKindInfo) (v : ℤ) → Ascends architecture bytes before now k last
+    → IsAscending bytes → k < length bytes / 24 → length now ≡ length before
+    → IsRow architecture (relocation_in bytes k).code (Some row) → has_value row.kind ≡ true
+    → clear_in None k (field_of_row row (offset_at bytes k) now) last ≡ true
+    → IsWritten row v (offset_at bytes k) now after
+    → Ascends architecture bytes before after (k + 1) (next_field (field_of_row row (offset_at bytes k) now) last)
+ascends_one architecture bytes before now after k last row v order ascending there same is_row has clear written =
+    let o = offset_at bytes k in
+    let field = field_of_row row o now in
+    let next = next_field field last in
+    let below = order.ascending k (omega arith) there in
+    let is = clear_field architecture bytes before now k last row order same is_row has below clear in
+    let alone = written_alone row v o now after written in
+    let local = one_local row v o now after written in
+    let len : field.len ≡ window_len row = len_alone row (drop o now) has alone in
+    let behind = next_is architecture bytes before k last field row below is in
+    let inside = local.inside in
+    record {
+      apart = apart_after architecture bytes before now k last field row order below refl is;
+      claimed = claimed_after architecture bytes before now k last field row order below refl is;
+      no_pair = λ i other here is_other.
+          let at : i ≡ k = omega (arith, here) in
+          let one : row ≡ other = one_info architecture _ row other is_row (subst (λ x. IsRow architecture (relocation_in bytes x).code (Some other)) at is_other) in
+          subst (λ x. begins_pair x.size x.kind ≡ false) one (or_parts (begins_pair row.size row.kind) (ends_pair row.size row.kind) alone).0;
+      ascending = λ i from under. elim behind.is_one [
+        | inl is_last ↦ let a = order.ascending i (omega (arith, from)) under in let e = ap (λ f. f.offset) is_last in omega (arith, a, e)
+        | inr is_field ↦ let a = ascending k i (omega (arith, from)) under in let e = ap (λ f. f.offset) (is_field.0) in omega (arith, a, e)
+      ];
+      inside = λ some. elim behind.is_one [
+        | inl is_last ↦ let a = order.inside (let l = ap (λ f. f.len) is_last in omega (arith, some, l)) in
+            let e = ap (λ f. f.offset) is_last in let l = ap (λ f. f.len) is_last in omega (arith, a, e, l)
+        | inr is_field ↦ let e = ap (λ f. f.offset) (is_field.0) in let l = ap (λ f. f.len) (is_field.0) in omega (arith, inside, len, e, l, same)
+      ];
+      behind = λ offset from.
+          let end = behind.end in
+          let window : o + window_len row ≤ offset ⊎ (window_len row ≡ 0) = elim behind.own [
+            | inl own ↦ inl (omega (arith, own, from, len))
+            | inr none ↦ inr (sym len ∙ none)
+          ] in
+          drop_behind o (window_len row) offset now after local window ∙ order.behind offset (omega (arith, end, from));
+    }
+
+-- ---- a relocation without a value
+
+pub no_field : (architecture : Architecture) (addresses : Addresses) (bytes before : List ℕ)
+    (symbols : List Symbol) (k : ℕ) (row : RelocationKindInfo)
+    → IsValue architecture addresses bytes symbols (relocation_in bytes k) (Ok None)
+    → IsField architecture bytes before k row → ⊥
+no_field architecture addresses bytes before symbols k row value is_field =
+    let s = is_field.some in
+    let has = no_value architecture addresses bytes symbols (relocation_in bytes k) row value is_field.is_row in
+    let e : field_len row (drop (offset_at bytes k) before) ≡ 0 = cond-false {A = ℕ} (has_value row.kind) _ 0 has in
+    omega (arith, s, e)
+
+ascends_mark : (architecture : Architecture) (addresses : Addresses) (bytes before now : List ℕ)
+    (symbols : List Symbol) (k : ℕ) (last : Field) → Ascends architecture bytes before now k last
+    → IsValue architecture addresses bytes symbols (relocation_in bytes k) (Ok None)
+    → Ascends architecture bytes before now (k + 1) last
+ascends_mark architecture addresses bytes before now symbols k last order value =
+    let none : (row : RelocationKindInfo) → IsField architecture bytes before k row → ⊥ =
+    λ row is_field. no_field architecture addresses bytes before symbols k row value is_field in
+    record {
+      apart = apart_mark architecture bytes before k none order.apart;
+      claimed = claimed_mark architecture bytes before k last none order.claimed;
+      no_pair = λ i row here is_row.
+          let at : i ≡ k = omega (arith, here) in
+          unvalued_begins_none row.size row.kind
+          (no_value architecture addresses bytes symbols (relocation_in bytes k) row value (subst (λ x. IsRow architecture (relocation_in bytes x).code (Some row)) at is_row));
+      ascending = λ i from under. order.ascending i (omega (arith, from)) under;
+      inside = order.inside;
+      behind = order.behind;
+    }
+
+-- ---- in either order
+
+pub first_order : (limit : Option ℕ) (architecture : Architecture) (bytes before : List ℕ)
+    → IsInOrder limit architecture bytes before before 0 (record { offset = 0; len = 0; kind = kinds.None })
+first_order None architecture bytes before =
+    record {
+      apart = λ i j row other below under. absurd (omega (arith, under));
+      claimed = record {
+        is_last = λ some. absurd (omega (arith, some));
+        others = λ i row seen. absurd (omega (arith, seen));
+      };
+      no_pair = λ i row here. absurd (omega (arith, here));
+      ascending = λ i from under. omega arith;
+      inside = λ some. absurd (omega (arith, some));
+      behind = λ offset from. refl;
+    }
+first_order (Some limit) architecture bytes before = omega arith
+
+pub mark_order : (limit : Option ℕ) (architecture : Architecture) (addresses : Addresses)
+    (bytes before now : List ℕ) (symbols : List Symbol) (k : ℕ) (last : Field)
+    → IsLimit architecture bytes before limit
+    → IsInOrder limit architecture bytes before now k last → k < length bytes / 24
+    → IsValue architecture addresses bytes symbols (relocation_in bytes k) (Ok None)
+    → IsInOrder limit architecture bytes before now (k + 1) last
+mark_order None architecture addresses bytes before now symbols k last is_limit order there value =
+    ascends_mark architecture addresses bytes before now symbols k last order value
+mark_order (Some limit) architecture addresses bytes before now symbols k last is_limit order there value =
+    elim (cases_eq k limit) [
+      | inl same ↦
+          let at = is_limit.1 (omega (arith, same, there)) in
+          absurd (no_field architecture addresses bytes before symbols k at.other value
+          (subst (λ x. IsField architecture bytes before x at.other) (sym same) at.is_other))
+      | inr isnt ↦ omega (arith, order, isnt)
+    ]
+
+fewer_apart : (architecture : Architecture) (bytes before : List ℕ) (k n : ℕ) → k ≤ n
+    → AreApart architecture bytes before n → AreApart architecture bytes before k
+fewer_apart architecture bytes before k n most apart i j row other below under =
+    apart i j row other below (omega (arith, under, most))
+
+pub apart_now : (limit : Option ℕ) (architecture : Architecture) (bytes before now : List ℕ)
+    (k : ℕ) (last : Field) → IsLimit architecture bytes before limit
+    → IsInOrder limit architecture bytes before now k last → AreApart architecture bytes before k
+apart_now None architecture bytes before now k last is_limit order = order.apart
+apart_now (Some limit) architecture bytes before now k last is_limit order =
+    fewer_apart architecture bytes before k limit order (is_limit.0)
+
+pub after_last : (limit : Option ℕ) (architecture : Architecture) (bytes before now : List ℕ)
+    (k : ℕ) (last : Field) → IsInOrder limit architecture bytes before now k last
+    → k < length bytes / 24 → IfNone limit (last.offset ≤ offset_at bytes k)
+after_last None architecture bytes before now k last order there = order.ascending k (omega arith) there
+after_last (Some limit) architecture bytes before now k last order there = tt
+
+not_limit : (k limit : ℕ) → not (eqb k limit) ≡ true → k ≡ limit → ⊥
+not_limit k limit clear = eqb-false k limit (not-true (eqb k limit) clear)
+
+pub apart_next : (limit : Option ℕ) (architecture : Architecture) (bytes before now : List ℕ)
+    (k : ℕ) (last : Field) (row : RelocationKindInfo) → IsLimit architecture bytes before limit
+    → IsInOrder limit architecture bytes before now k last → k < length bytes / 24
+    → length now ≡ length before → IsRow architecture (relocation_in bytes k).code (Some row)
+    → has_value row.kind ≡ true
+    → clear_in limit k (field_of_row row (offset_at bytes k) now) last ≡ true
+    → AreApart architecture bytes before (k + 1)
+apart_next None architecture bytes before now k last row is_limit order there same is_row has clear =
+    let below = order.ascending k (omega arith) there in
+    apart_after architecture bytes before now k last (field_of_row row (offset_at bytes k) now) row order below refl
+    (clear_field architecture bytes before now k last row order same is_row has below clear)
+apart_next (Some limit) architecture bytes before now k last row is_limit order there same is_row has clear =
+    let isnt = not_limit k limit clear in
+    fewer_apart architecture bytes before (k + 1) limit (omega (arith, order, isnt)) (is_limit.0)
+
+pub one_order : (limit : Option ℕ) (architecture : Architecture) (bytes before now after : List ℕ)
+    (k : ℕ) (last : Field) (row : RelocationKindInfo) (v : ℤ)
+    → IsLimit architecture bytes before limit
+    → IsInOrder limit architecture bytes before now k last → k < length bytes / 24
+    → length now ≡ length before → IsRow architecture (relocation_in bytes k).code (Some row)
+    → has_value row.kind ≡ true
+    → clear_in limit k (field_of_row row (offset_at bytes k) now) last ≡ true
+    → IsWritten row v (offset_at bytes k) now after
+    → IsInOrder limit architecture bytes before after (k + 1) (next_field (field_of_row row (offset_at bytes k) now) last)
+one_order None architecture bytes before now after k last row v is_limit order there same is_row has clear written =
+    ascends_one architecture bytes before now after k last row v order is_limit there same is_row has clear written
+one_order (Some limit) architecture bytes before now after k last row v is_limit order there same is_row has clear written =
+    let isnt = not_limit k limit clear in omega (arith, order, isnt)
+
+-- the field isn't clear
+some_before : (architecture : Architecture) (bytes before now : List ℕ) (k : ℕ)
+    (row : RelocationKindInfo) → length now ≡ length before → has_value row.kind ≡ true
+    → field_len row (drop (offset_at bytes k) now) ≢ 0
+    → 0 < field_len row (drop (offset_at bytes k) before)
+some_before architecture bytes before now k row same has some =
+    let o = offset_at bytes k in
+    elim (cases_Bool (is_of_pair row)) [
+      | inr alone ↦
+          let a = len_alone row (drop o now) has alone in let b = len_alone row (drop o before) has alone in
+          omega (arith, some, a, b)
+      | inl paired ↦
+          let a = len_paired row (drop o now) has paired in let b = len_paired row (drop o before) has paired in
+          elim (cases_eq (uleb_len (take 10 (drop o before))) 0) [
+            | inl none ↦ absurd (some (a ∙ no_bytes (drop o before) (drop o now) none
+                (length-drop o now ∙ (ap (λ n. n - o) same ∙ sym (length-drop o before)))))
+            | inr is ↦ omega (arith, b, is)
+          ]
+    ]
+
+pub overlap_now : (limit : Option ℕ) (architecture : Architecture) (bytes before now : List ℕ)
+    (k : ℕ) (last : Field) (row : RelocationKindInfo) → IsLimit architecture bytes before limit
+    → IsInOrder limit architecture bytes before now k last → k < length bytes / 24
+    → length now ≡ length before → IsRow architecture (relocation_in bytes k).code (Some row)
+    → has_value row.kind ≡ true
+    → clear_in limit k (field_of_row row (offset_at bytes k) now) last ≡ false
+    → IsOverlapped architecture bytes before k
+overlap_now None architecture bytes before now k last row is_limit order there same is_row has clear =
+    let o = offset_at bytes k in
+    let field = field_of_row row o now in
+    let parts = or_parts (eqb field.len 0) (is_clear_of field last) clear in
+    let some = eqb-false field.len 0 (parts.0) in
+    let is_field : IsField architecture bytes before k row =
+    record { is_row = is_row; some = some_before architecture bytes before now k row same has some } in
+    let found = overlapped architecture bytes before (λ i. i < k) last k row field order.claimed is_field refl refl
+    (λ alone. sym (len_alone row (drop o now) has alone)) (order.ascending k (omega arith) there) (parts.1) in
+    let at = found.0 in
+    record {
+      earlier = at.index;
+      order = at.seen;
+      row = at.row;
+      is_field = at.is_field;
+      other = row;
+      is_other = is_field;
+      overlap = found.1;
+      apart = found.2 (λ begins next ends. true≢false (sym begins ∙ order.no_pair at.index at.row next at.is_field.is_row));
+    }
+overlap_now (Some limit) architecture bytes before now k last row is_limit order there same is_row has clear =
+    let is = eqb-true k limit (not-false (eqb k limit) clear) in
+    subst (IsOverlapped architecture bytes before) (sym is) (is_limit.1 (omega (arith, is, there)))
+
+-- ---- bytes put back
+
+place_of_mark : (row : Option RelocationKindInfo) (offset : ℕ)
+    → ((other : RelocationKindInfo) → row ≡ Some other → has_value other.kind ≡ false)
+    → saved_place row offset ≡ offset
+place_of_mark None offset none = refl
+place_of_mark (Some row) offset none =
+    cond-false (ends_pair row.size row.kind) (sum_64 offset 8) offset
+    (unvalued_ends_none row.size row.kind (none row refl))
+
+pub mark_restores : (architecture : Architecture) (addresses : Addresses)
+    (bytes memory before now : List ℕ) (symbols : List Symbol) (k word : ℕ) → k < length memory
+    → IsValue architecture addresses bytes symbols (relocation_in bytes k) (Ok None)
+    → IsSavedAt (offset_at bytes k) now word → Restores architecture bytes memory k now before
+    → Restores architecture bytes (set memory k word) (k + 1) now before
+mark_restores architecture addresses bytes memory before now symbols k word room value saved restores =
+    let o = offset_at bytes k in
+    let row = value.0 in
+    subst (λ n. Restores architecture bytes (set memory k word) n now before) (plus_one k)
+    (restores_more architecture bytes memory k word now now before row room (value.1)
+    (ap (λ p. with_word p word now)
+    (place_of_mark row o (λ other is. no_value architecture addresses bytes symbols (relocation_in bytes k) other value
+    (subst (λ x. IsRow architecture (relocation_in bytes k).code x) is (value.1))))
+    ∙ undone o word now now refl refl refl saved) restores)
+
+pub one_restores : (architecture : Architecture) (bytes memory before now after : List ℕ)
+    (k word : ℕ) (row : RelocationKindInfo) (v : ℤ) → k < length memory
+    → IsRow architecture (relocation_in bytes k).code (Some row)
+    → IsWritten row v (offset_at bytes k) now after → IsSavedAt (offset_at bytes k) now word
+    → Restores architecture bytes memory k now before
+    → Restores architecture bytes (set memory k word) (k + 1) after before
+one_restores architecture bytes memory before now after k word row v room is_row written saved restores =
+    let o = offset_at bytes k in
+    let local = one_local row v o now after written in
+    let small = small_row row v (drop o now) written.rest written.written in
+    restores_local architecture bytes memory k word now after before row room is_row
+    (or_parts (begins_pair row.size row.kind) (ends_pair row.size row.kind) (written_alone row v o now after written)).1
+    local.kept (drop_behind o (window_len row) (o + 8) now after local (inl (omega (arith, small)))) local.same_length saved restores
+
+-- what is kept of relocations below an index stays
+pub stop : (architecture : Architecture) (addresses : Addresses) (bytes before now memory other : List ℕ)
+    (symbols : List Symbol) (k : ℕ) (error : SectionError) → k ≤ length bytes / 24
+    → ((i : ℕ) → i < k → slice_index other i ≡ slice_index memory i)
+    → Restores architecture bytes memory k now before
+    → IsFirstRejected architecture addresses bytes symbols before error
+    → IsStopped architecture addresses bytes symbols before now other (record { count = k; error = error })
+stop architecture addresses bytes before now memory other symbols k error within same restores rejected =
+    record {
+      within = within;
+      restores = restores_by architecture bytes memory other k now before same restores;
+      rejected = rejected;
+    }
+
+pub set_above : (memory : List ℕ) (k n word : ℕ) → k ≤ n
+    → (i : ℕ) → i < k → slice_index (set memory n word) i ≡ slice_index memory i
+set_above memory k n word most i below =
+    get_or-set_other memory n i word 0 (λ same. omega (arith, same, below, most))
+
+-- ---- a pair
+
+-- the second's field is the first's
+record SamePlace (architecture : Architecture) (bytes before : List ℕ) (k : ℕ)
+    (row other : RelocationKindInfo) : Type 0 where
+  pub len_is : field_len other (drop (offset_at bytes (k + 1)) before)
+      ≡ field_len row (drop (offset_at bytes k) before)
+  pub end_is : field_end bytes before (k + 1) other ≡ field_end bytes before k row
+
+same_place : (architecture : Architecture) (bytes before : List ℕ) (k : ℕ)
+    (row other : RelocationKindInfo) → offset_at bytes (k + 1) ≡ offset_at bytes k
+    → has_value row.kind ≡ true → begins_pair row.size row.kind ≡ true
+    → ends_pair other.size other.kind ≡ true
+    → SamePlace architecture bytes before k row other
+same_place architecture bytes before k row other same has begins ends =
+    let o = offset_at bytes k in
+    let len : field_len other (drop (offset_at bytes (k + 1)) before) ≡ field_len row (drop o before) =
+    ap (λ x. field_len other (drop x before)) same
+    ∙ (len_paired other (drop o before) (ended_has_value other.size other.kind ends)
+    (or_right (begins_pair other.size other.kind) (ends_pair other.size other.kind) ends)
+    ∙ sym (len_paired row (drop o before) has (or_left (begins_pair row.size row.kind) (ends_pair row.size row.kind) begins))) in
+    record { len_is = len; end_is = omega (arith, len, same) }
+
+ascends_pair : (architecture : Architecture) (addresses : Addresses) (bytes before now after : List ℕ)
+    (symbols : List Symbol) (k : ℕ) (last : Field) (row : RelocationKindInfo)
+    → Ascends architecture bytes before now k last
+    → IsAscending bytes → k < length bytes / 24 → length now ≡ length before
+    → IsRow architecture (relocation_in bytes k).code (Some row) → has_value row.kind ≡ true
+    → clear_in None k (field_of_row row (offset_at bytes k) now) last ≡ true
+    → (pair : BeginsPair architecture bytes k)
+    → IsPairWritten architecture addresses bytes symbols (relocation_in bytes k) (relocation_in bytes (k + 1)) now after
+    → Ascends architecture bytes before after (k + 2) (next_field (field_of_row row (offset_at bytes k) now) last)
+ascends_pair architecture addresses bytes before now after symbols k last row order ascending there same is_row has clear pair written =
+    let o = offset_at bytes k in
+    let field = field_of_row row o now in
+    let below = order.ascending k (omega arith) there in
+    let is = clear_field architecture bytes before now k last row order same is_row has below clear in
+    let begins = subst (λ x. begins_pair x.size x.kind ≡ true) (one_info architecture _ pair.row row pair.is_row is_row) pair.begins in
+    let local = pair_local architecture addresses bytes symbols (relocation_in bytes k) (relocation_in bytes (k + 1)) now after written in
+    let len : field.len ≡ uleb_len (take 10 (drop o now)) = len_paired row (drop o now) has (or_left (begins_pair row.size row.kind) (ends_pair row.size row.kind) begins) in
+    let number = uleb_len_is (drop o now) written.written.old written.written.rest written.written.was in
+    let inside = local.inside in
+    elim is [
+      | without none not_one ↦ absurd (omega (arith, none, len, number))
+      | having some h clear ↦
+          let place = same_place architecture bytes before k row pair.other pair.same_offset has begins pair.ends in
+          let own = h.is_field.some in
+          let second : IsField architecture bytes before (k + 1) pair.other =
+          let l = place.len_is in record { is_row = pair.is_other; some = omega (arith, own, l) } in
+          let apart = apart_more architecture bytes before (λ i. i < k) (λ i. i < k + 1) last k row field (one_below k)
+          (λ i below same. omega (arith, below)) (to_in architecture bytes before k order.apart) order.claimed h below clear in
+          let claimed = claimed_more architecture bytes before (λ i. i < k) (λ i. i < k + 1) last k row field (one_below k) order.claimed h below clear in
+          subst (Ascends architecture bytes before after (k + 2)) (sym (cond-false (eqb field.len 0) last field (ne_eqb field.len 0 (λ e. omega (arith, e, some)))))
+          (record {
+            apart = from_in architecture bytes before (k + 2)
+                (apart_pair architecture bytes before k row pair.other field apart claimed h begins second pair.same_offset place.end_is pair.ends);
+            claimed = claimed_pair architecture bytes before k row pair.other field claimed h begins pair.same_offset second place.end_is;
+            no_pair = λ i other here is_other.
+                let at : i ≡ k + 1 = omega (arith, here) in
+                let one : pair.other ≡ other = one_info architecture _ pair.other other pair.is_other (subst (λ x. IsRow architecture (relocation_in bytes x).code (Some other)) at is_other) in
+                subst (λ x. begins_pair x.size x.kind ≡ false) one (ended_begins_none pair.other.size pair.other.kind pair.ends);
+            ascending = λ i from under. ascending k i (omega (arith, from)) under;
+            inside = λ some. omega (arith, inside, len, same);
+            behind = λ offset from. drop_behind o (uleb_len (take 10 (drop o now))) offset now after local (inl (omega (arith, from, len)))
+                ∙ order.behind offset (elim (clear_cases field last below clear) [
+                  | inl far ↦ omega (arith, far, from)
+                  | inr joins ↦ let j = joins.offset_is in let l = joins.len_is in omega (arith, j, l, from)
+                ]);
+          })
+    ]
+
+-- the second isn't the first that overlaps, since its field is the first's
+limit_pair : (architecture : Architecture) (bytes before : List ℕ) (k : ℕ)
+    (row : RelocationKindInfo) → IsRow architecture (relocation_in bytes k).code (Some row)
+    → has_value row.kind ≡ true → AreApart architecture bytes before (k + 1)
+    → BeginsPair architecture bytes k → IsOverlapped architecture bytes before (k + 1) → ⊥
+limit_pair architecture bytes before k row is_row has apart pair at =
+    let begins = subst (λ x. begins_pair x.size x.kind ≡ true) (one_info architecture _ pair.row row pair.is_row is_row) pair.begins in
+    let same : pair.other ≡ at.other = one_info architecture _ pair.other at.other pair.is_other at.is_other.is_row in
+    let ends = subst (λ x. ends_pair x.size x.kind ≡ true) same pair.ends in
+    let place = same_place architecture bytes before k row at.other pair.same_offset has begins ends in
+    let order = at.order in
+    let some = at.is_other.some in
+    let l = place.len_is in let e = place.end_is in let s = pair.same_offset in
+    let overlap_0 = at.overlap.0 in let overlap_1 = at.overlap.1 in
+    let first : IsField architecture bytes before k row = record { is_row = is_row; some = omega (arith, some, l) } in
+    elim (cases_eq at.earlier k) [
+      | inl is ↦
+          let one : row ≡ at.row = one_info architecture _ row at.row is_row (subst (λ x. IsField architecture bytes before x at.row) is at.is_field).is_row in
+          at.apart (of_pair (ap (offset_at bytes) is ∙ sym pair.same_offset) (ap (λ x. x + 1) (sym is))
+          (subst (λ x. begins_pair x.size x.kind ≡ true) one begins) ends)
+      | inr isnt ↦ elim (apart at.earlier k at.row row (omega (arith, order, isnt)) (omega arith) at.is_field first
+          ((omega (arith, overlap_0, e)), (omega (arith, overlap_1, s)))) [
+            | of_number offset window on ↦ true≢false (sym on ∙ begun_is_continued_none row.size row.kind at.row.kind begins)
+            | of_pair offset after begun ended ↦ true≢false (sym ended ∙ begun_ends_none row.size row.kind begins)
+          ]
+    ]
+
+pub pair_order : (limit : Option ℕ) (architecture : Architecture) (addresses : Addresses)
+    (bytes before now after : List ℕ) (symbols : List Symbol) (k : ℕ) (last : Field)
+    (row : RelocationKindInfo) → IsLimit architecture bytes before limit
+    → IsInOrder limit architecture bytes before now k last → k < length bytes / 24
+    → length now ≡ length before → IsRow architecture (relocation_in bytes k).code (Some row)
+    → has_value row.kind ≡ true
+    → clear_in limit k (field_of_row row (offset_at bytes k) now) last ≡ true
+    → BeginsPair architecture bytes k
+    → IsPairWritten architecture addresses bytes symbols (relocation_in bytes k) (relocation_in bytes (k + 1)) now after
+    → IsInOrder limit architecture bytes before after (k + 2) (next_field (field_of_row row (offset_at bytes k) now) last)
+pair_order None architecture addresses bytes before now after symbols k last row is_limit order there same is_row has clear pair written =
+    ascends_pair architecture addresses bytes before now after symbols k last row order is_limit there same is_row has clear pair written
+pair_order (Some limit) architecture addresses bytes before now after symbols k last row is_limit order there same is_row has clear pair written =
+    let isnt = not_limit k limit clear in
+    elim (cases_eq limit (k + 1)) [
+      | inl is ↦
+          let under = pair.within in
+          absurd (limit_pair architecture bytes before k row is_row has (subst (AreApart architecture bytes before) is (is_limit.0)) pair
+          (subst (IsOverlapped architecture bytes before) is (is_limit.1 (omega (arith, is, under)))))
+      | inr far ↦ omega (arith, order, isnt, far)
+    ]
+
+pub pair_restores : (architecture : Architecture) (addresses : Addresses)
+    (bytes memory before now after : List ℕ) (symbols : List Symbol) (k word next : ℕ)
+    (row : RelocationKindInfo) → k + 1 < length memory → length now < 2 ^ 63
+    → IsRow architecture (relocation_in bytes k).code (Some row)
+    → BeginsPair architecture bytes k
+    → IsPairWritten architecture addresses bytes symbols (relocation_in bytes k) (relocation_in bytes (k + 1)) now after
+    → IsSavedAt (offset_at bytes k) now word → IsSavedAt (sum_64 (offset_at bytes k) 8) now next
+    → Restores architecture bytes memory k now before
+    → Restores architecture bytes (set (set memory k word) (k + 1) next) (k + 2) after before
+pair_restores architecture addresses bytes memory before now after symbols k word next row room short is_row pair written saved saved_next restores =
+    let o = offset_at bytes k in
+    let inside = written.inside in
+    let small : sum_64 o 8 ≡ o + 8 = mod-eq_of_lt (omega (arith, inside, short)) in
+    let begins = subst (λ x. begins_pair x.size x.kind ≡ true) (one_info architecture _ pair.row row pair.is_row is_row) pair.begins in
+    let local = pair_local architecture addresses bytes symbols (relocation_in bytes k) (relocation_in bytes (k + 1)) now after written in
+    let most = uleb_len_most 10 (drop o now) in
+    restores_pair architecture bytes memory k word next now after before row pair.other room is_row
+    (begun_ends_none row.size row.kind begins) pair.is_other pair.ends pair.same_offset small local.kept
+    (drop_behind o (uleb_len (take 10 (drop o now))) (o + 16) now after local (inl (omega (arith, most))))
+    local.same_length saved (subst (λ p. IsSavedAt p now next) small saved_next) restores

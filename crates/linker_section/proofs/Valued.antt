@@ -1,0 +1,148 @@
+-- Which relocations have a value.
+use Rattle.std.proofs.Common.{◌≡◌, ℕ, ℤ, List, Bool, true, false, true≢false, refl, sym, subst, ◌∙◌, inl, inr, Option, Some, None, Result, Ok, Err}
+use Rattle.std.proofs.lemmas.Bool.{cases_Bool, cond-true, cond-false}
+use Rattle.linker_elf.specs.Value.{formula, value_of, read_signed}
+use Rattle.linker_elf.specs.declared.elf.RelocationKind.{RelocationKind}
+use Rattle.linker_elf.specs.declared.elf.RelocationKind.TheVariants as kinds
+use Rattle.linker_elf.specs.declared.elf.RelocationKindInfo.{RelocationKindInfo}
+use Rattle.linker_elf.specs.declared.elf.RelocationSize.{RelocationSize}
+use Rattle.linker_elf.specs.declared.elf.value.Operands.{Operands}
+use Rattle.linker_section.proofs.Rows.{one_row}
+use Rattle.linker_section.specs.Sections.{HasValue}
+use Rattle.linker_section.specs.Values.{has_value, names_label, own_value, value_by, low_by, low_value, operands_of, IsValueBy, IsLowValue, IsValueIn, IsValue}
+use Rattle.linker_section.specs.declared.facts.Addresses.{Addresses}
+use Rattle.linker_section.specs.declared.facts.Symbol.{Symbol}
+use Rattle.linker_section.specs.declared.relocations.Rela.{Rela}
+use Rattle.linker_section.specs.declared.values.ValueError.{ValueError}
+use Rattle.std.specs.Prelude.{slice_get}
+use Rattle.linker_utils.specs.Architectures.{IsRow}
+use Rattle.linker_utils.specs.declared.elf.Architecture.{Architecture}
+
+-- ---- what a result is
+
+abbrev IsNoValue : Result (Option ℤ) ValueError → Type 0
+IsNoValue (Ok None) = Unit
+IsNoValue (Ok (Some v)) = ⊥
+IsNoValue (Err error) = ⊥
+
+abbrev IsSomeValue : Result (Option ℤ) ValueError → Type 0
+IsSomeValue (Ok None) = ⊥
+IsSomeValue (Ok (Some v)) = Unit
+IsSomeValue (Err error) = ⊥
+
+abbrev pub IsSomeRow : Option RelocationKindInfo → Type 0
+IsSomeRow None = ⊥
+IsSomeRow (Some row) = Unit
+
+pub none_is_some : {row : RelocationKindInfo} {A : Type 0} → None ≡ Some row → A
+none_is_some same = absurd (subst (λ x. IsSomeRow x) (sym same) tt)
+
+-- ---- no value
+
+read_none : (kind : RelocationKind) (n : Option ℕ) → (n ≡ None → has_value kind ≡ false)
+    → IsNoValue (Ok (read_signed n)) → has_value kind ≡ false
+read_none kind None none is = none refl
+read_none kind (Some n) none is = absurd is
+
+abbrev IsSomeNumber : Option ℕ → Type 0
+IsSomeNumber None = ⊥
+IsSomeNumber (Some n) = Unit
+
+formula_some : (kind : RelocationKind) (row : RelocationKindInfo) (o : Operands)
+    → has_value kind ≡ true → IsSomeNumber (formula kind row o)
+formula_some kinds.None row o has = absurd (true≢false (sym has))
+formula_some kinds.Alignment row o has = absurd (true≢false (sym has))
+formula_some kinds.TlsDescCall row o has = absurd (true≢false (sym has))
+formula_some _ row o has = tt
+
+value_none : (row : RelocationKindInfo) (o : Operands) → IsNoValue (Ok (value_of row o))
+    → has_value row.kind ≡ false
+value_none row o is =
+    read_none row.kind (formula row.kind row o)
+    (λ none. elim (cases_Bool (has_value row.kind)) [
+      | inl has ↦ absurd (subst (λ x. IsSomeNumber x) none (formula_some row.kind row o has))
+      | inr has ↦ has
+    ]) is
+
+by_none : (row : RelocationKindInfo) (operands : Result Operands ValueError)
+    → IsNoValue (value_by row operands) → has_value row.kind ≡ false
+by_none row (Ok o) is = value_none row o is
+by_none row (Err error) is = absurd is
+
+low_by_none : (row high : RelocationKindInfo) (operands : Result Operands ValueError)
+    → IsNoValue (low_by row high operands) → has_value row.kind ≡ false
+low_by_none row high (Ok o) is = value_none row _ is
+low_by_none row high (Err error) is = absurd is
+
+low_none : (architecture : Architecture) (addresses : Addresses) (symbols : List Symbol)
+    (row : RelocationKindInfo) (high : Option (Rela × RelocationKindInfo))
+    → IsNoValue (low_value architecture addresses symbols row high) → has_value row.kind ≡ false
+low_none architecture addresses symbols row None is = absurd is
+low_none architecture addresses symbols row (Some high) is = low_by_none row (high.1) _ is
+
+is_low_none : (architecture : Architecture) (addresses : Addresses) (bytes : List ℕ)
+    (symbols : List Symbol) (row : RelocationKindInfo) (label : Option Symbol)
+    → IsLowValue architecture addresses bytes symbols row label (Ok None)
+    → has_value row.kind ≡ false
+is_low_none architecture addresses bytes symbols row None is =
+    absurd (subst (λ x. IsNoValue x) is tt)
+is_low_none architecture addresses bytes symbols row (Some label) is =
+    low_none architecture addresses symbols row (is.0) (subst (λ x. IsNoValue x) (is.2) tt)
+
+own_none : (architecture : Architecture) (addresses : Addresses) (symbols : List Symbol)
+    (row : RelocationKindInfo) (r : Rela) → Ok None ≡ own_value architecture addresses symbols row r
+    → has_value row.kind ≡ false
+own_none architecture addresses symbols row r is =
+    elim (cases_Bool (has_value row.kind)) [
+      | inl has ↦ by_none row (operands_of architecture addresses symbols row r)
+          (subst (λ x. IsNoValue x) (is ∙ cond-true (has_value row.kind) _ _ has) tt)
+      | inr has ↦ has
+    ]
+
+by_label_none : (label : Bool) (architecture : Architecture) (addresses : Addresses)
+    (bytes : List ℕ) (symbols : List Symbol) (row : RelocationKindInfo) (r : Rela)
+    → IsValueBy label architecture addresses bytes symbols row r (Ok None)
+    → has_value row.kind ≡ false
+by_label_none true architecture addresses bytes symbols row r is =
+    is_low_none architecture addresses bytes symbols row (slice_get symbols r.symbol) is
+by_label_none false architecture addresses bytes symbols row r is =
+    own_none architecture addresses symbols row r is
+
+in_none : (architecture : Architecture) (addresses : Addresses) (bytes : List ℕ)
+    (symbols : List Symbol) (r : Rela) (row : Option RelocationKindInfo) (other : RelocationKindInfo)
+    → row ≡ Some other → IsValueIn architecture addresses bytes symbols r row (Ok None)
+    → has_value other.kind ≡ false
+in_none architecture addresses bytes symbols r row other same is =
+    by_label_none (names_label other.size other.kind) architecture addresses bytes symbols other r
+    (subst (λ x. IsValueIn architecture addresses bytes symbols r x (Ok None)) same is)
+
+-- a relocation without a value is of a kind without one
+pub no_value : (architecture : Architecture) (addresses : Addresses) (bytes : List ℕ)
+    (symbols : List Symbol) (r : Rela) (other : RelocationKindInfo)
+    → IsValue architecture addresses bytes symbols r (Ok None)
+    → IsRow architecture r.code (Some other) → has_value other.kind ≡ false
+no_value architecture addresses bytes symbols r other is is_other =
+    in_none architecture addresses bytes symbols r (is.0) other
+    (one_row architecture r.code (is.0) (Some other) (is.1) is_other) (is.2)
+
+-- ---- a value
+
+unlabelled : (size : RelocationSize) (kind : RelocationKind) → has_value kind ≡ false
+    → names_label size kind ≡ false
+unlabelled size kinds.None has = refl
+unlabelled size kinds.Alignment has = refl
+unlabelled size kinds.TlsDescCall has = refl
+unlabelled size _ has = absurd (true≢false has)
+
+pub some_value : (architecture : Architecture) (addresses : Addresses) (bytes : List ℕ)
+    (symbols : List Symbol) (r : Rela) (row : RelocationKindInfo) (v : ℤ)
+    → HasValue architecture addresses bytes symbols r row v → has_value row.kind ≡ true
+some_value architecture addresses bytes symbols r row v has =
+    elim (cases_Bool (has_value row.kind)) [
+      | inl is ↦ is
+      | inr isnt ↦
+          let own : Ok (Some v) ≡ own_value architecture addresses symbols row r =
+          subst (λ label. IsValueBy label architecture addresses bytes symbols row r (Ok (Some v)))
+          (unlabelled row.size row.kind isnt) has.is_value in
+          absurd (subst (λ x. IsSomeValue x) (own ∙ cond-false (has_value row.kind) _ _ isnt) tt)
+    ]

@@ -1,0 +1,104 @@
+use Rattle.std.proofs.Common.{◌≡◌, ◌+◌, ◌≤◌, ◌++◌, ◌∙◌, ℕ, ℤ, List, length, take, refl, sym, ap, subst, true, true≢false, inr, drop, rules, FitsSigned, to_z, of_z, Ok, None}
+use Rattle.linker_elf.specs.declared.elf.RelocationKindInfo.{RelocationKindInfo}
+use Rattle.linker_section.specs.Fields.{begins_pair, ends_pair}
+use Rattle.linker_section.specs.Relocations.{relocation_in}
+use Rattle.std.specs.Int.{w64}
+use Rattle.std.proofs.lemmas.Int.{to_z-of_z}
+use Rattle.linker_base.specs.Uleb.{IsUlebWritten, IsUlebCause}
+use Rattle.linker_section.specs.Sections.{IsRowValue, IsPair, IsPairNumber, IsNumberWrittenAt, HasValue, BeginsPair}
+use Rattle.linker_section.specs.declared.facts.Addresses.{Addresses}
+use Rattle.linker_section.specs.declared.facts.Symbol.{Symbol}
+use Rattle.linker_section.specs.declared.relocations.Rela.{Rela}
+use Rattle.linker_utils.specs.declared.elf.Architecture.{Architecture}
+use Rattle.linker_section.proofs.Composing.{ended_has_value}
+use Rattle.linker_section.proofs.Rows.{one_info}
+use Rattle.linker_section.proofs.Valued.{no_value}
+use Rattle.linker_section.proofs.sections.relocate_pair.Goals as goal
+
+pub returns-in-Ok-None : goal.returns-in-Ok-None
+returns-in-Ok-None c =
+    let a = c.args in
+    let pair = c.requires.pair in
+    let none = subst (λ result. IsRowValue a.architecture a.addresses.now a.relocations.now a.symbols.now a.second.now result) (c.in-Ok-None.is ∙ ap Ok c.in-Ok-None.field-0-is) c.row_value.ensures in
+    absurd (true≢false (sym (ended_has_value pair.other.size pair.other.kind pair.ends)
+    ∙ no_value a.architecture a.addresses.now a.relocations.now a.symbols.now (relocation_in a.relocations.now (a.index + 1)) pair.other
+    (subst (λ r. IsRowValue a.architecture a.addresses.now a.relocations.now a.symbols.now r (Ok None)) c.requires.second none) pair.is_other))
+
+-- what makes a pair of the two relocations
+pub pair_is : (architecture : Architecture) (addresses : Addresses) (bytes : List ℕ)
+    (symbols : List Symbol) (i : ℕ) (second : Rela) (there : List ℕ) (value subtracted : ℤ)
+    (other : RelocationKindInfo) (number : ℕ) → BeginsPair architecture bytes i
+    → second ≡ relocation_in bytes (i + 1)
+    → (row : RelocationKindInfo) × HasValue architecture addresses bytes symbols (relocation_in bytes i) row value
+    → HasValue architecture addresses bytes symbols second other subtracted
+    → IsPairNumber other.kind there value subtracted number
+    → IsPair architecture addresses bytes symbols (relocation_in bytes i) (relocation_in bytes (i + 1)) there number
+pair_is architecture addresses bytes symbols i second there value subtracted other number pair is first has_other numbered =
+    let has_subtracted = subst (λ r. HasValue architecture addresses bytes symbols r other subtracted) is has_other in
+    let same : pair.row ≡ first.0 = one_info architecture _ pair.row (first.0) pair.is_row (first.1).is_row in
+    let same_other : pair.other ≡ other = one_info architecture _ pair.other other pair.is_other has_subtracted.is_row in
+    record {
+      same_offset = pair.same_offset;
+      row = first.0;
+      value = value;
+      has_value = first.1;
+      begins = subst (λ x. begins_pair x.size x.kind ≡ true) same pair.begins;
+      other = other;
+      subtracted = subtracted;
+      has_subtracted = has_subtracted;
+      ends = subst (λ x. ends_pair x.size x.kind ≡ true) same_other pair.ends;
+      is_number = numbered;
+    }
+
+-- the number of the pair, over what is there
+pub returns-in-Ok : goal.returns-in-Ok
+returns-in-Ok c =
+    let a = c.args in
+    let n = c.number_of_pair-number.result in
+    let found = c.in-Ok-Some.found in
+    let first = relocation_in a.relocations.now a.index in
+    let written = subst (IsNumberWrittenAt n a.second.now.offset a.section.now c.write_number_at.new.section) c.in-Ok.is c.write_number_at.ensures in
+    let offset : a.second.now.offset ≡ first.offset = ap (λ r. r.offset) c.requires.second ∙ c.requires.pair.same_offset in
+    let has_other = subst (IsRowValue a.architecture a.addresses.now a.relocations.now a.symbols.now a.second.now) (c.in-Ok-Some.is ∙ ap Ok c.in-Ok-Some.field-0-is) c.row_value.ensures in
+    let kind : IsPairNumber found.0.kind (drop a.second.now.offset a.section.now) (to_z w64 (of_z w64 a.value)) (to_z w64 (of_z w64 (found.1))) n =
+    subst (λ k. IsPairNumber k (drop a.second.now.offset a.section.now) (to_z w64 (of_z w64 a.value)) (to_z w64 (of_z w64 (found.1))) n) c.kind.ensures c.number_of_pair-number.ensures in
+    let fits : FitsSigned w64 (found.1) = search rules in
+    let numbered = subst (λ v. IsPairNumber found.0.kind (drop a.second.now.offset a.section.now) v (found.1) n) (to_z-of_z w64 a.value c.ranges.value)
+    (subst (λ w. IsPairNumber found.0.kind (drop a.second.now.offset a.section.now) (to_z w64 (of_z w64 a.value)) w n) (to_z-of_z w64 (found.1) fits) kind) in
+    record {
+      inside = subst (λ o. o ≤ length a.section.now) offset (written.0);
+      number = n;
+      pair = pair_is a.architecture a.addresses.now a.relocations.now a.symbols.now a.index a.second.now _ a.value _ _ n c.requires.pair c.requires.second c.requires.value has_other
+          (subst (λ o. IsPairNumber found.0.kind (drop o a.section.now) a.value (found.1) n) offset numbered);
+      rest = written.1;
+      around = written.2 ∙ ap (λ o. take o a.section.now ++ written.1) offset;
+      written = subst (λ o. IsUlebWritten (drop o a.section.now) n (written.1)) offset (written.3);
+    }
+
+pub returns-in-Err-write_number_at : goal.returns-in-Err-write_number_at
+returns-in-Err-write_number_at c =
+    let a = c.args in
+    let n = c.number_of_pair-number.result in
+    let found = c.in-Ok-Some.found in
+    let why = c.in-Err-write_number_at.error in
+    let first = relocation_in a.relocations.now a.index in
+    let written = subst (IsNumberWrittenAt n a.second.now.offset a.section.now c.write_number_at.new.section) c.in-Err-write_number_at.is c.write_number_at.ensures in
+    let offset : a.second.now.offset ≡ first.offset = ap (λ r. r.offset) c.requires.second ∙ c.requires.pair.same_offset in
+    let has_other = subst (IsRowValue a.architecture a.addresses.now a.relocations.now a.symbols.now a.second.now) (c.in-Ok-Some.is ∙ ap Ok c.in-Ok-Some.field-0-is) c.row_value.ensures in
+    let kind : IsPairNumber found.0.kind (drop a.second.now.offset a.section.now) (to_z w64 (of_z w64 a.value)) (to_z w64 (of_z w64 (found.1))) n =
+    subst (λ k. IsPairNumber k (drop a.second.now.offset a.section.now) (to_z w64 (of_z w64 a.value)) (to_z w64 (of_z w64 (found.1))) n) c.kind.ensures c.number_of_pair-number.ensures in
+    let fits : FitsSigned w64 (found.1) = search rules in
+    let numbered = subst (λ v. IsPairNumber found.0.kind (drop a.second.now.offset a.section.now) v (found.1) n) (to_z-of_z w64 a.value c.ranges.value)
+    (subst (λ w. IsPairNumber found.0.kind (drop a.second.now.offset a.section.now) (to_z w64 (of_z w64 a.value)) w n) (to_z-of_z w64 (found.1) fits) kind) in (
+      written.1,
+      inr (
+        why,
+        refl,
+        record {
+          number = n;
+          pair = pair_is a.architecture a.addresses.now a.relocations.now a.symbols.now a.index a.second.now _ a.value _ _ n c.requires.pair c.requires.second c.requires.value has_other
+              (subst (λ o. IsPairNumber found.0.kind (drop o a.section.now) a.value (found.1) n) offset numbered);
+          cause = subst (λ o. IsUlebCause (drop o a.section.now) n why) offset (written.0);
+        },
+      ),
+    )

@@ -1,0 +1,88 @@
+-- What is known of a section while values are written to it.
+use Rattle.std.specs.Prelude.{◌≡◌, ℕ, ◌+◌, ◌/◌, ◌<◌, ◌≤◌, ◌==◌, ◌||◌, Bool, not, List, length, drop}
+use Rattle.std.specs.Prelude.{◌⊎◌, true, false, Option, Some, None, Result, Ok, Err}
+use Rattle.linker_base.specs.declared.utils.Uleb128Error.{Uleb128Error}
+use Rattle.linker_elf.specs.declared.elf.RelocationKindInfo.{RelocationKindInfo}
+use Rattle.linker_section.specs.Fields.{AreApart, IsOverlapped, begins_pair, ends_pair, field_len}
+use Rattle.linker_section.specs.Inner.Claims.{AreClaimed, is_clear_of}
+use Rattle.linker_section.specs.Inner.Saved.{Restores}
+use Rattle.linker_section.specs.Relocations.{relocation_in}
+use Rattle.linker_section.specs.Sections.{IsFirstRejected, IsPairWritten, IsPairRejected}
+use Rattle.linker_section.specs.Values.{IsAscending, IsValue, offset_at}
+use Rattle.linker_section.specs.declared.facts.Addresses.{Addresses}
+use Rattle.linker_section.specs.declared.facts.Symbol.{Symbol}
+use Rattle.linker_section.specs.declared.fields.Field.{Field}
+use Rattle.linker_section.specs.declared.sections.RelocationError.TheVariants.{Value, Uleb128}
+use Rattle.linker_section.specs.declared.sections.SectionError.{SectionError}
+use Rattle.linker_section.specs.declared.sections.Stopped.{Stopped}
+use Rattle.linker_section.specs.declared.values.ValueError.{ValueError}
+use Rattle.linker_utils.specs.Architectures.{IsRow}
+use Rattle.linker_utils.specs.declared.elf.Architecture.{Architecture}
+
+-- the field of a relocation of a row at an offset
+abbrev pub field_of_row : RelocationKindInfo → ℕ → List ℕ → Field
+field_of_row row offset section =
+    record { offset = offset; len = field_len row (drop offset section); kind = row.kind }
+
+-- The test of a field, by the last one where relocations ascend, and else by the index of the first
+-- that overlaps an earlier one.
+abbrev pub clear_in : Option ℕ → ℕ → Field → Field → Bool
+clear_in None i field last = field.len == 0 || is_clear_of field last
+clear_in (Some limit) i field last = not (i == limit)
+
+-- why that index, or none
+abbrev pub IsLimit : Architecture → List ℕ → List ℕ → Option ℕ → Type 0
+IsLimit architecture bytes section None = IsAscending bytes
+IsLimit architecture bytes section (Some limit) =
+    AreApart architecture bytes section limit
+    × (limit < length bytes / 24 → IsOverlapped architecture bytes section limit)
+
+-- the relocation behind an index is the second of a pair at the same offset
+pub record IsSecond (architecture : Architecture) (bytes : List ℕ) (i : ℕ) : Type 0 where
+  pub within : i + 1 < length bytes / 24
+  pub same_offset : offset_at bytes (i + 1) ≡ offset_at bytes i
+  pub other : RelocationKindInfo
+  pub is_other : IsRow architecture (relocation_in bytes (i + 1)).code (Some other)
+  pub ends : ends_pair other.size other.kind ≡ true
+
+-- why the number of the pair at an index isn't written
+abbrev pub IsPairCause : Architecture → Addresses → List ℕ → List Symbol → ℕ → List ℕ
+    → SectionError → Type 0
+IsPairCause architecture addresses bytes symbols i before error =
+    ((why : ValueError) × (error ≡ record { index = i + 1; error = Value why })
+    × IsValue architecture addresses bytes symbols (relocation_in bytes (i + 1)) (Err why))
+    ⊎ ((why : Uleb128Error) × (error ≡ record { index = i; error = Uleb128 why })
+    × IsPairRejected architecture addresses bytes symbols (relocation_in bytes i)
+    (relocation_in bytes (i + 1)) before why)
+
+abbrev pub IsPairOutcome : Architecture → Addresses → List ℕ → List Symbol → ℕ → List ℕ → List ℕ
+    → Result Unit SectionError → Type 0
+IsPairOutcome architecture addresses bytes symbols i before after (Ok u) =
+    IsPairWritten architecture addresses bytes symbols (relocation_in bytes i)
+    (relocation_in bytes (i + 1)) before after
+IsPairOutcome architecture addresses bytes symbols i before after (Err error) =
+    (after ≡ before) × IsPairCause architecture addresses bytes symbols i before error
+
+-- relocations below an index are apart, and what is behind the last field is unchanged
+pub record Ascends (architecture : Architecture) (bytes before now : List ℕ) (k : ℕ)
+    (last : Field) : Type 0 where
+  pub apart : AreApart architecture bytes before k
+  pub claimed : AreClaimed architecture bytes before (λ i. i < k) last
+  pub no_pair : (i : ℕ) (row : RelocationKindInfo) → i + 1 ≡ k
+      → IsRow architecture (relocation_in bytes i).code (Some row)
+      → begins_pair row.size row.kind ≡ false
+  pub ascending : (i : ℕ) → k ≤ i → i < length bytes / 24 → last.offset ≤ offset_at bytes i
+  pub inside : 0 < last.len → last.offset + last.len ≤ length before
+  pub behind : (offset : ℕ) → last.offset + last.len ≤ offset → drop offset now ≡ drop offset before
+
+abbrev pub IsInOrder : Option ℕ → Architecture → List ℕ → List ℕ → List ℕ → ℕ → Field → Type 0
+IsInOrder None architecture bytes before now k last =
+    Ascends architecture bytes before now k last
+IsInOrder (Some limit) architecture bytes before now k last = k ≤ limit
+
+-- the bytes of the relocations below a count can be put back
+pub record IsStopped (architecture : Architecture) (addresses : Addresses) (bytes : List ℕ)
+    (symbols : List Symbol) (before now memory : List ℕ) (stopped : Stopped) : Type 0 where
+  pub within : stopped.count ≤ length bytes / 24
+  pub restores : Restores architecture bytes memory stopped.count now before
+  pub rejected : IsFirstRejected architecture addresses bytes symbols before stopped.error

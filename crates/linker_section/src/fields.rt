@@ -1,0 +1,128 @@
+//! The bytes that relocations write, and which relocations compose.
+
+ghost use Rattle.std.specs.Prelude.{◌≡◌, ◌<◌, ◌≤◌, ◌+◌, ◌&&◌, ◌||◌, ◌==◌, ◌/◌, nat_lt, length, take};
+ghost use Rattle.linker_section.specs.Fields.{begins_pair, ends_pair, is_of_pair, uleb_len};
+ghost use Rattle.linker_section.specs.Fields.{field_len, changes_number, changes_bits, continues};
+ghost use Rattle.linker_section.specs.Inner.Claims.{continues_at, is_clear_of, next_field};
+
+use crate::values::has_value;
+use linker_utils::elf::{RelocationKind, RelocationKindInfo, RelocationSize};
+
+/// Whether a row is that of the first of a pair at a ULEB128 number.
+#[inline(always)]
+pub(crate) fn begins_pair(size: RelocationSize, kind: RelocationKind) -> bool
+    ensures { result ≡ begins_pair size kind }
+{
+    matches!(size, RelocationSize::ByteSize(0)) && matches!(kind, RelocationKind::Relative)
+}
+
+/// Whether a row is that of the second of such a pair.
+#[inline(always)]
+pub(crate) fn ends_pair(size: RelocationSize, kind: RelocationKind) -> bool
+    ensures { result ≡ ends_pair size kind }
+{
+    matches!(
+        kind,
+        RelocationKind::PairSubtractionULEB128RiscV
+            | RelocationKind::PairSubtractionULEB128LoongArch
+    ) && matches!(size, RelocationSize::ByteSize(_))
+}
+
+/// Whether a row is that of either.
+#[inline(always)]
+pub(crate) fn is_of_pair(info: &RelocationKindInfo) -> bool
+    ensures { result ≡ is_of_pair info.now }
+{
+    begins_pair(info.size, info.kind) || ends_pair(info.size, info.kind)
+}
+
+/// How many bytes the ULEB128 number has that bytes begin with, of at most ten.
+pub(crate) fn uleb_len(bytes: &[u8]) -> usize
+    ensures { result ≡ uleb_len (take 10 bytes.now) }
+{
+    let mut len = 0;
+    while len < bytes.len() && len < 10 {
+        if bytes[len] < 0x80 {
+            return len + 1;
+        }
+        len += 1;
+    }
+    len
+}
+
+/// The bytes of a section that a relocation writes.
+#[derive(Debug, Clone, Copy, PartialEq, Eq)]
+pub(crate) struct Field {
+    /// The offset of its first byte.
+    pub(crate) offset: u64,
+    /// How many there are.
+    pub(crate) len: usize,
+    /// The relocation's formula.
+    pub(crate) kind: RelocationKind,
+}
+
+/// Whether a relocation changes the number that it is at, by addition or subtraction.
+#[inline(always)]
+fn changes_number(kind: RelocationKind) -> bool
+    ensures { result ≡ changes_number kind }
+{
+    matches!(
+        kind,
+        RelocationKind::AbsoluteAddition | RelocationKind::AbsoluteSubtraction
+    )
+}
+
+/// And in the low 6 bits of a byte.
+#[inline(always)]
+fn changes_bits(kind: RelocationKind) -> bool
+    ensures { result ≡ changes_bits kind }
+{
+    matches!(
+        kind,
+        RelocationKind::AbsoluteAdditionWord6 | RelocationKind::AbsoluteSubtractionWord6
+    )
+}
+
+/// Whether the second of two relocations starts from the number that the first leaves.
+#[inline(always)]
+fn continues(first: RelocationKind, second: RelocationKind) -> bool
+    ensures { result ≡ continues first second }
+{
+    match first {
+        RelocationKind::AbsoluteSet
+        | RelocationKind::AbsoluteAddition
+        | RelocationKind::AbsoluteSubtraction => changes_number(second),
+        RelocationKind::AbsoluteSetWord6
+        | RelocationKind::AbsoluteAdditionWord6
+        | RelocationKind::AbsoluteSubtractionWord6 => changes_bits(second),
+        _ => false,
+    }
+}
+
+impl Field {
+    /// Whether a field at the same offset or behind has no byte of this one, or its relocation
+    /// continues with this one's number.
+    #[inline(always)]
+    pub(crate) fn is_clear_of(&self, last: &Field) -> bool
+        requires { last.now.offset ≤ self.now.offset }
+        ensures { result ≡ is_clear_of self.now last.now }
+    {
+        let distance = self.offset - last.offset;
+        last.len as u64 <= distance || (distance == 0 && self.continues(last))
+    }
+
+    /// The last field after this one: the one before it, where this one has no bytes.
+    #[inline(always)]
+    pub(crate) fn or(self, last: Field) -> Field
+        ensures { result ≡ next_field self last }
+    {
+        if self.len == 0 { last } else { self }
+    }
+
+    /// Whether a relocation with a field at the same offset continues with this one's number.
+    fn continues(&self, last: &Field) -> bool
+        ensures { result ≡ continues_at self.now last.now }
+    {
+        self.len == last.len && continues(last.kind, self.kind)
+    }
+}
