@@ -97,7 +97,7 @@ extern "C" {
     STATUS(UNSUPPORTED, 30, \
            "The relocation is one of a pair that computes a ULEB128 number, or R_LARCH_CALL30.") \
     STATUS(DOES_NOT_MATCH, 31, \
-           "The bytes there are not an instruction that the rewrite is meant for.") \
+           "The bytes there are not an instruction that the rewrite is meant for, or that has the form.") \
     STATUS(UNKNOWN_SHAPES, 32, "No shapes have this number.") \
     STATUS(MALFORMED_RELOCATION, 33, \
            "The relocation is not one that the psABI allows there.") \
@@ -717,7 +717,8 @@ struct linker_utils_operands {
     int64_t addend;
     /* P: the address of the field. For LoongArch's halves of 64-bit addresses it is the address of
      * the relocated instruction, not that of the `pcalau12i`; for R_RISCV_PCREL_LO12_*,
-     * R_RISCV_TLSDESC_LOAD_LO12 and R_RISCV_TLSDESC_ADD_LO12 that of the high part. */
+     * R_RISCV_TLSDESC_LOAD_LO12 and R_RISCV_TLSDESC_ADD_LO12 that of the high part. By its own
+     * address a low part gets a wrong value, and no call returns an error. */
     uint64_t place;
     /* GOT + G, GD, LD, IE or DESC: the address of the entry that the relocation requires. For an
      * instruction of AArch64 or PowerPC64 it is the entry of S + A, and A isn't added to its
@@ -1423,8 +1424,8 @@ static inline uint32_t linker_utils_write_ha_lo(uint8_t *ha, size_t ha_len, uint
                                                 size_t lo_len, uint64_t value);
 
 /* What a relocation of a ULEB128 number does with its value, S + A. There are two relocations for
- * one number. `linker_utils_write_uleb128` writes the result of both: that of the first may need
- * more bytes than the number has. */
+ * one number. `linker_utils_write_uleb128_pair` writes the result of both: that of the first may
+ * need more bytes than the number has. */
 enum linker_utils_role {
     /* it is not a relocation of a ULEB128 number, or its machine or type is unknown */
     LINKER_UTILS_ROLE_NONE = 0,
@@ -1441,6 +1442,18 @@ enum linker_utils_role linker_utils_uleb128_role(uint16_t machine, uint32_t r_ty
  * unchanged. LINKER_UTILS_ULEB128_ENDED and LINKER_UTILS_ULEB128_TOO_LARGE, both for the existing
  * number; LINKER_UTILS_DOES_NOT_FIT. */
 static inline uint32_t linker_utils_write_uleb128(uint8_t *dest, size_t dest_len, uint64_t value);
+
+/* Writes what two relocations make of the ULEB128 number that `dest` begins with, in as many bytes:
+ * `r_type` is that of the first, and `first` and `second` are their values, S + A. With
+ * R_RISCV_SET_ULEB128 and R_RISCV_SUB_ULEB128 it is the difference of both. With
+ * R_LARCH_ADD_ULEB128 and R_LARCH_SUB_ULEB128 it is the existing number plus that, modulo 2^64.
+ *
+ * LINKER_UTILS_UNKNOWN_ARCHITECTURE. LINKER_UTILS_UNKNOWN_RELOCATION where the type is none that sets
+ * or adds. Else the errors of `linker_utils_write_uleb128`: a difference below 0 fits ten bytes
+ * alone. */
+static inline uint32_t linker_utils_write_uleb128_pair(uint16_t machine, uint32_t r_type,
+                                                       uint8_t *dest, size_t dest_len,
+                                                       uint64_t first, uint64_t second);
 
 /* ---- Readers. */
 
@@ -1858,6 +1871,26 @@ static inline uint32_t linker_utils_pack_run(
  * A machine and a relocation type name a relocation. The statuses LINKER_UTILS_UNKNOWN_ARCHITECTURE
  * and LINKER_UTILS_UNKNOWN_RELOCATION come first, but `linker_utils_recognise` and
  * `linker_utils_recognise_chosen` take any type. */
+
+/* The number that the machine makes of the immediate of the instruction that the bytes begin with,
+ * into `number`: with its sign, and times what it counts. So distances and offsets are in bytes, and
+ * what an instruction adds, moves or compares is that number, in two's complement of 64 bits. PowerPC64's
+ * `b .-4` has -4, AArch64's `ldr x0, [x1, 0x7ff8]` 0x7ff8, and RISC-V's `lui a0, 0x12345`
+ * 0x12345000. Of a form of 8 bytes it is what both instructions add up to, where the base of the second
+ * is the destination of the first. `linker_utils_read` returns the value as `linker_utils_write` takes
+ * it, whose sign and unit are the form's.
+ *
+ * LINKER_UTILS_UNKNOWN_ARCHITECTURE, also of x86-64; LINKER_UTILS_UNKNOWN_FORM;
+ * LINKER_UTILS_DOES_NOT_MATCH where the bytes don't begin with an instruction of the form, by its
+ * opcode in the architecture's manual. */
+static inline uint32_t linker_utils_operand(uint16_t machine, uint32_t form, const uint8_t *bytes,
+                                            size_t bytes_len, int64_t *number);
+
+/* The forms of the instruction that the bytes begin with, and of both where it and the next one are a
+ * pair: bit k is that of the form with number k. It calls `linker_utils_operand` of each form. 0 where
+ * no form is there, and of x86-64 and unknown machines. */
+static inline uint32_t linker_utils_forms_of(uint16_t machine, const uint8_t *bytes,
+                                             size_t bytes_len);
 
 /* What is known of a number of 64 bits, which is a relocation's value in two's complement, or an
  * address: bits of the sum of the number and `rounding`, modulo 2^64. Where bits 0 to 63 are known

@@ -236,6 +236,16 @@ static inline uint32_t linker_utils_write_uleb128(uint8_t *dest, size_t dest_len
     return linker_utils_write_uleb128_nonnull(LINKER_UTILS_SLICE(uint8_t, dest), dest_len, value);
 }
 
+uint32_t linker_utils_write_uleb128_pair_nonnull(uint16_t machine, uint32_t r_type, uint8_t *dest,
+                                                 size_t dest_len, uint64_t first,
+                                                 uint64_t second);
+static inline uint32_t linker_utils_write_uleb128_pair(uint16_t machine, uint32_t r_type,
+                                                       uint8_t *dest, size_t dest_len,
+                                                       uint64_t first, uint64_t second) {
+    return linker_utils_write_uleb128_pair_nonnull(
+        machine, r_type, LINKER_UTILS_SLICE(uint8_t, dest), dest_len, first, second);
+}
+
 uint32_t linker_utils_u32_from_slice_nonnull(const uint8_t *bytes, size_t bytes_len,
                                              uint32_t *value);
 static inline uint32_t linker_utils_u32_from_slice(const uint8_t *bytes, size_t bytes_len,
@@ -578,6 +588,27 @@ static inline uint32_t linker_utils_pack_run(
         LINKER_UTILS_SLICE(const struct linker_utils_item, items), items_len,
         LINKER_UTILS_SLICE(const struct linker_utils_delta, deltas), deltas_len, start,
         LINKER_UTILS_SLICE(uint8_t, packed), packed_len, faulty ? faulty : &ignored);
+}
+
+uint32_t linker_utils_operand_nonnull(uint16_t machine, uint32_t form, const uint8_t *bytes,
+                                      size_t bytes_len, int64_t *number);
+static inline uint32_t linker_utils_operand(uint16_t machine, uint32_t form, const uint8_t *bytes,
+                                            size_t bytes_len, int64_t *number) {
+    return linker_utils_operand_nonnull(machine, form, LINKER_UTILS_SLICE(const uint8_t, bytes),
+                                        bytes_len, number);
+}
+
+static inline uint32_t linker_utils_forms_of(uint16_t machine, const uint8_t *bytes,
+                                             size_t bytes_len) {
+    uint32_t forms = 0;
+    for (uint32_t form = 0;; form++) {
+        int64_t number;
+        uint32_t status = linker_utils_operand(machine, form, bytes, bytes_len, &number);
+        if (status == LINKER_UTILS_OK)
+            forms |= UINT32_C(1) << form;
+        else if (status != LINKER_UTILS_DOES_NOT_MATCH)
+            return forms;
+    }
 }
 
 uint32_t linker_utils_read_value_nonnull(uint16_t machine, uint32_t r_type, const uint8_t *bytes,

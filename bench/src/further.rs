@@ -193,6 +193,17 @@ fn relocations(report: &mut Report, random: &mut Random) {
         &types,
         |&(machine, r_type)| unsafe { linker_utils_uleb128_role(machine, r_type).into() },
     );
+    let numbers_of_pairs: Vec<u64> = (0..CALLS as u64).collect();
+    let mut dest = [0x80, 0x80, 0];
+    line(
+        report,
+        "`linker_utils_write_uleb128_pair`",
+        &numbers_of_pairs,
+        |&number| unsafe {
+            let (at, len) = (dest.as_mut_ptr(), dest.len());
+            linker_utils_write_uleb128_pair_nonnull(243, 60, at, len, number + 7, 7)
+        },
+    );
     let mut reach = Reach::default();
     line(
         report,
@@ -460,6 +471,12 @@ fn reading(report: &mut Report) {
                 (site.r_type, bytes, value, site.operands())
             })
             .collect();
+        let mut number = 0;
+        let what = format!("`linker_utils_operand`, {name}");
+        numbers(report, &what, &fields, |(_, bytes, ..)| {
+            let (at, len) = (bytes.as_ptr(), bytes.len());
+            unsafe { linker_utils_operand_nonnull(machine, 0, at, len, &mut number).into() }
+        });
         let mut value = FieldValue::default();
         let what = format!("`linker_utils_read_value`, {name}");
         line(report, &what, &fields, |(r_type, bytes, ..)| {

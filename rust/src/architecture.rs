@@ -8,12 +8,13 @@ use crate::aarch64::{self, AArch64Relocation};
 use crate::elf::{
     AArch64Instruction, Architecture, Choice, InstructionRewrite, LinkFacts,
     LoongArch64Instruction, OtherRelocation, Ppc64Instruction, RelocationInstruction,
-    RewriteWindow, RiscVInstruction, Row, Uleb128Role,
+    RewriteWindow, RiscVInstruction, Row, Uleb128PairError, Uleb128Role,
 };
 use crate::loongarch64::{self, LoongArch64Relocation};
 use crate::ppc64::{self, Ppc64Relocation};
 use crate::relaxation::RelocationModifier;
 use crate::riscv64::{self, DeletedBytes, RiscVRelocation};
+use crate::utils;
 use crate::x86_64::{self, X86_64Relocation};
 
 /// A rewrite of one of the architectures.
@@ -344,7 +345,8 @@ impl Architecture {
         }
     }
 
-    /// What a relocation of a ULEB128 number does; `None` for all others.
+    /// What a relocation of a ULEB128 number does; `None` for all others. There are two of them at one
+    /// number: `write_uleb128_pair` writes what both make of it.
     #[must_use]
     pub fn uleb128_role(self, code: u32) -> Option<Uleb128Role> {
         match self {
@@ -352,6 +354,36 @@ impl Architecture {
             Architecture::LoongArch64 => LoongArch64Relocation::from_elf(code).uleb128_role(),
             _ => None,
         }
+    }
+
+    /// Writes what two relocations make of the ULEB128 number that `dest` begins with, in as many
+    /// bytes: `code` is that of the first, and `first` and `second` are their values, S + A. With
+    /// `R_RISCV_SET_ULEB128` and `R_RISCV_SUB_ULEB128` it is the difference of both, and with
+    /// `R_LARCH_ADD_ULEB128` and `R_LARCH_SUB_ULEB128` the existing number plus that, modulo 2^64.
+    /// Bytes behind the number are unchanged, and it is padded as `utils::write_uleb128` does.
+    ///
+    /// ```
+    /// use linker_utils::elf::Architecture;
+    ///
+    /// // .uleb128 end - start, of three bytes, with R_RISCV_SET_ULEB128 and R_RISCV_SUB_ULEB128
+    /// let mut bytes = [0x80, 0x80, 0x00, 0x07];
+    /// Architecture::RiscV.write_uleb128_pair(60, &mut bytes, 0x1234, 0x1000).unwrap();
+    /// assert_eq!(bytes, [0xb4, 0x84, 0x00, 0x07]);
+    /// ```
+    ///
+    /// # Errors
+    ///
+    /// `NotFirst` if the relocation with the code is neither of those that set or add. Else `Number`
+    /// with the error of `utils::write_uleb128`: a difference below 0 is one of 64 bits, which fits
+    /// ten bytes alone. Nothing is written then.
+    pub fn write_uleb128_pair(
+        self,
+        code: u32,
+        dest: &mut [u8],
+        first: u64,
+        second: u64,
+    ) -> Result<(), Uleb128PairError> {
+        write_pair(self.uleb128_role(code), dest, first, second)
     }
 
     /// The form with a number, its place in the enum of its architecture's forms. None above the
@@ -399,4 +431,49 @@ impl Architecture {
             }
         }
     }
+}
+
+/// The ULEB128 number that bytes begin with; 0 if they begin with none.
+fn number_or_zero(bytes: &[u8]) -> u64 {
+    let mut content = bytes;
+    crate::readers::read_uleb128(&mut content).unwrap_or(0)
+}
+
+/// The number that the values of a pair make of the existing one, by the role of its first relocation.
+fn pair_number(role: Uleb128Role, bytes: &[u8], first: u64, second: u64) -> u64 {
+    let difference = first.wrapping_sub(second);
+    match role {
+        Uleb128Role::Adds => number_or_zero(bytes).wrapping_add(difference),
+        _ => difference,
+    }
+}
+
+/// Writes that number.
+fn write_pair_number(
+    role: Uleb128Role,
+    dest: &mut [u8],
+    first: u64,
+    second: u64,
+) -> Result<(), Uleb128PairError> {
+    let number = pair_number(role, dest, first, second);
+    write_number(number, dest)
+}
+
+/// Writes it if the role is one of a first relocation.
+fn write_pair(
+    role: Option<Uleb128Role>,
+    dest: &mut [u8],
+    first: u64,
+    second: u64,
+) -> Result<(), Uleb128PairError> {
+    match role {
+        Some(Uleb128Role::Sets) => write_pair_number(Uleb128Role::Sets, dest, first, second),
+        Some(Uleb128Role::Adds) => write_pair_number(Uleb128Role::Adds, dest, first, second),
+        _ => Err(Uleb128PairError::NotFirst),
+    }
+}
+
+/// Writes a number over the ULEB128 number that `dest` begins with.
+fn write_number(number: u64, dest: &mut [u8]) -> Result<(), Uleb128PairError> {
+    utils::write_uleb128(dest, number).map_err(Uleb128PairError::Number)
 }

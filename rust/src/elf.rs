@@ -4,6 +4,7 @@
 //!
 #![doc = include_str!("../doc/elf.md")]
 
+use crate::linker_base::utils::Uleb128Error;
 pub use crate::linker_elf::elf::{
     AArch64Instruction, AllowedRange, Bias, Choice, EM_AARCH64, EM_LOONGARCH, EM_PPC64, EM_RISCV,
     EM_X86_64, InstructionForm, InstructionRewrite, LinkFacts, LoongArch64Instruction, Operands,
@@ -12,6 +13,59 @@ pub use crate::linker_elf::elf::{
     RewriteWindow, RiscVInstruction, Row, SIZE_2GB, SIZE_2KB, SIZE_4GB, SIZE_4KB, Sign,
     Uleb128Role,
 };
+
+/// Why a relocation's value isn't written, and which values can be.
+#[derive(Debug, Clone, Copy, PartialEq, Eq)]
+pub struct ValueError {
+    /// Why.
+    pub error: RelocateError,
+    /// The value.
+    pub value: i64,
+    /// The least value within the row's `reach`; that of 64 bits where it has no bounds.
+    pub least: i64,
+    /// The greatest one; the greatest multiple of `alignment` may be below it.
+    pub greatest: i64,
+    /// What each value has to be a multiple of.
+    pub alignment: u64,
+}
+
+impl ValueError {
+    /// What is to be said of a value that `write` of a row rejected with an error.
+    ///
+    /// ```
+    /// use linker_utils::elf::{Architecture, ValueError};
+    ///
+    /// // R_AARCH64_TSTBR14 reaches 32 KiB
+    /// let row = Architecture::AArch64.row(279).unwrap();
+    /// let mut tbz = 0x3600_0000u32.to_le_bytes();
+    /// let error = row.write(0x8000, &mut tbz).unwrap_err();
+    /// let error = ValueError::new(&row.info(), 0x8000, error);
+    /// assert_eq!((error.least, error.greatest, error.alignment), (-0x8000, 0x7fff, 4));
+    /// ```
+    #[must_use]
+    pub fn new(row: &RelocationKindInfo, value: i64, error: RelocateError) -> ValueError {
+        let (least, greatest) = match row.reach().bounds {
+            Some((min, end)) => (min, end.cast_unsigned().wrapping_sub(1).cast_signed()),
+            None => (i64::MIN, i64::MAX),
+        };
+        ValueError {
+            error,
+            value,
+            least,
+            greatest,
+            alignment: row.alignment,
+        }
+    }
+}
+
+/// Why a pair of relocations at a ULEB128 number isn't written.
+#[derive(Debug, Clone, Copy, PartialEq, Eq)]
+pub enum Uleb128PairError {
+    /// The first relocation is none that sets or adds to such a number.
+    NotFirst,
+    /// The existing number can't be replaced by theirs.
+    Number(Uleb128Error),
+}
 
 /// The architectures whose relocations and instructions the library knows. A variant's number is
 /// `e_machine` in the ELF header of its files: `EM_AARCH64`, `EM_RISCV`, `EM_LOONGARCH`, `EM_PPC64`

@@ -1,6 +1,6 @@
 //! What the library's errors print, and which error is the cause of another.
 
-use crate::elf::RelocateError;
+use crate::elf::{RelocateError, Uleb128PairError, ValueError};
 use crate::relaxation::{OutOfMemory, PackError, RejectedCall, SectionRelaxDeltas};
 use crate::riscv64::{CallError, JumpError};
 use crate::runs::items::ItemsError;
@@ -25,6 +25,20 @@ impl Display for RelocateError {
 
 impl Error for RelocateError {}
 
+impl Display for ValueError {
+    fn fmt(&self, f: &mut Formatter<'_>) -> Result {
+        let ValueError { error, value, least, greatest, alignment } = self;
+        write!(f, "{error}: {value}, where {least} to {greatest}")?;
+        if *alignment > 1 {
+            write!(f, " in multiples of {alignment}")?;
+        }
+        f.write_str(" can be written")
+    }
+}
+
+// Its text has that of its cause, so that it has no cause of its own.
+impl Error for ValueError {}
+
 impl Display for Uleb128Error {
     fn fmt(&self, f: &mut Formatter<'_>) -> Result {
         f.write_str(match self {
@@ -38,6 +52,19 @@ impl Display for Uleb128Error {
 }
 
 impl Error for Uleb128Error {}
+
+impl Display for Uleb128PairError {
+    fn fmt(&self, f: &mut Formatter<'_>) -> Result {
+        match self {
+            Uleb128PairError::NotFirst => {
+                f.write_str("the relocation is none that sets or adds to a ULEB128 number")
+            }
+            Uleb128PairError::Number(error) => error.fmt(f),
+        }
+    }
+}
+
+impl Error for Uleb128PairError {}
 
 impl Display for CallError {
     fn fmt(&self, f: &mut Formatter<'_>) -> Result {

@@ -1,6 +1,6 @@
 //! What errors print, and their causes.
 
-use linker_utils::elf::RelocateError;
+use linker_utils::elf::{Architecture, RelocateError, Uleb128PairError, ValueError};
 use linker_utils::readers::{self, ReadError};
 use linker_utils::relaxation::{OutOfMemory, PackError, RejectedCall, SectionRelaxDeltas};
 use linker_utils::riscv64::{CallError, JumpError};
@@ -44,6 +44,35 @@ fn errors_of_relocations_are_printed() {
 }
 
 #[test]
+fn errors_of_values_name_what_can_be_written() {
+    // R_AARCH64_TSTBR14 and R_RISCV_JAL
+    for (architecture, code, value, text) in [
+        (
+            Architecture::AArch64,
+            279,
+            0x8000,
+            "the value is out of the relocation's reach: 32768, where -32768 to 32767 in multiples of 4 \
+             can be written",
+        ),
+        (
+            Architecture::RiscV,
+            17,
+            3,
+            "the value is not a multiple of the relocation's alignment: 3, where -1048576 to 1048574 in \
+             multiples of 2 can be written",
+        ),
+    ] {
+        let row = architecture.row(code).unwrap();
+        let error = row.write(value, &mut [0; 8]).unwrap_err();
+        assert_eq!(texts(ValueError::new(&row.info(), value, error)), [text]);
+    }
+    // R_X86_64_64 is whole bytes without bounds
+    let row = Architecture::X86_64.row(1).unwrap();
+    let error = ValueError::new(&row.info(), 5, RelocateError::TooShort);
+    assert_eq!((error.least, error.greatest, error.alignment), (i64::MIN, i64::MAX, 1));
+}
+
+#[test]
 fn errors_of_uleb128_numbers_are_printed() {
     let ended = "the bytes end before the ULEB128 number does";
     assert_eq!(texts(Uleb128Error::Ended), [ended]);
@@ -53,6 +82,30 @@ fn errors_of_uleb128_numbers_are_printed() {
     assert_eq!(status("ULEB128_TOO_LARGE"), large);
     let fit = "the value does not fit the existing ULEB128 number";
     assert_eq!(texts(Uleb128Error::DoesNotFit), [fit]);
+    assert_eq!(texts(Uleb128PairError::Number(Uleb128Error::DoesNotFit)), [fit]);
+    let first = "the relocation is none that sets or adds to a ULEB128 number";
+    assert_eq!(texts(Uleb128PairError::NotFirst), [first]);
+}
+
+/// Numbers of three bytes, and the difference of two addresses, as the psABIs say.
+#[test]
+fn pairs_write_uleb128_numbers() {
+    let (riscv, loongarch) = (Architecture::RiscV, Architecture::LoongArch64);
+    // R_RISCV_SET_ULEB128, R_LARCH_ADD_ULEB128 over 5
+    let mut bytes = [0x85, 0x80, 0x00, 7];
+    assert_eq!(riscv.write_uleb128_pair(60, &mut bytes, 0x1234, 0x1000), Ok(()));
+    assert_eq!(bytes, [0xb4, 0x84, 0x00, 7]);
+    let mut bytes = [0x85, 0x80, 0x00, 7];
+    assert_eq!(loongarch.write_uleb128_pair(107, &mut bytes, 0x1234, 0x1000), Ok(()));
+    assert_eq!(bytes, [0xb9, 0x84, 0x00, 7]);
+    let negative = Err(Uleb128PairError::Number(Uleb128Error::DoesNotFit));
+    assert_eq!(riscv.write_uleb128_pair(60, &mut bytes, 1, 2), negative);
+    assert_eq!(bytes, [0xb9, 0x84, 0x00, 7]);
+    // the second of the pair, and a relocation of another architecture
+    for (architecture, code) in [(riscv, 61), (loongarch, 108), (Architecture::X86_64, 1)] {
+        let pair = architecture.write_uleb128_pair(code, &mut bytes, 2, 1);
+        assert_eq!(pair, Err(Uleb128PairError::NotFirst));
+    }
 }
 
 const CALLS: [(CallError, &str, &str); 4] = [

@@ -980,6 +980,20 @@ static void call_write_uleb128(void) {
     finish(true);
 }
 
+static void call_write_uleb128_pair(void) {
+    uint16_t machine = once_in(2) ? 243 : any_machine();
+    uint32_t r_type = once_in(2) ? 60 : any_relocation_type(); /* R_RISCV_SET_ULEB128 */
+    struct buffer *dest = bytes(WRITTEN, any_len(14));
+    if (once_in(2)) memset(filled(dest), 0x80 + (int)below(128), dest->len);
+    if (dest->len > 0 && once_in(2)) dest->pages[dest->at + below(dest->len)] = (uint8_t)below(4);
+    uint64_t first = any_number();
+    uint64_t second = once_in(2) ? first - (any_number() >> below(64)) : any_number();
+    changes(dest, 0, 10);
+    uint32_t status =
+        CALL(write_uleb128_pair, machine, r_type, dest->given, dest->len, first, second);
+    finish_with(status, 0 NO_RELOCATION OR(ULEB128_ENDED) OR(ULEB128_TOO_LARGE) OR(DOES_NOT_FIT));
+}
+
 #define DELETIONS(buffer) (buffer)->given, LEN(buffer, struct linker_utils_deletion)
 
 /* `deletions_valid`, and `deltas_create` where that says that it will do. */
@@ -1487,6 +1501,18 @@ static void expect_field_value(const struct linker_utils_field_value *value) {
     expect(count == 64 || value->bits >> count == 0, "more bits than are known");
 }
 
+/* `operand`, and the mask of `forms_of`. */
+static void call_operand(void) {
+    uint16_t machine = any_machine();
+    uint32_t form = any_of_enum();
+    struct buffer *from = bytes(READ, any_len(16));
+    int64_t *number = output(sizeof(int64_t));
+    uint32_t forms = CALL(forms_of, machine, from->given, from->len);
+    uint32_t status = CALL(operand, machine, form, from->given, from->len, number);
+    expect((status == LINKER_UTILS_OK) == (form < 32 && forms >> form & 1), "another set of forms");
+    finish_with(status, 0 NO_FORM OR(DOES_NOT_MATCH));
+}
+
 static void call_read_value(void) {
     uint16_t machine = any_machine();
     struct buffer *from = bytes(READ, any_len(16));
@@ -1622,12 +1648,13 @@ static void (*const all[])(void) = {
     call_clui_rel_info, call_jal_site, call_jal_site_with, call_relax_call,
     call_tests, call_write_mov_sequence, call_write_address_sequence, call_write_ha_lo,
     call_u32_from_slice, call_u64_from_slice, call_read_u32, call_read_uleb128, call_write_uleb128,
+    call_write_uleb128_pair,
     call_deltas_create, call_deltas_create_in_one_pass,
     call_deltas_merge, call_has_valid_deltas, call_deltas_total_deleted, call_translations,
     call_deltas_translate_all,
     call_deltas_heads, call_pack, call_shrink_calls, call_standard_shapes, call_relax, call_run_deltas,
     call_riscv_items, call_loongarch_items, call_has_its_instructions, call_pack_run,
-    call_read_value, call_solve, call_join, call_field_bits, call_same_but_for,
+    call_operand, call_read_value, call_solve, call_join, call_field_bits, call_same_but_for,
     call_recognise, call_recognise_chosen,
 };
 

@@ -985,6 +985,22 @@ pub fn write_uleb128(dest: &mut [u8], value: u64) -> Result<(), Status> {
     result_of(status, ())
 }
 
+/// Writes what two relocations, the first of this type, make of the ULEB128 number that `dest` begins
+/// with, in as many bytes.
+pub fn write_uleb128_pair(
+    architecture: Architecture,
+    r_type: u32,
+    dest: &mut [u8],
+    first: u64,
+    second: u64,
+) -> Result<(), Status> {
+    let (machine, at, len) = (architecture.machine(), dest.as_mut_ptr(), dest.len());
+    let status = unsafe {
+        raw::linker_utils_write_uleb128_pair_nonnull(machine, r_type, at, len, first, second)
+    };
+    result_of(status, ())
+}
+
 /// Whether `deltas_create` takes the deletions.
 pub fn deletions_valid(deletions: &[Deletion]) -> Result<(), ArrayError> {
     let (at, len) = (deletions.as_ptr(), deletions.len());
@@ -1400,6 +1416,16 @@ pub fn pack_run(
         )
     })
     .map_err(of_section)
+}
+
+/// The number that the machine makes of the immediate of the instruction that the bytes begin with.
+pub fn operand(form: impl Into<Form>, bytes: &[u8]) -> Result<i64, Status> {
+    let (machine, form) = form.into().numbers();
+    let mut number = 0;
+    let (at, len) = (bytes.as_ptr(), bytes.len());
+    let status =
+        unsafe { raw::linker_utils_operand_nonnull(machine, form, at, len, &mut number) };
+    result_of(status, number)
 }
 
 /// What is known of a relocation's value from the linked bytes that begin with its field.

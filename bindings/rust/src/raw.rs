@@ -292,6 +292,14 @@ extern "C" {
     pub fn linker_utils_may_be_skipped(machine: u16, r_type: u32) -> bool;
     pub fn linker_utils_uleb128_role(machine: u16, r_type: u32) -> u32;
     pub fn linker_utils_write_uleb128_nonnull(dest: *mut u8, dest_len: usize, value: u64) -> u32;
+    pub fn linker_utils_write_uleb128_pair_nonnull(
+        machine: u16,
+        r_type: u32,
+        dest: *mut u8,
+        dest_len: usize,
+        first: u64,
+        second: u64,
+    ) -> u32;
     pub fn linker_utils_u32_from_slice_nonnull(
         bytes: *const u8,
         bytes_len: usize,
@@ -510,6 +518,13 @@ extern "C" {
         packed: *mut u8,
         packed_len: usize,
         faulty: *mut usize,
+    ) -> u32;
+    pub fn linker_utils_operand_nonnull(
+        machine: u16,
+        form: u32,
+        bytes: *const u8,
+        bytes_len: usize,
+        number: *mut i64,
     ) -> u32;
     pub fn linker_utils_read_value_nonnull(
         machine: u16,

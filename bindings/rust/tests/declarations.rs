@@ -34,7 +34,11 @@ type Functions = BTreeMap<String, Function>;
 const OF_ARCHIVE: [&str; 2] = ["linker_utils_is_proved", "linker_utils_version"];
 
 /// The calls that are the header's alone.
-const OF_HEADER: [&str; 2] = ["linker_utils_status_text", "linker_utils_operands_of"];
+const OF_HEADER: [&str; 3] = [
+    "linker_utils_status_text",
+    "linker_utils_operands_of",
+    "linker_utils_forms_of",
+];
 
 /// The text between an opening bracket, at the beginning, and the one that closes it, and the rest.
 fn bracketed(text: &str) -> (&str, &str) {

@@ -1,3 +1,5 @@
 pub mod Architectures
 pub mod Inner
 pub mod Machines
+pub mod Uleb128
+pub mod ValueErrors

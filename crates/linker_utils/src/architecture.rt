@@ -1,7 +1,7 @@
 //! What the codes and numbers of an ELF file's architecture name: relocations by `r_type`, and
 //! forms and rewrites by their places in their enums.
 
-ghost use Rattle.std.specs.Prelude.{◌≡◌, ◌≤◌, ◌↔◌, IsTrue, Option, Some, IfSome, IfNone, length};
+ghost use Rattle.std.specs.Prelude.{◌≡◌, ◌≤◌, ◌↔◌, ℕ, IsTrue, List, Option, Some, IfSome, IfNone, length};
 ghost use Rattle.linker_base.specs.Rewrite.{CanRewrite};
 ghost use Rattle.linker_utils.specs.Architectures.{IsRow, IsElfName, IsRole, form_of_number};
 ghost use Rattle.linker_utils.specs.Architectures.{rewrite_of_number, relaxation_rewrite};
@@ -13,20 +13,25 @@ ghost use Rattle.linker_base.specs.declared.relaxation.RelocationModifier.TheVar
 ghost use Rattle.linker_base.specs.declared.relaxation.RelocationModifier.TheVariants.{SkipNextRelocation};
 ghost use Rattle.linker_utils.specs.Inner.NoOps.{relaxation_stays};
 ghost use Rattle.linker_utils.specs.Architectures.{IsArchitectureChoice, IsFit};
+ghost use Rattle.linker_base.specs.Uleb.{Uleb};
 ghost use Rattle.linker_elf.specs.ElfNames.{named, unnamed};
 ghost use Rattle.linker_elf.specs.Entries.{IsAnswerOf, IsGotAnswer, IsPltAnswer};
 ghost use Rattle.linker_elf.specs.declared.elf.RelocationKindInfo.{RelocationKindInfo};
+ghost use Rattle.linker_elf.specs.declared.elf.Uleb128Role.{Uleb128Role};
+ghost use Rattle.linker_utils.specs.Uleb128.{IsNumberWritten, IsPairNumber, IsPairWritten};
+ghost use Rattle.linker_utils.specs.Uleb128.{IsPairOutcome};
 
 use crate::aarch64::{self, AArch64Relocation};
 use crate::elf::{
     AArch64Instruction, Architecture, Choice, InstructionRewrite, LinkFacts,
     LoongArch64Instruction, OtherRelocation, Ppc64Instruction, RelocationInstruction,
-    RewriteWindow, RiscVInstruction, Row, Uleb128Role,
+    RewriteWindow, RiscVInstruction, Row, Uleb128PairError, Uleb128Role,
 };
 use crate::loongarch64::{self, LoongArch64Relocation};
 use crate::ppc64::{self, Ppc64Relocation};
 use crate::relaxation::RelocationModifier;
 use crate::riscv64::{self, DeletedBytes, RiscVRelocation};
+use crate::utils;
 use crate::x86_64::{self, X86_64Relocation};
 
 /// A rewrite of one of the architectures.
@@ -387,7 +392,8 @@ impl Architecture {
         }
     }
 
-    /// What a relocation of a ULEB128 number does; `None` for all others.
+    /// What a relocation of a ULEB128 number does; `None` for all others. There are two of them at one
+    /// number: `write_uleb128_pair` writes what both make of it.
     pub fn uleb128_role(self, code: u32) -> Option<Uleb128Role>
         ensures { IsRole self code result }
     {
@@ -396,6 +402,39 @@ impl Architecture {
             Architecture::LoongArch64 => LoongArch64Relocation::from_elf(code).uleb128_role(),
             _ => None,
         }
+    }
+
+    /// Writes what two relocations make of the ULEB128 number that `dest` begins with, in as many
+    /// bytes: `code` is that of the first, and `first` and `second` are their values, S + A. With
+    /// `R_RISCV_SET_ULEB128` and `R_RISCV_SUB_ULEB128` it is the difference of both, and with
+    /// `R_LARCH_ADD_ULEB128` and `R_LARCH_SUB_ULEB128` the existing number plus that, modulo 2^64.
+    /// Bytes behind the number are unchanged, and it is padded as `utils::write_uleb128` does.
+    ///
+    /// ```
+    /// use linker_utils::elf::Architecture;
+    ///
+    /// // .uleb128 end - start, of three bytes, with R_RISCV_SET_ULEB128 and R_RISCV_SUB_ULEB128
+    /// let mut bytes = [0x80, 0x80, 0x00, 0x07];
+    /// Architecture::RiscV.write_uleb128_pair(60, &mut bytes, 0x1234, 0x1000).unwrap();
+    /// assert_eq!(bytes, [0xb4, 0x84, 0x00, 0x07]);
+    /// ```
+    ///
+    /// # Errors
+    ///
+    /// `NotFirst` if the relocation with the code is neither of those that set or add. Else `Number`
+    /// with the error of `utils::write_uleb128`: a difference below 0 is one of 64 bits, which fits
+    /// ten bytes alone. Nothing is written then.
+    pub fn write_uleb128_pair(
+        self,
+        code: u32,
+        dest: &mut [u8],
+        first: u64,
+        second: u64,
+    ) -> Result<(), Uleb128PairError>
+        ensures { (role : Option Uleb128Role) × IsRole self code role
+            × IsPairOutcome role dest.old first second dest.new result }
+    {
+        write_pair(self.uleb128_role(code), dest, first, second)
     }
 
     /// The form with a number, its place in the enum of its architecture's forms. None above the
@@ -445,4 +484,59 @@ impl Architecture {
             }
         }
     }
+}
+
+/// The ULEB128 number that bytes begin with; 0 if they begin with none.
+fn number_or_zero(bytes: &[u8]) -> u64
+    ensures { (n : ℕ) (rest : List ℕ) → Uleb bytes.now n rest → result ≡ n }
+{
+    let mut content = bytes;
+    utils::read_uleb128(&mut content).unwrap_or(0)
+}
+
+/// The number that the values of a pair make of the existing one, by the role of its first relocation.
+fn pair_number(role: Uleb128Role, bytes: &[u8], first: u64, second: u64) -> u64
+    ensures { IsPairNumber role bytes.now first second result }
+{
+    let difference = first.wrapping_sub(second);
+    match role {
+        Uleb128Role::Adds => number_or_zero(bytes).wrapping_add(difference),
+        _ => difference,
+    }
+}
+
+/// Writes that number.
+fn write_pair_number(
+    role: Uleb128Role,
+    dest: &mut [u8],
+    first: u64,
+    second: u64,
+) -> Result<(), Uleb128PairError>
+    ensures { IsPairWritten role dest.old first second dest.new result }
+{
+    let number = pair_number(role, dest, first, second);
+    write_number(number, dest)
+}
+
+/// Writes it if the role is one of a first relocation.
+fn write_pair(
+    role: Option<Uleb128Role>,
+    dest: &mut [u8],
+    first: u64,
+    second: u64,
+) -> Result<(), Uleb128PairError>
+    ensures { IsPairOutcome role dest.old first second dest.new result }
+{
+    match role {
+        Some(Uleb128Role::Sets) => write_pair_number(Uleb128Role::Sets, dest, first, second),
+        Some(Uleb128Role::Adds) => write_pair_number(Uleb128Role::Adds, dest, first, second),
+        _ => Err(Uleb128PairError::NotFirst),
+    }
+}
+
+/// Writes a number over the ULEB128 number that `dest` begins with.
+fn write_number(number: u64, dest: &mut [u8]) -> Result<(), Uleb128PairError>
+    ensures { IsNumberWritten number dest.old dest.new result }
+{
+    utils::write_uleb128(dest, number).map_err(Uleb128PairError::Number)
 }

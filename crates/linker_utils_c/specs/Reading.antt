@@ -1,8 +1,11 @@
--- What stands in the field of a relocation that is named by numbers, and the address behind it.
-use Rattle.std.specs.Prelude.{◌≡◌, ℕ, List, length, nat_lt, Bool, true, false, Option, None, Some}
+-- The number in the immediate of an instruction, what stands in the field of a relocation that is
+-- named by numbers, and the address behind it.
+use Rattle.std.specs.Prelude.{◌≡◌, ℕ, ℤ, List, length, nat_lt, Bool, true, false, Option, None, Some}
 use Rattle.linker_elf.specs.Relocate.{window_len}
 use Rattle.linker_elf.specs.declared.elf.RelocationKindInfo.{RelocationKindInfo}
 use Rattle.linker_elf.specs.declared.elf.value.Operands.{Operands}
+use Rattle.linker_elf.specs.declared.elf.RelocationInstruction.{RelocationInstruction}
+use Rattle.linker_reading.specs.Encodings.{IsOperand}
 use Rattle.linker_reading.specs.Fields.{IsProper}
 use Rattle.linker_reading.specs.Reading.{value_read}
 use Rattle.linker_reading.specs.Solving.{terms_of, IsSolved, IsJoined}
@@ -15,7 +18,22 @@ use Rattle.linker_utils_c.specs.declared.reading.FieldValueNumbers.{FieldValueNu
 use Rattle.linker_utils_c.specs.declared.status.Status.TheVariants.{Success, UnknownRelocation}
 use Rattle.linker_utils_c.specs.declared.status.Status.TheVariants.{TooShort, HoldsNoValue}
 use Rattle.linker_utils_c.specs.declared.status.Status.TheVariants.{BadFieldValue, NoAddress}
-use Rattle.linker_utils_c.specs.declared.status.Status.TheVariants.{NotHalves}
+use Rattle.linker_utils_c.specs.declared.status.Status.TheVariants.{NotHalves, DoesNotMatch}
+
+-- ---- immediates
+
+-- the number, or that the bytes are no instruction of the form
+abbrev pub IsNumber : Option ℤ → ℤ → ℤ → ℕ → Type 0
+IsNumber None old new status = (status ≡ code DoesNotMatch) × (new ≡ old)
+IsNumber (Some v) old new status = (status ≡ code Success) × (new ≡ v)
+
+pub record IsOperandReturned (form : RelocationInstruction) (bytes : List ℕ) (old new : ℤ)
+    (status : ℕ) : Type 0 where
+  pub operand : Option ℤ
+  pub is_operand : IsOperand form bytes operand
+  pub returned : IsNumber operand old new status
+
+-- ---- known bits
 
 -- what is known of a number
 abbrev pub field_of : FieldValueNumbers → FieldValue

@@ -8,7 +8,10 @@ use Rattle.linker_utils.specs.Architectures.{IsRow}
 use Rattle.linker_elf.specs.Reach.{reach_of}
 use Rattle.linker_elf.specs.Relocate.{WritesRow, RejectsValue}
 use Rattle.linker_elf.specs.Value.{value_of}
+use Rattle.linker_utils.specs.Uleb128.{IsPairOutcome}
 use Rattle.linker_utils.specs.declared.elf.Architecture.{Architecture}
+use Rattle.linker_utils.specs.declared.elf.Uleb128PairError.{Uleb128PairError}
+use Rattle.linker_utils.specs.declared.elf.Uleb128PairError.TheVariants as pair_errors
 use Rattle.linker_elf.specs.declared.elf.RelocationKindInfo.{RelocationKindInfo}
 use Rattle.linker_elf.specs.declared.elf.Uleb128Role.{Uleb128Role}
 use Rattle.linker_elf.specs.declared.elf.Uleb128Role.TheVariants as roles
@@ -135,6 +138,19 @@ uleb_status (Ok u) = Success
 uleb_status (Err uleb_errors.Ended) = Uleb128Ended
 uleb_status (Err uleb_errors.TooLarge) = Uleb128TooLarge
 uleb_status (Err uleb_errors.DoesNotFit) = DoesNotFit
+
+-- that of a pair
+abbrev pub pair_status : Result Unit Uleb128PairError → Status
+pair_status (Ok u) = Success
+pair_status (Err pair_errors.NotFirst) = UnknownRelocation
+pair_status (Err (pair_errors.Number error)) = uleb_status (Err error)
+
+-- by the role of the pair's first relocation
+pub record IsPairReturned (role : Option Uleb128Role) (before : List ℕ) (first second : ℕ)
+    (after : List ℕ) (status : ℕ) : Type 0 where
+  pub outcome : Result Unit Uleb128PairError
+  pub says : status ≡ code (pair_status outcome)
+  pub holds : IsPairOutcome role before first second after outcome
 
 -- the bytes after a write, or why there is none
 abbrev pub IsUlebOutcome : Result Unit Uleb128Error → ℕ → List ℕ → List ℕ → Type 0

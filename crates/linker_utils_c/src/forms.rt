@@ -17,7 +17,7 @@ use linker_utils::elf::{
 
 /// The form of a machine and a number, or which of the two is unknown.
 #[inline(always)]
-fn form_of(machine: u16, form: u32) -> Result<RelocationInstruction, Status>
+pub(crate) fn form_of(machine: u16, form: u32) -> Result<RelocationInstruction, Status>
     ensures { result ≡ named_form machine form }
 {
     match Architecture::from_machine(machine) {

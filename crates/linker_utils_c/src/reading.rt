@@ -1,20 +1,58 @@
-//! What stands in the fields of linked relocations, and the addresses behind it.
+//! The numbers in immediates; what stands in the fields of linked relocations, and the addresses
+//! behind it.
 
-ghost use Rattle.std.specs.Prelude.{◌≡◌, Option, Some, IfSome, IfNone};
+ghost use Rattle.std.specs.Prelude.{◌≡◌, Option, Some, IfOk, IfErr, IfSome, IfNone};
 ghost use Rattle.linker_elf.specs.declared.elf.RelocationKindInfo.{RelocationKindInfo};
 ghost use Rattle.linker_utils.specs.Architectures.{IsRow};
 ghost use Rattle.linker_utils.specs.Machines.{architecture_of};
 ghost use Rattle.linker_utils_c.specs.Reading.{field_of, reference_number, IsValueRead};
 ghost use Rattle.linker_utils_c.specs.Reading.{IsAddress, IsRowSolved, IsValueSolved};
-ghost use Rattle.linker_utils_c.specs.Reading.{IsWhole, AreHalvesJoined};
+ghost use Rattle.linker_utils_c.specs.Forms.{named_form};
+ghost use Rattle.linker_utils_c.specs.Reading.{IsWhole, AreHalvesJoined, IsOperandReturned};
 ghost use Rattle.linker_utils_c.specs.Status.{code};
 
+use crate::forms::form_of;
 use crate::status::Status;
 use linker_reading::fields::FieldValue;
+use linker_reading::operands::operand;
 use linker_reading::reading::read;
 use linker_reading::solving::{Reference, Terms, join, solve, terms_of};
 use linker_utils::bit_misc::BitRange;
-use linker_utils::elf::{Architecture, Operands, Row};
+use linker_utils::elf::{Architecture, Operands, RelocationInstruction, Row};
+
+/// The number that the machine makes of the immediate of the instruction that the bytes begin with,
+/// as `operand` of `linker_reading` returns it. The first that applies of `UnknownArchitecture`;
+/// `UnknownForm`; `DoesNotMatch`, where the bytes don't begin with an instruction of the form.
+#[unsafe(no_mangle)]
+pub extern "C" fn linker_utils_operand_nonnull(
+    machine: u16,
+    form: u32,
+    bytes: &[u8],
+    number: &mut i64,
+) -> u32
+    ensures known { IfOk (named_form machine form)
+        (λ named. IsOperandReturned named bytes.now number.old number.new result) }
+    ensures unknown { IfErr (named_form machine form)
+        (λ status. (result ≡ code status) × (number.new ≡ number.old)) }
+{
+    match form_of(machine, form) {
+        Ok(named) => put_operand(named, bytes, number),
+        Err(status) => status.number(),
+    }
+}
+
+#[inline(always)]
+fn put_operand(form: RelocationInstruction, bytes: &[u8], number: &mut i64) -> u32
+    ensures { IsOperandReturned form bytes.now number.old number.new result }
+{
+    match operand(form, bytes) {
+        Some(found) => {
+            *number = found;
+            Status::Success.number()
+        }
+        None => Status::DoesNotMatch.number(),
+    }
+}
 
 /// What is known of a number of 64 bits, a relocation's value or an address.
 #[repr(C)]

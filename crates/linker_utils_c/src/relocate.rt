@@ -8,10 +8,11 @@ ghost use Rattle.linker_utils.specs.Machines.{architecture_of};
 ghost use Rattle.linker_utils_c.specs.Relocate.{AreRelocatedOrRejected, IsReachOf, IsRelocated};
 ghost use Rattle.linker_utils_c.specs.Relocate.{IsRelocatedAt, IsUlebReturned, IsValueOf};
 ghost use Rattle.linker_utils_c.specs.Relocate.{role_number, uleb_status, write_status};
+ghost use Rattle.linker_utils_c.specs.Relocate.{IsPairReturned};
 ghost use Rattle.linker_utils_c.specs.Status.{code};
 
 use crate::status::Status;
-use linker_utils::elf::{Architecture, Operands, RelocateError, Uleb128Role};
+use linker_utils::elf::{Architecture, Operands, RelocateError, Uleb128PairError, Uleb128Role};
 use linker_utils::utils::{self, Uleb128Error};
 
 /// The value of the relocation with `r_type` in files with `e_machine` `machine`. The first that
@@ -248,4 +249,32 @@ pub extern "C" fn linker_utils_write_uleb128_nonnull(dest: &mut [u8], value: u64
     ensures { IsUlebReturned dest.old value dest.new result }
 {
     uleb_status_of(utils::write_uleb128(dest, value))
+}
+
+/// Writes what two relocations make of the ULEB128 number that `dest` begins with, in as many bytes,
+/// by the type of the first and the values of both. The first that applies of `UnknownArchitecture`;
+/// `UnknownRelocation`, where the type isn't that of a first one; `Uleb128Ended`;
+/// `Uleb128TooLarge`; `DoesNotFit`.
+#[unsafe(no_mangle)]
+pub extern "C" fn linker_utils_write_uleb128_pair_nonnull(
+    machine: u16,
+    r_type: u32,
+    dest: &mut [u8],
+    first: u64,
+    second: u64,
+) -> u32
+    ensures known { IfSome (architecture_of machine) (λ architecture. (role : Option Uleb128Role)
+        × IsRole architecture r_type role
+        × IsPairReturned role dest.old first second dest.new result) }
+    ensures unknown { IfNone (architecture_of machine)
+        ((result ≡ code Status.UnknownArchitecture) × (dest.new ≡ dest.old)) }
+{
+    let Some(architecture) = Architecture::from_machine(machine) else {
+        return Status::UnknownArchitecture.number();
+    };
+    match architecture.write_uleb128_pair(r_type, dest, first, second) {
+        Ok(()) => Status::Success.number(),
+        Err(Uleb128PairError::NotFirst) => Status::UnknownRelocation.number(),
+        Err(Uleb128PairError::Number(error)) => uleb_status_of(Err(error)),
+    }
 }

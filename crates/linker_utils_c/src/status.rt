@@ -65,7 +65,7 @@ pub enum Status {
     NoValue,
     /// The relocation is one of a pair that computes a ULEB128 number, or R_LARCH_CALL30.
     Unsupported,
-    /// The bytes there are not an instruction that the rewrite is meant for.
+    /// The bytes there are not an instruction that the rewrite is meant for, or that has the form.
     DoesNotMatch,
     /// No shapes have this number.
     UnknownShapes,

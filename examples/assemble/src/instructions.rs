@@ -54,7 +54,8 @@ pub fn instructions(architecture: Architecture) -> Instructions {
             // R_RISCV_BRANCH, or `bnez` over a `j`
             "beqz xN, L": [0x63, 0, 0, 0] [(0, 15)] [(0, 16, 0, 0)]
                 | [0x63, 0x14, 0, 0, 0x6f, 0, 0, 0] [(0, 15)] [(4, 17, 0, 4)];
-            // R_RISCV_PCREL_HI20 and R_RISCV_PCREL_LO12_I, whose value counts from the `auipc`
+            // R_RISCV_PCREL_HI20 and R_RISCV_PCREL_LO12_I. The place of both is that of the `auipc`:
+            // by that of the `addi` the value is a wrong one, and no call returns an error
             "lla xN, L": [0x17, 0, 0, 0, 0x13, 0, 0, 0] [(0, 7), (4, 7), (4, 15)]
                 [(0, 23, 0, 0), (4, 24, 0, 0)];
             ".quad L": [0, 0, 0, 0, 0, 0, 0, 0] [] [(0, 2, 0, 0)]; // R_RISCV_64

@@ -675,6 +675,25 @@ unsafe extern "C" fn linker_utils_read_uleb128_nonnull(
 }
 
 #[unsafe(no_mangle)]
+unsafe extern "C" fn linker_utils_operand_nonnull(
+    machine: u16,
+    form: u32,
+    bytes: *const u8,
+    bytes_len: usize,
+    number: *mut i64,
+) -> u32 {
+    // SAFETY: the arguments are as the head of the header says.
+    unsafe {
+        crate::reading::linker_utils_operand_nonnull(
+            machine,
+            form,
+            from_raw_parts(bytes, bytes_len),
+            &mut *number,
+        )
+    }
+}
+
+#[unsafe(no_mangle)]
 unsafe extern "C" fn linker_utils_read_value_nonnull(
     machine: u16,
     r_type: u32,
@@ -1005,6 +1024,27 @@ unsafe extern "C" fn linker_utils_write_uleb128_nonnull(
         crate::relocate::linker_utils_write_uleb128_nonnull(
             from_raw_parts_mut(dest, dest_len),
             value,
+        )
+    }
+}
+
+#[unsafe(no_mangle)]
+unsafe extern "C" fn linker_utils_write_uleb128_pair_nonnull(
+    machine: u16,
+    r_type: u32,
+    dest: *mut u8,
+    dest_len: usize,
+    first: u64,
+    second: u64,
+) -> u32 {
+    // SAFETY: the arguments are as the head of the header says.
+    unsafe {
+        crate::relocate::linker_utils_write_uleb128_pair_nonnull(
+            machine,
+            r_type,
+            from_raw_parts_mut(dest, dest_len),
+            first,
+            second,
         )
     }
 }

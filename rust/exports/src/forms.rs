@@ -9,7 +9,7 @@ use linker_utils::elf::{
 
 /// The form of a machine and a number, or which of the two is unknown.
 #[inline(always)]
-fn form_of(machine: u16, form: u32) -> Result<RelocationInstruction, Status> {
+pub(crate) fn form_of(machine: u16, form: u32) -> Result<RelocationInstruction, Status> {
     match Architecture::from_machine(machine) {
         None | Some(Architecture::X86_64) => Err(Status::UnknownArchitecture),
         Some(architecture) => architecture.form(form).ok_or(Status::UnknownForm),

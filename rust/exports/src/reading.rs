@@ -1,12 +1,41 @@
 // Made by tools/erase of crates/linker_utils_c/src/reading.rt.
-//! What stands in the fields of linked relocations, and the addresses behind it.
+//! The numbers in immediates; what stands in the fields of linked relocations, and the addresses
+//! behind it.
 
+use crate::forms::form_of;
 use crate::status::Status;
 use linker_utils::reading::FieldValue;
+use linker_utils::reading::operand;
 use linker_utils::reading::read;
 use linker_utils::reading::{Reference, Terms, join, solve, terms_of};
 use linker_utils::bit_misc::BitRange;
-use linker_utils::elf::{Architecture, Operands, Row};
+use linker_utils::elf::{Architecture, Operands, RelocationInstruction, Row};
+
+/// The number that the machine makes of the immediate of the instruction that the bytes begin with,
+/// as `operand` of `linker_reading` returns it. The first that applies of `UnknownArchitecture`;
+/// `UnknownForm`; `DoesNotMatch`, where the bytes don't begin with an instruction of the form.
+pub fn linker_utils_operand_nonnull(
+    machine: u16,
+    form: u32,
+    bytes: &[u8],
+    number: &mut i64,
+) -> u32 {
+    match form_of(machine, form) {
+        Ok(named) => put_operand(named, bytes, number),
+        Err(status) => status.number(),
+    }
+}
+
+#[inline(always)]
+fn put_operand(form: RelocationInstruction, bytes: &[u8], number: &mut i64) -> u32 {
+    match operand(form, bytes) {
+        Some(found) => {
+            *number = found;
+            Status::Success.number()
+        }
+        None => Status::DoesNotMatch.number(),
+    }
+}
 
 /// What is known of a number of 64 bits, a relocation's value or an address.
 #[repr(C)]

@@ -2,7 +2,7 @@
 //! Relocations: their values, their reach, and writing them.
 
 use crate::status::Status;
-use linker_utils::elf::{Architecture, Operands, RelocateError, Uleb128Role};
+use linker_utils::elf::{Architecture, Operands, RelocateError, Uleb128PairError, Uleb128Role};
 use linker_utils::utils::{self, Uleb128Error};
 
 /// The value of the relocation with `r_type` in files with `e_machine` `machine`. The first that
@@ -196,4 +196,25 @@ pub(crate) fn uleb_status_of(outcome: Result<(), Uleb128Error>) -> u32 {
 /// applies of `Uleb128Ended`; `Uleb128TooLarge`; `DoesNotFit`.
 pub fn linker_utils_write_uleb128_nonnull(dest: &mut [u8], value: u64) -> u32 {
     uleb_status_of(utils::write_uleb128(dest, value))
+}
+
+/// Writes what two relocations make of the ULEB128 number that `dest` begins with, in as many bytes,
+/// by the type of the first and the values of both. The first that applies of `UnknownArchitecture`;
+/// `UnknownRelocation`, where the type isn't that of a first one; `Uleb128Ended`;
+/// `Uleb128TooLarge`; `DoesNotFit`.
+pub fn linker_utils_write_uleb128_pair_nonnull(
+    machine: u16,
+    r_type: u32,
+    dest: &mut [u8],
+    first: u64,
+    second: u64,
+) -> u32 {
+    let Some(architecture) = Architecture::from_machine(machine) else {
+        return Status::UnknownArchitecture.number();
+    };
+    match architecture.write_uleb128_pair(r_type, dest, first, second) {
+        Ok(()) => Status::Success.number(),
+        Err(Uleb128PairError::NotFirst) => Status::UnknownRelocation.number(),
+        Err(Uleb128PairError::Number(error)) => uleb_status_of(Err(error)),
+    }
 }

@@ -41,9 +41,10 @@ pub struct Recognised<K, R> {
     /// The field's offset in the linked bytes: the relocation's after the rewrite, less the deleted
     /// bytes before it.
     pub offset: u64,
-    /// What is known of the relocation's value from the linked bytes at the offset, as `read` of
-    /// `linker_reading` returns it. None of a relocation without a row, and of one whose field isn't
-    /// its value.
+    /// What is known of the value of the relocation after the rewrite from the linked bytes at the
+    /// offset, as `reading::read` returns it. None of a relocation without a row, and of one whose
+    /// field isn't its value. `solve` makes the address of it, with the addend that `apply` leaves: of
+    /// x86-64's absolute rewrites it is 4 more than before.
     pub value: Option<FieldValue>,
 }
 
@@ -248,6 +249,9 @@ fn first_at<N: RecognisedName>(
 /// - Both windows may begin before the relocation, at the same place. The original one has at most
 ///   `MAX_WINDOW` bytes. After a rewrite that deletes bytes the linked window is shorter by these, and
 ///   empty if they are all of the original one.
+/// - A window that is wider than the rewrite has to name in `others` what else differs in it. The least
+///   one has the bytes of each rewrite (`window` of its kind) and the field of the relocation after it.
+///   A window without the relocation's field has no choice, and an empty one has none.
 /// - `others` are bits of the original window that other relocations write, as
 ///   `FieldBits::of_row` gives them, among them those of a relocation that the choice skips. Of an
 ///   instruction that another relocation rewrites or deletes they are all bits. Where a skipped
@@ -255,7 +259,7 @@ fn first_at<N: RecognisedName>(
 ///   applied.
 /// - Nothing needs to be known of the symbol. So several choices are returned where their bytes are
 ///   the same, as where only the relocation changes. Each comes with the offset of its field in the
-///   linked bytes and with what `read` of `linker_reading` returns there.
+///   linked bytes and with what `reading::read` returns there.
 /// - A choice is returned only if its rewrite is meant for what is at the offset, as `matches`
 ///   says, and the field is in the window. Each that `choose` makes, whatever the linker knows, is
 ///   one of them if it leaves the linked bytes so.
