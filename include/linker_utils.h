@@ -1309,7 +1309,8 @@ static inline uint32_t linker_utils_value_at(
     size_t relocations_len, const struct linker_utils_symbol *symbols, size_t symbols_len,
     size_t index, int64_t *value);
 
-/* How many elements of memory `linker_utils_relocate_section` needs for these relocations. */
+/* How many elements of memory `linker_utils_relocate_section` needs for these relocations: one for
+ * each. */
 static inline size_t linker_utils_relocate_memory(const uint8_t *relocations,
                                                   size_t relocations_len);
 
@@ -1317,16 +1318,18 @@ static inline size_t linker_utils_relocate_memory(const uint8_t *relocations,
  * LINKER_UTILS_OK all bytes of the section are unchanged. What `memory` holds afterwards isn't
  * specified with any status. Its elements need not be initialised.
  *
- * Relocations of one object at one offset compose in their order, as R_RISCV_ADD32 and R_RISCV_SUB32
- * do. Two next to each other that are a pair at a ULEB128 number write one number. A relocation
- * without a value writes nothing.
+ * The bytes that a relocation writes are its field; one without a value has none. Relocations whose
+ * fields overlap have to compose: to be at one offset, and to change the number that those before
+ * them set or change, as R_RISCV_ADD32 and R_RISCV_SUB32 do; or to be a pair at a ULEB128 number,
+ * next to each other.
  *
  * LINKER_UTILS_UNKNOWN_ARCHITECTURE; LINKER_UTILS_SHORT_MEMORY where `memory_len` is below
- * `linker_utils_relocate_memory`. Else `faulty` is the first relocation whose value can't be
- * written, and the status says why: one of `linker_utils_value_at`, but LINKER_UTILS_NO_VALUE; one
- * of `linker_utils_relocate`, of which LINKER_UTILS_TOO_SHORT is also an offset past the section's
- * end, and LINKER_UTILS_UNSUPPORTED a relocation of a ULEB128 number that isn't of a pair; of a pair
- * one of `linker_utils_write_uleb128`; or LINKER_UTILS_OVERLAPS. */
+ * `linker_utils_relocate_memory`. Else `faulty` is the first relocation that can't be written, and the
+ * status is the first that applies: one of `linker_utils_value_at`, but LINKER_UTILS_NO_VALUE;
+ * LINKER_UTILS_OVERLAPS; one of `linker_utils_relocate`, of which LINKER_UTILS_TOO_SHORT is also an
+ * offset past the section's end, and LINKER_UTILS_UNSUPPORTED a relocation of a ULEB128 number that
+ * isn't of a pair; and of a pair one of `linker_utils_write_uleb128`. For n relocations that ascend by
+ * offset it takes O(n), and in any other order O(n^2), each beside O(log n) of a low part. */
 static inline uint32_t linker_utils_relocate_section(
     uint16_t machine, const struct linker_utils_addresses *addresses, const uint8_t *relocations,
     size_t relocations_len, const struct linker_utils_symbol *symbols, size_t symbols_len,

@@ -205,10 +205,17 @@ fn by_exports(input: &Input) -> Side<'_> {
 fn by_crate(input: &Input) -> Side<'_> {
     let (symbols, addresses) = input.of_crate();
     let architecture = input.architecture();
+    let mut memory = vec![0; section::memory_len(&input.relocations)];
     Side::writes(input.section.clone(), move |section| {
         let relocations = &input.relocations;
-        let written =
-            section::relocate_section(architecture, &addresses, relocations, &symbols, section);
+        let written = section::relocate_section(
+            architecture,
+            &addresses,
+            relocations,
+            &symbols,
+            section,
+            &mut memory,
+        );
         assert_eq!(written, Ok(()));
     })
 }

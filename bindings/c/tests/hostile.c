@@ -826,7 +826,7 @@ static void call_relocate_section(void) {
     struct buffer *known = symbols(any_len(8)), *where = addresses();
     struct buffer *given = relocations(machine, section->len, LEN(known, struct linker_utils_symbol));
     size_t needed = CALL(relocate_memory, given->given, given->len);
-    expect(needed <= 2 * (given->len / 24), "it needs too much memory");
+    expect(needed == given->len / 24, "it needs other memory");
     size_t count = needed + (once_in(4) ? below(4) : 0);
     bool is_short = needed > 0 && once_in(16);
     if (is_short) count = below(needed);

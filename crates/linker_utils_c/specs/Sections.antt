@@ -1,7 +1,7 @@
 -- What relocations require, their values and all of them written, in the numbers that C sees.
 use Rattle.std.specs.Prelude.{◌≡◌, ℕ, ◌/◌, ◌<◌, ◌≤◌, List, length, ℤ, pos, Bool, true, false}
 use Rattle.std.specs.Prelude.{Option, None, Some, Result, Ok, Err}
-use Rattle.linker_section.specs.Sections.{AreRelocated, IsFirstRejected}
+use Rattle.linker_section.specs.Sections.{AreAllRelocated, IsFirstRejected}
 use Rattle.linker_section.specs.Values.{IsValue}
 use Rattle.linker_section.specs.declared.facts.Addresses.{Addresses}
 use Rattle.linker_section.specs.declared.facts.Symbol.{Symbol}
@@ -14,7 +14,7 @@ use Rattle.linker_section.specs.declared.needed.Requirements.{Requirements}
 use Rattle.linker_section.specs.declared.relocations.Rela.{Rela}
 use Rattle.linker_section.specs.declared.sections.RelocationError.{RelocationError}
 use Rattle.linker_section.specs.declared.sections.RelocationError.TheVariants.{Value, Write}
-use Rattle.linker_section.specs.declared.sections.RelocationError.TheVariants.{Uleb128}
+use Rattle.linker_section.specs.declared.sections.RelocationError.TheVariants.{Overlaps, Uleb128}
 use Rattle.linker_section.specs.declared.sections.SectionError.{SectionError}
 use Rattle.linker_section.specs.declared.values.ValueError.{ValueError}
 use Rattle.linker_section.specs.declared.values.ValueError.TheVariants as value_errors
@@ -27,6 +27,7 @@ use Rattle.linker_utils_c.specs.declared.status.Status.TheVariants.{Success, Unk
 use Rattle.linker_utils_c.specs.declared.status.Status.TheVariants.{TooShort, NoValue, NoSymbol}
 use Rattle.linker_utils_c.specs.declared.status.Status.TheVariants.{NoEntry, NoHighPart}
 use Rattle.linker_utils_c.specs.declared.status.Status.TheVariants.{ShortMemory}
+use Rattle.linker_utils_c.specs.declared.status.Status.TheVariants as statuses
 
 -- ---- what a relocation requires
 
@@ -93,23 +94,24 @@ IsValueAt architecture addresses bytes symbols (Some r) status old new =
 
 abbrev pub relocation_status : RelocationError → Status
 relocation_status (Value error) = value_status error
+relocation_status Overlaps = statuses.Overlaps
 relocation_status (Write error) = write_status (Err error)
 relocation_status (Uleb128 error) = uleb_status (Err error)
 
--- the elements of memory that a call takes
+-- the elements of memory that a call takes: one for each relocation
 abbrev pub room_of : List ℕ → ℕ
-room_of bytes = 0
+room_of bytes = length bytes / 24
 
--- all are written, or the status and the index are those of the first that isn't
+-- all are written, or none is, and the status and the index are those of the first that can't be
 abbrev pub IsSectionOutcome : Architecture → Addresses → List ℕ → List Symbol → List ℕ → List ℕ → ℕ
     → ℕ → ℕ → Result Unit SectionError → Type 0
 IsSectionOutcome architecture addresses bytes symbols before after old_faulty faulty status (Ok u) =
     (status ≡ code Success) × (faulty ≡ old_faulty)
-    × AreRelocated architecture addresses bytes symbols before (length bytes / 24) after
+    × AreAllRelocated architecture addresses bytes symbols before after
 IsSectionOutcome architecture addresses bytes symbols before after old_faulty faulty status
     (Err error) =
-    (status ≡ code (relocation_status error.error)) × (faulty ≡ error.index)
-    × IsFirstRejected architecture addresses bytes symbols before after error
+    (status ≡ code (relocation_status error.error)) × (faulty ≡ error.index) × (after ≡ before)
+    × IsFirstRejected architecture addresses bytes symbols before error
 
 pub record IsSectionReturned (architecture : Architecture) (addresses : Addresses) (bytes : List ℕ)
     (symbols : List Symbol) (before after memory : List ℕ) (old_faulty faulty status : ℕ) : Type 0

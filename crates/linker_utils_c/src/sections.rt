@@ -21,7 +21,7 @@ use crate::status::Status;
 use linker_section::facts::{Addresses, Symbol};
 use linker_section::needed::{EntryClass, Requirements, needs};
 use linker_section::relocations::relocation_at;
-use linker_section::sections::{RelocationError, relocate_section};
+use linker_section::sections::{RelocationError, memory_len, relocate_section};
 use linker_section::values::{ValueError, value as value_of};
 use linker_utils::elf::Architecture;
 
@@ -159,8 +159,7 @@ pub extern "C" fn linker_utils_value_at_nonnull(
 pub extern "C" fn linker_utils_relocate_memory_nonnull(relocations: &[u8]) -> usize
     ensures { result ≡ room_of relocations.now }
 {
-    let _ = relocations;
-    0
+    memory_len(relocations)
 }
 
 /// Why a relocation's value isn't written.
@@ -170,14 +169,15 @@ fn status_of_error(error: RelocationError) -> u32
 {
     match error {
         RelocationError::Value(error) => value_status_of(error).number(),
+        RelocationError::Overlaps => Status::Overlaps.number(),
         RelocationError::Write(error) => status_of(Err(error)),
         RelocationError::Uleb128(error) => uleb_status_of(Err(error)),
     }
 }
 
-/// Writes the values of a section's relocations, as `relocate_section`. The first that applies of
-/// `UnknownArchitecture`; `ShortMemory`, where `memory` has fewer elements than
-/// `linker_utils_relocate_memory`; and why the relocation at `faulty` isn't written.
+/// Writes the values of a section's relocations, as `relocate_section`, or none of them. The first that
+/// applies of `UnknownArchitecture`; `ShortMemory`, where `memory` has fewer elements than
+/// `linker_utils_relocate_memory`; and why the relocation at `faulty` can't be written.
 #[unsafe(no_mangle)]
 pub extern "C" fn linker_utils_relocate_section_nonnull(
     machine: u16,
@@ -198,10 +198,17 @@ pub extern "C" fn linker_utils_relocate_section_nonnull(
     let Some(architecture) = Architecture::from_machine(machine) else {
         return Status::UnknownArchitecture.number();
     };
-    if memory.len() < linker_utils_relocate_memory_nonnull(relocations) {
+    if memory.len() < memory_len(relocations) {
         return Status::ShortMemory.number();
     }
-    match relocate_section(architecture, addresses, relocations, symbols, section) {
+    match relocate_section(
+        architecture,
+        addresses,
+        relocations,
+        symbols,
+        section,
+        memory,
+    ) {
         Ok(()) => Status::Success.number(),
         Err(error) => {
             *faulty = error.index;

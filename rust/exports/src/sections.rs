@@ -6,7 +6,7 @@ use crate::status::Status;
 use linker_utils::section::{Addresses, Symbol};
 use linker_utils::section::{EntryClass, Requirements, needs};
 use linker_utils::section::relocation_at;
-use linker_utils::section::{RelocationError, relocate_section};
+use linker_utils::section::{RelocationError, memory_len, relocate_section};
 use linker_utils::section::{ValueError, value as value_of};
 use linker_utils::elf::Architecture;
 
@@ -121,8 +121,7 @@ pub fn linker_utils_value_at_nonnull(
 
 /// How many elements of memory `linker_utils_relocate_section` needs for a section's relocations.
 pub fn linker_utils_relocate_memory_nonnull(relocations: &[u8]) -> usize {
-    let _ = relocations;
-    0
+    memory_len(relocations)
 }
 
 /// Why a relocation's value isn't written.
@@ -130,14 +129,15 @@ pub fn linker_utils_relocate_memory_nonnull(relocations: &[u8]) -> usize {
 fn status_of_error(error: RelocationError) -> u32 {
     match error {
         RelocationError::Value(error) => value_status_of(error).number(),
+        RelocationError::Overlaps => Status::Overlaps.number(),
         RelocationError::Write(error) => status_of(Err(error)),
         RelocationError::Uleb128(error) => uleb_status_of(Err(error)),
     }
 }
 
-/// Writes the values of a section's relocations, as `relocate_section`. The first that applies of
-/// `UnknownArchitecture`; `ShortMemory`, where `memory` has fewer elements than
-/// `linker_utils_relocate_memory`; and why the relocation at `faulty` isn't written.
+/// Writes the values of a section's relocations, as `relocate_section`, or none of them. The first that
+/// applies of `UnknownArchitecture`; `ShortMemory`, where `memory` has fewer elements than
+/// `linker_utils_relocate_memory`; and why the relocation at `faulty` can't be written.
 pub fn linker_utils_relocate_section_nonnull(
     machine: u16,
     addresses: &Addresses,
@@ -150,10 +150,17 @@ pub fn linker_utils_relocate_section_nonnull(
     let Some(architecture) = Architecture::from_machine(machine) else {
         return Status::UnknownArchitecture.number();
     };
-    if memory.len() < linker_utils_relocate_memory_nonnull(relocations) {
+    if memory.len() < memory_len(relocations) {
         return Status::ShortMemory.number();
     }
-    match relocate_section(architecture, addresses, relocations, symbols, section) {
+    match relocate_section(
+        architecture,
+        addresses,
+        relocations,
+        symbols,
+        section,
+        memory,
+    ) {
         Ok(()) => Status::Success.number(),
         Err(error) => {
             *faulty = error.index;
