@@ -1,6 +1,7 @@
 //! What the library's errors print, and which error is the cause of another.
 
 use crate::elf::{RelocateError, Uleb128PairError, ValueError};
+use crate::output::StubError;
 use crate::relaxation::{OutOfMemory, PackError, RejectedCall, SectionRelaxDeltas};
 use crate::riscv64::{CallError, JumpError};
 use crate::runs::items::ItemsError;
@@ -38,6 +39,25 @@ impl Display for ValueError {
 
 // Its text has that of its cause, so that it has no cause of its own.
 impl Error for ValueError {}
+
+impl Display for StubError {
+    fn fmt(&self, f: &mut Formatter<'_>) -> Result {
+        f.write_str(match self {
+            StubError::Missing => "the architecture has no such stub",
+            StubError::TooShort => "there are fewer bytes than the stub has",
+            StubError::Field(_) => "the stub does not lead to the target",
+        })
+    }
+}
+
+impl Error for StubError {
+    fn source(&self) -> Option<&(dyn Error + 'static)> {
+        match self {
+            StubError::Field(error) => Some(error),
+            _ => None,
+        }
+    }
+}
 
 impl Display for Uleb128Error {
     fn fmt(&self, f: &mut Formatter<'_>) -> Result {

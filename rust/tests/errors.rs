@@ -1,6 +1,7 @@
 //! What errors print, and their causes.
 
 use linker_utils::elf::{Architecture, RelocateError, Uleb128PairError, ValueError};
+use linker_utils::output::StubError;
 use linker_utils::readers::{self, ReadError};
 use linker_utils::relaxation::{OutOfMemory, PackError, RejectedCall, SectionRelaxDeltas};
 use linker_utils::riscv64::{CallError, JumpError};
@@ -70,6 +71,15 @@ fn errors_of_values_name_what_can_be_written() {
     let row = Architecture::X86_64.row(1).unwrap();
     let error = ValueError::new(&row.info(), 5, RelocateError::TooShort);
     assert_eq!((error.least, error.greatest, error.alignment), (i64::MIN, i64::MAX, 1));
+}
+
+#[test]
+fn errors_of_stubs_are_printed() {
+    assert_eq!(texts(StubError::Missing), ["the architecture has no such stub"]);
+    assert_eq!(texts(StubError::TooShort), ["there are fewer bytes than the stub has"]);
+    let far = StubError::Field(RelocateError::OutOfReach);
+    let cause = "the value is out of the relocation's reach";
+    assert_eq!(texts(far), ["the stub does not lead to the target", cause]);
 }
 
 #[test]

@@ -66,7 +66,10 @@ fn types_have_the_codes_of_elf_h() {
         let target = Target::of(architecture);
         for kind in listed(&target.dynamic) {
             let known = constants.get(kind.name).copied().or_else(|| {
-                newer.iter().find(|(name, _)| *name == kind.name).map(|(_, code)| *code)
+                newer
+                    .iter()
+                    .find(|(name, _)| *name == kind.name)
+                    .map(|(_, code)| *code)
             });
             assert_eq!(Some(kind.code), known, "{}", kind.name);
             assert_eq!(target.dynamic_name(kind.code), Some(kind.name));
@@ -87,8 +90,14 @@ fn flags_are_those_of_elf_h() {
     let double = of("EF_RISCV_FLOAT_ABI_DOUBLE");
     assert_eq!(riscv.flags.same, of("EF_RISCV_FLOAT_ABI") | rve);
     assert_eq!(riscv.flags.joined, rvc | tso);
-    assert_eq!(riscv.join_flags(double | rvc, double | tso), Some(double | rvc | tso));
-    assert_eq!(riscv.join_flags(double, of("EF_RISCV_FLOAT_ABI_SINGLE")), None);
+    assert_eq!(
+        riscv.join_flags(double | rvc, double | tso),
+        Some(double | rvc | tso)
+    );
+    assert_eq!(
+        riscv.join_flags(double, of("EF_RISCV_FLOAT_ABI_SINGLE")),
+        None
+    );
     assert_eq!(riscv.join_flags(double, 0), None);
     assert_eq!(riscv.join_flags(rve, 0), None);
     assert_eq!(riscv.join_flags(0x20, 0), None);
@@ -98,13 +107,21 @@ fn flags_are_those_of_elf_h() {
     assert_eq!(loongarch.join_flags(hard, hard), Some(hard));
     let soft = of("EF_LARCH_ABI_SOFT_FLOAT") | of("EF_LARCH_OBJABI_V1");
     assert_eq!(loongarch.join_flags(hard, soft), None);
-    assert_eq!(loongarch.join_flags(hard, of("EF_LARCH_ABI_DOUBLE_FLOAT")), None);
+    assert_eq!(
+        loongarch.join_flags(hard, of("EF_LARCH_ABI_DOUBLE_FLOAT")),
+        None
+    );
 
     let ppc64 = Target::of(Architecture::Ppc64);
     assert_eq!(of("EF_PPC64_ABI"), 3);
     assert_eq!(ppc64.join_flags(0, 2), Some(2));
     assert_eq!(ppc64.join_flags(2, 0), Some(2));
-    assert_eq!(ppc64.join_flags(0, 0).map(|joined| ppc64.output_flags(joined)), Some(2));
+    assert_eq!(
+        ppc64
+            .join_flags(0, 0)
+            .map(|joined| ppc64.output_flags(joined)),
+        Some(2)
+    );
     assert_eq!(ppc64.join_flags(2, 1), None);
     assert_eq!(ppc64.join_flags(1, 1), None);
 
@@ -130,8 +147,14 @@ fn thread_pointers_are_where_linkers_have_them() {
     ];
     for &(architecture, image, len, alignment, thread, block) in cases {
         let origins = Target::of(architecture).origins(image, len, alignment);
-        assert_eq!(image.wrapping_sub(origins.thread_pointer).cast_signed(), thread);
-        assert_eq!(image.wrapping_sub(origins.module_block).cast_signed(), block);
+        assert_eq!(
+            image.wrapping_sub(origins.thread_pointer).cast_signed(),
+            thread
+        );
+        assert_eq!(
+            image.wrapping_sub(origins.module_block).cast_signed(),
+            block
+        );
         let none = Target::of(architecture).origins(image, len, 0);
         assert_eq!(none, Target::of(architecture).origins(image, len, 1));
     }
@@ -139,11 +162,22 @@ fn thread_pointers_are_where_linkers_have_them() {
 
 #[test]
 fn entries_have_the_words_of_their_class() {
-    let origins = Origins { thread_pointer: 0x3_0000, module_block: 0x2_0800 };
+    let origins = Origins {
+        thread_pointer: 0x3_0000,
+        module_block: 0x2_0800,
+    };
     for (class, len, words) in [
         (EntryClass::Address, 1, Some([0x2_0010, 0])),
-        (EntryClass::ThreadOffset, 1, Some([0_u64.wrapping_sub(0xfff0), 0])),
-        (EntryClass::ModuleOffset, 2, Some([1, 0_u64.wrapping_sub(0x7f0)])),
+        (
+            EntryClass::ThreadOffset,
+            1,
+            Some([0_u64.wrapping_sub(0xfff0), 0]),
+        ),
+        (
+            EntryClass::ModuleOffset,
+            2,
+            Some([1, 0_u64.wrapping_sub(0x7f0)]),
+        ),
         (EntryClass::Module, 2, Some([1, 0])),
         (EntryClass::Descriptor, 2, None),
     ] {
@@ -166,10 +200,19 @@ fn dynamic_relocations_are_those_of_words_that_are_not_known() {
         let own = [Some(types.relative.code), None];
         assert_eq!(all(EntryClass::Address), [imported, imported, own, own]);
         let offset = [Some(types.thread_offset.code), None];
-        assert_eq!(all(EntryClass::ThreadOffset), [offset, offset, offset, [None, None]]);
+        assert_eq!(
+            all(EntryClass::ThreadOffset),
+            [offset, offset, offset, [None, None]]
+        );
         let module = [Some(types.module_number.code), None];
-        let both = [Some(types.module_number.code), Some(types.module_offset.code)];
-        assert_eq!(all(EntryClass::ModuleOffset), [both, both, module, [None, None]]);
+        let both = [
+            Some(types.module_number.code),
+            Some(types.module_offset.code),
+        ];
+        assert_eq!(
+            all(EntryClass::ModuleOffset),
+            [both, both, module, [None, None]]
+        );
         let unknown = [None, None];
         assert_eq!(all(EntryClass::Module), [module, unknown, module, unknown]);
         let descriptor = [types.descriptor.map(|kind| kind.code), None];
@@ -182,13 +225,37 @@ fn texts_and_fillers_are_those_of_each_architecture() {
     // paths as `-dumpspecs` of GCC has them
     for (architecture, flags, path) in [
         (Architecture::AArch64, 0, Some("/lib/ld-linux-aarch64.so.1")),
-        (Architecture::RiscV, 1, Some("/lib/ld-linux-riscv64-lp64.so.1")),
-        (Architecture::RiscV, 0x13, Some("/lib/ld-linux-riscv64-lp64f.so.1")),
-        (Architecture::RiscV, 4, Some("/lib/ld-linux-riscv64-lp64d.so.1")),
+        (
+            Architecture::RiscV,
+            1,
+            Some("/lib/ld-linux-riscv64-lp64.so.1"),
+        ),
+        (
+            Architecture::RiscV,
+            0x13,
+            Some("/lib/ld-linux-riscv64-lp64f.so.1"),
+        ),
+        (
+            Architecture::RiscV,
+            4,
+            Some("/lib/ld-linux-riscv64-lp64d.so.1"),
+        ),
         (Architecture::RiscV, 6, None),
-        (Architecture::LoongArch64, 0x41, Some("/lib64/ld-linux-loongarch-lp64s.so.1")),
-        (Architecture::LoongArch64, 0x42, Some("/lib64/ld-linux-loongarch-lp64f.so.1")),
-        (Architecture::LoongArch64, 0x43, Some("/lib64/ld-linux-loongarch-lp64d.so.1")),
+        (
+            Architecture::LoongArch64,
+            0x41,
+            Some("/lib64/ld-linux-loongarch-lp64s.so.1"),
+        ),
+        (
+            Architecture::LoongArch64,
+            0x42,
+            Some("/lib64/ld-linux-loongarch-lp64f.so.1"),
+        ),
+        (
+            Architecture::LoongArch64,
+            0x43,
+            Some("/lib64/ld-linux-loongarch-lp64d.so.1"),
+        ),
         (Architecture::LoongArch64, 0x40, None),
         (Architecture::Ppc64, 2, Some("/lib64/ld64.so.2")),
         (Architecture::X86_64, 0, Some("/lib64/ld-linux-x86-64.so.2")),
@@ -206,7 +273,10 @@ fn texts_and_fillers_are_those_of_each_architecture() {
     assert_eq!(filler(Architecture::X86_64), 0xcccc_cccc);
     assert_eq!(Target::of(Architecture::Ppc64).symbols[0].name, ".TOC.");
     assert_eq!(Target::of(Architecture::RiscV).symbols[0].offset, 0x800);
-    assert_eq!(Target::of(Architecture::X86_64).symbols[0].name, "_TLS_MODULE_BASE_");
+    assert_eq!(
+        Target::of(Architecture::X86_64).symbols[0].name,
+        "_TLS_MODULE_BASE_"
+    );
 }
 
 const PLACE: u64 = 0x40_1000;
@@ -217,11 +287,31 @@ const FAR: u64 = 0x334_5678;
 /// as, at `PLACE`, for a word at `WORD` or a target at `FAR`.
 const STUBS: [(Architecture, StubKind, &str); 8] = [
     (Architecture::X86_64, StubKind::Load, "ff253202c4ffcccc"),
-    (Architecture::AArch64, StubKind::Load, "10e2ff90111e41f920021fd6"),
-    (Architecture::AArch64, StubKind::Jump, "307a019010e2199100021fd6"),
-    (Architecture::RiscV, StubKind::Load, "170ec4ff033e8e2367000e00"),
-    (Architecture::LoongArch64, StubKind::Load, "0f88ff1befe1c828e001004c"),
-    (Architecture::LoongArch64, StubKind::Jump, "af17001ee079464c"),
+    (
+        Architecture::AArch64,
+        StubKind::Load,
+        "10e2ff90111e41f920021fd6",
+    ),
+    (
+        Architecture::AArch64,
+        StubKind::Jump,
+        "307a019010e2199100021fd6",
+    ),
+    (
+        Architecture::RiscV,
+        StubKind::Load,
+        "170ec4ff033e8e2367000e00",
+    ),
+    (
+        Architecture::LoongArch64,
+        StubKind::Load,
+        "0f88ff1befe1c828e001004c",
+    ),
+    (
+        Architecture::LoongArch64,
+        StubKind::Jump,
+        "af17001ee079464c",
+    ),
     (
         Architecture::Ppc64,
         StubKind::Load,
@@ -254,7 +344,10 @@ fn stubs_are_what_assemblers_make_of_their_instructions() {
         assert_eq!(out[expected.len()..], [0x55; 3]);
 
         let mut short = vec![0x55; expected.len() - 1];
-        assert_eq!(target.write_stub(kind, PLACE, to, &mut short), Err(StubError::TooShort));
+        assert_eq!(
+            target.write_stub(kind, PLACE, to, &mut short),
+            Err(StubError::TooShort)
+        );
         assert_eq!(short, vec![0x55; expected.len() - 1]);
     }
     for architecture in [Architecture::X86_64, Architecture::RiscV] {
@@ -274,12 +367,42 @@ fn stubs_reach_as_far_as_their_fields() {
         // pages within 4 GiB
         (AArch64, StubKind::Load, -(1i64 << 32), (1 << 32) - 8, 8),
         (AArch64, StubKind::Jump, -(1i64 << 32), (1 << 32) - 1, 1),
-        (RiscV, StubKind::Load, -(1 << 31) - 0x800, (1 << 31) - 0x801, 1),
-        (LoongArch64, StubKind::Load, -(1 << 31) - 0x800, (1 << 31) - 0x801, 1),
-        (LoongArch64, StubKind::Jump, -(1i64 << 37) - 0x2_0000, (1i64 << 37) - 0x2_0004, 4),
+        (
+            RiscV,
+            StubKind::Load,
+            -(1 << 31) - 0x800,
+            (1 << 31) - 0x801,
+            1,
+        ),
+        (
+            LoongArch64,
+            StubKind::Load,
+            -(1 << 31) - 0x800,
+            (1 << 31) - 0x801,
+            1,
+        ),
+        (
+            LoongArch64,
+            StubKind::Jump,
+            -(1i64 << 37) - 0x2_0000,
+            (1i64 << 37) - 0x2_0004,
+            4,
+        ),
         // from the fourth instruction
-        (Ppc64, StubKind::Load, -(1 << 31) - 0x8000 + 12, (1 << 31) - 0x8004 + 12, 4),
-        (Ppc64, StubKind::Jump, -(1 << 31) - 0x8000 + 12, (1 << 31) - 0x8001 + 12, 1),
+        (
+            Ppc64,
+            StubKind::Load,
+            -(1 << 31) - 0x8000 + 12,
+            (1 << 31) - 0x8004 + 12,
+            4,
+        ),
+        (
+            Ppc64,
+            StubKind::Jump,
+            -(1 << 31) - 0x8000 + 12,
+            (1 << 31) - 0x8001 + 12,
+            1,
+        ),
     ] {
         let target = Target::of(architecture);
         let mut out = [0; 64];
@@ -303,7 +426,10 @@ fn stubs_reach_as_far_as_their_fields() {
 fn a_further_architecture_is_a_value() {
     let riscv = Target::of(Architecture::RiscV);
     let load = &riscv.load_stub;
-    let kind = |code| DynamicType { code, name: "R_SIXTH" };
+    let kind = |code| DynamicType {
+        code,
+        name: "R_SIXTH",
+    };
     let sixth = Target {
         dynamic: DynamicTypes {
             word: kind(101),
@@ -317,13 +443,27 @@ fn a_further_architecture_is_a_value() {
             thread_offset: kind(109),
             descriptor: None,
         },
-        thread_pointer: ThreadPointer::BelowImage { reserved: 24, bias: 0x100 },
+        thread_pointer: ThreadPointer::BelowImage {
+            reserved: 24,
+            bias: 0x100,
+        },
         module_bias: 0x10,
-        got: GotLayout { header: Some(GotHeader::Base), bias: 0x20 },
+        got: GotLayout {
+            header: Some(GotHeader::Base),
+            bias: 0x20,
+        },
         page: 0x4000,
-        code_unit: CodeUnit { len: 8, flag: 0x100, flagged_len: 4 },
+        code_unit: CodeUnit {
+            len: 8,
+            flag: 0x100,
+            flagged_len: 4,
+        },
         filler: [1, 2, 3, 4],
-        flags: FlagRules { same: 0xf0, joined: 0x0f, own: 1 },
+        flags: FlagRules {
+            same: 0xf0,
+            joined: 0x0f,
+            own: 1,
+        },
         symbols: &[],
         runs: &[],
         interpreter_flags: 0,
@@ -342,11 +482,23 @@ fn a_further_architecture_is_a_value() {
         },
         jump_stub: None,
     };
-    assert_eq!(sixth.dynamic_words(EntryClass::Address, false, true), [Some(103), None]);
-    assert_eq!(sixth.dynamic_words(EntryClass::Descriptor, false, true), [None, None]);
+    assert_eq!(
+        sixth.dynamic_words(EntryClass::Address, false, true),
+        [Some(103), None]
+    );
+    assert_eq!(
+        sixth.dynamic_words(EntryClass::Descriptor, false, true),
+        [None, None]
+    );
     // 24 bytes below the image, down to a multiple of 32, and 0x100 above that
     let origins = sixth.origins(0x1_0000, 0x40, 32);
-    assert_eq!(origins, Origins { thread_pointer: 0x1_00e0, module_block: 0x1_0010 });
+    assert_eq!(
+        origins,
+        Origins {
+            thread_pointer: 0x1_00e0,
+            module_block: 0x1_0010
+        }
+    );
     assert_eq!(sixth.got_header(0x2000, 0x3000), Some(0x2020));
     assert_eq!((sixth.unit(0x100), sixth.unit(0)), (4, 8));
     assert_eq!(sixth.join_flags(0x31, 0x34), Some(0x35));
@@ -354,10 +506,15 @@ fn a_further_architecture_is_a_value() {
     assert_eq!(sixth.interpreter(0), None);
 
     let mut out = [0; 20];
-    sixth.write_stub(StubKind::Load, PLACE - 4, WORD, &mut out).unwrap();
+    sixth
+        .write_stub(StubKind::Load, PLACE - 4, WORD, &mut out)
+        .unwrap();
     let (_, _, code) = STUBS[3];
     assert_eq!(out[4..16], bytes(code));
-    assert_eq!((&out[..4], &out[16..]), (&[0x13, 0, 0, 0][..], &[0x13, 0, 0, 0][..]));
+    assert_eq!(
+        (&out[..4], &out[16..]),
+        (&[0x13, 0, 0, 0][..], &[0x13, 0, 0, 0][..])
+    );
     // a field behind the pair, and one without a row
     for (offset, relocation, error) in [
         (9, 23, RelocateError::TooShort),
@@ -366,8 +523,15 @@ fn a_further_architecture_is_a_value() {
         // R_RISCV_RELAX has no value
         (0, 51, RelocateError::Unsupported),
     ] {
-        let first = StubField { offset, relocation, range: AllowedRange { bounds: None } };
-        let load_stub = Stub { first, ..sixth.load_stub };
+        let first = StubField {
+            offset,
+            relocation,
+            range: AllowedRange { bounds: None },
+        };
+        let load_stub = Stub {
+            first,
+            ..sixth.load_stub
+        };
         let faulty = Target { load_stub, ..sixth };
         let written = faulty.write_stub(StubKind::Load, PLACE, WORD, &mut [0; 64]);
         assert_eq!(written, Err(StubError::Field(error)));
@@ -379,12 +543,36 @@ fn a_further_architecture_is_a_value() {
 fn provided_functions_are_what_an_assembler_makes_of_them() {
     let runs = Target::of(Architecture::Ppc64).runs;
     for (prefix, words) in [
-        ("_savegpr0_", &[0xfbc1_fff0, 0xfbe1_fff8, 0xf801_0010, 0x4e80_0020][..]),
-        ("_restgpr0_", &[0xebc1_fff0, 0xebe1_fff8, 0xe801_0010, 0x7c08_03a6, 0x4e80_0020][..]),
+        (
+            "_savegpr0_",
+            &[0xfbc1_fff0, 0xfbe1_fff8, 0xf801_0010, 0x4e80_0020][..],
+        ),
+        (
+            "_restgpr0_",
+            &[
+                0xebc1_fff0,
+                0xebe1_fff8,
+                0xe801_0010,
+                0x7c08_03a6,
+                0x4e80_0020,
+            ][..],
+        ),
         ("_savegpr1_", &[0xfbcc_fff0, 0xfbec_fff8, 0x4e80_0020][..]),
         ("_restgpr1_", &[0xebcc_fff0, 0xebec_fff8, 0x4e80_0020][..]),
-        ("_savefpr_", &[0xdbc1_fff0, 0xdbe1_fff8, 0xf801_0010, 0x4e80_0020][..]),
-        ("_restfpr_", &[0xcbc1_fff0, 0xcbe1_fff8, 0xe801_0010, 0x7c08_03a6, 0x4e80_0020][..]),
+        (
+            "_savefpr_",
+            &[0xdbc1_fff0, 0xdbe1_fff8, 0xf801_0010, 0x4e80_0020][..],
+        ),
+        (
+            "_restfpr_",
+            &[
+                0xcbc1_fff0,
+                0xcbe1_fff8,
+                0xe801_0010,
+                0x7c08_03a6,
+                0x4e80_0020,
+            ][..],
+        ),
     ] {
         let run = runs.iter().find(|run| run.prefix == prefix).unwrap();
         assert_eq!((run.first, run.count), (14, 18));
