@@ -1,6 +1,6 @@
 //! What the library's errors print, and which error is the cause of another.
 
-use crate::elf::{RelocateError, Uleb128PairError, ValueError};
+use crate::elf::{RelocateError, Uleb128PairError, WriteError};
 use crate::output::StubError;
 use crate::relaxation::{OutOfMemory, PackError, RejectedCall, SectionRelaxDeltas};
 use crate::riscv64::{CallError, JumpError};
@@ -26,9 +26,9 @@ impl Display for RelocateError {
 
 impl Error for RelocateError {}
 
-impl Display for ValueError {
+impl Display for WriteError {
     fn fmt(&self, f: &mut Formatter<'_>) -> Result {
-        let ValueError { error, value, least, greatest, alignment } = self;
+        let WriteError { error, value, least, greatest, alignment } = self;
         write!(f, "{error}: {value}, where {least} to {greatest}")?;
         if *alignment > 1 {
             write!(f, " in multiples of {alignment}")?;
@@ -38,7 +38,7 @@ impl Display for ValueError {
 }
 
 // Its text has that of its cause, so that it has no cause of its own.
-impl Error for ValueError {}
+impl Error for WriteError {}
 
 impl Display for StubError {
     fn fmt(&self, f: &mut Formatter<'_>) -> Result {

@@ -2,4 +2,4 @@ pub mod Architectures
 pub mod Inner
 pub mod Machines
 pub mod Uleb128
-pub mod ValueErrors
+pub mod WriteErrors

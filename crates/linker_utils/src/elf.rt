@@ -3,7 +3,7 @@
 
 ghost use Rattle.std.specs.Prelude.{◌≡◌};
 ghost use Rattle.linker_utils.specs.Machines.{architecture_of, machine_of};
-ghost use Rattle.linker_utils.specs.ValueErrors.{value_error};
+ghost use Rattle.linker_utils.specs.WriteErrors.{write_error};
 
 use linker_base::utils::Uleb128Error;
 pub use linker_elf::elf::{
@@ -17,7 +17,7 @@ pub use linker_elf::elf::{
 
 /// Why a relocation's value isn't written, and which values can be.
 #[derive(Debug, Clone, Copy, PartialEq, Eq)]
-pub struct ValueError {
+pub struct WriteError {
     /// Why.
     pub error: RelocateError,
     /// The value.
@@ -30,27 +30,27 @@ pub struct ValueError {
     pub alignment: u64,
 }
 
-impl ValueError {
+impl WriteError {
     /// What is to be said of a value that `write` of a row rejected with an error.
     ///
     /// ```
-    /// use linker_utils::elf::{Architecture, ValueError};
+    /// use linker_utils::elf::{Architecture, WriteError};
     ///
     /// // R_AARCH64_TSTBR14 reaches 32 KiB
     /// let row = Architecture::AArch64.row(279).unwrap();
     /// let mut tbz = 0x3600_0000u32.to_le_bytes();
     /// let error = row.write(0x8000, &mut tbz).unwrap_err();
-    /// let error = ValueError::new(&row.info(), 0x8000, error);
+    /// let error = WriteError::new(&row.info(), 0x8000, error);
     /// assert_eq!((error.least, error.greatest, error.alignment), (-0x8000, 0x7fff, 4));
     /// ```
-    pub fn new(row: &RelocationKindInfo, value: i64, error: RelocateError) -> ValueError
-        ensures { result ≡ value_error row.now value error }
+    pub fn new(row: &RelocationKindInfo, value: i64, error: RelocateError) -> WriteError
+        ensures { result ≡ write_error row.now value error }
     {
         let (least, greatest) = match row.reach().bounds {
             Some((min, end)) => (min, end.cast_unsigned().wrapping_sub(1).cast_signed()),
             None => (i64::MIN, i64::MAX),
         };
-        ValueError {
+        WriteError {
             error,
             value,
             least,

@@ -11,7 +11,7 @@ use std::collections::HashMap;
 use std::io::Read;
 
 use instructions::{Form, instructions};
-use linker_utils::elf::{Architecture, Operands, Row, ValueError};
+use linker_utils::elf::{Architecture, Operands, Row, WriteError};
 
 /// An instruction, data, or so many bytes of 0.
 struct Statement<'a> {
@@ -162,7 +162,7 @@ fn assemble(machine: Architecture, source: &str, address: u64) -> Result<Vec<Vec
         for (at, row, operands) in relocations(machine, &statements, end, statement) {
             let value = row.value(&operands).expect("a relocation with a value");
             row.write(value, &mut bytes[at..]).map_err(|error| {
-                let error = ValueError::new(&row.info(), value, error);
+                let error = WriteError::new(&row.info(), value, error);
                 format!("line {}: {}: {error}", statement.line, statement.label)
             })?;
         }

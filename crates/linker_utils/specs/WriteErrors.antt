@@ -6,7 +6,7 @@ use Rattle.linker_elf.specs.Rows.{Bounds}
 use Rattle.linker_elf.specs.Value.{difference_64}
 use Rattle.linker_elf.specs.declared.elf.RelocationKindInfo.{RelocationKindInfo}
 use Rattle.linker_elf.specs.declared.elf.relocate.RelocateError.{RelocateError}
-use Rattle.linker_utils.specs.declared.elf.ValueError.{ValueError}
+use Rattle.linker_utils.specs.declared.elf.WriteError.{WriteError}
 
 -- the least number within bounds, and the last one, which is before their end; of no bounds those of
 -- 64 bits
@@ -18,8 +18,8 @@ abbrev pub greatest_within : Bounds → ℤ
 greatest_within None = pos (2 ^ 63 - 1)
 greatest_within (Some b) = cast_signed w64 (difference_64 (cast_unsigned w64 b.1) 1)
 
-abbrev pub value_error : RelocationKindInfo → ℤ → RelocateError → ValueError
-value_error row value error =
+abbrev pub write_error : RelocationKindInfo → ℤ → RelocateError → WriteError
+write_error row value error =
     record {
       error = error;
       value = value;
