@@ -9,7 +9,7 @@ use Rattle.linker_base.specs.declared.bit_misc.BitRange.{BitRange}
 use Rattle.linker_base.specs.Form.{window_of}
 use Rattle.linker_elf.specs.Elf.{relocation_form}
 use Rattle.linker_elf.specs.Relocate as relocate
-use Rattle.linker_elf.specs.Relocate.{WritesRow, insn_at, stays_movk, takes_size, is_supported, is_of_uleb128, is_call30, size_len, window_len, low_bytes}
+use Rattle.linker_elf.specs.Relocate.{WritesRow, insn_at, stays_movk, takes_size, is_supported, is_of_uleb128, size_len, window_len}
 use Rattle.linker_elf.specs.declared.aarch64.forms.AArch64Instruction.{AArch64Instruction}
 use Rattle.linker_elf.specs.declared.aarch64.forms.AArch64Instruction.TheVariants.{Movnz, Movkz}
 use Rattle.linker_elf.specs.declared.riscv64.forms.RiscVInstruction.{RiscVInstruction}

@@ -1,8 +1,8 @@
 //! The bytes that relocations write, and which relocations compose.
 
-ghost use Rattle.std.specs.Prelude.{◌≡◌, ◌<◌, ◌≤◌, ◌+◌, ◌&&◌, ◌||◌, ◌==◌, ◌/◌, nat_lt, length, take};
+ghost use Rattle.std.specs.Prelude.{◌≡◌, ◌<◌, ◌≤◌, ◌+◌, ◌&&◌, ◌||◌, ◌==◌, take};
 ghost use Rattle.linker_section.specs.Fields.{begins_pair, ends_pair, is_of_pair, uleb_len};
-ghost use Rattle.linker_section.specs.Fields.{field_len, changes_number, changes_bits, continues};
+ghost use Rattle.linker_section.specs.Fields.{changes_number, changes_bits, continues};
 ghost use Rattle.linker_section.specs.Inner.Claims.{continues_at, is_clear_of, next_field};
 
 use crate::values::has_value;

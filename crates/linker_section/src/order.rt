@@ -1,6 +1,6 @@
 //! Relocations in any order: the first whose field overlaps that of an earlier one.
 
-ghost use Rattle.std.specs.Prelude.{◌≡◌, ◌≤◌, ◌<◌, ◌+◌, ◌/◌, ◌↔◌, IsTrue, IfSome, IfNone, Some, length};
+ghost use Rattle.std.specs.Prelude.{◌≡◌, ◌<◌, ◌+◌, ◌/◌, ◌↔◌, IsTrue, IfSome, IfNone, Some, length};
 ghost use Rattle.std.specs.Prelude.{true, false};
 ghost use Rattle.linker_elf.specs.declared.elf.RelocationKindInfo.{RelocationKindInfo};
 ghost use Rattle.linker_section.specs.Fields.{IsField, IsOverlapped};

@@ -2,7 +2,6 @@
 
 ghost use Rattle.std.specs.Prelude.{◌≡◌, ◌≤◌, ◌<◌, ◌+◌, ◌/◌, List, ℕ, length};
 ghost use Rattle.linker_section.specs.Inner.Saved.{IsSavedAt, with_word, saved_place, Restores};
-ghost use Rattle.linker_utils.specs.Architectures.{IsRow};
 
 use crate::fields::ends_pair;
 use crate::relocations::relocation_in;

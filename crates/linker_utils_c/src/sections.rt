@@ -1,16 +1,14 @@
 //! What a section's relocations require, their values, and writing all of them.
 
-ghost use Rattle.std.specs.Prelude.{◌≡◌, Option, Result, ℤ, IfSome, IfNone};
+ghost use Rattle.std.specs.Prelude.{◌≡◌, Option, IfSome, IfNone};
 ghost use Rattle.linker_elf.specs.declared.elf.RelocationKindInfo.{RelocationKindInfo};
 ghost use Rattle.linker_section.specs.Needed.{needs_in};
 ghost use Rattle.linker_section.specs.Relocations.{relocation_at};
 ghost use Rattle.linker_section.specs.declared.needed.EntryClass.{EntryClass};
 ghost use Rattle.linker_section.specs.declared.needed.Requirements.{Requirements};
-ghost use Rattle.linker_section.specs.declared.sections.SectionError.{SectionError};
 ghost use Rattle.linker_section.specs.declared.values.ValueError.{ValueError};
 ghost use Rattle.linker_utils.specs.Architectures.{IsRow};
 ghost use Rattle.linker_utils.specs.Machines.{architecture_of};
-ghost use Rattle.linker_utils_c.specs.Relocate.{write_status, uleb_status};
 ghost use Rattle.linker_utils_c.specs.Sections.{class_number, IsNeedsReturned, IsValueAt};
 ghost use Rattle.linker_utils_c.specs.Sections.{value_status, relocation_status, room_of};
 ghost use Rattle.linker_utils_c.specs.Sections.{requirements_in, IsSectionReturned};
