@@ -791,12 +791,12 @@ fn merge_tests(report: &mut Report, random: &mut Random) {
             .map(|&(offset, bytes)| sathunne::Deletion { offset, bytes })
             .collect();
         let tested = || u64::from(sathunne::deletions_mergeable(&[], &given).is_ok());
-        let erased = Side::number(|| u64::from(none.is_mergeable(&pairs)));
+        let erased = Side::number(|| u64::from(none.is_mergeable_sorted(&pairs)));
         let sides = [Some(Side::number(tested)), None, Some(erased), None];
         report.line(&format!("{COUNT} {order}"), COUNT, true, sides);
     }
     let batches: Vec<Vec<(u64, u32)>> = (0..4).map(|first| fourth(first).collect()).collect();
-    let erased = Side::number(|| u64::from(none.are_mergeable(&batches)));
+    let erased = Side::number(|| u64::from(none.are_mergeable_sorted(&batches)));
     let sides = [None, None, Some(erased), None];
     report.line(&format!("{COUNT} in four batches"), COUNT, true, sides);
 }

@@ -129,10 +129,12 @@ fn merges_are_tested_without_memory() {
             // then the last overlaps the first, so that no order is kept
             for (mergeable, takes_memory) in [(true, copied), (false, count > 1_024)] {
                 for before in 0..2 {
-                    let call = || none.is_mergeable(&pairs);
+                    let call = || none.is_mergeable_sorted(&pairs);
                     assert_eq!(failing(before, call), (mergeable, takes_memory && before == 0));
                     let call = || none.as_delta_slice().can_merge_sorted(&pairs);
                     assert_eq!(failing(before, call), (mergeable, takes_memory && before == 0));
+                    let call = || none.is_mergeable(&pairs);
+                    assert_eq!(failing(before, call), (mergeable, false));
                     let call = || none.as_delta_slice().can_merge(&pairs);
                     assert_eq!(failing(before, call), (mergeable, false));
                 }
@@ -152,15 +154,17 @@ fn merges_of_batches_are_tested_without_memory() {
         for (pairs, takes_memory) in pairs_in_orders(count).into_iter().zip(copied) {
             let mut batches: Vec<_> = pairs.chunks(len).map(<[_]>::to_vec).collect();
             for before in 0..2 {
-                let call = || none.are_mergeable(&batches);
+                let call = || none.are_mergeable_sorted(&batches);
                 assert_eq!(failing(before, call), (true, takes_memory && before == 0));
+                assert_eq!(failing(before, || none.are_mergeable(&batches)), (true, false));
             }
             // the last overlaps the first, so that batches that ascended don't
             let is_many = count + count / len as u64 > 1_024;
             *batches.last_mut().and_then(|last| last.last_mut()).expect("a pair") = (pairs[0].0 + 2, 4);
             for before in 0..2 {
-                let call = || none.are_mergeable(&batches);
+                let call = || none.are_mergeable_sorted(&batches);
                 assert_eq!(failing(before, call), (false, is_many && before == 0));
+                assert_eq!(failing(before, || none.are_mergeable(&batches)), (false, false));
             }
         }
     }

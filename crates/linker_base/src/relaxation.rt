@@ -29,7 +29,8 @@ pub use delta_slice::DeltaSlice;
 pub use map::RelaxDeltaMap;
 use merge::{all_pairs, copy_pairs, count_pairs, insert_ascending, sorted};
 use overlap::{
-    are_ascending, are_many, can_batches_be_merged, can_be_merged_sorted, can_pairs_be_merged,
+    are_ascending, are_many, can_batches_be_merged, can_be_merged, can_be_merged_sorted,
+    can_pairs_be_merged,
 };
 pub use overlap::{AsDeletion, first_invalid};
 
@@ -172,12 +173,19 @@ impl SectionRelaxDeltas {
     /// Whether the pairs may be merged: their ends are at most `u64::MAX`, and of any two
     /// deletions, old or additional, one has the lower offset and does not reach past the other's.
     ///
-    /// For k pairs and n deltas the work is O(k log k + k log n), and O(k log n) where the pairs
-    /// ascend or descend. It doesn't allocate for those, nor for 1,024 pairs or fewer. Other pairs
-    /// are copied and sorted. Without memory for the copy they are sorted on the stack, 1,024 at a
-    /// time, in 16 KB, and the work is O(k log n + p k log k) for p such parts of the pairs, and
-    /// runs of 1,024 or more that ascend or descend.
+    /// It doesn't allocate. For k pairs and n deltas the work is O(k log n + k) where the pairs
+    /// ascend or descend, as a pass over a section makes them, and else O(k log n + p k log k) for
+    /// p parts of the pairs: runs of 1,024 or more that ascend or that descend, and where no such
+    /// run begins 1,024 pairs, which are sorted on the stack, in 16 KB.
     pub fn is_mergeable(&self, additional: &[(u64, u32)]) -> bool
+        ensures { IsTrue result ↔ AreDisjoint (self.now ++ additional.now) }
+    {
+        can_be_merged(&self.deltas, additional)
+    }
+
+    /// As `is_mergeable`, in O(k log k + k log n) where there is memory for a copy of the pairs,
+    /// which is sorted. Those that ascend or descend, and 1,024 or fewer, aren't copied.
+    pub fn is_mergeable_sorted(&self, additional: &[(u64, u32)]) -> bool
         ensures { IsTrue result ↔ AreDisjoint (self.now ++ additional.now) }
     {
         can_be_merged_sorted(*self.deltas.allocator(), &self.deltas, additional)
@@ -212,12 +220,19 @@ impl SectionRelaxDeltas {
 
     /// Whether all batches together may be merged, as `is_mergeable` says of their pairs.
     ///
-    /// For k pairs in b batches and n deltas the work is O(k log k + k log n + b), and O(k log n + b)
-    /// where the pairs ascend, from each batch to the next too. It doesn't allocate for those, nor
-    /// where pairs and batches together are 1,024 or fewer. Other pairs are copied and sorted.
-    /// Without memory for the copy the work is O(k log n + p k log k + p b) for p parts, which
-    /// `is_mergeable` describes, of the batches: at least one of each batch that has pairs.
+    /// It doesn't allocate. For k pairs in all batches and n deltas the work is O(k log n + k)
+    /// where the pairs ascend, from each batch to the next too, and else O(k log n + p k log k) for
+    /// p parts, which `is_mergeable` describes, of the batches: at least one of each batch.
     pub fn are_mergeable(&self, batches: &[Vec<(u64, u32)>]) -> bool
+        ensures { IsTrue result ↔ AreDisjoint (self.now ++ pairs_of batches.now) }
+    {
+        can_batches_be_merged(&self.deltas, batches)
+    }
+
+    /// As `are_mergeable`, in O(k log k + k log n + b) for b batches where there is memory for a
+    /// copy of all pairs, which is sorted. Pairs that ascend aren't copied, nor 1,024 or fewer,
+    /// counted with the batches.
+    pub fn are_mergeable_sorted(&self, batches: &[Vec<(u64, u32)>]) -> bool
         ensures { IsTrue result ↔ AreDisjoint (self.now ++ pairs_of batches.now) }
     {
         if are_many(batches) && !are_ascending(batches) {
@@ -225,7 +240,7 @@ impl SectionRelaxDeltas {
                 return can_pairs_be_merged(&self.deltas, pairs);
             }
         }
-        can_batches_be_merged(&self.deltas, batches)
+        self.are_mergeable(batches)
     }
 
     /// A copy of the deltas. It allocates once, twice for more than 1,024, and not at all where

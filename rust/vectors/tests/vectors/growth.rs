@@ -77,9 +77,9 @@ fn expect_merges(count: usize) {
                 listed.merge_additional(&between).expect("memory");
             },
         );
-        expect_growth(&name("test"), count, pairs, |pairs| assert!(none().is_mergeable(&pairs)));
+        expect_growth(&name("test"), count, pairs, |pairs| assert!(none().is_mergeable_sorted(&pairs)));
         expect_growth(&name("refused test"), count, overlapping, |pairs| {
-            assert!(!none().is_mergeable(&pairs));
+            assert!(!none().is_mergeable_sorted(&pairs));
         });
         expect_growth(&name("test over a slice"), count, pairs, |pairs| {
             assert!(DeltaSlice::new(&[]).can_merge_sorted(&pairs));
@@ -92,7 +92,7 @@ fn expect_merges(count: usize) {
             none().merge_all(&batches).expect("memory");
         });
         expect_growth(&name("test of batches"), count, batches, |batches| {
-            assert!(none().are_mergeable(&batches));
+            assert!(none().are_mergeable_sorted(&batches));
         });
         let of_one =
             |count| -> Vec<_> { pairs(count).into_iter().map(|pair| vec![pair]).collect() };
@@ -100,7 +100,7 @@ fn expect_merges(count: usize) {
             none().merge_all(&batches).expect("memory");
         });
         expect_growth(&name("test of batches of one"), count, of_one, |batches| {
-            assert!(none().are_mergeable(&batches));
+            assert!(none().are_mergeable_sorted(&batches));
         });
     }
 }
