@@ -386,7 +386,8 @@ pub fn memory_len(relocations: &[u8]) -> usize
 /// - to be a pair at a ULEB128 number, next to each other.
 ///
 /// A relocation without a value, as `R_RISCV_RELAX`, has no field. Where relocations ascend by
-/// offset this takes time in proportion to their number, and in any other order they are sorted.
+/// offset this takes time in proportion to their number. In any other order each field is compared
+/// with all before it, so the time is in proportion to the square of their number.
 ///
 /// # Errors
 ///
