@@ -1,4 +1,5 @@
-//! Calls for which `malloc` fails. They run in processes of their own, under a limit of 1 GB.
+//! Calls for which `malloc` fails, and calls that don't need it. They run in processes of their own,
+//! under a limit of 1 GB.
 
 use sathunne::*;
 use std::alloc::{alloc_zeroed, Layout};
@@ -13,8 +14,8 @@ fn merges_without_memory_change_nothing() {
 }
 
 #[test]
-fn runs_without_memory_change_nothing() {
-    within_limit("runs_without_memory_change_nothing", relax_too_many);
+fn runs_take_no_memory() {
+    within_limit("runs_take_no_memory", relax_many);
 }
 
 /// Makes the calls of a test in a process with the limit, which is the same test.
@@ -64,31 +65,31 @@ fn merge_too_many() {
     }
 }
 
-/// Items of 528 MB, of which calls have to make copies, relocations of 240 MB, of which none is made,
-/// and arrays of 150 MB.
-fn relax_too_many() {
-    const COUNT: usize = 6_000_000;
+/// Items of 440 MB, of which there is no room for a copy, with the arrays that the calls write and a
+/// section: each item is 4 bytes that stay.
+fn relax_many() {
+    const COUNT: usize = 5_000_000;
     let items: &mut [Item] = zeros(COUNT);
-    let relocations: &mut [Rela] = zeros(COUNT);
+    for (item, offset) in items.iter_mut().zip((0..).step_by(4)) {
+        *item = Item::site(offset, 4, 0, Shapes { longest: 4, ..Shapes::default() });
+    }
+    assert_eq!(items_relaxable(items, 0), Ok(()));
     let (shapes, kept) = (zeros::<u8>(COUNT), zeros::<u64>(COUNT));
     let (places, freed) = (zeros::<usize>(COUNT), zeros::<u64>(COUNT + 1));
-    let refused = Err(ArrayError::from(Status::OutOfMemory));
-    assert_eq!(items_relaxable(items, 0), refused);
-    (shapes[0], kept[0], places[0], freed[0]) = (7, 7, 7, 7);
+    (freed[0], freed[COUNT]) = (7, 7);
     let relaxed = Relaxed {
         shapes,
-        kept,
+        kept: &mut *kept,
         places,
-        freed,
+        freed: &mut *freed,
     };
-    assert_eq!(relax(items, 0, relaxed), refused);
-    assert_eq!((shapes[0], kept[0], places[0], freed[0]), (7, 7, 7, 7));
-    items[0].len = 7;
-    assert_eq!(riscv_items(&[], 0, relocations, items), Ok(0));
-    assert_eq!(loongarch_items(&[], 0, relocations, items), Ok(0));
-    let packed = pack_run(Architecture::RiscV, &[], 0, items, &[], 0, &mut []);
-    assert_eq!(packed, refused);
-    assert_eq!(items[0].len, 7);
+    assert_eq!(relax(items, 0, relaxed), Ok(()));
+    assert_eq!((kept[0], kept[COUNT - 1]), (4, 4));
+    assert_eq!((freed[0], freed[COUNT]), (0, 0));
+    let (section, packed) = (zeros::<u8>(4 * COUNT), zeros::<u8>(4 * COUNT));
+    (section[0], section[4 * COUNT - 1]) = (1, 2);
+    assert_eq!(pack_run(Architecture::RiscV, section, 0, items, &[], 0, packed), Ok(()));
+    assert_eq!((packed[0], packed[4 * COUNT - 1]), (1, 2));
 }
 
 /// Places that are never freed, of a type that has only numbers.
