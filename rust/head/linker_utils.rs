@@ -87,5 +87,5 @@ pub mod output {
         CodeUnit, Interpreter, ProvidedRun, ProvidedSymbol, SymbolPlace,
     };
     pub use crate::linker_output::stubs::{Stub, StubError, StubField, StubKind};
-    pub use crate::linker_output::target::Target;
+    pub use crate::linker_output::description::Target;
 }

@@ -3,6 +3,7 @@
 //! GOT, origins of thread-local storage, `e_flags`, and the code of stubs.
 
 mod aarch64;
+pub mod description;
 pub mod dynamic;
 pub mod flags;
 pub mod got;
@@ -11,5 +12,4 @@ mod loongarch64;
 mod ppc64;
 mod riscv64;
 pub mod stubs;
-pub mod target;
 mod x86_64;

@@ -16,7 +16,7 @@ use Rattle.linker_output.specs.declared.layout.SymbolPlace.{SymbolPlace}
 use Rattle.linker_output.specs.declared.stubs.Stub.{Stub}
 use Rattle.linker_output.specs.declared.stubs.StubKind.{StubKind}
 use Rattle.linker_output.specs.declared.stubs.StubKind.TheVariants.{Load, Jump}
-use Rattle.linker_output.specs.declared.target.Target.{Target}
+use Rattle.linker_output.specs.declared.description.Target.{Target}
 use Rattle.linker_utils.specs.declared.elf.Architecture.{Architecture}
 
 -- a symbol that a linker defines: its name, and how far it is above a place

@@ -4,7 +4,7 @@ ghost use Rattle.std.specs.Prelude.{◌≡◌, IfSome, IfNone};
 ghost use Rattle.linker_output.specs.Dynamic.{name_in, name_of, dynamic_words};
 ghost use Rattle.linker_output.specs.View.{view_types, view_list};
 
-use crate::target::Target;
+use crate::description::Target;
 use linker_section::needed::EntryClass;
 
 /// A type of dynamic relocations.
@@ -71,7 +71,7 @@ impl Target {
     /// ELF files. None of a code that is no type of `DynamicTypes`.
     ///
     /// ```
-    /// use linker_output::target::Target;
+    /// use linker_output::description::Target;
     /// use linker_utils::elf::Architecture;
     ///
     /// let target = Target::of(Architecture::LoongArch64);
@@ -113,7 +113,7 @@ impl Target {
     /// the second word of a bound symbol's `ModuleOffset` has its offset from `Origins::module_block`.
     ///
     /// ```
-    /// use linker_output::target::Target;
+    /// use linker_output::description::Target;
     /// use linker_section::needed::EntryClass;
     /// use linker_utils::elf::Architecture;
     ///

@@ -3,7 +3,7 @@
 ghost use Rattle.std.specs.Prelude.{◌≡◌, ℕ, bit_or};
 ghost use Rattle.linker_output.specs.Flags.{joined_flags, JoinsAlike, KeepsItself};
 
-use crate::target::Target;
+use crate::description::Target;
 
 /// How `e_flags` of objects go together.
 #[derive(Debug, Clone, Copy, PartialEq, Eq)]
@@ -22,7 +22,7 @@ impl Target {
     /// doesn't matter.
     ///
     /// ```
-    /// use linker_output::target::Target;
+    /// use linker_output::description::Target;
     /// use linker_utils::elf::Architecture;
     ///
     /// let target = Target::of(Architecture::RiscV);
@@ -52,7 +52,7 @@ impl Target {
     /// PowerPC64's objects may leave the version of the ABI open, and an output says that it is 2.
     ///
     /// ```
-    /// use linker_output::target::Target;
+    /// use linker_output::description::Target;
     /// use linker_utils::elf::Architecture;
     ///
     /// assert_eq!(Target::of(Architecture::Ppc64).output_flags(0), 2);

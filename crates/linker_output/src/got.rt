@@ -5,7 +5,7 @@ ghost use Rattle.linker_elf.specs.Value.{sum_64};
 ghost use Rattle.linker_output.specs.Got.{origins_of, entry_words, static_words, got_header_of, LeadsTo};
 ghost use Rattle.linker_output.specs.Got.{unit_of, at_or_below, at_or_above};
 
-use crate::target::Target;
+use crate::description::Target;
 use linker_section::needed::EntryClass;
 
 /// Where the thread pointer is, by the TLS image (ELF Handling For Thread-Local Storage).
@@ -76,7 +76,7 @@ pub fn entry_words(class: EntryClass) -> u64
 ///
 /// ```
 /// use linker_output::got::static_words;
-/// use linker_output::target::Target;
+/// use linker_output::description::Target;
 /// use linker_section::needed::EntryClass;
 /// use linker_utils::elf::Architecture;
 ///
@@ -132,7 +132,7 @@ impl Target {
     /// alignment of 0 stands for 1. Addresses are modulo 2^64.
     ///
     /// ```
-    /// use linker_output::target::Target;
+    /// use linker_output::description::Target;
     /// use linker_utils::elf::Architecture;
     ///
     /// let origins = Target::of(Architecture::Ppc64).origins(0x1_0000, 0x20, 16);
@@ -166,7 +166,7 @@ impl Target {
     /// 0 where there is none.
     ///
     /// ```
-    /// use linker_output::target::Target;
+    /// use linker_output::description::Target;
     /// use linker_utils::elf::Architecture;
     ///
     /// assert_eq!(Target::of(Architecture::RiscV).got_header(0x1_2000, 0x1_1000), Some(0x1_1000));

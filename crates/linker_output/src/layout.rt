@@ -5,7 +5,7 @@ ghost use Rattle.std.specs.Prelude.{◌≡◌, IfSome, IfNone, ◌%◌, slice_in
 ghost use Rattle.linker_output.specs.Layout.{unit_by, path_of, run_word, run_len};
 ghost use Rattle.linker_output.specs.View.{view_paths, view_run};
 
-use crate::target::Target;
+use crate::description::Target;
 
 /// How long the shortest instruction is, in bytes: what code is aligned to.
 #[derive(Debug, Clone, Copy, PartialEq, Eq)]
@@ -70,7 +70,7 @@ impl ProvidedRun {
     /// The instruction at an index. None from `len` on.
     ///
     /// ```
-    /// use linker_output::target::Target;
+    /// use linker_output::description::Target;
     /// use linker_utils::elf::Architecture;
     ///
     /// let runs = Target::of(Architecture::Ppc64).runs;
@@ -106,7 +106,7 @@ impl Target {
     /// How many bytes the shortest instruction of an output with such `e_flags` has.
     ///
     /// ```
-    /// use linker_output::target::Target;
+    /// use linker_output::description::Target;
     /// use linker_utils::elf::Architecture;
     ///
     /// assert_eq!(Target::of(Architecture::RiscV).unit(5), 2);
@@ -126,7 +126,7 @@ impl Target {
     /// The byte at an offset of a gap in code, which counts from a multiple of 4.
     ///
     /// ```
-    /// use linker_output::target::Target;
+    /// use linker_output::description::Target;
     /// use linker_utils::elf::Architecture;
     ///
     /// // `int3`
@@ -142,7 +142,7 @@ impl Target {
     /// glibc has none for them.
     ///
     /// ```
-    /// use linker_output::target::Target;
+    /// use linker_output::description::Target;
     /// use linker_utils::elf::Architecture;
     ///
     /// let path = Target::of(Architecture::RiscV).interpreter(5);

@@ -3,6 +3,7 @@
 #![tactic(auto)]
 
 mod aarch64;
+pub mod description;
 pub mod dynamic;
 pub mod flags;
 pub mod got;
@@ -12,5 +13,4 @@ mod loongarch64;
 mod ppc64;
 mod riscv64;
 pub mod stubs;
-pub mod target;
 mod x86_64;

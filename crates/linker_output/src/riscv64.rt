@@ -1,11 +1,11 @@
 //! What a linker adds to an output of RISC-V.
 
+use crate::description::Target;
 use crate::dynamic::{DynamicType, DynamicTypes, named};
 use crate::flags::FlagRules;
 use crate::got::{GotHeader, GotLayout, ThreadPointer};
 use crate::layout::{CodeUnit, Interpreter, ProvidedSymbol, SymbolPlace};
 use crate::stubs::{Stub, StubField, field};
-use crate::target::Target;
 use linker_utils::elf::{AllowedRange, Architecture};
 
 /// The description.

@@ -5,7 +5,7 @@ ghost use Rattle.linker_output.specs.Stubs.{operands_of, told_len, WritesField, 
 ghost use Rattle.linker_output.specs.Stubs.{WritesPair, RejectsPair, WritesStub, RejectsStub};
 ghost use Rattle.linker_output.specs.View.{view_stub, stub_of};
 
-use crate::target::Target;
+use crate::description::Target;
 use linker_base::rewrite::overwrite;
 use linker_utils::elf::{AllowedRange, Architecture, Operands, RelocateError};
 
@@ -153,7 +153,7 @@ impl Target {
     ///
     /// ```
     /// use linker_output::stubs::StubKind;
-    /// use linker_output::target::Target;
+    /// use linker_output::description::Target;
     /// use linker_utils::elf::Architecture;
     ///
     /// let target = Target::of(Architecture::AArch64);
@@ -180,7 +180,7 @@ impl Target {
     ///
     /// ```
     /// use linker_output::stubs::StubKind;
-    /// use linker_output::target::Target;
+    /// use linker_output::description::Target;
     /// use linker_utils::elf::Architecture;
     ///
     /// // `jmp *word(%rip)` and 2 of `int3`

@@ -1,11 +1,11 @@
 //! What a linker adds to an output of x86-64.
 
+use crate::description::Target;
 use crate::dynamic::{DynamicType, DynamicTypes, named};
 use crate::flags::FlagRules;
 use crate::got::{GotLayout, ThreadPointer};
 use crate::layout::{CodeUnit, Interpreter, ProvidedSymbol, SymbolPlace};
 use crate::stubs::{Stub, StubField, field};
-use crate::target::Target;
 use linker_utils::elf::{AllowedRange, Architecture};
 
 /// The description.

@@ -1,7 +1,7 @@
 // Made by tools/erase of crates/linker_output/src/dynamic.rt.
 //! The types of dynamic relocations, and the dynamic relocations of a GOT entry.
 
-use crate::linker_output::target::Target;
+use crate::linker_output::description::Target;
 use crate::linker_section::needed::EntryClass;
 
 /// A type of dynamic relocations.

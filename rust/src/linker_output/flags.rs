@@ -1,7 +1,7 @@
 // Made by tools/erase of crates/linker_output/src/flags.rt.
 //! `e_flags` of an output.
 
-use crate::linker_output::target::Target;
+use crate::linker_output::description::Target;
 
 /// How `e_flags` of objects go together.
 #[derive(Debug, Clone, Copy, PartialEq, Eq)]

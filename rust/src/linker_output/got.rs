@@ -1,7 +1,7 @@
 // Made by tools/erase of crates/linker_output/src/got.rt.
 //! Words of the GOT, and what offsets of thread-local storage count from.
 
-use crate::linker_output::target::Target;
+use crate::linker_output::description::Target;
 use crate::linker_section::needed::EntryClass;
 
 /// Where the thread pointer is, by the TLS image (ELF Handling For Thread-Local Storage).

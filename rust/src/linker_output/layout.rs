@@ -2,7 +2,7 @@
 //! Code's shortest instruction and filler, the symbols that linkers define, and the path of the
 //! dynamic linker.
 
-use crate::linker_output::target::Target;
+use crate::linker_output::description::Target;
 
 /// How long the shortest instruction is, in bytes: what code is aligned to.
 #[derive(Debug, Clone, Copy, PartialEq, Eq)]

@@ -1,7 +1,7 @@
 // Made by tools/erase of crates/linker_output/src/stubs.rt.
 //! Code that a linker adds: stubs that jump to the address that a word has, or to a far target.
 
-use crate::linker_output::target::Target;
+use crate::linker_output::description::Target;
 use crate::linker_base::rewrite::overwrite;
 use crate::elf::{AllowedRange, Architecture, Operands, RelocateError};
 

@@ -1,12 +1,12 @@
 // Made by tools/erase of crates/linker_output/src/x86_64.rt.
 //! What a linker adds to an output of x86-64.
 
+use crate::linker_output::description::Target;
 use crate::linker_output::dynamic::{DynamicType, DynamicTypes, named};
 use crate::linker_output::flags::FlagRules;
 use crate::linker_output::got::{GotLayout, ThreadPointer};
 use crate::linker_output::layout::{CodeUnit, Interpreter, ProvidedSymbol, SymbolPlace};
 use crate::linker_output::stubs::{Stub, StubField, field};
-use crate::linker_output::target::Target;
 use crate::elf::{AllowedRange, Architecture};
 
 /// The description.

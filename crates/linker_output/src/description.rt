@@ -53,7 +53,7 @@ impl Target {
     /// The description of an architecture.
     ///
     /// ```
-    /// use linker_output::target::Target;
+    /// use linker_output::description::Target;
     /// use linker_utils::elf::Architecture;
     ///
     /// let target = Target::of(Architecture::X86_64);

@@ -1,4 +1,4 @@
-// Made by tools/erase of crates/linker_output/src/target.rt.
+// Made by tools/erase of crates/linker_output/src/description.rt.
 //! The description of an architecture.
 
 use crate::linker_output::dynamic::DynamicTypes;

@@ -1,0 +1,9 @@
+use Rattle.std.proofs.Common.{◌≡◌, drop}
+use Rattle.linker_output.specs.Layout.{path_in}
+use Rattle.linker_output.specs.View.{view_paths}
+use Rattle.linker_output.proofs.description.Target.interpreter.Given as goal
+
+abbrev pub invariant-loop-listed : goal.invariant-loop-listed
+invariant-loop-listed l =
+    path_in (view_paths (drop l.listed-index l.listed-items)) l.flags
+    ≡ path_in (view_paths l.listed-items) l.flags
