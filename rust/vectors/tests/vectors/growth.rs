@@ -77,7 +77,9 @@ fn expect_merges(count: usize) {
                 listed.merge_additional(&between).expect("memory");
             },
         );
-        expect_growth(&name("test"), count, pairs, |pairs| assert!(none().is_mergeable_sorted(&pairs)));
+        expect_growth(&name("test"), count, pairs, |pairs| {
+            assert!(none().is_mergeable_sorted(&pairs))
+        });
         expect_growth(&name("refused test"), count, overlapping, |pairs| {
             assert!(!none().is_mergeable_sorted(&pairs));
         });
