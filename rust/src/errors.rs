@@ -3,9 +3,11 @@
 use crate::elf::{RelocateError, Uleb128PairError, WriteError};
 use crate::output::StubError;
 use crate::relaxation::{OutOfMemory, PackError, RejectedCall, SectionRelaxDeltas};
+use crate::rewriting::RewritingError;
 use crate::riscv64::{CallError, JumpError};
 use crate::runs::items::ItemsError;
 use crate::runs::relaxation::{Fault, ItemFault};
+use crate::section::{self, RelocationError, SectionError};
 use crate::utils::Uleb128Error;
 use core::error::Error;
 use core::fmt::{Display, Formatter, Result};
@@ -236,3 +238,70 @@ impl Error for ItemFault {
         Some(&self.fault)
     }
 }
+
+impl Display for section::ValueError {
+    fn fmt(&self, f: &mut Formatter<'_>) -> Result {
+        f.write_str(match self {
+            section::ValueError::UnknownType => "the architecture has no relocation of this type",
+            section::ValueError::NoSymbol => {
+                "the relocation's symbol, or that of its high part, is not in the table"
+            }
+            section::ValueError::NoEntry => {
+                "the relocation requires an entry of the GOT, and there is none of its class with \
+                 its addend"
+            }
+            section::ValueError::NoHighPart => {
+                "no high part is at the label that the symbol of the relocation is"
+            }
+        })
+    }
+}
+
+impl Error for section::ValueError {}
+
+// Its text is that of its cause, so that it has no cause of its own.
+impl Display for RelocationError {
+    fn fmt(&self, f: &mut Formatter<'_>) -> Result {
+        match self {
+            RelocationError::Value(error) => error.fmt(f),
+            RelocationError::Overlaps => f.write_str(
+                "the relocation's field overlaps that of one before it, and the two do not compose",
+            ),
+            RelocationError::Write(error) => error.fmt(f),
+            RelocationError::Uleb128(error) => error.fmt(f),
+        }
+    }
+}
+
+impl Error for RelocationError {}
+
+impl Display for SectionError {
+    fn fmt(&self, f: &mut Formatter<'_>) -> Result {
+        write!(f, "the relocation at index {} is not written", self.index)
+    }
+}
+
+impl Error for SectionError {
+    fn source(&self) -> Option<&(dyn Error + 'static)> {
+        Some(&self.error)
+    }
+}
+
+impl Display for RewritingError {
+    fn fmt(&self, f: &mut Formatter<'_>) -> Result {
+        match self {
+            RewritingError::TooShort => f.write_str("there are fewer decisions than relocations"),
+            RewritingError::NotSurveyed(index) => write!(
+                f,
+                "the instruction of the relocation at index {index} has no rewrite, and its group \
+                 was not surveyed"
+            ),
+            RewritingError::Overlaps(index) => write!(
+                f,
+                "the rewrite of the relocation at index {index} overlaps that of one before it"
+            ),
+        }
+    }
+}
+
+impl Error for RewritingError {}

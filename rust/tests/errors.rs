@@ -4,9 +4,11 @@ use linker_utils::elf::{Architecture, RelocateError, Uleb128PairError, WriteErro
 use linker_utils::output::StubError;
 use linker_utils::readers::{self, ReadError};
 use linker_utils::relaxation::{OutOfMemory, PackError, RejectedCall, SectionRelaxDeltas};
+use linker_utils::rewriting::RewritingError;
 use linker_utils::riscv64::{CallError, JumpError};
 use linker_utils::runs::items::ItemsError;
 use linker_utils::runs::relaxation::{Fault, ItemFault};
+use linker_utils::section::{self, RelocationError, SectionError};
 use linker_utils::utils::{self, Uleb128Error};
 use std::error::Error;
 
@@ -234,4 +236,39 @@ fn errors_of_readers_are_boxed() {
     let ended = number(&[1, 0, 0, 0, 0x85]).unwrap_err();
     assert_eq!(ended.downcast_ref(), Some(&ReadError::Ended));
     assert_eq!(number(&[1]).unwrap_err().downcast_ref(), Some(&ReadError::TooShort));
+}
+
+#[test]
+fn errors_of_sections_are_printed() {
+    for (error, name) in [
+        (RelocationError::Value(section::ValueError::NoSymbol), "NO_SYMBOL"),
+        (RelocationError::Value(section::ValueError::NoEntry), "NO_ENTRY"),
+        (RelocationError::Value(section::ValueError::NoHighPart), "NO_HIGH_PART"),
+        (RelocationError::Overlaps, "OVERLAPS"),
+        (RelocationError::Write(RelocateError::Misaligned), "MISALIGNED"),
+    ] {
+        let place = "the relocation at index 7 is not written";
+        assert_eq!(texts(SectionError { index: 7, error }), [place.into(), status(name)]);
+    }
+    let unknown = RelocationError::Value(section::ValueError::UnknownType);
+    assert!(status("UNKNOWN_RELOCATION").starts_with(&unknown.to_string()));
+    let number = RelocationError::Uleb128(Uleb128Error::DoesNotFit);
+    assert_eq!(texts(number), texts(Uleb128Error::DoesNotFit));
+}
+
+#[test]
+fn errors_of_rewrites_are_printed() {
+    for (error, text) in [
+        (RewritingError::TooShort, "there are fewer decisions than relocations"),
+        (
+            RewritingError::NotSurveyed(3),
+            "the instruction of the relocation at index 3 has no rewrite, and its group was not surveyed",
+        ),
+        (
+            RewritingError::Overlaps(4),
+            "the rewrite of the relocation at index 4 overlaps that of one before it",
+        ),
+    ] {
+        assert_eq!(texts(error), [text]);
+    }
 }
