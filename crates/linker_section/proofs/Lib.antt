@@ -1,6 +1,8 @@
 pub mod All
 pub mod Claims
 pub mod Composing
+pub mod Exact
+pub mod Faults
 pub mod Fielded
 pub mod Fronts
 pub mod Held
