@@ -4,6 +4,7 @@ pub mod Composing
 pub mod Local
 pub mod Rows
 pub mod Saving
+pub mod Sorted
 pub mod Stepping
 pub mod Ulebs
 pub mod Valued
