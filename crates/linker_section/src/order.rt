@@ -1,9 +1,9 @@
 //! Relocations in any order: the first whose field overlaps that of an earlier one.
 
-ghost use Rattle.std.specs.Prelude.{◌≡◌, ◌<◌, ◌≤◌, ◌+◌, ◌/◌, ◌↔◌, ℕ, IsTrue, IfSome, IfNone, Some};
+ghost use Rattle.std.specs.Prelude.{◌≡◌, ◌<◌, ◌≤◌, ◌+◌, ◌/◌, ◌↔◌, IsTrue, IfSome, IfNone, Some};
 ghost use Rattle.std.specs.Prelude.{true, false, length};
 ghost use Rattle.linker_elf.specs.declared.elf.RelocationKindInfo.{RelocationKindInfo};
-ghost use Rattle.linker_section.specs.Fields.{IsField, IsOverlapped, AreApart};
+ghost use Rattle.linker_section.specs.Fields.{IsField, AreApart};
 ghost use Rattle.linker_section.specs.Inner.Claims.{HasField};
 ghost use Rattle.linker_section.specs.Inner.Order.{place_of, AreIndexes, IsOrder, IsOverlappedBelow};
 ghost use Rattle.linker_section.specs.Inner.Steps.{IsLimit};
