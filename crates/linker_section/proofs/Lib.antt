@@ -1,7 +1,9 @@
 pub mod All
+pub mod Bytes
 pub mod Claims
 pub mod Composing
 pub mod Local
+pub mod RowNames
 pub mod Rows
 pub mod Saving
 pub mod Sorted
