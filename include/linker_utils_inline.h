@@ -103,8 +103,9 @@ uint32_t linker_utils_apply_nonnull(uint16_t machine, uint32_t rewrite,
 static inline uint32_t linker_utils_apply(uint16_t machine, uint32_t rewrite, uint8_t opcode_len,
                                           uint8_t *section, size_t section_len, uint64_t *offset,
                                           int64_t *addend) {
-    return linker_utils_apply_nonnull(machine, rewrite, opcode_len, LINKER_UTILS_SLICE(uint8_t, section),
-                                      section_len, offset, addend);
+    return linker_utils_apply_nonnull(machine, rewrite, opcode_len,
+                                      LINKER_UTILS_SLICE(uint8_t, section), section_len, offset,
+                                      addend);
 }
 
 uint32_t linker_utils_relocation_name_nonnull(uint16_t machine, uint32_t r_type, uint8_t *name,

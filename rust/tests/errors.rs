@@ -22,7 +22,7 @@ fn texts(error: impl Error + Send + Sync + 'static) -> Vec<String> {
 /// A status's text in the header of the static library, as errors print it: with no capital and no
 /// full stop.
 fn status(name: &str) -> String {
-    let header = include_str!("../../include/linker_utils.h");
+    let header = include_str!("../../include/linker_utils_lists.h");
     let (_, entry) = header.split_once(&format!("    STATUS({name}, ")).expect(name);
     let (entry, _) = entry.split_once("\")").expect(name);
     let text: String = entry.split('"').skip(1).step_by(2).collect();
