@@ -1368,11 +1368,11 @@ static void call_section_items(void) {
     }
     size_t items_len = once_in(8) ? any_len(8) : count;
     struct buffer *items = place(WRITTEN, items_len, sizeof(struct linker_utils_item));
+    size_t makers_len = once_in(8) ? any_len(8) : count;
+    struct buffer *makers = place(WRITTEN, makers_len, sizeof(size_t));
     uint64_t base = once_in(8) ? any_number() : below(64);
     size_t *len = output(sizeof(size_t));
     size_t *faulty = any_faulty();
-    size_t makers_len = once_in(8) ? any_len(8) : count;
-    struct buffer *makers = place(WRITTEN, makers_len, sizeof(size_t));
     uint32_t status = CALL(section_items, machine, section->given, section_len, base, given->given,
                            count, ITEMS(items), makers->given, makers_len, len, faulty);
     expect(was_refused == (status == LINKER_UTILS_OUT_OF_MEMORY), "tells nothing of memory");
