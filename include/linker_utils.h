@@ -41,6 +41,49 @@
  *   `linker_utils_shrink_calls` and `linker_utils_deletions_mergeable`. Such a call is not for a
  *   signal handler, nor for the forked child of a process with threads.
  *
+ * Examples, of docs/MANUAL.md by tools/manual; each goes on from those before it:
+ *
+ * Values:
+ *     struct linker_utils_operands at = linker_utils_operands_of(0x402000, 0, 0x401000);
+ *     int64_t value;
+ *     uint32_t status = linker_utils_value(EM_AARCH64, R_AARCH64_CALL26, &at, &value);
+ *     assert(status == LINKER_UTILS_OK && value == 0x1000);
+ * Writes:
+ *     uint8_t bl[4] = {0x00, 0x00, 0x00, 0x94};
+ *     status = linker_utils_relocate(EM_AARCH64, R_AARCH64_CALL26, value, bl, sizeof bl);
+ *     assert(status == LINKER_UTILS_OK && bl[1] == 0x04);
+ *     status = linker_utils_relocate(EM_AARCH64, R_AARCH64_CALL26, 0x10000000, bl, sizeof bl);
+ *     assert(status == LINKER_UTILS_OUT_OF_REACH && bl[1] == 0x04);
+ * Rewrites:
+ *     uint8_t code[7] = {0x48, 0x8b, 0x3d}; uint64_t offset = 3; int64_t addend = -4;
+ *     struct linker_utils_choice it; static struct linker_utils_link_facts local;
+ *     local.operands = linker_utils_operands_of(0x404000, addend, 0x401003), local.is_local = 1;
+ *     local.has_fixed_distance = 1;
+ *     linker_utils_choose(EM_X86_64, R_X86_64_REX_GOTPCRELX, code, 7, 3, &local, &it);
+ *     linker_utils_apply(EM_X86_64, it.rewrite, it.opcode_len, code, 7, &offset, &addend);
+ *     assert(code[1] == 0x8d && it.relocation == R_X86_64_PC32); // lea x(%rip), %rdi
+ * Deletions:
+ *     const struct linker_utils_deletion gone[2] = {{4, 4}, {16, 2}};
+ *     struct linker_utils_delta deltas[2]; uint64_t input;
+ *     linker_utils_deltas_create(gone, 2, deltas, 2, NULL); // or a status
+ *     assert(linker_utils_deltas_input_to_output(deltas, 2, 18) == 12);
+ *     status = linker_utils_deltas_output_to_input(deltas, 2, 12, &input);
+ *     assert(status == LINKER_UTILS_OK && input == 18);
+ * Sections:
+ *     const uint64_t rela[3] = {0, ELF64_R_INFO(UINT64_C(1), R_AARCH64_CALL26), 0}; size_t faulty;
+ *     static struct linker_utils_symbol symbols[2]; symbols[1].address = 0x402000;
+ *     static struct linker_utils_addresses here; here.section = 0x401000; uint64_t memory[1];
+ *     status = linker_utils_relocate_section(EM_AARCH64, &here, (const uint8_t *)rela, sizeof rela,
+ *                                            symbols, 2, bl, sizeof bl, memory, 1, &faulty);
+ *     assert(status == LINKER_UTILS_OK && bl[1] == 0x04);
+ * Reading back:
+ *     struct linker_utils_field_value known, from; uint32_t reference;
+ *     linker_utils_read_value(EM_AARCH64, R_AARCH64_CALL26, bl, sizeof bl, &known);
+ *     linker_utils_solve(EM_AARCH64, R_AARCH64_CALL26, &known, &at, &reference, &from);
+ *     assert(known.bits - known.rounding == 0x1000 && from.bits == 0x402000); // S + A
+ *
+ * End of the examples.
+ *
  * A machine is ELF's `e_machine`, and a relocation type the low 32 bits of ELF's `r_info`, as
  * <elf.h> names them (`EM_X86_64`, `R_X86_64_PC32`). Bits are numbered from the least
  * significant one. docs/DEFINITIONS.md has the definitions that the calls are proved to meet.

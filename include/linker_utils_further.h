@@ -503,8 +503,8 @@ struct linker_utils_rela {
     int64_t addend; /* r_addend */
     uint32_t r_type;
     uint8_t has_symbol; /* 0 where r_sym is 0 */
-    /* 0 where what it refers to isn't in the run, where bytes between S and S + A may be deleted, or
-     * where the instructions are to stay as they are */
+    /* 0 where what it refers to isn't in the run, where bytes between S and S + A may be deleted,
+     * or where the instructions are to stay as they are */
     uint8_t has_target;
     uint8_t may_compress; /* 1 where the code may use RISC-V's C extension: EF_RISCV_RVC is in the
                              `e_flags` of its object */

@@ -46,8 +46,8 @@
     STATUS(UNSUPPORTED, 30, \
            "The relocation is one of a pair that computes a ULEB128 number, or R_LARCH_CALL30.") \
     STATUS(DOES_NOT_MATCH, 31, \
-           "The bytes there are not an instruction that the rewrite is meant for, or that has the " \
-           "form.") \
+           "The bytes there are not an instruction that the rewrite is meant for, or that has " \
+           "the form.") \
     STATUS(UNKNOWN_SHAPES, 32, "No shapes have this number.") \
     STATUS(MALFORMED_RELOCATION, 33, \
            "The relocation is not one that the psABI allows there.") \
