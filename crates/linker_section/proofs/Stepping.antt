@@ -221,7 +221,7 @@ unchanged o w now after local none =
 split : (o w offset : ℕ) → o + w ≤ offset → offset ≡ o + w + (offset - (o + w))
 split o w offset behind = omega (arith, behind)
 
-drop_behind : (o w offset : ℕ) (now after : List ℕ) → IsLocal o w now after
+pub drop_behind : (o w offset : ℕ) (now after : List ℕ) → IsLocal o w now after
     → o + w ≤ offset ⊎ (w ≡ 0) → drop offset after ≡ drop offset now
 drop_behind o w offset now after local window =
     elim window [
@@ -506,13 +506,13 @@ set_above memory k n word most i below =
 -- ---- a pair
 
 -- the second's field is the first's
-record SamePlace (architecture : Architecture) (bytes before : List ℕ) (k : ℕ)
+pub record SamePlace (architecture : Architecture) (bytes before : List ℕ) (k : ℕ)
     (row other : RelocationKindInfo) : Type 0 where
   pub len_is : field_len other (drop (offset_at bytes (k + 1)) before)
       ≡ field_len row (drop (offset_at bytes k) before)
   pub end_is : field_end bytes before (k + 1) other ≡ field_end bytes before k row
 
-same_place : (architecture : Architecture) (bytes before : List ℕ) (k : ℕ)
+pub same_place : (architecture : Architecture) (bytes before : List ℕ) (k : ℕ)
     (row other : RelocationKindInfo) → offset_at bytes (k + 1) ≡ offset_at bytes k
     → has_value row.kind ≡ true → begins_pair row.size row.kind ≡ true
     → ends_pair other.size other.kind ≡ true
