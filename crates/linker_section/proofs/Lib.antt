@@ -9,6 +9,7 @@ pub mod Numbers
 pub mod Rows
 pub mod Saving
 pub mod Sized
+pub mod Sorted
 pub mod Stepping
 pub mod Ulebs
 pub mod Valued
