@@ -110,7 +110,7 @@ static inline const char *linker_utils_status_text(uint32_t status);
 const char *linker_utils_version(void);
 
 /* Whether that is the archive that the prover's kit built, of code that is proved to meet its
- * contracts, and not the library that rustc built of the same source without contracts. */
+ * contracts. The other library is rustc's, of the same source without contracts. */
 bool linker_utils_is_proved(void);
 
 /* ---- Values of relocations, and what they depend on. */
@@ -136,7 +136,7 @@ struct linker_utils_operands {
     uint64_t place;
     /* GOT + G, GD, LD, IE or DESC: the address of the entry that the relocation requires. For an
      * instruction of AArch64 or PowerPC64 it is the entry of S + A, and A isn't added to its
-     * address; for R_AARCH64_GOTPCREL32, and on the other architectures, it is the entry of S, and
+     * address. For R_AARCH64_GOTPCREL32, and on the other architectures, it is the entry of S, and
      * A is added. R_LARCH_GOT_PC_LO12 for a TLS symbol whose high half is R_LARCH_TLS_GD_PC_HI20 or
      * R_LARCH_TLS_LD_PC_HI20 takes the entry of that high half. */
     uint64_t got_entry;
@@ -144,11 +144,11 @@ struct linker_utils_operands {
     uint64_t plt_entry; /* L: the PLT entry's address, or S where there is none. Calls read it. */
     uint64_t symbol_size; /* Z */
     /* The origin of offsets of TLS symbols, as an address in the TLS segment's image. For an offset
-     * from the thread pointer it is the thread pointer's: on AArch64 the image's address less 16
-     * rounded up to the segment's alignment, on RISC-V and LoongArch the image's address, on
-     * PowerPC64 that plus 0x7000, and on x86-64 that plus the segment's size rounded up to its
-     * alignment. For an offset in the module's TLS block it is the image's address; plus 0x8000 on
-     * PowerPC64, and plus 0x800 on RISC-V. */
+     * from the thread pointer it is the thread pointer's. On AArch64 that is the image's address
+     * less 16 rounded up to the segment's alignment, and on RISC-V and LoongArch the image's
+     * address. On PowerPC64 it is that plus 0x7000, and on x86-64 that plus the segment's size
+     * rounded up to its alignment. For an offset in the module's TLS block it is the image's
+     * address; plus 0x8000 on PowerPC64, and plus 0x800 on RISC-V. */
     uint64_t tls_base;
 };
 
@@ -238,11 +238,11 @@ struct linker_utils_link_facts {
     uint8_t is_ifunc; /* The symbol is an indirect function, STT_GNU_IFUNC. */
     /* The symbol is undefined and weak, and nothing defines it at run time: its address is 0. */
     uint8_t is_undefined_weak;
-    /* The symbol's address is the same wherever the output is loaded: that of an absolute symbol
-     * and of an undefined weak one, and any in an output that is always loaded at one address. */
+    /* The symbol's address is the same wherever the output is loaded. It is for an absolute symbol
+     * and an undefined weak one, and for any in an output that is always loaded at one address. */
     uint8_t has_fixed_address;
-    /* So is the distance from the code to the symbol: that to any symbol of the output, but to an
-     * absolute one only in an output that is always loaded at one address. */
+    /* So is the distance from the code to the symbol. It is for any symbol of the output, and for
+     * an absolute one only in an output that is always loaded at one address. */
     uint8_t has_fixed_distance;
     uint8_t is_executable; /* The output is an executable, position-independent or not. */
     /* x86-64: the sequence that computed the base of local-dynamic TLS for this relocation was
@@ -256,9 +256,9 @@ struct linker_utils_link_facts {
      * R_RISCV_GOT_HI20 and at that of every R_RISCV_PCREL_LO12_I that names its label. Today's
      * compilers (GNU as 2.40, LLVM 19) mark the low parts only: it is 0 for what they make. */
     uint8_t is_label_relaxable;
-    /* PowerPC64: the register through which the instruction gets the high part of its address, and
-     * which an `addis` has set, is read only by instructions whose relocation is of the same symbol
-     * and addend. Linkers assume this, as the ABI requires of compilers. */
+    /* PowerPC64: an `addis` has set the register through which the instruction gets the high part
+     * of its address. Only instructions whose relocation is of the same symbol and addend read it.
+     * Linkers assume this, as the ABI requires of compilers. */
     uint8_t toc_base_is_exclusive;
     /* PowerPC64: the function that is called may return with another TOC pointer in register 2,
      * since it is called through a PLT entry or its symbol's st_other says so. */
@@ -268,10 +268,10 @@ struct linker_utils_link_facts {
     uint8_t has_addresses;
     /* Each relocation of the sequence that this one is part of can be rewritten. Where the
      * instructions of a sequence may be apart, none of them is rewritten without it.
-     * At R_X86_64_TLSGD and R_X86_64_TLSLD it says that the sequence's call has a relocation:
-     * choose with it, and where `modifier` of the choice skips one, look at the offset plus
+     * At R_X86_64_TLSGD and R_X86_64_TLSLD it says that the sequence's call has a relocation.
+     * Choose with it. Where `modifier` of the choice skips one, look at the offset plus
      * `skipped_offset` for a relocation whose type `linker_utils_may_be_skipped` and whose symbol
-     * is `__tls_get_addr`; where there is none, choose without it. At R_X86_64_GOTPC32_TLSDESC, its
+     * is `__tls_get_addr`. Where there is none, choose without it. At R_X86_64_GOTPC32_TLSDESC, its
      * CODE_4, CODE_5 and CODE_6, and R_X86_64_TLSDESC_CALL it says that each relocation of these
      * types in the object that is of the same symbol fits (`linker_utils_relocation_fits`). */
     uint8_t group_fits;
@@ -292,8 +292,8 @@ struct linker_utils_choice {
     uint64_t deleted_start;
     /* Where another relocation is, in bytes from the offset on, whose instruction the rewrite
      * changes too, and the type that it has then. Whatever relocation is at that offset gets that
-     * type, and not the one that its own choice names: so it makes no difference whether its value
-     * is written before the rewrite or after it. Both are 0 where there is none. */
+     * type, and not the one that its own choice names. So its value may be written before the
+     * rewrite or after it. Both are 0 where there is none. */
     int64_t other_offset;
     uint32_t other_relocation;
     uint8_t has_other; /* 1 where there is another; else 0. */
@@ -305,35 +305,35 @@ struct linker_utils_choice {
 };
 
 /* The rewrite that a linker may make of the instruction at a relocation by these facts, and the
- * relocation after it, into `choice`: by the tables in linker_utils_lists.h, which are made after
- * the psABIs and after what linkers do. `linker_utils_matches` of the rewrite then returns
+ * relocation after it, into `choice`. The tables in linker_utils_lists.h, which are made after the
+ * psABIs and after what linkers do, have them. `linker_utils_matches` of the rewrite then returns
  * LINKER_UTILS_OK. Where no entry applies, or the bytes are not the instruction that the
  * relocation's name requires, it is NO_OP and the same relocation. NO_OP and another relocation are
- * possible: the `adrp` of a pair. The bytes are those of the object file: on AArch64 and LoongArch
- * the two relocations of a load from the GOT, those of LoongArch's `pcalau12i` and `addi.d`, and
- * the four of a TLS descriptor of AArch64 test the whole pair or sequence, so that all are chosen
- * alike where the symbol is the same and the facts are, but for `place`. So they have to be chosen
- * before one of them is rewritten. The halves of initial-exec of AArch64 and LoongArch, and the
- * four of a TLS descriptor of LoongArch, may stand anywhere, and one may belong to several others:
- * each is chosen by its own instruction, and only with `group_fits`, which has to be the same for
- * all of that symbol and addend in the object, as the other facts but `place`. Between the
- * instructions of a descriptor nothing else reads or writes `a0` and `ra`, and nothing reads `ra`
- * behind them; what a high half left is read by low halves of that symbol and addend alone, or
- * copied. So compilers emit them. On RISC-V the instructions of a descriptor, and the `auipc` and
- * `ld` of a GOT entry, may be apart: each is chosen by the facts of the high part that its label
- * names, `is_relaxable` of a descriptor's R_RISCV_TLSDESC_HI20 among them; the `auipc` and `ld` by
- * `is_label_relaxable`, and not by `is_relaxable` of either. After ADDI_TO_AUIPC the place of
- * R_RISCV_TLS_GOT_HI20, and of the R_RISCV_PCREL_LO12_I that CALL_TO_LD leaves, is that of the
- * `addi`, and S of the latter is the GOT entry. On PowerPC64 too each instruction is chosen by
- * itself: those of a pair and of `__tls_get_addr` are chosen alike by the same facts but for
- * `place`, where each is one that its rewrites are meant for.
+ * possible: the `adrp` of a pair. The bytes are those of the object file. Some relocations test a
+ * whole pair or sequence. They are those of LoongArch's `pcalau12i` and `addi.d`, the two of a load
+ * from the GOT on AArch64 and LoongArch, and the four of a TLS descriptor of AArch64. All of a pair
+ * or sequence are chosen alike where the symbol is the same and the facts are, except for `place`.
+ * So they have to be chosen before one of them is rewritten. The halves of initial-exec of AArch64
+ * and LoongArch, and the four of a TLS descriptor of LoongArch, may stand anywhere, and one may
+ * belong to several others. Each is chosen by its own instruction, and only with `group_fits`. That
+ * has to be the same for all of that symbol and addend in the object, as the other facts except for
+ * `place`. Between the instructions of a descriptor nothing else reads or writes `a0` and `ra`, and
+ * nothing reads `ra` behind them. What a high half left is read by low halves of that symbol and
+ * addend alone, or copied. So compilers emit them. On RISC-V the instructions of a descriptor, and
+ * the `auipc` and `ld` of a GOT entry, may be apart. Each is chosen by the facts of the high part
+ * that its label names, `is_relaxable` of a descriptor's R_RISCV_TLSDESC_HI20 among them. The
+ * `auipc` and `ld` are chosen by `is_label_relaxable`, and not by `is_relaxable` of either. After
+ * ADDI_TO_AUIPC the place of R_RISCV_TLS_GOT_HI20, and of the R_RISCV_PCREL_LO12_I that CALL_TO_LD
+ * leaves, is that of the `addi`, and S of the latter is the GOT entry. On PowerPC64 too each
+ * instruction is chosen by itself. Those of a pair and of `__tls_get_addr` are chosen alike by the
+ * same facts except for `place`, where each is one that its rewrites are meant for.
  *
- * Of others the linker has to see itself that all are rewritten or none is: of R_RISCV_HI20 and its
- * low parts; of R_RISCV_TPREL_HI20, R_RISCV_TPREL_ADD and its low parts; of the same of
- * R_LARCH_TLS_LE_HI20_R; and by `group_fits` of R_PPC64_TLS and the load of its entry, of
- * R_PPC64_REL16_HA and R_PPC64_REL16_LO, and of the `lea` and the call of a descriptor on x86-64.
+ * Of others the linker has to see itself that all are rewritten or none is. They are R_RISCV_HI20
+ * and its low parts, R_RISCV_TPREL_HI20, R_RISCV_TPREL_ADD and its low parts, and the same of
+ * R_LARCH_TLS_LE_HI20_R. By `group_fits` they are R_PPC64_TLS and the load of its entry,
+ * R_PPC64_REL16_HA and R_PPC64_REL16_LO, and the `lea` and the call of a descriptor on x86-64.
  * Those of R_PPC64_REL16_HA and R_PPC64_REL16_LO are at the entry of a function, where r12 has the
- * address of the first; the second is 4 bytes behind it, of the same symbol, with 4 more in its
+ * address of the first. The second is 4 bytes behind it, of the same symbol, with 4 more in its
  * addend. AArch64's ADRP_ADD_TO_NOP_ADR erases the `adrp` too, whose relocation has to be of the
  * same symbol and addend as the `add`'s. */
 static inline uint32_t linker_utils_choose(uint16_t machine, uint32_t r_type,
@@ -513,17 +513,18 @@ static inline size_t linker_utils_relocate_memory(const uint8_t *relocations,
  * specified with any status. Its elements need not be initialised.
  *
  * The bytes that a relocation writes are its field; one without a value has none. Relocations whose
- * fields overlap have to compose: to be at one offset, and to change the number that those before
- * them set or change, as R_RISCV_ADD32 and R_RISCV_SUB32 do; or to be a pair at a ULEB128 number,
- * next to each other.
+ * fields overlap have to compose. They are at one offset, and change the number that those before
+ * them set or change, as R_RISCV_ADD32 and R_RISCV_SUB32 do. Or they are a pair at a ULEB128
+ * number, next to each other.
  *
  * LINKER_UTILS_UNKNOWN_ARCHITECTURE; LINKER_UTILS_SHORT_MEMORY where `memory_len` is below
  * `linker_utils_relocate_memory`. Else `faulty` is the first relocation that can't be written, and
- * the status is the first that applies: one of `linker_utils_value_at`, but LINKER_UTILS_NO_VALUE;
- * LINKER_UTILS_OVERLAPS; one of `linker_utils_relocate`, of which LINKER_UTILS_TOO_SHORT is also an
- * offset past the section's end, and LINKER_UTILS_UNSUPPORTED a relocation of a ULEB128 number that
- * isn't of a pair; and of a pair one of `linker_utils_write_uleb128`. For n relocations that ascend
- * by offset it takes O(n), and in any other order O(n log n), each beside O(log n) of a low part. */
+ * the status is the first that applies. It is one of `linker_utils_value_at` except for
+ * LINKER_UTILS_NO_VALUE; or LINKER_UTILS_OVERLAPS; or one of `linker_utils_relocate`, and of a pair
+ * one of `linker_utils_write_uleb128`. LINKER_UTILS_TOO_SHORT is also an offset past the section's
+ * end, and LINKER_UTILS_UNSUPPORTED a relocation of a ULEB128 number that isn't of a pair. For n
+ * relocations that ascend by offset it takes O(n), and in any other order O(n log n), each beside
+ * O(log n) of a low part. */
 static inline uint32_t linker_utils_relocate_section(
     uint16_t machine, const struct linker_utils_addresses *addresses, const uint8_t *relocations,
     size_t relocations_len, const struct linker_utils_symbol *symbols, size_t symbols_len,
@@ -536,8 +537,8 @@ static inline uint32_t linker_utils_relocate_section(
  * `linker_utils_recognise_chosen` take any type. */
 
 /* What is known of a number of 64 bits, which is a relocation's value in two's complement, or an
- * address: bits of the sum of the number and `rounding`, modulo 2^64. Where bits 0 to 63 are known
- * the number is `bits - rounding`. */
+ * address. They are bits of the sum of the number and `rounding`, modulo 2^64. Where bits 0 to 63
+ * are known the number is `bits - rounding`. */
 struct linker_utils_field_value {
     uint64_t bits; /* the known bits, the first of them at bit 0, and no others */
     uint64_t rounding; /* what was added to the number before its bits were taken */
@@ -549,8 +550,8 @@ struct linker_utils_field_value {
  * Whatever value `linker_utils_relocate` wrote there, it has these bits.
  *
  * - Of an instruction they are what the machine reads: bits from `first_bit` of the relocation up.
- *   They are known up to bit 63 where `linker_utils_reach` leaves one choice, as a sign does, and
- *   down to bit 0 where the value is a multiple of an alignment that says that those below are 0.
+ *   They are known up to bit 63 where `linker_utils_reach` leaves one choice, as a sign does. They
+ *   are known down to bit 0 where the value's alignment says that those below are 0.
  * - RISC-V's lui, auipc and c.lui have the upper bits of the value plus 0x800, the `rounding`. The
  *   other half has the low 12 bits of the value. Of the pair of R_RISCV_CALL and R_LARCH_CALL36 all
  *   bits are known.
@@ -576,13 +577,13 @@ static inline uint32_t linker_utils_read_value(uint16_t machine, uint32_t r_type
  * With these operands an address has the bits of `address` exactly where its value has those of
  * `value`, and the same bits are known. The bias of the relocation is taken off. Where bit 0 is
  * known the rounding is 0. Where the formula takes the page of the address, bits 12 and up are
- * known, and the rounding is the bias less the page of the place or of the GOT.
+ * known. The rounding then is the bias less the page of the place or of the GOT.
  *
  * LINKER_UTILS_BAD_FIELD_VALUE where `value` isn't one that the library returns: no bits are known,
  * or some above bit 63, or `bits` has others. LINKER_UTILS_NO_ADDRESS of a relocation without a
- * value or without bytes, of one that is computed from a size, adds or subtracts, or is at a
- * ULEB128 number, and of LoongArch's upper halves of 64-bit addresses; and where the formula takes
- * the page of the address and `value` is known from below bit 12. */
+ * value or without bytes, and of one that is computed from a size, adds or subtracts, or is at a
+ * ULEB128 number. LINKER_UTILS_NO_ADDRESS too of LoongArch's upper halves of 64-bit addresses, and
+ * where the formula takes the page of the address and `value` is known from below bit 12. */
 uint32_t linker_utils_solve(uint16_t machine, uint32_t r_type,
                             const struct linker_utils_field_value *value,
                             const struct linker_utils_operands *operands, uint32_t *reference,

@@ -21,9 +21,9 @@
  * 3. Where `has_range` is 1, v has to be `min` or above, and below `max`. v has to be a multiple of
  *    `alignment`.
  * 4. Where `is_bits` is 0, write the low `byte_size` bytes of v at `r_offset`, lowest first. Where
- *    it is 1, take the bits of v from `first_bit` up, below `end_bit`, as a number, and write that
- *    with `linker_utils_write` and the form to the window that begins at `r_offset`, with
- *    `negative` set where v itself is below 0.
+ *    it is 1, take the bits of v from `first_bit` up, below `end_bit`, as a number. Write that with
+ *    `linker_utils_write` and the form to the window that begins at `r_offset`, with `negative` set
+ *    where v itself is below 0.
  * The range is that of v; `linker_utils_reach` is what can be written. */
 struct linker_utils_relocation_info {
     uint32_t kind; /* `enum linker_utils_relocation_kind` */
@@ -56,22 +56,22 @@ uint32_t linker_utils_relocation(uint16_t machine, uint32_t r_type,
 /* Whether the relocation requires a GOT entry: its value depends on where the symbol's GOT entry,
  * its entries for TLS or its TLS descriptor are, `got_entry` of `struct linker_utils_operands`. A
  * relocation that only counts from the GOT's address, as R_X86_64_GOTOFF64 and R_PPC64_TOC16,
- * requires none; nor does one whose symbol labels the high part of a RISC-V pair, as
+ * requires none. Nor does one whose symbol labels the high part of a RISC-V pair, as
  * R_RISCV_TLSDESC_LOAD_LO12: the high part does. False where the machine or the type is unknown. */
 bool linker_utils_asks_for_got(uint16_t machine, uint32_t r_type);
 
-/* Whether a PLT entry may serve as the relocation's target: its value depends on `plt_entry` of
- * `struct linker_utils_operands`, or it is that of a branch, conditional or not, which does
- * nothing with the address but go there. Where the formula of a branch has S in place of L, as
- * that of R_PPC64_REL24, pass the entry's address as `symbol`. For functions that another file may
- * define, RISC-V compilers use only R_RISCV_CALL, R_RISCV_CALL_PLT and R_RISCV_PLT32 of these.
- * False for R_X86_64_PC32, which loads have too, and where the machine or the type is unknown. */
+/* Whether a PLT entry may serve as the relocation's target. Its value depends on `plt_entry` of
+ * `struct linker_utils_operands`, or it is that of a branch, conditional or not, which only goes to
+ * the address. Where the formula of a branch has S in place of L, as that of R_PPC64_REL24, pass
+ * the entry's address as `symbol`. For functions that another file may define, RISC-V compilers use
+ * only R_RISCV_CALL, R_RISCV_CALL_PLT and R_RISCV_PLT32 of these. False for R_X86_64_PC32, which
+ * loads have too, and where the machine or the type is unknown. */
 bool linker_utils_may_use_plt(uint16_t machine, uint32_t r_type);
 
-/* Whether the relocation has a type that one skipped after a rewrite has: of a call of
- * `__tls_get_addr` in a sequence, R_PPC64_REL24 and R_PPC64_REL24_NOTOC, R_X86_64_PLT32,
- * R_X86_64_PC32, R_X86_64_GOTPCREL, R_X86_64_GOTPCRELX and R_X86_64_PLTOFF64, or R_RISCV_RELAX.
- * False of all others, and where the machine is unknown. */
+/* Whether the relocation has a type that one skipped after a rewrite has. They are R_RISCV_RELAX
+ * and, of a call of `__tls_get_addr` in a sequence, R_PPC64_REL24, R_PPC64_REL24_NOTOC,
+ * R_X86_64_PLT32, R_X86_64_PC32, R_X86_64_GOTPCREL, R_X86_64_GOTPCRELX and R_X86_64_PLTOFF64. False
+ * of all others, and where the machine is unknown. */
 bool linker_utils_may_be_skipped(uint16_t machine, uint32_t r_type);
 
 /* What R_RISCV_HI20 means at a `c.lui`, which LINKER_UTILS_RISCV_REWRITE_HI20_TO_C_LUI leaves. */
@@ -107,15 +107,15 @@ static inline uint32_t linker_utils_relocate_all(
  * Which address a call takes as `symbol`, and what has to be behind the call:
  * - R_PPC64_REL24 and R_PPC64_REL14: the caller has its TOC pointer in r2, and expects it there on
  *   return. For a function of the same output with the same TOC and v other than 1 the address is
- *   that of the local entry point, and the `nop` behind the call, if there is one, stays. Else it
- *   is that of a stub, which stores r2 at r1 + 24 and enters the function: through the PLT with the
- *   doubleword there in r12, or where v is 1 directly. Then the `nop` behind the call has to become
- *   `ld 2,24(1)`, which `linker_utils_choose` at the R_PPC64_REL24 says where `may_change_toc` is
- *   set. If no `nop` is there, as behind the `b` of a tail call, the rewrite is NO_OP, the stub
- *   can't be used, and linkers report an error.
+ *   that of the local entry point. The `nop` behind the call, if there is one, stays then. Else it
+ *   is that of a stub, which stores r2 at r1 + 24 and enters the function. It goes through the PLT
+ *   with the doubleword there in r12, or where v is 1 directly. Then the `nop` behind the call has
+ *   to become `ld 2,24(1)`, which `linker_utils_choose` at the R_PPC64_REL24 says where
+ *   `may_change_toc` is set. If no `nop` is there, as behind the `b` of a tail call, the rewrite is
+ *   NO_OP, the stub can't be used, and linkers report an error.
  * - R_PPC64_REL24_NOTOC: the caller keeps nothing in r2, and no `nop` is behind. For a function of
  *   the same output with v 0 or 1 the address is its own. With v from 2 up it is that of a stub
- *   that sets r12 to the global entry point, by its own place, and goes there; through the PLT it
+ *   that sets r12 to the global entry point, by its own place, and goes there. Through the PLT it
  *   sets r12 to the doubleword there. Neither stub stores r2.
  * - R_PPC64_PLT16_HA, R_PPC64_PLT16_LO_DS, R_PPC64_PLT_PCREL34 and its _NOTOC load the doubleword
  *   of `.plt` themselves: `plt_entry` is its address, and no stub is needed. R_PPC64_PLTSEQ and
@@ -169,7 +169,7 @@ static inline uint32_t linker_utils_operand(uint16_t machine, uint32_t form, con
                                             size_t bytes_len, int64_t *number);
 
 /* The forms of the instruction that the bytes begin with, and of both where it and the next one are
- * a pair: bit k is that of the form with number k. It calls `linker_utils_operand` of each form. 0
+ * a pair. Bit k is that of the form with number k. It calls `linker_utils_operand` of each form. 0
  * where no form is there, and of x86-64 and unknown machines. */
 static inline uint32_t linker_utils_forms_of(uint16_t machine, const uint8_t *bytes,
                                              size_t bytes_len);
@@ -194,7 +194,7 @@ struct linker_utils_window_bounds {
 
 /* The bytes that `linker_utils_apply` writes at an offset, into `window`: all others stay. Two
  * rewrites whose windows have a byte in common write over each other. On x86-64 the field of the
- * relocation after a rewrite may lie behind the window: a general-dynamic TLS sequence has 16
+ * relocation after a rewrite may lie behind the window. A general-dynamic TLS sequence has 16
  * bytes, which are the window's 12 and the field's 4. */
 uint32_t linker_utils_rewrite_window(uint16_t machine, uint32_t rewrite, uint8_t opcode_len,
                                      struct linker_utils_window_bounds *window);
@@ -228,8 +228,8 @@ static inline uint32_t linker_utils_write_ha_lo(uint8_t *ha, size_t ha_len, uint
 /* What the relocation does. */
 enum linker_utils_role linker_utils_uleb128_role(uint16_t machine, uint32_t r_type);
 
-/* Writes a value over the ULEB128 number that `dest` begins with, in as many bytes: all but the
- * last are at least 0x80, so that a smaller value is padded with zeros. The following bytes are
+/* Writes a value over the ULEB128 number that `dest` begins with, in as many bytes. All except for
+ * the last are at least 0x80, so that a smaller value is padded with zeros. The following bytes are
  * unchanged. LINKER_UTILS_ULEB128_ENDED and LINKER_UTILS_ULEB128_TOO_LARGE, both for the existing
  * number; LINKER_UTILS_DOES_NOT_FIT. */
 static inline uint32_t linker_utils_write_uleb128(uint8_t *dest, size_t dest_len, uint64_t value);
@@ -282,14 +282,14 @@ static inline uint32_t linker_utils_deltas_create_in_one_pass(
     const struct linker_utils_deletion *deletions, size_t deletions_len,
     struct linker_utils_delta *deltas, size_t deltas_len, size_t *faulty);
 
-/* LINKER_UTILS_OK where `linker_utils_deltas_merge` takes the additional deletions, in any order:
- * each ends at 2^64 - 1 or below, and of any two, old or additional, one has the lower offset and
- * does not reach past the other's. LINKER_UTILS_INVALID_DELETIONS where the deltas list no valid
+/* LINKER_UTILS_OK where `linker_utils_deltas_merge` takes the additional deletions, in any order.
+ * Each ends at 2^64 - 1 or below. Of any two, old or additional, one has the lower offset and does
+ * not reach past the other's. LINKER_UTILS_INVALID_DELETIONS where the deltas list no valid
  * deletions, LINKER_UTILS_NOT_MERGEABLE. k additional deletions that ascend or descend take one
  * pass besides the searches in the deltas. It doesn't allocate for those, nor for 1,024 or fewer.
  * Others are sorted, in a copy of 16 bytes each. Without memory for the copy they take up to k
- * searches for each 1,024 of them, which are sorted on the stack, in 16 KB, and for each longer run
- * that ascends or descends. */
+ * searches for each longer run that ascends or descends, and for each 1,024 others. These are
+ * sorted on the stack, in 16 KB. */
 static inline uint32_t linker_utils_deletions_mergeable(
     const struct linker_utils_delta *deltas, size_t deltas_len,
     const struct linker_utils_deletion *additional, size_t additional_len);
@@ -361,7 +361,7 @@ static inline uint32_t linker_utils_jal_site(uint8_t *section, size_t section_le
 
 /* Replaces the call at a site of a section by a `jal` over a distance in bytes, which links the
  * register that `link` chooses of `enum linker_utils_link_register`. The `jalr`'s is right for
- * every call, as for `tail f` and `call t0, f`; the eight bytes at the site then have to be an
+ * every call, as for `tail f` and `call t0, f`. The eight bytes at the site then have to be an
  * `auipc` and a `jalr` whose base is its register. LINKER_UTILS_UNKNOWN_LINK_REGISTER.
  * LINKER_UTILS_OUT_OF_SECTION where the four bytes at the site or, with the `jalr`'s register, the
  * eight bytes are not in the section. LINKER_UTILS_NOT_A_CALL, LINKER_UTILS_ODD_DISTANCE,
@@ -389,8 +389,8 @@ bool linker_utils_distance_fits_jal(int64_t distance);
 /* Whether bits 12 to 31 of the value plus 0x800, modulo 2^64, are 0. */
 bool linker_utils_hi20_is_zero(uint64_t value);
 
-/* Whether `c.lui` holds the high part of a value: the value plus 0x800, modulo 2^64 and read
- * signed, divided by 4096 and rounded down, is from -32 to 31 and not 0. */
+/* Whether `c.lui` holds the high part of a value. That is the value plus 0x800, modulo 2^64 and
+ * read signed, divided by 4096 and rounded down: from -32 to 31 and not 0. */
 bool linker_utils_hi20_fits_clui(uint64_t value);
 
 /* Whether a register can be the destination of `c.lui`: neither x0 nor x2. */
@@ -409,8 +409,8 @@ static inline size_t linker_utils_packed_len(const uint8_t *section, size_t sect
                                              const struct linker_utils_delta *deltas,
                                              size_t deltas_len);
 
-/* Writes the kept bytes of a section, in order, and at each call's site, in place of the `auipc`, a
- * `jal` to the target's output offset, which links the register that `link` names, by `enum
+/* Writes the kept bytes of a section, in order. At each call's site a `jal` to the target's output
+ * offset is written in place of the `auipc`. It links the register that `link` names, by `enum
  * linker_utils_link_register`. A deletion that reaches past the section's end deletes up to there.
  * LINKER_UTILS_UNKNOWN_LINK_REGISTER. LINKER_UTILS_CALLS_NOT_APART, and `faulty` is the first call
  * whose site is less than 4 above that of the one before it. LINKER_UTILS_DIFFERENT_LENGTHS where
@@ -427,17 +427,17 @@ static inline uint32_t linker_utils_pack(
 /* ---- Shrinking: which calls can become jumps at once, each without the four bytes after its first
  * instruction. */
 
-/* Whether `linker_utils_shrink_calls` accepts the calls: their sites ascend by at least 8, the
- * eight bytes at each site are kept, the deletions (site + 4, 4) can all be merged, and no target
+/* Whether `linker_utils_shrink_calls` accepts the calls. Their sites ascend by at least 8, and the
+ * eight bytes at each site are kept. The deletions (site + 4, 4) can all be merged, and no target
  * is strictly inside one of them. LINKER_UTILS_CALLS_NOT_SHRINKABLE, and `faulty` is the first call
  * that isn't accepted together with those before it. */
 static inline uint32_t linker_utils_calls_shrinkable(
     const struct linker_utils_delta *deltas, size_t deltas_len,
     const struct linker_utils_call *calls, size_t calls_len, size_t *faulty);
 
-/* Writes 1 for each call that is chosen, and 0 for the others. A choice is in reach if, once the
- * four bytes (site + 4, 4) of each of its calls are deleted, the distance of each from its site to
- * its target is even and in the range of `jal`. The choice that is written is the greatest: every
+/* Writes 1 for each call that is chosen, and 0 for the others. The four bytes (site + 4, 4) of each
+ * call of a choice are deleted. It is in reach if then the distance of each from its site to its
+ * target is even and in the range of `jal`. The choice that is written is the greatest: every
  * choice in reach is part of it. The caller then merges its deletions, and packs the section with
  * its calls.
  *
@@ -461,8 +461,8 @@ static inline uint32_t linker_utils_shrink_calls(
  * alignment whose nops no file has. Deletions that are decided already are sites with one shape. */
 
 /* A form of a site's instructions. It reaches a target at an output offset that lies at most
- * `max_backward` below its own, or less than `max_forward` above it, or at it, and whose distance
- * is a multiple of `granularity`, a power of two. */
+ * `max_backward` below its own, or less than `max_forward` above it, or at it. The distance is a
+ * multiple of `granularity`, a power of two. */
 struct linker_utils_shape {
     uint64_t max_backward;
     uint64_t max_forward;
@@ -515,34 +515,37 @@ struct linker_utils_rela {
  * `base` of the run. The other relocations make none.
  *
  * RISC-V: R_RISCV_CALL and R_RISCV_CALL_PLT make a site where R_RISCV_RELAX is the next relocation,
- * at the same offset, the target is in the run, and the bytes are an auipc and a jalr of one
+ * at the same offset, and the target is in the run. The bytes have to be an auipc and a jalr of one
  * register, which isn't x0. It can become c.j where the jalr links x0 and `may_compress` is set, and
  * jal. R_RISCV_ALIGN makes an alignment without a limit to the next power of two above its addend,
  * which is how many bytes of nops there are, unless it is 0.
  *
- * Before an alignment that has fewer nops than it may need at an even address, as the 12 bytes for
- * `.balign 16` in code without the C extension, no call becomes c.j, back to the alignment before
- * it; and none becomes jal where the nops are enough only at multiples of more than 4.
+ * An alignment may have fewer nops than it may need at an even address, as the 12 bytes for
+ * `.balign 16` in code without the C extension. Then no call before it becomes c.j, back to the
+ * alignment before that. None becomes jal where the nops are enough only at multiples of more than
+ * 4.
  *
  * LoongArch, where R_LARCH_RELAX is the relocation that has to be next: R_LARCH_CALL36 makes a site
  * if the bytes are a pcaddu18i and a jirl of one register that links ra or none. R_LARCH_PCALA_HI20
  * makes one if R_LARCH_PCALA_LO12 of the next instruction comes behind its R_LARCH_RELAX, with the
- * same target and an R_LARCH_RELAX too, and the bytes are a pcalau12i and an addi.d of one register.
+ * same target and an R_LARCH_RELAX too. The bytes have to be a pcalau12i and an addi.d of one
+ * register.
  * R_LARCH_ALIGN makes an alignment, unless there are no nops. Without a symbol its addend is how
  * many bytes of nops there are, and they align to the next power of two above it. With a symbol the
  * lowest 8 bits of the addend are the exponent of two of what they align to, 4 bytes more than the
- * nops, and the others its limit: how many bytes of nops may stay. Without a symbol, and where these
+ * nops. The others are its limit: how many bytes of nops may stay. Without a symbol, and where these
  * are 0 or no fewer than the nops, the alignment has no limit.
  *
  * `items_len` and `makers_len` are `relocations_len`, since a relocation makes at most one item.
  * `len` is how many items there are; the elements from there on are unchanged.
  * LINKER_UTILS_UNKNOWN_ARCHITECTURE for other machines. LINKER_UTILS_DIFFERENT_LENGTHS.
  * LINKER_UTILS_ENDS_TOO_HIGH where `base` and `section_len` add up to 2^64 or more.
- * LINKER_UTILS_MALFORMED_RELOCATION, and `faulty` is the first relocation that lies behind the
- * section's end; or is a call's (of LoongArch's an R_LARCH_CALL36) with less than eight bytes there;
- * or is an R_RISCV_ALIGN whose addend isn't a multiple of 2 from 0 up, below 2^32, of bytes in the
- * section; or an R_LARCH_ALIGN whose addend is below 0, whose exponent is below 2 or above 32, or
- * whose nops aren't a multiple of 4, reach past the section's end or have 2^32 bytes or more. */
+ * LINKER_UTILS_MALFORMED_RELOCATION, and `faulty` is the first malformed one. It lies behind the
+ * section's end, or is a call's (of LoongArch's an R_LARCH_CALL36) with less than eight bytes there.
+ * Or it is an R_RISCV_ALIGN whose addend isn't a multiple of 2 from 0 up, below 2^32, of bytes in
+ * the section. Or it is an R_LARCH_ALIGN whose addend is below 0 or whose exponent is below 2 or
+ * above 32, or whose nops aren't a multiple of 4, reach past the section's end or have 2^32 bytes or
+ * more. */
 static inline uint32_t linker_utils_section_items(
     uint16_t machine, const uint8_t *section, size_t section_len, uint64_t base,
     const struct linker_utils_rela *relocations, size_t relocations_len,
@@ -560,21 +563,21 @@ static inline uint32_t linker_utils_section_items(
  *
  * LINKER_UTILS_MAY_BE_MISALIGNED: an alignment without a limit needs as many nops as it is itself
  * less the granularity. Fewer are accepted, as many as it less w, a power of two, where w divides
- * the address of the first nop in every layout: where it divides the alignment without a limit
- * before it, or `start`, and the bytes from there, and what lies between loses only multiples of w.
- * So the begin of a section is an item, too: an alignment.
+ * the address of the first nop in every layout. It does where it divides the alignment without a
+ * limit before it, or `start`, and the bytes from there, and what lies between loses only multiples
+ * of w. So the begin of a section is an item, too: an alignment.
  *
- * LINKER_UTILS_ALIGNMENT_BELOW_GRANULARITY and LINKER_UTILS_UNEVEN_END aren't of an alignment
- * without a limit that divides the granularity, and has exactly the nops that its input address
- * needs, or a multiple of the granularity more: these are the same in every layout. */
+ * LINKER_UTILS_ALIGNMENT_BELOW_GRANULARITY and LINKER_UTILS_UNEVEN_END aren't of an alignment whose
+ * nops are the same in every layout. It has no limit, divides the granularity, and has exactly the
+ * nops that its input address needs, or a multiple of the granularity more. */
 static inline uint32_t linker_utils_items_relaxable(
     const struct linker_utils_item *items, size_t items_len, uint64_t start, size_t *faulty);
 
 /* Chooses a shape for each site, and says what stays of each item. Each site has its shortest shape
  * at first. Then the run is laid out, where an alignment keeps exactly the bytes that it then
- * needs, and each site that is out of reach by that layout has its next shape; again, until none
- * is. Where one still is after 64 such rounds, the choice is the greatest where every alignment
- * keeps all. No site has a longer shape than it would need if every alignment kept all of its nops.
+ * needs. Each site that is out of reach by that layout has its next shape; again, until none is.
+ * Where one still is after 64 such rounds, the choice is the greatest where every alignment keeps
+ * all. No site has a longer shape than it would need if every alignment kept all of its nops.
  * Without alignments the choice is the greatest.
  *
  * `shapes` has for each item the index of a site's shape, and `kept` how many of the item's bytes
@@ -607,13 +610,13 @@ static inline size_t linker_utils_packed_run_len(uint64_t base, size_t section_l
                                                  const struct linker_utils_delta *deltas,
                                                  size_t deltas_len);
 
-/* Whether a site is eight bytes of a section, of instructions that can have its shapes: of RISC-V
- * an auipc and a jalr with those of LINKER_UTILS_SHAPES_RISCV_CALL, or with those of
- * LINKER_UTILS_SHAPES_RISCV_TAIL_C where they link x0; of LoongArch a pcaddu18i and a jirl with
- * those of LINKER_UTILS_SHAPES_LOONGARCH_CALL36, or a pcalau12i and an addi.d of one register with
- * those of LINKER_UTILS_SHAPES_LOONGARCH_PCALA. The section begins at the input offset `base` of
- * the run. An alignment has no instructions to be tested; a site with one shape has none of these
- * shapes. Where this is so of each site that `linker_utils_relax` made shorter,
+/* Whether a site is eight bytes of a section, of instructions that can have its shapes. Of RISC-V
+ * they are an auipc and a jalr with those of LINKER_UTILS_SHAPES_RISCV_CALL, or with those of
+ * LINKER_UTILS_SHAPES_RISCV_TAIL_C where they link x0. Of LoongArch they are a pcaddu18i and a jirl
+ * with those of LINKER_UTILS_SHAPES_LOONGARCH_CALL36, or a pcalau12i and an addi.d of one register
+ * with those of LINKER_UTILS_SHAPES_LOONGARCH_PCALA. The section begins at the input offset `base`
+ * of the run. An alignment has no instructions to be tested; a site with one shape has none of
+ * these shapes. Where this is so of each site that `linker_utils_relax` made shorter,
  * `linker_utils_pack_run` rejects none of them for its reach.
  *
  * LINKER_UTILS_UNKNOWN_ARCHITECTURE for each machine except for LINKER_UTILS_RISCV and
@@ -631,12 +634,12 @@ static inline uint32_t linker_utils_has_its_instructions(uint16_t machine, const
  *
  * How many bytes of an item stay, which have to be its first ones, says what is written:
  * - RISC-V: in place of a call, which is an auipc and a jalr, c.j where 2 bytes stay and the jalr
- *   links x0, jal with the link register of the jalr where 4 stay, and where 8 stay the call with
- *   R_RISCV_CALL_PLT applied. In place of nops as many bytes of nop, and at most one c.nop at the
- *   end.
- * - LoongArch: where 4 bytes stay, b in place of a pcaddu18i and a jirl that links none, bl in
- *   place of those that link ra, and pcaddi with the register of the addi.d in place of a pcalau12i
- *   and an addi.d. Where 8 stay, the two with R_LARCH_CALL36, or R_LARCH_PCALA_HI20 and
+ *   links x0. Where 4 stay it is jal with the link register of the jalr, and where 8 stay the call
+ *   with R_RISCV_CALL_PLT applied. In place of nops as many bytes of nop, and at most one c.nop at
+ *   the end.
+ * - LoongArch: where 4 bytes stay, b in place of a pcaddu18i and a jirl that links none, and bl in
+ *   place of those that link ra. In place of a pcalau12i and an addi.d it is pcaddi with the
+ *   register of the addi.d. Where 8 stay, the two with R_LARCH_CALL36, or R_LARCH_PCALA_HI20 and
  *   R_LARCH_PCALA_LO12, applied. In place of nops andi zero, zero, 0, of 4 bytes. Each goes from
  *   the address where its site goes to the one where the target goes, or makes that address; a call
  *   with R_RISCV_CALL_PLT leaves out bit 0 of it. What stays of a site with one shape isn't
@@ -649,7 +652,7 @@ static inline uint32_t linker_utils_has_its_instructions(uint16_t machine, const
  * `faulty` is the first item that can't be written, and the status the first that applies to it of
  * LINKER_UTILS_ITEMS_OVERLAP, LINKER_UTILS_ITEM_OUT_OF_SECTION, LINKER_UTILS_DELETED_OUTSIDE,
  * LINKER_UTILS_NOT_ITS_FIRST_BYTES, LINKER_UTILS_NOT_ITS_INSTRUCTIONS, LINKER_UTILS_NO_SHAPE and
- * LINKER_UTILS_TARGET_OUT_OF_REACH, of which only the first three can be of a site with one shape.
+ * LINKER_UTILS_TARGET_OUT_OF_REACH. Only the first three can be of a site with one shape.
  * LINKER_UTILS_DELETED_OUTSIDE where bytes before the item are deleted that are of no item: an item
  * is missing; `faulty` is `items_len` where they are behind the last item. For k items and n deltas
  * it takes O(k log n), and a step for each byte of the section and each delta in it. */
@@ -673,7 +676,7 @@ uint32_t linker_utils_join(const struct linker_utils_field_value *high,
                            struct linker_utils_field_value *whole);
 
 /* Which bits of the bytes that begin with a relocation's field `linker_utils_relocate` may change,
- * into `bits`: bit 0 is the lowest of the first byte, bit 8 that of the second. All others are the
+ * into `bits`. Bit 0 is the lowest of the first byte, bit 8 that of the second. All others are the
  * same after each write. Of an instruction they are the bits of its form, and for
  * LINKER_UTILS_AARCH64_FORM_MOVNZ those of the opcode that it sets. LINKER_UTILS_TOO_SHORT where
  * there are fewer bytes than the field has. */
@@ -706,11 +709,11 @@ struct linker_utils_recognised {
 /* How many rewrites a relocation may have at most, NO_OP among them. */
 #define LINKER_UTILS_CANDIDATES 6
 
-/* Writes which rewrites, and relocations after them, a linker may have made at a relocation: those
- * after which the original bytes differ from the linked ones only in the field of the relocation
- * after it and in `others`. `count` is how many there are; the elements of `found` from there on
- * are unchanged. Nothing needs to be known of the symbol: so several are returned where their bytes
- * are the same, as where only the relocation changes.
+/* Writes which rewrites, and relocations after them, a linker may have made at a relocation. They
+ * are those after which the original bytes differ from the linked ones only in the field of the
+ * relocation after it and in `others`. `count` is how many there are; the elements of `found` from
+ * there on are unchanged. Nothing needs to be known of the symbol: so several are returned where
+ * their bytes are the same, as where only the relocation changes.
  *
  * - `offset` is that of the relocation in the original bytes. Both windows may begin before it, at
  *   the same place. The original one has at most 64 bytes. After a rewrite that deletes bytes the
