@@ -221,7 +221,7 @@ unchanged o w now after local none =
 split : (o w offset : ℕ) → o + w ≤ offset → offset ≡ o + w + (offset - (o + w))
 split o w offset behind = omega (arith, behind)
 
-drop_behind : (o w offset : ℕ) (now after : List ℕ) → IsLocal o w now after
+pub drop_behind : (o w offset : ℕ) (now after : List ℕ) → IsLocal o w now after
     → o + w ≤ offset ⊎ (w ≡ 0) → drop offset after ≡ drop offset now
 drop_behind o w offset now after local window =
     elim window [
