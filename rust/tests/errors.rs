@@ -259,7 +259,10 @@ fn errors_of_sections_are_printed() {
 #[test]
 fn errors_of_rewrites_are_printed() {
     for (error, text) in [
-        (RewritingError::TooShort, "there are fewer decisions than relocations"),
+        (
+            RewritingError::TooShort,
+            "there are fewer decisions than relocations, or less room for deletions than there are",
+        ),
         (
             RewritingError::NotSurveyed(3),
             "the instruction of the relocation at index 3 has no rewrite, and its group was not surveyed",

@@ -1,3 +1,4 @@
 pub mod Claims
+pub mod Order
 pub mod Saved
 pub mod Steps

@@ -13,11 +13,10 @@ use linker_utils::relaxation::{
     calls_apart, calls_shrinkable, first_invalid, first_not_apart, first_not_shrinkable,
     pack_section, shrink_calls,
 };
-use linker_utils::runs::items::Relocation;
+use linker_utils::runs::items::{Relocation, first_malformed, section_items};
 use linker_utils::runs::packing::{Machine, pack_run, packed_run_len};
 use linker_utils::runs::relaxation::{Item, are_items, deletions, first_faulty, relax};
 use linker_utils::runs::shapes::riscv64::CALL;
-use linker_utils::runs::{loongarch64, riscv64};
 use std::cell::Cell;
 use std::hint::black_box;
 
@@ -352,18 +351,18 @@ fn expect_sections(count: usize) {
         (LOONGARCH_CALL.repeat(count), all)
     };
     expect_growth("items of RISC-V", count, of_riscv, |(section, relocations)| {
-        assert_eq!(riscv64::first_malformed(&section, &relocations), None);
-        let items = riscv64::items(&section, 0, &relocations).expect("memory");
+        assert_eq!(first_malformed(Machine::RiscV64, &section, &relocations), None);
+        let items = section_items(Machine::RiscV64, &section, 0, &relocations).expect("memory").items;
         assert_eq!(items.len(), section.len() / 8);
     });
     expect_growth("items of LoongArch", count, of_loongarch, |(section, relocations)| {
-        assert_eq!(loongarch64::first_malformed(&section, &relocations), None);
-        let items = loongarch64::items(&section, 0, &relocations).expect("memory");
+        assert_eq!(first_malformed(Machine::LoongArch64, &section, &relocations), None);
+        let items = section_items(Machine::LoongArch64, &section, 0, &relocations).expect("memory").items;
         assert_eq!(items.len(), section.len() / 8);
     });
     let to_pack = |count: usize| {
         let (section, relocations) = of_riscv(count);
-        let items = riscv64::items(&section, 0, &relocations).expect("memory");
+        let items = section_items(Machine::RiscV64, &section, 0, &relocations).expect("memory").items;
         let plan = relax(&items, 0).expect("memory");
         let deltas = deletions(&items, 0, &plan.kept).expect("memory");
         (section, items, deltas)
