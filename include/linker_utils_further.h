@@ -716,7 +716,9 @@ struct linker_utils_recognised {
  *
  * - `offset` is that of the relocation in the original bytes. Both windows may begin before it, at
  *   the same place. The original one has at most 64 bytes. After a rewrite that deletes bytes the
- *   linked one has fewer.
+ *   linked one has fewer. They want the bytes of each rewrite (`linker_utils_rewrite_window`),
+ *   those that are deleted after it, and the field of the relocation after it. In a wider window
+ *   other bytes differ, and nothing is found unless `others` names them.
  * - `others` are bits that other relocations write, as `linker_utils_field_bits` returns them,
  *   among them those of a relocation that the rewrite skips. Of an instruction that another
  *   relocation rewrites or deletes they are all bits.
