@@ -519,12 +519,12 @@ static inline size_t linker_utils_relocate_memory(const uint8_t *relocations,
  *
  * LINKER_UTILS_UNKNOWN_ARCHITECTURE; LINKER_UTILS_SHORT_MEMORY where `memory_len` is below
  * `linker_utils_relocate_memory`. Else `faulty` is the first relocation that can't be written, and
- * the status is the first that applies of these three. It is one of `linker_utils_value_at` except
- * for LINKER_UTILS_NO_VALUE. It is LINKER_UTILS_OVERLAPS. It is one of `linker_utils_relocate`, and
- * of a pair one of `linker_utils_write_uleb128`. LINKER_UTILS_TOO_SHORT is also an offset past the
- * section's end, and LINKER_UTILS_UNSUPPORTED a relocation of a ULEB128 number that isn't of a
- * pair. For n relocations that ascend by offset it takes O(n), and in any other order O(n log n),
- * each beside O(log n) of a low part. */
+ * the status is the first that applies. It is one of `linker_utils_value_at` except for
+ * LINKER_UTILS_NO_VALUE; or LINKER_UTILS_OVERLAPS; or one of `linker_utils_relocate`, and of a pair
+ * one of `linker_utils_write_uleb128`. LINKER_UTILS_TOO_SHORT is also an offset past the section's
+ * end, and LINKER_UTILS_UNSUPPORTED a relocation of a ULEB128 number that isn't of a pair. For n
+ * relocations that ascend by offset it takes O(n), and in any other order O(n log n), each beside
+ * O(log n) of a low part. */
 static inline uint32_t linker_utils_relocate_section(
     uint16_t machine, const struct linker_utils_addresses *addresses, const uint8_t *relocations,
     size_t relocations_len, const struct linker_utils_symbol *symbols, size_t symbols_len,

@@ -516,9 +516,9 @@ struct linker_utils_rela {
  *
  * RISC-V: R_RISCV_CALL and R_RISCV_CALL_PLT make a site where R_RISCV_RELAX is the next relocation,
  * at the same offset, and the target is in the run. The bytes have to be an auipc and a jalr of one
- * register, which isn't x0. It can become c.j where the jalr links x0 and `may_compress` is set,
- * and jal. R_RISCV_ALIGN makes an alignment without a limit to the next power of two above its
- * addend, which is how many bytes of nops there are, unless it is 0.
+ * register, which isn't x0. It can become c.j where the jalr links x0 and `may_compress` is set, and
+ * jal. R_RISCV_ALIGN makes an alignment without a limit to the next power of two above its addend,
+ * which is how many bytes of nops there are, unless it is 0.
  *
  * An alignment may have fewer nops than it may need at an even address, as the 12 bytes for
  * `.balign 16` in code without the C extension. Then no call before it becomes c.j, back to the
@@ -529,22 +529,23 @@ struct linker_utils_rela {
  * if the bytes are a pcaddu18i and a jirl of one register that links ra or none. R_LARCH_PCALA_HI20
  * makes one if R_LARCH_PCALA_LO12 of the next instruction comes behind its R_LARCH_RELAX, with the
  * same target and an R_LARCH_RELAX too. The bytes have to be a pcalau12i and an addi.d of one
- * register. R_LARCH_ALIGN makes an alignment, unless there are no nops. Without a symbol its addend
- * is how many bytes of nops there are, and they align to the next power of two above it. With a
- * symbol the lowest 8 bits of the addend are the exponent of two of what they align to, 4 bytes
- * more than the nops. The others are its limit: how many bytes of nops may stay. Without a symbol,
- * and where these are 0 or no fewer than the nops, the alignment has no limit.
+ * register.
+ * R_LARCH_ALIGN makes an alignment, unless there are no nops. Without a symbol its addend is how
+ * many bytes of nops there are, and they align to the next power of two above it. With a symbol the
+ * lowest 8 bits of the addend are the exponent of two of what they align to, 4 bytes more than the
+ * nops. The others are its limit: how many bytes of nops may stay. Without a symbol, and where these
+ * are 0 or no fewer than the nops, the alignment has no limit.
  *
  * `items_len` and `makers_len` are `relocations_len`, since a relocation makes at most one item.
  * `len` is how many items there are; the elements from there on are unchanged.
  * LINKER_UTILS_UNKNOWN_ARCHITECTURE for other machines. LINKER_UTILS_DIFFERENT_LENGTHS.
  * LINKER_UTILS_ENDS_TOO_HIGH where `base` and `section_len` add up to 2^64 or more.
  * LINKER_UTILS_MALFORMED_RELOCATION, and `faulty` is the first malformed one. It lies behind the
- * section's end, or is a call's (of LoongArch's an R_LARCH_CALL36) with less than eight bytes
- * there. An R_RISCV_ALIGN is malformed if its addend isn't a multiple of 2 from 0 up, below 2^32,
- * of bytes in the section. An R_LARCH_ALIGN is malformed if its addend is below 0, or its exponent
- * below 2 or above 32. It is also if its nops aren't a multiple of 4, reach past the section's end
- * or have 2^32 bytes or more. */
+ * section's end, or is a call's (of LoongArch's an R_LARCH_CALL36) with less than eight bytes there.
+ * Or it is an R_RISCV_ALIGN whose addend isn't a multiple of 2 from 0 up, below 2^32, of bytes in
+ * the section. Or it is an R_LARCH_ALIGN whose addend is below 0 or whose exponent is below 2 or
+ * above 32, or whose nops aren't a multiple of 4, reach past the section's end or have 2^32 bytes or
+ * more. */
 static inline uint32_t linker_utils_section_items(
     uint16_t machine, const uint8_t *section, size_t section_len, uint64_t base,
     const struct linker_utils_rela *relocations, size_t relocations_len,

@@ -81,8 +81,48 @@ fn expect_deltas(count: usize) {
     });
 }
 
+/// The bytes of relocations of x86-64, `R_X86_64_PC32` of symbol 1, at offsets.
+fn relocations(offsets: &[(u64, u32)]) -> Vec<u8> {
+    let words = |offset: u64| [offset, 2 | 1 << 32, 0];
+    let all = offsets.iter().flat_map(|(offset, _)| words(*offset));
+    all.flat_map(u64::to_le_bytes).collect()
+}
+
+fn expect_relocating(count: usize) {
+    for (order, pairs) in ORDERS {
+        // the last overlaps the one before it, or none does
+        for overlaps in [false, true] {
+            let given = |count| {
+                let mut pairs = pairs(count);
+                if overlaps {
+                    pairs[count - 1].0 = pairs[count - 2].0 + 2;
+                }
+                let relocations = relocations(&pairs);
+                let memory = vec![0; relocate_memory(&relocations)];
+                (relocations, vec![0; 8 * count + 8], memory)
+            };
+            let name = format!("relocating, {order}, overlap {overlaps}");
+            expect_growth(&name, count, given, |(relocations, mut section, mut memory)| {
+                let symbols = [Symbol::default(); 2];
+                let written = relocate_section(
+                    Architecture::X86_64,
+                    &Addresses::default(),
+                    &relocations,
+                    &symbols,
+                    &mut section,
+                    &mut memory,
+                );
+                let (status, index) = (Status::Overlaps, Some(memory.len() - 1));
+                let refused = Err(ArrayError { status, index });
+                assert_eq!(written, if overlaps { refused } else { Ok(()) });
+            });
+        }
+    }
+}
+
 #[test]
 fn short_lists_take_n_log_n() {
+    expect_relocating(SHORT);
     expect_merges(SHORT);
     expect_deltas(SHORT);
 }
@@ -90,6 +130,7 @@ fn short_lists_take_n_log_n() {
 #[test]
 #[ignore = "it takes minutes: .ci/nightly"]
 fn long_lists_take_n_log_n() {
+    expect_relocating(LONG);
     expect_merges(LONG);
     expect_deltas(LONG);
 }

@@ -17,6 +17,9 @@ use linker_utils::runs::items::{Relocation, first_malformed, section_items};
 use linker_utils::runs::packing::{Machine, pack_run, packed_run_len};
 use linker_utils::runs::relaxation::{Item, are_items, deletions, first_faulty, relax};
 use linker_utils::runs::shapes::riscv64::CALL;
+use linker_utils::section::{
+    Addresses, RelocationError, SectionError, Symbol, memory_len, relocate_section,
+};
 use std::cell::Cell;
 use std::hint::black_box;
 
@@ -399,7 +402,45 @@ fn expect_recognising(count: usize) {
     });
 }
 
+/// The bytes of relocations of x86-64, `R_X86_64_PC32` of symbol 1, at offsets.
+fn relocations(offsets: &[(u64, u32)]) -> Vec<u8> {
+    let words = |offset: u64| [offset, 2 | 1 << 32, 0];
+    offsets.iter().flat_map(|(offset, _)| words(*offset)).flat_map(u64::to_le_bytes).collect()
+}
+
+fn expect_relocating(count: usize) {
+    for (order, pairs) in ORDERS {
+        let given = |relocations: Vec<u8>, count: usize| {
+            let memory = vec![0; memory_len(&relocations)];
+            (relocations, vec![0; 8 * count + 8], memory)
+        };
+        let relocate = |relocations: &[u8], section: &mut [u8], memory: &mut [u64]| {
+            let symbols = [Symbol::default(); 2];
+            let of = Architecture::X86_64;
+            relocate_section(of, &Addresses::default(), relocations, &symbols, section, memory)
+        };
+        let apart = |count| given(relocations(&pairs(count)), count);
+        expect_growth(&format!("relocating, {order}"), count, apart, |it| {
+            let (relocations, mut section, mut memory) = it;
+            assert_eq!(relocate(&relocations, &mut section, &mut memory), Ok(()));
+        });
+        // the last overlaps the one before it
+        let overlapping = |count| {
+            let mut pairs = pairs(count);
+            pairs[count - 1].0 = pairs[count - 2].0 + 2;
+            given(relocations(&pairs), count)
+        };
+        expect_growth(&format!("refused relocating, {order}"), count, overlapping, |it| {
+            let (relocations, mut section, mut memory) = it;
+            let (index, error) = (memory.len() - 1, RelocationError::Overlaps);
+            let refused = relocate(&relocations, &mut section, &mut memory);
+            assert_eq!(refused, Err(SectionError { index, error }));
+        });
+    }
+}
+
 fn expect_all(count: usize) {
+    expect_relocating(count);
     expect_merges(count);
     expect_merges_of_one(count);
     expect_deltas(count);

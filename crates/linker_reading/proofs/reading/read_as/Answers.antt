@@ -4,7 +4,7 @@ use Rattle.linker_reading.specs.Fields.{IsProper, IsOfValue}
 use Rattle.linker_reading.specs.Reading.{field_read, with_reach, holds_field}
 use Rattle.linker_reading.proofs.Proper.{proper_field, proper_in_reach, proper_aligned}
 use Rattle.linker_reading.proofs.Written.{field_written, some_alignment}
-use Rattle.linker_reading.proofs.reading.read_row.Goals as goal
+use Rattle.linker_reading.proofs.reading.read_as.Goals as goal
 
 pub with_reach-requires : goal.with_reach-requires
 with_reach-requires c =
