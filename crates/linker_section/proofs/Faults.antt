@@ -216,10 +216,12 @@ module _ (architecture : Architecture) (addresses : Addresses) (bytes : List ℕ
           ends = pair.ends;
           is_number = pair_number_from pair.other.kind (drop o now) (drop o before) pair.value pair.subtracted rejected.number
               (λ old rest u.
-                  let inside = u.there in
-                  (_, (uleb_same (drop o before) (drop o now) old rest u
-                  (subst (λ k. take k (drop o now) ≡ take k (drop o before)) (uleb_len_is (drop o before) old rest u) same)
-                  (omega (arith, inside, lengths))).0)) pair.is_number;
+              let inside = u.there in (
+                _,
+                (uleb_same (drop o before) (drop o now) old rest u
+                    (subst (λ k. take k (drop o now) ≡ take k (drop o before)) (uleb_len_is (drop o before) old rest u) same)
+                    (omega (arith, inside, lengths))).0,
+              )) pair.is_number;
         };
         cause = cause_of_number (drop o now) (drop o before) rejected.number error
             (subst (λ k. take k (drop o before) ≡ take k (drop o now)) (sym same_len) (sym same)) lengths rejected.cause;
@@ -232,14 +234,16 @@ module _ (architecture : Architecture) (addresses : Addresses) (bytes : List ℕ
       → IsCauseAt architecture addresses bytes symbols before i before error
   by_before written i (Value error) next relocated cause = cause
   by_before written i Overlaps next relocated cause = cause
-  by_before written i (Write error) (inl is) relocated cause =
-      (cause.0,
-      write_cause i error (subst (λ n. AreRelocated architecture addresses bytes symbols before n now) (sym is) relocated) (cause.0) (cause.1))
+  by_before written i (Write error) (inl is) relocated cause = (
+    cause.0,
+    write_cause i error (subst (λ n. AreRelocated architecture addresses bytes symbols before n now) (sym is) relocated) (cause.0) (cause.1),
+  )
   by_before written i (Write error) (inr is) relocated cause =
       (cause.0, second_cause written i error relocated (cause.0) (is.0) (is.1) (cause.1))
-  by_before written i (Uleb128 error) (inl is) relocated cause =
-      (cause.0,
-      number_cause i error (subst (λ n. AreRelocated architecture addresses bytes symbols before n now) (sym is) relocated) (cause.0) (cause.1))
+  by_before written i (Uleb128 error) (inl is) relocated cause = (
+    cause.0,
+    number_cause i error (subst (λ n. AreRelocated architecture addresses bytes symbols before n now) (sym is) relocated) (cause.0) (cause.1),
+  )
   by_before written i (Uleb128 error) (inr is) relocated cause =
       let pair = is.1 in
       let made = (cause.1).pair in
