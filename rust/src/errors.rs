@@ -290,7 +290,9 @@ impl Error for SectionError {
 impl Display for RewritingError {
     fn fmt(&self, f: &mut Formatter<'_>) -> Result {
         match self {
-            RewritingError::TooShort => f.write_str("there are fewer decisions than relocations"),
+            RewritingError::TooShort => f.write_str(
+                "there are fewer decisions than relocations, or less room for deletions than there are",
+            ),
             RewritingError::NotSurveyed(index) => write!(
                 f,
                 "the instruction of the relocation at index {index} has no rewrite, and its group \

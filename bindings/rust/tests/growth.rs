@@ -187,33 +187,43 @@ fn expect_runs(count: usize) {
     }
 }
 
-/// Relocations of x86-64, R_X86_64_PC32 of one symbol.
-fn expect_sections(count: usize) {
-    let made = |count: usize| -> Vec<u8> {
-        let info = (2 | 1u64 << 32).to_le_bytes();
-        let entry = |index| {
-            [
-                (4 * index as u64).to_le_bytes(),
-                info,
-                (-4i64).to_le_bytes(),
-            ]
-        };
-        (0..count).flat_map(entry).flatten().collect()
-    };
-    expect_growth("a section", count, made, |relocations| {
-        let mut memory = vec![0; relocate_memory(&relocations)];
-        let mut section = vec![0; 4 * memory.len()];
-        let symbols = [Symbol::default(); 2];
-        relocate_section(
-            Architecture::X86_64,
-            &Addresses::default(),
-            &relocations,
-            &symbols,
-            &mut section,
-            &mut memory,
-        )
-        .expect("values");
-    });
+/// The bytes of relocations of x86-64, `R_X86_64_PC32` of symbol 1, at offsets.
+fn relocations(offsets: &[(u64, u32)]) -> Vec<u8> {
+    let words = |offset: u64| [offset, 2 | 1 << 32, 0];
+    let all = offsets.iter().flat_map(|(offset, _)| words(*offset));
+    all.flat_map(u64::to_le_bytes).collect()
+}
+
+fn expect_relocating(count: usize) {
+    for (order, pairs) in ORDERS {
+        // the last overlaps the one before it, or none does
+        for overlaps in [false, true] {
+            let given = |count| {
+                let mut pairs = pairs(count);
+                if overlaps {
+                    pairs[count - 1].0 = pairs[count - 2].0 + 2;
+                }
+                let relocations = relocations(&pairs);
+                let memory = vec![0; relocate_memory(&relocations)];
+                (relocations, vec![0; 8 * count + 8], memory)
+            };
+            let name = format!("relocating, {order}, overlap {overlaps}");
+            expect_growth(&name, count, given, |(relocations, mut section, mut memory)| {
+                let symbols = [Symbol::default(); 2];
+                let written = relocate_section(
+                    Architecture::X86_64,
+                    &Addresses::default(),
+                    &relocations,
+                    &symbols,
+                    &mut section,
+                    &mut memory,
+                );
+                let (status, index) = (Status::Overlaps, Some(memory.len() - 1));
+                let refused = Err(ArrayError { status, index });
+                assert_eq!(written, if overlaps { refused } else { Ok(()) });
+            });
+        }
+    }
 }
 
 fn expect_all(count: usize) {
@@ -222,7 +232,7 @@ fn expect_all(count: usize) {
     // more reach into one another's bytes
     expect_calls(count.min(100_000));
     expect_runs(count);
-    expect_sections(count);
+    expect_relocating(count);
 }
 
 #[test]

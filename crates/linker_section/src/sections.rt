@@ -11,6 +11,7 @@ ghost use Rattle.linker_section.specs.Sections.{BeginsPair, HasValue};
 ghost use Rattle.linker_section.specs.Inner.Steps.{IsLimit, IsStopped, IsSecond, clear_in, field_of_row};
 ghost use Rattle.linker_section.specs.Inner.Steps.{IsPairOutcome};
 ghost use Rattle.linker_section.specs.Values.{has_value};
+ghost use Rattle.linker_section.specs.WrittenFields.{AreWritten};
 ghost use Rattle.linker_utils.specs.Architectures.{IsRow};
 ghost use Rattle.linker_elf.specs.declared.elf.RelocationKindInfo.{RelocationKindInfo};
 
@@ -385,9 +386,9 @@ pub fn memory_len(relocations: &[u8]) -> usize
 ///   of 24 bits; and `R_RISCV_SET6`, `R_RISCV_SUB6`, `R_LARCH_ADD6` and `R_LARCH_SUB6`), or
 /// - to be a pair at a ULEB128 number, next to each other.
 ///
-/// A relocation without a value, as `R_RISCV_RELAX`, has no field. Where relocations ascend by
-/// offset this takes time in proportion to their number. In any other order each field is compared
-/// with all before it, so the time is in proportion to the square of their number.
+/// A relocation without a value, as `R_RISCV_RELAX`, has no field. n relocations that ascend by
+/// offset take time in proportion to n. In any other order their indexes are sorted in `memory`
+/// first, and the time is in proportion to n log n.
 ///
 /// # Errors
 ///
@@ -425,6 +426,8 @@ pub fn relocate_section(
     requires memory { length relocations.now / 24 ≤ length memory.old }
     ensures ok { OnOk result (AreAllRelocated architecture addresses.now relocations.now
         symbols.now section.old section.new) }
+    ensures fields { OnOk result (AreWritten architecture addresses.now relocations.now
+        symbols.now section.old section.new) }
     ensures err { IfErr result (IsFirstRejected architecture addresses.now relocations.now
         symbols.now section.old) }
     ensures unchanged { IfErr result (λ _. section.new ≡ section.old) }
@@ -432,7 +435,8 @@ pub fn relocate_section(
     let limit = if is_ascending(relocations) {
         None
     } else {
-        Some(first_overlap(architecture, relocations, section))
+        let order = &mut memory[..relocations_len(relocations)];
+        Some(first_overlap(architecture, relocations, section, order))
     };
     match write_values(
         architecture,

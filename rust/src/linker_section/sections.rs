@@ -322,9 +322,9 @@ pub fn memory_len(relocations: &[u8]) -> usize {
 ///   of 24 bits; and `R_RISCV_SET6`, `R_RISCV_SUB6`, `R_LARCH_ADD6` and `R_LARCH_SUB6`), or
 /// - to be a pair at a ULEB128 number, next to each other.
 ///
-/// A relocation without a value, as `R_RISCV_RELAX`, has no field. Where relocations ascend by
-/// offset this takes time in proportion to their number. In any other order each field is compared
-/// with all before it, so the time is in proportion to the square of their number.
+/// A relocation without a value, as `R_RISCV_RELAX`, has no field. n relocations that ascend by
+/// offset take time in proportion to n. In any other order their indexes are sorted in `memory`
+/// first, and the time is in proportion to n log n.
 ///
 /// # Errors
 ///
@@ -368,7 +368,8 @@ pub fn relocate_section(
     let limit = if is_ascending(relocations) {
         None
     } else {
-        Some(first_overlap(architecture, relocations, section))
+        let order = &mut memory[..relocations_len(relocations)];
+        Some(first_overlap(architecture, relocations, section, order))
     };
     match write_values(
         architecture,

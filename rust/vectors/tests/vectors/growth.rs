@@ -16,12 +16,13 @@ use linker_utils::relaxation::{
 use linker_utils::rewriting::{
     Decision, KeptGroups, OutputFacts, SymbolFacts, rewrite_section, survey,
 };
-use linker_utils::runs::items::Relocation;
+use linker_utils::runs::items::{Relocation, first_malformed, section_items};
 use linker_utils::runs::packing::{Machine, pack_run, packed_run_len};
 use linker_utils::runs::relaxation::{Item, are_items, deletions, first_faulty, relax};
 use linker_utils::runs::shapes::riscv64::CALL;
-use linker_utils::runs::{loongarch64, riscv64};
-use linker_utils::section::{Addresses, Rela, Symbol, memory_len, relocate_section};
+use linker_utils::section::{
+    Addresses, Rela, RelocationError, SectionError, Symbol, memory_len, relocate_section,
+};
 use std::cell::Cell;
 use std::hint::black_box;
 
@@ -356,18 +357,21 @@ fn expect_sections(count: usize) {
         (LOONGARCH_CALL.repeat(count), all)
     };
     expect_growth("items of RISC-V", count, of_riscv, |(section, relocations)| {
-        assert_eq!(riscv64::first_malformed(&section, &relocations), None);
-        let items = riscv64::items(&section, 0, &relocations).expect("memory");
+        assert_eq!(first_malformed(Machine::RiscV64, &section, &relocations), None);
+        let items =
+            section_items(Machine::RiscV64, &section, 0, &relocations).expect("memory").items;
         assert_eq!(items.len(), section.len() / 8);
     });
     expect_growth("items of LoongArch", count, of_loongarch, |(section, relocations)| {
-        assert_eq!(loongarch64::first_malformed(&section, &relocations), None);
-        let items = loongarch64::items(&section, 0, &relocations).expect("memory");
+        assert_eq!(first_malformed(Machine::LoongArch64, &section, &relocations), None);
+        let items =
+            section_items(Machine::LoongArch64, &section, 0, &relocations).expect("memory").items;
         assert_eq!(items.len(), section.len() / 8);
     });
     let to_pack = |count: usize| {
         let (section, relocations) = of_riscv(count);
-        let items = riscv64::items(&section, 0, &relocations).expect("memory");
+        let items =
+            section_items(Machine::RiscV64, &section, 0, &relocations).expect("memory").items;
         let plan = relax(&items, 0).expect("memory");
         let deltas = deletions(&items, 0, &plan.kept).expect("memory");
         (section, items, deltas)
@@ -397,16 +401,15 @@ fn entries(relocations: impl Iterator<Item = Rela>) -> Vec<u8> {
     relocations.flat_map(entry).collect()
 }
 
-/// A section's relocations of its symbols, and what its instructions are.
+/// A section's relocations of symbols, and its bytes.
 struct Relocated {
-    architecture: Architecture,
     relocations: Vec<u8>,
     symbols: Vec<Symbol>,
     section: Vec<u8>,
 }
 
-/// Relocations of one symbol, RISC-V's low parts each of a high part of its own, and all of one.
-fn relocated() -> [(&'static str, fn(usize) -> Relocated); 3] {
+/// RISC-V's low parts, each of a high part of its own, and all of one.
+fn relocated() -> [(&'static str, fn(usize) -> Relocated); 2] {
     const AT: u64 = 0x10_0000;
     fn symbol(address: u64) -> Symbol {
         Symbol { address, ..Symbol::default() }
@@ -422,22 +425,11 @@ fn relocated() -> [(&'static str, fn(usize) -> Relocated); 3] {
     const AUIPC: [u8; 4] = [0x17, 0x05, 0, 0];
     const ADDI: [u8; 4] = [0x13, 0x05, 0x05, 0];
     [
-        ("of one symbol", |count| {
-            // R_X86_64_PC32
-            let one = |index| Rela { offset: 4 * index, code: 2, symbol: 1, addend: -4 };
-            Relocated {
-                architecture: Architecture::X86_64,
-                relocations: entries((0..count as u64).map(one)),
-                symbols: vec![symbol(0), symbol(AT)],
-                section: vec![0; 4 * count],
-            }
-        }),
         ("of pairs", |count| {
             let pairs = (0..count as u64 / 2).map(|index| 8 * index);
             let labels = pairs.clone().map(|offset| symbol(AT + offset));
             let both = |offset| [high(offset), low(offset + 4, 2 + offset as u32 / 8)];
             Relocated {
-                architecture: Architecture::RiscV,
                 relocations: entries(pairs.flat_map(both)),
                 symbols: [symbol(0), symbol(AT)].into_iter().chain(labels).collect(),
                 section: [AUIPC, ADDI].concat().repeat(count / 2),
@@ -446,7 +438,6 @@ fn relocated() -> [(&'static str, fn(usize) -> Relocated); 3] {
         ("of one high part", |count| {
             let lows = (1..count as u64).map(|index| low(4 * index, 2));
             Relocated {
-                architecture: Architecture::RiscV,
                 relocations: entries([high(0)].into_iter().chain(lows)),
                 symbols: vec![symbol(0), symbol(AT), symbol(AT)],
                 section: [AUIPC].into_iter().chain(vec![ADDI; count - 1]).flatten().collect(),
@@ -462,7 +453,7 @@ fn expect_relocated(count: usize) {
             let addresses = Addresses { section: 0x10_0000, ..Addresses::default() };
             let mut memory = vec![0; memory_len(&it.relocations)];
             relocate_section(
-                it.architecture,
+                Architecture::RiscV,
                 &addresses,
                 &it.relocations,
                 &it.symbols,
@@ -542,7 +533,45 @@ fn expect_recognising(count: usize) {
     });
 }
 
+/// The bytes of relocations of x86-64, `R_X86_64_PC32` of symbol 1, at offsets.
+fn relocations(offsets: &[(u64, u32)]) -> Vec<u8> {
+    let words = |offset: u64| [offset, 2 | 1 << 32, 0];
+    offsets.iter().flat_map(|(offset, _)| words(*offset)).flat_map(u64::to_le_bytes).collect()
+}
+
+fn expect_relocating(count: usize) {
+    for (order, pairs) in ORDERS {
+        let given = |relocations: Vec<u8>, count: usize| {
+            let memory = vec![0; memory_len(&relocations)];
+            (relocations, vec![0; 8 * count + 8], memory)
+        };
+        let relocate = |relocations: &[u8], section: &mut [u8], memory: &mut [u64]| {
+            let symbols = [Symbol::default(); 2];
+            let of = Architecture::X86_64;
+            relocate_section(of, &Addresses::default(), relocations, &symbols, section, memory)
+        };
+        let apart = |count| given(relocations(&pairs(count)), count);
+        expect_growth(&format!("relocating, {order}"), count, apart, |it| {
+            let (relocations, mut section, mut memory) = it;
+            assert_eq!(relocate(&relocations, &mut section, &mut memory), Ok(()));
+        });
+        // the last overlaps the one before it
+        let overlapping = |count| {
+            let mut pairs = pairs(count);
+            pairs[count - 1].0 = pairs[count - 2].0 + 2;
+            given(relocations(&pairs), count)
+        };
+        expect_growth(&format!("refused relocating, {order}"), count, overlapping, |it| {
+            let (relocations, mut section, mut memory) = it;
+            let (index, error) = (memory.len() - 1, RelocationError::Overlaps);
+            let refused = relocate(&relocations, &mut section, &mut memory);
+            assert_eq!(refused, Err(SectionError { index, error }));
+        });
+    }
+}
+
 fn expect_all(count: usize) {
+    expect_relocating(count);
     expect_merges(count);
     expect_merges_of_one(count);
     expect_deltas(count);

@@ -1,4 +1,6 @@
-use Rattle.std.proofs.Common.{sym, subst}
+use Rattle.std.proofs.Common.{ℕ, ◌<◌, sym, subst, rules}
+use Rattle.std.specs.Prelude.{slice_index}
+use Rattle.linker_section.proofs.Fielded.{are_written}
 use Rattle.linker_section.specs.Inner.Steps.{IsLimit}
 use Rattle.linker_section.proofs.sections.relocate_section.Goals as goal
 use Rattle.linker_section.proofs.sections.relocate_section.Goals.{then-is_ascending, else-is_ascending}
@@ -13,3 +15,8 @@ write_values-requires-clause-limit c =
           subst (IsLimit c.args.architecture c.args.relocations.now c.args.section.now) (sym w.limit-is)
           w.first_overlap.ensures
     ]
+
+pub returns-in-Ok-clause-fields : goal.returns-in-Ok-clause-fields
+returns-in-Ok-clause-fields c =
+    let small : (j : ℕ) → slice_index c.args.section.now j < 256 = λ j. search rules in
+    are_written c.args.architecture c.args.addresses.now c.args.relocations.now c.args.symbols.now c.args.section.now c.write_values.new.section small c.in-Ok.ensures.ok
