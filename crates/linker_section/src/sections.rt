@@ -11,7 +11,7 @@ ghost use Rattle.linker_section.specs.Sections.{BeginsPair, HasValue};
 ghost use Rattle.linker_section.specs.Inner.Steps.{IsLimit, IsStopped, IsSecond, clear_in, field_of_row};
 ghost use Rattle.linker_section.specs.Inner.Steps.{IsPairOutcome};
 ghost use Rattle.linker_section.specs.Values.{has_value};
-ghost use Rattle.linker_section.specs.WrittenFields.{AreWritten};
+ghost use Rattle.linker_section.specs.WrittenFields.{AreWritten, IsFirstFault};
 ghost use Rattle.linker_utils.specs.Architectures.{IsRow};
 ghost use Rattle.linker_elf.specs.declared.elf.RelocationKindInfo.{RelocationKindInfo};
 
@@ -467,6 +467,8 @@ pub fn relocate_section(
     ensures fields { OnOk result (AreWritten architecture addresses.now relocations.now
         symbols.now section.old section.new) }
     ensures err { IfErr result (IsFirstRejected architecture addresses.now relocations.now
+        symbols.now section.old) }
+    ensures fault { IfErr result (IsFirstFault architecture addresses.now relocations.now
         symbols.now section.old) }
     ensures unchanged { IfErr result (λ _. section.new ≡ section.old) }
 {
