@@ -1,6 +1,10 @@
 pub mod Deciding
 pub mod Keeping
+pub mod Listing
 pub mod Making
+pub mod Noted
+pub mod Order
 pub mod Surveying
+pub mod Unique
 pub mod Whole
 pub mod Windows

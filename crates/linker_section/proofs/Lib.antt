@@ -1,4 +1,5 @@
 pub mod All
+pub mod Bytes
 pub mod Claims
 pub mod Composing
 pub mod Exact
@@ -8,9 +9,11 @@ pub mod Fronts
 pub mod Held
 pub mod Local
 pub mod Numbers
+pub mod RowNames
 pub mod Rows
 pub mod Saving
 pub mod Sized
+pub mod Sorted
 pub mod Stepping
 pub mod Ulebs
 pub mod Valued

@@ -8,7 +8,7 @@ use Rattle.linker_elf.specs.declared.elf.RelocationKind.TheVariants as kinds
 use Rattle.linker_elf.specs.declared.elf.RelocationKindInfo.{RelocationKindInfo}
 use Rattle.linker_elf.specs.declared.elf.RelocationSize.{RelocationSize}
 use Rattle.linker_elf.specs.declared.elf.RelocationSize.TheVariants.{ByteSize, BitMasking}
-use Rattle.linker_section.proofs.Claims.{clear_cases, apart_more, claimed_more, overlapped, apart_pair, claimed_pair, apart_mark, claimed_mark, to_in, from_in, one_below}
+use Rattle.linker_section.proofs.Claims.{clear_cases, apart_more, claimed_more, overlapped, apart_pair, claimed_pair, apart_mark, claimed_mark, to_in, from_in, one_below, pair_below}
 use Rattle.linker_section.proofs.Composing.{no, second_is_none, begun_is_continued_none, begun_ends_none, ended_begins_none, ended_has_value, unvalued_begins_none, unvalued_ends_none}
 use Rattle.linker_section.proofs.Local.{IsLocal, one_local, pair_local, small_row, takes}
 use Rattle.linker_section.proofs.Saving.{undone, restores_more, restores_by, restores_local, restores_pair, plus_one}
@@ -558,8 +558,8 @@ ascends_pair architecture addresses bytes before now after symbols k last row or
           subst (Ascends architecture bytes before after (k + 2)) (sym (cond-false (eqb field.len 0) last field (ne_eqb field.len 0 (λ e. omega (arith, e, some)))))
           (record {
             apart = from_in architecture bytes before (k + 2)
-                (apart_pair architecture bytes before k row pair.other field apart claimed h begins second pair.same_offset place.end_is pair.ends);
-            claimed = claimed_pair architecture bytes before k row pair.other field claimed h begins pair.same_offset second place.end_is;
+                (apart_pair architecture bytes before (λ i. i < k + 1) (λ i. i < k + 2) k row pair.other (pair_below k) (omega arith) apart h.is_field begins second pair.same_offset place.end_is pair.ends);
+            claimed = claimed_pair architecture bytes before (λ i. i < k + 1) (λ i. i < k + 2) k row pair.other field (pair_below k) claimed h begins pair.same_offset second place.end_is;
             no_pair = λ i other here is_other.
                 let at : i ≡ k + 1 = omega (arith, here) in
                 let one : pair.other ≡ other = one_info architecture _ pair.other other pair.is_other (subst (λ x. IsRow architecture (relocation_in bytes x).code (Some other)) at is_other) in

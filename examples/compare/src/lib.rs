@@ -17,6 +17,7 @@ mod walk;
 
 use linker_utils::elf::Architecture;
 use side::{Made, Side};
+use std::sync::atomic::{AtomicU64, Ordering};
 
 /// A relocation, and what each linker made of it.
 pub struct Line {
@@ -56,18 +57,20 @@ pub fn compare<'a>(
     mut each: impl FnMut(Line),
 ) -> Result<Counts, (usize, elf::Reason)> {
     let sections: usize = objects.iter().map(|object| object.sections.len()).sum();
-    let (total, done) = (4 * sections as u64, std::cell::Cell::new(0));
-    let advance = || {
-        done.set(done.get() + 1);
-        step(done.get().min(total), total);
+    let (total, done) = (4 * sections as u64, AtomicU64::new(0));
+    let count = || done.fetch_add(1, Ordering::Relaxed) + 1;
+    let advance = || step(count().min(total), total);
+    let side = |which: usize, step: &dyn Fn()| {
+        let mut side = Side::new(files[which], objects).map_err(|reason| (which, reason))?;
+        side.locate(step);
+        Ok(side)
     };
-    let side = |which: usize| {
-        Side::new(files[which], objects).map_err(|reason| (which, reason))
-    };
-    let mut sides = [side(0)?, side(1)?];
-    for side in &mut sides {
-        side.locate(&advance);
-    }
+    let sides = std::thread::scope(|scope| {
+        let other = scope.spawn(|| side(1, &|| _ = count()));
+        let first = side(0, &advance);
+        (first, other.join().unwrap_or_else(|panic| std::panic::resume_unwind(panic)))
+    });
+    let mut sides = [sides.0?, sides.1?];
     let mut counts = Counts::default();
     for (at, object) in objects.iter().enumerate() {
         let names = report::names_of(object);

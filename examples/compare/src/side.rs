@@ -1,7 +1,7 @@
 //! A linked file beside the objects: where their sections are in it.
 
 use crate::align;
-use crate::elf::{Definition, Home, Linked, Object, Reason, Symbol};
+use crate::elf::{Definition, Home, Linked, Object, Reason, Relocation, Symbol};
 use crate::map::{self, Anchors};
 use crate::symbols::{self, Definers, LocalSymbols};
 use crate::tables::Frames;
@@ -44,10 +44,12 @@ pub struct Side<'a> {
     pub maps: Vec<Vec<Anchors>>,
     /// Objects, sections and anchors by local symbols whose names are there more than once.
     repeated: Vec<(usize, usize, (u64, u64))>,
-    /// By object.
-    pub pending: Vec<Vec<Pending>>,
-    /// The objects of which places were found since `walk` was there, which asks for those of no other.
-    pub is_stale: Vec<bool>,
+    /// Of the section that `walk` is in.
+    pub pending: Vec<Pending>,
+    /// Of the others, by object and section.
+    pub all_pending: Vec<Vec<Vec<Pending>>>,
+    /// The sections, by object, whose places were found since `walk` was there.
+    pub is_new: Vec<Vec<bool>>,
     /// What `locate` found last, by object and section.
     pub made: Vec<Vec<Vec<Made>>>,
 }
@@ -105,8 +107,10 @@ impl<'a> Side<'a> {
             false => linked.globals.get(&one.name).copied(),
         };
         let globals = objects.iter().map(|it| it.symbols.iter().map(global).collect()).collect();
-        let pending = objects.iter().map(|_| Vec::new()).collect();
-        let (is_stale, made) = (vec![true; objects.len()], vec![Vec::new(); objects.len()]);
+        let sections = || objects.iter().map(|it| it.sections.len());
+        let all_pending = sections().map(|len| (0..len).map(|_| Vec::new()).collect()).collect();
+        let made = sections().map(|len| vec![Vec::new(); len]).collect();
+        let is_new = sections().map(|len| vec![true; len]).collect();
         Ok(Side {
             linked,
             objects,
@@ -115,8 +119,9 @@ impl<'a> Side<'a> {
             anchors,
             maps,
             repeated,
-            pending,
-            is_stale,
+            pending: Vec::new(),
+            all_pending,
+            is_new,
             made,
         })
     }
@@ -127,21 +132,48 @@ impl<'a> Side<'a> {
         let frames = Frames::new(self.linked);
         for _ in 0..5 {
             self.find_tables(&frames);
-            let none = vec![false; self.objects.len()];
-            let is_stale = std::mem::replace(&mut self.is_stale, none);
-            for object in (0..self.objects.len()).filter(|object| is_stale[*object]) {
-                self.pending[object].clear();
-                self.made[object].clear();
-                for section in 0..self.objects[object].sections.len() {
-                    let made = self.walk(object, section);
-                    self.made[object].push(made);
+            let mut is_walked = Vec::with_capacity(self.objects.len());
+            for object in 0..self.objects.len() {
+                is_walked.push(self.is_new[object].contains(&true));
+                for section in self.stale(object) {
+                    self.made[object][section] = self.walk(object, section);
+                    self.all_pending[object][section] = std::mem::take(&mut self.pending);
                     step();
                 }
+                self.is_new[object].fill(false);
             }
-            if !self.learn(&is_stale) && !self.use_repeated() {
+            if !self.learn(&is_walked) && !self.use_repeated() {
                 break;
             }
         }
+    }
+
+    /// The sections of an object that `walk` has to look at again: those that are new, and those with
+    /// relocations to one that is. That may be by the label of a high part, or by a word of the TOC.
+    fn stale(&self, object: usize) -> Vec<usize> {
+        let (it, is_new) = (&self.objects[object], &self.is_new[object]);
+        if !is_new.contains(&true) {
+            return Vec::new();
+        }
+        let home = |one: &Relocation| match it.symbols[one.symbol].home {
+            Home::Section(section) => Some(section),
+            _ => None,
+        };
+        let leads = |section: &usize| {
+            let mut all = it.sections[*section].relocations.iter();
+            all.any(|one| home(one).is_some_and(|home| is_new[home]))
+        };
+        let all = 0..it.sections.len();
+        let to_new: Vec<bool> = all.clone().map(|section| leads(&section)).collect();
+        let is_link = |one: &Relocation, home: usize| {
+            it.sections[home].name == ".toc" || self.is_low(one)
+        };
+        all.filter(|section| {
+            let mut links = it.sections[*section].relocations.iter();
+            is_new[*section] || to_new[*section]
+                || links.any(|one| home(one).is_some_and(|home| to_new[home] && is_link(one, home)))
+        })
+        .collect()
     }
 
     /// Takes the anchors of names that are there more than once, where a section has no other.
@@ -165,7 +197,7 @@ impl<'a> Side<'a> {
             anchors.dedup_by_key(|(offset, _)| *offset);
             let it = &self.objects[*object].sections[*section];
             self.maps[*object][*section] = align::map_of(self.linked, it, anchors);
-            self.is_stale[*object] = true;
+            self.is_new[*object][*section] = true;
         }
         !new.is_empty()
     }

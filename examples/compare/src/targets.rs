@@ -131,7 +131,7 @@ impl<'a> Side<'a> {
         let address = self.address_of(object, one.symbol);
         if let (None, Home::Section(section)) = (address, symbol.home) {
             let (home, value) = ((object, section), symbol.value);
-            self.add_pending(object, Pending { home, value, field: *field, operands });
+            self.add_pending(Pending { home, value, field: *field, operands });
         }
         if symbol.kind == STT_TLS {
             operands.tls_base = 0;
@@ -140,19 +140,18 @@ impl<'a> Side<'a> {
     }
 
     /// Whether a relocation is of the low part of an address, by the label of its high part.
-    fn is_low(&self, one: &Relocation) -> bool {
+    pub fn is_low(&self, one: &Relocation) -> bool {
         let row = made::row(self.linked.architecture, one.code);
         row.is_some_and(|row| row.kind() == RelocationKind::RelativeRiscVLow12)
     }
 
     /// Once for each relocation and each choice of it.
-    fn add_pending(&mut self, object: usize, one: Pending) {
+    fn add_pending(&mut self, one: Pending) {
         let is_same = |last: &&Pending| {
             (last.field.place, last.field.row.kind()) == (one.field.place, one.field.row.kind())
         };
-        let pending = &mut self.pending[object];
-        if !pending.iter().rev().take(2).any(|last| is_same(&last)) {
-            pending.push(one);
+        if !self.pending.iter().rev().take(2).any(|last| is_same(&last)) {
+            self.pending.push(one);
         }
     }
 
@@ -165,7 +164,7 @@ impl<'a> Side<'a> {
         let Some((address, _)) = self.address_of(object, high.symbol) else {
             if let (Home::Section(section), false) = (symbol.home, row.asks_for_got()) {
                 let (home, value) = ((object, section), symbol.value);
-                self.add_pending(object, Pending { home, value, field: *field, operands: low });
+                self.add_pending(Pending { home, value, field: *field, operands: low });
             }
             return self.bits(field);
         };
@@ -194,8 +193,8 @@ impl<'a> Side<'a> {
     /// that were walked again. Whether any was found.
     pub fn learn(&mut self, was_walked: &[bool]) -> bool {
         let mut by_home = HashMap::<(usize, usize), Vec<&Pending>>::default();
-        let walked = self.pending.iter().zip(was_walked).filter(|(_, is_it)| **is_it);
-        for one in walked.flat_map(|(pending, _)| pending) {
+        let walked = self.all_pending.iter().zip(was_walked).filter(|(_, is_it)| **is_it);
+        for one in walked.flat_map(|(pending, _)| pending).flatten() {
             by_home.entry(one.home).or_default().push(one);
         }
         let mut found = Vec::new();

@@ -7,8 +7,8 @@ use Rattle.linker_section.specs.Inner.Steps.{IsLimit}
 use Rattle.linker_section.proofs.sections.relocate_section.Goals as goal
 use Rattle.linker_section.proofs.sections.relocate_section.Goals.{then-is_ascending, else-is_ascending}
 
-pub write_values-requires-clause-limit : goal.write_values-requires-clause-limit
-write_values-requires-clause-limit c =
+pub write_values_of-requires-clause-limit : goal.write_values_of-requires-clause-limit
+write_values_of-requires-clause-limit c =
     elim c.if-is_ascending.branch [
       | then-is_ascending w ↦
           subst (IsLimit c.args.architecture c.args.relocations.now c.args.section.now) (sym w.limit-is)
