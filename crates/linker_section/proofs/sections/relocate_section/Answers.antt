@@ -21,7 +21,7 @@ write_values_of-requires-clause-limit c =
 pub returns-in-Ok-clause-fields : goal.returns-in-Ok-clause-fields
 returns-in-Ok-clause-fields c =
     let small : (j : ℕ) → slice_index c.args.section.now j < 256 = λ j. search rules in
-    are_written c.args.architecture c.args.addresses.now c.args.relocations.now c.args.symbols.now c.args.section.now c.write_values.new.section small c.in-Ok.ensures.ok
+    are_written c.args.architecture c.args.addresses.now c.args.relocations.now c.args.symbols.now c.args.section.now c.write_values_of.new.section small c.in-Ok.ensures.ok
 
 pub returns-in-Err-clause-fault : goal.returns-in-Err-clause-fault
 returns-in-Err-clause-fault c =
