@@ -510,9 +510,9 @@ struct linker_utils_rela {
                              `e_flags` of its object */
 };
 
-/* Writes the items that the relocations of a section of RISC-V or LoongArch make, in their order, and
- * to `makers` the index of the relocation that makes each. The section begins at the input offset
- * `base` of the run. The other relocations make none.
+/* Writes the items that the relocations of a section of RISC-V or LoongArch make, in their order,
+ * and to `makers` the index of the relocation that makes each. The section begins at the input
+ * offset `base` of the run. The other relocations make none.
  *
  * RISC-V: R_RISCV_CALL and R_RISCV_CALL_PLT make a site where R_RISCV_RELAX is the next relocation,
  * at the same offset, and the target is in the run. The bytes have to be an auipc and a jalr of one
@@ -717,7 +717,9 @@ struct linker_utils_recognised {
  *
  * - `offset` is that of the relocation in the original bytes. Both windows may begin before it, at
  *   the same place. The original one has at most 64 bytes. After a rewrite that deletes bytes the
- *   linked one has fewer.
+ *   linked one has fewer. They want the bytes of each rewrite (`linker_utils_rewrite_window`),
+ *   those that are deleted after it, and the field of the relocation after it. In a wider window
+ *   other bytes differ, and nothing is found unless `others` names them.
  * - `others` are bits that other relocations write, as `linker_utils_field_bits` returns them,
  *   among them those of a relocation that the rewrite skips. Of an instruction that another
  *   relocation rewrites or deletes they are all bits.

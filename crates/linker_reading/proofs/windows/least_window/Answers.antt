@@ -1,4 +1,4 @@
-use Rattle.std.proofs.Common.{◌≡◌, ◌+◌, ℕ, Some, slice_get, take, length, min, Option, refl, sym, subst, ◌∙◌, arith}
+use Rattle.std.proofs.Common.{◌≡◌, ◌+◌, ℕ, Some, slice_get, take, min, Option, refl, sym, subst, ◌∙◌, arith}
 use Rattle.std.specs.Prelude.{IfSome, IfNone}
 use Rattle.linker_reading.proofs.LeastWindow.{IsLeastOfFirst, of_none, none_more, one_more, of_all}
 use Rattle.linker_reading.proofs.Tables.{taken_at, taken_few}
