@@ -103,8 +103,9 @@ uint32_t linker_utils_apply_nonnull(uint16_t machine, uint32_t rewrite,
 static inline uint32_t linker_utils_apply(uint16_t machine, uint32_t rewrite, uint8_t opcode_len,
                                           uint8_t *section, size_t section_len, uint64_t *offset,
                                           int64_t *addend) {
-    return linker_utils_apply_nonnull(machine, rewrite, opcode_len, LINKER_UTILS_SLICE(uint8_t, section),
-                                      section_len, offset, addend);
+    return linker_utils_apply_nonnull(machine, rewrite, opcode_len,
+                                      LINKER_UTILS_SLICE(uint8_t, section), section_len, offset,
+                                      addend);
 }
 
 uint32_t linker_utils_relocation_name_nonnull(uint16_t machine, uint32_t r_type, uint8_t *name,
@@ -482,36 +483,22 @@ static inline uint32_t linker_utils_shrink_calls(const struct linker_utils_delta
         LINKER_UTILS_SLICE(uint8_t, chosen), chosen_len, faulty ? faulty : &ignored);
 }
 
-uint32_t linker_utils_riscv_items_nonnull(
-    const uint8_t *section, size_t section_len, uint64_t base,
+uint32_t linker_utils_section_items_nonnull(
+    uint16_t machine, const uint8_t *section, size_t section_len, uint64_t base,
     const struct linker_utils_rela *relocations, size_t relocations_len,
-    struct linker_utils_item *items, size_t items_len, size_t *len, size_t *faulty);
-static inline uint32_t linker_utils_riscv_items(
-    const uint8_t *section, size_t section_len, uint64_t base,
+    struct linker_utils_item *items, size_t items_len, size_t *makers, size_t makers_len, size_t *len,
+    size_t *faulty);
+static inline uint32_t linker_utils_section_items(
+    uint16_t machine, const uint8_t *section, size_t section_len, uint64_t base,
     const struct linker_utils_rela *relocations, size_t relocations_len,
-    struct linker_utils_item *items, size_t items_len, size_t *len, size_t *faulty) {
+    struct linker_utils_item *items, size_t items_len, size_t *makers, size_t makers_len, size_t *len,
+    size_t *faulty) {
     size_t ignored;
-    return linker_utils_riscv_items_nonnull(
-        LINKER_UTILS_SLICE(const uint8_t, section), section_len, base,
+    return linker_utils_section_items_nonnull(
+        machine, LINKER_UTILS_SLICE(const uint8_t, section), section_len, base,
         LINKER_UTILS_SLICE(const struct linker_utils_rela, relocations),
-        relocations_len, LINKER_UTILS_SLICE(struct linker_utils_item, items), items_len, len,
-        faulty ? faulty : &ignored);
-}
-
-uint32_t linker_utils_loongarch_items_nonnull(
-    const uint8_t *section, size_t section_len, uint64_t base,
-    const struct linker_utils_rela *relocations, size_t relocations_len,
-    struct linker_utils_item *items, size_t items_len, size_t *len, size_t *faulty);
-static inline uint32_t linker_utils_loongarch_items(
-    const uint8_t *section, size_t section_len, uint64_t base,
-    const struct linker_utils_rela *relocations, size_t relocations_len,
-    struct linker_utils_item *items, size_t items_len, size_t *len, size_t *faulty) {
-    size_t ignored;
-    return linker_utils_loongarch_items_nonnull(
-        LINKER_UTILS_SLICE(const uint8_t, section), section_len, base,
-        LINKER_UTILS_SLICE(const struct linker_utils_rela, relocations),
-        relocations_len, LINKER_UTILS_SLICE(struct linker_utils_item, items), items_len, len,
-        faulty ? faulty : &ignored);
+        relocations_len, LINKER_UTILS_SLICE(struct linker_utils_item, items), items_len,
+        LINKER_UTILS_SLICE(size_t, makers), makers_len, len, faulty ? faulty : &ignored);
 }
 
 uint32_t linker_utils_items_relaxable_nonnull(const struct linker_utils_item *items,

@@ -36,7 +36,7 @@ pub use crate::linker_elf::elf::choice_table;
 
 pub mod runs {
     #![doc = include_str!("../doc/runs.md")]
-    pub use crate::linker_runs::{items, loongarch64, packing, relaxation, riscv64, shapes};
+    pub use crate::linker_runs::{items, packing, relaxation, shapes};
 }
 
 /// Which forms an instruction has and the number in its immediate; what stands in the fields of
@@ -97,6 +97,13 @@ pub mod output {
     };
     pub use crate::linker_output::stubs::{Stub, StubError, StubField, StubKind};
     pub use crate::linker_output::description::Target;
+}
+
+pub mod placement {
+    #![doc = include_str!("../doc/placement.md")]
+    pub use crate::linker_output::placement::{
+        Branch, Code, Group, Layout, Part, PlaceError, Placement, StubAt, StubShape, place_stubs,
+    };
 }
 
 pub mod architecture;

@@ -22,10 +22,8 @@ fn texts(error: impl Error + Send + Sync + 'static) -> Vec<String> {
 /// A status's text in the header of the static library, as errors print it: with no capital and no
 /// full stop.
 fn status(name: &str) -> String {
-    let header = include_str!("../../include/linker_utils.h");
-    let (_, entry) = header
-        .split_once(&format!("    STATUS({name}, "))
-        .expect(name);
+    let header = include_str!("../../include/linker_utils_lists.h");
+    let (_, entry) = header.split_once(&format!("    STATUS({name}, ")).expect(name);
     let (entry, _) = entry.split_once("\")").expect(name);
     let text: String = entry.split('"').skip(1).step_by(2).collect();
     let (capital, rest) = text.strip_suffix('.').expect(name).split_at(1);
@@ -74,22 +72,13 @@ fn errors_of_values_name_what_can_be_written() {
     // R_X86_64_64 is whole bytes without bounds
     let row = Architecture::X86_64.row(1).unwrap();
     let error = WriteError::new(&row.info(), 5, RelocateError::TooShort);
-    assert_eq!(
-        (error.least, error.greatest, error.alignment),
-        (i64::MIN, i64::MAX, 1)
-    );
+    assert_eq!((error.least, error.greatest, error.alignment), (i64::MIN, i64::MAX, 1));
 }
 
 #[test]
 fn errors_of_stubs_are_printed() {
-    assert_eq!(
-        texts(StubError::Missing),
-        ["the architecture has no such stub"]
-    );
-    assert_eq!(
-        texts(StubError::TooShort),
-        ["there are fewer bytes than the stub has"]
-    );
+    assert_eq!(texts(StubError::Missing), ["the architecture has no such stub"]);
+    assert_eq!(texts(StubError::TooShort), ["there are fewer bytes than the stub has"]);
     let far = StubError::Field(RelocateError::OutOfReach);
     let cause = "the value is out of the relocation's reach";
     assert_eq!(texts(far), ["the stub does not lead to the target", cause]);
@@ -105,10 +94,7 @@ fn errors_of_uleb128_numbers_are_printed() {
     assert_eq!(status("ULEB128_TOO_LARGE"), large);
     let fit = "the value does not fit the existing ULEB128 number";
     assert_eq!(texts(Uleb128Error::DoesNotFit), [fit]);
-    assert_eq!(
-        texts(Uleb128PairError::Number(Uleb128Error::DoesNotFit)),
-        [fit]
-    );
+    assert_eq!(texts(Uleb128PairError::Number(Uleb128Error::DoesNotFit)), [fit]);
     let first = "the relocation is none that sets or adds to a ULEB128 number";
     assert_eq!(texts(Uleb128PairError::NotFirst), [first]);
 }
@@ -119,16 +105,10 @@ fn pairs_write_uleb128_numbers() {
     let (riscv, loongarch) = (Architecture::RiscV, Architecture::LoongArch64);
     // R_RISCV_SET_ULEB128, R_LARCH_ADD_ULEB128 over 5
     let mut bytes = [0x85, 0x80, 0x00, 7];
-    assert_eq!(
-        riscv.write_uleb128_pair(60, &mut bytes, 0x1234, 0x1000),
-        Ok(())
-    );
+    assert_eq!(riscv.write_uleb128_pair(60, &mut bytes, 0x1234, 0x1000), Ok(()));
     assert_eq!(bytes, [0xb4, 0x84, 0x00, 7]);
     let mut bytes = [0x85, 0x80, 0x00, 7];
-    assert_eq!(
-        loongarch.write_uleb128_pair(107, &mut bytes, 0x1234, 0x1000),
-        Ok(())
-    );
+    assert_eq!(loongarch.write_uleb128_pair(107, &mut bytes, 0x1234, 0x1000), Ok(()));
     assert_eq!(bytes, [0xb9, 0x84, 0x00, 7]);
     let negative = Err(Uleb128PairError::Number(Uleb128Error::DoesNotFit));
     assert_eq!(riscv.write_uleb128_pair(60, &mut bytes, 1, 2), negative);
@@ -147,21 +127,9 @@ const CALLS: [(CallError, &str, &str); 4] = [
         "the four bytes at the site, or the eight where the `jalr`'s register is linked, \
          are not in the section, or the target is past its end",
     ),
-    (
-        CallError::SiteDeleted,
-        "SITE_DELETED",
-        "one of the four bytes at the site is deleted",
-    ),
-    (
-        CallError::OddDistance,
-        "ODD_DISTANCE",
-        "the distance is odd",
-    ),
-    (
-        CallError::TooFar,
-        "TOO_FAR",
-        "the distance is out of the range of `jal`",
-    ),
+    (CallError::SiteDeleted, "SITE_DELETED", "one of the four bytes at the site is deleted"),
+    (CallError::OddDistance, "ODD_DISTANCE", "the distance is odd"),
+    (CallError::TooFar, "TOO_FAR", "the distance is out of the range of `jal`"),
 ];
 
 #[test]
@@ -171,33 +139,18 @@ fn errors_of_calls_are_printed() {
         assert_eq!(texts(error), [text]);
         assert_eq!(texts(JumpError::Call(error)), [text]);
         let at = "the call at index 7 does not become a jump";
-        assert_eq!(
-            texts(RejectedCall {
-                index: 7,
-                error: error.into()
-            }),
-            [at, text]
-        );
+        assert_eq!(texts(RejectedCall { index: 7, error: error.into() }), [at, text]);
         assert_eq!(texts(PackError::Call { index: 7, error }), [at, text]);
     }
     let text =
         "the eight bytes at the site are not an `auipc` and a `jalr` whose base is its register";
     assert_eq!(status("NOT_A_CALL"), text);
     assert_eq!(texts(JumpError::NotACall), [text]);
-    let rejected = RejectedCall {
-        index: 18_446_744,
-        error: JumpError::NotACall,
-    };
-    assert_eq!(
-        texts(rejected),
-        ["the call at index 18446744 does not become a jump", text]
-    );
+    let rejected = RejectedCall { index: 18_446_744, error: JumpError::NotACall };
+    assert_eq!(texts(rejected), ["the call at index 18446744 does not become a jump", text]);
     let cause = rejected.source().and_then(|error| error.downcast_ref());
     assert_eq!(cause, Some(&JumpError::NotACall));
-    let packing = PackError::Call {
-        index: 0,
-        error: CallError::TooFar,
-    };
+    let packing = PackError::Call { index: 0, error: CallError::TooFar };
     let cause = packing.source().and_then(|error| error.downcast_ref());
     assert_eq!(cause, Some(&CallError::TooFar));
 }
@@ -205,16 +158,10 @@ fn errors_of_calls_are_printed() {
 #[test]
 fn errors_of_memory_are_printed() {
     assert_eq!(texts(OutOfMemory), ["out of memory"]);
-    assert_eq!(
-        texts(PackError::OutOfMemory),
-        ["out of memory for the packed section"]
-    );
+    assert_eq!(texts(PackError::OutOfMemory), ["out of memory for the packed section"]);
     // what insertions into a map hand back
     let deltas = SectionRelaxDeltas::new(&[(4, 2)]).expect("memory");
-    assert_eq!(
-        texts(deltas),
-        ["out of memory for the section's entry in the map"]
-    );
+    assert_eq!(texts(deltas), ["out of memory for the section's entry in the map"]);
 }
 
 #[test]
@@ -222,10 +169,7 @@ fn errors_of_runs_are_printed() {
     assert_eq!(texts(ItemsError::OutOfMemory), ["out of memory"]);
     let malformed = "the relocation at index 7 is not one that the psABI allows there";
     assert_eq!(texts(ItemsError::Malformed(7)), [malformed]);
-    assert_eq!(
-        malformed.replace(" at index 7", ""),
-        status("MALFORMED_RELOCATION")
-    );
+    assert_eq!(malformed.replace(" at index 7", ""), status("MALFORMED_RELOCATION"));
     for (fault, name) in [
         (Fault::Overlaps, "ITEMS_OVERLAP"),
         (Fault::TooManyShapes, "TOO_MANY_SHAPES"),
@@ -235,10 +179,7 @@ fn errors_of_runs_are_printed() {
         (Fault::BadReach, "BAD_REACH"),
         (Fault::BadAlignment, "BAD_ALIGNMENT"),
         (Fault::UnevenShape, "UNEVEN_SHAPE"),
-        (
-            Fault::AlignmentBelowGranularity,
-            "ALIGNMENT_BELOW_GRANULARITY",
-        ),
+        (Fault::AlignmentBelowGranularity, "ALIGNMENT_BELOW_GRANULARITY"),
         (Fault::UnevenEnd, "UNEVEN_END"),
         (Fault::TooFewNops, "TOO_FEW_NOPS"),
         (Fault::UnevenNops, "UNEVEN_NOPS"),
@@ -247,17 +188,11 @@ fn errors_of_runs_are_printed() {
     ] {
         let found = ItemFault { index: 3, fault };
         let said = status(name);
-        assert_eq!(
-            texts(found),
-            ["the item at index 3 is faulty", said.as_str()]
-        );
+        assert_eq!(texts(found), ["the item at index 3 is faulty", said.as_str()]);
     }
     let high = "the address behind the item is above 2^64 - 1";
     assert_eq!(texts(Fault::TooHigh), [high]);
-    assert_eq!(
-        high.replace("item", "item, or behind the section,"),
-        status("ENDS_TOO_HIGH")
-    );
+    assert_eq!(high.replace("item", "item, or behind the section,"), status("ENDS_TOO_HIGH"));
 }
 
 /// What a reader returns, with the text of its error, and how many bytes it leaves.
@@ -276,9 +211,7 @@ fn readers_with_a_typed_error_read_the_same() {
     for _ in 0..100_000 {
         let mut bytes = [0; 12];
         for byte in &mut bytes {
-            state = state
-                .wrapping_mul(6_364_136_223_846_793_005)
-                .wrapping_add(1);
+            state = state.wrapping_mul(6_364_136_223_846_793_005).wrapping_add(1);
             // mostly a byte that another follows, and mostly 0 or 1 as the tenth
             *byte = match state >> 60 {
                 0 => (state >> 57) as u8 & 3,
@@ -289,9 +222,7 @@ fn readers_with_a_typed_error_read_the_same() {
         assert_eq!(read(bytes, readers::read_u32), read(bytes, utils::read_u32));
         let number = read(bytes, readers::read_uleb128);
         assert_eq!(number, read(bytes, utils::read_uleb128));
-        errors[number
-            .0
-            .map_or_else(|text| 1 + usize::from(text.ends_with("ended")), |_| 0)] += 1;
+        errors[number.0.map_or_else(|text| 1 + usize::from(text.ends_with("ended")), |_| 0)] += 1;
     }
     assert!(errors.iter().all(|&count| count > 1_000), "{errors:?}");
 }
@@ -304,38 +235,20 @@ fn errors_of_readers_are_boxed() {
     assert_eq!(number(&[1, 0, 0, 0, 5]).ok(), Some(6));
     let ended = number(&[1, 0, 0, 0, 0x85]).unwrap_err();
     assert_eq!(ended.downcast_ref(), Some(&ReadError::Ended));
-    assert_eq!(
-        number(&[1]).unwrap_err().downcast_ref(),
-        Some(&ReadError::TooShort)
-    );
+    assert_eq!(number(&[1]).unwrap_err().downcast_ref(), Some(&ReadError::TooShort));
 }
 
 #[test]
 fn errors_of_sections_are_printed() {
     for (error, name) in [
-        (
-            RelocationError::Value(section::ValueError::NoSymbol),
-            "NO_SYMBOL",
-        ),
-        (
-            RelocationError::Value(section::ValueError::NoEntry),
-            "NO_ENTRY",
-        ),
-        (
-            RelocationError::Value(section::ValueError::NoHighPart),
-            "NO_HIGH_PART",
-        ),
+        (RelocationError::Value(section::ValueError::NoSymbol), "NO_SYMBOL"),
+        (RelocationError::Value(section::ValueError::NoEntry), "NO_ENTRY"),
+        (RelocationError::Value(section::ValueError::NoHighPart), "NO_HIGH_PART"),
         (RelocationError::Overlaps, "OVERLAPS"),
-        (
-            RelocationError::Write(RelocateError::Misaligned),
-            "MISALIGNED",
-        ),
+        (RelocationError::Write(RelocateError::Misaligned), "MISALIGNED"),
     ] {
         let place = "the relocation at index 7 is not written";
-        assert_eq!(
-            texts(SectionError { index: 7, error }),
-            [place.into(), status(name)]
-        );
+        assert_eq!(texts(SectionError { index: 7, error }), [place.into(), status(name)]);
     }
     let unknown = RelocationError::Value(section::ValueError::UnknownType);
     assert!(status("UNKNOWN_RELOCATION").starts_with(&unknown.to_string()));

@@ -1343,7 +1343,10 @@ static void call_run_deltas(void) {
 }
 
 /* Relocations of a section, of which most are in it, and its items. */
-static void call_section_items(bool is_riscv) {
+static void call_section_items(void) {
+    bool is_riscv = once_in(2);
+    uint16_t machine = once_in(16) ? (uint16_t)any_number() : is_riscv ? LINKER_UTILS_RISCV
+                                          : LINKER_UTILS_LOONGARCH64;
     size_t section_len = any_section_len(), count = any_len(8);
     struct buffer *section = bytes(READ, section_len);
     struct buffer *given = place(READ, count, sizeof(struct linker_utils_rela));
@@ -1365,31 +1368,26 @@ static void call_section_items(bool is_riscv) {
     }
     size_t items_len = once_in(8) ? any_len(8) : count;
     struct buffer *items = place(WRITTEN, items_len, sizeof(struct linker_utils_item));
+    size_t makers_len = once_in(8) ? any_len(8) : count;
+    struct buffer *makers = place(WRITTEN, makers_len, sizeof(size_t));
     uint64_t base = once_in(8) ? any_number() : below(64);
     size_t *len = output(sizeof(size_t));
     size_t *faulty = any_faulty();
-    uint32_t status =
-        is_riscv ? CALL(riscv_items, section->given, section_len, base, given->given, count,
-                        ITEMS(items), len, faulty)
-                 : CALL(loongarch_items, section->given, section_len, base, given->given, count,
-                        ITEMS(items), len, faulty);
+    uint32_t status = CALL(section_items, machine, section->given, section_len, base, given->given,
+                           count, ITEMS(items), makers->given, makers_len, len, faulty);
     expect(was_refused == (status == LINKER_UTILS_OUT_OF_MEMORY), "tells nothing of memory");
-    expect((status == LINKER_UTILS_DIFFERENT_LENGTHS) == (items_len != count), "another length");
+    bool is_known = machine == LINKER_UTILS_RISCV || machine == LINKER_UTILS_LOONGARCH64;
+    expect((status == LINKER_UTILS_UNKNOWN_ARCHITECTURE) == !is_known, "another machine");
+    expect((status == LINKER_UTILS_DIFFERENT_LENGTHS) ==
+               (is_known && (items_len != count || makers_len != count)), "another length");
     expect(status != LINKER_UTILS_OK || *len <= count, "more items than relocations");
     changes(items, 0, *len * sizeof(struct linker_utils_item));
+    changes(makers, 0, *len * sizeof(size_t));
     finish_faulty(faulty, status == LINKER_UTILS_MALFORMED_RELOCATION, count);
     expect(live == 0, "keeps memory");
     allocations = 0;
-    finish_with(status, 0 OR(DIFFERENT_LENGTHS) OR(ENDS_TOO_HIGH) OR(OUT_OF_MEMORY)
-                            OR(MALFORMED_RELOCATION));
-}
-
-static void call_riscv_items(void) {
-    call_section_items(true);
-}
-
-static void call_loongarch_items(void) {
-    call_section_items(false);
+    finish_with(status, 0 OR(UNKNOWN_ARCHITECTURE) OR(DIFFERENT_LENGTHS) OR(ENDS_TOO_HIGH)
+                            OR(OUT_OF_MEMORY) OR(MALFORMED_RELOCATION));
 }
 
 static void call_has_its_instructions(void) {
@@ -1653,7 +1651,7 @@ static void (*const all[])(void) = {
     call_deltas_merge, call_has_valid_deltas, call_deltas_total_deleted, call_translations,
     call_deltas_translate_all,
     call_deltas_heads, call_pack, call_shrink_calls, call_standard_shapes, call_relax, call_run_deltas,
-    call_riscv_items, call_loongarch_items, call_has_its_instructions, call_pack_run,
+    call_section_items, call_has_its_instructions, call_pack_run,
     call_operand, call_read_value, call_solve, call_join, call_field_bits, call_same_but_for,
     call_recognise, call_recognise_chosen,
 };

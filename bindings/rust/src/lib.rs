@@ -1251,18 +1251,22 @@ fn of_section(error: ArrayError) -> ArrayError {
     }
 }
 
-/// Writes the items that a RISC-V section's relocations make, and returns how many there are. `items`
-/// has as many elements as there are relocations. The section begins at the input offset `base` of
-/// the run. The entry at fault is a relocation.
-pub fn riscv_items(
+/// Writes the items that the relocations of a section of RISC-V or LoongArch make, and the index of the
+/// relocation that makes each, and returns how many there are. `items` and `makers` have as many elements
+/// as there are relocations. The section begins at the input offset `base` of the run. The entry at fault
+/// is a relocation.
+pub fn section_items(
+    machine: u16,
     section: &[u8],
     base: u64,
     relocations: &[Rela],
     items: &mut [Item],
+    makers: &mut [usize],
 ) -> Result<usize, ArrayError> {
     let mut len = 0;
     result_over(|faulty| unsafe {
-        raw::linker_utils_riscv_items_nonnull(
+        raw::linker_utils_section_items_nonnull(
+            machine,
             section.as_ptr(),
             section.len(),
             base,
@@ -1270,31 +1274,8 @@ pub fn riscv_items(
             relocations.len(),
             items.as_mut_ptr(),
             items.len(),
-            &mut len,
-            faulty,
-        )
-    })
-    .map_err(of_section)?;
-    Ok(len)
-}
-
-/// Writes the items that a LoongArch section's relocations make, as `riscv_items`.
-pub fn loongarch_items(
-    section: &[u8],
-    base: u64,
-    relocations: &[Rela],
-    items: &mut [Item],
-) -> Result<usize, ArrayError> {
-    let mut len = 0;
-    result_over(|faulty| unsafe {
-        raw::linker_utils_loongarch_items_nonnull(
-            section.as_ptr(),
-            section.len(),
-            base,
-            relocations.as_ptr(),
-            relocations.len(),
-            items.as_mut_ptr(),
-            items.len(),
+            makers.as_mut_ptr(),
+            makers.len(),
             &mut len,
             faulty,
         )

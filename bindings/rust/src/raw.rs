@@ -441,7 +441,8 @@ extern "C" {
         input_offset: *mut u64,
     ) -> u32;
     pub fn linker_utils_standard_shapes(number: u32, shapes: *mut Shapes) -> u32;
-    pub fn linker_utils_riscv_items_nonnull(
+    pub fn linker_utils_section_items_nonnull(
+        machine: u16,
         section: *const u8,
         section_len: usize,
         base: u64,
@@ -449,17 +450,8 @@ extern "C" {
         relocations_len: usize,
         items: *mut Item,
         items_len: usize,
-        len: *mut usize,
-        faulty: *mut usize,
-    ) -> u32;
-    pub fn linker_utils_loongarch_items_nonnull(
-        section: *const u8,
-        section_len: usize,
-        base: u64,
-        relocations: *const Rela,
-        relocations_len: usize,
-        items: *mut Item,
-        items_len: usize,
+        makers: *mut usize,
+        makers_len: usize,
         len: *mut usize,
         faulty: *mut usize,
     ) -> u32;

@@ -61,10 +61,10 @@ fn list(text: &str) -> impl Iterator<Item = String> + '_ {
     text.split(',').map(words).filter(|part| !part.is_empty())
 }
 
-/// Both headers, each directive in one line: what users read, and then its inline functions.
+/// The headers, each directive in one line: what users read, and then its inline functions.
 fn headers() -> String {
-    let texts = ["linker_utils.h", "linker_utils_inline.h"]
-        .map(|name| repository(&format!("include/{name}")).replace("\\\n", " "));
+    let texts = ["_lists", "", "_further", "_inline"]
+        .map(|name| repository(&format!("include/linker_utils{name}.h")).replace("\\\n", " "));
     texts.join("\n")
 }
 
