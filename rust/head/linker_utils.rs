@@ -90,3 +90,10 @@ pub mod output {
     pub use crate::linker_output::stubs::{Stub, StubError, StubField, StubKind};
     pub use crate::linker_output::description::Target;
 }
+
+pub mod placement {
+    #![doc = include_str!("../doc/placement.md")]
+    pub use crate::linker_output::placement::{
+        Branch, Code, Group, Layout, Part, PlaceError, Placement, StubAt, StubShape, place_stubs,
+    };
+}

@@ -2,6 +2,7 @@
 
 use crate::elf::{RelocateError, Uleb128PairError, WriteError};
 use crate::output::StubError;
+use crate::placement::PlaceError;
 use crate::relaxation::{OutOfMemory, PackError, RejectedCall, SectionRelaxDeltas};
 use crate::rewriting::RewritingError;
 use crate::riscv64::{CallError, JumpError};
@@ -51,6 +52,31 @@ impl Display for StubError {
         })
     }
 }
+
+impl Display for PlaceError {
+    fn fmt(&self, f: &mut Formatter<'_>) -> Result {
+        match self {
+            PlaceError::OutOfMemory => f.write_str("out of memory"),
+            PlaceError::NoLength => f.write_str("a stub has no bytes, or the unit is 0"),
+            PlaceError::NotAscending(index) => {
+                write!(f, "the boundary behind that at index {index} is below it")
+            }
+            PlaceError::NoTarget(index) => {
+                write!(f, "the target of the branch at index {index} is not in the table")
+            }
+            PlaceError::TooLong => f.write_str("an offset or the stubs do not fit below 2^62"),
+            PlaceError::NoBoundary(index, _) => write!(
+                f,
+                "the branch at index {index} reaches neither its target nor a boundary for a stub"
+            ),
+            PlaceError::StubTooFar(index, _) => {
+                write!(f, "the stub at index {index} does not reach its target")
+            }
+        }
+    }
+}
+
+impl Error for PlaceError {}
 
 impl Error for StubError {
     fn source(&self) -> Option<&(dyn Error + 'static)> {

@@ -9,6 +9,7 @@ pub mod flags;
 pub mod got;
 pub mod layout;
 mod loongarch64;
+pub mod placement;
 mod ppc64;
 mod riscv64;
 pub mod stubs;

@@ -867,3 +867,62 @@ fn deletions_need_room() {
         assert_eq!(bytes == section.bytes, expected.is_err());
     }
 }
+
+#[test]
+fn short_distances_of_ppc64_lose_their_high_part() {
+    // addis 3,2,x@toc@ha; addi 3,3,x@toc@l; addis 4,2,x@toc@ha; lwz 5,x@toc@l(4);
+    // addis 6,2,x@toc@ha; ld 7,x@toc@l(6)
+    let section = |symbol| Section {
+        bytes: words(&[
+            0x3c62_0000,
+            0x3863_0000,
+            0x3c82_0000,
+            0x80a4_0000,
+            0x3cc2_0000,
+            0xe8e6_0000,
+        ]),
+        relocations: (0..)
+            .zip([50, 48, 50, 48, 50, 64])
+            .map(|(index, code)| rela(4 * index, code, symbol, 0))
+            .collect(),
+    };
+    let addresses = Addresses {
+        got_base: 0x1002_7f00,
+        ..Addresses::default()
+    };
+    let values = values(0x1002_0000, 0x1001_feff);
+    let phase = Phase::Distances;
+    let made = placed(Ppc64, phase, &addresses, &values, &[&section(1)]);
+    // the words of GNU ld at the same addresses: nop; addi 3,2,-32512; nop; lwz 5,-32512(2); nop;
+    // ld 7,-32512(2)
+    assert_eq!(
+        linked(Ppc64, &addresses, &values, &made[0].0, &made[0].1),
+        [
+            0x6000_0000,
+            0x3862_8100,
+            0x6000_0000,
+            0x80a2_8100,
+            0x6000_0000,
+            0xe8e2_8100
+        ]
+    );
+    // a distance of -0x8001 takes two halves
+    let made = placed(Ppc64, phase, &addresses, &values, &[&section(3)]);
+    assert_eq!(made[0].0.bytes, section(3).bytes);
+    // each by its own addend
+    let mut far = section(1);
+    far.relocations[4].addend = 0x10000;
+    far.relocations[5].addend = 0x10000;
+    let made = placed(Ppc64, phase, &addresses, &values, &[&far]);
+    let codes: Vec<_> = made[0].0.relocations.iter().map(|it| it.code).collect();
+    assert_eq!(codes, [0, 47, 0, 47, 50, 64]);
+    // an ori isn't over the TOC pointer, and keeps all of its symbol, wherever it is
+    let mut other = section(1);
+    other.bytes[4..8].copy_from_slice(&0x6063_0000_u32.to_le_bytes());
+    let made = placed(Ppc64, phase, &addresses, &values, &[&section(1), &other]);
+    assert_eq!(made[0].0.bytes, section(1).bytes);
+    assert_eq!(made[1].0.bytes, other.bytes);
+    other.relocations[1].symbol = 3;
+    let made = placed(Ppc64, phase, &addresses, &values, &[&section(1), &other]);
+    assert_ne!(made[0].0.bytes, section(1).bytes);
+}

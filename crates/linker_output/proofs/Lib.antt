@@ -1,8 +1,17 @@
 pub mod AArch64StubLaws
+pub mod Adding
+pub mod Apart
+pub mod Bounds
+pub mod Going
+pub mod Groups
 pub mod JoinedFlags
 pub mod LoongArchStubLaws
+pub mod Near
+pub mod Passed
 pub mod Ppc64StubLaws
+pub mod Products
 pub mod RiscVStubLaws
 pub mod StubFields
 pub mod StubWords
+pub mod Stuck
 pub mod X86StubLaws

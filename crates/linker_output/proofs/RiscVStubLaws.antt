@@ -1,5 +1,5 @@
 -- RISC-V's stub goes to the address in its word.
-use Rattle.std.proofs.Common.{◌≡◌, ℕ, ◌+◌, ◌-◌, ◌%◌, ◌^◌, ◌<◌, refl, sym, ◌∙◌, ap, subst, arith, inl, inr, ℤ, Some, false}
+use Rattle.std.proofs.Common.{◌≡◌, ℕ, ◌-◌, ◌%◌, ◌^◌, ◌<◌, refl, sym, ◌∙◌, ap, subst, arith, inl, inr, ℤ, Some, false}
 use Rattle.std.proofs.Common.{List, length, drop, pos, ◌+ℤ◌, w64}
 use Rattle.std.specs.Prelude.{◌==◌}
 use Rattle.std.specs.Int.{cast_signed, cast_unsigned}

@@ -1,5 +1,5 @@
 -- x86-64's stub goes to the address that its word has.
-use Rattle.std.proofs.Common.{◌≡◌, ℕ, ◌+◌, ◌-◌, ◌^◌, ◌<◌, refl, sym, ◌∙◌, ap, subst, arith}
+use Rattle.std.proofs.Common.{◌≡◌, ℕ, ◌^◌, ◌<◌, refl, sym, ◌∙◌, ap, subst, arith}
 use Rattle.std.proofs.Common.{◌∷◌, ◌++◌, Some, drop, negsuc}
 use Rattle.std.specs.Int.{w64, cast_unsigned}
 use Rattle.std.proofs.lemmas.List.{append-nil, take-append-drop}

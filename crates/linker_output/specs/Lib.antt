@@ -3,9 +3,11 @@ pub mod AArch64Stubs
 pub mod Dynamic
 pub mod Flags
 pub mod Got
+pub mod Inner
 pub mod Layout
 pub mod LoongArchOutput
 pub mod LoongArchStubs
+pub mod Placement
 pub mod Ppc64Output
 pub mod Ppc64Stubs
 pub mod RiscVOutput

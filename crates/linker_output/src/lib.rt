@@ -10,6 +10,7 @@ pub mod got;
 pub mod laws;
 pub mod layout;
 mod loongarch64;
+pub mod placement;
 mod ppc64;
 mod riscv64;
 pub mod stubs;

@@ -3,6 +3,7 @@ pub mod Keeping
 pub mod Listing
 pub mod Making
 pub mod Noted
+pub mod Order
 pub mod Surveying
 pub mod Unique
 pub mod Whole

@@ -1,5 +1,5 @@
 -- What a survey notes: the section is then rewritten, also after other surveys.
-use Rattle.std.proofs.Common.{◌≡◌, ℕ, ◌||◌, List, ap, subst, IsTrue, Option, Some, None, Bool, true, false}
+use Rattle.std.proofs.Common.{◌≡◌, ℕ, ◌||◌, List, ap, subst, IsTrue, Option, Some, None, Bool, true, false, inl, inr}
 use Rattle.linker_rewriting.proofs.Surveying.{all_stay_on, stays_on}
 use Rattle.linker_rewriting.proofs.Unique.{one_scope, no_other}
 use Rattle.linker_rewriting.specs.Candidates.{IsCandidate}
@@ -13,7 +13,7 @@ use Rattle.linker_rewriting.specs.declared.decisions.RewritingError.TheVariants.
 use Rattle.linker_rewriting.specs.declared.groups.Group.{Group}
 use Rattle.linker_rewriting.specs.declared.groups.KeptGroups.{KeptGroups}
 use Rattle.linker_rewriting.specs.declared.groups.Scope.{Scope}
-use Rattle.linker_rewriting.specs.declared.groups.Scope.TheVariants.{Grouped}
+use Rattle.linker_rewriting.specs.declared.groups.Scope.TheVariants.{Grouped, Matched}
 use Rattle.linker_section.specs.Relocations.{relocation_in}
 use Rattle.linker_section.specs.declared.relocations.Rela.{Rela}
 
@@ -33,7 +33,7 @@ group_in : Group → Scope → Group
 group_in other (Grouped group) = group
 group_in other scope = other
 
-one_group : (s : Setting) (code : ℕ) (x y : Group)
+pub one_group : (s : Setting) (code : ℕ) (x y : Group)
     → IsScopeIn s.architecture s.phase code (Grouped x)
     → IsScopeIn s.architecture s.phase code (Grouped y) → x ≡ y
 unfolding group_in
@@ -51,7 +51,10 @@ is_noted : (s : Setting) (kept : List KeptGroups) (bytes section : List ℕ) (n 
     → group_stays kept group r.symbol ≡ false
     → IsCandidate s bytes section n r None
     → IsKeeping s bytes section n r noted → StaysBy kept r.symbol noted → ⊥
-is_noted s kept bytes section n r group (Some other) scope stays none keeping noted =
+is_noted s kept bytes section n r group (Some other) scope stays none (inr keeping) noted =
+    let e : Matched other ≡ Grouped group =
+    one_scope s.architecture s.phase r.code (Matched other) (Grouped group) (keeping.0) scope in cc
+is_noted s kept bytes section n r group (Some other) scope stays none (inl keeping) noted =
     let same : other ≡ group = one_group s r.code other group (keeping.0) scope in
     either_stays (stays_at kept group 0) (stays_at kept group (symbol_of_group group r.symbol))
     (subst (λ g. IsTrue (stays_at kept g (symbol_of_group g r.symbol))) same noted) stays

@@ -1,5 +1,5 @@
 -- What a code, a choice and a candidate are is one thing.
-use Rattle.std.proofs.Common.{◌≡◌, ℕ, refl, sym, ap, subst, ◌∙◌, List, [], ◌∷◌, Option, Some, None, Bool, true, false, ◌⊎◌, inl, inr, slice_get, ◌&&◌, ◌==◌, ◌+◌}
+use Rattle.std.proofs.Common.{◌≡◌, ℕ, refl, sym, ap, subst, ◌∙◌, List, [], ◌∷◌, Option, Some, None, Bool, true, false, ◌⊎◌, inl, inr, slice_get, ◌&&◌, ◌==◌, ◌+◌, zero, suc, is_some, not}
 use Rattle.linker_elf.specs.AArch64Relocations.{aarch64_name}
 use Rattle.linker_elf.specs.Choices.{Entry, IsFirst, choice}
 use Rattle.linker_elf.specs.ElfNames.{ElfName, named, unnamed, IsNamed, IsNameOf, code_of}
@@ -37,13 +37,14 @@ use Rattle.linker_x86_64.specs.declared.rewrites.RelaxationKind.TheVariants as x
 use Rattle.linker_utils.specs.Architectures.{IsArchitectureChoice, IsChosenBy, IsSkippable, IsUnchanged, relaxation_skipped, relaxation_deleted}
 use Rattle.linker_utils.specs.declared.architecture.Relaxation.{Relaxation}
 use Rattle.linker_utils.specs.declared.architecture.Relaxation.TheVariants as relaxations
-use Rattle.linker_rewriting.specs.Candidates.{IsCallIn, IsTaken, IsCandidate, IsCandidateBy, IsCandidateWith, calls_tls_get_addr, deletes_within}
+use Rattle.linker_rewriting.specs.Candidates.{IsCallIn, IsTaken, IsCandidate, IsCandidateBy, IsCandidateWith, IsMatched, at_base, calls_tls_get_addr, deletes_within}
 use Rattle.linker_rewriting.specs.Facts.{Setting, link_facts}
 use Rattle.linker_rewriting.specs.Sequences.{IsWhole, place_in, place_in_load, is_whole_at, is_load_at, is_marked_at}
 use Rattle.linker_rewriting.specs.declared.facts.SymbolFacts.{SymbolFacts}
-use Rattle.linker_section.specs.Relocations.{relocation_at}
+use Rattle.linker_section.specs.Relocations.{relocation_at, relocation_in}
 use Rattle.linker_section.specs.declared.relocations.Rela.{Rela}
-use Rattle.linker_rewriting.specs.Groups.{aarch64_scope_in, riscv_scope_in, loongarch_scope_in, ppc64_scope_in, x86_64_scope_in, IsScopeIn}
+use Rattle.linker_rewriting.specs.Surveys.{IsMarked, IsUnmarkedBy, IsUnmarkedIn}
+use Rattle.linker_rewriting.specs.Groups.{is_mark, aarch64_scope_in, riscv_scope_in, loongarch_scope_in, ppc64_scope_in, x86_64_scope_in, IsScopeIn}
 use Rattle.linker_rewriting.specs.declared.groups.Scope.{Scope}
 use Rattle.linker_rewriting.specs.declared.groups.Scope.TheVariants.{Unlisted}
 use Rattle.linker_rewriting.specs.declared.phases.Phase.{Phase}
@@ -312,3 +313,66 @@ no_other s bytes section n r x a b =
     not_both_with s bytes section n r
     (link_facts s.phase s.output s.symbols s.addresses s.values r r (is_marked_at s.architecture bytes n r))
     x a b
+
+pub one_candidate_with : (s : Setting) (bytes section : List ℕ) (n : ℕ) (r : Rela)
+    (facts : Option LinkFacts) (x y : Option (Choice Relaxation ℕ))
+    → IsCandidateWith s bytes section n r facts x
+    → IsCandidateWith s bytes section n r facts y → x ≡ y
+one_candidate_with s bytes section n r None x y a b = a ∙ sym b
+one_candidate_with s bytes section n r (Some facts) None None a b = refl
+one_candidate_with s bytes section n r (Some facts) (Some x) None a b =
+    absurd (not_both s.architecture s.symbols bytes section n r facts x a b)
+one_candidate_with s bytes section n r (Some facts) None (Some y) a b =
+    absurd (not_both s.architecture s.symbols bytes section n r facts y b a)
+one_candidate_with s bytes section n r (Some facts) (Some x) (Some y) a b =
+    ap Some (one_choice s.architecture r.code section r.offset facts x y (a.0) (b.0))
+
+pub one_candidate : (s : Setting) (bytes section : List ℕ) (n : ℕ) (r : Rela)
+    (x y : Option (Choice Relaxation ℕ)) → IsCandidate s bytes section n r x
+    → IsCandidate s bytes section n r y → x ≡ y
+one_candidate s bytes section n r x y a b =
+    one_candidate_with s bytes section n r
+    (link_facts s.phase s.output s.symbols s.addresses s.values r r (is_marked_at s.architecture bytes n r))
+    x y a b
+
+pub one_matched : (s : Setting) (bytes section : List ℕ) (n : ℕ) (r : Rela) (x y : Bool)
+    → IsMatched s bytes section n r x → IsMatched s bytes section n r y → x ≡ y
+one_matched s bytes section n r x y a b =
+    a.2
+    ∙ (ap is_some (one_candidate_with s bytes section n r
+    (at_base (link_facts s.phase s.output s.symbols s.addresses s.values r r (is_marked_at s.architecture bytes n r)))
+    (a.0) (b.0) (a.1) (b.1)) ∙ sym (b.2))
+
+-- ---- marks of PowerPC64's calls
+
+markless : (name : Ppc64Relocation) → (IsNamed (ppc64_name name) → ⊥) → is_mark name ≡ false
+markless (ppc64_names.Other code) isnt = refl
+markless _ isnt = absurd (isnt tt)
+
+one_marked : (bytes : List ℕ) (n : ℕ) (r : Rela) (x y : Bool) → IsMarked bytes n r x
+    → IsMarked bytes n r y → x ≡ y
+one_marked bytes zero r x y a b = a ∙ sym b
+one_marked bytes (suc n) r x y a b =
+    a.2
+    ∙ (ap (λ z. z && (relocation_in bytes n).offset == r.offset)
+    (of_one ppc64_name is_mark false (relocation_in bytes n).code (a.0) (b.0) markless (a.1) (b.1)) ∙ sym (b.2))
+
+one_unmarked_by : (calls : Bool) (bytes : List ℕ) (n : ℕ) (r : Rela) (x y : Bool)
+    → IsUnmarkedBy calls bytes n r x → IsUnmarkedBy calls bytes n r y → x ≡ y
+one_unmarked_by false bytes n r x y a b = a ∙ sym b
+one_unmarked_by true bytes n r x y a b =
+    a.2 ∙ (ap not (one_marked bytes n r (a.0) (b.0) (a.1) (b.1)) ∙ sym (b.2))
+
+pub one_unmarked : (phase : Phase) (architecture : Architecture) (symbols : List SymbolFacts)
+    (bytes : List ℕ) (n : ℕ) (r : Rela) (x y : Bool)
+    → IsUnmarkedIn phase architecture symbols bytes n r x
+    → IsUnmarkedIn phase architecture symbols bytes n r y → x ≡ y
+one_unmarked phases.Early Ppc64 symbols bytes n r x y a b =
+    one_unmarked_by (calls_tls_get_addr (slice_get symbols r.symbol)) bytes n r x y a b
+one_unmarked phases.Early AArch64 symbols bytes n r x y a b = a ∙ sym b
+one_unmarked phases.Early RiscV symbols bytes n r x y a b = a ∙ sym b
+one_unmarked phases.Early LoongArch64 symbols bytes n r x y a b = a ∙ sym b
+one_unmarked phases.Early X86_64 symbols bytes n r x y a b = a ∙ sym b
+one_unmarked phases.ThreadOffsets architecture symbols bytes n r x y a b = a ∙ sym b
+one_unmarked phases.GotLoads architecture symbols bytes n r x y a b = a ∙ sym b
+one_unmarked phases.Distances architecture symbols bytes n r x y a b = a ∙ sym b

@@ -1,6 +1,6 @@
 -- The rewrite of a relocation's instruction, if each other one of its group is rewritten.
 use Rattle.std.specs.Prelude.{◌≡◌, ℕ, ◌+◌, ◌⊎◌, Bool, true, false, ◌&&◌, ◌==◌, nat_le, List, length}
-use Rattle.std.specs.Prelude.{Option, Some, None, slice_get}
+use Rattle.std.specs.Prelude.{Option, Some, None, slice_get, is_some, pos}
 use Rattle.linker_base.specs.declared.rewrite.DeletedBytes.{DeletedBytes}
 use Rattle.linker_elf.specs.declared.elf.choice.Choice.{Choice}
 use Rattle.linker_elf.specs.declared.elf.choice.LinkFacts.{LinkFacts}
@@ -70,3 +70,20 @@ IsCandidate s bytes section n r candidate =
     IsCandidateWith s bytes section n r
     (link_facts s.phase s.output s.symbols s.addresses s.values r r
     (is_marked_at s.architecture bytes n r)) candidate
+
+-- the same facts of what is where the GOT's or the TOC's base is, at the distance 0
+abbrev pub at_base : Option LinkFacts → Option LinkFacts
+at_base None = None
+at_base (Some facts) =
+    Some (record facts {
+      operands = record facts.operands { symbol = facts.operands.got_base; addend = pos 0 };
+    })
+
+-- its instruction is one that the rewrite is meant for, whatever the distance
+abbrev pub IsMatched : Setting → List ℕ → List ℕ → ℕ → Rela → Bool → Type 0
+IsMatched s bytes section n r matched =
+    (candidate : Option (Choice Relaxation ℕ))
+    × IsCandidateWith s bytes section n r
+    (at_base (link_facts s.phase s.output s.symbols s.addresses s.values r r
+    (is_marked_at s.architecture bytes n r))) candidate
+    × (matched ≡ is_some candidate)

@@ -1,6 +1,6 @@
 -- What becomes of a section's relocations and of their instructions.
 use Rattle.std.specs.Prelude.{◌≡◌, ℕ, zero, suc, ◌+◌, ◌-◌, ◌<◌, ◌≤◌, ◌/◌, ◌⊎◌, ◌++◌, max, Bool, true}
-use Rattle.std.specs.Prelude.{false, List, [], ◌∷◌, length, get_or, Option, Some, None, is_some}
+use Rattle.std.specs.Prelude.{false, IsTrue, ◌↔◌, List, [], ◌∷◌, length, get_or, Option, Some, None, is_some}
 use Rattle.linker_base.specs.Rewrite.{CanRewrite}
 use Rattle.linker_base.specs.RewriteWindow.{window_of_rewrite}
 use Rattle.linker_base.specs.declared.rewrite.DeletedBytes.{DeletedBytes}
@@ -8,7 +8,7 @@ use Rattle.linker_base.specs.declared.rewrite.RewriteWindow.{RewriteWindow}
 use Rattle.linker_elf.specs.declared.elf.choice.Choice.{Choice}
 use Rattle.linker_rewriting.specs.Candidates.{IsCandidate, deletes_within}
 use Rattle.linker_rewriting.specs.Facts.{Setting, early}
-use Rattle.linker_rewriting.specs.Groups.{IsScopeIn, group_stays}
+use Rattle.linker_rewriting.specs.Groups.{IsScopeIn, group_stays, stays_at}
 use Rattle.linker_rewriting.specs.declared.decisions.Decision.{Decision}
 use Rattle.linker_rewriting.specs.declared.decisions.Decision.TheVariants.{Kept, Rewritten, TakenAlong}
 use Rattle.linker_rewriting.specs.declared.decisions.RewritingError.{RewritingError}
@@ -19,7 +19,7 @@ use Rattle.linker_rewriting.specs.declared.groups.Group.{Group}
 use Rattle.linker_rewriting.specs.declared.groups.KeptGroups.{KeptGroups}
 use Rattle.linker_rewriting.specs.declared.groups.Scope.{Scope}
 use Rattle.linker_rewriting.specs.declared.groups.Scope.TheVariants.{Unlisted, Alone, Grouped}
-use Rattle.linker_rewriting.specs.declared.groups.Scope.TheVariants.{Ahead}
+use Rattle.linker_rewriting.specs.declared.groups.Scope.TheVariants.{Ahead, Matched}
 use Rattle.linker_section.specs.Relocations.{relocation_in, relocation_at}
 use Rattle.linker_section.specs.declared.relocations.Rela.{Rela}
 use Rattle.linker_utils.specs.Architectures.{relaxation_rewrite, relaxation_skipped}
@@ -64,6 +64,13 @@ IsGroupDecision s bytes section n r false decision =
     × IsCandidate s bytes section n r (Some chosen)
     × (decision ≡ Rewritten chosen)
 
+-- a relocation of a group that stays, and of one that doesn't: it is rewritten if it can be
+abbrev pub IsMatchedDecision : Setting → List ℕ → List ℕ → ℕ → Rela → Bool → Decision → Type 0
+IsMatchedDecision s bytes section n r true decision = decision ≡ Kept
+IsMatchedDecision s bytes section n r false decision =
+    (candidate : Option (Choice Relaxation ℕ)) × IsCandidate s bytes section n r candidate
+    × (decision ≡ decision_of candidate)
+
 -- whether one alone is rewritten
 abbrev pub IsRewrittenAlone : Setting → List ℕ → List ℕ → ℕ → Rela → Scope → Bool → Type 0
 IsRewrittenAlone s bytes section n r Alone is_rewritten =
@@ -95,6 +102,8 @@ IsScopeDecision s kept bytes section n r Alone decision =
 IsScopeDecision s kept bytes section n r (Grouped group) decision =
     IsGroupDecision s bytes section n r (group_stays kept group r.symbol)
     decision
+IsScopeDecision s kept bytes section n r (Matched group) decision =
+    IsMatchedDecision s bytes section n r (group_stays kept group r.symbol) decision
 IsScopeDecision s kept bytes section n r Ahead decision =
     (is_rewritten : Bool)
     × IsRewrittenAt s bytes section (n + 1) (relocation_at bytes (n + 1)) is_rewritten
@@ -257,3 +266,16 @@ IsRejectedPlaced s kept bytes section decisions room TooShort =
     × (room < length (deletions_by bytes decisions (length bytes / 24))))
 IsRejectedPlaced s kept bytes section decisions room error =
     IsRejectedIn s kept bytes section decisions error
+
+-- ---- what decisions follow from
+
+-- All that is decided follows from which groups stay.
+abbrev pub DecisionsFollow : Type 0
+DecisionsFollow =
+    (s : Setting) (kept kept_too : List KeptGroups) (bytes section : List ℕ)
+    (decisions others : List Decision) (limit : ℕ)
+    → ((group : Group) (symbol : ℕ)
+    → (IsTrue (stays_at kept group symbol) ↔ IsTrue (stays_at kept_too group symbol)))
+    → AreDecidedIn s kept bytes section decisions limit
+    → AreDecidedIn s kept_too bytes section others limit
+    → (n : ℕ) → n < limit → decision_at decisions n ≡ decision_at others n

@@ -24,7 +24,7 @@ use Rattle.linker_rewriting.specs.declared.groups.Group.TheVariants.{GotLoad}
 use Rattle.linker_rewriting.specs.declared.groups.KeptGroups.{KeptGroups}
 use Rattle.linker_rewriting.specs.declared.groups.Scope.{Scope}
 use Rattle.linker_rewriting.specs.declared.groups.Scope.TheVariants.{Unlisted, Alone, Grouped}
-use Rattle.linker_rewriting.specs.declared.groups.Scope.TheVariants.{Ahead}
+use Rattle.linker_rewriting.specs.declared.groups.Scope.TheVariants.{Ahead, Matched}
 use Rattle.linker_rewriting.specs.declared.phases.Phase.{Phase}
 use Rattle.linker_rewriting.specs.declared.phases.Phase.TheVariants.{Early, ThreadOffsets}
 use Rattle.linker_rewriting.specs.declared.phases.Phase.TheVariants.{GotLoads, Distances}
@@ -142,6 +142,9 @@ ppc64_scope_in Early name = ppc64_scope name
 ppc64_scope_in ThreadOffsets ppc64.R_PPC64_TPREL16_HA = Grouped InitialExec
 ppc64_scope_in ThreadOffsets ppc64.R_PPC64_TPREL16_LO = Grouped InitialExec
 ppc64_scope_in ThreadOffsets ppc64.R_PPC64_TPREL16_LO_DS = Grouped InitialExec
+ppc64_scope_in Distances ppc64.R_PPC64_TOC16_HA = Matched GotLoad
+ppc64_scope_in Distances ppc64.R_PPC64_TOC16_LO = Matched GotLoad
+ppc64_scope_in Distances ppc64.R_PPC64_TOC16_LO_DS = Matched GotLoad
 ppc64_scope_in phase name = Unlisted
 
 abbrev pub x86_64_scope_in : Phase → X86_64Relocation → Scope

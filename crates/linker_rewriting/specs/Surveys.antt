@@ -2,7 +2,7 @@
 use Rattle.std.specs.Prelude.{◌≡◌, ℕ, zero, suc, ◌<◌, ◌/◌, ◌⊎◌, ◌↔◌, ◌&&◌, ◌==◌, not, Bool, true}
 use Rattle.std.specs.Prelude.{false, IsTrue, List, length, Option, Some, None, slice_get}
 use Rattle.linker_elf.specs.declared.elf.choice.Choice.{Choice}
-use Rattle.linker_rewriting.specs.Candidates.{IsCandidate, calls_tls_get_addr}
+use Rattle.linker_rewriting.specs.Candidates.{IsCandidate, IsMatched, calls_tls_get_addr}
 use Rattle.linker_rewriting.specs.Facts.{Setting, early}
 use Rattle.linker_rewriting.specs.Groups.{IsScopeIn, IsMark, stays_at, symbol_of_group}
 use Rattle.linker_rewriting.specs.declared.decisions.RewritingError.{RewritingError}
@@ -14,7 +14,7 @@ use Rattle.linker_rewriting.specs.declared.groups.Group.TheVariants.{InitialExec
 use Rattle.linker_rewriting.specs.declared.groups.Group.TheVariants.{LocalDynamic}
 use Rattle.linker_rewriting.specs.declared.groups.KeptGroups.{KeptGroups}
 use Rattle.linker_rewriting.specs.declared.groups.Scope.{Scope}
-use Rattle.linker_rewriting.specs.declared.groups.Scope.TheVariants.{Grouped}
+use Rattle.linker_rewriting.specs.declared.groups.Scope.TheVariants.{Grouped, Matched}
 use Rattle.linker_rewriting.specs.declared.phases.Phase.{Phase}
 use Rattle.linker_rewriting.specs.declared.phases.Phase.TheVariants.{Early}
 use Rattle.linker_section.specs.Relocations.{relocation_in}
@@ -58,13 +58,16 @@ IsThreadLocal group = ⊥
 abbrev pub HasRewrite : Setting → List ℕ → List ℕ → ℕ → Rela → Scope → Type 0
 HasRewrite s bytes section n r (Grouped group) =
     (chosen : Choice Relaxation ℕ) × IsCandidate s bytes section n r (Some chosen)
+HasRewrite s bytes section n r (Matched group) = IsMatched s bytes section n r true
 HasRewrite s bytes section n r scope = Unit {0}
 
 -- the kind of groups that a relocation keeps, since it has no rewrite, though it is of one
 abbrev pub IsKeeping : Setting → List ℕ → List ℕ → ℕ → Rela → Option Group → Type 0
 IsKeeping s bytes section n r (Some group) =
-    IsScopeIn s.architecture s.phase r.code (Grouped group)
-    × IsCandidate s bytes section n r None
+    (IsScopeIn s.architecture s.phase r.code (Grouped group)
+    × IsCandidate s bytes section n r None)
+    ⊎ (IsScopeIn s.architecture s.phase r.code (Matched group)
+    × IsMatched s bytes section n r false)
 IsKeeping s bytes section n r None =
     (scope : Scope) × IsScopeIn s.architecture s.phase r.code scope
     × HasRewrite s bytes section n r scope
@@ -150,3 +153,15 @@ NotesStay =
     → AreNoted s bytes section mid limit
     → IsSurveyedIn other others_bytes others_section mid after others_limit
     → AreNoted s bytes section after limit
+
+-- two sections can be surveyed in either order: the same groups stay
+abbrev pub SurveysCommute : Type 0
+SurveysCommute =
+    (s other : Setting) (bytes section others_bytes others_section : List ℕ)
+    (before mid after mid_too after_too : List KeptGroups) (limit others_limit : ℕ)
+    → IsSurveyedIn s bytes section before mid limit
+    → IsSurveyedIn other others_bytes others_section mid after others_limit
+    → IsSurveyedIn other others_bytes others_section before mid_too others_limit
+    → IsSurveyedIn s bytes section mid_too after_too limit
+    → (group : Group) (symbol : ℕ)
+    → (IsTrue (stays_at after group symbol) ↔ IsTrue (stays_at after_too group symbol))

@@ -7,6 +7,7 @@ ghost use Rattle.linker_utils.specs.Architectures.{relaxation_deleted};
 ghost use Rattle.linker_section.specs.Relocations.{relocation_at};
 ghost use Rattle.linker_rewriting.specs.Candidates.{IsCallIn, IsTaken, IsCandidate, IsCandidateBy};
 ghost use Rattle.linker_rewriting.specs.Candidates.{calls_tls_get_addr, deletes_within};
+ghost use Rattle.linker_rewriting.specs.Candidates.{at_base, IsMatched};
 ghost use Rattle.linker_rewriting.specs.Facts.{setting};
 
 use crate::facts::{OutputFacts, SymbolFacts, link_facts};
@@ -16,7 +17,7 @@ use linker_base::rewrite::DeletedBytes;
 use linker_section::facts::{Addresses, Symbol};
 use linker_section::relocations::{Rela, relocation_at};
 use linker_utils::architecture::Relaxation;
-use linker_utils::elf::{Architecture, Choice, LinkFacts};
+use linker_utils::elf::{Architecture, Choice, LinkFacts, Operands};
 
 /// Whether the symbol at an index is `__tls_get_addr`.
 #[inline(always)]
@@ -169,4 +170,59 @@ pub(crate) fn candidate(
         ),
         None => None,
     }
+}
+
+/// The same facts of what is where the GOT's or the TOC's base is, at the distance 0.
+#[inline(always)]
+fn at_base(facts: Option<LinkFacts>) -> Option<LinkFacts>
+    ensures { result ≡ at_base facts }
+{
+    match facts {
+        Some(facts) => Some(LinkFacts {
+            operands: Operands {
+                symbol: facts.operands.got_base,
+                addend: 0,
+                ..facts.operands
+            },
+            ..facts
+        }),
+        None => None,
+    }
+}
+
+/// Whether the instruction of the relocation with an index is one that its rewrite is meant for,
+/// whatever the distance.
+pub(crate) fn is_matched(
+    architecture: Architecture,
+    phase: Phase,
+    output: &OutputFacts,
+    symbols: &[SymbolFacts],
+    addresses: &Addresses,
+    values: &[Symbol],
+    relocations: &[u8],
+    section: &[u8],
+    index: usize,
+    relocation: &Rela,
+) -> bool
+    requires { index + 3 ≤ usize.MAX }
+    ensures { IsMatched (setting architecture phase output.now symbols.now addresses.now values.now)
+        relocations.now section.now index relocation.now result }
+{
+    let marked = is_marked_at(architecture, relocations, index, relocation);
+    let facts = link_facts(
+        phase, output, symbols, addresses, values, relocation, relocation, marked,
+    );
+    let Some(facts) = at_base(facts) else {
+        return false;
+    };
+    candidate_by(
+        architecture,
+        symbols,
+        relocations,
+        section,
+        index,
+        relocation,
+        &facts,
+    )
+    .is_some()
 }

@@ -176,6 +176,26 @@ fn decide(
                 None => None,
             }
         }
+        Scope::Matched(group) => {
+            if group_stays(kept, group, relocation.symbol) {
+                return Some(Decision::Kept);
+            }
+            match candidate(
+                architecture,
+                phase,
+                output,
+                symbols,
+                addresses,
+                values,
+                relocations,
+                section,
+                index,
+                relocation,
+            ) {
+                Some(choice) => Some(Decision::Rewritten(choice)),
+                None => Some(Decision::Kept),
+            }
+        }
         Scope::Ahead => {
             if is_rewritten_at(
                 architecture,

@@ -30,7 +30,8 @@ pub enum Group {
     LocalDynamic,
     /// TLS descriptors.
     Descriptor,
-    /// Loads of an address from the GOT by its two halves.
+    /// Loads of an address from the GOT by its two halves; in the phase of distances PowerPC64's
+    /// addresses by their distance from the TOC pointer.
     GotLoad,
 }
 
@@ -46,6 +47,9 @@ pub enum Scope {
     /// It goes where the next relocation is alone and is rewritten: that rewrite is of both
     /// instructions.
     Ahead,
+    /// It alone, by its own value, where each instruction of its group is one that the rewrite is
+    /// meant for.
+    Matched(Group),
 }
 
 /// The groups of a symbol that stay as they are, since one of their instructions can't be rewritten.
@@ -285,7 +289,13 @@ fn ppc64_scope_in(phase: Phase, name: Ppc64Relocation) -> Scope
             | Ppc64Relocation::R_PPC64_TPREL16_LO_DS => Scope::Grouped(Group::InitialExec),
             _ => Scope::Unlisted,
         },
-        Phase::GotLoads | Phase::Distances => Scope::Unlisted,
+        Phase::Distances => match name {
+            Ppc64Relocation::R_PPC64_TOC16_HA
+            | Ppc64Relocation::R_PPC64_TOC16_LO
+            | Ppc64Relocation::R_PPC64_TOC16_LO_DS => Scope::Matched(Group::GotLoad),
+            _ => Scope::Unlisted,
+        },
+        Phase::GotLoads => Scope::Unlisted,
     }
 }
 

@@ -8,7 +8,7 @@ ghost use Rattle.linker_rewriting.specs.Surveys.{IsKeeping, IsMarked, IsUnmarked
 ghost use Rattle.linker_rewriting.specs.Surveys.{AreKeptToo, IsGroup, IsGroupOf, IsOfThreads};
 ghost use Rattle.linker_rewriting.specs.Surveys.{IsSurveyed, IsSurveyedIn};
 
-use crate::candidates::{candidate, is_tls_get_addr};
+use crate::candidates::{candidate, is_matched, is_tls_get_addr};
 use crate::facts::{NO_ADDRESSES, OutputFacts, SymbolFacts};
 use crate::groups::{Group, KeptGroups, Scope, marks_call, scope_in, symbol_of_group};
 use crate::phases::Phase;
@@ -68,23 +68,43 @@ fn keeping(
     ensures { IsKeeping (setting architecture phase output.now symbols.now addresses.now values.now)
         relocations.now section.now index relocation.now result }
 {
-    let Scope::Grouped(group) = scope_in(architecture, phase, relocation.code) else {
-        return None;
-    };
-    match candidate(
-        architecture,
-        phase,
-        output,
-        symbols,
-        addresses,
-        values,
-        relocations,
-        section,
-        index,
-        relocation,
-    ) {
-        Some(_) => None,
-        None => Some(group),
+    match scope_in(architecture, phase, relocation.code) {
+        Scope::Grouped(group) => {
+            match candidate(
+                architecture,
+                phase,
+                output,
+                symbols,
+                addresses,
+                values,
+                relocations,
+                section,
+                index,
+                relocation,
+            ) {
+                Some(_) => None,
+                None => Some(group),
+            }
+        }
+        Scope::Matched(group) => {
+            if is_matched(
+                architecture,
+                phase,
+                output,
+                symbols,
+                addresses,
+                values,
+                relocations,
+                section,
+                index,
+                relocation,
+            ) {
+                None
+            } else {
+                Some(group)
+            }
+        }
+        _ => None,
     }
 }
 

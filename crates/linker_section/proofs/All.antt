@@ -38,7 +38,7 @@ local_byte o w p now after local outside =
 
 -- ---- a ULEB128 number of the same bytes
 
-same_uleb : (fuel : ℕ) (xs ys : List ℕ) → length ys ≡ length xs
+pub same_uleb : (fuel : ℕ) (xs ys : List ℕ) → length ys ≡ length xs
     → ((j : ℕ) → j < uleb_len (take fuel xs) → slice_index ys j ≡ slice_index xs j)
     → uleb_len (take fuel ys) ≡ uleb_len (take fuel xs)
 same_uleb zero xs ys len same = refl
@@ -119,7 +119,7 @@ first_byte architecture bytes before n row p first from to i other below is_othe
 
 -- as of the first of a pair
 pub pair_first : (architecture : Architecture) (bytes before : List ℕ) (n : ℕ)
-    (row : RelocationKindInfo) → AreApart architecture bytes before (n + 2)
+    (row : RelocationKindInfo) → AreApart architecture bytes before (n + 1)
     → IsField architecture bytes before n row → begins_pair row.size row.kind ≡ true
     → IsFirstAt architecture bytes before n row
 pair_first architecture bytes before n row apart is_field begins i other below is_other overlap =
@@ -154,7 +154,7 @@ pair_place architecture addresses bytes before middle now symbols n apart so_far
     let there = written.written.was.there in
     let some = some_uleb (drop o before) (omega (arith, there, d, dm, same)) in
     let is_field : IsField architecture bytes before n row = record { is_row = pair.has_value.is_row; some = omega (arith, some, len) } in
-    let first = pair_first architecture bytes before n row apart is_field pair.begins in
+    let first = pair_first architecture bytes before n row (λ i j x y less under. apart i j x y less (omega (arith, under))) is_field pair.begins in
     let uleb : uleb_len (take 10 (drop o middle)) ≡ uleb_len (take 10 (drop o before)) =
     same_uleb 10 (drop o before) (drop o middle) (omega (arith, d, dm, same))
     (λ j below. get_or-drop o middle j 0 ∙ (so_far.1 (o + j)

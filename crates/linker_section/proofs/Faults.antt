@@ -1,29 +1,27 @@
 -- The first relocation that can't be written is that by the section before all writes.
-use Rattle.std.proofs.Common.{◌≡◌, ℕ, zero, suc, ℤ, ◌+◌, ◌-◌, ◌*◌, ◌^◌, ◌/◌, ◌<◌, ◌≤◌, ◌⊎◌, List, [], ◌∷◌, length, take, drop, Bool, true, false, true≢false, cond, ltb, refl, sym, ap, subst, ◌∙◌, inl, inr, arith, Option, Some, None, Ok, Err}
-use Rattle.std.proofs.lemmas.Bool.{cases_eq, cases_lt, or_left, cond_both, cond-false, le-ltb}
+use Rattle.std.proofs.Common.{◌≡◌, ℕ, zero, suc, ℤ, ◌+◌, ◌^◌, ◌<◌, ◌≤◌, ◌⊎◌, List, [], ◌∷◌, length, take, drop, ltb, refl, sym, ap, subst, ◌∙◌, inl, inr, arith}
+use Rattle.std.proofs.lemmas.Bool.{cases_eq, or_left, cond_both, cond-false, le-ltb}
 use Rattle.std.proofs.lemmas.List.{length-drop, take_all, take-append-drop, get_or-take, drop_all}
 use Rattle.std.specs.Prelude.{slice_index}
-use Rattle.linker_base.specs.Uleb.{Uleb, AllContinue, IsUlebCause}
+use Rattle.linker_base.specs.Uleb.{AllContinue, IsUlebCause}
 use Rattle.linker_base.specs.declared.utils.Uleb128Error.{Uleb128Error}
 use Rattle.linker_base.specs.declared.utils.Uleb128Error.TheVariants.{Ended, TooLarge, DoesNotFit}
-use Rattle.linker_elf.specs.Relocate.{IsCause, window_len, size_len}
-use Rattle.linker_elf.specs.declared.elf.RelocationKind.{RelocationKind}
+use Rattle.linker_elf.specs.Relocate.{IsCause}
 use Rattle.linker_elf.specs.declared.elf.RelocationKindInfo.{RelocationKindInfo}
 use Rattle.linker_elf.specs.declared.elf.RelocationSize.{RelocationSize}
 use Rattle.linker_elf.specs.declared.elf.RelocationSize.TheVariants.{ByteSize, BitMasking}
 use Rattle.linker_elf.specs.declared.elf.relocate.RelocateError.{RelocateError}
 use Rattle.linker_elf.specs.declared.elf.relocate.RelocateError.TheVariants.{Unsupported, TooShort, Misaligned, OutOfReach}
 use Rattle.linker_section.proofs.All.{untouched, pair_first, same_uleb}
-use Rattle.linker_section.proofs.Composing.{begun_has_value, ended_begins_none}
+use Rattle.linker_section.proofs.Composing.{begun_has_value}
 use Rattle.linker_section.proofs.Fielded.{found_of, uses, found_are, are_accepted, same_at}
 use Rattle.linker_section.proofs.Fronts.{HaveSameWindow, multiple_same, reached_same}
 use Rattle.linker_section.proofs.Held.{field_untouched}
-use Rattle.linker_section.proofs.Rows.{one_info}
 use Rattle.linker_section.proofs.Stepping.{len_paired}
 use Rattle.linker_section.proofs.Ulebs.{some_uleb, uleb_len_is, uleb_same, pair_number_from}
-use Rattle.linker_section.specs.Fields.{IsField, field_len, begins_pair, ends_pair, is_of_pair, uleb_len, AreApart}
+use Rattle.linker_section.specs.Fields.{IsField, field_len, begins_pair, ends_pair, uleb_len, AreApart}
 use Rattle.linker_section.specs.Relocations.{relocation_in}
-use Rattle.linker_section.specs.Sections.{AreRelocated, IsRejected, IsPair, IsPairRejected, IsNotAccepted, IsCauseAt, BeginsPair, IsFirstRejected}
+use Rattle.linker_section.specs.Sections.{AreRelocated, IsRejected, IsPairRejected, IsNotAccepted, IsCauseAt, BeginsPair, IsOfValue, IsFirstRejected}
 use Rattle.linker_section.specs.Values.{offset_at}
 use Rattle.linker_section.specs.WrittenFields.{IsFirstFault}
 use Rattle.linker_section.specs.declared.facts.Addresses.{Addresses}
@@ -31,7 +29,6 @@ use Rattle.linker_section.specs.declared.facts.Symbol.{Symbol}
 use Rattle.linker_section.specs.declared.sections.RelocationError.{RelocationError}
 use Rattle.linker_section.specs.declared.sections.RelocationError.TheVariants.{Value, Overlaps, Write, Uleb128}
 use Rattle.linker_section.specs.declared.sections.SectionError.{SectionError}
-use Rattle.linker_utils.specs.Architectures.{IsRow}
 use Rattle.linker_utils.specs.declared.elf.Architecture.{Architecture}
 
 -- ---- a value of one relocation
@@ -148,31 +145,6 @@ module _ (architecture : Architecture) (addresses : Addresses) (bytes : List ℕ
         alone = not.alone;
       }
 
-  second_window : (size : RelocationSize) (kind : RelocationKind) (xs ys : List ℕ)
-      → ends_pair size kind ≡ true → HaveSameWindow size xs ys
-  second_window (ByteSize n) kind xs ys ends = tt
-  second_window (BitMasking bits insn) kind xs ys ends = absurd (true≢false (sym ends))
-
-  -- the second of a pair
-  second_cause : (n i : ℕ) (error : RelocateError)
-      → AreRelocated architecture addresses bytes symbols before n now
-      → AreApart architecture bytes before (i + 1) → i ≡ n + 1 → BeginsPair architecture bytes n
-      → IsNotAccepted architecture addresses bytes symbols i now error
-      → IsNotAccepted architecture addresses bytes symbols i before error
-  second_cause n i error relocated apart is pair not =
-      let so_far = untouched architecture addresses bytes before symbols (λ j k x y less under. apart j k x y less (omega (arith, under, is))) relocated in
-      let row = not.row in
-      let same : pair.other ≡ row = one_info architecture _ pair.other row (subst (λ k. IsRow architecture (relocation_in bytes k).code (Some pair.other)) (sym is) pair.is_other) not.has_value.is_row in
-      let ends = subst (λ x. ends_pair x.size x.kind ≡ true) same pair.ends in
-      record {
-        row = row;
-        value = not.value;
-        has_value = not.has_value;
-        rejected = rejected_same row not.value (offset_at bytes i) now before error
-            (second_window row.size row.kind (drop (offset_at bytes i) now) (drop (offset_at bytes i) before) ends) (so_far.0) not.rejected;
-        alone = not.alone;
-      }
-
   number_cause : (n : ℕ) (error : Uleb128Error)
       → AreRelocated architecture addresses bytes symbols before n now
       → AreApart architecture bytes before (n + 1)
@@ -228,7 +200,7 @@ module _ (architecture : Architecture) (addresses : Addresses) (bytes : List ℕ
       }
 
   by_before : (written i : ℕ) (error : RelocationError)
-      → (i ≡ written) ⊎ ((i ≡ written + 1) × BeginsPair architecture bytes written)
+      → (i ≡ written) ⊎ ((i ≡ written + 1) × BeginsPair architecture bytes written × IsOfValue error)
       → AreRelocated architecture addresses bytes symbols before written now
       → IsCauseAt architecture addresses bytes symbols before i now error
       → IsCauseAt architecture addresses bytes symbols before i before error
@@ -238,19 +210,14 @@ module _ (architecture : Architecture) (addresses : Addresses) (bytes : List ℕ
     cause.0,
     write_cause i error (subst (λ n. AreRelocated architecture addresses bytes symbols before n now) (sym is) relocated) (cause.0) (cause.1),
   )
-  by_before written i (Write error) (inr is) relocated cause =
-      (cause.0, second_cause written i error relocated (cause.0) (is.0) (is.1) (cause.1))
+  by_before written i (Write error) (inr is) relocated cause = absurd (is.2)
   by_before written i (Uleb128 error) (inl is) relocated cause = (
     cause.0,
     number_cause i error (subst (λ n. AreRelocated architecture addresses bytes symbols before n now) (sym is) relocated) (cause.0) (cause.1),
   )
-  by_before written i (Uleb128 error) (inr is) relocated cause =
-      let pair = is.1 in
-      let made = (cause.1).pair in
-      let same : pair.other ≡ made.row = one_info architecture _ pair.other made.row (subst (λ k. IsRow architecture (relocation_in bytes k).code (Some pair.other)) (sym (is.0)) pair.is_other) made.has_value.is_row in
-      absurd (true≢false (sym made.begins ∙ subst (λ x. begins_pair x.size x.kind ≡ false) same (ended_begins_none pair.other.size pair.other.kind pair.ends)))
+  by_before written i (Uleb128 error) (inr is) relocated cause = absurd (is.2)
 
-next_most : {A : Type 0} (i written : ℕ) → (i ≡ written) ⊎ ((i ≡ written + 1) × A) → written ≤ i
+next_most : {A B : Type 0} (i written : ℕ) → (i ≡ written) ⊎ ((i ≡ written + 1) × A × B) → written ≤ i
 next_most i written (inl is) = omega (arith, is)
 next_most i written (inr is) = let e = is.0 in omega (arith, e)
 

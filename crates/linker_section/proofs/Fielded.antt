@@ -2,7 +2,7 @@
 use Rattle.std.proofs.Common.{◌≡◌, ℕ, zero, suc, ℤ, pos, ◌+◌, ◌*◌, ◌^◌, ◌/◌, ◌<◌, ◌≤◌, ◌⊎◌, List, [], length, take, drop, true, false, true≢false, eqb, ltb, cond, refl, sym, ap, subst, ◌∙◌, inl, inr, arith, Option, Some, None, Ok}
 use Rattle.std.proofs.lemmas.Bool.{cases_eq, cases_lt, cases_Bool, or_left, or_right, cond-true, cond-false, eq-eqb, ne_eqb, eqb-true, lt-ltb, le-ltb}
 use Rattle.std.proofs.lemmas.List.{drop_at, length-drop, length-take, length-take-le, get_or-take, get_or-drop, get_or_past}
-use Rattle.std.specs.Prelude.{slice_index}
+use Rattle.std.specs.Prelude.{slice_index, ◌||◌}
 use Rattle.linker_base.specs.Uleb.{Uleb, IsUlebWritten}
 use Rattle.linker_elf.specs.Relocate.{WritesRow, SizeNumber, number_of_bytes, size_len, window_len, takes_size}
 use Rattle.linker_elf.specs.declared.elf.RelocationKindInfo.{RelocationKindInfo}
@@ -189,8 +189,11 @@ small_field bytes before i row small j =
           subst (λ b. b < 256) (sym (get_or_past (take w (drop o before)) j 0 (omega (arith, past, l)))) (omega arith)
     ]
 
+of_pair_more : {Said : ℕ → Type 0} {i : ℕ} (n m : ℕ) → n ≤ m → OfPair Said n i → OfPair Said m i
+of_pair_more n m most of = let within = of.1 in (of.0, omega (arith, within, most), of.2, of.3)
+
 module _ (architecture : Architecture) (addresses : Addresses) (bytes : List ℕ) (symbols : List Symbol) (before : List ℕ) (total : ℕ) (apart : AreApart architecture bytes before total) (found : Found) where
-  abbrev Uses : {n : ℕ} {now : List ℕ} → AreRelocated architecture addresses bytes symbols before n now → Type 0
+  abbrev pub Uses : {n : ℕ} {now : List ℕ} → AreRelocated architecture addresses bytes symbols before n now → Type 0
   Uses none = Unit
   Uses (mark {n} relocated value) = (found n ≡ None) × Uses relocated
   Uses (one {n} {middle} {after} {row} {v} relocated has written) = (found n ≡ Some (row, v)) × Uses relocated
@@ -201,7 +204,7 @@ module _ (architecture : Architecture) (addresses : Addresses) (bytes : List ℕ
   not_last : (i n : ℕ) → i < n → eqb i n ≡ false
   not_last i n below = ne_eqb i n (λ same. omega (arith, below, same))
 
-  uses : {n : ℕ} {now : List ℕ} (relocated : AreRelocated architecture addresses bytes symbols before n now)
+  pub uses : {n : ℕ} {now : List ℕ} (relocated : AreRelocated architecture addresses bytes symbols before n now)
       → ((i : ℕ) → i < n → found i ≡ found_of relocated i) → Uses relocated
   uses none agree = tt
   uses (mark {n} relocated value) agree = (
@@ -224,7 +227,7 @@ module _ (architecture : Architecture) (addresses : Addresses) (bytes : List ℕ
 
   -- ---- they are the rows and values of the relocations
 
-  found_are : {n : ℕ} {now : List ℕ} (relocated : AreRelocated architecture addresses bytes symbols before n now)
+  pub found_are : {n : ℕ} {now : List ℕ} (relocated : AreRelocated architecture addresses bytes symbols before n now)
       → Uses relocated → AreFound architecture addresses bytes symbols n found
   found_are none used i below = absurd (omega (arith, below))
   found_are (mark {n} relocated value) used i below =
@@ -433,7 +436,7 @@ module _ (architecture : Architecture) (addresses : Addresses) (bytes : List ℕ
       let was = written.written.was in
       let whole : w ≡ was.last + 1 = place.len_is ∙ uleb_len_is (drop p middle) written.written.old written.written.rest was in
       let same : take w (drop p middle) ≡ take w (drop p before) =
-      field_untouched architecture bytes before n first middle so_far (pair_first architecture bytes before n first apart_here place.is_field pair.begins) in
+      field_untouched architecture bytes before n first middle so_far (pair_first architecture bytes before n first (fewer_apart n (n + 1) (omega (arith, most))) place.is_field pair.begins) in
       let rest : drop p after ≡ written.rest = ap (drop p) written.around ∙ drop_at (take p middle) written.rest p (length-take-le p middle written.inside) in
       let front = written_front (drop p middle) written.number written.rest written.written w whole in
       let old : Uleb (take w (drop p before)) written.written.old [] =
@@ -486,12 +489,12 @@ module _ (architecture : Architecture) (addresses : Addresses) (bytes : List ℕ
   held_pair : {n : ℕ} {now : List ℕ} (relocated : AreRelocated architecture addresses bytes symbols before n now)
       → n ≤ total → Uses relocated → (i : ℕ) (row : RelocationKindInfo) (v : ℤ) → i < n
       → found i ≡ Some (row, v) → IsField architecture bytes before i row → is_of_pair row ≡ true
-      → OfPair (HoldsPair found bytes (field_bytes bytes before i row before) (field_bytes bytes before i row now)) i
+      → OfPair (HoldsPair found bytes (field_bytes bytes before i row before) (field_bytes bytes before i row now)) n i
   held_pair none most used i row v below is is_field paired = absurd (omega (arith, below))
   held_pair (mark {n} relocated value) most used i row v below is is_field paired =
       elim (cases_eq i n) [
         | inl at ↦ none_some (used.0) (ap found (sym at) ∙ is)
-        | inr isnt ↦ held_pair relocated (omega (arith, most)) (used.1) i row v (omega (arith, below, isnt)) is is_field paired
+        | inr isnt ↦ of_pair_more n (n + 1) (omega arith) (held_pair relocated (omega (arith, most)) (used.1) i row v (omega (arith, below, isnt)) is is_field paired)
       ]
   held_pair (one {n} {middle} {after} {row = other} {v = w} relocated has written) most used i row v below is is_field paired =
       let alone = written_alone other w (offset_at bytes n) middle after written in
@@ -501,8 +504,8 @@ module _ (architecture : Architecture) (addresses : Addresses) (bytes : List ℕ
             absurd (true≢false (sym paired ∙ (ap is_of_pair same_row.row_is ∙ alone)))
         | inr isnt ↦ elim (step architecture addresses bytes symbols before total i row n other w middle after apart (omega (arith, below, most)) (omega (arith, most)) is_field has written) [
           | is_kept same far ↦
-              subst (λ x. OfPair (HoldsPair found bytes (field_bytes bytes before i row before) x) i) (sym same)
-              (held_pair relocated (omega (arith, most)) (used.1) i row v (omega (arith, below, isnt)) is is_field paired)
+              subst (λ x. OfPair (HoldsPair found bytes (field_bytes bytes before i row before) x) (n + 1) i) (sym same)
+              (of_pair_more n (n + 1) (omega arith) (held_pair relocated (omega (arith, most)) (used.1) i row v (omega (arith, below, isnt)) is is_field paired))
           | is_own at writes some ↦ absurd (isnt at)
           | is_joined joins writes some ↦ absurd (true≢false (sym paired ∙ joins.alone))
         ]
@@ -514,6 +517,7 @@ module _ (architecture : Architecture) (addresses : Addresses) (bytes : List ℕ
         | inl at ↦
             let same_row = one_found (found n) row first v written.pair.value (ap found (sym at) ∙ is) (used.0) in (
               n,
+              omega arith,
               inl at,
               subst (λ j. HoldsPair found bytes (field_bytes bytes before j row before) (field_bytes bytes before j row after) n) (sym at)
                   (subst (λ x. HoldsPair found bytes (field_bytes bytes before n x before) (field_bytes bytes before n x after) n) (sym same_row.row_is)
@@ -524,6 +528,7 @@ module _ (architecture : Architecture) (addresses : Addresses) (bytes : List ℕ
               let same_row = one_found (found (n + 1)) row written.pair.other v written.pair.subtracted (ap found (sym at) ∙ is) (used.1) in
               let place = second_bytes after relocated most written in (
                 n,
+                omega arith,
                 inr at,
                 subst (λ j. HoldsPair found bytes (field_bytes bytes before j row before) (field_bytes bytes before j row after) n) (sym at)
                     (subst (λ x. HoldsPair found bytes (field_bytes bytes before (n + 1) x before) (field_bytes bytes before (n + 1) x after) n) (sym same_row.row_is)
@@ -546,21 +551,21 @@ module _ (architecture : Architecture) (addresses : Addresses) (bytes : List ℕ
                 ]
                 | is_earlier less composes ↦ absurd (omega (arith, less, below, isnt, far))
               ]) in
-              subst (λ x. OfPair (HoldsPair found bytes (field_bytes bytes before i row before) x) i) (sym kept) so_far
+              subst (λ x. OfPair (HoldsPair found bytes (field_bytes bytes before i row before) x) (n + 2) i) (sym kept) (of_pair_more n (n + 2) (omega arith) so_far)
         ]
       ]
 
   -- ---- values that are accepted
 
-  same_at : {n : ℕ} {middle : List ℕ} (other : RelocationKindInfo) (v : ℤ) (size : RelocationSize)
+  pub same_at : {n : ℕ} {middle : List ℕ} (other : RelocationKindInfo) (v : ℤ) (size : RelocationSize)
       → other.size ≡ size → n + 1 ≤ total
       → AreRelocated architecture addresses bytes symbols before n middle
       → HasValue architecture addresses bytes symbols (relocation_in bytes n) other v
-      → is_of_pair other ≡ false
       → HaveSameWindow size (drop (offset_at bytes n) middle) (drop (offset_at bytes n) before)
-  same_at other v (ByteSize k) is most relocated has alone = tt
-  same_at {n} {middle} other v (BitMasking bits insn) is most relocated has alone =
+  same_at other v (ByteSize k) is most relocated has = tt
+  same_at {n} {middle} other v (BitMasking bits insn) is most relocated has =
       let p = offset_at bytes n in
+      let alone : is_of_pair other ≡ false = ap (λ x. begins_pair x other.kind || ends_pair x other.kind) is in
       let some = some_value architecture addresses bytes symbols (relocation_in bytes n) other v has in
       let len : field_len other (drop p before) ≡ size_len (BitMasking bits insn) = len_alone other (drop p before) some alone ∙ ap size_len is in
       let width = some_window insn in
@@ -571,13 +576,20 @@ module _ (architecture : Architecture) (addresses : Addresses) (bytes : List ℕ
       (alone_first architecture bytes before n other (fewer_apart n (n + 1) most) is_field
       (instruction_alone architecture _ other bits insn has.is_row is, alone))))
 
-  are_accepted : {n : ℕ} {now : List ℕ} (relocated : AreRelocated architecture addresses bytes symbols before n now)
+  accepted_more : (n m i : ℕ) (row : RelocationKindInfo) {v : ℤ} → n ≤ m
+      → (is_of_pair row ≡ false → IsAcceptedAt row v (offset_at bytes i) before)
+      × (is_of_pair row ≡ true → OfPair (PairFits found bytes before) n i)
+      → (is_of_pair row ≡ false → IsAcceptedAt row v (offset_at bytes i) before)
+      × (is_of_pair row ≡ true → OfPair (PairFits found bytes before) m i)
+  accepted_more n m i row most accepts = (accepts.0, λ paired. of_pair_more n m most (accepts.1 paired))
+
+  pub are_accepted : {n : ℕ} {now : List ℕ} (relocated : AreRelocated architecture addresses bytes symbols before n now)
       → n ≤ total → Uses relocated → AreAccepted found bytes before n
   are_accepted none most used i row v below is = absurd (omega (arith, below))
   are_accepted (mark {n} relocated value) most used i row v below is =
       elim (cases_eq i n) [
         | inl at ↦ none_some (used.0) (ap found (sym at) ∙ is)
-        | inr isnt ↦ are_accepted relocated (omega (arith, most)) (used.1) i row v (omega (arith, below, isnt)) is
+        | inr isnt ↦ accepted_more n (n + 1) i row (omega arith) (are_accepted relocated (omega (arith, most)) (used.1) i row v (omega (arith, below, isnt)) is)
       ]
   are_accepted (one {n} {middle} {after} {row = other} {v = w} relocated has written) most used i row v below is =
       elim (cases_eq i n) [
@@ -593,14 +605,14 @@ module _ (architecture : Architecture) (addresses : Addresses) (bytes : List ℕ
             record {
               inside = omega (arith, inside, len);
               accepted = accepted_same other w (drop p middle) (drop p before)
-                  (same_at other w other.size refl (omega (arith, most)) relocated has alone) (omega (arith, long, d, dm, len)) written.written.accepted;
+                  (same_at other w other.size refl (omega (arith, most)) relocated has) (omega (arith, long, d, dm, len)) written.written.accepted;
             } in (
               (λ _. subst (λ j. IsAcceptedAt row v (offset_at bytes j) before) (sym at)
                   (subst (λ x. IsAcceptedAt row x p before) (sym same_row.value_is)
                   (subst (λ x. IsAcceptedAt x w p before) (sym same_row.row_is) here))),
               (λ paired. absurd (true≢false (sym paired ∙ (ap is_of_pair same_row.row_is ∙ alone)))),
             )
-        | inr isnt ↦ are_accepted relocated (omega (arith, most)) (used.1) i row v (omega (arith, below, isnt)) is
+        | inr isnt ↦ accepted_more n (n + 1) i row (omega arith) (are_accepted relocated (omega (arith, most)) (used.1) i row v (omega (arith, below, isnt)) is)
       ]
   are_accepted (pair {n} {middle} {after} relocated written) most used i row v below is =
       let fits = (pair_here after relocated most written (used.0) (used.1)).fits in
@@ -609,16 +621,16 @@ module _ (architecture : Architecture) (addresses : Addresses) (bytes : List ℕ
             let same_row = one_found (found n) row written.pair.row v written.pair.value (ap found (sym at) ∙ is) (used.0) in
             let paired = or_left (begins_pair written.pair.row.size written.pair.row.kind) (ends_pair written.pair.row.size written.pair.row.kind) written.pair.begins in (
               (λ alone. absurd (true≢false (sym paired ∙ (ap is_of_pair (sym same_row.row_is) ∙ alone)))),
-              (λ _. (n, inl at, fits)),
+              (λ _. (n, omega arith, inl at, fits)),
             )
         | inr isnt ↦ elim (cases_eq i (n + 1)) [
           | inl at ↦
               let same_row = one_found (found (n + 1)) row written.pair.other v written.pair.subtracted (ap found (sym at) ∙ is) (used.1) in
               let paired = or_right (begins_pair written.pair.other.size written.pair.other.kind) (ends_pair written.pair.other.size written.pair.other.kind) written.pair.ends in (
                 (λ alone. absurd (true≢false (sym paired ∙ (ap is_of_pair (sym same_row.row_is) ∙ alone)))),
-                (λ _. (n, inr at, fits)),
+                (λ _. (n, omega arith, inr at, fits)),
               )
-          | inr far ↦ are_accepted relocated (omega (arith, most)) (used.2) i row v (omega (arith, below, isnt, far)) is
+          | inr far ↦ accepted_more n (n + 2) i row (omega arith) (are_accepted relocated (omega (arith, most)) (used.2) i row v (omega (arith, below, isnt, far)) is)
         ]
       ]
 

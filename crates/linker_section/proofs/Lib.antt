@@ -2,6 +2,8 @@ pub mod All
 pub mod Bytes
 pub mod Claims
 pub mod Composing
+pub mod Exact
+pub mod Faults
 pub mod Fielded
 pub mod Fronts
 pub mod Held

@@ -1,6 +1,6 @@
 -- Rows whose values compose are of whole bytes.
-use Rattle.std.proofs.Common.{◌≡◌, ℕ, Bool, true, false, refl, sym, ap, ◌∙◌, Option, Some, None, not, subst}
-use Rattle.std.proofs.lemmas.Bool.{not-true}
+use Rattle.std.proofs.Common.{◌≡◌, ℕ, Bool, true, false, refl, sym, ap, ◌∙◌, Option, Some, None, not, subst, inl, inr, ◌||◌}
+use Rattle.std.proofs.lemmas.Bool.{not-true, or_cases}
 use Rattle.linker_base.specs.declared.bit_misc.BitRange.{BitRange}
 use Rattle.linker_elf.specs.declared.elf.RelocationInstruction.{RelocationInstruction}
 use Rattle.linker_elf.specs.AArch64Relocations.{aarch64_name, aarch64_row}
@@ -28,6 +28,7 @@ use Rattle.linker_elf.specs.declared.x86_64.relocations.X86_64Relocation.TheVari
 use Rattle.linker_section.proofs.Composing.{no}
 use Rattle.linker_section.proofs.Numbers.{is_word6}
 use Rattle.linker_section.specs.Fields.{changes_number, changes_bits, continues}
+use Rattle.linker_section.specs.Values.{has_value, is_auipc}
 use Rattle.linker_utils.specs.Architectures.{IsOf, IsRow}
 use Rattle.linker_utils.specs.declared.elf.Architecture.{Architecture}
 use Rattle.linker_utils.specs.declared.elf.Architecture.TheVariants.{AArch64, RiscV, LoongArch64}
@@ -124,19 +125,55 @@ sized_x86_64 : (name : X86_64Relocation) → is_sized_row (x86_64_row name) ≡ 
 sized_x86_64 (x86_64_names.Other code) = refl
 sized_x86_64 _ = refl
 
-sized_of : {Name : Type 0} (elf : Name → ElfName) (row_of : Name → Option RelocationKindInfo)
-    (code : ℕ) (row : Option RelocationKindInfo)
-    → ((name : Name) → is_sized_row (row_of name) ≡ true) → IsOf elf row_of code row
-    → is_sized_row row ≡ true
-sized_of elf row_of code row all is = ap is_sized_row is.value_is ∙ all is.name
+-- and each `auipc` has a value
+abbrev is_valued : RelocationSize → RelocationKind → Bool
+is_valued size kind = not (is_auipc size) || has_value kind
+
+abbrev is_valued_row : Option RelocationKindInfo → Bool
+is_valued_row None = true
+is_valued_row (Some row) = is_valued row.size row.kind
+
+valued_aarch64 : (name : AArch64Relocation) → is_valued_row (aarch64_row name) ≡ true
+valued_aarch64 (aarch64_names.Other code) = refl
+valued_aarch64 _ = refl
+
+valued_riscv : (name : RiscVRelocation) → is_valued_row ((riscv_relocation name).row) ≡ true
+valued_riscv (riscv_names.Other code) = refl
+valued_riscv _ = refl
+
+valued_loongarch : (name : LoongArch64Relocation) → is_valued_row (loongarch_row name) ≡ true
+valued_loongarch (loongarch_names.Other code) = refl
+valued_loongarch _ = refl
+
+valued_ppc64 : (name : Ppc64Relocation) → is_valued_row (ppc64_row name) ≡ true
+valued_ppc64 (ppc64_names.Other code) = refl
+valued_ppc64 _ = refl
+
+valued_x86_64 : (name : X86_64Relocation) → is_valued_row (x86_64_row name) ≡ true
+valued_x86_64 (x86_64_names.Other code) = refl
+valued_x86_64 _ = refl
+
+test_of : {Name : Type 0} (elf : Name → ElfName) (row_of : Name → Option RelocationKindInfo)
+    (code : ℕ) (row : Option RelocationKindInfo) (test : Option RelocationKindInfo → Bool)
+    → ((name : Name) → test (row_of name) ≡ true) → IsOf elf row_of code row
+    → test row ≡ true
+test_of elf row_of code row test all is = ap test is.value_is ∙ all is.name
 
 sized : (architecture : Architecture) (code : ℕ) (row : Option RelocationKindInfo)
     → IsRow architecture code row → is_sized_row row ≡ true
-sized AArch64 code row is = sized_of aarch64_name aarch64_row code row sized_aarch64 is
-sized RiscV code row is = sized_of riscv_name (λ name. (riscv_relocation name).row) code row sized_riscv is
-sized LoongArch64 code row is = sized_of loongarch_name loongarch_row code row sized_loongarch is
-sized Ppc64 code row is = sized_of ppc64_name ppc64_row code row sized_ppc64 is
-sized X86_64 code row is = sized_of x86_64_name x86_64_row code row sized_x86_64 is
+sized AArch64 code row is = test_of aarch64_name aarch64_row code row is_sized_row sized_aarch64 is
+sized RiscV code row is = test_of riscv_name (λ name. (riscv_relocation name).row) code row is_sized_row sized_riscv is
+sized LoongArch64 code row is = test_of loongarch_name loongarch_row code row is_sized_row sized_loongarch is
+sized Ppc64 code row is = test_of ppc64_name ppc64_row code row is_sized_row sized_ppc64 is
+sized X86_64 code row is = test_of x86_64_name x86_64_row code row is_sized_row sized_x86_64 is
+
+valued : (architecture : Architecture) (code : ℕ) (row : Option RelocationKindInfo)
+    → IsRow architecture code row → is_valued_row row ≡ true
+valued AArch64 code row is = test_of aarch64_name aarch64_row code row is_valued_row valued_aarch64 is
+valued RiscV code row is = test_of riscv_name (λ name. (riscv_relocation name).row) code row is_valued_row valued_riscv is
+valued LoongArch64 code row is = test_of loongarch_name loongarch_row code row is_valued_row valued_loongarch is
+valued Ppc64 code row is = test_of ppc64_name ppc64_row code row is_valued_row valued_ppc64 is
+valued X86_64 code row is = test_of x86_64_name x86_64_row code row is_valued_row valued_x86_64 is
 
 -- a size of whole bytes, as many as a field of another has
 size_of : (size : RelocationSize) (kind : RelocationKind) (n : ℕ) → is_sized size kind ≡ true
@@ -164,3 +201,11 @@ pub instruction_alone : (architecture : Architecture) (code : ℕ) (row : Reloca
     → row.size ≡ BitMasking bits insn → is_composing row.kind ≡ false
 instruction_alone architecture code row bits insn is_row same =
     instruction_size row.size row.kind bits insn same (sized architecture code (Some row) is_row)
+
+pub auipc_valued : (architecture : Architecture) (code : ℕ) (row : RelocationKindInfo)
+    → IsRow architecture code (Some row) → is_auipc row.size ≡ true → has_value row.kind ≡ true
+auipc_valued architecture code row is_row auipc =
+    elim (or_cases (not (is_auipc row.size)) (has_value row.kind) (valued architecture code (Some row) is_row)) [
+      | inl isnt ↦ no (sym (ap not auipc) ∙ isnt)
+      | inr has ↦ has
+    ]

@@ -18,7 +18,7 @@ use Rattle.linker_elf.specs.declared.elf.RelocationSize.TheVariants.{ByteSize, B
 use Rattle.linker_section.specs.Fields.{field_len, begins_pair, ends_pair, is_of_pair, AreApart}
 use Rattle.linker_section.specs.Relocations.{relocation_in}
 use Rattle.linker_section.specs.Sections.{IsRowValue, IsPairNumber, IsInNoField, BeginsPair}
-use Rattle.linker_section.specs.Sections.{IsCauseAt}
+use Rattle.linker_section.specs.Sections.{IsCauseAt, IsOfValue}
 use Rattle.linker_section.specs.Values.{offset_at}
 use Rattle.linker_section.specs.declared.facts.Addresses.{Addresses}
 use Rattle.linker_section.specs.declared.facts.Symbol.{Symbol}
@@ -100,9 +100,10 @@ pub record MakePair (found : Found) (bytes : List ℕ) (first : ℕ) (there : Li
   pub same_offset : offset_at bytes (first + 1) ≡ offset_at bytes first
   pub is_number : IsPairNumber other.kind there value subtracted number
 
--- what is said of the pair that a relocation is of, by the first's index
-abbrev pub OfPair : (ℕ → Type 0) → ℕ → Type 0
-OfPair Said i = (first : ℕ) × ((i ≡ first) ⊎ (i ≡ first + 1)) × Said first
+-- what is said, by the first's index, of the pair of relocations below an index that one is of
+abbrev pub OfPair : (ℕ → Type 0) → ℕ → ℕ → Type 0
+OfPair Said n i =
+    (first : ℕ) × (first + 1 < n) × ((i ≡ first) ⊎ (i ≡ first + 1)) × Said first
 
 -- A field holds the number of a pair, in as many bytes as the one before.
 pub record HoldsPair (found : Found) (bytes before after : List ℕ) (first : ℕ) : Type 0 where
@@ -124,7 +125,7 @@ pub record IsHeld (found : Found) (bytes before after : List ℕ) (n i : ℕ)
       (field_bytes bytes before i row before) (field_bytes bytes before i row after)
   pub pair : is_of_pair row ≡ true
       → OfPair (HoldsPair found bytes (field_bytes bytes before i row before)
-      (field_bytes bytes before i row after)) i
+      (field_bytes bytes before i row after)) n i
 
 -- ---- values that are accepted
 
@@ -148,7 +149,7 @@ abbrev pub AreAccepted : Found → List ℕ → List ℕ → ℕ → Type 0
 AreAccepted found bytes section n =
     (i : ℕ) (row : RelocationKindInfo) (v : ℤ) → i < n → found i ≡ Some (row, v)
     → (is_of_pair row ≡ false → IsAcceptedAt row v (offset_at bytes i) section)
-    × (is_of_pair row ≡ true → OfPair (PairFits found bytes section) i)
+    × (is_of_pair row ≡ true → OfPair (PairFits found bytes section) n i)
 
 -- ---- all relocations
 
@@ -182,7 +183,8 @@ pub record IsFirstFault (architecture : Architecture) (addresses : Addresses) (b
   pub within : error.index < length bytes / 24
   pub written : ℕ
   pub is_next : (error.index ≡ written)
-      ⊎ ((error.index ≡ written + 1) × BeginsPair architecture bytes written)
+      ⊎ ((error.index ≡ written + 1) × BeginsPair architecture bytes written
+      × IsOfValue error.error)
   pub found : Found
   pub are_found : AreFound architecture addresses bytes symbols written found
   pub apart : AreApart architecture bytes section error.index

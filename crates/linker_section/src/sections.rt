@@ -11,7 +11,7 @@ ghost use Rattle.linker_section.specs.Sections.{BeginsPair, HasValue};
 ghost use Rattle.linker_section.specs.Inner.Steps.{IsLimit, IsStopped, IsSecond, clear_in, field_of_row};
 ghost use Rattle.linker_section.specs.Inner.Steps.{IsPairOutcome};
 ghost use Rattle.linker_section.specs.Values.{has_value};
-ghost use Rattle.linker_section.specs.WrittenFields.{AreWritten};
+ghost use Rattle.linker_section.specs.WrittenFields.{AreWritten, IsFirstFault};
 ghost use Rattle.linker_utils.specs.Architectures.{IsRow};
 ghost use Rattle.linker_elf.specs.declared.elf.RelocationKindInfo.{RelocationKindInfo};
 
@@ -276,6 +276,7 @@ struct Stopped {
 
 /// Writes the values of a section's relocations in their order, and keeps the bytes that were there
 /// before.
+#[inline(always)]
 fn write_values(
     architecture: Architecture,
     addresses: &Addresses,
@@ -367,6 +368,43 @@ fn write_values(
     Ok(())
 }
 
+/// A call for an architecture, which is compiled for each by itself.
+macro_rules! of_each {
+    ($architecture:ident, $call:ident($($given:ident),*)) => {
+        match $architecture {
+            Architecture::AArch64 => $call(Architecture::AArch64, $($given),*),
+            Architecture::RiscV => $call(Architecture::RiscV, $($given),*),
+            Architecture::LoongArch64 => $call(Architecture::LoongArch64, $($given),*),
+            Architecture::Ppc64 => $call(Architecture::Ppc64, $($given),*),
+            Architecture::X86_64 => $call(Architecture::X86_64, $($given),*),
+        }
+    };
+}
+
+/// The same as `write_values`, by code of the architecture's own.
+fn write_values_of(
+    architecture: Architecture,
+    addresses: &Addresses,
+    relocations: &[u8],
+    symbols: &[Symbol],
+    limit: Option<usize>,
+    section: &mut [u8],
+    memory: &mut [u64],
+) -> Result<(), Stopped>
+    requires memory { length relocations.now / 24 ≤ length memory.old }
+    requires limit { IsLimit architecture relocations.now section.old limit }
+    ensures len { length memory.new ≡ length memory.old }
+    ensures ok { OnOk result (AreAllRelocated architecture addresses.now relocations.now
+        symbols.now section.old section.new) }
+    ensures err { IfErr result (IsStopped architecture addresses.now relocations.now symbols.now
+        section.old section.new memory.new) }
+{
+    of_each!(
+        architecture,
+        write_values(addresses, relocations, symbols, limit, section, memory)
+    )
+}
+
 /// How many elements of memory `relocate_section` takes: one for each relocation.
 #[inline(always)]
 pub fn memory_len(relocations: &[u8]) -> usize
@@ -430,6 +468,8 @@ pub fn relocate_section(
         symbols.now section.old section.new) }
     ensures err { IfErr result (IsFirstRejected architecture addresses.now relocations.now
         symbols.now section.old) }
+    ensures fault { IfErr result (IsFirstFault architecture addresses.now relocations.now
+        symbols.now section.old) }
     ensures unchanged { IfErr result (λ _. section.new ≡ section.old) }
 {
     let limit = if is_ascending(relocations) {
@@ -438,7 +478,7 @@ pub fn relocate_section(
         let order = &mut memory[..relocations_len(relocations)];
         Some(first_overlap(architecture, relocations, section, order))
     };
-    match write_values(
+    match write_values_of(
         architecture,
         addresses,
         relocations,

@@ -8,7 +8,7 @@ use crate::linker_base::rewrite::DeletedBytes;
 use crate::linker_section::facts::{Addresses, Symbol};
 use crate::linker_section::relocations::{Rela, relocation_at};
 use crate::architecture::Relaxation;
-use crate::elf::{Architecture, Choice, LinkFacts};
+use crate::elf::{Architecture, Choice, LinkFacts, Operands};
 
 /// Whether the symbol at an index is `__tls_get_addr`.
 #[inline(always)]
@@ -135,4 +135,53 @@ pub(crate) fn candidate(
         ),
         None => None,
     }
+}
+
+/// The same facts of what is where the GOT's or the TOC's base is, at the distance 0.
+#[inline(always)]
+fn at_base(facts: Option<LinkFacts>) -> Option<LinkFacts> {
+    match facts {
+        Some(facts) => Some(LinkFacts {
+            operands: Operands {
+                symbol: facts.operands.got_base,
+                addend: 0,
+                ..facts.operands
+            },
+            ..facts
+        }),
+        None => None,
+    }
+}
+
+/// Whether the instruction of the relocation with an index is one that its rewrite is meant for,
+/// whatever the distance.
+pub(crate) fn is_matched(
+    architecture: Architecture,
+    phase: Phase,
+    output: &OutputFacts,
+    symbols: &[SymbolFacts],
+    addresses: &Addresses,
+    values: &[Symbol],
+    relocations: &[u8],
+    section: &[u8],
+    index: usize,
+    relocation: &Rela,
+) -> bool {
+    let marked = is_marked_at(architecture, relocations, index, relocation);
+    let facts = link_facts(
+        phase, output, symbols, addresses, values, relocation, relocation, marked,
+    );
+    let Some(facts) = at_base(facts) else {
+        return false;
+    };
+    candidate_by(
+        architecture,
+        symbols,
+        relocations,
+        section,
+        index,
+        relocation,
+        &facts,
+    )
+    .is_some()
 }

@@ -161,7 +161,9 @@ fn list_deletions(
 ///   marked for that.
 /// - `GotLoads`: AArch64's loads of an address from the GOT become `adrp` and `add`, where both
 ///   relocations are next to each other and have no addend.
-/// - `Distances`: AArch64's `adrp` and `add` next to each other become `nop` and `adr`.
+/// - `Distances`: AArch64's `adrp` and `add` next to each other become `nop` and `adr`. Where a distance
+///   from the TOC pointer has 16 bits, PowerPC64's `addis` becomes a `nop`, and what reads it is over the
+///   TOC pointer.
 ///
 /// # Errors
 ///

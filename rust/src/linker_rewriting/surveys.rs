@@ -1,7 +1,7 @@
 // Made by tools/erase of crates/linker_rewriting/src/surveys.rt.
 //! Which groups of an object stay as they are, since one of their instructions can't be rewritten.
 
-use crate::linker_rewriting::candidates::{candidate, is_tls_get_addr};
+use crate::linker_rewriting::candidates::{candidate, is_matched, is_tls_get_addr};
 use crate::linker_rewriting::facts::{NO_ADDRESSES, OutputFacts, SymbolFacts};
 use crate::linker_rewriting::groups::{Group, KeptGroups, Scope, marks_call, scope_in, symbol_of_group};
 use crate::linker_rewriting::phases::Phase;
@@ -51,23 +51,43 @@ fn keeping(
     index: usize,
     relocation: &Rela,
 ) -> Option<Group> {
-    let Scope::Grouped(group) = scope_in(architecture, phase, relocation.code) else {
-        return None;
-    };
-    match candidate(
-        architecture,
-        phase,
-        output,
-        symbols,
-        addresses,
-        values,
-        relocations,
-        section,
-        index,
-        relocation,
-    ) {
-        Some(_) => None,
-        None => Some(group),
+    match scope_in(architecture, phase, relocation.code) {
+        Scope::Grouped(group) => {
+            match candidate(
+                architecture,
+                phase,
+                output,
+                symbols,
+                addresses,
+                values,
+                relocations,
+                section,
+                index,
+                relocation,
+            ) {
+                Some(_) => None,
+                None => Some(group),
+            }
+        }
+        Scope::Matched(group) => {
+            if is_matched(
+                architecture,
+                phase,
+                output,
+                symbols,
+                addresses,
+                values,
+                relocations,
+                section,
+                index,
+                relocation,
+            ) {
+                None
+            } else {
+                Some(group)
+            }
+        }
+        _ => None,
     }
 }
 

@@ -221,6 +221,7 @@ struct Stopped {
 
 /// Writes the values of a section's relocations in their order, and keeps the bytes that were there
 /// before.
+#[inline(always)]
 fn write_values(
     architecture: Architecture,
     addresses: &Addresses,
@@ -304,6 +305,35 @@ fn write_values(
     Ok(())
 }
 
+/// A call for an architecture, which is compiled for each by itself.
+macro_rules! of_each {
+    ($architecture:ident, $call:ident($($given:ident),*)) => {
+        match $architecture {
+            Architecture::AArch64 => $call(Architecture::AArch64, $($given),*),
+            Architecture::RiscV => $call(Architecture::RiscV, $($given),*),
+            Architecture::LoongArch64 => $call(Architecture::LoongArch64, $($given),*),
+            Architecture::Ppc64 => $call(Architecture::Ppc64, $($given),*),
+            Architecture::X86_64 => $call(Architecture::X86_64, $($given),*),
+        }
+    };
+}
+
+/// The same as `write_values`, by code of the architecture's own.
+fn write_values_of(
+    architecture: Architecture,
+    addresses: &Addresses,
+    relocations: &[u8],
+    symbols: &[Symbol],
+    limit: Option<usize>,
+    section: &mut [u8],
+    memory: &mut [u64],
+) -> Result<(), Stopped> {
+    of_each!(
+        architecture,
+        write_values(addresses, relocations, symbols, limit, section, memory)
+    )
+}
+
 /// How many elements of memory `relocate_section` takes: one for each relocation.
 #[must_use]
 #[inline(always)]
@@ -371,7 +401,7 @@ pub fn relocate_section(
         let order = &mut memory[..relocations_len(relocations)];
         Some(first_overlap(architecture, relocations, section, order))
     };
-    match write_values(
+    match write_values_of(
         architecture,
         addresses,
         relocations,

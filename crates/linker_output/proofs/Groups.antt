@@ -1,0 +1,61 @@
+-- Bytes of the stubs at boundaries.
+use Rattle.std.proofs.Common.{◌≡◌, ◌+◌, ◌*◌, ◌<◌, ◌≤◌, ◌^◌, ◌∙◌, ℕ, zero, suc, arith, List, length, get_or, take, refl, ap, sym, add-one, ⊎_elim}
+use Rattle.std.proofs.lemmas.Bool.{cases_lt}
+use Rattle.std.proofs.lemmas.List.{get_or_past}
+use Rattle.std.specs.List.{sum_by}
+use Rattle.std.proofs.Math.Nat.{mul-le-mul_left}
+use Rattle.std.proofs.lemmas.List.Sums.{sum_by_more, sum_by-take-le}
+use Rattle.linker_output.specs.declared.placement.Group.{Group}
+use Rattle.linker_output.specs.declared.placement.StubShape.{StubShape}
+use Rattle.linker_output.specs.Placement.{group_at, stubs_in, padded, size_of, IsLaidOut}
+use Rattle.linker_output.specs.Inner.Placement.{bytes_before}
+
+pub padded_least : (unit n : ℕ) → n ≤ padded unit n
+padded_least unit n = omega arith
+
+pub padded_most : (unit n : ℕ) → 0 < unit → padded unit n < n + unit
+padded_most unit n h = omega arith
+
+pub size_least : (shape : StubShape) (group : Group) → shape.len * stubs_in group ≤ size_of shape group
+size_least shape group = padded_least shape.unit (shape.len * stubs_in group)
+
+pub bytes_next : (shape : StubShape) (groups : List Group) (k : ℕ) → bytes_before shape groups (k + 1) ≡ bytes_before shape groups k + size_of shape (group_at groups k)
+unfolding bytes_before
+bytes_next shape groups k = rw add-one refl
+
+pub bytes_none : (shape : StubShape) (groups : List Group) → bytes_before shape groups 0 ≡ 0
+unfolding bytes_before
+bytes_none shape groups = refl
+
+none_group : Group
+none_group = record { front = 0; middle = 0; back = 0 }
+
+pub bytes_most : (shape : StubShape) (groups : List Group) (k : ℕ) → 0 < shape.unit → k ≤ length groups → bytes_before shape groups k ≤ shape.unit * k + shape.len * sum_by stubs_in (take k groups)
+unfolding bytes_before
+bytes_most shape groups zero h within = omega arith
+bytes_most shape groups (suc k) h within =
+    let rest = bytes_most shape groups k h (omega arith) in
+    let more : sum_by stubs_in (take (k + 1) groups) ≡ sum_by stubs_in (take k groups) + stubs_in (group_at groups k) = sum_by_more stubs_in groups k (record { front = 0; middle = 0; back = 0 }) (omega arith) in
+    let size = padded_most shape.unit (shape.len * stubs_in (group_at groups k)) h in
+    let e = ap (λ x. shape.len * x) more in
+    rw (sym (add-one k)) (omega arith)
+
+pub bytes_bound : (shape : StubShape) (groups : List Group) (k : ℕ) → 0 < shape.unit → k ≤ length groups → bytes_before shape groups k ≤ shape.unit * length groups + shape.len * sum_by stubs_in groups
+bytes_bound shape groups k h within =
+    let most = bytes_most shape groups k h within in
+    let a = mul-le-mul_left shape.unit within in
+    let b = mul-le-mul_left shape.len (sum_by-take-le stubs_in groups k) in
+    omega arith
+
+pub bytes_laid_out : (shape : StubShape) (groups : List Group) (before : List ℕ) → length before ≡ length groups + 1 → ((k : ℕ) → k < length groups + 1 → get_or before k 0 ≡ bytes_before shape groups k) → IsLaidOut shape groups before
+bytes_laid_out shape groups before len written = record {
+  len = len;
+  first = written 0 (omega arith) ∙ bytes_none shape groups;
+  next = λ k h. (let a = written (k + 1) (omega arith) in let b = written k (omega arith) in let c = bytes_next shape groups k in omega arith);
+}
+
+pub bytes_fit : (shape : StubShape) (groups : List Group) (before : List ℕ) → 0 < shape.unit → shape.unit * length groups + shape.len * sum_by stubs_in groups < 2 ^ 62 → length before ≡ length groups + 1 → ((k : ℕ) → k < length groups + 1 → get_or before k 0 ≡ bytes_before shape groups k) → (k : ℕ) → get_or before k 0 < 2 ^ 62
+bytes_fit shape groups before unit fits len written k = ⊎_elim
+    (λ (inside : k < length groups + 1). let a = written k inside in let b = bytes_bound shape groups k unit (omega arith) in omega arith)
+    (λ (past : length groups + 1 ≤ k). let e = get_or_past before k 0 (omega arith) in omega arith)
+    (cases_lt k (length groups + 1))

@@ -1,0 +1,65 @@
+-- Stubs at the boundary next to a branch stay in its reach.
+use Rattle.std.proofs.Common.{◌≡◌, ◌+◌, ◌*◌, ◌<◌, ◌≤◌, ◌∙◌, ℕ, arith, List, length, ap, sym, subst, inl}
+use Rattle.std.proofs.Math.Nat.{mul-le-mul_left}
+use Rattle.linker_output.specs.declared.placement.Branch.{Branch}
+use Rattle.linker_output.specs.declared.placement.Code.{Code}
+use Rattle.linker_output.specs.declared.placement.Group.{Group}
+use Rattle.linker_output.specs.declared.placement.Part.{Part}
+use Rattle.linker_output.specs.declared.placement.Part.TheVariants.{Front, Middle, Back}
+use Rattle.linker_output.specs.declared.placement.State.{State}
+use Rattle.linker_output.specs.declared.placement.StubAt.{StubAt}
+use Rattle.linker_output.specs.declared.placement.Way.TheVariants.{Near}
+use Rattle.linker_output.specs.Placement.{at, group_at, branch_at, stub_at, stubs_in, place_in, place_of, start_of, end_of, HasPart, ReachesAt, IsLaidOut}
+use Rattle.linker_output.specs.Inner.Placement.{IsState, IsWay, IsNear, IsNearIn, ArePlaces, IsServedBy, SameStubs, way_at}
+use Rattle.linker_output.proofs.Bounds.{part_most}
+use Rattle.linker_output.proofs.Groups.{size_least}
+
+-- what a part takes at a boundary is within what all stubs there take
+pub within_group : (code : Code) (groups : List Group) (before : List ℕ) (stub : StubAt) → IsLaidOut code.shape groups before → length groups ≡ length code.boundaries.now → HasPart code groups stub
+    → at before stub.boundary + code.shape.len * (stub.index + 1) ≤ at before (stub.boundary + 1)
+within_group code groups before stub laid len has =
+    let b = has.boundary in
+    let next = laid.next stub.boundary (omega arith) in
+    let size = size_least code.shape (group_at groups stub.boundary) in
+    let part = part_most stub.part (group_at groups stub.boundary) in
+    let i = has.index in
+    let within : stub.index + 1 ≤ stubs_in (group_at groups stub.boundary) = omega arith in
+    let product = mul-le-mul_left code.shape.len within in
+    omega arith
+
+near_in : (part : Part) (code : Code) (group : Group) (before : List ℕ) (branch : Branch) (stub : StubAt)
+    → at before stub.boundary + code.shape.len * (stub.index + 1) ≤ at before (stub.boundary + 1)
+    → IsNearIn part code branch stub
+    → ReachesAt code before branch (place_in part (start_of code.boundaries.now before stub.boundary) (end_of code.boundaries.now before stub.boundary) code.shape.len group stub.index)
+near_in Front code group before branch stub fits near =
+    let e = ap (at before) (near.0) in
+    let r = near.1 in
+    record { forward = omega (arith, r.forward); backward = omega (arith, r.backward) }
+near_in Middle code group before branch stub fits near = absurd near
+near_in Back code group before branch stub fits near =
+    let e = ap (at before) (near.0) in
+    let r = near.1 in
+    record { forward = omega (arith, r.forward); backward = omega (arith, r.backward) }
+
+pub near_reaches : (code : Code) (groups : List Group) (before : List ℕ) (branch : Branch) (stub : StubAt) → IsLaidOut code.shape groups before → length groups ≡ length code.boundaries.now → HasPart code groups stub
+    → IsNear code branch stub → ReachesAt code before branch (place_of code groups before stub)
+near_reaches code groups before branch stub laid len has near =
+    near_in stub.part code (group_at groups stub.boundary) before branch stub (within_group code groups before stub laid len has) near
+
+pub places_kept : (code : Code) (old new : State) (before places : List ℕ) → SameStubs old new → ArePlaces code old before places → ArePlaces code new before places
+places_kept code old new before places same are = record {
+  len = are.len ∙ ap (λ v. length v.items) (sym same.stubs);
+  each = λ j h. are.each j h ∙ ap (λ g. place_of code g.items before (stub_at old.stubs.items j)) (sym same.groups) ∙ ap (λ v. place_of code new.groups.items before (stub_at v.items j)) (sym same.stubs);
+}
+
+pub laid_kept : (code : Code) (old new : State) (before : List ℕ) → SameStubs old new → IsLaidOut code.shape old.groups.items before → IsLaidOut code.shape new.groups.items before
+laid_kept code old new before same laid = subst (λ g. IsLaidOut code.shape g.items before) (sym same.groups) laid
+
+pub near_served : (code : Code) (state : State) (before places : List ℕ) (i s : ℕ) → IsState code state → IsLaidOut code.shape state.groups.items before → ArePlaces code state before places → i < length code.branches.now
+    → way_at state.ways.items i ≡ Near s → IsServedBy code before places (branch_at code.branches.now i) (way_at state.ways.items i)
+near_served code state before places i s is laid are within e =
+    let way : IsWay code state.stubs.items (branch_at code.branches.now i) (Near s) = subst (IsWay code state.stubs.items (branch_at code.branches.now i)) e (is.way i within) in
+    let branch = branch_at code.branches.now i in
+    let reached = near_reaches code state.groups.items before branch (stub_at state.stubs.items s) laid is.groups (is.parts s (way.0)) (way.2) in
+    let reaches : s < length places → ReachesAt code before branch (at places s) = λ h. subst (ReachesAt code before branch) (sym (are.each s h)) reached in
+    subst (IsServedBy code before places branch) (sym e) (inl reaches)

@@ -1,0 +1,15 @@
+-- The boundaries at or below an offset.
+use Rattle.std.proofs.Common.{◌≡◌, ◌<◌, ◌≤◌, ℕ, true, false, rules, tests}
+use Rattle.std.specs.Prelude.{nat_le}
+
+pub le_true : (a b : ℕ) → a ≤ b → nat_le a b ≡ true
+le_true a b h = search (rules, tests)
+
+pub le_false : (a b : ℕ) → b < a → nat_le a b ≡ false
+le_false a b h = search (rules, tests)
+
+pub true_le : (a b : ℕ) → nat_le a b ≡ true → a ≤ b
+true_le a b h = search (rules, tests)
+
+pub false_lt : (a b : ℕ) → nat_le a b ≡ false → b < a
+false_lt a b h = search (rules, tests)

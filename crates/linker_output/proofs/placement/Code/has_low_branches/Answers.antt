@@ -1,0 +1,13 @@
+use Rattle.std.proofs.Common.{◌≤◌, ◌<◌, length, ⊎_elim, ap, arith}
+use Rattle.std.proofs.lemmas.Bool.{cases_lt}
+use Rattle.std.proofs.lemmas.List.{get_or_past}
+use Rattle.linker_output.specs.declared.placement.Branch.{Branch}
+use Rattle.linker_output.proofs.placement.Code.has_low_branches.Goals as goal
+
+pub returns-clause-low : goal.returns-clause-low
+returns-clause-low c =
+    let bs = c.args.self.now.branches.now in
+    λ _ k. ⊎_elim
+    (λ (inside : k < length bs). c.loop-branch.invariant k (omega arith))
+    (λ (past : length bs ≤ k). let e = ap (λ (b : Branch). b.offset) (get_or_past bs k (record { offset = 0; target = 0; max_backward = 0; max_forward = 0 }) past) in omega arith)
+    (cases_lt k (length bs))

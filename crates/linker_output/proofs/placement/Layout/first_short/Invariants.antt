@@ -1,0 +1,6 @@
+use Rattle.std.proofs.Common.{◌<◌, ℕ}
+use Rattle.linker_output.specs.Placement.{StubReaches}
+use Rattle.linker_output.proofs.placement.Layout.first_short.Given as goal
+
+abbrev pub invariant-loop-index : goal.invariant-loop-index
+invariant-loop-index l = (j : ℕ) → j < l.index → StubReaches l.code l.self j

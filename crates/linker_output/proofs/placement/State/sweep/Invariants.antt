@@ -1,0 +1,14 @@
+use Rattle.std.proofs.Common.{◌≡◌, ◌<◌, ◌≤◌, ℕ, true, false}
+use Rattle.std.specs.List.{sum_by}
+use Rattle.linker_output.specs.Placement.{branch_at}
+use Rattle.linker_output.specs.Inner.Placement.{IsState, SameStubs, IsServedBy, level, way_at}
+use Rattle.linker_output.proofs.placement.State.sweep.Given as goal
+
+abbrev pub invariant-loop-index : goal.invariant-loop-index
+invariant-loop-index l = record {
+  state : IsState l.code l.self;
+  same : l.changed ≡ false → SameStubs l.initial.self l.self;
+  served : l.changed ≡ false → (k : ℕ) → k < l.index → IsServedBy l.code l.before l.places (branch_at l.code.branches.now k) (way_at l.self.ways.items k);
+  no_less : sum_by level l.initial.self.ways.items ≤ sum_by level l.self.ways.items;
+  higher : l.changed ≡ true → sum_by level l.initial.self.ways.items < sum_by level l.self.ways.items;
+}

@@ -1,0 +1,10 @@
+use Rattle.std.proofs.Common.{◌≤◌, ◌<◌, length, ⊎_elim, arith}
+use Rattle.std.proofs.lemmas.Bool.{cases_lt}
+use Rattle.std.proofs.lemmas.List.{get_or_past}
+use Rattle.linker_output.proofs.placement.are_low.Goals as goal
+
+pub returns-clause-low : goal.returns-clause-low
+returns-clause-low c = λ _ k. ⊎_elim
+    (λ (inside : k < length c.args.numbers.now). c.loop-number.invariant k (omega arith))
+    (λ (past : length c.args.numbers.now ≤ k). let e = get_or_past c.args.numbers.now k 0 past in omega arith)
+    (cases_lt k (length c.args.numbers.now))

@@ -1,0 +1,13 @@
+use Rattle.std.proofs.Common.{ℕ, ◌≤◌, ◌<◌, ◌-◌, length, get_or}
+use Rattle.linker_output.proofs.placement.passed.Given as goal
+
+abbrev pub invariant-loop-low : goal.invariant-loop-low
+invariant-loop-low l = record {
+  order : l.low ≤ l.high;
+  within : l.high ≤ length l.boundaries;
+  before : (k : ℕ) → k < l.low → get_or l.boundaries k 0 ≤ l.offset;
+  behind : (k : ℕ) → l.high ≤ k → k < length l.boundaries → l.offset < get_or l.boundaries k 0;
+}
+
+abbrev pub decreases-loop-low : goal.decreases-loop-low
+decreases-loop-low l = l.high - l.low

@@ -1,0 +1,217 @@
+-- What holds while stubs are placed.
+use Rattle.std.specs.Prelude.{◌≡◌, ◌≤◌, ◌<◌, ◌+◌, ◌-◌, ◌*◌, ◌^◌, ◌⊎◌, ℕ, zero, suc, List, length, slice_index_or, ⊤}
+use Rattle.std.specs.Prelude.{Option, Some, None}
+use Rattle.std.specs.List.{sum_by}
+use Rattle.linker_output.specs.Placement.{Reaches, at, branch_at, stub_at, group_at, IsAscending}
+use Rattle.linker_output.specs.Placement.{passed, stubs_in, size_of, place_of}
+use Rattle.linker_output.specs.Placement.{part_of, HasPart, AreTwo, ReachesAt, target_place}
+use Rattle.linker_output.specs.declared.placement.Branch.{Branch}
+use Rattle.linker_output.specs.declared.placement.Code.{Code}
+use Rattle.linker_output.specs.declared.placement.Group.{Group}
+use Rattle.linker_output.specs.declared.placement.Part.{Part}
+use Rattle.linker_output.specs.declared.placement.Part.TheVariants.{Front, Middle, Back}
+use Rattle.linker_output.specs.declared.placement.State.{State}
+use Rattle.linker_output.specs.declared.placement.StubAt.{StubAt}
+use Rattle.linker_output.specs.declared.placement.StubShape.{StubShape}
+use Rattle.linker_output.specs.declared.placement.Sweep.{Sweep}
+use Rattle.linker_output.specs.declared.placement.Sweep.TheVariants.{Settled, Changed, Stuck}
+use Rattle.linker_output.specs.declared.placement.Visit.{Visit}
+use Rattle.linker_output.specs.declared.placement.Visit.TheVariants as visits
+use Rattle.linker_output.specs.declared.placement.Visit.TheVariants.{Served, Raised, Lost}
+use Rattle.linker_output.specs.declared.placement.Way.{Way}
+use Rattle.linker_output.specs.declared.placement.Way.TheVariants.{Direct, Far, Near}
+
+-- the code for which stubs are placed
+pub record IsCode (code : Code) : Type 0 where
+  pub len : 0 < code.shape.len
+  pub unit : 0 < code.shape.unit
+  pub ascending : IsAscending code.boundaries.now
+  pub branches : (i : ℕ) → (branch_at code.branches.now i).offset < 2 ^ 62
+  pub in_table : (i : ℕ) → i < length code.branches.now
+      → (branch_at code.branches.now i).target < length code.targets.now
+  pub targets : (t : ℕ) → at code.targets.now t < 2 ^ 62
+  pub boundaries : (k : ℕ) → at code.boundaries.now k < 2 ^ 62
+  pub room : code.shape.unit * length code.boundaries.now
+      + code.shape.len * (2 * length code.branches.now + 1) < 2 ^ 62
+
+abbrev pub way_at : List Way → ℕ → Way
+way_at xs k = slice_index_or xs k Direct
+
+abbrev pub level : Way → ℕ
+level Direct = 0
+level (Far s) = 1
+level (Near s) = 2
+
+-- what the level of a branch becomes by a new stub
+abbrev pub level_of : Part → ℕ
+level_of Front = 2
+level_of Middle = 1
+level_of Back = 2
+
+abbrev pub with_one : Part → Group → Group
+with_one Front group = record group { front = group.front + 1 }
+with_one Middle group = record group { middle = group.middle + 1 }
+with_one Back group = record group { back = group.back + 1 }
+
+abbrev pub new_way : Part → ℕ → Way
+new_way Front s = Near s
+new_way Middle s = Far s
+new_way Back s = Near s
+
+-- The stub is at the boundary next to a branch, and in its reach, since nothing is added between them.
+abbrev pub IsNearIn : Part → Code → Branch → StubAt → Type 0
+IsNearIn Front code branch stub = (stub.boundary ≡ passed code.boundaries.now branch.offset)
+    × Reaches branch.max_backward branch.max_forward branch.offset
+    (at code.boundaries.now stub.boundary + code.shape.len * stub.index)
+IsNearIn Middle code branch stub = ⊥
+IsNearIn Back code branch stub = (stub.boundary + 1 ≡ passed code.boundaries.now branch.offset)
+    × Reaches branch.max_backward branch.max_forward
+    (branch.offset + code.shape.len * (stub.index + 1)) (at code.boundaries.now stub.boundary)
+
+abbrev pub IsNear : Code → Branch → StubAt → Type 0
+IsNear code branch stub = IsNearIn stub.part code branch stub
+
+abbrev pub IsWay : Code → List StubAt → Branch → Way → Type 0
+IsWay code stubs branch Direct = ⊤
+IsWay code stubs branch (Far s) =
+    (s < length stubs) × ((stub_at stubs s).target ≡ branch.target)
+IsWay code stubs branch (Near s) =
+    (s < length stubs) × ((stub_at stubs s).target ≡ branch.target)
+    × IsNear code branch (stub_at stubs s)
+
+pub record IsState (code : Code) (state : State) : Type 0 where
+  pub groups : length state.groups.items ≡ length code.boundaries.now
+  pub ways : length state.ways.items ≡ length code.branches.now
+  pub last : length state.last.items ≡ length code.targets.now
+  pub parts : (j : ℕ) → j < length state.stubs.items
+      → HasPart code state.groups.items (stub_at state.stubs.items j)
+  pub two : (i j : ℕ) → i < j → j < length state.stubs.items
+      → AreTwo (stub_at state.stubs.items i) (stub_at state.stubs.items j)
+  pub total : sum_by stubs_in state.groups.items ≡ length state.stubs.items
+  pub few : length state.stubs.items ≤ sum_by level state.ways.items
+  pub way : (i : ℕ) → i < length code.branches.now
+      → IsWay code state.stubs.items (branch_at code.branches.now i) (way_at state.ways.items i)
+
+-- where each stub is
+pub record ArePlaces (code : Code) (state : State) (before places : List ℕ) : Type 0 where
+  pub len : length places ≡ length state.stubs.items
+  pub each : (j : ℕ) → j < length places
+      → at places j ≡ place_of code state.groups.items before (stub_at state.stubs.items j)
+
+-- The branch reaches what it goes by: its target, or the stub, if that has a place.
+abbrev pub IsServedBy : Code → List ℕ → List ℕ → Branch → Way → Type 0
+IsServedBy code before places branch Direct =
+    ReachesAt code before branch (target_place code before branch.target)
+IsServedBy code before places branch (Far s) =
+    (s < length places → ReachesAt code before branch (at places s))
+    ⊎ ReachesAt code before branch (target_place code before branch.target)
+IsServedBy code before places branch (Near s) =
+    (s < length places → ReachesAt code before branch (at places s))
+    ⊎ ReachesAt code before branch (target_place code before branch.target)
+
+abbrev pub IsOutOf : Code → List ℕ → List ℕ → Branch → Way → Type 0
+IsOutOf code before places branch Direct = ⊤
+IsOutOf code before places branch (Far s) =
+    (s < length places) × ¬ ReachesAt code before branch (at places s)
+IsOutOf code before places branch (Near s) =
+    (s < length places) × ¬ ReachesAt code before branch (at places s)
+
+pub record IsLostBy (code : Code) (before places : List ℕ) (branch : Branch) (way : Way) : Type 0 where
+  pub target : ¬ ReachesAt code before branch (target_place code before branch.target)
+  pub stub : IsOutOf code before places branch way
+
+-- a new stub would be near a branch, where it has to be
+abbrev pub IsNewNear : Code → State → ℕ → ℕ → Part → Type 0
+IsNewNear code state index boundary Middle = ⊤
+IsNewNear code state index boundary part =
+    IsNear code (branch_at code.branches.now index)
+    (record {
+      boundary = boundary;
+      part = part;
+      index = part_of part (group_at state.groups.items boundary);
+      target = (branch_at code.branches.now index).target;
+    })
+
+-- no stub of a branch's target is near it
+abbrev pub HasNoNear : Code → State → Branch → Type 0
+HasNoNear code state branch = (j : ℕ) → j < length state.stubs.items
+    → (stub_at state.stubs.items j).target ≡ branch.target
+    → ¬ IsNear code branch (stub_at state.stubs.items j)
+
+-- how many bytes of stubs there are at boundaries before an index
+unfoldable pub bytes_before : StubShape → List Group → ℕ → ℕ
+bytes_before shape groups zero = 0
+bytes_before shape groups (suc k) =
+    bytes_before shape groups k + size_of shape (group_at groups k)
+
+-- A new stub at neither boundary next to a branch would be in its reach.
+pub record IsUnreached (code : Code) (state : State) (branch : Branch) : Type 0 where
+  pub ahead : passed code.boundaries.now branch.offset < length code.boundaries.now
+      → ¬ Reaches branch.max_backward branch.max_forward branch.offset
+      (at code.boundaries.now (passed code.boundaries.now branch.offset)
+      + code.shape.len * (group_at state.groups.items (passed code.boundaries.now branch.offset)).front)
+  pub behind : (b : ℕ) → b + 1 ≡ passed code.boundaries.now branch.offset
+      → ¬ Reaches branch.max_backward branch.max_forward
+      (branch.offset + code.shape.len * ((group_at state.groups.items b).back + 1))
+      (at code.boundaries.now b)
+
+-- what a sweep leaves but for the stubs used last
+pub record SameStubs (old new : State) : Type 0 where
+  pub stubs : new.stubs ≡ old.stubs
+  pub groups : new.groups ≡ old.groups
+  pub ways : new.ways ≡ old.ways
+
+abbrev pub AreServed : Code → List ℕ → List ℕ → List Way → Type 0
+AreServed code before places ways = (i : ℕ) → i < length code.branches.now
+    → IsServedBy code before places (branch_at code.branches.now i) (way_at ways i)
+
+-- a branch reaches neither its target nor a boundary next to it, nor a stub of its target there
+pub record IsStuckIn (code : Code) (before places : List ℕ) (state : State) (i : ℕ) : Type 0 where
+  pub within : i < length code.branches.now
+  pub lost : IsLostBy code before places (branch_at code.branches.now i) (way_at state.ways.items i)
+  pub unreached : IsUnreached code state (branch_at code.branches.now i)
+  pub none : HasNoNear code state (branch_at code.branches.now i)
+
+abbrev pub Swept : Code → List ℕ → List ℕ → State → State → Sweep → Type 0
+Swept code before places old new Settled =
+    SameStubs old new × AreServed code before places new.ways.items
+Swept code before places old new Changed =
+    sum_by level old.ways.items < sum_by level new.ways.items
+Swept code before places old new (Stuck i) =
+    SameStubs old new × IsStuckIn code before places new i
+
+abbrev pub stub_of_way : Way → Option ℕ
+stub_of_way Direct = None
+stub_of_way (Far s) = Some s
+stub_of_way (Near s) = Some s
+
+-- none of a branch that reaches its target, and of the others the stub by which they go
+abbrev pub IsStubOf : Code → List ℕ → Branch → Way → Option ℕ → Type 0
+IsStubOf code before branch way stub =
+    ((stub ≡ None) × ReachesAt code before branch (target_place code before branch.target))
+    ⊎ ((stub ≡ stub_of_way way)
+    × ¬ ReachesAt code before branch (target_place code before branch.target))
+
+pub record AreStubsOf (code : Code) (before : List ℕ) (ways : List Way) (stubs : List (Option ℕ)) : Type 0 where
+  pub len : length stubs ≡ length code.branches.now
+  pub each : (i : ℕ) → i < length stubs
+      → IsStubOf code before (branch_at code.branches.now i) (way_at ways i)
+      (slice_index_or stubs i None)
+
+abbrev pub narrowed : Branch → ℕ → Branch
+narrowed branch margin =
+    record branch {
+      max_backward = branch.max_backward - margin;
+      max_forward = branch.max_forward - margin;
+    }
+
+-- what a sweep does at a branch
+abbrev pub Visited : Code → List ℕ → List ℕ → State → State → ℕ → Visit → Type 0
+Visited code before places old new i Served = SameStubs old new
+    × IsServedBy code before places (branch_at code.branches.now i) (way_at old.ways.items i)
+Visited code before places old new i visits.Near = SameStubs old new
+    × ((s : ℕ) × (way_at old.ways.items i ≡ Near s))
+Visited code before places old new i Raised =
+    sum_by level old.ways.items < sum_by level new.ways.items
+Visited code before places old new i Lost =
+    (new ≡ old) × IsStuckIn code before places old i

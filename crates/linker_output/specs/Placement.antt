@@ -1,0 +1,206 @@
+-- Places of stubs between sections.
+use Rattle.std.specs.Prelude.{◌≡◌, ◌≢◌, ◌≤◌, ◌<◌, ◌+◌, ◌-◌, ◌*◌, ◌%◌, ◌^◌, ◌⊎◌, ℕ, ⊤, List, length, nat_le}
+use Rattle.std.specs.Prelude.{Option, Some, None, slice_index_or}
+use Rattle.std.specs.List.{prefix_len, sum_by}
+use Rattle.linker_output.specs.declared.placement.Branch.{Branch}
+use Rattle.linker_output.specs.declared.placement.Code.{Code}
+use Rattle.linker_output.specs.declared.placement.Group.{Group}
+use Rattle.linker_output.specs.declared.placement.Layout.{Layout}
+use Rattle.linker_output.specs.declared.placement.Part.{Part}
+use Rattle.linker_output.specs.declared.placement.Part.TheVariants.{Front, Middle, Back}
+use Rattle.linker_output.specs.declared.placement.PlaceError.{PlaceError}
+use Rattle.linker_output.specs.declared.placement.PlaceError.TheVariants as errors
+use Rattle.linker_output.specs.declared.placement.Placement.{Placement}
+use Rattle.linker_output.specs.declared.placement.StubAt.{StubAt}
+use Rattle.linker_output.specs.declared.placement.StubShape.{StubShape}
+
+-- What lies at most so far below, and less than so far above, is in reach.
+pub record Reaches (max_backward max_forward from to : ℕ) : Type 0 where
+  pub forward : to < from + max_forward
+  pub backward : from ≤ to + max_backward
+
+-- ---- the elements of lists
+
+abbrev pub at : List ℕ → ℕ → ℕ
+at xs k = slice_index_or xs k 0
+
+abbrev pub branch_at : List Branch → ℕ → Branch
+branch_at xs k =
+    slice_index_or xs k (record { offset = 0; target = 0; max_backward = 0; max_forward = 0 })
+
+abbrev pub stub_at : List StubAt → ℕ → StubAt
+stub_at xs k = slice_index_or xs k (record { boundary = 0; part = Front; index = 0; target = 0 })
+
+abbrev pub group_at : List Group → ℕ → Group
+group_at xs k = slice_index_or xs k (record { front = 0; middle = 0; back = 0 })
+
+-- ---- the layout
+
+abbrev pub IsAscending : List ℕ → Type 0
+IsAscending xs = (i j : ℕ) → i ≤ j → j < length xs → at xs i ≤ at xs j
+
+-- how many boundaries, which ascend, are at or below an offset
+abbrev pub passed : List ℕ → ℕ → ℕ
+passed boundaries offset = prefix_len (λ b. nat_le b offset) boundaries
+
+-- how many stubs are at a boundary
+abbrev pub stubs_in : Group → ℕ
+stubs_in group = group.front + group.middle + group.back
+
+-- the least multiple of a unit that isn't below
+abbrev pub padded : ℕ → ℕ → ℕ
+padded unit n = n + (unit - n % unit) % unit
+
+-- how many bytes the stubs at a boundary take
+abbrev pub size_of : StubShape → Group → ℕ
+size_of shape group = padded shape.unit (shape.len * stubs_in group)
+
+-- how many bytes of stubs there are before those at each boundary, and at the end how many in all
+pub record IsLaidOut (shape : StubShape) (groups : List Group) (before : List ℕ) : Type 0 where
+  pub len : length before ≡ length groups + 1
+  pub first : at before 0 ≡ 0
+  pub next : (k : ℕ) → k < length groups
+      → at before (k + 1) ≡ at before k + size_of shape (group_at groups k)
+
+-- where what was at an offset is: the stubs at boundaries at or below it are before it
+abbrev pub moved : List ℕ → List ℕ → ℕ → ℕ
+moved boundaries before offset = offset + at before (passed boundaries offset)
+
+-- where the stubs at a boundary begin and end
+abbrev pub start_of : List ℕ → List ℕ → ℕ → ℕ
+start_of boundaries before k = at boundaries k + at before k
+
+abbrev pub end_of : List ℕ → List ℕ → ℕ → ℕ
+end_of boundaries before k = at boundaries k + at before (k + 1)
+
+abbrev pub place_in : Part → ℕ → ℕ → ℕ → Group → ℕ → ℕ
+place_in Front start end len group index = start + len * index
+place_in Middle start end len group index = start + len * (group.front + index)
+place_in Back start end len group index = end - len * (index + 1)
+
+-- where a stub is
+abbrev pub place_of : Code → List Group → List ℕ → StubAt → ℕ
+place_of code groups before stub =
+    place_in stub.part (start_of code.boundaries.now before stub.boundary)
+    (end_of code.boundaries.now before stub.boundary) code.shape.len
+    (group_at groups stub.boundary) stub.index
+
+-- ---- stubs
+
+abbrev pub part_of : Part → Group → ℕ
+part_of Front group = group.front
+part_of Middle group = group.middle
+part_of Back group = group.back
+
+-- the stub is one of those at its boundary
+pub record HasPart (code : Code) (groups : List Group) (stub : StubAt) : Type 0 where
+  pub boundary : stub.boundary < length code.boundaries.now
+  pub index : stub.index < part_of stub.part (group_at groups stub.boundary)
+  pub target : stub.target < length code.targets.now
+
+-- two stubs aren't the same one
+abbrev pub AreTwo : StubAt → StubAt → Type 0
+AreTwo s t = s.boundary ≡ t.boundary → s.part ≡ t.part → s.index ≢ t.index
+
+-- ---- what is in reach
+
+-- a branch reaches an address by a layout
+abbrev pub ReachesAt : Code → List ℕ → Branch → ℕ → Type 0
+ReachesAt code before branch place =
+    Reaches branch.max_backward branch.max_forward
+    (moved code.boundaries.now before branch.offset) place
+
+abbrev pub target_place : Code → List ℕ → ℕ → ℕ
+target_place code before t = moved code.boundaries.now before (at code.targets.now t)
+
+-- ---- the layout of stubs
+
+-- Each stub is at a boundary, and they are all of those that the layout has room for. None overlap.
+pub record IsLayout (code : Code) (layout : Layout) : Type 0 where
+  pub boundaries : length layout.groups.items ≡ length code.boundaries.now
+  pub laid_out : IsLaidOut code.shape layout.groups.items layout.before.items
+  pub total : sum_by stubs_in layout.groups.items ≡ length layout.stubs.items
+  pub stubs : (j : ℕ) → j < length layout.stubs.items
+      → HasPart code layout.groups.items (stub_at layout.stubs.items j)
+  pub two : (i j : ℕ) → i < j → j < length layout.stubs.items
+      → AreTwo (stub_at layout.stubs.items i) (stub_at layout.stubs.items j)
+  pub one_each : length layout.places.items ≡ length layout.stubs.items
+  pub places : (j : ℕ) → j < length layout.stubs.items
+      → at layout.places.items j
+      ≡ place_of code layout.groups.items layout.before.items (stub_at layout.stubs.items j)
+  pub inside : (j : ℕ) → j < length layout.stubs.items
+      → (start_of code.boundaries.now layout.before.items (stub_at layout.stubs.items j).boundary
+      ≤ at layout.places.items j)
+      × (at layout.places.items j + code.shape.len
+      ≤ end_of code.boundaries.now layout.before.items (stub_at layout.stubs.items j).boundary)
+  pub apart : (i j : ℕ) → i < j → j < length layout.stubs.items
+      → (at layout.places.items i + code.shape.len ≤ at layout.places.items j)
+      ⊎ (at layout.places.items j + code.shape.len ≤ at layout.places.items i)
+
+-- a branch reaches its target, or the stub of it that it goes by
+abbrev pub Goes : Code → Layout → Branch → Option ℕ → Type 0
+Goes code layout branch None =
+    ReachesAt code layout.before.items branch
+    (target_place code layout.before.items branch.target)
+Goes code layout branch (Some s) = (s < length layout.stubs.items)
+    × ((stub_at layout.stubs.items s).target ≡ branch.target)
+    × ReachesAt code layout.before.items branch (at layout.places.items s)
+
+-- a stub reaches its target
+abbrev pub StubReaches : Code → Layout → ℕ → Type 0
+StubReaches code layout j =
+    Reaches code.shape.max_backward code.shape.max_forward (at layout.places.items j)
+    (target_place code layout.before.items (stub_at layout.stubs.items j).target)
+
+pub record IsPlaced (code : Code) (placement : Placement) : Type 0 where
+  pub layout : IsLayout code placement.layout
+  pub one_each : length placement.stubs.items ≡ length code.branches.now
+  pub goes : (i : ℕ) → i < length code.branches.now
+      → Goes code placement.layout (branch_at code.branches.now i)
+      (slice_index_or placement.stubs.items i None)
+  pub stubs_reach : (j : ℕ) → j < length placement.layout.stubs.items
+      → StubReaches code placement.layout j
+
+-- ---- errors
+
+-- In the layout a branch reaches neither its target nor a stub of it. Nor is a boundary in reach: of
+-- those ahead the place behind the first stubs, of those behind the place before the last ones.
+pub record IsStuck (code : Code) (layout : Layout) (branch : Branch) : Type 0 where
+  pub target : ¬ ReachesAt code layout.before.items branch
+      (target_place code layout.before.items branch.target)
+  pub stubs : (j : ℕ) → j < length layout.stubs.items
+      → (stub_at layout.stubs.items j).target ≡ branch.target
+      → ¬ ReachesAt code layout.before.items branch (at layout.places.items j)
+  pub ahead : (k : ℕ) → passed code.boundaries.now branch.offset ≤ k
+      → k < length code.boundaries.now
+      → ¬ ReachesAt code layout.before.items branch
+      (start_of code.boundaries.now layout.before.items k
+      + code.shape.len * (group_at layout.groups.items k).front)
+  pub behind : (k : ℕ) → k < passed code.boundaries.now branch.offset
+      → ¬ Reaches branch.max_backward branch.max_forward
+      (moved code.boundaries.now layout.before.items branch.offset
+      + code.shape.len * ((group_at layout.groups.items k).back + 1))
+      (end_of code.boundaries.now layout.before.items k)
+
+-- an offset, or all that the stubs of two for each branch take, isn't below 2^62
+abbrev pub IsTooLong : Code → Type 0
+IsTooLong code = ((i : ℕ) × (2 ^ 62 ≤ (branch_at code.branches.now i).offset))
+    ⊎ ((t : ℕ) × (2 ^ 62 ≤ at code.targets.now t))
+    ⊎ ((k : ℕ) × (2 ^ 62 ≤ at code.boundaries.now k))
+    ⊎ (2 ^ 62 ≤ code.shape.unit * length code.boundaries.now
+    + code.shape.len * (2 * length code.branches.now + 1))
+
+-- why no stubs are placed
+abbrev pub IsPlaceCause : Code → PlaceError → Type 0
+IsPlaceCause code errors.OutOfMemory = ⊤
+IsPlaceCause code errors.NoLength = (code.shape.len ≡ 0) ⊎ (code.shape.unit ≡ 0)
+IsPlaceCause code (errors.NotAscending k) =
+    (k + 1 < length code.boundaries.now)
+    × (at code.boundaries.now (k + 1) < at code.boundaries.now k)
+IsPlaceCause code (errors.NoTarget i) = (i < length code.branches.now)
+    × (length code.targets.now ≤ (branch_at code.branches.now i).target)
+IsPlaceCause code errors.TooLong = IsTooLong code
+IsPlaceCause code (errors.NoBoundary i layout) = (i < length code.branches.now)
+    × IsLayout code layout × IsStuck code layout (branch_at code.branches.now i)
+IsPlaceCause code (errors.StubTooFar j layout) = (j < length layout.stubs.items)
+    × IsLayout code layout × ¬ StubReaches code layout j
