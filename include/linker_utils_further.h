@@ -516,9 +516,9 @@ struct linker_utils_rela {
  *
  * RISC-V: R_RISCV_CALL and R_RISCV_CALL_PLT make a site where R_RISCV_RELAX is the next relocation,
  * at the same offset, and the target is in the run. The bytes have to be an auipc and a jalr of one
- * register, which isn't x0. It can become c.j where the jalr links x0 and `may_compress` is set, and
- * jal. R_RISCV_ALIGN makes an alignment without a limit to the next power of two above its addend,
- * which is how many bytes of nops there are, unless it is 0.
+ * register, which isn't x0. It can become c.j where the jalr links x0 and `may_compress` is set,
+ * and jal. R_RISCV_ALIGN makes an alignment without a limit to the next power of two above its
+ * addend, which is how many bytes of nops there are, unless it is 0.
  *
  * An alignment may have fewer nops than it may need at an even address, as the 12 bytes for
  * `.balign 16` in code without the C extension. Then no call before it becomes c.j, back to the
@@ -533,19 +533,19 @@ struct linker_utils_rela {
  * R_LARCH_ALIGN makes an alignment, unless there are no nops. Without a symbol its addend is how
  * many bytes of nops there are, and they align to the next power of two above it. With a symbol the
  * lowest 8 bits of the addend are the exponent of two of what they align to, 4 bytes more than the
- * nops. The others are its limit: how many bytes of nops may stay. Without a symbol, and where these
- * are 0 or no fewer than the nops, the alignment has no limit.
+ * nops. The others are its limit: how many bytes of nops may stay. Without a symbol, and where
+ * these are 0 or no fewer than the nops, the alignment has no limit.
  *
  * `items_len` and `makers_len` are `relocations_len`, since a relocation makes at most one item.
  * `len` is how many items there are; the elements from there on are unchanged.
  * LINKER_UTILS_UNKNOWN_ARCHITECTURE for other machines. LINKER_UTILS_DIFFERENT_LENGTHS.
  * LINKER_UTILS_ENDS_TOO_HIGH where `base` and `section_len` add up to 2^64 or more.
  * LINKER_UTILS_MALFORMED_RELOCATION, and `faulty` is the first malformed one. It lies behind the
- * section's end, or is a call's (of LoongArch's an R_LARCH_CALL36) with less than eight bytes there.
- * Or it is an R_RISCV_ALIGN whose addend isn't a multiple of 2 from 0 up, below 2^32, of bytes in
- * the section. Or it is an R_LARCH_ALIGN whose addend is below 0 or whose exponent is below 2 or
- * above 32, or whose nops aren't a multiple of 4, reach past the section's end or have 2^32 bytes or
- * more. */
+ * section's end, or is a call's (of LoongArch's an R_LARCH_CALL36) with less than eight bytes
+ * there. Or it is an R_RISCV_ALIGN whose addend isn't a multiple of 2 from 0 up, below 2^32, of
+ * bytes in the section. Or it is an R_LARCH_ALIGN whose addend is below 0 or whose exponent is
+ * below 2 or above 32. It also is one whose nops aren't a multiple of 4, reach past the section's
+ * end or have 2^32 bytes or more. */
 static inline uint32_t linker_utils_section_items(
     uint16_t machine, const uint8_t *section, size_t section_len, uint64_t base,
     const struct linker_utils_rela *relocations, size_t relocations_len,
@@ -709,6 +709,17 @@ struct linker_utils_recognised {
 /* How many rewrites a relocation may have at most, NO_OP among them. */
 #define LINKER_UTILS_CANDIDATES 6
 
+/* The window that `linker_utils_recognise` wants in bytes of an object, at most 64, around the
+ * relocation at an offset of them, into `window`. It is the least one with the bytes of each choice
+ * of its table that is meant for what is there. They are those that the rewrite writes and deletes,
+ * and the field of the relocation after it. A choice whose bytes aren't all given isn't counted:
+ * give 16 before the offset and 48 from there on, or those that there are. It is empty where no
+ * choice has its bytes there. LINKER_UTILS_UNKNOWN_ARCHITECTURE. LINKER_UTILS_WINDOW_TOO_LONG. */
+static inline uint32_t linker_utils_recognise_window(uint16_t machine, uint32_t r_type,
+                                                     const uint8_t *original, size_t original_len,
+                                                     uint64_t offset,
+                                                     struct linker_utils_window_bounds *window);
+
 /* Writes which rewrites, and relocations after them, a linker may have made at a relocation. They
  * are those after which the original bytes differ from the linked ones only in the field of the
  * relocation after it and in `others`. `count` is how many there are; the elements of `found` from
@@ -717,8 +728,7 @@ struct linker_utils_recognised {
  *
  * - `offset` is that of the relocation in the original bytes. Both windows may begin before it, at
  *   the same place. The original one has at most 64 bytes. After a rewrite that deletes bytes the
- *   linked one has fewer. They want the bytes of each rewrite (`linker_utils_rewrite_window`),
- *   those that are deleted after it, and the field of the relocation after it. In a wider window
+ *   linked one has fewer. `linker_utils_recognise_window` is the window to give. In a wider one
  *   other bytes differ, and nothing is found unless `others` names them.
  * - `others` are bits that other relocations write, as `linker_utils_field_bits` returns them,
  *   among them those of a relocation that the rewrite skips. Of an instruction that another

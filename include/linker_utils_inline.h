@@ -710,6 +710,19 @@ static inline bool linker_utils_same_but_for(uint16_t machine, uint32_t r_type, 
                                              a_len, LINKER_UTILS_SLICE(const uint8_t, b), b_len);
 }
 
+uint32_t linker_utils_recognise_window_nonnull(uint16_t machine, uint32_t r_type,
+                                               const uint8_t *original, size_t original_len,
+                                               uint64_t offset,
+                                               struct linker_utils_window_bounds *window);
+static inline uint32_t linker_utils_recognise_window(uint16_t machine, uint32_t r_type,
+                                                     const uint8_t *original, size_t original_len,
+                                                     uint64_t offset,
+                                                     struct linker_utils_window_bounds *window) {
+    return linker_utils_recognise_window_nonnull(machine, r_type,
+                                                 LINKER_UTILS_SLICE(const uint8_t, original),
+                                                 original_len, offset, window);
+}
+
 uint32_t linker_utils_recognise_nonnull(
     uint16_t machine, uint32_t r_type, const uint8_t *original, size_t original_len,
     uint64_t offset, const struct linker_utils_window_bits *others, size_t others_len,

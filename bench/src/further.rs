@@ -441,6 +441,18 @@ fn reading(report: &mut Report) {
             },
         );
         assert!(count > 0, "{what}");
+        let mut window = RewriteWindow::default();
+        let what = format!("`linker_utils_recognise_window`, {name}");
+        line(report, &what, &compared, |(site, _, original, _, _)| unsafe {
+            linker_utils_recognise_window_nonnull(
+                machine,
+                site.r_type,
+                original.as_ptr(),
+                original.len(),
+                site.offset % STRIDE as u64,
+                &mut window,
+            )
+        });
         let what = format!("`linker_utils_recognise_chosen`, {name}");
         line(
             report,

@@ -77,7 +77,9 @@ pub mod rewriting {
     #![doc = include_str!("../doc/rewriting.md")]
     pub use crate::linker_rewriting::decisions::{Decision, RewritingError};
     pub use crate::linker_rewriting::facts::{OutputFacts, SymbolFacts};
-    pub use crate::linker_rewriting::groups::{Group, KeptGroups, Scope, scope_in, scope_of};
+    pub use crate::linker_rewriting::groups::{
+        Group, KeptGroups, Scope, has_rewrites, scope_in, scope_of,
+    };
     pub use crate::linker_rewriting::phases::Phase;
     pub use crate::linker_rewriting::sections::{rewrite_placed_section, rewrite_section};
     pub use crate::linker_rewriting::surveys::{survey, survey_placed_section};

@@ -3,10 +3,11 @@
 
 use linker_utils::elf::Architecture::{self, AArch64, LoongArch64, Ppc64, RiscV, X86_64};
 use linker_utils::rewriting::{
-    Decision, Group, KeptGroups, OutputFacts, Phase, RewritingError, Scope, SymbolFacts,
-    rewrite_placed_section, rewrite_section, scope_of, survey, survey_placed_section,
+    has_rewrites, rewrite_placed_section, rewrite_section, scope_in, scope_of, survey,
+    survey_placed_section, Decision, Group, KeptGroups, OutputFacts, Phase, RewritingError, Scope,
+    SymbolFacts,
 };
-use linker_utils::section::{Addresses, Rela, Symbol, relocate_section, relocation_at};
+use linker_utils::section::{relocate_section, relocation_at, Addresses, Rela, Symbol};
 
 const EXECUTABLE: OutputFacts = OutputFacts {
     is_executable: true,
@@ -555,7 +556,8 @@ fn marked_loads_of_loongarch_are_rewritten() {
     // one that isn't whole keeps all of its symbol
     let mut two = section(1);
     two.bytes.extend(section(1).bytes);
-    two.relocations.extend([rela(8, 75, 1, 0), rela(12, 76, 1, 0)]);
+    two.relocations
+        .extend([rela(8, 75, 1, 0), rela(12, 76, 1, 0)]);
     expect_unchanged(LoongArch64, &two);
 }
 
@@ -680,7 +682,13 @@ fn loads_of_aarch64_become_addresses() {
     assert_eq!(loads[0].0.bytes, after.bytes);
     assert_eq!(loads[0].0.relocations, after.relocations);
     // the words of ld.lld 19 at the same addresses: nop; adr x0, x; nop; adr x1, x
-    let near = placed(AArch64, Phase::Distances, &addresses, &values, &[&loads[0].0]);
+    let near = placed(
+        AArch64,
+        Phase::Distances,
+        &addresses,
+        &values,
+        &[&loads[0].0],
+    );
     assert_eq!(
         linked(AArch64, &addresses, &values, &near[0].0, &near[0].1),
         [0xd503_201f, 0x1010_00c0, 0xd503_201f, 0x1010_0081]
@@ -787,7 +795,13 @@ fn short_thread_offsets_of_riscv_lose_their_high_part() {
     // and an instruction that no rewrite is meant for, in another section of the object
     let mut other = thread_offset(1);
     other.bytes[..4].copy_from_slice(&0x0000_0517_u32.to_le_bytes());
-    let made = placed(RiscV, phase, &addresses, &near, &[&thread_offset(1), &other]);
+    let made = placed(
+        RiscV,
+        phase,
+        &addresses,
+        &near,
+        &[&thread_offset(1), &other],
+    );
     assert!(made.iter().all(|it| it.1.is_empty()));
 }
 
@@ -807,7 +821,13 @@ fn short_thread_offsets_of_loongarch_lose_their_high_part() {
         ..Addresses::default()
     };
     let values = values(0x1008, 0);
-    let made = placed(LoongArch64, Phase::ThreadOffsets, &addresses, &values, &[&section]);
+    let made = placed(
+        LoongArch64,
+        Phase::ThreadOffsets,
+        &addresses,
+        &values,
+        &[&section],
+    );
     assert_eq!(made[0].1, [(0, 4), (4, 4)]);
     // ld.w a1, tp, 8
     assert_eq!(
@@ -925,4 +945,20 @@ fn short_distances_of_ppc64_lose_their_high_part() {
     other.relocations[1].symbol = 3;
     let made = placed(Ppc64, phase, &addresses, &values, &[&section(1), &other]);
     assert_ne!(made[0].0.bytes, section(1).bytes);
+}
+
+#[test]
+fn phases_without_rewrites_list_no_relocation() {
+    let phases = [
+        Phase::Early,
+        Phase::ThreadOffsets,
+        Phase::GotLoads,
+        Phase::Distances,
+    ];
+    for architecture in [AArch64, RiscV, LoongArch64, Ppc64, X86_64] {
+        for phase in phases {
+            let is_listed = |code| scope_in(architecture, phase, code) != Scope::Unlisted;
+            assert_eq!(has_rewrites(architecture, phase), (0..2048).any(is_listed));
+        }
+    }
 }

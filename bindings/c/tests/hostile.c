@@ -1816,6 +1816,20 @@ static void expect_recognised(const struct linker_utils_recognised *found) {
     if (found->value.end_bit) expect_field_value(&found->value);
 }
 
+static void call_recognise_window(void) {
+    uint16_t machine = any_machine();
+    uint32_t r_type = any_relocation_type();
+    struct buffer *original = bytes(READ, once_in(16) ? 60 + below(10) : any_len(24));
+    uint64_t offset = any_offset(original->len);
+    struct linker_utils_window_bounds *window = output(sizeof *window);
+    uint32_t status = CALL(recognise_window, machine, r_type, original->given, original->len, offset,
+                           window);
+    expect(status != LINKER_UTILS_OK || window->len == 0 ||
+               (window->back <= offset && offset - window->back + window->len <= original->len),
+           "the window isn't in the bytes");
+    finish_with(status, 0 OR(UNKNOWN_ARCHITECTURE) OR(WINDOW_TOO_LONG));
+}
+
 /* Windows that are the same but for a byte or a few that are deleted, or any two. */
 static void call_recognised(bool is_chosen) {
     uint16_t machine = any_machine();
@@ -1883,7 +1897,7 @@ static void (*const all[])(void) = {
     call_deltas_heads, call_pack, call_shrink_calls, call_standard_shapes, call_relax, call_run_deltas,
     call_section_items, call_has_its_instructions, call_pack_run,
     call_operand, call_read_value, call_solve, call_join, call_field_bits, call_same_but_for,
-    call_recognise, call_recognise_chosen,
+    call_recognise_window, call_recognise, call_recognise_chosen,
 };
 
 int main(int count, char **arguments) {

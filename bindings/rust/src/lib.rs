@@ -1850,6 +1850,27 @@ fn recognised(architecture: Architecture, found: &raw::Recognised) -> Recognised
     }
 }
 
+/// The window that `recognise` wants, in bytes of an object around the relocation at an offset of them.
+pub fn recognise_window(
+    architecture: Architecture,
+    r_type: u32,
+    original: &[u8],
+    offset: u64,
+) -> Result<RewriteWindow, Status> {
+    let mut window = RewriteWindow::default();
+    let status = unsafe {
+        raw::linker_utils_recognise_window_nonnull(
+            architecture.machine(),
+            r_type,
+            original.as_ptr(),
+            original.len(),
+            offset,
+            &mut window,
+        )
+    };
+    result_of(status, window)
+}
+
 /// Which rewrites, and relocations after them, a linker may have made at a relocation.
 pub fn recognise(
     architecture: Architecture,

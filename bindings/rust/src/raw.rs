@@ -711,6 +711,14 @@ extern "C" {
         b: *const u8,
         b_len: usize,
     ) -> bool;
+    pub fn linker_utils_recognise_window_nonnull(
+        machine: u16,
+        r_type: u32,
+        original: *const u8,
+        original_len: usize,
+        offset: u64,
+        window: *mut RewriteWindow,
+    ) -> u32;
     pub fn linker_utils_recognise_nonnull(
         machine: u16,
         r_type: u32,

@@ -14,10 +14,10 @@ ghost use Rattle.linker_output.specs.Placement.{group_at, branch_at, stub_at, at
 ghost use Rattle.linker_output.specs.Inner.Placement.{IsCode, IsState, IsNear};
 ghost use Rattle.linker_output.specs.Placement.{HasPart, part_of, ReachesAt, IsLayout, IsPlaced, IsPlaceCause};
 ghost use Rattle.linker_output.specs.Inner.Placement.{ArePlaces, IsLostBy, IsServedBy, level, way_at};
-ghost use Rattle.linker_output.specs.Placement.{moved};
+ghost use Rattle.linker_output.specs.Placement.{moved, start_of};
 ghost use Rattle.linker_output.specs.Inner.Placement.{level_of, IsNewNear, IsWay, HasNoNear};
 ghost use Rattle.linker_output.specs.Inner.Placement.{with_one, new_way, IsUnreached, IsStuckIn};
-ghost use Rattle.linker_output.specs.Inner.Placement.{AreServed, SameStubs, Swept, stub_of_way, AreStubsOf};
+ghost use Rattle.linker_output.specs.Inner.Placement.{AreServed, SameStubs, Swept, Visited, narrowed, stub_of_way, AreStubsOf};
 ghost use Rattle.linker_output.specs.Placement.{StubReaches};
 ghost use Rattle.linker_output.specs.declared.placement.Way.TheVariants.{Near, Far};
 
@@ -138,6 +138,20 @@ impl Group {
     }
 }
 
+impl Branch {
+    /// The same with less reach.
+    #[inline(always)]
+    fn narrowed(self, margin: u64) -> Branch
+        ensures { result ≡ narrowed self margin }
+    {
+        Branch {
+            max_backward: self.max_backward.saturating_sub(margin),
+            max_forward: self.max_forward.saturating_sub(margin),
+            ..self
+        }
+    }
+}
+
 impl Part {
     /// By what a branch goes for which there is a new stub of the part.
     #[inline(always)]
@@ -217,6 +231,13 @@ struct State {
     last: Vec<usize>,
 }
 
+/// What offsets and the bytes of stubs are below.
+const LIMIT: u64 = 1 << 62;
+
+/// How many passes there are at most before branches go by stubs that they may not need. Code has a few:
+/// each adds the stubs that are needed for those of the pass before.
+const MOST_PASSES: u32 = 32;
+
 /// Whether a target is in reach.
 #[inline(always)]
 fn reaches(max_backward: u64, max_forward: u64, from: u64, to: u64) -> bool
@@ -292,6 +313,17 @@ impl Code<'_> {
         ensures { result ≡ moved self.now.boundaries.now before.now offset }
     {
         offset + before[passed(self.boundaries, offset)]
+    }
+
+    /// Where the stubs at a boundary begin.
+    fn start_of(&self, before: &[u64], boundary: usize) -> u64
+        requires code { IsCode self.now }
+        requires one_more { length before.now ≡ length self.now.boundaries.now + 1 }
+        requires fits { (k : ℕ) → at before.now k < 2 ^ 62 }
+        requires within { boundary < length self.now.boundaries.now }
+        ensures { result ≡ start_of self.now.boundaries.now before.now boundary }
+    {
+        self.boundaries[boundary] + before[boundary]
     }
 
     /// Where a stub is.
@@ -453,6 +485,19 @@ impl State {
     }
 }
 
+/// What became of a branch in a sweep.
+#[derive(Debug, Clone, Copy, PartialEq, Eq)]
+enum Visit {
+    /// It reaches what it goes by.
+    Served,
+    /// It goes by a stub at the boundary next to it, which stays in reach.
+    Near,
+    /// It goes by another stub.
+    Raised,
+    /// It is lost, and no boundary next to it is in reach.
+    Lost,
+}
+
 /// What a sweep over the branches did.
 #[derive(Debug, Clone, Copy, PartialEq, Eq)]
 enum Sweep {
@@ -482,13 +527,19 @@ impl State {
         ensures { IfSome result
             (λ s. IsWay code.now self.now.stubs.items branch.now (Far s)) }
     {
-        let stub = self.last[branch.target];
-        if stub < places.len()
-            && stub < self.stubs.len()
-            && self.stubs[stub].target == branch.target
-            && code.reaches_at(before, branch, places[stub])
-        {
-            Some(stub)
+        let index = self.last[branch.target];
+        if index >= self.stubs.len() {
+            return None;
+        }
+        let stub = self.stubs[index];
+        // one that this sweep added has no place yet
+        let place = if index < places.len() {
+            places[index]
+        } else {
+            code.start_of(before, stub.boundary)
+        };
+        if stub.target == branch.target && code.reaches_at(before, branch, place) {
+            Some(index)
         } else {
             None
         }
@@ -552,6 +603,26 @@ impl State {
         Ok(false)
     }
 
+    /// Has a branch go by a stub at a boundary next to it, the last one of its target or a new one.
+    fn go_near(&mut self, code: &Code<'_>, index: usize) -> Result<bool, OutOfMemory>
+        requires code { IsCode code.now }
+        requires state { IsState code.now self.old }
+        requires within { index < length code.now.branches.now }
+        requires higher { level (way_at self.old.ways.items index) < 2 }
+        ensures state { IfOk result (λ _. IsState code.now self.new) }
+        ensures higher { IfOk result (λ went. went ≡ true
+            → sum_by level self.old.ways.items < sum_by level self.new.ways.items) }
+        ensures same { IfOk result (λ went. went ≡ false → self.new ≡ self.old) }
+        ensures unreached { IfOk result (λ went. went ≡ false
+            → IsUnreached code.now self.old (branch_at code.now.branches.now index)) }
+    {
+        if let Some(stub) = self.recent(code, &code.branches[index]) {
+            self.take(code, index, Way::Near(stub));
+            return Ok(true);
+        }
+        self.add_near(code, index)
+    }
+
     /// Has a branch that is lost go by another stub, if one can be in its reach.
     fn raise(
         &mut self,
@@ -586,11 +657,7 @@ impl State {
                 return Ok(true);
             }
         }
-        if let Some(stub) = self.recent(code, &branch) {
-            self.take(code, index, Way::Near(stub));
-            return Ok(true);
-        }
-        if self.add_near(code, index)? {
+        if self.go_near(code, index)? {
             return Ok(true);
         }
         if let Some(stub) = self.near_stub(code, &branch) {
@@ -636,12 +703,56 @@ impl State {
         }
     }
 
-    /// Has the branches that are lost by a layout go by other stubs.
+    /// Has a branch that is lost by a layout go by another stub, and also one that would be lost if it
+    /// reached `margin` bytes less, where a boundary next to it is in reach.
+    fn visit(
+        &mut self,
+        code: &Code<'_>,
+        before: &[u64],
+        places: &[u64],
+        margin: u64,
+        index: usize,
+    ) -> Result<Visit, OutOfMemory>
+        requires code { IsCode code.now }
+        requires state { IsState code.now self.old }
+        requires within { index < length code.now.branches.now }
+        requires one_more { length before.now ≡ length code.now.boundaries.now + 1 }
+        requires fits { (k : ℕ) → at before.now k < 2 ^ 62 }
+        ensures state { IfOk result (λ _. IsState code.now self.new) }
+        ensures visited { IfOk result
+            (λ visit. Visited code.now before.now places.now self.old self.new index visit) }
+    {
+        let branch = code.branches[index];
+        let way = self.ways[index];
+        let is_lost = code.is_lost(before, places, &branch, way);
+        if let Way::Near(_) = way {
+            self.note(code, index);
+            return Ok(Visit::Near);
+        }
+        if is_lost {
+            if self.raise(code, before, places, index)? {
+                return Ok(Visit::Raised);
+            }
+            return Ok(Visit::Lost);
+        }
+        if margin > 0
+            && code.is_lost(before, places, &branch.narrowed(margin), way)
+            && self.go_near(code, index)?
+        {
+            return Ok(Visit::Raised);
+        }
+        self.note(code, index);
+        Ok(Visit::Served)
+    }
+
+    /// Has the branches that are lost by a layout go by other stubs, and those that would be if they
+    /// reached `margin` bytes less.
     fn sweep(
         &mut self,
         code: &Code<'_>,
         before: &[u64],
         places: &[u64],
+        margin: u64,
     ) -> Result<Sweep, OutOfMemory>
         requires code { IsCode code.now }
         requires state { IsState code.now self.old }
@@ -654,15 +765,15 @@ impl State {
     {
         let mut changed = false;
         for index in 0..code.branches.len() {
-            let branch = code.branches[index];
-            if !code.is_lost(before, places, &branch, self.ways[index]) {
-                self.note(code, index);
-            } else if let Way::Near(_) = self.ways[index] {
-                // it stays in reach
-            } else if self.raise(code, before, places, index)? {
-                changed = true;
-            } else if !changed {
-                return Ok(Sweep::Stuck(index));
+            match self.visit(code, before, places, margin, index)? {
+                Visit::Served => {}
+                Visit::Near => {}
+                Visit::Raised => changed = true,
+                Visit::Lost => {
+                    if !changed {
+                        return Ok(Sweep::Stuck(index));
+                    }
+                }
             }
         }
         if changed {
@@ -707,8 +818,9 @@ impl State {
         Ok(())
     }
 
-    /// Adds stubs until each branch reaches what it goes by, and returns none, or the index of a branch
-    /// that reaches nothing and no boundary.
+    /// Adds stubs until each branch reaches what it goes by. After `MOST_PASSES` passes all go by stubs next
+    /// to them that have such a boundary in reach, so that there are few further passes. It returns
+    /// none, or the index of a branch that reaches nothing and no boundary.
     fn settle(
         &mut self,
         code: &Code<'_>,
@@ -728,10 +840,17 @@ impl State {
             MatchOption stuck (AreServed code.now before.new places.new.items self.new.ways.items)
             (λ i. IsStuckIn code.now before.new places.new.items self.new i)) }
     {
+        let mut passes = 0;
         loop {
             lay_out(&code.shape, &self.groups, before);
             self.find_places(code, before, places)?;
-            match self.sweep(code, before, places)? {
+            let margin = if passes < MOST_PASSES {
+                passes += 1;
+                0
+            } else {
+                LIMIT
+            };
+            match self.sweep(code, before, places, margin)? {
                 Sweep::Settled => return Ok(None),
                 Sweep::Stuck(index) => return Ok(Some(index)),
                 Sweep::Changed => {}
@@ -766,9 +885,6 @@ fn first_descent(boundaries: &[u64]) -> Option<usize>
     }
     None
 }
-
-/// What offsets and the bytes of stubs are below.
-const LIMIT: u64 = 1 << 62;
 
 impl Code<'_> {
     /// Whether the offsets of branches are below 2^62.

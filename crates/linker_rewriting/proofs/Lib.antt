@@ -4,6 +4,7 @@ pub mod Listing
 pub mod Making
 pub mod Noted
 pub mod Order
+pub mod PhaseTables
 pub mod Surveying
 pub mod Unique
 pub mod Whole

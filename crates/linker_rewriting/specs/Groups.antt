@@ -1,7 +1,7 @@
 -- Which relocations a rewrite is made at, in which phase, and which are a group, whose instructions
 -- are rewritten all or not at all (ELF Handling For Thread-Local Storage; the psABIs' sections on
 -- relaxation, "TOC Optimizations" and "TLS Linkage Optimizations" of the 64-Bit ELF V2 ABI).
-use Rattle.std.specs.Prelude.{ℕ, Bool, true, false, ◌||◌, List, Option, Some, None, slice_get}
+use Rattle.std.specs.Prelude.{◌≡◌, ℕ, Bool, true, false, ◌||◌, List, Option, Some, None, slice_get}
 use Rattle.linker_elf.specs.AArch64Relocations.{aarch64_name}
 use Rattle.linker_elf.specs.LoongArchRelocations.{loongarch_name}
 use Rattle.linker_elf.specs.Ppc64Relocations.{ppc64_name}
@@ -158,6 +158,26 @@ IsScopeIn RiscV phase = IsOf riscv_name (riscv_scope_in phase)
 IsScopeIn LoongArch64 phase = IsOf loongarch_name (loongarch_scope_in phase)
 IsScopeIn Ppc64 phase = IsOf ppc64_name (ppc64_scope_in phase)
 IsScopeIn X86_64 phase = IsOf x86_64_name (x86_64_scope_in phase)
+
+-- a phase has rewrites
+abbrev pub has_rewrites : Architecture → Phase → Bool
+has_rewrites AArch64 ThreadOffsets = false
+has_rewrites AArch64 phase = true
+has_rewrites RiscV ThreadOffsets = true
+has_rewrites RiscV phase = false
+has_rewrites LoongArch64 Early = true
+has_rewrites LoongArch64 ThreadOffsets = true
+has_rewrites LoongArch64 phase = false
+has_rewrites Ppc64 GotLoads = false
+has_rewrites Ppc64 phase = true
+has_rewrites X86_64 Early = true
+has_rewrites X86_64 phase = false
+
+-- in one without them no relocation has a scope
+abbrev pub IsUnlistedUnless : Architecture → Phase → Bool → Type 0
+IsUnlistedUnless architecture phase true = Unit {0}
+IsUnlistedUnless architecture phase false =
+    (code : ℕ) (scope : Scope) → IsScopeIn architecture phase code scope → scope ≡ Unlisted
 
 abbrev pub IsScope : Architecture → ℕ → Scope → Type 0
 IsScope architecture = IsScopeIn architecture Early

@@ -4,10 +4,13 @@ use Rattle.std.specs.Prelude.{Option, None, Some, false}
 use Rattle.linker_base.specs.Rewrite.{Rewrite, rewrite_window, rewritten}
 use Rattle.linker_base.specs.Rewrite.{offset_after, addend_after}
 use Rattle.linker_rewriting.specs.Decisions.{decision_at, is_taken, start_at, written_end_at}
+use Rattle.linker_rewriting.specs.Decisions.{AreDecidedIn}
+use Rattle.linker_rewriting.specs.Facts.{Setting}
 use Rattle.linker_rewriting.specs.Groups.{IsInGroupIn, symbol_of_group}
 use Rattle.linker_rewriting.specs.declared.decisions.Decision.{Decision}
 use Rattle.linker_rewriting.specs.declared.decisions.Decision.TheVariants.{Kept, Rewritten, TakenAlong}
 use Rattle.linker_rewriting.specs.declared.groups.Group.{Group}
+use Rattle.linker_rewriting.specs.declared.groups.KeptGroups.{KeptGroups}
 use Rattle.linker_rewriting.specs.declared.phases.Phase.{Phase}
 use Rattle.linker_rewriting.specs.declared.phases.Phase.TheVariants.{Early}
 use Rattle.linker_section.specs.Relocations.{relocation_in}
@@ -86,3 +89,19 @@ GroupsAreWholeIn architecture phase bytes decisions limit =
 -- before addresses are known
 abbrev pub GroupsAreWhole : Architecture → List ℕ → List Decision → ℕ → Type 0
 GroupsAreWhole architecture = GroupsAreWholeIn architecture Early
+
+-- In two sections of an object that are decided by one table, each at its address, all of a group are
+-- rewritten too, or none is.
+abbrev pub GroupsAreWholeAcross : Type 0
+GroupsAreWholeAcross =
+    (s other : Setting) (kept : List KeptGroups) (bytes section others_bytes others_section : List ℕ)
+    (decisions others : List Decision) (limit others_limit : ℕ)
+    → AreDecidedIn s kept bytes section decisions limit
+    → AreDecidedIn other kept others_bytes others_section others others_limit
+    → (i j : ℕ) (group : Group) → i < limit → j < others_limit
+    → IsInGroupIn s.architecture s.phase (relocation_in bytes i).code group
+    → IsInGroupIn other.architecture other.phase (relocation_in others_bytes j).code group
+    → symbol_of_group group (relocation_in bytes i).symbol
+    ≡ symbol_of_group group (relocation_in others_bytes j).symbol
+    → is_taken decisions i ≡ false → is_taken others j ≡ false
+    → IsRewritten (decision_at decisions i) → IsRewritten (decision_at others j)

@@ -7,7 +7,7 @@ ghost use Rattle.linker_rewriting.specs.Groups.{ppc64_scope, x86_64_scope, keeps
 ghost use Rattle.linker_rewriting.specs.Groups.{aarch64_scope_in, loongarch_scope_in};
 ghost use Rattle.linker_rewriting.specs.Groups.{ppc64_scope_in, riscv_scope_in, x86_64_scope_in};
 ghost use Rattle.linker_rewriting.specs.Groups.{is_mark, IsMark, symbol_of_group, stays_at};
-ghost use Rattle.linker_rewriting.specs.Groups.{group_stays};
+ghost use Rattle.linker_rewriting.specs.Groups.{group_stays, has_rewrites, IsUnlistedUnless};
 
 use crate::phases::Phase;
 use linker_utils::aarch64::AArch64Relocation;
@@ -335,6 +335,38 @@ pub fn scope_in(architecture: Architecture, phase: Phase, code: u32) -> Scope
         Architecture::X86_64 => x86_64_scope_in(phase, X86_64Relocation::from_elf(code)),
         Architecture::RiscV => riscv_scope_in(phase, RiscVRelocation::from_elf(code)),
     }
+}
+
+/// The table of `has_rewrites`.
+#[inline(always)]
+fn is_listed(architecture: Architecture, phase: Phase) -> bool
+    ensures { result ≡ has_rewrites architecture phase }
+{
+    match architecture {
+        Architecture::AArch64 => !matches!(phase, Phase::ThreadOffsets),
+        Architecture::RiscV => matches!(phase, Phase::ThreadOffsets),
+        Architecture::LoongArch64 => matches!(phase, Phase::Early | Phase::ThreadOffsets),
+        Architecture::Ppc64 => !matches!(phase, Phase::GotLoads),
+        Architecture::X86_64 => matches!(phase, Phase::Early),
+    }
+}
+
+/// Whether an architecture has rewrites in a phase. In one without them a linker surveys and rewrites
+/// nothing: each relocation is `Scope::Unlisted`.
+///
+/// ```
+/// use linker_rewriting::groups::has_rewrites;
+/// use linker_rewriting::phases::Phase;
+/// use linker_utils::elf::Architecture;
+///
+/// assert!(has_rewrites(Architecture::RiscV, Phase::ThreadOffsets));
+/// assert!(!has_rewrites(Architecture::X86_64, Phase::ThreadOffsets));
+/// ```
+pub fn has_rewrites(architecture: Architecture, phase: Phase) -> bool
+    ensures table { result ≡ has_rewrites architecture phase }
+    ensures unlisted { IsUnlistedUnless architecture phase result }
+{
+    is_listed(architecture, phase)
 }
 
 /// What is rewritten together with the instruction of a relocation with a code, before addresses are

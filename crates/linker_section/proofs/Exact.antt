@@ -60,9 +60,9 @@ there_is : (bytes : List ℕ) (i : ℕ) (r : Rela) → relocation_at bytes i ≡
 there_is bytes i r is =
     elim (cases_lt i (length bytes / 24)) [
       | inl within ↦ record {
-          within = within;
-          is = ap (first_of r) (sym (cond-true (ltb i (length bytes / 24)) (Some (relocation_in bytes i)) None (lt-ltb i (length bytes / 24) within)) ∙ is);
-        }
+        within = within;
+        is = ap (first_of r) (sym (cond-true (ltb i (length bytes / 24)) (Some (relocation_in bytes i)) None (lt-ltb i (length bytes / 24) within)) ∙ is);
+      }
       | inr past ↦ absurd (subst IsNone (sym (cond-false (ltb i (length bytes / 24)) (Some (relocation_in bytes i)) None (le-ltb i (length bytes / 24) past)) ∙ is) tt)
     ]
   where
@@ -340,15 +340,15 @@ module _ (architecture : Architecture) (addresses : Addresses) (bytes : List ℕ
             let pair = (of.3).pair in
             elim (of.2) [
               | inl at ↦ not.alone (subst (BeginsPair architecture bytes) (sym at) (record {
-                  within = below;
-                  same_offset = pair.same_offset;
-                  row = pair.row;
-                  is_row = (has_at (of.0) pair.row pair.value (omega (arith, below)) pair.is_first).is_row;
-                  begins = pair.begins;
-                  other = pair.other;
-                  is_other = (has_at (of.0 + 1) pair.other pair.subtracted below pair.is_second).is_row;
-                  ends = pair.ends;
-                }))
+                within = below;
+                same_offset = pair.same_offset;
+                row = pair.row;
+                is_row = (has_at (of.0) pair.row pair.value (omega (arith, below)) pair.is_first).is_row;
+                begins = pair.begins;
+                other = pair.other;
+                is_other = (has_at (of.0 + 1) pair.other pair.subtracted below pair.is_second).is_row;
+                ends = pair.ends;
+              }))
               | inr at ↦ no_second (of.0) (of.3) below (sym at ∙ next)
             ]
       ]

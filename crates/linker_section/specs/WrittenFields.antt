@@ -162,8 +162,8 @@ pub record CanBeWritten (architecture : Architecture) (addresses : Addresses) (b
   pub apart : AreApart architecture bytes section (length bytes / 24)
   pub accepted : AreAccepted found bytes section (length bytes / 24)
 
--- Then each field holds what its relocations compose over the bytes that it had before, and each byte
--- of no field is as before.
+-- A section that can be written is so: each field holds what its relocations compose over the bytes
+-- that it had before, and each byte of no field is as before.
 pub record AreWritten (architecture : Architecture) (addresses : Addresses) (bytes : List ℕ)
     (symbols : List Symbol) (before after : List ℕ) : Type 0 where
   pub can : CanBeWritten architecture addresses bytes symbols before

@@ -1,7 +1,7 @@
 //! The values of a section's relocations, written.
 
 ghost use Rattle.std.specs.Prelude.{◌≡◌, ◌≤◌, ◌<◌, ◌+◌, ◌/◌, ℕ, List, length, drop, IfErr, IfSome};
-ghost use Rattle.std.specs.Prelude.{IfNone, OnOk, take, true};
+ghost use Rattle.std.specs.Prelude.{IfNone, OnOk, IsOk, take, true, ◌↔◌};
 ghost use Rattle.linker_base.specs.Uleb.{Uleb};
 ghost use Rattle.linker_section.specs.Fields.{uleb_len, begins_pair};
 ghost use Rattle.linker_section.specs.Relocations.{relocation_in};
@@ -10,8 +10,8 @@ ghost use Rattle.linker_section.specs.Sections.{IsNumberWrittenAt, AreAllRelocat
 ghost use Rattle.linker_section.specs.Sections.{BeginsPair, HasValue};
 ghost use Rattle.linker_section.specs.Inner.Steps.{IsLimit, IsStopped, IsSecond, clear_in, field_of_row};
 ghost use Rattle.linker_section.specs.Inner.Steps.{IsPairOutcome};
-ghost use Rattle.linker_section.specs.Values.{has_value};
-ghost use Rattle.linker_section.specs.WrittenFields.{AreWritten, IsFirstFault};
+ghost use Rattle.linker_section.specs.Values.{has_value, IsAscending};
+ghost use Rattle.linker_section.specs.WrittenFields.{AreWritten, CanBeWritten, IsFirstFault};
 ghost use Rattle.linker_utils.specs.Architectures.{IsRow};
 ghost use Rattle.linker_elf.specs.declared.elf.RelocationKindInfo.{RelocationKindInfo};
 
@@ -470,6 +470,8 @@ pub fn relocate_section(
         symbols.now section.old) }
     ensures fault { IfErr result (IsFirstFault architecture addresses.now relocations.now
         symbols.now section.old) }
+    ensures exact { IsAscending relocations.now → (IsOk result ↔ CanBeWritten architecture
+        addresses.now relocations.now symbols.now section.old) }
     ensures unchanged { IfErr result (λ _. section.new ≡ section.old) }
 {
     let limit = if is_ascending(relocations) {

@@ -8,7 +8,9 @@ use indicatif::{ProgressBar, ProgressDrawTarget, ProgressStyle};
 use std::cell::{Cell, OnceCell};
 use std::ffi::OsString;
 use std::io::{self, BufWriter, Write};
+use std::panic::resume_unwind;
 use std::process::ExitCode;
+use std::thread::ScopedJoinHandle;
 use std::time::{Duration, Instant};
 use summary::Functions;
 
@@ -125,16 +127,21 @@ fn run() -> Result<ExitCode, Failure> {
         files.push((name, bytes));
     }
     let (inputs, linked) = files.split_at(files.len() - 2);
-    let mut objects = Vec::new();
-    for (name, bytes) in inputs {
-        let all = elf::read_objects(name, bytes);
-        objects.extend(all.map_err(|reason| Failure::Said(format!("{name}: {reason}")))?);
-    }
-    let mut both = Vec::new();
-    for (name, bytes) in linked {
-        let file = elf::read_linked(bytes);
-        both.push(file.map_err(|reason| Failure::Said(format!("{name}: {reason}")))?);
-    }
+    let because = |name: &str, reason| Failure::Said(format!("{name}: {reason}"));
+    let (objects, both) = std::thread::scope(|scope| {
+        let both: Vec<_> =
+            linked.iter().map(|(_, bytes)| scope.spawn(|| elf::read_linked(bytes))).collect();
+        let objects: Vec<_> =
+            inputs.iter().map(|(name, bytes)| elf::read_objects(name, bytes)).collect();
+        let join = |one: ScopedJoinHandle<'_, _>| one.join().unwrap_or_else(|it| resume_unwind(it));
+        (objects, both.into_iter().map(join).collect::<Vec<_>>())
+    });
+    let objects = inputs.iter().zip(objects);
+    let objects = objects.map(|((name, _), all)| all.map_err(|reason| because(name, reason)));
+    let objects: Vec<_> = objects.collect::<Result<Vec<_>, _>>()?.into_iter().flatten().collect();
+    let both = linked.iter().zip(both);
+    let both = both.map(|((name, _), file)| file.map_err(|reason| because(name, reason)));
+    let both = both.collect::<Result<Vec<_>, _>>()?;
     for (name, architecture) in (objects.iter().map(|one| (&one.path, one.architecture)))
         .chain(linked.iter().map(|(name, _)| name).zip(both.iter().map(|one| one.architecture)))
     {
@@ -192,6 +199,8 @@ fn run() -> Result<ExitCode, Failure> {
         }
     }
     out.flush()?;
+    // the program ends, and what it knows of the files is large
+    std::mem::forget((objects, both, functions));
     Ok(if counts.different > 0 { ExitCode::from(1) } else { ExitCode::SUCCESS })
 }
 

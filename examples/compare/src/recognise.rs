@@ -4,11 +4,13 @@ use crate::map::{self, Anchors, Bytes};
 use crate::elf::{Home, Linked, Relocation, Section};
 use crate::made::{self, Before, Chosen};
 use crate::side::{Side, Target};
+use crate::targets::Pending;
 use linker_utils::elf::Architecture;
 use linker_utils::recognise::{FieldBits, field_bits};
 use object::elf::{
     R_PPC64_ADDR64, R_PPC64_GOT16_HA, R_PPC64_GOT16_LO_DS, R_PPC64_TOC16_HA, R_PPC64_TOC16_LO_DS,
 };
+use std::cell::RefCell;
 
 pub struct Found {
     /// A rewrite before this one.
@@ -52,12 +54,14 @@ pub struct At<'a> {
     pub it: &'a Section<'a>,
     pub index: usize,
     pub map: &'a Anchors,
+    /// What asks for the places of sections.
+    pub pending: &'a RefCell<Vec<Pending>>,
 }
 
 impl Side<'_> {
     /// The choice that leaves the bytes of the widest window; of several the one whose relocation
     /// leads to its symbol, and of these the one that is unchanged.
-    pub fn recognise(&mut self, at: At) -> Option<Found> {
+    pub fn recognise(&self, at: At) -> Option<Found> {
         let one = &at.it.relocations[at.index];
         let mut best = self.recognise_as(at, one);
         let Some(word) = self.address_in_toc(at.object, one) else { return best };
@@ -99,14 +103,14 @@ impl Side<'_> {
     }
 
     /// The choice for a relocation at a place, which may be another than the object has there.
-    fn recognise_as(&mut self, at: At, one: &Relocation) -> Option<Found> {
+    fn recognise_as(&self, at: At, one: &Relocation) -> Option<Found> {
         let architecture = self.linked.architecture;
         let len = made::len(architecture, one.code);
         let windows: &[(u64, u64)] = match architecture {
             Architecture::X86_64 => &[(6, 12), (4, 12), (6, len), (3, len), (0, len)],
             _ => &[(4, 8), (0, 8), (4, 4), (0, 4), (0, len)],
         };
-        let mut try_windows = |windows: &[(u64, u64)], pass| {
+        let try_windows = |windows: &[(u64, u64)], pass| {
             let mut best = None;
             for (back, forward) in windows {
                 let start = one.offset.saturating_sub(*back);
@@ -130,7 +134,7 @@ impl Side<'_> {
 
     /// The same in a window of the section.
     fn recognise_in(
-        &mut self,
+        &self,
         at: At,
         one: &Relocation,
         (start, end): (u64, u64),
@@ -153,7 +157,7 @@ impl Side<'_> {
             }
             let field = before.field(&chosen, &window.bytes, window.address);
             let target = match &field {
-                Some(field) => self.target_of(at.object, one, field),
+                Some(field) => self.target_of(at, one, field),
                 None => Target::Nothing,
             };
             let is_sure = target == Target::AsWritten;

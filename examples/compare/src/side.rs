@@ -6,6 +6,7 @@ use crate::map::{self, Anchors};
 use crate::symbols::{self, Definers, LocalSymbols};
 use crate::tables::Frames;
 use crate::targets::Pending;
+use crate::threads;
 
 /// What a relocation leads to.
 #[derive(Clone, PartialEq, Eq)]
@@ -44,10 +45,8 @@ pub struct Side<'a> {
     pub maps: Vec<Vec<Anchors>>,
     /// Objects, sections and anchors by local symbols whose names are there more than once.
     repeated: Vec<(usize, usize, (u64, u64))>,
-    /// Of the section that `walk` is in.
-    pub pending: Vec<Pending>,
-    /// Of the others, by object and section.
-    pub all_pending: Vec<Vec<Vec<Pending>>>,
+    /// By object and section.
+    pub pending: Vec<Vec<Vec<Pending>>>,
     /// The sections, by object, whose places were found since `walk` was there.
     pub is_new: Vec<Vec<bool>>,
     /// What `locate` found last, by object and section.
@@ -97,18 +96,17 @@ impl<'a> Side<'a> {
             }
             anchors.push(of_sections);
         }
-        let all = anchors.iter().zip(objects).map(|(anchors, object)| {
-            let sections = anchors.iter().zip(&object.sections);
+        let maps = threads::all(objects.len(), |object| {
+            let sections = anchors[object].iter().zip(&objects[object].sections);
             sections.map(|(anchors, section)| align::map_of(linked, section, anchors)).collect()
         });
-        let maps = all.collect();
         let global = |one: &Symbol| match one.is_local {
             true => None,
             false => linked.globals.get(&one.name).copied(),
         };
         let globals = objects.iter().map(|it| it.symbols.iter().map(global).collect()).collect();
         let sections = || objects.iter().map(|it| it.sections.len());
-        let all_pending = sections().map(|len| (0..len).map(|_| Vec::new()).collect()).collect();
+        let pending = sections().map(|len| (0..len).map(|_| Vec::new()).collect()).collect();
         let made = sections().map(|len| vec![Vec::new(); len]).collect();
         let is_new = sections().map(|len| vec![true; len]).collect();
         Ok(Side {
@@ -119,8 +117,7 @@ impl<'a> Side<'a> {
             anchors,
             maps,
             repeated,
-            pending: Vec::new(),
-            all_pending,
+            pending,
             is_new,
             made,
         })
@@ -128,20 +125,28 @@ impl<'a> Side<'a> {
 
     /// Finds the places of all sections, as far as they can be found; `step` is called for each
     /// section that was looked at.
-    pub fn locate(&mut self, step: &dyn Fn()) {
+    pub fn locate(&mut self, step: &(dyn Fn() + Sync)) {
         let frames = Frames::new(self.linked);
         for _ in 0..5 {
             self.find_tables(&frames);
-            let mut is_walked = Vec::with_capacity(self.objects.len());
-            for object in 0..self.objects.len() {
-                is_walked.push(self.is_new[object].contains(&true));
-                for section in self.stale(object) {
-                    self.made[object][section] = self.walk(object, section);
-                    self.all_pending[object][section] = std::mem::take(&mut self.pending);
-                    step();
-                }
-                self.is_new[object].fill(false);
+            let is_walked: Vec<bool> = self.is_new.iter().map(|all| all.contains(&true)).collect();
+            let stale = (0..self.objects.len()).flat_map(|object| {
+                self.stale(object).into_iter().map(move |section| (object, section))
+            });
+            let stale: Vec<_> = stale.collect();
+            let walk = |index| {
+                let (object, section) = stale[index];
+                let found = self.walk(object, section);
+                step();
+                found
+            };
+            for ((object, section), (made, pending)) in
+                stale.iter().zip(threads::all(stale.len(), walk))
+            {
+                self.made[*object][*section] = made;
+                self.pending[*object][*section] = pending;
             }
+            self.is_new.iter_mut().for_each(|all| all.fill(false));
             if !self.learn(&is_walked) && !self.use_repeated() {
                 break;
             }

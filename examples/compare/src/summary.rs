@@ -20,18 +20,26 @@ struct Function {
 pub struct Functions {
     places: HashMap<(String, String), usize>,
     functions: Vec<((String, String), Function)>,
+    /// Where the last one is that a relocation was of.
+    last: usize,
 }
 
 impl Functions {
     /// Counts a relocation, and keeps it if it differs.
     pub fn add(&mut self, line: Line) {
         let name = line.place.rsplit_once('+').map_or(&line.place[..], |(name, _)| name);
-        let key = (line.object.clone(), name.to_string());
-        let at = *self.places.entry(key).or_insert_with_key(|key| {
-            self.functions.push((key.clone(), Function::default()));
-            self.functions.len() - 1
-        });
-        let function = &mut self.functions[at].1;
+        let is_last = |((object, last), _): &((String, String), Function)| {
+            *object == line.object && last == name
+        };
+        // most are of the same function as the one before
+        if !self.functions.get(self.last).is_some_and(is_last) {
+            let key = (line.object.clone(), name.to_string());
+            self.last = *self.places.entry(key).or_insert_with_key(|key| {
+                self.functions.push((key.clone(), Function::default()));
+                self.functions.len() - 1
+            });
+        }
+        let function = &mut self.functions[self.last].1;
         function.relocations += 1;
         if !line.is_same() {
             function.different.push(line);

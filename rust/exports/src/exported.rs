@@ -1096,6 +1096,27 @@ unsafe extern "C" fn linker_utils_same_but_for_nonnull(
 }
 
 #[unsafe(no_mangle)]
+unsafe extern "C" fn linker_utils_recognise_window_nonnull(
+    machine: u16,
+    r_type: u32,
+    original: *const u8,
+    original_len: usize,
+    offset: u64,
+    window: *mut RewriteWindow,
+) -> u32 {
+    // SAFETY: the arguments are as the head of the header says.
+    unsafe {
+        crate::recognising::linker_utils_recognise_window_nonnull(
+            machine,
+            r_type,
+            from_raw_parts(original, original_len),
+            offset,
+            &mut *window,
+        )
+    }
+}
+
+#[unsafe(no_mangle)]
 unsafe extern "C" fn linker_utils_recognise_nonnull(
     machine: u16,
     r_type: u32,

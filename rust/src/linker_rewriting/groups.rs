@@ -308,6 +308,34 @@ pub fn scope_in(architecture: Architecture, phase: Phase, code: u32) -> Scope {
     }
 }
 
+/// The table of `has_rewrites`.
+#[inline(always)]
+fn is_listed(architecture: Architecture, phase: Phase) -> bool {
+    match architecture {
+        Architecture::AArch64 => !matches!(phase, Phase::ThreadOffsets),
+        Architecture::RiscV => matches!(phase, Phase::ThreadOffsets),
+        Architecture::LoongArch64 => matches!(phase, Phase::Early | Phase::ThreadOffsets),
+        Architecture::Ppc64 => !matches!(phase, Phase::GotLoads),
+        Architecture::X86_64 => matches!(phase, Phase::Early),
+    }
+}
+
+/// Whether an architecture has rewrites in a phase. In one without them a linker surveys and rewrites
+/// nothing: each relocation is `Scope::Unlisted`.
+///
+/// ```
+/// use linker_utils::rewriting::has_rewrites;
+/// use linker_utils::rewriting::Phase;
+/// use linker_utils::elf::Architecture;
+///
+/// assert!(has_rewrites(Architecture::RiscV, Phase::ThreadOffsets));
+/// assert!(!has_rewrites(Architecture::X86_64, Phase::ThreadOffsets));
+/// ```
+#[must_use]
+pub fn has_rewrites(architecture: Architecture, phase: Phase) -> bool {
+    is_listed(architecture, phase)
+}
+
 /// What is rewritten together with the instruction of a relocation with a code, before addresses are
 /// known. RISC-V's rewrites all wait for them.
 ///

@@ -1,5 +1,5 @@
 -- What holds while stubs are placed.
-use Rattle.std.specs.Prelude.{◌≡◌, ◌≤◌, ◌<◌, ◌+◌, ◌*◌, ◌^◌, ◌⊎◌, ℕ, zero, suc, List, length, slice_index_or, ⊤}
+use Rattle.std.specs.Prelude.{◌≡◌, ◌≤◌, ◌<◌, ◌+◌, ◌-◌, ◌*◌, ◌^◌, ◌⊎◌, ℕ, zero, suc, List, length, slice_index_or, ⊤}
 use Rattle.std.specs.Prelude.{Option, Some, None}
 use Rattle.std.specs.List.{sum_by}
 use Rattle.linker_output.specs.Placement.{Reaches, at, branch_at, stub_at, group_at, IsAscending}
@@ -15,6 +15,9 @@ use Rattle.linker_output.specs.declared.placement.StubAt.{StubAt}
 use Rattle.linker_output.specs.declared.placement.StubShape.{StubShape}
 use Rattle.linker_output.specs.declared.placement.Sweep.{Sweep}
 use Rattle.linker_output.specs.declared.placement.Sweep.TheVariants.{Settled, Changed, Stuck}
+use Rattle.linker_output.specs.declared.placement.Visit.{Visit}
+use Rattle.linker_output.specs.declared.placement.Visit.TheVariants as visits
+use Rattle.linker_output.specs.declared.placement.Visit.TheVariants.{Served, Raised, Lost}
 use Rattle.linker_output.specs.declared.placement.Way.{Way}
 use Rattle.linker_output.specs.declared.placement.Way.TheVariants.{Direct, Far, Near}
 
@@ -194,3 +197,21 @@ pub record AreStubsOf (code : Code) (before : List ℕ) (ways : List Way) (stubs
   pub each : (i : ℕ) → i < length stubs
       → IsStubOf code before (branch_at code.branches.now i) (way_at ways i)
       (slice_index_or stubs i None)
+
+abbrev pub narrowed : Branch → ℕ → Branch
+narrowed branch margin =
+    record branch {
+      max_backward = branch.max_backward - margin;
+      max_forward = branch.max_forward - margin;
+    }
+
+-- what a sweep does at a branch
+abbrev pub Visited : Code → List ℕ → List ℕ → State → State → ℕ → Visit → Type 0
+Visited code before places old new i Served = SameStubs old new
+    × IsServedBy code before places (branch_at code.branches.now i) (way_at old.ways.items i)
+Visited code before places old new i visits.Near = SameStubs old new
+    × ((s : ℕ) × (way_at old.ways.items i ≡ Near s))
+Visited code before places old new i Raised =
+    sum_by level old.ways.items < sum_by level new.ways.items
+Visited code before places old new i Lost =
+    (new ≡ old) × IsStuckIn code before places old i

@@ -7,6 +7,7 @@
 use super::ratio::{LONG, Named, ORDERS, SHORT, expect_growth, mixed, pair};
 use super::runs::{aligned, cascade, site};
 use linker_utils::elf::Architecture;
+use linker_utils::placement::{Branch, Code, StubShape, place_stubs};
 use linker_utils::recognise::{self, FieldBits};
 use linker_utils::relaxation::{
     AsDeletion, BlockHead, Call, DeltaSlice, RelaxDelta, RelaxDeltaMap, SectionRelaxDeltas,
@@ -570,7 +571,44 @@ fn expect_relocating(count: usize) {
     }
 }
 
+/// Calls to a few functions from code that is 1,000 times as long as they reach: a boundary every 16 KiB
+/// and a call every KiB, of which one in 100 reaches the next boundary alone; and calls that reach their
+/// targets only until a stub stands between.
+fn expect_placements(count: usize) {
+    const REACH: u64 = 1 << 20;
+    let shape = StubShape { len: 12, unit: 16, max_backward: 1 << 40, max_forward: 1 << 40 };
+    let place = |(branches, targets, boundaries): (Vec<Branch>, Vec<u64>, Vec<u64>)| {
+        let code =
+            Code { branches: &branches, targets: &targets, boundaries: &boundaries, shape };
+        black_box(place_stubs(&code).expect("each is placed"));
+    };
+    let long = |count: usize| {
+        let branches = (0..count).map(|index| {
+            let reach = if index % 100 == 0 { 1 << 15 } else { REACH };
+            let offset = index as u64 * 1024;
+            Branch { offset, target: index % 10, max_backward: reach, max_forward: reach }
+        });
+        let targets = (0..10).map(|index| count as u64 * 102 * index).collect();
+        (branches.collect(), targets, (1..=count as u64 / 16 + 1).map(|at| at << 14).collect())
+    };
+    expect_growth("place_stubs over long code", count, long, place);
+    // each reaches its target until the branch behind it has a stub
+    let chain = |count: usize| {
+        let branch = |index: usize| {
+            let offset = (index as u64 + 1) << 10;
+            let is_last = index == count - 1;
+            let max_forward = 2049 - u64::from(is_last);
+            Branch { offset, target: index, max_backward: 0, max_forward }
+        };
+        let branches: Vec<_> = (0..count).map(branch).collect();
+        let targets = branches.iter().map(|branch| branch.offset + 2048).collect();
+        (branches, targets, (1..=count as u64 + 2).map(|at| (at << 10) + 512).collect())
+    };
+    expect_growth("place_stubs of a chain", count, chain, place);
+}
+
 fn expect_all(count: usize) {
+    expect_placements(count);
     expect_relocating(count);
     expect_merges(count);
     expect_merges_of_one(count);

@@ -9,11 +9,11 @@ use Rattle.linker_output.proofs.placement.State.settle.Goals as goal
 pub lay_out-requires-clause-fits : goal.lay_out-requires-clause-fits
 lay_out-requires-clause-fits c =
     subst (λ (gs : List Group). c.args.code.now.shape.unit * length gs + c.args.code.now.shape.len * sum_by stubs_in gs < 2 ^ 62) (sym c.deref.ensures.value)
-    (room_for c.args.code.now c.loop-self.self c.requires.code c.loop-self.invariant.state)
+    (room_for c.args.code.now c.loop-passes.self c.requires.code c.loop-passes.invariant.state)
 
-pub loop-self-smaller : goal.loop-self-smaller
-loop-self-smaller c =
-    let more : sum_by level c.loop-self.self.ways.items < sum_by level c.sweep.new.self.ways.items = rw c.in-Changed.is at c.in_ok-sweep.ensures.swept in
+pub loop-passes-smaller : goal.loop-passes-smaller
+loop-passes-smaller c =
+    let more : sum_by level c.loop-passes.self.ways.items < sum_by level c.sweep.new.self.ways.items = rw c.in-Changed.is at c.in_ok-sweep.ensures.swept in
     let bound = levels_most c.sweep.new.self.ways.items in
     let w = c.in_ok-sweep.ensures.state.ways in
     omega arith

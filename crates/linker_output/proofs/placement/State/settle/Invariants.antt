@@ -3,11 +3,11 @@ use Rattle.std.specs.List.{sum_by}
 use Rattle.linker_output.specs.Inner.Placement.{IsState, level}
 use Rattle.linker_output.proofs.placement.State.settle.Given as goal
 
-abbrev pub invariant-loop-self : goal.invariant-loop-self
-invariant-loop-self l = record {
+abbrev pub invariant-loop-passes : goal.invariant-loop-passes
+invariant-loop-passes l = record {
   state : IsState l.code l.self;
   one_more : length l.before ≡ length l.code.boundaries.now + 1;
 }
 
-abbrev pub decreases-loop-self : goal.decreases-loop-self
-decreases-loop-self l = 2 * length l.code.branches.now - sum_by level l.self.ways.items
+abbrev pub decreases-loop-passes : goal.decreases-loop-passes
+decreases-loop-passes l = 2 * length l.code.branches.now - sum_by level l.self.ways.items

@@ -1,15 +1,14 @@
-use Rattle.std.proofs.Common.{◌≡◌, ◌<◌, ◌+◌, ◌∙◌, ℕ, List, true, ap, sym, subst, arith, below_more, length}
+use Rattle.std.proofs.Common.{◌≡◌, ◌<◌, ◌≤◌, ◌+◌, ◌∙◌, ℕ, List, false, true, ap, refl, sym, subst, arith, below_more, length}
 use Rattle.std.specs.List.{sum_by}
-use Rattle.std.proofs.lemmas.List.{get_or_read}
 use Rattle.std.proofs.lemmas.Bool.{false≢true}
 use Rattle.linker_output.specs.declared.placement.Code.{Code}
 use Rattle.linker_output.specs.declared.placement.State.{State}
-use Rattle.linker_output.specs.declared.placement.Way.TheVariants.{Direct}
+use Rattle.linker_output.specs.declared.placement.Visit.TheVariants.{Served, Near, Raised, Lost}
 use Rattle.linker_output.specs.Placement.{branch_at}
-use Rattle.linker_output.specs.Inner.Placement.{IsState, SameStubs, IsServedBy, level, way_at}
+use Rattle.linker_output.specs.Inner.Placement.{IsState, SameStubs, IsServedBy, Visited, level, way_at}
 use Rattle.linker_output.proofs.Near.{near_served, places_kept, laid_kept}
 use Rattle.linker_output.proofs.placement.State.sweep.Goals as goal
-use Rattle.linker_output.proofs.placement.State.sweep.Goals.{then-not-is_lost, else-not-is_lost+in-Near, else-not-is_lost+in_default+in_ok-raise+then-branch, else-not-is_lost+in_default+in_ok-raise+else-branch+else-not-changed}
+use Rattle.linker_output.proofs.placement.State.sweep.Goals.{in-Served, in-Near, in-Raised, in-Lost+else-not-changed}
 
 same_next : (a b d : State) → SameStubs a b → SameStubs b d → SameStubs a d
 same_next a b d p q = record { stubs = q.stubs ∙ p.stubs; groups = q.groups ∙ p.groups; ways = q.ways ∙ p.ways }
@@ -27,52 +26,46 @@ loop-index-preserved c =
     let places = c.args.places.now in
     let self = c.loop-index.self in
     let i = c.loop-index.index in
-    let new = c.if-not-is_lost.self in
+    let new = c.visit.new.self in
     let inv = c.loop-index.invariant in
-    let w = inv.state.ways in
     let within : i < length code.branches.now = omega arith in
-    let way : c.index.result.now ≡ way_at self.ways.items i = get_or_read self.ways.items i c.index.result.now (omega arith) c.index.ensures Direct in
-    elim c.if-not-is_lost.branch [
-      | then-not-is_lost w ↦
-          let e : new.ways ≡ self.ways = ap (λ s. s.ways) w.self-is ∙ w.note.ensures.stubs.ways in
-          let total = ap (λ v. sum_by level v.items) e in
-          let here : IsServedBy code before places (branch_at code.branches.now i) (way_at self.ways.items i) = subst (IsServedBy code before places (branch_at code.branches.now i)) way (c.is_lost.ensures.served w.if-not-is_lost.true) in
+    elim c.match-branch-2.branch [
+      | in-Served w ↦
+          let visited : Visited code before places self new i Served = subst (Visited code before places self new i) w.in-Served.is c.in_ok-visit.ensures.visited in
+          let total = ap (λ v. sum_by level v.items) (visited.0.ways) in
           record {
-            state = subst (IsState code) (sym w.self-is) w.note.ensures.state;
-            same = λ h. subst (SameStubs c.args.self.now) (sym w.self-is) (same_next _ _ _ (inv.same (sym w.changed-is ∙ h)) w.note.ensures.stubs);
-            served = λ h. served_next code before places self new i e (inv.served (sym w.changed-is ∙ h)) here;
+            state = c.in_ok-visit.ensures.state;
+            same = λ h. same_next _ _ _ (inv.same (sym w.changed-is ∙ h)) (visited.0);
+            served = λ h. served_next code before places self new i (visited.0.ways) (inv.served (sym w.changed-is ∙ h)) (visited.1);
             no_less = omega (arith, inv.no_less);
             higher = λ h. (let more = inv.higher (sym w.changed-is ∙ h) in omega arith);
           }
-      | else-not-is_lost+in-Near w ↦
-          let e : new.ways ≡ self.ways = ap (λ s. s.ways) w.self-is in
-          let total = ap (λ v. sum_by level v.items) e in
-          let way-2 : w.index-else-not-is_lost.result.now ≡ way_at self.ways.items i = get_or_read self.ways.items i w.index-else-not-is_lost.result.now (omega arith) w.index-else-not-is_lost.ensures Direct in
+      | in-Near w ↦
+          let visited : Visited code before places self new i Near = subst (Visited code before places self new i) w.in-Near.is c.in_ok-visit.ensures.visited in
+          let total = ap (λ v. sum_by level v.items) (visited.0.ways) in
           record {
-            state = subst (IsState code) (sym w.self-is) inv.state;
-            same = λ h. subst (SameStubs c.args.self.now) (sym w.self-is) (inv.same (sym w.changed-is ∙ h));
-            served = λ h. served_next code before places self new i e (inv.served (sym w.changed-is ∙ h))
-                (near_served code self before places i _ inv.state (laid_kept code c.args.self.now self before (inv.same (sym w.changed-is ∙ h)) c.requires.laid_out) (places_kept code c.args.self.now self before places (inv.same (sym w.changed-is ∙ h)) c.requires.places) within (sym way-2 ∙ w.in-Near.is));
+            state = c.in_ok-visit.ensures.state;
+            same = λ h. same_next _ _ _ (inv.same (sym w.changed-is ∙ h)) (visited.0);
+            served = λ h. served_next code before places self new i (visited.0.ways) (inv.served (sym w.changed-is ∙ h))
+                (near_served code self before places i (visited.1.0) inv.state (laid_kept code c.args.self.now self before (inv.same (sym w.changed-is ∙ h)) c.requires.laid_out) (places_kept code c.args.self.now self before places (inv.same (sym w.changed-is ∙ h)) c.requires.places) within (visited.1.1));
             no_less = omega (arith, inv.no_less);
             higher = λ h. (let more = inv.higher (sym w.changed-is ∙ h) in omega arith);
           }
-      | else-not-is_lost+in_default+in_ok-raise+then-branch w ↦
-          let more = w.in_ok-raise.ensures.higher w.if-branch.true in
-          let total = ap (λ s. sum_by level s.ways.items) w.self-is in
+      | in-Raised w ↦
+          let more : sum_by level self.ways.items < sum_by level new.ways.items = subst (Visited code before places self new i) w.in-Raised.is c.in_ok-visit.ensures.visited in
           record {
-            state = subst (IsState code) (sym w.self-is) w.in_ok-raise.ensures.state;
+            state = c.in_ok-visit.ensures.state;
             same = λ h. absurd (false≢true (sym h ∙ w.changed-is));
             served = λ h. absurd (false≢true (sym h ∙ w.changed-is));
             no_less = omega (arith, inv.no_less);
             higher = λ h. omega (arith, inv.no_less);
           }
-      | else-not-is_lost+in_default+in_ok-raise+else-branch+else-not-changed w ↦
-          let same = w.in_ok-raise.ensures.same w.if-branch.false in
-          let e : new ≡ self = w.self-is ∙ same in
-          let total = ap (λ s. sum_by level s.ways.items) e in
+      | in-Lost+else-not-changed w ↦
+          let visited : Visited code before places self new i Lost = subst (Visited code before places self new i) w.in-Lost.is c.in_ok-visit.ensures.visited in
+          let total = ap (λ s. sum_by level s.ways.items) (visited.0) in
           let was : c.loop-index.changed ≡ true = w.if-not-changed.false in
           record {
-            state = subst (IsState code) (sym e) inv.state;
+            state = c.in_ok-visit.ensures.state;
             same = λ h. absurd (false≢true (sym h ∙ w.changed-is ∙ was));
             served = λ h. absurd (false≢true (sym h ∙ w.changed-is ∙ was));
             no_less = omega (arith, inv.no_less);
