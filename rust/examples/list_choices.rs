@@ -13,7 +13,8 @@
 use linker_utils::aarch64::{self, AArch64Relocation};
 use linker_utils::architecture::Relaxation;
 use linker_utils::choice_table::{
-    ChoiceEntry, ChosenByTable, ChosenKind, Conditions, RelocationName, ValueCondition, choice_by,
+    ChoiceEntry, ChosenByTable, ChosenKind, Conditions, RelocationName, ValueCondition,
+    ValueConditions, choice_by,
 };
 use linker_utils::elf::{
     Architecture, InstructionRewrite, LinkFacts, Operands, RewriteWindow, Row,
@@ -58,7 +59,7 @@ statements! {
 
 /// The instructions, the rewrite and the relocation of an entry that asks for facts alone; or of
 /// none.
-#[derive(Clone, Copy, PartialEq)]
+#[derive(Clone, Copy, Default, PartialEq)]
 struct Probe {
     is_entry: bool,
 }
@@ -87,10 +88,6 @@ impl ChosenKind for Probe {
     type Relocation = Probe;
     type Originals = Probe;
 
-    fn none() -> Probe {
-        Probe { is_entry: false }
-    }
-
     fn stand_at(self, _: &Probe, _: &[u8], _: u64) -> bool {
         true
     }
@@ -113,7 +110,7 @@ fn asked_for(bit: u32) -> Vec<&'static str> {
         originals: entry,
         kind: entry,
         relocation: entry,
-        conditions: Conditions { facts: bit, addend: None, values: &[] },
+        conditions: Conditions { facts: bit, addend: None, values: ValueConditions::None },
     }]));
     let holds = |state: &u32| {
         let mut facts = LinkFacts::default();
@@ -255,7 +252,12 @@ fn describe<O: Debug, K: Copy + Debug, R: Copy + Debug>(
     let bits = (0..u32::BITS).map(|at| 1 << at).filter(|bit| conditions.facts & bit != 0);
     words.extend(bits.flat_map(said_of).map(|said| said.to_string()));
     words.extend(conditions.addend.map(|addend| format!("addend {addend}")));
-    let (values, names): (Vec<_>, Vec<_>) = conditions.values.iter().map(value).unzip();
+    let listed = match &conditions.values {
+        ValueConditions::None => vec![],
+        ValueConditions::One(one) => vec![one],
+        ValueConditions::Both(one, other) => vec![one, other],
+    };
+    let (values, names): (Vec<_>, Vec<_>) = listed.into_iter().map(value).unzip();
     words.extend(values);
     (words.join("\t"), names.into_iter().flatten().collect())
 }

@@ -15,8 +15,7 @@ use super::rewrites::{
 use linker_base::rewrite::has_window;
 use linker_elf::aarch64::{AArch64Relocation, AArch64Relocation as Names};
 use linker_elf::elf::choice_table::{
-    BOUND, Chosen, ChosenByTable, ChosenKind, EXECUTABLE, FIXED_DISTANCE, GROUP_FITS, Table,
-    WEAK_ZERO, all_tables, by_table, choice_by, conditions,
+    Chosen, ChosenByTable, ChosenKind, Table, by_table, choice_by, conditions,
 };
 use linker_elf::elf::{Choice, LinkFacts, Operands};
 
@@ -95,11 +94,6 @@ impl ChosenKind for RelaxationKind {
     ghost laws = { equalities kinds.NoOp names (λ x y. x.0 == y.0, tt) (exact_code, tt) };
 
     #[inline(always)]
-    fn none() -> Self {
-        RelaxationKind::NoOp
-    }
-
-    #[inline(always)]
     fn stand_at(self, originals: &AskedFor, section: &[u8], offset: u64) -> bool {
         match *originals {
             AskedFor::OfRewrite => self.matches(section, offset),
@@ -135,13 +129,13 @@ macro_rules! when {
     (to_adr) => {
         conditions!(FIXED_DISTANCE, InReach(R_AARCH64_ADR_PREL_LO21))
     };
-    // the offset from the thread pointer in the instructions
-    (to_local_exec) => {
-        conditions!(BOUND + EXECUTABLE, InReachIfKnown(R_AARCH64_TLSLE_MOVW_TPREL_G1))
-    };
-    // the same by halves that may stand apart
-    (halves_to_local_exec) => {
-        conditions!(BOUND + EXECUTABLE + GROUP_FITS, InReachIfKnown(R_AARCH64_TLSLE_MOVW_TPREL_G1))
+    // the offset from the thread pointer in the instructions; with `GROUP_FITS` by halves that may
+    // stand apart
+    (to_local_exec $($fact:ident)?) => {
+        conditions!(
+            BOUND + EXECUTABLE $(+ $fact)?,
+            InReachIfKnown(R_AARCH64_TLSLE_MOVW_TPREL_G1)
+        )
     };
     // that offset in the GOT: `adrp` is so many bytes before
     (to_initial_exec $back:literal) => {
@@ -166,10 +160,10 @@ macro_rules! choices {
             ]
             R_AARCH64_ADD_ABS_LO12_NC: [AdrpAddToNopAdr => R_AARCH64_ADR_PREL_LO21, to_adr]
             R_AARCH64_TLSIE_ADR_GOTTPREL_PAGE21: [
-                MovzXnLsl16 => R_AARCH64_TLSLE_MOVW_TPREL_G1, halves_to_local_exec;
+                MovzXnLsl16 => R_AARCH64_TLSLE_MOVW_TPREL_G1, to_local_exec(GROUP_FITS);
             ]
             R_AARCH64_TLSIE_LD64_GOTTPREL_LO12_NC: [
-                MovkXn => R_AARCH64_TLSLE_MOVW_TPREL_G0_NC, halves_to_local_exec;
+                MovkXn => R_AARCH64_TLSLE_MOVW_TPREL_G0_NC, to_local_exec(GROUP_FITS);
             ]
             R_AARCH64_TLSDESC_ADR_PAGE21: [
                 MovzX0Lsl16 at OfDescriptor(0) => R_AARCH64_TLSLE_MOVW_TPREL_G1, to_local_exec;
@@ -195,22 +189,17 @@ macro_rules! choices {
     };
 }
 
-static TABLES: &[Table<RelaxationKind>] = choices!(all_tables(when));
-
 impl ChosenByTable for RelaxationKind {
-    #[inline(always)]
-    fn may_be_listed(name: Names) -> bool {
-        !Self::entries(name, &[], 0).is_empty()
-    }
+    ghost sampled = { λ name none section o. none };
 
     #[inline(always)]
     fn entries(name: Names, _section: &[u8], _offset: u64) -> Table<Self> {
-        choices!(by_table(TABLES, name, table => table))
+        choices!(by_table(when, name, table => table))
     }
 
     #[inline(never)]
     fn choose_listed(name: Names, section: &[u8], offset: u64, facts: &LinkFacts) -> Chosen<Self> {
-        choices!(by_table(TABLES, name, table => choice_by(table, name, section, offset, facts)))
+        choices!(by_table(when, name, table => choice_by(table, name, section, offset, facts)))
     }
 }
 

@@ -35,9 +35,10 @@ use linker_elf::elf::{InstructionRewrite, OtherRelocation};
 /// RelaxationKind::AdrpToAdr.apply(&mut adrp, &mut offset, &mut addend);
 /// assert_eq!(u32::from_le_bytes(adrp), 0x3000_0003);
 /// ```
-#[derive(Debug, Clone, Copy, PartialEq, Eq)]
+#[derive(Debug, Default, Clone, Copy, PartialEq, Eq)]
 pub enum RelaxationKind {
     /// Leaves the instruction as it is; only the kind of its relocation changes.
+    #[default]
     NoOp,
     /// Writes `nop`.
     ReplaceWithNop,
@@ -144,7 +145,8 @@ fn is_into_own_source(word: u32) -> bool
 pub(super) fn are_of_one_register(adrp: u32, word: u32) -> bool
     ensures { IsTrue result ↔ AreOfOneRegister adrp word }
 {
-    is_adrp(adrp) && is_into_own_source(word) && destination(adrp) == destination(word)
+    let register = destination(adrp);
+    is_adrp(adrp) && register != 31 && word & 0x3ff == register * 33
 }
 
 /// Whether `adrp xN` and `add xN, xN, #imm` or `ldr xN, [xN, #imm]`, both of 64 bits, stand next to

@@ -1,16 +1,15 @@
 -- Masks of facts, and the first entry of a table.
-use Rattle.std.proofs.lemmas.List.{drop_more, drop_all}
+use Rattle.std.proofs.lemmas.List.{drop_all}
 use Rattle.std.proofs.lemmas.Option.{none-some}
 use Rattle.std.proofs.lemmas.Bool.{eqb-true, eq-eqb}
 use Rattle.std.proofs.Common.{◌≡◌, ◌↔◌, ◌+◌, ◌<◌, ◌≤◌, ◌++◌, ℕ, ℤ, List, [], ◌∷◌, Option, Some, None, Bool, true, false, if◌then◌else◌, not, ◌&&◌, ◌||◌, ◌==◌, zero, suc, IsTrue, refl, sym, ap, ◌∙◌, subst, arith, inl, inr, bit_and, length, drop, get_or, IfSome, true≢false}
 use Rattle.std.specs.Bool.{⊤}
 use Rattle.linker_elf.specs.Choices.{Condition, Entry, Holds, AllHold, choice, Applies, IsFirst, bound, weak_zero, fixed_address, fixed_distance, executable, local_exec_base, compressible, marked, label_marked, got_high_part, private_base, changed_toc, without_plt, group_fits}
-use Rattle.linker_elf.specs.Inner.ChoiceTables.{with_fact, fact_conditions, is_held, facts_hold, value_condition, value_conditions, ValuesHold, addend_condition, conditions_of, EntryApplies, IsFirstOf, IsChoiceAt, IsTableOf, AreEqualities}
+use Rattle.linker_elf.specs.Inner.ChoiceTables.{with_fact, fact_conditions, is_held, facts_hold, value_conditions, ValuesHold, addend_condition, conditions_of, EntryApplies, IsFirstOf, IsChoiceAt, IsTableOf, AreEqualities, AreSampled, seldom_facts_hold}
 use Rattle.linker_elf.specs.declared.elf.RelocationKindInfo.{RelocationKindInfo}
 use Rattle.linker_elf.specs.declared.elf.choice.Choice.{Choice}
 use Rattle.linker_elf.specs.declared.elf.choice.LinkFacts.{LinkFacts}
 use Rattle.linker_elf.specs.declared.elf.choice_table.ChoiceEntry.{ChoiceEntry}
-use Rattle.linker_elf.specs.declared.elf.choice_table.ValueCondition.{ValueCondition}
 use Rattle.linker_elf.specs.declared.elf.value.Operands.{Operands}
 
 -- ---- lists of conditions
@@ -117,13 +116,13 @@ AreHeld row after facts e = AllHold row after facts (conditions_of e)
 
 parts : {O K R : Type 0} → (row : R → Option RelocationKindInfo) (after : Operands) (facts : LinkFacts) (e : ChoiceEntry O K R)
     → (IsTrue (facts_hold e.conditions.facts facts)
-    × (IfSome e.conditions.addend (λ x. facts.operands.addend ≡ x) × ValuesHold row after facts e.conditions.values.now))
+    × (IfSome e.conditions.addend (λ x. facts.operands.addend ≡ x) × ValuesHold row after facts e.conditions.values))
     ↔ AreHeld row after facts e
 parts row after facts e =
     let f = all_facts row after facts e.conditions.facts in
     let a = addend_holds row after facts e.conditions.addend in
-    let second = all_hold_both row after facts (addend_condition e.conditions.addend) (value_conditions e.conditions.values.now) in
-    let first = all_hold_both row after facts (fact_conditions e.conditions.facts) (addend_condition e.conditions.addend ++ value_conditions e.conditions.values.now) in (
+    let second = all_hold_both row after facts (addend_condition e.conditions.addend) (value_conditions e.conditions.values) in
+    let first = all_hold_both row after facts (fact_conditions e.conditions.facts) (addend_condition e.conditions.addend ++ value_conditions e.conditions.values) in (
       λ h. first.1 (f.1 (h.0, tt), second.1 (a.0 h.1.0, h.1.1)),
       λ h. ((f.0 (first.0 h).0).0, (a.1 (second.0 (first.0 h).1).0, (second.0 (first.0 h).1).1)),
     )
@@ -134,6 +133,32 @@ pub without_fact : {O K R : Type 0} → (row : R → Option RelocationKindInfo) 
 without_fact row after facts e M n =
     (λ h. absurd (true≢false (sym h)), λ h. absurd (true≢false (sym ((parts row after facts e).1 h.1).0 ∙ n)))
 
+false_both : (a b : Bool) → a ≡ false → (a && b) ≡ false
+false_both true b n = absurd (true≢false n)
+false_both false b n = refl
+
+-- of the first three the last two fail
+second_third : (a b c : Bool) → (b && c) ≡ false → (a && b && c) ≡ false
+second_third true b c n = n
+second_third false b c n = refl
+
+-- where facts fail that seldom hold, all do
+seldom_fails : (mask : ℕ) (facts : LinkFacts) → seldom_facts_hold mask facts ≡ false → facts_hold mask facts ≡ false
+seldom_fails mask facts n =
+    false_both _ _ (false_both _ _ (false_both _ _ (false_both _ _ (false_both _ _ (false_both _ _
+    (false_both _ _ (false_both _ _ (false_both _ _ (false_both _ _ (false_both _ _ (second_third
+    (is_held mask 1 (facts.is_local && not facts.is_ifunc)) (is_held mask 2 facts.is_undefined_weak)
+    (is_held mask 4 facts.has_fixed_address) n)))))))))))
+
+pub without_seldom_fact : {O K R : Type 0} → (row : R → Option RelocationKindInfo) (after : Operands) (facts : LinkFacts)
+    → (e : ChoiceEntry O K R) (M : Type 0) → seldom_facts_hold e.conditions.facts facts ≡ false
+    → IsTrue false ↔ (M × AllHold row after facts (conditions_of e))
+without_seldom_fact row after facts e M n =
+    without_fact row after facts e M (seldom_fails e.conditions.facts facts n)
+
+pub without_instructions : {M N : Type 0} → (M → ⊥) → IsTrue false ↔ (M × N)
+without_instructions n = (λ h. absurd (true≢false (sym h)), λ h. absurd (n h.0))
+
 pub without_addend : {O K R : Type 0} → (row : R → Option RelocationKindInfo) (after : Operands) (facts : LinkFacts) (e : ChoiceEntry O K R)
     → (M : Type 0) → (IfSome e.conditions.addend (λ x. facts.operands.addend ≡ x) → ⊥) → IsTrue false ↔ (M × AllHold row after facts (conditions_of e))
 without_addend row after facts e M n =
@@ -141,23 +166,9 @@ without_addend row after facts e M n =
 
 pub by_values : {O K R : Type 0} → (row : R → Option RelocationKindInfo) (after : Operands) (facts : LinkFacts) (e : ChoiceEntry O K R)
     → (M : Type 0) (r : Bool) → facts_hold e.conditions.facts facts ≡ true → IfSome e.conditions.addend (λ x. facts.operands.addend ≡ x) → M
-    → (IsTrue r ↔ ValuesHold row after facts e.conditions.values.now) → IsTrue r ↔ (M × AllHold row after facts (conditions_of e))
+    → (IsTrue r ↔ ValuesHold row after facts e.conditions.values) → IsTrue r ↔ (M × AllHold row after facts (conditions_of e))
 by_values row after facts e M r f a m v =
     (λ h. (m, (parts row after facts e).0 (f, (a, v.0 h))), λ h. v.1 ((parts row after facts e).1 h.1).1.1)
-
--- ---- walks through lists
-
-pub values_step : {R : Type 0} → (row : R → Option RelocationKindInfo) (after : Operands) (facts : LinkFacts)
-    → (vs : List (ValueCondition R)) (i : ℕ) (d : ValueCondition R) → i < length vs
-    → ValuesHold row after facts (drop i vs)
-    ↔ (Holds row after facts (value_condition (get_or vs i d)) × ValuesHold row after facts (drop (i + 1) vs))
-values_step row after facts vs i d within =
-    let e = drop_more vs i d within in
-    (λ h. subst (ValuesHold row after facts) e h, λ h. subst (ValuesHold row after facts) (sym e) h)
-
-pub values_end : {R : Type 0} → (row : R → Option RelocationKindInfo) (after : Operands) (facts : LinkFacts)
-    → (vs : List (ValueCondition R)) (i : ℕ) → length vs ≤ i → ValuesHold row after facts (drop i vs)
-values_end row after facts vs i end = subst (ValuesHold row after facts) (sym (drop_all i vs end)) tt
 
 -- ---- the choice of an index
 
@@ -240,7 +251,7 @@ first_of_table {O} {K} {R} are_at Asked row after section o facts (e ∷ es) (d 
     ))
 
 -- whether the code's table is empty is whether the definition's is
-pub is_empty_table : {O K R : Type 0} → (are_at : O → K → List ℕ → ℕ → Type 0) (Asked : K → List ℕ → ℕ → Type 0)
+is_empty_table : {O K R : Type 0} → (are_at : O → K → List ℕ → ℕ → Type 0) (Asked : K → List ℕ → ℕ → Type 0)
     → (es : List (ChoiceEntry O K R)) (ds : List (Entry K R)) (is : Bool) → IsTableOf are_at Asked es ds → is ≡ (length es == 0)
     → (not is ≡ false) ↔ (ds ≡ [])
 is_empty_table are_at Asked [] [] is table known = (λ h. refl, λ h. ap not known)
@@ -250,6 +261,15 @@ is_empty_table are_at Asked (e ∷ es) (d ∷ ds) true table known =
     absurd (let none : length (e ∷ es) ≡ 0 = eqb-true (length (e ∷ es)) 0 (sym known) in omega (arith, none))
 is_empty_table are_at Asked (e ∷ es) (d ∷ ds) false table known =
     (λ h. absurd (true≢false h), λ h. absurd (let none : length (d ∷ ds) ≡ 0 = ap length h in omega (arith, none)))
+
+-- whether the code's table for the sample has entries is whether the definition has some somewhere
+pub is_listed : {O K R : Type 0} → (are_at : O → K → List ℕ → ℕ → Type 0) (required : R → List ℕ → ℕ → K → List ℕ → ℕ → Type 0)
+    → (entries : R → List ℕ → ℕ → List (Entry K R)) → AreSampled entries → (name : R) (es : List (ChoiceEntry O K R)) (is : Bool)
+    → IsTableOf are_at (required name (0x8b ∷ []) 2) es (entries name (0x8b ∷ []) 2) → is ≡ not (length es == 0)
+    → (is ≡ false) ↔ ((section : List ℕ) (o : ℕ) → entries name section o ≡ [])
+is_listed are_at required entries sampled name es is table known =
+    let here = is_empty_table are_at (required name (0x8b ∷ []) 2) es (entries name (0x8b ∷ []) 2) (length es == 0) table refl in
+    (λ none. sampled name (here.0 (sym known ∙ none)), λ all. known ∙ here.1 (all (0x8b ∷ []) 2))
 
 -- what holds of the choice of each entry that applies, and of the other choice, holds of what is chosen
 pub holds_of_first : {K R : Type 0} → (A : Entry K R → Type 0) (P : Choice K R → Type 0) (es : List (Entry K R))
@@ -278,10 +298,10 @@ isnt_last A es otherwise chosen false first known =
     (λ h. λ last. true≢false (sym (known.1 (only_one A es otherwise chosen otherwise first last))), λ fits. refl)
 
 -- the choice that changes nothing is the last one
-pub unchanged_is : {K R : Type 0} → {none : K} {IsNoOp : K → Type 0} {equal : R → R → Bool} → AreEqualities none IsNoOp equal
+pub unchanged_is : {K R : Type 0} → {none : K} {IsNoOp IsDefault : K → Type 0} {equal : R → R → Bool} → AreEqualities none IsNoOp IsDefault equal
     → (name : R) (c : Choice K R) (is : Bool) → (IsTrue is ↔ (IsNoOp c.kind × IsTrue (equal c.relocation name)))
     → IsTrue is ↔ (c ≡ choice none name)
-unchanged_is {K} {R} {none} laws name c is known = (
+unchanged_is {K} {R} {none} {IsNoOp} {IsDefault} {equal} laws name c is known = (
   λ h. subst (λ k. c ≡ choice k name) ((laws.kinds c.kind).0 (known.0 h).0)
       (subst (λ r. c ≡ choice c.kind r) ((laws.names c.relocation name).0 (known.0 h).1) refl),
   λ e. known.1 ((laws.kinds c.kind).1 (ap (λ x. x.kind) e), (laws.names c.relocation name).1 (ap (λ x. x.relocation) e)),

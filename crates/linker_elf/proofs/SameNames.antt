@@ -63,5 +63,6 @@ exact_code x y = (λ h. ap (λ n. (n, tt)) (eqb-true x.0 y.0 h), λ e. eq-eqb x.
 
 -- what an architecture's rewrites and names keep
 pub equalities : {K : Type 0} (none : K) (N : Record) (tests : Tests N.parts) → AreExact N.parts tests
-    → AreEqualities none (λ kind. kind ≡ none) (λ (a b : N.D). by false false N.parts (each_by N.parts tests) (N.as_values a) (N.as_values b))
-equalities none N tests exact = record { kinds = λ kind. (λ h. h, λ h. h); names = same_value N tests exact }
+    → AreEqualities none (λ kind. kind ≡ none) (λ kind. kind ≡ none) (λ (a b : N.D). by false false N.parts (each_by N.parts tests) (N.as_values a) (N.as_values b))
+equalities none N tests exact =
+    record { kinds = λ kind. (λ h. h, λ h. h); defaults = λ kind h. h; names = same_value N tests exact }

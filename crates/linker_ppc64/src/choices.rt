@@ -11,8 +11,7 @@ ghost use Rattle.linker_ppc64.specs.declared.rewrites.RelaxationKind.TheVariants
 
 use super::rewrites::RelaxationKind;
 use linker_elf::elf::choice_table::{
-    BOUND, CHANGED_TOC, Chosen, ChosenByTable, ChosenKind, EXCLUSIVE_TOC_BASE, EXECUTABLE,
-    FIXED_ADDRESS, FIXED_DISTANCE, GROUP_FITS, Table, all_tables, by_table, choice_by, conditions,
+    Chosen, ChosenByTable, ChosenKind, Table, by_table, choice_by, conditions,
 };
 use linker_elf::elf::{Choice, LinkFacts, Operands};
 use linker_elf::ppc64::{Ppc64Relocation, Ppc64Relocation as Names};
@@ -35,11 +34,6 @@ impl ChosenKind for RelaxationKind {
     ghost laws = { equalities kinds.NoOp names (λ x y. x.0 == y.0, tt) (exact_code, tt) };
 
     #[inline(always)]
-    fn none() -> Self {
-        RelaxationKind::NoOp
-    }
-
-    #[inline(always)]
     fn stand_at(self, originals: &AskedFor, section: &[u8], offset: u64) -> bool {
         self.matches(section, offset)
     }
@@ -60,13 +54,9 @@ macro_rules! when {
     (without_high_offset) => {
         conditions!(BOUND + EXECUTABLE + EXCLUSIVE_TOC_BASE + GROUP_FITS, InReach(R_PPC64_TPREL16))
     };
-    // the address by its distance from the TOC pointer
-    (to_toc_distance) => {
-        conditions!(BOUND + FIXED_DISTANCE, InReachIfKnown(R_PPC64_TOC16_HA))
-    };
-    // the address by its distance from the instruction
-    (to_distance) => {
-        conditions!(BOUND + FIXED_DISTANCE, InReachIfKnown(R_PPC64_PCREL34))
+    // the address by its distance from the TOC pointer or the instruction
+    (to_distance $name:ident) => {
+        conditions!(BOUND + FIXED_DISTANCE, InReachIfKnown($name))
     };
     // the offset from the thread pointer in the instructions
     (to_local_exec) => {
@@ -115,9 +105,9 @@ macro_rules! choices {
             R_PPC64_TOC16_HA: [AddisToNop => R_PPC64_NONE, without_high_part]
             R_PPC64_TOC16_LO: [BaseToToc => R_PPC64_TOC16, without_high_part]
             R_PPC64_TOC16_LO_DS: [BaseToToc => R_PPC64_TOC16_DS, without_high_part]
-            R_PPC64_GOT16_HA: [KeepAddis => R_PPC64_TOC16_HA, to_toc_distance]
-            R_PPC64_GOT16_LO_DS: [LdToAddi => R_PPC64_TOC16_LO, to_toc_distance]
-            R_PPC64_GOT_PCREL34: [PldToPaddi => R_PPC64_PCREL34, to_distance]
+            R_PPC64_GOT16_HA: [KeepAddis => R_PPC64_TOC16_HA, to_distance(R_PPC64_TOC16_HA)]
+            R_PPC64_GOT16_LO_DS: [LdToAddi => R_PPC64_TOC16_LO, to_distance(R_PPC64_TOC16_HA)]
+            R_PPC64_GOT_PCREL34: [PldToPaddi => R_PPC64_PCREL34, to_distance(R_PPC64_PCREL34)]
             R_PPC64_GOT_TPREL16_HA: [AddisToNop => R_PPC64_NONE, to_local_exec]
             R_PPC64_GOT_TPREL16_LO_DS: [LdToAddisThread => R_PPC64_TPREL16_HA, to_local_exec]
             R_PPC64_GOT_TPREL16_DS: [LdToAddisThread => R_PPC64_TPREL16_HA, to_local_exec]
@@ -156,22 +146,17 @@ macro_rules! choices {
     };
 }
 
-static TABLES: &[Table<RelaxationKind>] = choices!(all_tables(when));
-
 impl ChosenByTable for RelaxationKind {
-    #[inline(always)]
-    fn may_be_listed(name: Names) -> bool {
-        !Self::entries(name, &[], 0).is_empty()
-    }
+    ghost sampled = { λ name none section o. none };
 
     #[inline(always)]
     fn entries(name: Names, _section: &[u8], _offset: u64) -> Table<Self> {
-        choices!(by_table(TABLES, name, table => table))
+        choices!(by_table(when, name, table => table))
     }
 
     #[inline(never)]
     fn choose_listed(name: Names, section: &[u8], offset: u64, facts: &LinkFacts) -> Chosen<Self> {
-        choices!(by_table(TABLES, name, table => choice_by(table, name, section, offset, facts)))
+        choices!(by_table(when, name, table => choice_by(table, name, section, offset, facts)))
     }
 }
 

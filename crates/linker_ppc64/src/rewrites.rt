@@ -45,9 +45,10 @@ use linker_elf::ppc64::Ppc64Relocation;
 /// RelaxationKind::LdToAddi.apply(&mut ld, &mut offset, &mut addend);
 /// assert_eq!(u32::from_le_bytes(ld), 0x392a_0000);
 /// ```
-#[derive(Debug, Clone, Copy, PartialEq, Eq)]
+#[derive(Debug, Default, Clone, Copy, PartialEq, Eq)]
 pub enum RelaxationKind {
     /// Leaves the instruction as it is; only the kind of its relocation changes.
+    #[default]
     NoOp,
     /// Writes `nop` in place of `addis rT,2`.
     AddisToNop,

@@ -15,9 +15,7 @@ use super::rewrites::{is_add_tp, is_addi_to_a0, is_auipc, is_ld, is_lui, word_at
 use super::{RelaxationKind, RiscVRelocation, RiscVRelocation as Names};
 use linker_base::rewrite::has_window;
 use linker_elf::elf::choice_table::{
-    BOUND, COMPRESSIBLE, Chosen, ChosenByTable, ChosenKind, EXECUTABLE, FIXED_ADDRESS,
-    FIXED_DISTANCE, GOT_HIGH_PART, LABEL_RELAXABLE, RELAXABLE, Table, WITHOUT_PLT, all_tables,
-    by_table, choice_by, conditions,
+    Chosen, ChosenByTable, ChosenKind, SIGNED_12, Table, by_table, choice_by, conditions,
 };
 use linker_elf::elf::{Choice, LinkFacts, Operands};
 
@@ -43,11 +41,6 @@ impl ChosenKind for RelaxationKind {
     ghost laws = { equalities kinds.NoOp names (λ x y. x.0 == y.0, tt) (exact_code, tt) };
 
     #[inline(always)]
-    fn none() -> Self {
-        RelaxationKind::NoOp
-    }
-
-    #[inline(always)]
     fn stand_at(self, originals: &AskedFor, section: &[u8], offset: u64) -> bool {
         match originals {
             AskedFor::OfRewrite => self.matches(section, offset),
@@ -66,9 +59,6 @@ impl ChosenKind for RelaxationKind {
     }
 }
 
-/// The numbers of 12 bits in two's complement.
-const SIGNED_12: (i64, i64) = (-0x800, 0x800);
-
 /// The conditions of entries, by the names that the definition has for them. Behind some a further fact
 /// stands that has to hold.
 macro_rules! when {
@@ -84,12 +74,8 @@ macro_rules! when {
         )
     };
     // 12 signed bits hold the address
-    (with_low_part) => {
-        conditions!(FIXED_ADDRESS, Low12)
-    };
-    // and instructions may be deleted
-    (by_low_part) => {
-        conditions!(FIXED_ADDRESS + RELAXABLE, Low12)
+    (with_low_part $($fact:ident)?) => {
+        conditions!(FIXED_ADDRESS $(+ $fact)?, Low12)
     };
     // a `c.lui` holds the high part
     (by_short_high_part) => {
@@ -137,12 +123,12 @@ macro_rules! choices {
                 CallToJal => R_RISCV_JAL, by_jump;
             ]
             R_RISCV_HI20: [
-                Hi20Delete => R_RISCV_NONE, by_low_part;
+                Hi20Delete => R_RISCV_NONE, with_low_part(RELAXABLE);
                 Hi20ToCLui => R_RISCV_RVC_LUI, by_short_high_part;
             ]
             R_RISCV_RVC_LUI: [CLuiToCLi => R_RISCV_NONE, with_low_part]
-            R_RISCV_LO12_I: [Lo12Rs1ToZero => R_RISCV_LO12_I, by_low_part]
-            R_RISCV_LO12_S: [Lo12Rs1ToZero => R_RISCV_LO12_S, by_low_part]
+            R_RISCV_LO12_I: [Lo12Rs1ToZero => R_RISCV_LO12_I, with_low_part(RELAXABLE)]
+            R_RISCV_LO12_S: [Lo12Rs1ToZero => R_RISCV_LO12_S, with_low_part(RELAXABLE)]
             R_RISCV_TPREL_HI20: [Delete at Lui => R_RISCV_NONE, by_low_offset]
             R_RISCV_TPREL_ADD: [Delete at AddTp => R_RISCV_NONE, by_low_offset]
             R_RISCV_TPREL_LO12_I: [BaseToTp => R_RISCV_TPREL_LO12_I, by_low_offset]
@@ -176,22 +162,17 @@ macro_rules! choices {
     };
 }
 
-static TABLES: &[Table<RelaxationKind>] = choices!(all_tables(when));
-
 impl ChosenByTable for RelaxationKind {
-    #[inline(always)]
-    fn may_be_listed(name: Names) -> bool {
-        !Self::entries(name, &[], 0).is_empty()
-    }
+    ghost sampled = { λ name none section o. none };
 
     #[inline(always)]
     fn entries(name: Names, _section: &[u8], _offset: u64) -> Table<Self> {
-        choices!(by_table(TABLES, name, table => table))
+        choices!(by_table(when, name, table => table))
     }
 
     #[inline(never)]
     fn choose_listed(name: Names, section: &[u8], offset: u64, facts: &LinkFacts) -> Chosen<Self> {
-        choices!(by_table(TABLES, name, table => choice_by(table, name, section, offset, facts)))
+        choices!(by_table(when, name, table => choice_by(table, name, section, offset, facts)))
     }
 }
 

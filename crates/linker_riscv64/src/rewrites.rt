@@ -33,9 +33,10 @@ use linker_elf::elf::{InstructionRewrite, RelocationKindInfo, RiscVInstruction};
 use linker_elf::riscv64::{self as relocations, RiscVRelocation};
 
 /// A rewrite of one instruction, or of a pair whose second instruction is then deleted.
-#[derive(Debug, Clone, Copy, PartialEq, Eq)]
+#[derive(Debug, Default, Clone, Copy, PartialEq, Eq)]
 pub enum RelaxationKind {
     /// Leaves the instruction as it is; only the kind of its relocation changes.
+    #[default]
     NoOp,
     /// Writes two `c.nop` in place of four bytes. Requires the C extension.
     ReplaceWithNop,

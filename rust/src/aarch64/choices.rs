@@ -7,8 +7,7 @@ use super::rewrites::{
 use crate::linker_base::rewrite::has_window;
 use crate::linker_elf::aarch64::{AArch64Relocation, AArch64Relocation as Names};
 use crate::linker_elf::elf::choice_table::{
-    BOUND, Chosen, ChosenByTable, ChosenKind, EXECUTABLE, FIXED_DISTANCE, GROUP_FITS, Table,
-    WEAK_ZERO, all_tables, by_table, choice_by, conditions,
+    Chosen, ChosenByTable, ChosenKind, Table, by_table, choice_by, conditions,
 };
 use crate::linker_elf::elf::{Choice, LinkFacts, Operands};
 
@@ -77,11 +76,6 @@ impl ChosenKind for RelaxationKind {
     type Originals = AskedFor;
 
     #[inline(always)]
-    fn none() -> Self {
-        RelaxationKind::NoOp
-    }
-
-    #[inline(always)]
     fn stand_at(self, originals: &AskedFor, section: &[u8], offset: u64) -> bool {
         match *originals {
             AskedFor::OfRewrite => self.matches(section, offset),
@@ -113,13 +107,13 @@ macro_rules! when {
     (to_adr) => {
         conditions!(FIXED_DISTANCE, InReach(R_AARCH64_ADR_PREL_LO21))
     };
-    // the offset from the thread pointer in the instructions
-    (to_local_exec) => {
-        conditions!(BOUND + EXECUTABLE, InReachIfKnown(R_AARCH64_TLSLE_MOVW_TPREL_G1))
-    };
-    // the same by halves that may stand apart
-    (halves_to_local_exec) => {
-        conditions!(BOUND + EXECUTABLE + GROUP_FITS, InReachIfKnown(R_AARCH64_TLSLE_MOVW_TPREL_G1))
+    // the offset from the thread pointer in the instructions; with `GROUP_FITS` by halves that may
+    // stand apart
+    (to_local_exec $($fact:ident)?) => {
+        conditions!(
+            BOUND + EXECUTABLE $(+ $fact)?,
+            InReachIfKnown(R_AARCH64_TLSLE_MOVW_TPREL_G1)
+        )
     };
     // that offset in the GOT: `adrp` is so many bytes before
     (to_initial_exec $back:literal) => {
@@ -144,10 +138,10 @@ macro_rules! choices {
             ]
             R_AARCH64_ADD_ABS_LO12_NC: [AdrpAddToNopAdr => R_AARCH64_ADR_PREL_LO21, to_adr]
             R_AARCH64_TLSIE_ADR_GOTTPREL_PAGE21: [
-                MovzXnLsl16 => R_AARCH64_TLSLE_MOVW_TPREL_G1, halves_to_local_exec;
+                MovzXnLsl16 => R_AARCH64_TLSLE_MOVW_TPREL_G1, to_local_exec(GROUP_FITS);
             ]
             R_AARCH64_TLSIE_LD64_GOTTPREL_LO12_NC: [
-                MovkXn => R_AARCH64_TLSLE_MOVW_TPREL_G0_NC, halves_to_local_exec;
+                MovkXn => R_AARCH64_TLSLE_MOVW_TPREL_G0_NC, to_local_exec(GROUP_FITS);
             ]
             R_AARCH64_TLSDESC_ADR_PAGE21: [
                 MovzX0Lsl16 at OfDescriptor(0) => R_AARCH64_TLSLE_MOVW_TPREL_G1, to_local_exec;
@@ -173,22 +167,15 @@ macro_rules! choices {
     };
 }
 
-const TABLES: &[Table<RelaxationKind>] = choices!(all_tables(when));
-
 impl ChosenByTable for RelaxationKind {
     #[inline(always)]
-    fn may_be_listed(name: Names) -> bool {
-        !Self::entries(name, &[], 0).is_empty()
-    }
-
-    #[inline(always)]
     fn entries(name: Names, _section: &[u8], _offset: u64) -> Table<Self> {
-        choices!(by_table(TABLES, name, table => table))
+        choices!(by_table(when, name, table => table))
     }
 
     #[inline(never)]
     fn choose_listed(name: Names, section: &[u8], offset: u64, facts: &LinkFacts) -> Chosen<Self> {
-        choices!(by_table(TABLES, name, table => choice_by(table, name, section, offset, facts)))
+        choices!(by_table(when, name, table => choice_by(table, name, section, offset, facts)))
     }
 }
 

@@ -20,9 +20,10 @@ use crate::linker_elf::elf::{InstructionRewrite, OtherRelocation};
 /// RelaxationKind::AdrpToAdr.apply(&mut adrp, &mut offset, &mut addend);
 /// assert_eq!(u32::from_le_bytes(adrp), 0x3000_0003);
 /// ```
-#[derive(Debug, Clone, Copy, PartialEq, Eq, Hash, PartialOrd, Ord)]
+#[derive(Debug, Default, Clone, Copy, PartialEq, Eq, Hash, PartialOrd, Ord)]
 pub enum RelaxationKind {
     /// Leaves the instruction as it is; only the kind of its relocation changes.
+    #[default]
     NoOp,
     /// Writes `nop`.
     ReplaceWithNop,
@@ -108,7 +109,8 @@ fn is_into_own_source(word: u32) -> bool {
 /// Whether the words are `adrp xN` and an instruction from xN into xN.
 #[inline(always)]
 pub(super) fn are_of_one_register(adrp: u32, word: u32) -> bool {
-    is_adrp(adrp) && is_into_own_source(word) && destination(adrp) == destination(word)
+    let register = destination(adrp);
+    is_adrp(adrp) && register != 31 && word & 0x3ff == register * 33
 }
 
 /// Whether `adrp xN` and `add xN, xN, #imm` or `ldr xN, [xN, #imm]`, both of 64 bits, stand next to

@@ -6,8 +6,7 @@ use super::rewrites::{
 };
 use crate::linker_base::rewrite::has_window;
 use crate::linker_elf::elf::choice_table::{
-    BOUND, Chosen, ChosenByTable, ChosenKind, EXECUTABLE, FIXED_DISTANCE, GROUP_FITS, RELAXABLE,
-    Table, all_tables, by_table, choice_by, conditions,
+    Chosen, ChosenByTable, ChosenKind, SIGNED_12, Table, by_table, choice_by, conditions,
 };
 use crate::linker_elf::elf::{Choice, LinkFacts, Operands};
 use crate::linker_elf::loongarch64::{LoongArch64Relocation, LoongArch64Relocation as Names};
@@ -56,11 +55,6 @@ impl ChosenKind for RelaxationKind {
     type Originals = AskedFor;
 
     #[inline(always)]
-    fn none() -> Self {
-        RelaxationKind::NoOp
-    }
-
-    #[inline(always)]
     fn stand_at(self, originals: &AskedFor, section: &[u8], offset: u64) -> bool {
         match *originals {
             AskedFor::OfRewrite => self.matches(section, offset),
@@ -90,12 +84,10 @@ impl ChosenKind for RelaxationKind {
     }
 }
 
-/// The numbers of 32 bits in two's complement, the immediates of `ori`, and those of `addi.d`.
+/// The numbers of 32 bits in two's complement, and the immediates of `ori`.
 const SIGNED_32: (i64, i64) = (-0x8000_0000, 0x8000_0000);
 
 const UNSIGNED_12: (i64, i64) = (0, 0x1000);
-
-const SIGNED_12: (i64, i64) = (-0x800, 0x800);
 
 /// The conditions of entries, by the names that the definition has for them. Behind some stands how
 /// many bytes before the first instruction is.
@@ -218,22 +210,15 @@ macro_rules! choices {
     };
 }
 
-const TABLES: &[Table<RelaxationKind>] = choices!(all_tables(when));
-
 impl ChosenByTable for RelaxationKind {
     #[inline(always)]
-    fn may_be_listed(name: Names) -> bool {
-        !Self::entries(name, &[], 0).is_empty()
-    }
-
-    #[inline(always)]
     fn entries(name: Names, _section: &[u8], _offset: u64) -> Table<Self> {
-        choices!(by_table(TABLES, name, table => table))
+        choices!(by_table(when, name, table => table))
     }
 
     #[inline(never)]
     fn choose_listed(name: Names, section: &[u8], offset: u64, facts: &LinkFacts) -> Chosen<Self> {
-        choices!(by_table(TABLES, name, table => choice_by(table, name, section, offset, facts)))
+        choices!(by_table(when, name, table => choice_by(table, name, section, offset, facts)))
     }
 }
 

@@ -19,9 +19,10 @@ use crate::linker_elf::elf::InstructionRewrite;
 /// RelaxationKind::LdToAddi.apply(&mut ld, &mut offset, &mut addend);
 /// assert_eq!(u32::from_le_bytes(ld), 0x02c0_0084);
 /// ```
-#[derive(Debug, Clone, Copy, PartialEq, Eq, Hash, PartialOrd, Ord)]
+#[derive(Debug, Default, Clone, Copy, PartialEq, Eq, Hash, PartialOrd, Ord)]
 pub enum RelaxationKind {
     /// Leaves the instruction as it is; only the kind of its relocation changes.
+    #[default]
     NoOp,
     /// Turns the instruction into `nop`.
     ReplaceWithNop,

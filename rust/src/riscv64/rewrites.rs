@@ -10,9 +10,10 @@ use crate::linker_elf::elf::{InstructionRewrite, RelocationKindInfo, RiscVInstru
 use crate::linker_elf::riscv64::{self as relocations, RiscVRelocation};
 
 /// A rewrite of one instruction, or of a pair whose second instruction is then deleted.
-#[derive(Debug, Clone, Copy, PartialEq, Eq, Hash, PartialOrd, Ord)]
+#[derive(Debug, Default, Clone, Copy, PartialEq, Eq, Hash, PartialOrd, Ord)]
 pub enum RelaxationKind {
     /// Leaves the instruction as it is; only the kind of its relocation changes.
+    #[default]
     NoOp,
     /// Writes two `c.nop` in place of four bytes. Requires the C extension.
     ReplaceWithNop,

@@ -4,9 +4,7 @@
 use super::rewrites::{is_lea_of_descriptor, is_legacy};
 use super::{RelaxationKind, X86_64Relocation, X86_64Relocation as Names};
 use crate::linker_elf::elf::choice_table::{
-    BOUND, Chosen, ChosenByTable, ChosenKind, EXECUTABLE, FIXED_ADDRESS, FIXED_DISTANCE,
-    GROUP_FITS, LOCAL_EXEC_BASE, Table, WEAK_ZERO, all_tables, by_table, choice_by, conditions,
-    table_of,
+    Chosen, ChosenByTable, ChosenKind, Table, by_table, choice_by, conditions, table_of,
 };
 use crate::linker_elf::elf::{Choice, LinkFacts, Operands};
 
@@ -26,11 +24,6 @@ impl ChosenKind for RelaxationKind {
     type Relocation = Names;
 
     type Originals = AskedFor;
-
-    #[inline(always)]
-    fn none() -> Self {
-        RelaxationKind::NoOp
-    }
 
     #[inline(always)]
     fn stand_at(self, originals: &AskedFor, section: &[u8], offset: u64) -> bool {
@@ -84,7 +77,8 @@ macro_rules! when {
     (address $fact:ident $reach:ident $name:ident) => {
         conditions!($fact + FIXED_ADDRESS, Some(END_OF_FIELD), $reach($name))
     };
-    // an access by the offset from the thread pointer
+    // an access by the offset from the thread pointer; with `GROUP_FITS` of a sequence, which is
+    // rewritten whole or not at all
     (local_exec $($fact:ident)?) => {
         conditions!(
             BOUND + EXECUTABLE $(+ $fact)?,
@@ -92,10 +86,7 @@ macro_rules! when {
             InReachIfKnown(R_X86_64_TPOFF32)
         )
     };
-    // the same of a sequence, which is rewritten whole or not at all, and that offset in the GOT
-    (to_local_exec) => {
-        when!(local_exec GROUP_FITS)
-    };
+    // that offset in the GOT
     (to_initial_exec) => {
         conditions!(
             EXECUTABLE + GROUP_FITS,
@@ -119,8 +110,8 @@ macro_rules! choices {
         $make! {
             $arguments
             R_X86_64_TLSGD: [
-                TlsGdToLocalExec => R_X86_64_TPOFF32, to_local_exec;
-                TlsGdToLocalExecLarge => R_X86_64_TPOFF32, to_local_exec;
+                TlsGdToLocalExec => R_X86_64_TPOFF32, local_exec(GROUP_FITS);
+                TlsGdToLocalExecLarge => R_X86_64_TPOFF32, local_exec(GROUP_FITS);
                 TlsGdToInitialExec => R_X86_64_GOTTPOFF, to_initial_exec;
             ]
             R_X86_64_TLSLD: [
@@ -131,29 +122,25 @@ macro_rules! choices {
             R_X86_64_DTPOFF32: [NoOp => R_X86_64_TPOFF32, from_thread_pointer(R_X86_64_TPOFF32)]
             R_X86_64_DTPOFF64: [NoOp => R_X86_64_TPOFF64, from_thread_pointer(R_X86_64_TPOFF64)]
             R_X86_64_GOTPC32_TLSDESC: [
-                TlsDescToLocalExec(3) at LeaOfDescriptor(3) => R_X86_64_TPOFF32, to_local_exec;
+                TlsDescToLocalExec(3) at LeaOfDescriptor(3) => R_X86_64_TPOFF32, local_exec(GROUP_FITS);
                 TlsDescToInitialExec at LeaOfDescriptor(3) => R_X86_64_GOTTPOFF, to_initial_exec;
             ]
             R_X86_64_CODE_4_GOTPC32_TLSDESC: [
-                TlsDescToLocalExec(4) at LeaOfDescriptor(4) => R_X86_64_TPOFF32, to_local_exec;
+                TlsDescToLocalExec(4) at LeaOfDescriptor(4) => R_X86_64_TPOFF32, local_exec(GROUP_FITS);
                 TlsDescToInitialExec at LeaOfDescriptor(4) => R_X86_64_GOTTPOFF, to_initial_exec;
             ]
             R_X86_64_CODE_5_GOTPC32_TLSDESC: [
-                TlsDescToLocalExec(5) at LeaOfDescriptor(5) => R_X86_64_TPOFF32, to_local_exec;
+                TlsDescToLocalExec(5) at LeaOfDescriptor(5) => R_X86_64_TPOFF32, local_exec(GROUP_FITS);
                 TlsDescToInitialExec at LeaOfDescriptor(5) => R_X86_64_GOTTPOFF, to_initial_exec;
             ]
             R_X86_64_CODE_6_GOTPC32_TLSDESC: [
-                TlsDescToLocalExec(6) at LeaOfDescriptor(6) => R_X86_64_TPOFF32, to_local_exec;
+                TlsDescToLocalExec(6) at LeaOfDescriptor(6) => R_X86_64_TPOFF32, local_exec(GROUP_FITS);
                 TlsDescToInitialExec at LeaOfDescriptor(6) => R_X86_64_GOTTPOFF, to_initial_exec;
             ]
             R_X86_64_TLSDESC_CALL: [SkipTlsDescCall => R_X86_64_NONE, unrelocated]
         }
     };
 }
-
-const TABLES: &[Table<RelaxationKind>] = choices!(all_tables(when));
-
-const OTHERS: Table<RelaxationKind> = &[];
 
 const BRANCH: Table<RelaxationKind> = table_of!(when [
     CallIndirectToRelative => R_X86_64_PC32, distance;
@@ -173,80 +160,50 @@ macro_rules! operation {
     };
 }
 
-/// Those of all operations, by the count of the bytes before the field, the rewrite of a `mov` and
-/// the relocation of an immediate. A `mov` takes only an address that is known, since it also takes
-/// a distance.
-macro_rules! operations {
+/// Those of a `mov`, by the count of the bytes before the field, its rewrite and the relocation of an
+/// immediate. It takes only an address that is known, since it also takes a distance.
+macro_rules! moves {
     ($n:literal, $mov:ident $(($m:literal))? => $name:ident) => {
-        [
-            table_of!(when [
-                $mov $(($m))? at Legacy($n, 0x8b) => $name, address(BOUND InReach $name);
-                $mov $(($m))? at Legacy($n, 0x8b) => $name, address(WEAK_ZERO InReach $name);
-                MovIndirectToLea at Legacy($n, 0x8b) => R_X86_64_PC32, distance;
-            ]),
-            operation!(RexAddIndirectToAbsolute($n) => $name),
-            operation!(RexSubIndirectToAbsolute($n) => $name),
-            operation!(RexCmpIndirectToAbsolute($n) => $name),
-            operation!(RexAdcIndirectToAbsolute($n) => $name),
-            operation!(RexAndIndirectToAbsolute($n) => $name),
-            operation!(RexOrIndirectToAbsolute($n) => $name),
-            operation!(RexSbbIndirectToAbsolute($n) => $name),
-            operation!(RexXorIndirectToAbsolute($n) => $name),
-            operation!(RexTestIndirectToAbsolute($n) => $name),
-        ]
+        table_of!(when [
+            $mov $(($m))? at Legacy($n, 0x8b) => $name, address(BOUND InReach $name);
+            $mov $(($m))? at Legacy($n, 0x8b) => $name, address(WEAK_ZERO InReach $name);
+            MovIndirectToLea at Legacy($n, 0x8b) => R_X86_64_PC32, distance;
+        ])
     };
 }
 
-const GOT_2: &[Table<RelaxationKind>; 10] = &operations!(2, MovIndirectToAbsolute => R_X86_64_32);
-
-const GOT_3: &[Table<RelaxationKind>; 10] =
-    &operations!(3, RexMovIndirectToAbsolute(3) => R_X86_64_32S);
-
-const GOT_4: &[Table<RelaxationKind>; 10] =
-    &operations!(4, RexMovIndirectToAbsolute(4) => R_X86_64_32S);
-
-const GOT_5: &[Table<RelaxationKind>; 10] =
-    &operations!(5, RexMovIndirectToAbsolute(5) => R_X86_64_32S);
-
-const GOT_6: &[Table<RelaxationKind>; 10] =
-    &operations!(6, RexMovIndirectToAbsolute(6) => R_X86_64_32S);
-
-/// The entries of initial-exec accesses, by the count of the bytes before the field.
-macro_rules! accesses {
-    ($n:literal) => {
-        [
-            table_of!(when [RexMovIndirectToAbsolute($n) => R_X86_64_TPOFF32, local_exec]),
-            table_of!(when [RexAddIndirectToAbsolute($n) => R_X86_64_TPOFF32, local_exec]),
-        ]
-    };
-}
-
-const GOTTPOFF_3: &[Table<RelaxationKind>; 2] = &accesses!(3);
-
-const GOTTPOFF_4: &[Table<RelaxationKind>; 2] = &accesses!(4);
-
-const GOTTPOFF_5: &[Table<RelaxationKind>; 2] = &accesses!(5);
-
-const GOTTPOFF_6: &[Table<RelaxationKind>; 2] = &accesses!(6);
-
-/// What the table of an operation is used for, or with `access` that of an initial-exec access.
+/// What the table of an opcode is used for: that of an operation, by the same as for a `mov`, or with
+/// `access` that of an initial-exec access.
 macro_rules! by_opcode {
-    ($tables:ident, $opcode:expr, $table:ident => $use:expr) => {
+    ($n:literal; $($use:tt)*) => {
+        by_opcode!($n, RexMovIndirectToAbsolute($n) => R_X86_64_32S; $($use)*)
+    };
+    ($n:literal, $mov:ident $(($m:literal))? => $name:ident; $($use:tt)*) => {
         by_opcode!(
-            @ [0 0x8b 1 0x03 2 0x2b 3 0x3b 4 0x13 5 0x23 6 0x0b 7 0x1b 8 0x33 9 0x85]
-            $tables, $opcode, $table => $use
+            @ $($use)*;
+            0x8b moves!($n, $mov $(($m))? => $name);
+            0x03 operation!(RexAddIndirectToAbsolute($n) => $name);
+            0x2b operation!(RexSubIndirectToAbsolute($n) => $name);
+            0x3b operation!(RexCmpIndirectToAbsolute($n) => $name);
+            0x13 operation!(RexAdcIndirectToAbsolute($n) => $name);
+            0x23 operation!(RexAndIndirectToAbsolute($n) => $name);
+            0x0b operation!(RexOrIndirectToAbsolute($n) => $name);
+            0x1b operation!(RexSbbIndirectToAbsolute($n) => $name);
+            0x33 operation!(RexXorIndirectToAbsolute($n) => $name);
+            0x85 operation!(RexTestIndirectToAbsolute($n) => $name);
         )
     };
-    (access $tables:ident, $opcode:expr, $table:ident => $use:expr) => {
-        by_opcode!(@ [0 0x8b 1 0x03] $tables, $opcode, $table => $use)
+    (access $n:literal; $($use:tt)*) => {
+        by_opcode!(
+            @ $($use)*;
+            0x8b table_of!(when [RexMovIndirectToAbsolute($n) => R_X86_64_TPOFF32, local_exec]);
+            0x03 table_of!(when [RexAddIndirectToAbsolute($n) => R_X86_64_TPOFF32, local_exec]);
+        )
     };
-    (
-        @ [$($index:literal $of_table:literal)*]
-        $tables:ident, $opcode:expr, $table:ident => $use:expr
-    ) => {
+    (@ $opcode:expr, $table:ident => $use:expr; $($of_table:literal $entries:expr;)*) => {
         match $opcode {
-            $($of_table => { let $table = $tables[$index]; $use })*
-            _ => { let $table = OTHERS; $use }
+            $($of_table => { let $table: Table<RelaxationKind> = $entries; $use })*
+            _ => { let $table: Table<RelaxationKind> = &[]; $use }
         }
     };
 }
@@ -255,18 +212,20 @@ macro_rules! by_opcode {
 macro_rules! by_name {
     ($name:expr, $opcode:expr, $table:ident => $use:expr) => {
         choices!(by_table(
-            TABLES, $name, $table => $use;
+            when, $name, $table => $use;
             Names::R_X86_64_GOTPCREL if $opcode == 0x8b => { let $table = LOAD; $use }
             Names::R_X86_64_GOTPCRELX if $opcode == 0xff => { let $table = BRANCH; $use }
-            Names::R_X86_64_GOTPCRELX => by_opcode!(GOT_2, $opcode, $table => $use),
-            Names::R_X86_64_REX_GOTPCRELX => by_opcode!(GOT_3, $opcode, $table => $use),
-            Names::R_X86_64_CODE_4_GOTPCRELX => by_opcode!(GOT_4, $opcode, $table => $use),
-            Names::R_X86_64_CODE_5_GOTPCRELX => by_opcode!(GOT_5, $opcode, $table => $use),
-            Names::R_X86_64_CODE_6_GOTPCRELX => by_opcode!(GOT_6, $opcode, $table => $use),
-            Names::R_X86_64_GOTTPOFF => by_opcode!(access GOTTPOFF_3, $opcode, $table => $use),
-            Names::R_X86_64_CODE_4_GOTTPOFF => by_opcode!(access GOTTPOFF_4, $opcode, $table => $use),
-            Names::R_X86_64_CODE_5_GOTTPOFF => by_opcode!(access GOTTPOFF_5, $opcode, $table => $use),
-            Names::R_X86_64_CODE_6_GOTTPOFF => by_opcode!(access GOTTPOFF_6, $opcode, $table => $use),
+            Names::R_X86_64_GOTPCRELX => {
+                by_opcode!(2, MovIndirectToAbsolute => R_X86_64_32; $opcode, $table => $use)
+            }
+            Names::R_X86_64_REX_GOTPCRELX => by_opcode!(3; $opcode, $table => $use),
+            Names::R_X86_64_CODE_4_GOTPCRELX => by_opcode!(4; $opcode, $table => $use),
+            Names::R_X86_64_CODE_5_GOTPCRELX => by_opcode!(5; $opcode, $table => $use),
+            Names::R_X86_64_CODE_6_GOTPCRELX => by_opcode!(6; $opcode, $table => $use),
+            Names::R_X86_64_GOTTPOFF => by_opcode!(access 3; $opcode, $table => $use),
+            Names::R_X86_64_CODE_4_GOTTPOFF => by_opcode!(access 4; $opcode, $table => $use),
+            Names::R_X86_64_CODE_5_GOTTPOFF => by_opcode!(access 5; $opcode, $table => $use),
+            Names::R_X86_64_CODE_6_GOTTPOFF => by_opcode!(access 6; $opcode, $table => $use),
         ))
     };
 }
@@ -301,17 +260,17 @@ fn opcode_before(section: &[u8], offset: u64) -> u8 {
 
 impl ChosenByTable for RelaxationKind {
     #[inline(always)]
-    fn may_be_listed(name: Names) -> bool {
-        !entries_by(name, 0x8b).is_empty()
-    }
-
-    #[inline(always)]
     fn entries(name: Names, section: &[u8], offset: u64) -> Table<Self> {
         entries_by(name, opcode_before(section, offset))
     }
 
     #[inline(never)]
     fn choose_listed(name: Names, section: &[u8], offset: u64, facts: &LinkFacts) -> Chosen<Self> {
+        // what compilers write most, by its own test
+        if name == Names::R_X86_64_REX_GOTPCRELX && is_legacy(section, offset, 3, 0x8b) {
+            let table: Table<Self> = moves!(3, RexMovIndirectToAbsolute(3) => R_X86_64_32S);
+            return choice_by_opcode(table, name, 0x8b, section, offset, facts);
+        }
         let opcode = opcode_before(section, offset);
         by_name!(
             name, opcode, table => choice_by_opcode(table, name, opcode, section, offset, facts)

@@ -22,7 +22,7 @@ use crate::linker_elf::elf::InstructionRewrite;
 /// assert_eq!(section, [0xe9, 0, 0, 0, 0, 0x90]);
 /// assert_eq!((offset, addend), (1, -4));
 /// ```
-#[derive(Debug, Clone, Copy, PartialEq, Eq, Hash, PartialOrd, Ord)]
+#[derive(Debug, Default, Clone, Copy, PartialEq, Eq, Hash, PartialOrd, Ord)]
 pub enum RelaxationKind {
     /// Turns `mov x@GOTPCREL(%rip), %reg` into `lea x(%rip), %reg`.
     MovIndirectToLea,
@@ -41,6 +41,7 @@ pub enum RelaxationKind {
     /// Turns `jmp *x@GOTPCREL(%rip)` into `jmp x; nop`. The offset becomes 1 less.
     JmpIndirectToRelative,
     /// Leaves the instruction as it is; only the kind of its relocation changes.
+    #[default]
     NoOp,
     /// Turns a general-dynamic TLS sequence into a local-exec one.
     TlsGdToLocalExec,

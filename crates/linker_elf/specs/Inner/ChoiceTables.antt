@@ -14,6 +14,8 @@ use Rattle.linker_elf.specs.declared.elf.choice.LinkFacts.{LinkFacts}
 use Rattle.linker_elf.specs.declared.elf.choice_table.ChoiceEntry.{ChoiceEntry}
 use Rattle.linker_elf.specs.declared.elf.choice_table.ValueCondition.{ValueCondition}
 use Rattle.linker_elf.specs.declared.elf.choice_table.ValueCondition.TheVariants as values
+use Rattle.linker_elf.specs.declared.elf.choice_table.ValueConditions.{ValueConditions}
+use Rattle.linker_elf.specs.declared.elf.choice_table.ValueConditions.TheVariants as some
 use Rattle.linker_elf.specs.declared.elf.value.Operands.{Operands}
 
 -- ---- facts as masks
@@ -62,6 +64,11 @@ facts_hold mask facts =
     && is_held mask 0x1000 (facts.operands.plt_entry == facts.operands.symbol)
     && is_held mask 0x2000 facts.group_fits
 
+-- those of them hold that seldom do
+abbrev pub seldom_facts_hold : ℕ → LinkFacts → Bool
+seldom_facts_hold mask facts =
+    is_held mask 2 facts.is_undefined_weak && is_held mask 4 facts.has_fixed_address
+
 -- ---- conditions
 
 abbrev pub value_condition : {R : Type 0} → ValueCondition R → Condition R
@@ -71,12 +78,13 @@ value_condition (values.InReachIfKnown name back) = in_reach_if_known name back
 value_condition (values.Within name bounds back) = within name bounds back
 value_condition (values.WithinIfKnown name bounds back) = within_if_known name bounds back
 
-abbrev pub value_conditions : {R : Type 0} → List (ValueCondition R) → List (Condition R)
-value_conditions [] = []
-value_conditions (v ∷ vs) = value_condition v ∷ value_conditions vs
+abbrev pub value_conditions : {R : Type 0} → ValueConditions R → List (Condition R)
+value_conditions some.None = []
+value_conditions (some.One v) = value_condition v ∷ []
+value_conditions (some.Both v w) = value_condition v ∷ value_condition w ∷ []
 
 abbrev pub ValuesHold : {R : Type 0} → (R → Option RelocationKindInfo) → Operands → LinkFacts
-    → List (ValueCondition R) → Type 0
+    → ValueConditions R → Type 0
 ValuesHold row after facts vs = AllHold row after facts (value_conditions vs)
 
 abbrev pub addend_condition : {R : Type 0} → Option ℤ → List (Condition R)
@@ -87,7 +95,7 @@ addend_condition (Some a) = addend a ∷ []
 abbrev pub conditions_of : {O K R : Type 0} → ChoiceEntry O K R → List (Condition R)
 conditions_of e =
     fact_conditions e.conditions.facts
-    ++ (addend_condition e.conditions.addend ++ value_conditions e.conditions.values.now)
+    ++ (addend_condition e.conditions.addend ++ value_conditions e.conditions.values)
 
 abbrev pub entry_of : {O K R : Type 0} → ChoiceEntry O K R → Entry K R
 entry_of e = entry e.kind e.relocation (conditions_of e)
@@ -145,6 +153,13 @@ pub record Tables (K R : Type 0) : Type 1 where
   -- the rewrite that changes nothing
   pub no_op : K
 
+-- A relocation without entries where the byte two before the offset is 0x8b, which is the opcode of
+-- x86-64's `mov`, has none.
+abbrev pub AreSampled : {K R : Type 0} → (R → List ℕ → ℕ → List (Entry K R)) → Type 0
+AreSampled {K} {R} entries =
+    (name : R) → entries name (0x8b ∷ []) 2 ≡ [] → (section : List ℕ) (o : ℕ)
+    → entries name section o ≡ []
+
 -- The choice at a relocation: that of the first of its entries that applies, and else to leave the
 -- instruction and the relocation.
 abbrev pub IsChoice : {K R : Type 0} → Tables K R → (R → Option RelocationKindInfo) → R → List ℕ → ℕ
@@ -153,8 +168,10 @@ IsChoice it row name section o facts chosen =
     IsFirst (Applies (it.required name section o) row it.after section o facts)
     (it.entries name section o) (choice it.no_op name) chosen
 
--- what changes nothing is equal to one rewrite, and `==` of relocations' names is equality
-pub record AreEqualities {K R : Type 0} (no_op : K) (IsNoOp : K → Type 0) (equal : R → R → Bool)
-    : Type 0 where
+-- what changes nothing is equal to one rewrite, which is the default, and `==` of relocations' names is
+-- equality
+pub record AreEqualities {K R : Type 0} (no_op : K) (IsNoOp IsDefault : K → Type 0)
+    (equal : R → R → Bool) : Type 0 where
   pub kinds : (kind : K) → IsNoOp kind ↔ (kind ≡ no_op)
+  pub defaults : (kind : K) → IsDefault kind → kind ≡ no_op
   pub names : (a b : R) → IsTrue (equal a b) ↔ (a ≡ b)

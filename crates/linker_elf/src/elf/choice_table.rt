@@ -1,8 +1,10 @@
 //! Tables of the rewrites that a linker chooses.
 
-ghost use Rattle.std.specs.Prelude.{◌≡◌, ◌↔◌, ◌≤◌, ℕ, List, [], Option, IsTrue, IfSome, false, length};
+ghost use Rattle.std.specs.Prelude.{◌≡◌, ◌==◌, ◌↔◌, ◌≤◌, ℕ, List, [], Option, IsTrue, IfSome};
+ghost use Rattle.std.specs.Prelude.{false, not, length};
 ghost use Rattle.linker_elf.specs.Choices.{Fits, Holds, choice};
 ghost use Rattle.linker_elf.specs.Inner.ChoiceTables.{is_held, facts_hold, value_condition};
+ghost use Rattle.linker_elf.specs.Inner.ChoiceTables.{seldom_facts_hold, AreSampled};
 ghost use Rattle.linker_elf.specs.Inner.ChoiceTables.{ValuesHold, EntryApplies, IsFirstOf, IsChoiceAt};
 ghost use Rattle.linker_elf.specs.Inner.ChoiceTables.{IsTableOf, Tables, IsChoice, AreEqualities};
 ghost use Rattle.linker_elf.specs.declared.elf.RelocationKindInfo.{RelocationKindInfo};
@@ -54,6 +56,9 @@ pub const WITHOUT_PLT: u32 = 1 << 12;
 /// `group_fits`.
 pub const GROUP_FITS: u32 = 1 << 13;
 
+/// The numbers of 12 bits in two's complement, for `ValueCondition::Within`.
+pub const SIGNED_12: (i64, i64) = (-0x800, 0x800);
+
 /// What an entry requires of the value of a relocation, so many bytes before the place, or of S + A.
 #[derive(Clone, Copy)]
 pub enum ValueCondition<R> {
@@ -69,18 +74,29 @@ pub enum ValueCondition<R> {
     WithinIfKnown(R, (i64, i64), u64),
 }
 
+/// What an entry requires of values: nothing, or one or two conditions.
+#[derive(Clone, Copy)]
+pub enum ValueConditions<R> {
+    /// Nothing.
+    None,
+    /// One condition.
+    One(ValueCondition<R>),
+    /// Two, which both have to hold.
+    Both(ValueCondition<R>, ValueCondition<R>),
+}
+
 /// What an entry requires of what the linker knows.
-pub struct Conditions<R: 'static> {
+pub struct Conditions<R> {
     /// The facts that have to hold.
     pub facts: u32,
     /// The addend that the relocation has to have, if any.
     pub addend: Option<i64>,
     /// What has to hold of values.
-    pub values: &'static [ValueCondition<R>],
+    pub values: ValueConditions<R>,
 }
 
 /// An entry of a table of choices: a rewrite, the relocation after it, and when it is chosen.
-pub struct ChoiceEntry<O, K, R: 'static> {
+pub struct ChoiceEntry<O, K, R> {
     /// The instructions that it is for.
     pub originals: O,
     /// The rewrite.
@@ -101,13 +117,13 @@ pub trait RelocationName: Copy {
         ensures { result ≡ row_of self };
 }
 
-/// The rewrites of an architecture, as entries of its tables have them.
-pub trait ChosenKind: InstructionRewrite {
+/// The rewrites of an architecture, as entries of its tables have them. The default is `NoOp`.
+pub trait ChosenKind: InstructionRewrite + Default + 'static {
     /// The names of its relocations.
-    type Relocation: RelocationName + PartialEq;
+    type Relocation: RelocationName + PartialEq + 'static;
 
     /// The instructions that an entry may be for.
-    type Originals;
+    type Originals: 'static;
 
     // where they are in a section, for a rewrite
     ghost are_at: { Self.Originals → Self → List ℕ → ℕ → Type 0 };
@@ -116,8 +132,12 @@ pub trait ChosenKind: InstructionRewrite {
     ghost tables: { Tables Self Self.Relocation };
 
     /// `NoOp`.
+    #[inline(always)]
     fn none() -> Self
-        ensures { result ≡ tables.no_op };
+        ensures { result ≡ tables.no_op }
+    {
+        Self::default()
+    }
 
     /// Whether the instructions that an entry with this rewrite is for are at an offset of a section.
     fn stand_at(self, originals: &Self::Originals, section: &[u8], offset: u64) -> bool
@@ -127,8 +147,8 @@ pub trait ChosenKind: InstructionRewrite {
     fn operands_after(self, offset: u64, operands: &Operands) -> Operands
         ensures { result ≡ tables.after self offset operands.now };
 
-    // only `NoOp` changes nothing, and `==` of names is equality
-    ghost laws: { AreEqualities tables.no_op Self.no_op Self.Relocation.eq };
+    // only `NoOp` changes nothing and is the default, and `==` of names is equality
+    ghost laws: { AreEqualities tables.no_op Self.no_op Self.is_default Self.Relocation.eq };
 }
 
 /// The entries of a relocation of an architecture.
@@ -143,16 +163,20 @@ pub type Chosen<K> = Choice<K, <K as ChosenKind>::Relocation>;
 
 /// The rewrites of an architecture, which are chosen by tables.
 pub trait ChosenByTable: ChosenKind {
-    /// Whether a relocation has entries at an offset of some section.
-    fn may_be_listed(name: Self::Relocation) -> bool
-        ensures { (result ≡ false) ↔ ((section : List ℕ) (o : ℕ)
-            → Self.tables.entries name section o ≡ []) };
-
     /// The entries of a relocation at an offset of a section.
     fn entries(name: Self::Relocation, section: &[u8], offset: u64) -> Table<Self>
         ensures table { IsTableOf Self.are_at (Self.tables.required name section.now offset)
             result.now (Self.tables.entries name section.now offset) }
         ensures few { length result.now ≤ 5 };
+
+    /// Whether a relocation has entries at an offset of some section.
+    #[inline(always)]
+    fn may_be_listed(name: Self::Relocation) -> bool
+        ensures { (result ≡ false) ↔ ((section : List ℕ) (o : ℕ)
+            → Self.tables.entries name section o ≡ []) }
+    {
+        has_entries(Self::entries(name, &[0x8b], 2))
+    }
 
     /// The choice for a relocation that is listed: `choice_by` of its table, which is a constant in an
     /// arm for each name.
@@ -194,6 +218,17 @@ pub trait ChosenByTable: ChosenKind {
         };
         !Self::choose(name, section, offset, &facts).is_unchanged(name)
     }
+
+    // a relocation that has entries has some behind the opcode of x86-64's `mov`
+    ghost sampled: { AreSampled Self.ChosenKind.tables.entries };
+}
+
+/// Whether a table has entries.
+#[inline(always)]
+fn has_entries<O, K, R>(entries: &'static [ChoiceEntry<O, K, R>]) -> bool
+    ensures { result ≡ not (length entries.now == 0) }
+{
+    !matches!(entries, [])
 }
 
 /// Whether a fact holds, if a mask has its bit.
@@ -205,6 +240,15 @@ fn is_held(asked: u32, fact: u32, holds: bool) -> bool
 }
 
 impl LinkFacts {
+    /// Whether of the facts of a mask those hold that seldom do.
+    #[inline(always)]
+    fn seldom_hold(&self, asked: u32) -> bool
+        ensures { result ≡ seldom_facts_hold asked self.now }
+    {
+        is_held(asked, WEAK_ZERO, self.is_undefined_weak)
+            && is_held(asked, FIXED_ADDRESS, self.has_fixed_address)
+    }
+
     /// Whether the facts of a mask hold.
     #[inline(always)]
     fn hold(&self, asked: u32) -> bool
@@ -253,36 +297,19 @@ impl<R: RelocationName> ValueCondition<R> {
     }
 }
 
-/// Whether each of some conditions on values holds.
-fn each_holds<R: RelocationName>(
-    values: &'static [ValueCondition<R>],
-    facts: &LinkFacts,
-    after: &Operands,
-) -> bool
-    ensures { IsTrue result ↔ ValuesHold R.row_of after.now facts.now values.now }
-{
-    for value in values {
-        if !value.holds(facts, after) {
-            return false;
-        }
-    }
-    true
-}
-
-/// Whether all conditions on values hold. Of a constant list of one or two the compiler knows which.
+/// Whether all conditions on values hold.
 #[inline(always)]
 fn all_hold<R: RelocationName>(
-    values: &'static [ValueCondition<R>],
+    values: ValueConditions<R>,
     facts: &LinkFacts,
     after: &Operands,
 ) -> bool
-    ensures { IsTrue result ↔ ValuesHold R.row_of after.now facts.now values.now }
+    ensures { IsTrue result ↔ ValuesHold R.row_of after.now facts.now values }
 {
     match values {
-        [] => true,
-        [one] => one.holds(facts, after),
-        [one, other] => one.holds(facts, after) && other.holds(facts, after),
-        _ => each_holds(values, facts, after),
+        ValueConditions::None => true,
+        ValueConditions::One(one) => one.holds(facts, after),
+        ValueConditions::Both(one, other) => one.holds(facts, after) && other.holds(facts, after),
     }
 }
 
@@ -297,7 +324,8 @@ fn has_addend(addend: Option<i64>, facts: &LinkFacts) -> bool
     }
 }
 
-/// Whether an entry's instructions are at an offset of a section, and its conditions hold.
+/// Whether an entry's instructions are at an offset of a section, and its conditions hold. The
+/// instructions are tested before the facts, except for those that seldom hold.
 #[inline(always)]
 fn applies<K: ChosenKind>(
     entry: &'static ChoiceEntry<K::Originals, K, K::Relocation>,
@@ -309,13 +337,16 @@ fn applies<K: ChosenKind>(
         offset facts.now entry.now }
 {
     let conditions = &entry.conditions;
+    if !facts.seldom_hold(conditions.facts) {
+        return false;
+    }
+    if !entry.kind.stand_at(&entry.originals, section, offset) {
+        return false;
+    }
     if !facts.hold(conditions.facts) {
         return false;
     }
     if !has_addend(conditions.addend, facts) {
-        return false;
-    }
-    if !entry.kind.stand_at(&entry.originals, section, offset) {
         return false;
     }
     let after = entry.kind.operands_after(offset, &facts.operands);
@@ -410,28 +441,45 @@ pub fn choice_by<K: ChosenKind>(
 // or for several with `|` between, its entries in brackets. The module that calls them has the enums
 // `RelaxationKind`, `AskedFor` and, by the name `Names`, that of the relocations.
 
-/// Conditions: facts, the addend as `Some(A)` if one is required, and what holds of values, each as a
-/// `ValueCondition` with the name of a relocation. Without a count of bytes before the place that is 0.
+/// Conditions on values, each a variant of `ValueCondition` with the name of a relocation. Without a
+/// count of bytes before the place that is 0.
+#[macro_export]
+macro_rules! value_conditions {
+    () => { $crate::elf::choice_table::ValueConditions::None };
+    ($one:ident $($of_one:tt)?) => {
+        $crate::elf::choice_table::ValueConditions::One(
+            $crate::elf::choice_table::value_conditions!(@ $one $($of_one)?)
+        )
+    };
+    ($one:ident $($of_one:tt)?, $other:ident $($of_other:tt)?) => {
+        $crate::elf::choice_table::ValueConditions::Both(
+            $crate::elf::choice_table::value_conditions!(@ $one $($of_one)?),
+            $crate::elf::choice_table::value_conditions!(@ $other $($of_other)?)
+        )
+    };
+    (@ $value:ident $(($name:ident $(, $bounds:ident)? $(, $back:literal)?))?) => {
+        $crate::elf::choice_table::ValueCondition::$value
+            $((Names::$name $(, $bounds)?, 0 $(+ $back)?))?
+    };
+}
+
+/// Conditions: the constants of facts with `+` between, the addend as `Some(A)` if one is required,
+/// and those on values.
 #[macro_export]
 macro_rules! conditions {
-    (
-        @ $facts:expr, $addend:expr,
-        [$($value:ident $(($name:ident $(, $bounds:ident)? $(, $back:literal)?))?),*]
-    ) => {
+    ($fact:ident $(+ $other:ident)*, Some($addend:expr) $(, $($values:tt)+)?) => {
         $crate::elf::choice_table::Conditions {
-            facts: $facts,
-            addend: $addend,
-            values: &[
-                $($crate::elf::choice_table::ValueCondition::$value
-                    $((Names::$name $(, $bounds)?, 0 $(+ $back)?))?,)*
-            ],
+            facts: $crate::elf::choice_table::$fact $(+ $crate::elf::choice_table::$other)*,
+            addend: Some($addend),
+            values: $crate::elf::choice_table::value_conditions!($($($values)+)?),
         }
     };
-    ($facts:expr, Some($addend:expr) $(, $($values:tt)+)?) => {
-        $crate::elf::choice_table::conditions!(@ $facts, Some($addend), [$($($values)+)?])
-    };
-    ($facts:expr $(, $($values:tt)+)?) => {
-        $crate::elf::choice_table::conditions!(@ $facts, None, [$($($values)+)?])
+    ($fact:ident $(+ $other:ident)* $(, $($values:tt)+)?) => {
+        $crate::elf::choice_table::Conditions {
+            facts: $crate::elf::choice_table::$fact $(+ $crate::elf::choice_table::$other)*,
+            addend: None,
+            values: $crate::elf::choice_table::value_conditions!($($($values)+)?),
+        }
     };
 }
 
@@ -465,47 +513,31 @@ macro_rules! table_of {
     };
 }
 
-/// All tables in their order, and behind them that of relocations that aren't listed, which is empty.
-#[macro_export]
-macro_rules! all_tables {
-    (($when:ident) $($($name:ident)|+: $entries:tt)*) => {
-        &[$($crate::elf::choice_table::table_of!($when $entries),)* &[]]
-    };
-}
-
-/// What the table of a name is used for, behind other arms, if any. Each use is one of a constant
-/// table.
+/// What the table of a name is used for, behind other arms, if any: in an arm for each name, and there
+/// of a constant table. The macro `$when` has the conditions.
 #[macro_export]
 macro_rules! by_table {
-    ($arguments:tt $($($name:ident)|+: $entries:tt)*) => {
-        $crate::elf::choice_table::by_table!(
-            @ $arguments [$([$($name)|+])*] []
-            0 1 2 3 4 5 6 7 8 9 10 11 12 13 14 15 16 17 18 19 20 21 22 23 24 25 26 27 28 29 30 31
-            32 33 34 35 36 37 38 39 40 41 42 43 44 45 46 47 48 49 50 51 52 53 54 55 56 57 58 59 60
-        )
-    };
     (
-        @ $arguments:tt [$names:tt $($rest:tt)*] [$($arms:tt)*]
-        $index:literal $($further:literal)*
-    ) => {
-        $crate::elf::choice_table::by_table!(
-            @ $arguments [$($rest)*] [$($arms)* $names $index] $($further)*
-        )
-    };
-    (
-        @ ($tables:ident, $value:expr, $table:ident => $use:expr $(; $($before:tt)*)?)
-        [] [$([$($name:ident)|+] $index:literal)*] $last:literal $($further:literal)*
+        ($when:ident, $value:expr, $table:ident => $use:expr $(; $($before:tt)*)?)
+        $($($name:ident)|+: $entries:tt)*
     ) => {
         match $value {
             $($($before)*)?
-            $($(Names::$name)|+ => { let $table = $tables[$index]; $use })*
-            _ => { let $table = $tables[$last]; $use }
+            $($(Names::$name)|+ => {
+                let $table: $crate::elf::choice_table::Table<RelaxationKind> =
+                    $crate::elf::choice_table::table_of!($when $entries);
+                $use
+            })*
+            _ => {
+                let $table: $crate::elf::choice_table::Table<RelaxationKind> = &[];
+                $use
+            }
         }
     };
 }
 
-pub use all_tables;
 pub use by_table;
 pub use conditions;
 pub use originals;
 pub use table_of;
+pub use value_conditions;

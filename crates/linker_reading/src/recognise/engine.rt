@@ -1,7 +1,7 @@
 //! Which choices of a table leave the linked bytes, and what then stands in the field.
 
 ghost use Rattle.std.specs.Prelude.{◌≡◌, ℕ, ◌-◌, ◌^◌, ◌<◌, ◌≤◌, ◌↔◌, IsTrue, IfSome, IfNone};
-ghost use Rattle.std.specs.Prelude.{length, min, slice_get, take, Option, Some};
+ghost use Rattle.std.specs.Prelude.{length, min, slice_get, slice_set, take, Option, Some};
 ghost use Rattle.linker_base.specs.declared.rewrite.DeletedBytes.{DeletedBytes};
 ghost use Rattle.linker_elf.specs.Choices.{choice};
 ghost use Rattle.linker_elf.specs.ElfNames.{code_of};
@@ -161,6 +161,19 @@ pub trait RecognisedName: RelocationName + PartialEq + 'static {
     ghost laws: { AreLawsOf Self.how Self.Kind.tables Self.row_of Self.Kind.eq Self.eq };
 }
 
+/// Sets the choice at an index. Beside the entries the prover finds no bound for the array's bytes.
+#[inline(always)]
+fn put<K: Copy, R: Copy>(
+    choices: &mut [Choice<K, R>; CANDIDATES],
+    index: usize,
+    choice: Choice<K, R>,
+)
+    requires { index < 6 }
+    ensures { choices.new ≡ slice_set choices.old index choice }
+{
+    choices[index] = choice;
+}
+
 /// The choices of entries, and behind these another.
 #[inline(always)]
 fn choices_of<O, K: Copy, R: Copy>(
@@ -179,7 +192,7 @@ fn choices_of<O, K: Copy, R: Copy>(
             relocation,
             ..
         } = entries[index];
-        choices[index] = Choice { kind, relocation };
+        put(&mut choices, index, Choice { kind, relocation });
     }
     (choices, entries.len() + 1)
 }

@@ -47,6 +47,9 @@ pub const WITHOUT_PLT: u32 = 1 << 12;
 /// `group_fits`.
 pub const GROUP_FITS: u32 = 1 << 13;
 
+/// The numbers of 12 bits in two's complement, for `ValueCondition::Within`.
+pub const SIGNED_12: (i64, i64) = (-0x800, 0x800);
+
 /// What an entry requires of the value of a relocation, so many bytes before the place, or of S + A.
 #[derive(Clone, Copy)]
 pub enum ValueCondition<R> {
@@ -62,18 +65,29 @@ pub enum ValueCondition<R> {
     WithinIfKnown(R, (i64, i64), u64),
 }
 
+/// What an entry requires of values: nothing, or one or two conditions.
+#[derive(Clone, Copy)]
+pub enum ValueConditions<R> {
+    /// Nothing.
+    None,
+    /// One condition.
+    One(ValueCondition<R>),
+    /// Two, which both have to hold.
+    Both(ValueCondition<R>, ValueCondition<R>),
+}
+
 /// What an entry requires of what the linker knows.
-pub struct Conditions<R: 'static> {
+pub struct Conditions<R> {
     /// The facts that have to hold.
     pub facts: u32,
     /// The addend that the relocation has to have, if any.
     pub addend: Option<i64>,
     /// What has to hold of values.
-    pub values: &'static [ValueCondition<R>],
+    pub values: ValueConditions<R>,
 }
 
 /// An entry of a table of choices: a rewrite, the relocation after it, and when it is chosen.
-pub struct ChoiceEntry<O, K, R: 'static> {
+pub struct ChoiceEntry<O, K, R> {
     /// The instructions that it is for.
     pub originals: O,
     /// The rewrite.
@@ -92,18 +106,21 @@ pub trait RelocationName: Copy {
     fn find_row(self) -> Option<Row>;
 }
 
-/// The rewrites of an architecture, as entries of its tables have them.
+/// The rewrites of an architecture, as entries of its tables have them. The default is `NoOp`.
 #[doc(hidden)]
-pub trait ChosenKind: InstructionRewrite {
+pub trait ChosenKind: InstructionRewrite + Default + 'static {
     /// The names of its relocations.
-    type Relocation: RelocationName + PartialEq;
+    type Relocation: RelocationName + PartialEq + 'static;
 
     /// The instructions that an entry may be for.
-    type Originals;
+    type Originals: 'static;
 
     /// `NoOp`.
     #[must_use]
-    fn none() -> Self;
+    #[inline(always)]
+    fn none() -> Self {
+        Self::default()
+    }
 
     /// Whether the instructions that an entry with this rewrite is for are at an offset of a section.
     #[must_use]
@@ -127,13 +144,16 @@ pub type Chosen<K> = Choice<K, <K as ChosenKind>::Relocation>;
 /// The rewrites of an architecture, which are chosen by tables.
 #[doc(hidden)]
 pub trait ChosenByTable: ChosenKind {
-    /// Whether a relocation has entries at an offset of some section.
-    #[must_use]
-    fn may_be_listed(name: Self::Relocation) -> bool;
-
     /// The entries of a relocation at an offset of a section.
     #[must_use]
     fn entries(name: Self::Relocation, section: &[u8], offset: u64) -> Table<Self>;
+
+    /// Whether a relocation has entries at an offset of some section.
+    #[must_use]
+    #[inline(always)]
+    fn may_be_listed(name: Self::Relocation) -> bool {
+        has_entries(Self::entries(name, &[0x8b], 2))
+    }
 
     /// The choice for a relocation that is listed: `choice_by` of its table, which is a constant in an
     /// arm for each name.
@@ -172,6 +192,12 @@ pub trait ChosenByTable: ChosenKind {
     }
 }
 
+/// Whether a table has entries.
+#[inline(always)]
+fn has_entries<O, K, R>(entries: &'static [ChoiceEntry<O, K, R>]) -> bool {
+    !matches!(entries, [])
+}
+
 /// Whether a fact holds, if a mask has its bit.
 #[inline(always)]
 fn is_held(asked: u32, fact: u32, holds: bool) -> bool {
@@ -179,6 +205,13 @@ fn is_held(asked: u32, fact: u32, holds: bool) -> bool {
 }
 
 impl LinkFacts {
+    /// Whether of the facts of a mask those hold that seldom do.
+    #[inline(always)]
+    fn seldom_hold(&self, asked: u32) -> bool {
+        is_held(asked, WEAK_ZERO, self.is_undefined_weak)
+            && is_held(asked, FIXED_ADDRESS, self.has_fixed_address)
+    }
+
     /// Whether the facts of a mask hold.
     #[inline(always)]
     fn hold(&self, asked: u32) -> bool {
@@ -222,32 +255,17 @@ impl<R: RelocationName> ValueCondition<R> {
     }
 }
 
-/// Whether each of some conditions on values holds.
-fn each_holds<R: RelocationName>(
-    values: &'static [ValueCondition<R>],
-    facts: &LinkFacts,
-    after: &Operands,
-) -> bool {
-    for value in values {
-        if !value.holds(facts, after) {
-            return false;
-        }
-    }
-    true
-}
-
-/// Whether all conditions on values hold. Of a constant list of one or two the compiler knows which.
+/// Whether all conditions on values hold.
 #[inline(always)]
 fn all_hold<R: RelocationName>(
-    values: &'static [ValueCondition<R>],
+    values: ValueConditions<R>,
     facts: &LinkFacts,
     after: &Operands,
 ) -> bool {
     match values {
-        [] => true,
-        [one] => one.holds(facts, after),
-        [one, other] => one.holds(facts, after) && other.holds(facts, after),
-        _ => each_holds(values, facts, after),
+        ValueConditions::None => true,
+        ValueConditions::One(one) => one.holds(facts, after),
+        ValueConditions::Both(one, other) => one.holds(facts, after) && other.holds(facts, after),
     }
 }
 
@@ -260,7 +278,8 @@ fn has_addend(addend: Option<i64>, facts: &LinkFacts) -> bool {
     }
 }
 
-/// Whether an entry's instructions are at an offset of a section, and its conditions hold.
+/// Whether an entry's instructions are at an offset of a section, and its conditions hold. The
+/// instructions are tested before the facts, except for those that seldom hold.
 #[inline(always)]
 fn applies<K: ChosenKind>(
     entry: &'static ChoiceEntry<K::Originals, K, K::Relocation>,
@@ -269,13 +288,16 @@ fn applies<K: ChosenKind>(
     facts: &LinkFacts,
 ) -> bool {
     let conditions = &entry.conditions;
+    if !facts.seldom_hold(conditions.facts) {
+        return false;
+    }
+    if !entry.kind.stand_at(&entry.originals, section, offset) {
+        return false;
+    }
     if !facts.hold(conditions.facts) {
         return false;
     }
     if !has_addend(conditions.addend, facts) {
-        return false;
-    }
-    if !entry.kind.stand_at(&entry.originals, section, offset) {
         return false;
     }
     let after = entry.kind.operands_after(offset, &facts.operands);
@@ -364,27 +386,43 @@ pub fn choice_by<K: ChosenKind>(
 // or for several with `|` between, its entries in brackets. The module that calls them has the enums
 // `RelaxationKind`, `AskedFor` and, by the name `Names`, that of the relocations.
 
-/// Conditions: facts, the addend as `Some(A)` if one is required, and what holds of values, each as a
-/// `ValueCondition` with the name of a relocation. Without a count of bytes before the place that is 0.
+/// Conditions on values, each a variant of `ValueCondition` with the name of a relocation. Without a
+/// count of bytes before the place that is 0.
+macro_rules! value_conditions {
+    () => { $crate::linker_elf::elf::choice_table::ValueConditions::None };
+    ($one:ident $($of_one:tt)?) => {
+        $crate::linker_elf::elf::choice_table::ValueConditions::One(
+            $crate::linker_elf::elf::choice_table::value_conditions!(@ $one $($of_one)?)
+        )
+    };
+    ($one:ident $($of_one:tt)?, $other:ident $($of_other:tt)?) => {
+        $crate::linker_elf::elf::choice_table::ValueConditions::Both(
+            $crate::linker_elf::elf::choice_table::value_conditions!(@ $one $($of_one)?),
+            $crate::linker_elf::elf::choice_table::value_conditions!(@ $other $($of_other)?)
+        )
+    };
+    (@ $value:ident $(($name:ident $(, $bounds:ident)? $(, $back:literal)?))?) => {
+        $crate::linker_elf::elf::choice_table::ValueCondition::$value
+            $((Names::$name $(, $bounds)?, 0 $(+ $back)?))?
+    };
+}
+
+/// Conditions: the constants of facts with `+` between, the addend as `Some(A)` if one is required,
+/// and those on values.
 macro_rules! conditions {
-    (
-        @ $facts:expr, $addend:expr,
-        [$($value:ident $(($name:ident $(, $bounds:ident)? $(, $back:literal)?))?),*]
-    ) => {
+    ($fact:ident $(+ $other:ident)*, Some($addend:expr) $(, $($values:tt)+)?) => {
         $crate::linker_elf::elf::choice_table::Conditions {
-            facts: $facts,
-            addend: $addend,
-            values: &[
-                $($crate::linker_elf::elf::choice_table::ValueCondition::$value
-                    $((Names::$name $(, $bounds)?, 0 $(+ $back)?))?,)*
-            ],
+            facts: $crate::linker_elf::elf::choice_table::$fact $(+ $crate::linker_elf::elf::choice_table::$other)*,
+            addend: Some($addend),
+            values: $crate::linker_elf::elf::choice_table::value_conditions!($($($values)+)?),
         }
     };
-    ($facts:expr, Some($addend:expr) $(, $($values:tt)+)?) => {
-        $crate::linker_elf::elf::choice_table::conditions!(@ $facts, Some($addend), [$($($values)+)?])
-    };
-    ($facts:expr $(, $($values:tt)+)?) => {
-        $crate::linker_elf::elf::choice_table::conditions!(@ $facts, None, [$($($values)+)?])
+    ($fact:ident $(+ $other:ident)* $(, $($values:tt)+)?) => {
+        $crate::linker_elf::elf::choice_table::Conditions {
+            facts: $crate::linker_elf::elf::choice_table::$fact $(+ $crate::linker_elf::elf::choice_table::$other)*,
+            addend: None,
+            values: $crate::linker_elf::elf::choice_table::value_conditions!($($($values)+)?),
+        }
     };
 }
 
@@ -416,45 +454,30 @@ macro_rules! table_of {
     };
 }
 
-/// All tables in their order, and behind them that of relocations that aren't listed, which is empty.
-macro_rules! all_tables {
-    (($when:ident) $($($name:ident)|+: $entries:tt)*) => {
-        &[$($crate::linker_elf::elf::choice_table::table_of!($when $entries),)* &[]]
-    };
-}
-
-/// What the table of a name is used for, behind other arms, if any. Each use is one of a constant
-/// table.
+/// What the table of a name is used for, behind other arms, if any: in an arm for each name, and there
+/// of a constant table. The macro `$when` has the conditions.
 macro_rules! by_table {
-    ($arguments:tt $($($name:ident)|+: $entries:tt)*) => {
-        $crate::linker_elf::elf::choice_table::by_table!(
-            @ $arguments [$([$($name)|+])*] []
-            0 1 2 3 4 5 6 7 8 9 10 11 12 13 14 15 16 17 18 19 20 21 22 23 24 25 26 27 28 29 30 31
-            32 33 34 35 36 37 38 39 40 41 42 43 44 45 46 47 48 49 50 51 52 53 54 55 56 57 58 59 60
-        )
-    };
     (
-        @ $arguments:tt [$names:tt $($rest:tt)*] [$($arms:tt)*]
-        $index:literal $($further:literal)*
-    ) => {
-        $crate::linker_elf::elf::choice_table::by_table!(
-            @ $arguments [$($rest)*] [$($arms)* $names $index] $($further)*
-        )
-    };
-    (
-        @ ($tables:ident, $value:expr, $table:ident => $use:expr $(; $($before:tt)*)?)
-        [] [$([$($name:ident)|+] $index:literal)*] $last:literal $($further:literal)*
+        ($when:ident, $value:expr, $table:ident => $use:expr $(; $($before:tt)*)?)
+        $($($name:ident)|+: $entries:tt)*
     ) => {
         match $value {
             $($($before)*)?
-            $($(Names::$name)|+ => { let $table = $tables[$index]; $use })*
-            _ => { let $table = $tables[$last]; $use }
+            $($(Names::$name)|+ => {
+                let $table: $crate::linker_elf::elf::choice_table::Table<RelaxationKind> =
+                    $crate::linker_elf::elf::choice_table::table_of!($when $entries);
+                $use
+            })*
+            _ => {
+                let $table: $crate::linker_elf::elf::choice_table::Table<RelaxationKind> = &[];
+                $use
+            }
         }
     };
 }
 
-pub(crate) use all_tables;
 pub(crate) use by_table;
 pub(crate) use conditions;
 pub(crate) use originals;
 pub(crate) use table_of;
+pub(crate) use value_conditions;

@@ -125,6 +125,16 @@ pub trait RecognisedName: RelocationName + PartialEq + 'static {
     }
 }
 
+/// Sets the choice at an index. Beside the entries the prover finds no bound for the array's bytes.
+#[inline(always)]
+fn put<K: Copy, R: Copy>(
+    choices: &mut [Choice<K, R>; CANDIDATES],
+    index: usize,
+    choice: Choice<K, R>,
+) {
+    choices[index] = choice;
+}
+
 /// The choices of entries, and behind these another.
 #[inline(always)]
 fn choices_of<O, K: Copy, R: Copy>(
@@ -139,7 +149,7 @@ fn choices_of<O, K: Copy, R: Copy>(
             relocation,
             ..
         } = entries[index];
-        choices[index] = Choice { kind, relocation };
+        put(&mut choices, index, Choice { kind, relocation });
     }
     (choices, entries.len() + 1)
 }

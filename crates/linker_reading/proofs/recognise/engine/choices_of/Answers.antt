@@ -12,7 +12,8 @@ loop-index-preserved g c =
     let es = c.args.entries.now in
     let otherwise = choice c.args.kind c.args.relocation in
     let one = choice (slice_index_or es i c.index-entries-index.result).kind (slice_index_or es i c.index-entries-index-in-loop-index.result).relocation in
-    ap (λ l. set l i one) c.loop-index.invariant
+    c.put.ensures
+    ∙ ap (λ l. set l i one) c.loop-index.invariant
     ∙ ap (λ n. set (choices_in (take i es) otherwise ++ replicate n otherwise) i one) (let e : 5 - i ≡ suc (5 - (i + 1)) = omega (arith, c.loop-index-test.true, c.requires) in e)
     ∙ filled_more es otherwise i (5 - (i + 1)) c.index-entries-index.result c.index-entries-index-in-loop-index.result c.loop-index-test.true
     ∙ ap (λ n. choices_in (take n es) otherwise ++ replicate (5 - (i + 1)) otherwise) (let e : suc i ≡ i + 1 = omega arith in e)
