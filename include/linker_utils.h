@@ -530,6 +530,251 @@ static inline uint32_t linker_utils_relocate_section(
     size_t relocations_len, const struct linker_utils_symbol *symbols, size_t symbols_len,
     uint8_t *section, size_t section_len, uint64_t *memory, size_t memory_len, size_t *faulty);
 
+/* ---- Rewriting: the instructions of a section in one call, before addresses are known.
+ *
+ * Relocations and symbols are as in the calls for sections. A linker says what it knows of symbols
+ * and of the output, and the library which instructions are rewritten: all of a group or none. The
+ * relocations of a group are those of one kind and one symbol in an object, whatever their addends;
+ * of local-dynamic TLS all of an object. First `linker_utils_survey` of each section of code of an
+ * object notes which groups stay, then `linker_utils_rewrite_section` rewrites each of them. What
+ * these calls leave, a linker may rewrite by `linker_utils_choose`. */
+
+/* What a linker knows of a symbol once names are resolved. All are false at index 0, which is no
+ * symbol. */
+struct linker_utils_symbol_facts {
+    bool is_local; /* defined in this output, and no other definition can replace it at run time */
+    bool is_ifunc; /* STT_GNU_IFUNC */
+    bool is_absolute; /* SHN_ABS */
+    bool is_undefined_weak; /* weak, and nothing defines it at run time: its address is 0 */
+    bool is_tls_get_addr; /* it is `__tls_get_addr` */
+    uint8_t other; /* `st_other`, of which PowerPC64 reads what a call does with the TOC pointer */
+};
+
+/* What a linker knows of the output. */
+struct linker_utils_output_facts {
+    bool is_executable; /* position-independent or not */
+    bool is_fixed; /* it is always loaded at the address that it is linked for */
+};
+
+/* Which groups of a symbol stay as they are. An object has an array of these by the indexes that
+ * its relocations name; the element at index 0 is of all of the object: it has local-dynamic TLS,
+ * and what stays whichever symbol it is of. */
+struct linker_utils_kept_groups {
+    bool initial_exec; /* loads of an offset from the thread pointer */
+    bool general_dynamic; /* calls for the address of a thread-local variable */
+    bool local_dynamic; /* calls for the address of the module's TLS block, and offsets in it */
+    bool descriptor; /* TLS descriptors */
+    bool got_load; /* PowerPC64's loads of an address from the GOT by its two halves */
+};
+
+/* All but `fate` is 0 where that isn't LINKER_UTILS_FATE_REWRITTEN. */
+struct linker_utils_decision {
+    uint32_t rewrite; /* by the machine's enum of rewrites */
+    uint32_t relocation; /* the relocation's type after it */
+    uint8_t fate; /* `enum linker_utils_fate` */
+    uint8_t opcode_len; /* as in `struct linker_utils_choice` */
+};
+
+/* Notes in `kept` which groups of an object stay, since a relocation of this section is of them and
+ * has no rewrite: its instruction is none that a rewrite is meant for, its symbol may be of another
+ * file, or what the rewrite takes along isn't there. What stays there already stays. Begin with all
+ * false, and survey each section of code of an object with the same array before one of them is
+ * rewritten. A group stays too where the array has no element for its symbol. O(n) for n
+ * relocations. LINKER_UTILS_UNKNOWN_ARCHITECTURE. */
+static inline uint32_t linker_utils_survey(
+    uint16_t machine, const struct linker_utils_output_facts *output,
+    const struct linker_utils_symbol_facts *symbols, size_t symbols_len,
+    const uint8_t *relocations, size_t relocations_len, const uint8_t *section, size_t section_len,
+    struct linker_utils_kept_groups *kept, size_t kept_len);
+
+/* Rewrites the instructions of a section of code as `linker_utils_choose` says before addresses are
+ * known, and turns its relocations into those after it: of one that goes the type becomes 0, so
+ * that indexes stay. No byte is deleted. `kept` is what `linker_utils_survey` noted of all sections
+ * of code of the object, with the same facts. What became of each relocation is in `decisions`,
+ * whose elements from the number of relocations on are unchanged. A relocation of a symbol that
+ * isn't in the array isn't rewritten. O(n) for n relocations. It allocates memory for its own copy
+ * of the decisions.
+ *
+ * LINKER_UTILS_UNKNOWN_ARCHITECTURE; LINKER_UTILS_SHORT_MEMORY where there are fewer decisions than
+ * relocations; LINKER_UTILS_OUT_OF_MEMORY. Else the status is that of the first relocation that it
+ * doesn't accept, `faulty`: LINKER_UTILS_NOT_SURVEYED; LINKER_UTILS_OVERLAPS where the bytes of its
+ * rewrite overlap those of one before it, or lie below them, so the relocations of instructions
+ * that can be rewritten have to ascend by offset. With any status but LINKER_UTILS_OK all is
+ * unchanged. */
+static inline uint32_t linker_utils_rewrite_section(
+    uint16_t machine, const struct linker_utils_output_facts *output,
+    const struct linker_utils_symbol_facts *symbols, size_t symbols_len,
+    const struct linker_utils_kept_groups *kept, size_t kept_len, uint8_t *relocations,
+    size_t relocations_len, uint8_t *section, size_t section_len,
+    struct linker_utils_decision *decisions, size_t decisions_len, size_t *faulty);
+
+/* ---- Outputs: what a linker adds to one, by architecture.
+ *
+ * Types of dynamic relocations, words of the GOT, what offsets of thread-local storage count from,
+ * `e_flags`, symbols and functions that linkers provide, and the code of stubs. The status
+ * LINKER_UTILS_UNKNOWN_ARCHITECTURE comes first. With any status but LINKER_UTILS_OK nothing is
+ * written. Each call takes O(1), but for copies of texts. */
+
+/* The types of the dynamic relocations that a linker emits. */
+struct linker_utils_dynamic_types {
+    uint32_t word; /* a word with S + A */
+    uint32_t relative; /* a word with the load address plus A */
+    uint32_t glob_dat; /* a word of the GOT with S: `word` where the psABI has no type of its own */
+    uint32_t jump_slot; /* a word of the PLT's GOT with S */
+    uint32_t copy; /* a copy of a variable of a shared library */
+    uint32_t irelative; /* a word with what the function at the load address plus A returns */
+    uint32_t module_number; /* a word with the number of the symbol's module */
+    uint32_t module_offset; /* a word with the symbol's offset in the block of its module */
+    uint32_t thread_offset; /* a word with the symbol's offset from the thread pointer */
+    uint32_t descriptor; /* a TLS descriptor, of two words; 0 where the psABI has none */
+};
+
+/* The dynamic relocations of an architecture, into `types`. */
+uint32_t linker_utils_dynamic_types(uint16_t machine, struct linker_utils_dynamic_types *types);
+
+/* Writes the name of one of these types, as `R_X86_64_RELATIVE`, to `name`, without a zero behind
+ * it, and its length to `name_used`. LINKER_UTILS_UNKNOWN_RELOCATION; LINKER_UTILS_TOO_SHORT. No
+ * name is longer than LINKER_UTILS_NAME_SIZE. */
+static inline uint32_t linker_utils_dynamic_name(uint16_t machine, uint32_t r_type, uint8_t *name,
+                                                 size_t name_len, size_t *name_used);
+
+/* The types of the dynamic relocations of a GOT entry's words; 0 for a word that has none, whose
+ * value is known when the output is linked. */
+struct linker_utils_word_types {
+    uint32_t first; /* that of a TLS descriptor writes both words */
+    uint32_t second;
+};
+
+/* The dynamic relocations of an entry of a class, by `enum linker_utils_entry_class`, into `words`.
+ * `is_bound`: its symbol's definition is in this output and no other can take its place.
+ * `is_executable`: the output is a position-independent executable, and not a shared library. In a
+ * shared library the second word of a bound symbol's LINKER_UTILS_ENTRY_MODULE_OFFSET has its
+ * offset from `module_block` of `struct linker_utils_origins`. LINKER_UTILS_UNKNOWN_ENTRY_CLASS. */
+uint32_t linker_utils_dynamic_words(uint16_t machine, uint32_t entry_class, bool is_bound,
+                                    bool is_executable, struct linker_utils_word_types *words);
+
+/* How many words of 8 bytes an entry of a class has; 0 of a number that is no class. */
+uint64_t linker_utils_entry_words(uint32_t entry_class);
+
+/* What offsets of thread-local storage count from. */
+struct linker_utils_origins {
+    uint64_t thread_pointer; /* the address that the thread pointer stands for */
+    uint64_t module_block; /* what offsets in the module's block count from */
+};
+
+/* What they count from, by the TLS image: its address, its length in memory and its alignment,
+ * `p_vaddr`, `p_memsz` and `p_align` of PT_TLS; an alignment of 0 stands for 1. Addresses are
+ * modulo 2^64. */
+uint32_t linker_utils_origins(uint16_t machine, uint64_t image, uint64_t image_len,
+                              uint64_t alignment, struct linker_utils_origins *origins);
+
+/* Both words of an entry of the GOT; the second is 0 where the entry has one. */
+struct linker_utils_entry_words {
+    uint64_t first;
+    uint64_t second;
+};
+
+/* What an entry's words hold in a static executable, into `words`, by its symbol's address, S + A
+ * where the entry is of S + A. The executable's module has number 1.
+ * LINKER_UTILS_UNKNOWN_ENTRY_CLASS, also of LINKER_UTILS_ENTRY_DESCRIPTOR, whose function a static
+ * executable has not. */
+uint32_t linker_utils_static_words(uint32_t entry_class, uint64_t address,
+                                   const struct linker_utils_origins *origins,
+                                   struct linker_utils_entry_words *words);
+
+/* The GOT, by its address. */
+struct linker_utils_got {
+    uint64_t base; /* what offsets from the GOT count from */
+    uint64_t header; /* its first word, if that isn't an entry; else 0 */
+    uint8_t has_header; /* 1 where the first word isn't an entry; else 0 */
+};
+
+/* What a linker knows of the GOT by its address and that of `_DYNAMIC`, 0 where there is none. */
+uint32_t linker_utils_got(uint16_t machine, uint64_t address, uint64_t dynamic,
+                          struct linker_utils_got *got);
+
+/* `e_flags` of two objects that are linked, into `joined`. The order of objects doesn't matter.
+ * LINKER_UTILS_DIFFERENT_FLAGS where the psABI keeps the two apart, as RISC-V's lp64 and lp64d, or
+ * where one of them has a bit that the psABI doesn't define. */
+uint32_t linker_utils_join_flags(uint16_t machine, uint32_t first, uint32_t second,
+                                 uint32_t *joined);
+
+/* `e_flags` of an output, from those that `linker_utils_join_flags` made of its objects:
+ * PowerPC64's objects may leave the version of the ABI open, and an output says that it is 2. Those
+ * of an unknown machine stay. */
+uint32_t linker_utils_output_flags(uint16_t machine, uint32_t joined);
+
+/* The largest page, in bytes, for which an output has to be right. 0 of an unknown machine. */
+uint64_t linker_utils_page(uint16_t machine);
+
+/* How many bytes the shortest instruction of an output with such `e_flags` has. 0 of an unknown
+ * machine. */
+uint64_t linker_utils_code_unit(uint16_t machine, uint32_t flags);
+
+/* The byte at an offset of a gap in code, which counts from a multiple of 4. 0 of an unknown
+ * machine. */
+uint8_t linker_utils_filler(uint16_t machine, uint64_t offset);
+
+/* Writes the path of the dynamic linker in glibc for an output with such `e_flags` to `path`,
+ * without a zero behind it, and its length to `path_used`. LINKER_UTILS_NOT_PROVIDED where glibc
+ * has none for them; LINKER_UTILS_TOO_SHORT. No path is longer than LINKER_UTILS_NAME_SIZE. */
+static inline uint32_t linker_utils_interpreter(uint16_t machine, uint32_t flags, uint8_t *path,
+                                                size_t path_len, size_t *path_used);
+
+/* A symbol that a linker defines if an object refers to it. */
+struct linker_utils_provided_symbol {
+    uint64_t offset; /* how many bytes above its place */
+    uint32_t place; /* `enum linker_utils_symbol_place` */
+};
+
+/* The symbol with an index, from 0 on: its name to `name`, without a zero behind it, its length to
+ * `name_used`, and where it is to `symbol`. LINKER_UTILS_NOT_PROVIDED where there is none with this
+ * index or above; LINKER_UTILS_TOO_SHORT. No name is longer than LINKER_UTILS_NAME_SIZE. */
+static inline uint32_t linker_utils_provided_symbol(uint16_t machine, size_t index, uint8_t *name,
+                                                    size_t name_len, size_t *name_used,
+                                                    struct linker_utils_provided_symbol *symbol);
+
+/* Functions that compilers call and linkers provide, which save or restore registers, in one run of
+ * code. */
+struct linker_utils_provided_run {
+    uint64_t len; /* how many instructions of 4 bytes the run has */
+    /* The number in the first function's name. That with a number n begins 4 * (n - `first`) bytes
+     * behind the run's start. */
+    uint32_t first;
+    uint32_t count; /* how many functions there are */
+};
+
+/* The run with an index, from 0 on: the functions' names without the number, which stands behind it
+ * in decimal, to `prefix`, its length to `prefix_used`, and the numbers to `run`.
+ * LINKER_UTILS_NOT_PROVIDED where there is none with this index or above; LINKER_UTILS_TOO_SHORT.
+ * No prefix is longer than LINKER_UTILS_NAME_SIZE. */
+static inline uint32_t linker_utils_provided_run(uint16_t machine, size_t index, uint8_t *prefix,
+                                                 size_t prefix_len, size_t *prefix_used,
+                                                 struct linker_utils_provided_run *run);
+
+/* The instruction at an index of the run with an index, into `word`. LINKER_UTILS_NOT_PROVIDED
+ * where either is too large. */
+uint32_t linker_utils_provided_word(uint16_t machine, size_t run, uint64_t index, uint32_t *word);
+
+/* A stub of an architecture. */
+struct linker_utils_stub {
+    uint64_t len; /* in bytes */
+    /* The offset at which a call enters. PowerPC64's calls whose `nop` becomes `ld 2,24(1)` enter
+     * at 0, where the stub stores the TOC pointer. */
+    uint64_t entry;
+};
+
+/* The stub of a kind, into `stub`. LINKER_UTILS_UNKNOWN_STUB where the architecture has none. */
+uint32_t linker_utils_stub(uint16_t machine, uint32_t kind, struct linker_utils_stub *stub);
+
+/* Writes the stub of a kind that stands at the address `place` to the beginning of `bytes`: to the
+ * word at `target`, or to `target`. What a call changes on its way through it are registers that a
+ * function may change, in which no argument is. LINKER_UTILS_UNKNOWN_STUB; LINKER_UTILS_TOO_SHORT;
+ * and where the target is out of the stub's reach the status of the first such field, as
+ * `linker_utils_relocate`. */
+static inline uint32_t linker_utils_write_stub(uint16_t machine, uint32_t kind, uint64_t place,
+                                               uint64_t target, uint8_t *bytes, size_t bytes_len);
+
 /* ---- Reading back: what a linker wrote, from the linked bytes.
  *
  * A machine and a relocation type name a relocation. The statuses LINKER_UTILS_UNKNOWN_ARCHITECTURE

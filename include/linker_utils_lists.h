@@ -113,7 +113,20 @@
            "No high part is at the label that the symbol of the relocation is.") \
     STATUS(OVERLAPS, 64, \
            "The relocation's field overlaps that of one before it, and the two do not compose.") \
-    STATUS(SHORT_MEMORY, 65, "The memory has fewer elements than the call needs.")
+    STATUS(SHORT_MEMORY, 65, "The memory has fewer elements than the call needs.") \
+    STATUS(NOT_SURVEYED, 66, \
+           "The relocation cannot be rewritten, though its group does not stay: the section was " \
+           "surveyed with other facts, or not at all.") \
+    STATUS(UNKNOWN_ENTRY_CLASS, 67, \
+           "No class of entries of the GOT has this number, or a static executable has no such " \
+           "entry.") \
+    STATUS(DIFFERENT_FLAGS, 68, \
+           "The psABI keeps objects with these `e_flags` apart, or does not define a bit of " \
+           "them.") \
+    STATUS(NOT_PROVIDED, 69, \
+           "The architecture has none with this index, or glibc has none for these `e_flags`.") \
+    STATUS(UNKNOWN_STUB, 70, \
+           "No kind of stubs has this number, or the architecture has no stub of the kind.")
 
 enum linker_utils_status {
 #define LINKER_UTILS_STATUS(name, number, text) LINKER_UTILS_##name = number,
@@ -752,6 +765,31 @@ enum linker_utils_entry_class {
     LINKER_UTILS_ENTRY_MODULE_OFFSET = 3,
     LINKER_UTILS_ENTRY_MODULE = 4, /* two words: the module's number and 0; one serves all */
     LINKER_UTILS_ENTRY_DESCRIPTOR = 5 /* two words: a TLS descriptor */
+};
+
+/* What becomes of a relocation and of its instruction. */
+enum linker_utils_fate {
+    LINKER_UTILS_FATE_KEPT = 0, /* both stay as they are */
+    LINKER_UTILS_FATE_REWRITTEN = 1,
+    /* the relocation goes: the rewrite at the one before takes it along */
+    LINKER_UTILS_FATE_TAKEN_ALONG = 2
+};
+
+/* Where a symbol is that linkers define. */
+enum linker_utils_symbol_place {
+    /* thread-local: at the TLS image in a shared library, and in an executable at the address that
+     * the thread pointer stands for */
+    LINKER_UTILS_PLACE_THREAD_LOCAL = 0,
+    LINKER_UTILS_PLACE_GOT = 1,
+    LINKER_UTILS_PLACE_SMALL_DATA = 2 /* the section `.sdata` */
+};
+
+/* Stubs that a linker adds to code. */
+enum linker_utils_stub_kind {
+    /* It jumps to the address that a word of 8 bytes has: to a function of another output, whose
+     * address the dynamic linker puts there, or to what an indirect function returns. */
+    LINKER_UTILS_STUB_LOAD = 0,
+    LINKER_UTILS_STUB_JUMP = 1 /* to its target, which branches may not reach */
 };
 
 /* Which address a relocation's value is computed from, in the letters of `enum

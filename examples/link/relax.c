@@ -41,7 +41,7 @@ static struct linker_utils_choice choose_offset(const struct output *o, struct r
     struct linker_utils_link_facts facts = {
         .is_local = 1, .is_executable = is_descriptor, .is_relaxable = 1, .has_addresses = 1,
         .operands = {.symbol = address_of(s->output, s->offset), .addend = high->addend,
-                     .tls_base = tls.thread, .got_entry = NO_ENTRY}};
+                     .tls_base = tls.origins.thread_pointer, .got_entry = NO_ENTRY}};
     check(r, linker_utils_choose(machine, r->type, o->bytes, r->section->end, r->offset, &facts,
                                  &choice));
     if (!is_descriptor || !choice.rewrite) return choice;
