@@ -1,8 +1,8 @@
--- What the fields of a section's relocations hold once all values are written: each the part that it
--- can hold of the value that its own relocations compose.
+-- What the fields of a section's relocations hold once all values are written: each the part that
+-- it can hold of the value that its own relocations compose.
 use Rattle.std.specs.Prelude.{◌≡◌, ◌⊎◌, ℕ, zero, suc, ◌+◌, ◌*◌, ◌/◌, ◌%◌, ◌^◌, ◌<◌, ◌≤◌, ◌==◌, true}
-use Rattle.std.specs.Prelude.{false, nat_lt, if◌then◌else◌, ℤ, pos, ◌+ℤ◌, ◌-ℤ◌, List, length, take, slice_index}
-use Rattle.std.specs.Prelude.{drop, Option, Some, None, Ok}
+use Rattle.std.specs.Prelude.{false, nat_lt, if◌then◌else◌, ℤ, pos, ◌+ℤ◌, ◌-ℤ◌, List}
+use Rattle.std.specs.Prelude.{length, take, slice_index, drop, Option, Some, None, Ok}
 use Rattle.std.specs.Int.{int_rem_euclid}
 use Rattle.linker_base.specs.Uleb.{Uleb, IsUlebWritten}
 use Rattle.linker_elf.specs.Relocate.{WritesRow, IsAccepted, number_of_bytes}
@@ -39,7 +39,8 @@ AreFound architecture addresses bytes symbols n found =
 
 -- ---- values that compose
 
--- A relocation adds its value to the number so far, subtracts it from that, or sets the number to it.
+-- A relocation adds its value to the number so far, subtracts it from that, or sets the number to
+-- it.
 abbrev pub composed_with : RelocationKind → ℤ → ℤ → ℤ
 composed_with AbsoluteAddition v number = number +ℤ v
 composed_with AbsoluteAdditionWord6 v number = number +ℤ v
@@ -78,8 +79,8 @@ HoldsNumber AbsoluteSubtractionWord6 len value before after = HoldsWord6 len val
 HoldsNumber kind len value before after =
     pos (number_of_bytes len after) ≡ int_rem_euclid value (pos (2 ^ (8 * len)))
 
--- An instruction has the value of its relocation, and the machine reads it. Whole bytes have what all
--- relocations there compose over the number of the bytes before.
+-- An instruction has the value of its relocation, and the machine reads it. Whole bytes have what
+-- all relocations there compose over the number of the bytes before.
 abbrev pub HoldsValue : RelocationSize → RelocationKindInfo → ℤ → (ℤ → ℤ) → List ℕ → List ℕ
     → Type 0
 HoldsValue (BitMasking bits insn) row v compose before after = WritesRow row v before after
@@ -174,10 +175,10 @@ pub record AreWritten (architecture : Architecture) (addresses : Addresses) (byt
       → slice_index after p ≡ slice_index before p
   pub same_length : length after ≡ length before
 
--- The relocation at an index is the first that can't be written, by the bytes before all writes: it
--- has no value, its field overlaps that of an earlier one with which it doesn't compose, or its value
--- isn't accepted. Those before it are found and accepted, except for the first of a pair of which it
--- is the second.
+-- The relocation at an index is the first that can't be written, by the bytes before all writes. It
+-- has no value, its field overlaps that of an earlier one with which it doesn't compose, or its
+-- value isn't accepted. Those before it are found and accepted, except for the first of a pair of
+-- which it is the second.
 pub record IsFirstFault (architecture : Architecture) (addresses : Addresses) (bytes : List ℕ)
     (symbols : List Symbol) (section : List ℕ) (error : SectionError) : Type 0 where
   pub within : error.index < length bytes / 24
