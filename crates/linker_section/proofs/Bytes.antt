@@ -21,11 +21,13 @@ use Rattle.linker_elf.specs.declared.riscv64.relocations.RiscVRelocation.TheVari
 use Rattle.linker_elf.specs.declared.x86_64.relocations.X86_64Relocation.{X86_64Relocation}
 use Rattle.linker_elf.specs.declared.x86_64.relocations.X86_64Relocation.TheVariants as x86_64
 use Rattle.linker_section.proofs.RowNames.{aarch64_names, riscv64_names, loongarch64_names, ppc64_names, x86_64_names}
-use Rattle.linker_section.specs.Inner.Codes.{byte_in, requirements_by, needs_by}
-use Rattle.linker_section.specs.Needed.{needs_in}
+use Rattle.linker_section.proofs.Rows.{one_row}
+use Rattle.linker_section.specs.Inner.Codes.{byte_in, requirements_by, needs_by, SaysNeeds, IsByteOf}
+use Rattle.linker_section.specs.Needed.{needs_of, needs_in}
 use Rattle.linker_section.specs.declared.codes.TheConstants as tables
 use Rattle.linker_section.specs.declared.needed.Requirements.{Requirements}
 use Rattle.linker_utils.specs.Architectures.{IsOf, IsRow}
+use Rattle.linker_utils.specs.declared.elf.Architecture.{Architecture}
 use Rattle.linker_utils.specs.declared.elf.Architecture.TheVariants.{AArch64, RiscV, LoongArch64}
 use Rattle.linker_utils.specs.declared.elf.Architecture.TheVariants.{Ppc64, X86_64}
 
@@ -219,3 +221,24 @@ same_answer true true same differ = true≢false differ
 same_answer false false same differ = true≢false differ
 same_answer true false same differ = true≢false same
 same_answer false true same differ = true≢false (sym same)
+
+-- ---- what it says
+
+requirements_or : Requirements → Option Requirements → Requirements
+requirements_or other None = other
+requirements_or other (Some r) = r
+
+pub says : (architecture : Architecture) (code byte : ℕ) (row : RelocationKindInfo)
+    → IsByteOf architecture code byte → IsRow architecture code (Some row) → SaysNeeds byte row
+unfolding requirements_or
+says architecture code byte row of is_row addend tls =
+    let same : of.0 ≡ Some row = one_row architecture code (of.0) (Some row) (of.1) is_row in
+    let is : needs_by byte addend tls ≡ Some (needs_of row addend tls) =
+    subst (λ r. needs_by byte addend tls ≡ needs_in r addend tls) same (of.2 addend tls) in
+    elim (cases_Bool (eqb byte 7)) [
+      | inl seven ↦
+          absurd (subst IsSomeOf (sym is ∙ cond-true (eqb byte 7) None (Some (requirements_by byte addend tls)) seven) tt)
+      | inr isnt ↦
+          ap (requirements_or (requirements_by byte addend tls))
+          (sym (cond-false (eqb byte 7) None (Some (requirements_by byte addend tls)) isnt) ∙ is)
+    ]

@@ -1,19 +1,18 @@
 -- Where relocations ascend, a section that can be written has no fault: each relocation has one value.
-use Rattle.std.proofs.Common.{◌≡◌, ◌≢◌, ℕ, zero, suc, ℤ, ◌+◌, ◌*◌, ◌/◌, ◌<◌, ◌≤◌, ◌⊎◌, ◌^◌, List, length, take, drop, Bool, true, false, true≢false, cond, ltb, refl, sym, ap, subst, ◌∙◌, inl, inr, arith, Option, Some, None, Ok, Err, Result}
+use Rattle.std.proofs.Common.{◌≡◌, ℕ, ℤ, ◌+◌, ◌/◌, ◌<◌, ◌≤◌, ◌⊎◌, ◌^◌, List, length, drop, Bool, true, false, true≢false, ltb, refl, sym, ap, subst, ◌∙◌, inl, inr, arith, Option, Some, None, Ok, Err, Result}
 use Rattle.std.proofs.lemmas.Bool.{cases_eq, cases_lt, cases_Bool, and_parts, or_left, cond-true, cond-false, le-ltb, lt-ltb}
 use Rattle.std.specs.Prelude.{slice_get, slice_index, ◌||◌}
 use Rattle.linker_base.specs.Uleb.{Uleb, IsUlebCause}
 use Rattle.linker_base.specs.declared.bit_misc.BitRange.{BitRange}
 use Rattle.linker_base.specs.declared.utils.Uleb128Error.{Uleb128Error}
 use Rattle.linker_base.specs.declared.utils.Uleb128Error.TheVariants.{Ended, TooLarge, DoesNotFit}
-use Rattle.linker_base.proofs.UlebLemmas.{one_reading}
-use Rattle.linker_elf.specs.Relocate.{IsCause, IsAccepted, window_len, size_len}
+use Rattle.linker_elf.specs.Relocate.{IsCause, IsAccepted, size_len}
 use Rattle.linker_elf.specs.declared.elf.RelocationInstruction.TheVariants.{RiscV}
 use Rattle.linker_elf.specs.declared.elf.RelocationKind.{RelocationKind}
 use Rattle.linker_elf.specs.declared.elf.RelocationKind.TheVariants as kinds
 use Rattle.linker_elf.specs.declared.elf.RelocationKindInfo.{RelocationKindInfo}
 use Rattle.linker_elf.specs.declared.elf.RelocationSize.{RelocationSize}
-use Rattle.linker_elf.specs.declared.elf.RelocationSize.TheVariants.{ByteSize, BitMasking}
+use Rattle.linker_elf.specs.declared.elf.RelocationSize.TheVariants.{BitMasking}
 use Rattle.linker_elf.specs.declared.elf.relocate.RelocateError.{RelocateError}
 use Rattle.linker_elf.specs.declared.elf.relocate.RelocateError.TheVariants.{Unsupported, TooShort, Misaligned, OutOfReach}
 use Rattle.linker_elf.specs.declared.riscv64.forms.RiscVInstruction.TheVariants.{UType}
@@ -22,11 +21,11 @@ use Rattle.linker_section.proofs.Fronts.{some_window}
 use Rattle.linker_section.proofs.Rows.{one_row, one_info}
 use Rattle.linker_section.proofs.Sized.{is_composing, first_composes, instruction_alone, auipc_valued}
 use Rattle.linker_section.proofs.Stepping.{len_alone}
-use Rattle.linker_section.specs.Fields.{IsField, field_end, field_len, begins_pair, ends_pair, is_of_pair, Composes, of_number, of_pair, AreApart, IsOverlapped}
+use Rattle.linker_section.specs.Fields.{IsField, begins_pair, ends_pair, is_of_pair, Composes, of_number, of_pair, AreApart}
 use Rattle.linker_section.specs.Relocations.{relocation_in, relocation_at}
 use Rattle.linker_section.specs.Sections.{HasValue, IsRowValue, IsNotAccepted, IsPairRejected, IsPairNumber, IsCauseAt, IsOfValue, BeginsPair}
-use Rattle.linker_section.specs.Values.{IsAscending, offset_at, has_value, is_auipc, is_high_kind, is_high_part, names_label, IsHighPart, IsHighPartAt, IsNoHighPart, low_value, IsLowValue, IsValueBy, IsValueIn, IsValue}
-use Rattle.linker_section.specs.WrittenFields.{Found, CanBeWritten, IsFirstFault, MakePair, OfPair, PairFits, IsAcceptedAt}
+use Rattle.linker_section.specs.Values.{IsAscending, offset_at, is_auipc, is_high_kind, is_high_part, names_label, IsHighPart, IsHighPartAt, low_value, IsLowValue, IsValueBy, IsValueIn, IsValue}
+use Rattle.linker_section.specs.WrittenFields.{CanBeWritten, IsFirstFault, PairFits}
 use Rattle.linker_section.specs.declared.facts.Addresses.{Addresses}
 use Rattle.linker_section.specs.declared.facts.Symbol.{Symbol}
 use Rattle.linker_section.specs.declared.relocations.Rela.{Rela}

@@ -15,6 +15,7 @@ ghost use Rattle.linker_section.specs.WrittenFields.{AreWritten, CanBeWritten, I
 ghost use Rattle.linker_utils.specs.Architectures.{IsRow};
 ghost use Rattle.linker_elf.specs.declared.elf.RelocationKindInfo.{RelocationKindInfo};
 
+use crate::codes::byte_of;
 use crate::facts::{Addresses, Symbol};
 use crate::fields::{Field, begins_pair, ends_pair, is_of_pair, uleb_len};
 use crate::order::{first_overlap, is_ascending};
@@ -79,6 +80,7 @@ fn row_value(
         addresses,
         relocations,
         symbols,
+        byte_of(architecture, relocation.code),
         &info,
         relocation,
     ) {

@@ -2,10 +2,7 @@
 //! What a relocation requires of a linker before addresses are known.
 
 use crate::linker_section::codes::{NO_ROW, byte_of};
-use crate::elf::{
-    Architecture, RelocationInstruction, RelocationKind, RelocationKindInfo, RelocationSize,
-    RiscVInstruction,
-};
+use crate::elf::{Architecture, RelocationInstruction, RelocationKind, RelocationSize};
 
 /// What an entry of the GOT holds.
 #[derive(Debug, Clone, Copy, PartialEq, Eq)]
@@ -92,44 +89,6 @@ pub(crate) fn loads_plt_word(size: RelocationSize, kind: RelocationKind) -> bool
     )
 }
 
-/// The class of the entry that a relocation requires, whose symbol may be thread-local.
-#[inline(always)]
-fn class_of(size: RelocationSize, kind: RelocationKind, is_thread_local: bool) -> Option<EntryClass> {
-    if loads_plt_word(size, kind) {
-        return Some(EntryClass::Address);
-    }
-    match size {
-        RelocationSize::BitMasking {
-            insn: RelocationInstruction::RiscV(RiscVInstruction::IType | RiscVInstruction::SType),
-            ..
-        } => None,
-        RelocationSize::BitMasking {
-            insn: RelocationInstruction::LoongArch64(_),
-            ..
-        } => match class_of_kind(kind) {
-            Some(EntryClass::Address) if is_thread_local => Some(EntryClass::ModuleOffset),
-            class => class,
-        },
-        _ => class_of_kind(kind),
-    }
-}
-
-/// The addend of an entry's address or offset.
-#[inline(always)]
-fn addend_of_entry(size: RelocationSize, class: EntryClass, addend: i64) -> i64 {
-    match (class, size) {
-        (EntryClass::Module, _) => 0,
-        (
-            _,
-            RelocationSize::BitMasking {
-                insn: RelocationInstruction::AArch64(_) | RelocationInstruction::Ppc64(_),
-                ..
-            },
-        ) => addend,
-        _ => 0,
-    }
-}
-
 /// Whether a stub may serve as the target.
 #[inline(always)]
 pub(crate) fn may_use_stub(size: RelocationSize, kind: RelocationKind) -> bool {
@@ -138,22 +97,6 @@ pub(crate) fn may_use_stub(size: RelocationSize, kind: RelocationKind) -> bool {
             kind,
             RelocationKind::PltRelGotBase | RelocationKind::PltRelative
         ) && !loads_plt_word(size, kind))
-}
-
-/// The entry that a relocation of a row requires.
-#[inline(always)]
-pub(crate) fn entry_of(
-    info: &RelocationKindInfo,
-    addend: i64,
-    is_thread_local: bool,
-) -> Option<Entry> {
-    match class_of(info.size, info.kind, is_thread_local) {
-        Some(class) => Some(Entry {
-            class,
-            addend: addend_of_entry(info.size, class, addend),
-        }),
-        None => None,
-    }
 }
 
 /// The class with a number in the byte of a code.
@@ -173,7 +116,7 @@ fn class_by(number: u8, is_thread_local: bool) -> Option<EntryClass> {
 
 /// The entry that the byte of a code says.
 #[inline(always)]
-fn entry_by(byte: u8, addend: i64, is_thread_local: bool) -> Option<Entry> {
+pub(crate) fn entry_by(byte: u8, addend: i64, is_thread_local: bool) -> Option<Entry> {
     match class_by(byte % 8, is_thread_local) {
         Some(class) => Some(Entry {
             class,

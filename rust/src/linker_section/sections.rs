@@ -1,6 +1,7 @@
 // Made by tools/erase of crates/linker_section/src/sections.rt.
 //! The values of a section's relocations, written.
 
+use crate::linker_section::codes::byte_of;
 use crate::linker_section::facts::{Addresses, Symbol};
 use crate::linker_section::fields::{Field, begins_pair, ends_pair, is_of_pair, uleb_len};
 use crate::linker_section::order::{first_overlap, is_ascending};
@@ -60,6 +61,7 @@ fn row_value(
         addresses,
         relocations,
         symbols,
+        byte_of(architecture, relocation.code),
         &info,
         relocation,
     ) {

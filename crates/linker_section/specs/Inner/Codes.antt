@@ -2,7 +2,7 @@
 use Rattle.std.specs.Prelude.{◌≡◌, ℕ, ℤ, pos, ◌/◌, ◌%◌, ◌==◌, nat_lt, if◌then◌else◌, Bool}
 use Rattle.std.specs.Prelude.{List, length, slice_index, Option, Some, None}
 use Rattle.linker_elf.specs.declared.elf.RelocationKindInfo.{RelocationKindInfo}
-use Rattle.linker_section.specs.Needed.{needs_in}
+use Rattle.linker_section.specs.Needed.{needs_of, needs_in}
 use Rattle.linker_section.specs.declared.needed.Entry.{Entry}
 use Rattle.linker_section.specs.declared.needed.EntryClass.{EntryClass}
 use Rattle.linker_section.specs.declared.needed.EntryClass.TheVariants.{Address, ThreadOffset}
@@ -46,7 +46,13 @@ abbrev pub needs_by : ℕ → ℤ → Bool → Option Requirements
 needs_by byte addend is_thread_local =
     if byte == 7 then None else Some (requirements_by byte addend is_thread_local)
 
--- a byte says what the row of a code requires
+-- a byte says what a row requires
+abbrev pub SaysNeeds : ℕ → RelocationKindInfo → Type 0
+SaysNeeds byte row =
+    (addend : ℤ) (is_thread_local : Bool)
+    → requirements_by byte addend is_thread_local ≡ needs_of row addend is_thread_local
+
+-- and what the row of a code requires, or that there is none
 abbrev pub IsByteOf : Architecture → ℕ → ℕ → Type 0
 IsByteOf architecture code byte =
     (row : Option RelocationKindInfo) × IsRow architecture code row
