@@ -94,6 +94,173 @@ static inline uint32_t linker_utils_relocate_all(
     const struct linker_utils_relocation_entry *relocations, size_t relocations_len,
     size_t *faulty);
 
+/* ---- Outputs: what a linker adds to one, by architecture.
+ *
+ * Types of dynamic relocations, words of the GOT, what offsets of thread-local storage count from,
+ * `e_flags`, symbols and functions that linkers provide, and the code of stubs. The status
+ * LINKER_UTILS_UNKNOWN_ARCHITECTURE comes first. With any status but LINKER_UTILS_OK nothing is
+ * written. Each call takes O(1), but for copies of texts. */
+
+/* The types of the dynamic relocations that a linker emits. */
+struct linker_utils_dynamic_types {
+    uint32_t word; /* a word with S + A */
+    uint32_t relative; /* a word with the load address plus A */
+    uint32_t glob_dat; /* a word of the GOT with S: `word` where the psABI has no type of its own */
+    uint32_t jump_slot; /* a word of the PLT's GOT with S */
+    uint32_t copy; /* a copy of a variable of a shared library */
+    uint32_t irelative; /* a word with what the function at the load address plus A returns */
+    uint32_t module_number; /* a word with the number of the symbol's module */
+    uint32_t module_offset; /* a word with the symbol's offset in the block of its module */
+    uint32_t thread_offset; /* a word with the symbol's offset from the thread pointer */
+    uint32_t descriptor; /* a TLS descriptor, of two words; 0 where the psABI has none */
+};
+
+/* The dynamic relocations of an architecture, into `types`. */
+uint32_t linker_utils_dynamic_types(uint16_t machine, struct linker_utils_dynamic_types *types);
+
+/* Writes the name of one of these types, as `R_X86_64_RELATIVE`, to `name`, without a zero behind
+ * it, and its length to `name_used`. LINKER_UTILS_UNKNOWN_RELOCATION; LINKER_UTILS_TOO_SHORT. No
+ * name is longer than LINKER_UTILS_NAME_SIZE. */
+static inline uint32_t linker_utils_dynamic_name(uint16_t machine, uint32_t r_type, uint8_t *name,
+                                                 size_t name_len, size_t *name_used);
+
+/* The types of the dynamic relocations of a GOT entry's words; 0 for a word that has none, whose
+ * value is known when the output is linked. */
+struct linker_utils_word_types {
+    uint32_t first; /* that of a TLS descriptor writes both words */
+    uint32_t second;
+};
+
+/* The dynamic relocations of an entry of a class, by `enum linker_utils_entry_class`, into `words`.
+ * `is_bound`: its symbol's definition is in this output and no other can take its place.
+ * `is_executable`: the output is a position-independent executable, and not a shared library. In a
+ * shared library the second word of a bound symbol's LINKER_UTILS_ENTRY_MODULE_OFFSET has its
+ * offset from `module_block` of `struct linker_utils_origins`. LINKER_UTILS_UNKNOWN_ENTRY_CLASS. */
+uint32_t linker_utils_dynamic_words(uint16_t machine, uint32_t entry_class, bool is_bound,
+                                    bool is_executable, struct linker_utils_word_types *words);
+
+/* How many words of 8 bytes an entry of a class has; 0 of a number that is no class. */
+uint64_t linker_utils_entry_words(uint32_t entry_class);
+
+/* What offsets of thread-local storage count from. */
+struct linker_utils_origins {
+    uint64_t thread_pointer; /* the address that the thread pointer stands for */
+    uint64_t module_block; /* what offsets in the module's block count from */
+};
+
+/* What they count from, by the TLS image: its address, its length in memory and its alignment,
+ * `p_vaddr`, `p_memsz` and `p_align` of PT_TLS; an alignment of 0 stands for 1. Addresses are
+ * modulo 2^64. */
+uint32_t linker_utils_origins(uint16_t machine, uint64_t image, uint64_t image_len,
+                              uint64_t alignment, struct linker_utils_origins *origins);
+
+/* Both words of an entry of the GOT; the second is 0 where the entry has one. */
+struct linker_utils_entry_words {
+    uint64_t first;
+    uint64_t second;
+};
+
+/* What an entry's words hold in a static executable, into `words`, by its symbol's address, S + A
+ * where the entry is of S + A. The executable's module has number 1.
+ * LINKER_UTILS_UNKNOWN_ENTRY_CLASS, also of LINKER_UTILS_ENTRY_DESCRIPTOR, whose function a static
+ * executable has not. */
+uint32_t linker_utils_static_words(uint32_t entry_class, uint64_t address,
+                                   const struct linker_utils_origins *origins,
+                                   struct linker_utils_entry_words *words);
+
+/* The GOT, by its address. */
+struct linker_utils_got {
+    uint64_t base; /* what offsets from the GOT count from */
+    uint64_t header; /* its first word, if that isn't an entry; else 0 */
+    uint8_t has_header; /* 1 where the first word isn't an entry; else 0 */
+};
+
+/* What a linker knows of the GOT by its address and that of `_DYNAMIC`, 0 where there is none. */
+uint32_t linker_utils_got(uint16_t machine, uint64_t address, uint64_t dynamic,
+                          struct linker_utils_got *got);
+
+/* `e_flags` of two objects that are linked, into `joined`. The order of objects doesn't matter.
+ * LINKER_UTILS_DIFFERENT_FLAGS where the psABI keeps the two apart, as RISC-V's lp64 and lp64d, or
+ * where one of them has a bit that the psABI doesn't define. */
+uint32_t linker_utils_join_flags(uint16_t machine, uint32_t first, uint32_t second,
+                                 uint32_t *joined);
+
+/* `e_flags` of an output, from those that `linker_utils_join_flags` made of its objects:
+ * PowerPC64's objects may leave the version of the ABI open, and an output says that it is 2. Those
+ * of an unknown machine stay. */
+uint32_t linker_utils_output_flags(uint16_t machine, uint32_t joined);
+
+/* The largest page, in bytes, for which an output has to be right. 0 of an unknown machine. */
+uint64_t linker_utils_page(uint16_t machine);
+
+/* How many bytes the shortest instruction of an output with such `e_flags` has. 0 of an unknown
+ * machine. */
+uint64_t linker_utils_code_unit(uint16_t machine, uint32_t flags);
+
+/* The byte at an offset of a gap in code, which counts from a multiple of 4. 0 of an unknown
+ * machine. */
+uint8_t linker_utils_filler(uint16_t machine, uint64_t offset);
+
+/* Writes the path of the dynamic linker in glibc for an output with such `e_flags` to `path`,
+ * without a zero behind it, and its length to `path_used`. LINKER_UTILS_NOT_PROVIDED where glibc
+ * has none for them; LINKER_UTILS_TOO_SHORT. No path is longer than LINKER_UTILS_NAME_SIZE. */
+static inline uint32_t linker_utils_interpreter(uint16_t machine, uint32_t flags, uint8_t *path,
+                                                size_t path_len, size_t *path_used);
+
+/* A symbol that a linker defines if an object refers to it. */
+struct linker_utils_provided_symbol {
+    uint64_t offset; /* how many bytes above its place */
+    uint32_t place; /* `enum linker_utils_symbol_place` */
+};
+
+/* The symbol with an index, from 0 on: its name to `name`, without a zero behind it, its length to
+ * `name_used`, and where it is to `symbol`. LINKER_UTILS_NOT_PROVIDED where there is none with this
+ * index or above; LINKER_UTILS_TOO_SHORT. No name is longer than LINKER_UTILS_NAME_SIZE. */
+static inline uint32_t linker_utils_provided_symbol(uint16_t machine, size_t index, uint8_t *name,
+                                                    size_t name_len, size_t *name_used,
+                                                    struct linker_utils_provided_symbol *symbol);
+
+/* Functions that compilers call and linkers provide, which save or restore registers, in one run of
+ * code. */
+struct linker_utils_provided_run {
+    uint64_t len; /* how many instructions of 4 bytes the run has */
+    /* The number in the first function's name. That with a number n begins 4 * (n - `first`) bytes
+     * behind the run's start. */
+    uint32_t first;
+    uint32_t count; /* how many functions there are */
+};
+
+/* The run with an index, from 0 on: the functions' names without the number, which stands behind it
+ * in decimal, to `prefix`, its length to `prefix_used`, and the numbers to `run`.
+ * LINKER_UTILS_NOT_PROVIDED where there is none with this index or above; LINKER_UTILS_TOO_SHORT.
+ * No prefix is longer than LINKER_UTILS_NAME_SIZE. */
+static inline uint32_t linker_utils_provided_run(uint16_t machine, size_t index, uint8_t *prefix,
+                                                 size_t prefix_len, size_t *prefix_used,
+                                                 struct linker_utils_provided_run *run);
+
+/* The instruction at an index of the run with an index, into `word`. LINKER_UTILS_NOT_PROVIDED
+ * where either is too large. */
+uint32_t linker_utils_provided_word(uint16_t machine, size_t run, uint64_t index, uint32_t *word);
+
+/* A stub of an architecture. */
+struct linker_utils_stub {
+    uint64_t len; /* in bytes */
+    /* The offset at which a call enters. PowerPC64's calls whose `nop` becomes `ld 2,24(1)` enter
+     * at 0, where the stub stores the TOC pointer. */
+    uint64_t entry;
+};
+
+/* The stub of a kind, into `stub`. LINKER_UTILS_UNKNOWN_STUB where the architecture has none. */
+uint32_t linker_utils_stub(uint16_t machine, uint32_t kind, struct linker_utils_stub *stub);
+
+/* Writes the stub of a kind that stands at the address `place` to the beginning of `bytes`: to the
+ * word at `target`, or to `target`. What a call changes on its way through it are registers that a
+ * function may change, in which no argument is. LINKER_UTILS_UNKNOWN_STUB; LINKER_UTILS_TOO_SHORT;
+ * and where the target is out of the stub's reach the status of the first such field, as
+ * `linker_utils_relocate`. */
+static inline uint32_t linker_utils_write_stub(uint16_t machine, uint32_t kind, uint64_t place,
+                                               uint64_t target, uint8_t *bytes, size_t bytes_len);
+
 /* ---- Calls on PowerPC64 (64-bit ELF V2 ABI for Power, "Function Call Linkage Protocols" and
  * "Symbol Values").
  *
