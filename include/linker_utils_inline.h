@@ -103,8 +103,9 @@ uint32_t linker_utils_apply_nonnull(uint16_t machine, uint32_t rewrite,
 static inline uint32_t linker_utils_apply(uint16_t machine, uint32_t rewrite, uint8_t opcode_len,
                                           uint8_t *section, size_t section_len, uint64_t *offset,
                                           int64_t *addend) {
-    return linker_utils_apply_nonnull(machine, rewrite, opcode_len, LINKER_UTILS_SLICE(uint8_t, section),
-                                      section_len, offset, addend);
+    return linker_utils_apply_nonnull(machine, rewrite, opcode_len,
+                                      LINKER_UTILS_SLICE(uint8_t, section), section_len, offset,
+                                      addend);
 }
 
 uint32_t linker_utils_relocation_name_nonnull(uint16_t machine, uint32_t r_type, uint8_t *name,
@@ -171,6 +172,91 @@ static inline uint32_t linker_utils_relocate_section(
         LINKER_UTILS_SLICE(const struct linker_utils_symbol, symbols), symbols_len,
         LINKER_UTILS_SLICE(uint8_t, section), section_len, LINKER_UTILS_SLICE(uint64_t, memory),
         memory_len, faulty ? faulty : &ignored);
+}
+
+uint32_t linker_utils_survey_nonnull(
+    uint16_t machine, const struct linker_utils_output_facts *output,
+    const struct linker_utils_symbol_facts *symbols, size_t symbols_len,
+    const uint8_t *relocations, size_t relocations_len, const uint8_t *section, size_t section_len,
+    struct linker_utils_kept_groups *kept, size_t kept_len);
+static inline uint32_t linker_utils_survey(
+    uint16_t machine, const struct linker_utils_output_facts *output,
+    const struct linker_utils_symbol_facts *symbols, size_t symbols_len,
+    const uint8_t *relocations, size_t relocations_len, const uint8_t *section, size_t section_len,
+    struct linker_utils_kept_groups *kept, size_t kept_len) {
+    return linker_utils_survey_nonnull(
+        machine, output, LINKER_UTILS_SLICE(const struct linker_utils_symbol_facts, symbols),
+        symbols_len, LINKER_UTILS_SLICE(const uint8_t, relocations), relocations_len,
+        LINKER_UTILS_SLICE(const uint8_t, section), section_len,
+        LINKER_UTILS_SLICE(struct linker_utils_kept_groups, kept), kept_len);
+}
+
+uint32_t linker_utils_rewrite_section_nonnull(
+    uint16_t machine, const struct linker_utils_output_facts *output,
+    const struct linker_utils_symbol_facts *symbols, size_t symbols_len,
+    const struct linker_utils_kept_groups *kept, size_t kept_len, uint8_t *relocations,
+    size_t relocations_len, uint8_t *section, size_t section_len,
+    struct linker_utils_decision *decisions, size_t decisions_len, size_t *faulty);
+static inline uint32_t linker_utils_rewrite_section(
+    uint16_t machine, const struct linker_utils_output_facts *output,
+    const struct linker_utils_symbol_facts *symbols, size_t symbols_len,
+    const struct linker_utils_kept_groups *kept, size_t kept_len, uint8_t *relocations,
+    size_t relocations_len, uint8_t *section, size_t section_len,
+    struct linker_utils_decision *decisions, size_t decisions_len, size_t *faulty) {
+    size_t ignored;
+    return linker_utils_rewrite_section_nonnull(
+        machine, output, LINKER_UTILS_SLICE(const struct linker_utils_symbol_facts, symbols),
+        symbols_len, LINKER_UTILS_SLICE(const struct linker_utils_kept_groups, kept), kept_len,
+        LINKER_UTILS_SLICE(uint8_t, relocations), relocations_len,
+        LINKER_UTILS_SLICE(uint8_t, section), section_len,
+        LINKER_UTILS_SLICE(struct linker_utils_decision, decisions), decisions_len,
+        faulty ? faulty : &ignored);
+}
+
+uint32_t linker_utils_dynamic_name_nonnull(
+    uint16_t machine, uint32_t r_type, uint8_t *name, size_t name_len, size_t *name_used);
+static inline uint32_t linker_utils_dynamic_name(
+    uint16_t machine, uint32_t r_type, uint8_t *name, size_t name_len, size_t *name_used) {
+    return linker_utils_dynamic_name_nonnull(
+        machine, r_type, LINKER_UTILS_SLICE(uint8_t, name), name_len, name_used);
+}
+
+uint32_t linker_utils_interpreter_nonnull(
+    uint16_t machine, uint32_t flags, uint8_t *path, size_t path_len, size_t *path_used);
+static inline uint32_t linker_utils_interpreter(
+    uint16_t machine, uint32_t flags, uint8_t *path, size_t path_len, size_t *path_used) {
+    return linker_utils_interpreter_nonnull(
+        machine, flags, LINKER_UTILS_SLICE(uint8_t, path), path_len, path_used);
+}
+
+uint32_t linker_utils_provided_symbol_nonnull(
+    uint16_t machine, size_t index, uint8_t *name, size_t name_len, size_t *name_used,
+    struct linker_utils_provided_symbol *symbol);
+static inline uint32_t linker_utils_provided_symbol(
+    uint16_t machine, size_t index, uint8_t *name, size_t name_len, size_t *name_used,
+    struct linker_utils_provided_symbol *symbol) {
+    return linker_utils_provided_symbol_nonnull(
+        machine, index, LINKER_UTILS_SLICE(uint8_t, name), name_len, name_used, symbol);
+}
+
+uint32_t linker_utils_provided_run_nonnull(
+    uint16_t machine, size_t index, uint8_t *prefix, size_t prefix_len, size_t *prefix_used,
+    struct linker_utils_provided_run *run);
+static inline uint32_t linker_utils_provided_run(
+    uint16_t machine, size_t index, uint8_t *prefix, size_t prefix_len, size_t *prefix_used,
+    struct linker_utils_provided_run *run) {
+    return linker_utils_provided_run_nonnull(
+        machine, index, LINKER_UTILS_SLICE(uint8_t, prefix), prefix_len, prefix_used, run);
+}
+
+uint32_t linker_utils_write_stub_nonnull(
+    uint16_t machine, uint32_t kind, uint64_t place, uint64_t target, uint8_t *bytes,
+    size_t bytes_len);
+static inline uint32_t linker_utils_write_stub(
+    uint16_t machine, uint32_t kind, uint64_t place, uint64_t target, uint8_t *bytes,
+    size_t bytes_len) {
+    return linker_utils_write_stub_nonnull(
+        machine, kind, place, target, LINKER_UTILS_SLICE(uint8_t, bytes), bytes_len);
 }
 
 uint32_t linker_utils_jal_site_nonnull(uint8_t *section, size_t section_len, uint64_t site,
@@ -482,36 +568,22 @@ static inline uint32_t linker_utils_shrink_calls(const struct linker_utils_delta
         LINKER_UTILS_SLICE(uint8_t, chosen), chosen_len, faulty ? faulty : &ignored);
 }
 
-uint32_t linker_utils_riscv_items_nonnull(
-    const uint8_t *section, size_t section_len, uint64_t base,
+uint32_t linker_utils_section_items_nonnull(
+    uint16_t machine, const uint8_t *section, size_t section_len, uint64_t base,
     const struct linker_utils_rela *relocations, size_t relocations_len,
-    struct linker_utils_item *items, size_t items_len, size_t *len, size_t *faulty);
-static inline uint32_t linker_utils_riscv_items(
-    const uint8_t *section, size_t section_len, uint64_t base,
+    struct linker_utils_item *items, size_t items_len, size_t *makers, size_t makers_len, size_t *len,
+    size_t *faulty);
+static inline uint32_t linker_utils_section_items(
+    uint16_t machine, const uint8_t *section, size_t section_len, uint64_t base,
     const struct linker_utils_rela *relocations, size_t relocations_len,
-    struct linker_utils_item *items, size_t items_len, size_t *len, size_t *faulty) {
+    struct linker_utils_item *items, size_t items_len, size_t *makers, size_t makers_len, size_t *len,
+    size_t *faulty) {
     size_t ignored;
-    return linker_utils_riscv_items_nonnull(
-        LINKER_UTILS_SLICE(const uint8_t, section), section_len, base,
+    return linker_utils_section_items_nonnull(
+        machine, LINKER_UTILS_SLICE(const uint8_t, section), section_len, base,
         LINKER_UTILS_SLICE(const struct linker_utils_rela, relocations),
-        relocations_len, LINKER_UTILS_SLICE(struct linker_utils_item, items), items_len, len,
-        faulty ? faulty : &ignored);
-}
-
-uint32_t linker_utils_loongarch_items_nonnull(
-    const uint8_t *section, size_t section_len, uint64_t base,
-    const struct linker_utils_rela *relocations, size_t relocations_len,
-    struct linker_utils_item *items, size_t items_len, size_t *len, size_t *faulty);
-static inline uint32_t linker_utils_loongarch_items(
-    const uint8_t *section, size_t section_len, uint64_t base,
-    const struct linker_utils_rela *relocations, size_t relocations_len,
-    struct linker_utils_item *items, size_t items_len, size_t *len, size_t *faulty) {
-    size_t ignored;
-    return linker_utils_loongarch_items_nonnull(
-        LINKER_UTILS_SLICE(const uint8_t, section), section_len, base,
-        LINKER_UTILS_SLICE(const struct linker_utils_rela, relocations),
-        relocations_len, LINKER_UTILS_SLICE(struct linker_utils_item, items), items_len, len,
-        faulty ? faulty : &ignored);
+        relocations_len, LINKER_UTILS_SLICE(struct linker_utils_item, items), items_len,
+        LINKER_UTILS_SLICE(size_t, makers), makers_len, len, faulty ? faulty : &ignored);
 }
 
 uint32_t linker_utils_items_relaxable_nonnull(const struct linker_utils_item *items,
@@ -636,6 +708,19 @@ static inline bool linker_utils_same_but_for(uint16_t machine, uint32_t r_type, 
                                              size_t a_len, const uint8_t *b, size_t b_len) {
     return linker_utils_same_but_for_nonnull(machine, r_type, LINKER_UTILS_SLICE(const uint8_t, a),
                                              a_len, LINKER_UTILS_SLICE(const uint8_t, b), b_len);
+}
+
+uint32_t linker_utils_recognise_window_nonnull(uint16_t machine, uint32_t r_type,
+                                               const uint8_t *original, size_t original_len,
+                                               uint64_t offset,
+                                               struct linker_utils_window_bounds *window);
+static inline uint32_t linker_utils_recognise_window(uint16_t machine, uint32_t r_type,
+                                                     const uint8_t *original, size_t original_len,
+                                                     uint64_t offset,
+                                                     struct linker_utils_window_bounds *window) {
+    return linker_utils_recognise_window_nonnull(machine, r_type,
+                                                 LINKER_UTILS_SLICE(const uint8_t, original),
+                                                 original_len, offset, window);
 }
 
 uint32_t linker_utils_recognise_nonnull(

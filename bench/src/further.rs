@@ -441,6 +441,18 @@ fn reading(report: &mut Report) {
             },
         );
         assert!(count > 0, "{what}");
+        let mut window = RewriteWindow::default();
+        let what = format!("`linker_utils_recognise_window`, {name}");
+        line(report, &what, &compared, |(site, _, original, _, _)| unsafe {
+            linker_utils_recognise_window_nonnull(
+                machine,
+                site.r_type,
+                original.as_ptr(),
+                original.len(),
+                site.offset % STRIDE as u64,
+                &mut window,
+            )
+        });
         let what = format!("`linker_utils_recognise_chosen`, {name}");
         line(
             report,
@@ -630,10 +642,8 @@ fn runs(report: &mut Report, random: &mut Random) {
         let (bytes, len) = (section.as_ptr(), section.len());
         let (given, count) = (relocations.as_ptr(), relocations.len());
         let mut used = 0;
-        let export = match machine {
-            RISCV => "`linker_utils_riscv_items`, a relocation",
-            _ => "`linker_utils_loongarch_items`, a relocation",
-        };
+        let mut makers = vec![0; relocations.len()];
+        let export = format!("`linker_utils_section_items`, {name}, a relocation");
         let listed: Vec<_> = relocations
             .iter()
             .map(|it| runs::items::Relocation {
@@ -645,27 +655,20 @@ fn runs(report: &mut Report, random: &mut Random) {
                 may_compress: it.may_compress != 0,
             })
             .collect();
-        let made = || match of_crate {
-            Machine::RiscV64 => runs::riscv64::items(&section, 0, &listed),
-            Machine::LoongArch64 => runs::loongarch64::items(&section, 0, &listed),
-        };
+        let made = || runs::items::section_items(of_crate, &section, 0, &listed);
         let call = || {
             let (items, used, faulty) = (items.as_mut_ptr(), &mut used, &mut 0);
+            let makers = makers.as_mut_ptr();
             unsafe {
-                match machine {
-                    RISCV => linker_utils_riscv_items_nonnull(
-                        bytes, len, 0, given, count, items, count, used, faulty,
-                    ),
-                    _ => linker_utils_loongarch_items_nonnull(
-                        bytes, len, 0, given, count, items, count, used, faulty,
-                    ),
-                }
+                linker_utils_section_items_nonnull(
+                    machine, bytes, len, 0, given, count, items, count, makers, count, used, faulty,
+                )
             }
         };
-        whole_beside(report, export, count, call, || made().is_ok());
+        whole_beside(report, &export, count, call, || made().is_ok());
         items.truncate(used);
         assert_eq!(items.len(), COUNT + COUNT / 8);
-        let run = made().expect("items");
+        let run = made().expect("items").items;
 
         let (item, count) = (items.as_ptr(), items.len());
         whole_beside(

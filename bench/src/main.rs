@@ -13,6 +13,7 @@ mod inputs;
 mod library;
 mod measure;
 mod relaxing;
+mod rewriting;
 mod sections;
 mod table;
 mod threads;
@@ -59,7 +60,7 @@ fn main() {
         let mut parts = args.iter().filter(|arg| !arg.starts_with("--")).peekable();
         parts.peek().is_none() || parts.any(|arg| arg == part)
     };
-    let parts: [(&str, fn(&mut Report)); 18] = [
+    let parts: [(&str, fn(&mut Report)); 19] = [
         ("forms", forms),
         ("rewrites", rewrites),
         ("choices", choices::choices),
@@ -74,6 +75,7 @@ fn main() {
         ("relaxing", relaxing::relaxing),
         ("packing", packing),
         ("sections", sections::sections),
+        ("rewriting", rewriting::rewriting),
         ("more", more),
         ("further", further::further),
         ("growth", growth::growth),

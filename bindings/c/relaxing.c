@@ -23,7 +23,7 @@ int main(void) {
     struct linker_utils_delta deltas[RELOCATIONS];
     uint8_t shapes[RELOCATIONS], packed[18];
     uint64_t kept[RELOCATIONS], freed[RELOCATIONS + 1];
-    size_t places[RELOCATIONS], faulty, count, deltas_len;
+    size_t makers[RELOCATIONS], places[RELOCATIONS], faulty, count, deltas_len;
     uint32_t status;
 
     memset(relocations, 0, sizeof relocations);
@@ -37,8 +37,9 @@ int main(void) {
     relocations[2].offset = 8;
     relocations[2].addend = 6;
 
-    status = linker_utils_riscv_items(section, sizeof section, 0, relocations, RELOCATIONS, items,
-                                      RELOCATIONS, &count, &faulty);
+    status = linker_utils_section_items(LINKER_UTILS_RISCV, section, sizeof section, 0, relocations,
+                                        RELOCATIONS, items, RELOCATIONS, makers, RELOCATIONS, &count,
+                                        &faulty);
     if (status != LINKER_UTILS_OK) {
         fprintf(stderr, "relocation %zu: %s\n", faulty, linker_utils_status_text(status));
         return 1;

@@ -26,15 +26,19 @@ fn main() {
     println!("cargo:rustc-link-search=native={folder}");
     println!("cargo:rustc-link-lib=static=linker_utils");
 
-    let installed = format!("{folder}/../include/linker_utils.h");
-    let is_installed = Path::new(&installed).exists();
-    let header = if is_installed {
+    let installed = format!("{folder}/../include");
+    let is_installed = Path::new(&installed).join("linker_utils.h").exists();
+    let include = if is_installed {
         &installed
     } else {
-        "../../include/linker_utils.h"
+        "../../include"
     };
-    println!("cargo:rerun-if-changed={header}");
-    let header = fs::read_to_string(header).expect("the header is there");
+    let headers = ["_lists", "", "_further"].map(|name| {
+        let header = format!("{include}/linker_utils{name}.h");
+        println!("cargo:rerun-if-changed={header}");
+        fs::read_to_string(header).expect("the header is there")
+    });
+    let header = headers.concat();
     let room = env::var("OUT_DIR").expect("cargo names a folder");
     fs::write(format!("{room}/constants.rs"), constants(&header)).expect("the folder is there");
 }

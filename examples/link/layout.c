@@ -59,18 +59,16 @@ struct relocation *add_relocations(struct output *o, size_t len) {
     return o->relocations + o->relocations_len - len;
 }
 
-/* How many bytes the shortest instruction has of code that becomes shorter. */
-uint64_t code_unit(void) { return machine == EM_RISCV && machine_flags & EF_RISCV_RVC ? 2 : 4; }
+/* How many bytes the shortest instruction has. */
+uint64_t code_unit(void) { return linker_utils_code_unit(machine, machine_flags); }
 
 /* The offset of new room at a section's end. Gaps in code have instructions that trap, or zeros, as
  * ld.lld's; where code shrinks they are as long as may be needed, and a relocation cuts them. */
 uint64_t make_room(struct output *o, uint64_t align, uint64_t len) {
     uint64_t start = o->len, offset = align ? round_up(start, align) : start;
     uint64_t unit = code_unit();
-    uint32_t trap = machine == EM_X86_64 ? 0xcccccccc : machine == EM_PPC64 ? 0x7fe00008 : 0;
-    if (machine == EM_LOONGARCH) trap = 0x002a0000;
     if (len > MOST_BYTES || offset + len > MOST_BYTES) fail("section %s is too large", o->name);
-    if (align & (align - 1) || align > PAGE) fail("section %s can't be aligned so", o->name);
+    if (align & (align - 1) || align > MOST_ALIGN) fail("section %s can't be aligned so", o->name);
     if (o->shrinks && start && align > unit) {
         offset = round_up(start, unit);
         *add_relocations(o, 1) = (struct relocation){
@@ -83,7 +81,7 @@ uint64_t make_room(struct output *o, uint64_t align, uint64_t len) {
     if (!o->has_bytes) return offset;
     o->bytes = grow(o->bytes, o->len, &o->room, 1);
     for (uint64_t i = start; i < offset && o->flags & SHF_EXECINSTR; i++)
-        o->bytes[i] = (uint8_t)(trap >> i % 4 * 8);
+        o->bytes[i] = linker_utils_filler(machine, i);
     return offset;
 }
 
@@ -181,11 +179,10 @@ static int by_place(const void *left, const void *right) {
 /* Places the sections, first those that the command line places. One with other permissions begins
  * a new page, at the same offset in the page as the one before it ends. */
 void place_outputs(void) {
-    uint64_t page = PAGE, align = 1, kinds = 0, now, end = 0;
+    uint64_t page = linker_utils_page(machine), align = 1, kinds = 0, now, end = 0;
     struct place p = {.run = NULL};
     const struct output *first = NULL; /* of thread-local storage */
     bool is_behind_placed = false;
-    if (machine == EM_X86_64 || machine == EM_RISCV) page = 0x1000;
     for (size_t i = 0; i < outputs_len; i++)
         if (outputs[i]->flags & SHF_TLS && outputs[i]->align > align) align = outputs[i]->align;
     qsort(outputs, outputs_len, sizeof *outputs, by_place);
@@ -214,7 +211,7 @@ void place_outputs(void) {
                 skip(&p, page);
                 kinds = now;
             }
-            align_next(&p, o, is_behind_placed ? PAGE : is_tls ? align : o->align);
+            align_next(&p, o, is_behind_placed ? MOST_ALIGN : is_tls ? align : o->align);
             is_behind_placed = false;
         }
         o->run = p.run;
@@ -250,14 +247,13 @@ void set_addresses(void) {
         if (o->align > align) align = o->align;
     }
     tls.align = align;
-    tls.thread = tls.module = tls.image;
-    if (machine == EM_AARCH64) tls.thread -= round_up(16, align);
-    if (machine == EM_PPC64) tls.thread += 0x7000;
-    if (machine == EM_X86_64) tls.thread += round_up(tls.len, align);
-    if (machine == EM_PPC64) tls.module += 0x8000;
-    if (machine == EM_RISCV) tls.module += 0x800;
-    /* on x86-64 the offsets in the module's block become those from the thread pointer */
-    if (module_base) module_base->offset = machine == EM_X86_64 ? tls.thread : tls.module;
+    uint64_t past = tls.image % align; /* (0 once code is shorter) */
+    linker_utils_origins(machine, tls.image - past, tls.len, align, &tls.origins);
+    tls.origins.thread_pointer += past;
+    tls.origins.module_block += past;
+    if (module_base)
+        module_base->offset =
+            tls.has_base ? tls.origins.thread_pointer : tls.origins.module_block;
 }
 
 uint64_t address_of(const struct output *o, uint64_t offset) {

@@ -23,7 +23,7 @@
 
 #include "linker_utils.h"
 
-#define PAGE UINT64_C(0x10000)          /* the largest page of the five architectures */
+#define MOST_ALIGN UINT64_C(0x10000)    /* of a section */
 #define BASE UINT64_C(0x400000)         /* where the file's header is, if no section is placed */
 #define HEADERS UINT64_C(0x400)         /* room for the headers there */
 #define MOST_BYTES UINT64_C(0x40000000) /* of a file and of a section */
@@ -32,7 +32,7 @@
 
 /* relocation types that older versions of <elf.h> lack */
 enum { LARCH_PCALA_HI20 = 71, LARCH_PCALA_LO12 = 72, LARCH_RELAX = 100, LARCH_ALIGN = 102 };
-enum { LARCH_CALL36 = 110, LARCH_TLS_DESC_LD = 119, PPC64_REL24_NOTOC = 116 };
+enum { LARCH_CALL36 = 110, PPC64_REL24_NOTOC = 116 };
 enum { RISCV_TLSDESC_HI20 = 62, RISCV_TLSDESC_CALL = 65 };
 
 /* the order of the sections of the linked file; there are three kinds of arrays */
@@ -80,7 +80,8 @@ struct object {
     uint32_t flags; /* `e_flags` */
     bool has_other_low_halves; /* PowerPC64: not all can be over the TOC pointer */
     bool has_other_offsets; /* and of local-exec, not all can be over the thread pointer */
-    bool (*stays)[6]; /* by symbol and class, what of thread-local storage stays; or null */
+    struct linker_utils_symbol_facts *facts; /* of each symbol, before addresses are known */
+    struct linker_utils_kept_groups *kept;   /* by symbol, which groups of instructions stay */
 };
 
 struct section {
@@ -142,14 +143,15 @@ struct row {
     bool is_known;
 };
 
-/* The TLS segment: where its image is, its length and alignment, the thread pointer, and the origin
- * of offsets in the module's block. */
+/* The TLS segment: where its image is, its length and alignment, and what offsets count from. */
 struct tls {
-    uint64_t image, len, align, thread, module;
+    uint64_t image, len, align;
+    struct linker_utils_origins origins;
+    bool has_base; /* whether `module_base` is at the thread pointer, or at the module's origin */
 };
 
 extern uint16_t machine;
-extern uint32_t machine_flags;
+extern uint32_t machine_flags; /* `e_flags` of all objects */
 extern bool relaxes; /* whether instructions are rewritten that need not be */
 extern bool has_short_offsets; /* and PowerPC64's local-exec, which ld.lld leaves */
 extern struct object *objects; /* in the order in which they are read */
@@ -183,8 +185,9 @@ uint64_t address_of(const struct output *o, uint64_t offset);
 void place_outputs(void), set_addresses(void);
 void add_section(struct section *s), copy_section(struct section *s), sort_outputs(void);
 
-void note_sequences(struct object *o), read_relocations(struct section *s), make_entries(void);
-void write_offsets(void);
+void survey(struct object *o), read_relocations(struct section *s), make_entries(void);
+void write_entries(void), write_stubs(void);
+struct linker_utils_got known_got(void);
 struct section *toc_section(const struct relocation *r, uint64_t *offset);
 bool add_thunks(void);
 void rewrite(const struct relocation *r, uint8_t *bytes, uint64_t len, uint64_t *offset,

@@ -100,7 +100,7 @@ int main(int argc, char **argv) {
         s->offset = make_room(s->output, s->elf.st_value, s->elf.st_size);
     }
     for (struct object *o = objects; o; o = o->next) {
-        if (machine != EM_RISCV) note_sequences(o);
+        survey(o);
         for (size_t i = 0; i < o->sections_len; i++) copy_section(&o->sections[i]);
     }
     for (struct symbol *s = symbols; s; s = s->later) place_symbol(s);
@@ -109,7 +109,8 @@ int main(int argc, char **argv) {
     while (add_thunks());
     relax();
     for (size_t i = 0; i < outputs_len; i++) relocate(outputs[i]);
-    write_offsets();
+    write_entries();
+    write_stubs();
     index_frames();
     struct symbol *start = *global("_start");
     if (!start || !start->output) fail("undefined symbol '_start'");

@@ -107,7 +107,10 @@ static void read_object(const char *path, const uint8_t *bytes, size_t len) {
     if (!machine) machine = head.e_machine;
     demand(o, machine == head.e_machine && !linker_utils_relocate(machine, 0, 0, NULL, 0),
            "of another architecture");
-    machine_flags |= o->flags = head.e_flags;
+    o->flags = head.e_flags;
+    if (o == objects) machine_flags = o->flags;
+    demand(o, !linker_utils_join_flags(machine, machine_flags, o->flags, &machine_flags),
+           "of another ABI than those before it");
     Elf64_Shdr table = {.sh_offset = head.e_shoff, .sh_entsize = head.e_shentsize};
     table.sh_size = head.e_shnum * sizeof table;
     o->heads = copy_table(o, &table, sizeof table, &o->sections_len);

@@ -240,11 +240,11 @@ void write_file(const char *path, uint64_t entry, bool has_symbols) {
     Elf64_Ehdr head = {.e_type = ET_EXEC, .e_machine = machine, .e_version = EV_CURRENT};
     memcpy(head.e_ident, ELFMAG "\2\1\1", 7); /* ELFCLASS64, ELFDATA2LSB, EV_CURRENT */
     head.e_entry = entry;
-    head.e_flags = machine_flags;
+    head.e_flags = linker_utils_output_flags(machine, machine_flags);
     head.e_phoff = head.e_ehsize = sizeof head;
     head.e_phentsize = sizeof *loads;
-    uint64_t end = 0, offset = headers->len ? 0 : PAGE, align = PAGE, image = 0, len;
-    if (headers->len && (machine == EM_X86_64 || machine == EM_RISCV)) align = 0x1000;
+    uint64_t end = 0, offset = headers->len ? 0 : MOST_ALIGN, align = MOST_ALIGN, image = 0, len;
+    if (headers->len) align = linker_utils_page(machine);
     qsort(outputs, outputs_len, sizeof *outputs, by_address);
     put(0, &head, sizeof head);
     put(sizeof head, loads, 0); /* (how many there are is said below) */

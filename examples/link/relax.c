@@ -41,7 +41,7 @@ static struct linker_utils_choice choose_offset(const struct output *o, struct r
     struct linker_utils_link_facts facts = {
         .is_local = 1, .is_executable = is_descriptor, .is_relaxable = 1, .has_addresses = 1,
         .operands = {.symbol = address_of(s->output, s->offset), .addend = high->addend,
-                     .tls_base = tls.thread, .got_entry = NO_ENTRY}};
+                     .tls_base = tls.origins.thread_pointer, .got_entry = NO_ENTRY}};
     check(r, linker_utils_choose(machine, r->type, o->bytes, r->section->end, r->offset, &facts,
                                  &choice));
     if (!is_descriptor || !choice.rewrite) return choice;
@@ -50,23 +50,13 @@ static struct linker_utils_choice choose_offset(const struct output *o, struct r
     return choice;
 }
 
-/* Whether a relocation can be that of an item of a kind: of a call or an address, or of nops. */
-static bool makes(const struct relocation *r, uint32_t kind) {
-    bool is_site = kind == LINKER_UTILS_ITEM_SITE;
-    if (machine == EM_RISCV)
-        return is_site ? r->type == R_RISCV_CALL || r->type == R_RISCV_CALL_PLT
-                       : r->type == R_RISCV_ALIGN;
-    return is_site ? r->type == LARCH_CALL36 || r->type == LARCH_PCALA_HI20
-                   : r->type == LARCH_ALIGN;
-}
-
 /* Adds the items of a section to those of its run, each with its relocation. */
 static size_t add_items(struct output *o, struct linker_utils_item *items, struct relocation **of) {
     size_t all = o->relocations_len, found_len = 0, len = 0, k = 0, at = SIZE_MAX;
     struct linker_utils_choice *choices = take(all, sizeof *choices);
     struct linker_utils_rela *relocations = take(all, sizeof *relocations);
     struct linker_utils_item *found = take(all, sizeof *found);
-    uint32_t status;
+    size_t *makers = take(all, sizeof *makers);
     for (size_t i = 0; i < all; i++) choices[i] = choose_offset(o, &o->relocations[i]);
     for (size_t i = 0; i < all; i++) {
         struct relocation *r = &o->relocations[i];
@@ -77,25 +67,19 @@ static size_t add_items(struct output *o, struct linker_utils_item *items, struc
         r->type = choices[i].relocation;
         relocations[i] = seen(o, r);
     }
-    if (machine == EM_RISCV)
-        status = linker_utils_riscv_items(o->bytes, o->len, o->base, relocations, all, found, all,
-                                          &found_len, &at);
-    else
-        status = linker_utils_loongarch_items(o->bytes, o->len, o->base, relocations, all, found,
-                                              all, &found_len, &at);
+    uint32_t status = linker_utils_section_items(machine, o->bytes, o->len, o->base, relocations, all,
+                                                 found, all, makers, all, &found_len, &at);
     if (status && at < all) check(&o->relocations[at], status);
     if (status) fail("section %s: %s", o->name, linker_utils_status_text(status));
-    for (size_t i = 0; i < all; i++) { /* the items are in the order of the relocations */
+    for (size_t i = 0; i < all; i++) {
         struct relocation *r = &o->relocations[i];
         uint64_t offset = o->base + r->offset + choices[i].deleted_start;
-        bool may_be_site = relocations[i].has_target && is_relaxable(o, r);
         of[len] = r;
         if (choices[i].deleted_len)
             items[len++] = (struct linker_utils_item){
                 .offset = offset, .target = offset, .len = choices[i].deleted_len,
                 .kind = LINKER_UTILS_ITEM_SITE};
-        else if (k < found_len && found[k].offset == offset && makes(r, found[k].kind) &&
-                 (may_be_site || found[k].kind != LINKER_UTILS_ITEM_SITE))
+        else if (k < found_len && makers[k] == i)
             items[len++] = found[k++];
     }
     return o->items_len = len;

@@ -86,7 +86,7 @@ static void rewrite_ppc64(struct output *o, struct relocation *r) {
     uint8_t *bytes = o->bytes + s->offset;
     uint64_t len = s->head->sh_size, at = r->offset - s->offset;
     struct linker_utils_link_facts facts = {.has_fixed_distance = 1, .has_addresses = 1,
-                                            .operands.got_base = got->address + 0x8000};
+                                            .operands.got_base = known_got().base};
     const struct relocation *word = toc_word(r);
     if (word) {
         uint32_t entry = is_high ? R_PPC64_GOT16_HA : R_PPC64_GOT16_LO_DS, type = entry;
@@ -120,7 +120,7 @@ static void shorten_offset(struct output *o, struct relocation *r) {
         .is_local = r->symbol->elf.st_shndx != SHN_UNDEF, .is_executable = 1, .has_addresses = 1,
         .group_fits = fits, .toc_base_is_exclusive = fits, .operands.addend = r->addend,
         .operands.symbol = address_of(r->symbol->output, r->symbol->offset),
-        .operands.tls_base = tls.thread};
+        .operands.tls_base = tls.origins.thread_pointer};
     rewrite(r, o->bytes + s->offset, s->head->sh_size, &at, &r->addend, &r->type, &facts);
 }
 
@@ -157,9 +157,9 @@ static struct linker_utils_link_facts facts_of(const struct output *o,
         .is_local = s->output != NULL || is_nowhere, .has_fixed_distance = 1, .is_executable = 1,
         .has_got_high_part = is_load, .has_addresses = 1,
         .is_label_relaxable = is_load && !high->keeps_entry,
-        .operands = {.symbol = is_nowhere ? tls.thread : address_of(s->output, s->offset),
+        .operands = {.symbol = is_nowhere ? tls.origins.thread_pointer : address_of(s->output, s->offset),
                      .addend = high->addend, .place = address_of(o, high->offset),
-                     .tls_base = tls.thread, .got_entry = NO_ENTRY}};
+                     .tls_base = tls.origins.thread_pointer, .got_entry = NO_ENTRY}};
 }
 
 /* RISC-V: TLS descriptors become offsets from the thread pointer, and loads from the GOT sums, if
@@ -215,8 +215,9 @@ static struct linker_utils_symbol known_of(const struct relocation *r) {
 /* What is known of the linked file, for relocations that count from an address. */
 static struct linker_utils_addresses addresses_of(uint64_t start) {
     return (struct linker_utils_addresses){
-        .section = start, .got_base = got->address + (machine == EM_PPC64 ? 0x8000 : 0),
-        .thread_origin = tls.thread, .module_origin = tls.module,
+        .section = start, .got_base = known_got().base,
+        .thread_origin = tls.origins.thread_pointer,
+        .module_origin = tls.origins.module_block,
         .module_entry = module_entry ? address_of(got, module_entry->offset) : 0};
 }
 

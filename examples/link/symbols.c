@@ -119,49 +119,71 @@ static void define_end(struct output *o, bool is_end) {
     define(name, o, is_end ? END : 0);
 }
 
-/* PowerPC64: the functions that save and restore registers up to 31, which every linker has. That
- * of a register goes on to that of the next, and the last one to the instructions behind it. */
-static const struct saves {
-    const char *name;
-    uint32_t word, end[4]; /* of register 14; the next has a larger offset from register 1 or 12 */
-} saves[] = {
-    {"_savegpr0_", 0xf9c1ff70 /* std */, {0xf8010010 /* std 0,16(1) */, 0x4e800020 /* blr */}},
-    {"_restgpr0_", 0xe9c1ff70 /* ld */,
-     {0xe8010010 /* ld 0,16(1) */, 0x7c0803a6 /* mtlr 0 */, 0x4e800020}},
-    {"_savegpr1_", 0xf9ccff70, {0x4e800020}},
-    {"_restgpr1_", 0xe9ccff70, {0x4e800020}},
-    {"_savefpr_", 0xd9c1ff70 /* stfd */, {0xf8010010, 0x4e800020}},
-    {"_restfpr_", 0xc9c1ff70 /* lfd */, {0xe8010010, 0x7c0803a6, 0x4e800020}}};
-
-static void add_word(uint32_t word) {
-    uint64_t offset = make_room(stubs, sizeof word, sizeof word);
-    memcpy(stubs->bytes + offset, &word, sizeof word);
+/* The functions of one run that objects refer to, and those behind them in the run: that of a
+ * number goes on to that of the next, and the last one to the instructions behind it. */
+static void define_run(size_t index, const char *prefix,
+                       const struct linker_utils_provided_run *run) {
+    char name[LINKER_UTILS_NAME_SIZE + 16];
+    bool is_made = false;
+    for (uint32_t i = 0, word; i < run->len; i++) {
+        snprintf(name, sizeof name, "%s%" PRIu32, prefix, run->first + i);
+        is_made |= i < run->count && define(name, stubs, stubs->len);
+        if (!is_made || linker_utils_provided_word(machine, index, i, &word)) continue;
+        uint64_t offset = make_room(stubs, sizeof word, sizeof word);
+        memcpy(stubs->bytes + offset, &word, sizeof word);
+    }
 }
 
-/* Makes those functions of a kind that objects refer to. */
-static void define_saves(const struct saves *of) {
-    char name[16];
-    bool is_made = false;
-    for (uint32_t i = 0; i < 18; i++) {
-        snprintf(name, sizeof name, "%s%" PRIu32, of->name, 14 + i);
-        is_made |= define(name, stubs, stubs->len);
-        if (is_made) add_word(of->word + i * 0x200008);
+static void define_runs(void) {
+    struct linker_utils_provided_run run;
+    for (size_t i = 0;; i++) {
+        uint8_t prefix[LINKER_UTILS_NAME_SIZE + 1] = {0};
+        size_t used;
+        if (linker_utils_provided_run(machine, i, prefix, LINKER_UTILS_NAME_SIZE, &used, &run))
+            return;
+        define_run(i, (const char *)prefix, &run);
     }
-    for (const uint32_t *word = of->end; is_made && *word; word++) add_word(*word);
+}
+
+/* A thread-local symbol without a section, at the thread pointer or at the module's origin. */
+static void define_base(const char *name, bool is_at_pointer) {
+    struct symbol *base = *global(name);
+    if (!base || !base->object || base->elf.st_shndx != SHN_UNDEF) return;
+    module_base = base;
+    tls.has_base = is_at_pointer;
+    base->elf.st_shndx = SHN_ABS;
+    base->elf.st_info = ELF64_ST_INFO(STB_GLOBAL, STT_TLS);
+    base->elf.st_other = STV_HIDDEN;
+}
+
+/* The symbols that linkers provide for the machine: first the sections that they are in. */
+static void define_provided(bool only_sections) {
+    struct linker_utils_provided_symbol symbol;
+    for (size_t i = 0;; i++) {
+        char *name = take(LINKER_UTILS_NAME_SIZE + 1, 1);
+        size_t used;
+        if (linker_utils_provided_symbol(machine, i, (uint8_t *)name, LINKER_UTILS_NAME_SIZE, &used,
+                                         &symbol))
+            return;
+        bool is_in_data = symbol.place == LINKER_UTILS_PLACE_SMALL_DATA;
+        struct output *data = is_in_data && *global(name) ? output_of(".sdata") : NULL;
+        if (only_sections) continue;
+        if (symbol.place == LINKER_UTILS_PLACE_THREAD_LOCAL) define_base(name, true);
+        else if (data || !is_in_data) define(name, is_in_data ? data : got, symbol.offset);
+    }
 }
 
 void define_symbols(void) {
     output_of(".preinit_array"), output_of(".init_array"), output_of(".fini_array");
-    if (*global("__global_pointer$")) output_of(".sdata");
-    for (size_t i = 0; i < sizeof saves / sizeof *saves && machine == EM_PPC64; i++)
-        define_saves(&saves[i]);
+    define_provided(true);
+    define_runs();
     define("__bss_start", output_of(".bss"), 0);
     sort_outputs();
     for (size_t i = 0; i < outputs_len; i++) define_end(outputs[i], false); /* the first counts */
     for (size_t i = outputs_len; i > 0; i--) define_end(outputs[i - 1], true);
     define("_GLOBAL_OFFSET_TABLE_", got, 0);
-    define(".TOC.", got, 0x8000);
-    if (*global("__global_pointer$")) define("__global_pointer$", output_of(".sdata"), 0x800);
+    define_provided(false);
+    define_base("_TLS_MODULE_BASE_", false); /* also for other machines, as in ld.lld */
     define("_etext", last(RANK_CODE), END);
     define("etext", last(RANK_CODE), END);
     define("_edata", last(RANK_BSS - 1), END);
@@ -170,12 +192,6 @@ void define_symbols(void) {
     define("end", last(RANK_BSS), END);
     if (headers->len) define("__ehdr_start", headers, 0);
     if (headers->len) define("__executable_start", headers, 0);
-    struct symbol *base = *global("_TLS_MODULE_BASE_"); /* (it has no section) */
-    if (!base || !base->object || base->elf.st_shndx != SHN_UNDEF) return;
-    module_base = base;
-    base->elf.st_shndx = SHN_ABS;
-    base->elf.st_info = ELF64_ST_INFO(STB_GLOBAL, STT_TLS);
-    base->elf.st_other = STV_HIDDEN;
 }
 
 /* Where a symbol is that an object defines. */

@@ -15,10 +15,9 @@
 use std::error::Error;
 use std::io::{self, BufRead};
 
-use linker_utils::runs::items::Relocation;
+use linker_utils::runs::items::{Relocation, section_items};
 use linker_utils::runs::packing::{Machine, pack_run, packed_run_len};
 use linker_utils::runs::relaxation::{Alignment, Item, first_faulty, relax};
-use linker_utils::runs::{loongarch64, riscv64};
 
 #[derive(Default)]
 struct Section {
@@ -70,10 +69,7 @@ fn main() -> Result<(), Box<dyn Error>> {
     }
     for section in &mut sections {
         let (bytes, base, relocations) = (&section.bytes, section.base, &section.relocations);
-        section.items = match machine {
-            Machine::RiscV64 => riscv64::items(bytes, base, relocations)?,
-            Machine::LoongArch64 => loongarch64::items(bytes, base, relocations)?,
-        };
+        section.items = section_items(machine, bytes, base, relocations)?.items;
     }
     let mut items: Vec<Item> = sections.iter().flat_map(|section| &section.items).copied().collect();
     items.extend(others);

@@ -30,7 +30,7 @@ pub use crate::linker_elf::elf::choice_table;
 
 pub mod runs {
     #![doc = include_str!("../doc/runs.md")]
-    pub use crate::linker_runs::{items, loongarch64, packing, relaxation, riscv64, shapes};
+    pub use crate::linker_runs::{items, packing, relaxation, shapes};
 }
 
 /// Which forms an instruction has and the number in its immediate; what stands in the fields of
@@ -71,9 +71,12 @@ pub mod rewriting {
     #![doc = include_str!("../doc/rewriting.md")]
     pub use crate::linker_rewriting::decisions::{Decision, RewritingError};
     pub use crate::linker_rewriting::facts::{OutputFacts, SymbolFacts};
-    pub use crate::linker_rewriting::groups::{Group, KeptGroups, Scope, scope_of};
-    pub use crate::linker_rewriting::sections::rewrite_section;
-    pub use crate::linker_rewriting::surveys::survey;
+    pub use crate::linker_rewriting::groups::{
+        Group, KeptGroups, Scope, has_rewrites, scope_in, scope_of,
+    };
+    pub use crate::linker_rewriting::phases::Phase;
+    pub use crate::linker_rewriting::sections::{rewrite_placed_section, rewrite_section};
+    pub use crate::linker_rewriting::surveys::{survey, survey_placed_section};
 }
 
 pub mod output {

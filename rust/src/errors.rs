@@ -21,7 +21,9 @@ impl Display for RelocateError {
                  or R_LARCH_CALL30, or its row is not one that the library returns"
             }
             RelocateError::TooShort => "there are fewer bytes than the relocation writes",
-            RelocateError::Misaligned => "the value is not a multiple of the relocation's alignment",
+            RelocateError::Misaligned => {
+                "the value is not a multiple of the relocation's alignment"
+            }
             RelocateError::OutOfReach => "the value is out of the relocation's reach",
         })
     }
@@ -31,7 +33,13 @@ impl Error for RelocateError {}
 
 impl Display for WriteError {
     fn fmt(&self, f: &mut Formatter<'_>) -> Result {
-        let WriteError { error, value, least, greatest, alignment } = self;
+        let WriteError {
+            error,
+            value,
+            least,
+            greatest,
+            alignment,
+        } = self;
         write!(f, "{error}: {value}, where {least} to {greatest}")?;
         if *alignment > 1 {
             write!(f, " in multiples of {alignment}")?;
@@ -92,9 +100,7 @@ impl Display for Uleb128Error {
         f.write_str(match self {
             Uleb128Error::Ended => "the bytes end before the ULEB128 number does",
             Uleb128Error::TooLarge => "the tenth byte of the ULEB128 number is neither 0 nor 1",
-            Uleb128Error::DoesNotFit => {
-                "the value does not fit the existing ULEB128 number"
-            }
+            Uleb128Error::DoesNotFit => "the value does not fit the existing ULEB128 number",
         })
     }
 }
@@ -161,7 +167,11 @@ impl Display for PackError {
     fn fmt(&self, f: &mut Formatter<'_>) -> Result {
         match *self {
             PackError::OutOfMemory => f.write_str("out of memory for the packed section"),
-            PackError::Call { index, error } => RejectedCall { index, error: error.into() }.fmt(f),
+            PackError::Call { index, error } => RejectedCall {
+                index,
+                error: error.into(),
+            }
+            .fmt(f),
         }
     }
 }
@@ -316,7 +326,9 @@ impl Error for SectionError {
 impl Display for RewritingError {
     fn fmt(&self, f: &mut Formatter<'_>) -> Result {
         match self {
-            RewritingError::TooShort => f.write_str("there are fewer decisions than relocations"),
+            RewritingError::TooShort => f.write_str(
+                "there are fewer decisions than relocations, or less room for deletions than there are",
+            ),
             RewritingError::NotSurveyed(index) => write!(
                 f,
                 "the instruction of the relocation at index {index} has no rewrite, and its group \

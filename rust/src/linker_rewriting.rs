@@ -1,11 +1,12 @@
 // Made by tools/erase of crates/linker_rewriting/src/lib.rt.
-//! The rewrites of a section in one call, made before addresses are known: which instructions are
-//! rewritten, all of a group or none, and what becomes of their relocations.
+//! The rewrites of a section in one call, before addresses are known and once they are: which
+//! instructions are rewritten, all of a group or none, and what becomes of their relocations.
 
 pub mod candidates;
 pub mod decisions;
 pub mod facts;
 pub mod groups;
+pub mod phases;
 mod relocations;
 pub mod sections;
 mod sequences;

@@ -3,9 +3,9 @@
 //! become shorter and how many nops each alignment keeps, and sections without the bytes that they lose.
 
 pub mod items;
-pub mod loongarch64;
+mod loongarch64;
 pub mod packing;
 pub mod relaxation;
-pub mod riscv64;
+mod riscv64;
 mod search;
 pub mod shapes;

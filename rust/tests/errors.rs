@@ -22,7 +22,7 @@ fn texts(error: impl Error + Send + Sync + 'static) -> Vec<String> {
 /// A status's text in the header of the static library, as errors print it: with no capital and no
 /// full stop.
 fn status(name: &str) -> String {
-    let header = include_str!("../../include/linker_utils.h");
+    let header = include_str!("../../include/linker_utils_lists.h");
     let (_, entry) = header.split_once(&format!("    STATUS({name}, ")).expect(name);
     let (entry, _) = entry.split_once("\")").expect(name);
     let text: String = entry.split('"').skip(1).step_by(2).collect();
@@ -259,7 +259,10 @@ fn errors_of_sections_are_printed() {
 #[test]
 fn errors_of_rewrites_are_printed() {
     for (error, text) in [
-        (RewritingError::TooShort, "there are fewer decisions than relocations"),
+        (
+            RewritingError::TooShort,
+            "there are fewer decisions than relocations, or less room for deletions than there are",
+        ),
         (
             RewritingError::NotSurveyed(3),
             "the instruction of the relocation at index 3 has no rewrite, and its group was not surveyed",

@@ -11,9 +11,9 @@ use linker_utils::relaxation::{
     OutOfMemory, PackError, RelaxDelta, RelaxDeltaMap, SectionRelaxDeltas, pack_section,
     shrink_calls, shrink_calls_into,
 };
-use linker_utils::runs::items::{ItemsError, Relocation};
+use linker_utils::runs::items::{ItemsError, Relocation, section_items};
+use linker_utils::runs::packing::Machine;
 use linker_utils::runs::relaxation::{Alignment, Item, Site, relax};
-use linker_utils::runs::riscv64;
 use linker_utils::runs::shapes::riscv64::CALL;
 use linker_utils::utils::read_string;
 use std::alloc::{GlobalAlloc, Layout, System};
@@ -401,10 +401,10 @@ fn runs_are_not_relaxed() {
     ];
     let mut section = [0; 22];
     section[..8].copy_from_slice(&0x000080e7_00000097u64.to_le_bytes());
-    let (count, items) = each_fails(
-        || riscv64::items(&section, 0, &relocations),
+    let (count, made) = each_fails(
+        || section_items(Machine::RiscV64, &section, 0, &relocations),
         |error| assert_eq!(error, ItemsError::OutOfMemory),
     );
-    assert!(count > 0);
-    assert_eq!(items, [call, aligned]);
+    assert!(count > 1);
+    assert_eq!((made.items, made.makers), (vec![call, aligned], vec![0, 2]));
 }

@@ -3,10 +3,11 @@
 
 use linker_utils::elf::Architecture::{self, AArch64, LoongArch64, Ppc64, RiscV, X86_64};
 use linker_utils::rewriting::{
-    Decision, Group, KeptGroups, OutputFacts, RewritingError, Scope, SymbolFacts, rewrite_section,
-    scope_of, survey,
+    has_rewrites, rewrite_placed_section, rewrite_section, scope_in, scope_of, survey,
+    survey_placed_section, Decision, Group, KeptGroups, OutputFacts, Phase, RewritingError, Scope,
+    SymbolFacts,
 };
-use linker_utils::section::{Rela, relocation_at};
+use linker_utils::section::{relocate_section, relocation_at, Addresses, Rela, Symbol};
 
 const EXECUTABLE: OutputFacts = OutputFacts {
     is_executable: true,
@@ -517,4 +518,447 @@ fn scopes_are_those_of_the_relocation() {
     assert_eq!(scope_of(Ppc64, 11), Scope::Unlisted);
     assert_eq!(scope_of(RiscV, 62), Scope::Unlisted);
     assert_eq!(scope_of(LoongArch64, u32::MAX), Scope::Unlisted);
+}
+
+#[test]
+fn marked_loads_of_loongarch_are_rewritten() {
+    // pcalau12i a0, %got_pc_hi20(x); ld.d a0, a0, %got_pc_lo12(x), each with R_LARCH_RELAX
+    let section = |symbol| Section {
+        bytes: words(&[0x1a00_0004, 0x28c0_0084]),
+        relocations: vec![
+            rela(0, 75, symbol, 0),
+            rela(0, 100, 0, 0),
+            rela(4, 76, symbol, 0),
+            rela(4, 100, 0, 0),
+        ],
+    };
+    // pcalau12i a0, %pc_hi20(x); addi.d a0, a0, %pc_lo12(x)
+    let mut after = section(1);
+    after.bytes = words(&[0x1a00_0004, 0x02c0_0084]);
+    (after.relocations[0].code, after.relocations[2].code) = (71, 72);
+    expect(LoongArch64, &section(1), &after);
+    // of another file, without a mark, with another addend, of another symbol, and apart
+    expect_unchanged(LoongArch64, &section(4));
+    for index in [1, 3] {
+        let mut unmarked = section(1);
+        unmarked.relocations.remove(index);
+        expect_unchanged(LoongArch64, &unmarked);
+        let mut other = section(1);
+        other.relocations[index].offset ^= 4;
+        expect_unchanged(LoongArch64, &other);
+    }
+    let mut other = section(1);
+    other.relocations[2].addend = 8;
+    expect_unchanged(LoongArch64, &other);
+    let mut other = section(1);
+    other.relocations[2].symbol = 3;
+    expect_unchanged(LoongArch64, &other);
+    // one that isn't whole keeps all of its symbol
+    let mut two = section(1);
+    two.bytes.extend(section(1).bytes);
+    two.relocations
+        .extend([rela(8, 75, 1, 0), rela(12, 76, 1, 0)]);
+    expect_unchanged(LoongArch64, &two);
+}
+
+/// Where symbols 1 and 3 are.
+fn values(first: u64, third: u64) -> [Symbol; 5] {
+    let mut values = [Symbol::default(); 5];
+    (values[1].address, values[3].address) = (first, third);
+    values
+}
+
+/// What becomes of an object's sections in a phase, of which each is surveyed first, and what is
+/// deleted of each.
+fn placed(
+    architecture: Architecture,
+    phase: Phase,
+    addresses: &Addresses,
+    values: &[Symbol],
+    sections: &[&Section],
+) -> Vec<(Section, Vec<(u64, u32)>)> {
+    let symbols = symbols();
+    let mut kept = [KeptGroups::default(); 5];
+    for it in sections {
+        survey_placed_section(
+            architecture,
+            phase,
+            &EXECUTABLE,
+            &symbols,
+            addresses,
+            values,
+            &bytes_of(&it.relocations),
+            &it.bytes,
+            &mut kept,
+        );
+    }
+    sections
+        .iter()
+        .map(|it| {
+            let mut entries = bytes_of(&it.relocations);
+            let mut bytes = it.bytes.clone();
+            let mut deleted = [(0, 0); 9];
+            let len = rewrite_placed_section(
+                architecture,
+                phase,
+                &EXECUTABLE,
+                &symbols,
+                addresses,
+                values,
+                &kept,
+                &mut entries,
+                &mut bytes,
+                &mut vec![Decision::Kept; it.relocations.len()],
+                &mut deleted,
+            )
+            .unwrap();
+            let relocations = (0..it.relocations.len())
+                .map(|index| relocation_at(&entries, index).unwrap())
+                .collect();
+            (Section { bytes, relocations }, deleted[..len].to_vec())
+        })
+        .collect()
+}
+
+/// The words of a section with all values, without what is deleted of it.
+fn linked(
+    architecture: Architecture,
+    addresses: &Addresses,
+    values: &[Symbol],
+    section: &Section,
+    deleted: &[(u64, u32)],
+) -> Vec<u32> {
+    let mut bytes = section.bytes.clone();
+    let entries = bytes_of(&section.relocations);
+    relocate_section(
+        architecture,
+        addresses,
+        &entries,
+        values,
+        &mut bytes,
+        &mut [0; 16],
+    )
+    .unwrap();
+    for &(offset, len) in deleted.iter().rev() {
+        bytes.drain(offset as usize..(offset + u64::from(len)) as usize);
+    }
+    bytes
+        .chunks(4)
+        .map(|word| u32::from_le_bytes(word.try_into().unwrap()))
+        .collect()
+}
+
+/// adrp x0, :got:x; ldr x0, [x0, :got_lo12:x]; adrp x1, x; add x1, x1, :lo12:x
+fn loads_and_pages() -> Section {
+    Section {
+        bytes: words(&[0x9000_0000, 0xf940_0000, 0x9000_0001, 0x9100_0021]),
+        relocations: vec![
+            rela(0, 311, 1, 0),
+            rela(4, 312, 1, 0),
+            rela(8, 275, 1, 0),
+            rela(12, 277, 1, 0),
+        ],
+    }
+}
+
+#[test]
+fn loads_of_aarch64_become_addresses() {
+    let addresses = Addresses {
+        section: 0x201c8,
+        ..Addresses::default()
+    };
+    let values = values(0x401e4, 0);
+    let loads = placed(
+        AArch64,
+        Phase::GotLoads,
+        &addresses,
+        &values,
+        &[&loads_and_pages()],
+    );
+    // adrp x0, x; add x0, x0, :lo12:x
+    let mut after = loads_and_pages();
+    after.bytes[4..8].copy_from_slice(&0x9100_0000_u32.to_le_bytes());
+    (after.relocations[0].code, after.relocations[1].code) = (275, 277);
+    assert_eq!(loads[0].0.bytes, after.bytes);
+    assert_eq!(loads[0].0.relocations, after.relocations);
+    // the words of ld.lld 19 at the same addresses: nop; adr x0, x; nop; adr x1, x
+    let near = placed(
+        AArch64,
+        Phase::Distances,
+        &addresses,
+        &values,
+        &[&loads[0].0],
+    );
+    assert_eq!(
+        linked(AArch64, &addresses, &values, &near[0].0, &near[0].1),
+        [0xd503_201f, 0x1010_00c0, 0xd503_201f, 0x1010_0081]
+    );
+    assert_eq!(near[0].0.relocations[0].code, 0);
+    // an adr reaches 1 MiB
+    let far = self::values(0x201c8 + 0x10_0004, 0);
+    let near = placed(AArch64, Phase::Distances, &addresses, &far, &[&loads[0].0]);
+    let codes: Vec<_> = near[0].0.relocations.iter().map(|it| it.code).collect();
+    assert_eq!(codes, [275, 277, 0, 274]);
+}
+
+#[test]
+fn pairs_of_aarch64_are_whole() {
+    let addresses = Addresses {
+        section: 0x201c8,
+        ..Addresses::default()
+    };
+    let values = values(0x401e4, 0x401f0);
+    let phases = [(Phase::GotLoads, 0), (Phase::Distances, 2)];
+    let unchanged = |phase, section: &Section| {
+        let made = placed(AArch64, phase, &addresses, &values, &[section]);
+        assert_eq!(made[0].0.bytes, section.bytes);
+        assert_eq!(made[0].0.relocations, section.relocations);
+    };
+    for (phase, first) in phases {
+        for index in [first, first + 1] {
+            let damaged = |change: &dyn Fn(&mut Rela)| {
+                let mut section = loads_and_pages();
+                change(&mut section.relocations[index]);
+                section
+            };
+            unchanged(phase, &damaged(&|it| it.symbol = 3));
+            unchanged(phase, &damaged(&|it| it.addend = 8));
+            unchanged(phase, &damaged(&|it| it.offset += 16));
+            unchanged(phase, &damaged(&|it| it.code = 0));
+        }
+    }
+    // a lone half of a load keeps all loads of its symbol
+    let mut lone = loads_and_pages();
+    lone.bytes.extend(0xf940_0000_u32.to_le_bytes());
+    lone.relocations.push(rela(16, 312, 1, 0));
+    unchanged(Phase::GotLoads, &lone);
+    // and none of another symbol
+    lone.relocations[4].symbol = 3;
+    let made = placed(AArch64, Phase::GotLoads, &addresses, &values, &[&lone]);
+    assert_eq!(made[0].0.relocations[1].code, 277);
+    assert_eq!(made[0].0.relocations[4].code, 312);
+}
+
+/// lui a0, %tprel_hi(x); add a0, a0, tp, %tprel_add(x); lw a1, %tprel_lo(x)(a0);
+/// sw a1, %tprel_lo(x)(a0), each with R_RISCV_RELAX
+fn thread_offset(symbol: u32) -> Section {
+    let mut relocations = Vec::new();
+    for (index, code) in (0..).zip([29, 32, 30, 31]) {
+        relocations.push(rela(4 * index, code, symbol, 0));
+        relocations.push(rela(4 * index, 51, 0, 0));
+    }
+    Section {
+        bytes: words(&[0x0000_0537, 0x0045_0533, 0x0005_2583, 0x00b5_2023]),
+        relocations,
+    }
+}
+
+#[test]
+fn short_thread_offsets_of_riscv_lose_their_high_part() {
+    let addresses = Addresses {
+        thread_origin: 0x1000,
+        ..Addresses::default()
+    };
+    let near = values(0x1008, 0x17ff);
+    let phase = Phase::ThreadOffsets;
+    let made = placed(RiscV, phase, &addresses, &near, &[&thread_offset(1)]);
+    assert_eq!(made[0].1, [(0, 4), (4, 4)]);
+    // the words of ld.lld 19: lw a1, 8(tp); sw a1, 8(tp)
+    assert_eq!(
+        linked(RiscV, &addresses, &near, &made[0].0, &made[0].1),
+        [0x0082_2583, 0x00b2_2423]
+    );
+    let codes: Vec<_> = made[0].0.relocations.iter().map(|it| it.code).collect();
+    assert_eq!(codes, [0, 51, 0, 51, 30, 51, 31, 51]);
+    let unchanged = |values: &[Symbol], section: &Section| {
+        let made = placed(RiscV, phase, &addresses, values, &[section]);
+        assert_eq!(made[0].1, []);
+        assert_eq!(made[0].0.bytes, section.bytes);
+        assert_eq!(made[0].0.relocations, section.relocations);
+    };
+    // 12 signed bits have up to 0x7ff
+    unchanged(&values(0x1800, 0), &thread_offset(1));
+    assert_eq!(
+        placed(RiscV, phase, &addresses, &near, &[&thread_offset(3)])[0].1,
+        [(0, 4), (4, 4)]
+    );
+    // a low part with another addend, with which 12 bits don't do, keeps the lui
+    let mut edge = thread_offset(3);
+    edge.relocations[4].addend = 4;
+    unchanged(&near, &edge);
+    // so does one without a mark
+    for index in [1, 3, 5, 7] {
+        let mut unmarked = thread_offset(1);
+        unmarked.relocations.remove(index);
+        unchanged(&near, &unmarked);
+    }
+    // and an instruction that no rewrite is meant for, in another section of the object
+    let mut other = thread_offset(1);
+    other.bytes[..4].copy_from_slice(&0x0000_0517_u32.to_le_bytes());
+    let made = placed(
+        RiscV,
+        phase,
+        &addresses,
+        &near,
+        &[&thread_offset(1), &other],
+    );
+    assert!(made.iter().all(|it| it.1.is_empty()));
+}
+
+#[test]
+fn short_thread_offsets_of_loongarch_lose_their_high_part() {
+    // lu12i.w a0, %le_hi20_r(x); add.d a0, a0, tp, %le_add_r(x); ld.w a1, a0, %le_lo12_r(x)
+    let mut section = Section {
+        bytes: words(&[0x1400_0004, 0x0010_8884, 0x2880_0085]),
+        relocations: Vec::new(),
+    };
+    for (index, code) in (0..).zip([121, 122, 123]) {
+        section.relocations.push(rela(4 * index, code, 1, 0));
+        section.relocations.push(rela(4 * index, 100, 0, 0));
+    }
+    let addresses = Addresses {
+        thread_origin: 0x1000,
+        ..Addresses::default()
+    };
+    let values = values(0x1008, 0);
+    let made = placed(
+        LoongArch64,
+        Phase::ThreadOffsets,
+        &addresses,
+        &values,
+        &[&section],
+    );
+    assert_eq!(made[0].1, [(0, 4), (4, 4)]);
+    // ld.w a1, tp, 8
+    assert_eq!(
+        linked(LoongArch64, &addresses, &values, &made[0].0, &made[0].1),
+        [0x2880_2045]
+    );
+}
+
+#[test]
+fn short_thread_offsets_of_ppc64_lose_their_high_part() {
+    // addis 9,13,x@tprel@ha; lwz 3,x@tprel@l(9); addi 4,9,x@tprel@l
+    let section = |last| Section {
+        bytes: words(&[0x3d2d_0000, 0x8069_0000, last]),
+        relocations: vec![rela(0, 72, 1, 0), rela(4, 70, 1, 0), rela(8, 70, 1, 0)],
+    };
+    let addresses = Addresses {
+        thread_origin: 0x8000,
+        ..Addresses::default()
+    };
+    let values = values(0x1008, 0);
+    let phase = Phase::ThreadOffsets;
+    let made = placed(Ppc64, phase, &addresses, &values, &[&section(0x3889_0000)]);
+    // the words of GNU ld: nop; lwz 3,-28664(13); addi 4,13,-28664
+    assert_eq!(
+        linked(Ppc64, &addresses, &values, &made[0].0, &made[0].1),
+        [0x6000_0000, 0x806d_9008, 0x388d_9008]
+    );
+    // an ori isn't over the thread pointer, and keeps all of the symbol
+    let made = placed(Ppc64, phase, &addresses, &values, &[&section(0x6124_0000)]);
+    assert_eq!(made[0].0.bytes, section(0x6124_0000).bytes);
+}
+
+#[test]
+fn deletions_need_room() {
+    let section = thread_offset(1);
+    let addresses = Addresses {
+        thread_origin: 0x1000,
+        ..Addresses::default()
+    };
+    for (room, expected) in [(1, Err(RewritingError::TooShort)), (2, Ok(2))] {
+        let mut entries = bytes_of(&section.relocations);
+        let mut bytes = section.bytes.clone();
+        let rewritten = rewrite_placed_section(
+            RiscV,
+            Phase::ThreadOffsets,
+            &EXECUTABLE,
+            &symbols(),
+            &addresses,
+            &values(0x1008, 0),
+            &[KeptGroups::default(); 5],
+            &mut entries,
+            &mut bytes,
+            &mut [Decision::Kept; 8],
+            &mut vec![(0, 0); room],
+        );
+        assert_eq!(rewritten, expected);
+        assert_eq!(bytes == section.bytes, expected.is_err());
+    }
+}
+
+#[test]
+fn short_distances_of_ppc64_lose_their_high_part() {
+    // addis 3,2,x@toc@ha; addi 3,3,x@toc@l; addis 4,2,x@toc@ha; lwz 5,x@toc@l(4);
+    // addis 6,2,x@toc@ha; ld 7,x@toc@l(6)
+    let section = |symbol| Section {
+        bytes: words(&[
+            0x3c62_0000,
+            0x3863_0000,
+            0x3c82_0000,
+            0x80a4_0000,
+            0x3cc2_0000,
+            0xe8e6_0000,
+        ]),
+        relocations: (0..)
+            .zip([50, 48, 50, 48, 50, 64])
+            .map(|(index, code)| rela(4 * index, code, symbol, 0))
+            .collect(),
+    };
+    let addresses = Addresses {
+        got_base: 0x1002_7f00,
+        ..Addresses::default()
+    };
+    let values = values(0x1002_0000, 0x1001_feff);
+    let phase = Phase::Distances;
+    let made = placed(Ppc64, phase, &addresses, &values, &[&section(1)]);
+    // the words of GNU ld at the same addresses: nop; addi 3,2,-32512; nop; lwz 5,-32512(2); nop;
+    // ld 7,-32512(2)
+    assert_eq!(
+        linked(Ppc64, &addresses, &values, &made[0].0, &made[0].1),
+        [
+            0x6000_0000,
+            0x3862_8100,
+            0x6000_0000,
+            0x80a2_8100,
+            0x6000_0000,
+            0xe8e2_8100
+        ]
+    );
+    // a distance of -0x8001 takes two halves
+    let made = placed(Ppc64, phase, &addresses, &values, &[&section(3)]);
+    assert_eq!(made[0].0.bytes, section(3).bytes);
+    // each by its own addend
+    let mut far = section(1);
+    far.relocations[4].addend = 0x10000;
+    far.relocations[5].addend = 0x10000;
+    let made = placed(Ppc64, phase, &addresses, &values, &[&far]);
+    let codes: Vec<_> = made[0].0.relocations.iter().map(|it| it.code).collect();
+    assert_eq!(codes, [0, 47, 0, 47, 50, 64]);
+    // an ori isn't over the TOC pointer, and keeps all of its symbol, wherever it is
+    let mut other = section(1);
+    other.bytes[4..8].copy_from_slice(&0x6063_0000_u32.to_le_bytes());
+    let made = placed(Ppc64, phase, &addresses, &values, &[&section(1), &other]);
+    assert_eq!(made[0].0.bytes, section(1).bytes);
+    assert_eq!(made[1].0.bytes, other.bytes);
+    other.relocations[1].symbol = 3;
+    let made = placed(Ppc64, phase, &addresses, &values, &[&section(1), &other]);
+    assert_ne!(made[0].0.bytes, section(1).bytes);
+}
+
+#[test]
+fn phases_without_rewrites_list_no_relocation() {
+    let phases = [
+        Phase::Early,
+        Phase::ThreadOffsets,
+        Phase::GotLoads,
+        Phase::Distances,
+    ];
+    for architecture in [AArch64, RiscV, LoongArch64, Ppc64, X86_64] {
+        for phase in phases {
+            let is_listed = |code| scope_in(architecture, phase, code) != Scope::Unlisted;
+            assert_eq!(has_rewrites(architecture, phase), (0..2048).any(is_listed));
+        }
+    }
 }

@@ -987,6 +987,104 @@ fn damaged_sections_change_nothing_or_are_written_as_one_by_one() {
     }
 }
 
+/// How a relocation of RISC-V composes (RISC-V ELF psABI, "Relocation Types").
+#[derive(Clone, Copy, PartialEq)]
+enum Composing {
+    Sets,
+    Changes,
+    Alone,
+}
+
+/// Types of RISC-V with the bytes that they write: `R_RISCV_32` and `64`, and those that change or
+/// set the number that is there.
+const NUMBERS: [(u32, u64, Composing); 13] = [
+    (1, 4, Composing::Alone),
+    (2, 8, Composing::Alone),
+    (33, 1, Composing::Changes),
+    (34, 2, Composing::Changes),
+    (35, 4, Composing::Changes),
+    (36, 8, Composing::Changes),
+    (37, 1, Composing::Changes),
+    (38, 2, Composing::Changes),
+    (39, 4, Composing::Changes),
+    (40, 8, Composing::Changes),
+    (54, 1, Composing::Sets),
+    (55, 2, Composing::Sets),
+    (56, 4, Composing::Sets),
+];
+
+#[test]
+fn the_first_overlap_is_found_in_any_order() {
+    let mut random = Random(0x2545_f491_4f6c_dd1d);
+    let symbols = [Symbol::default(), SYMBOL];
+    let (mut written, mut rejected) = (0, 0);
+    for _ in 0..20_000 {
+        let count = 1 + random.below(24);
+        // from close together to far apart
+        let places = 8 << random.below(10);
+        let fields: Vec<_> = (0..count)
+            .map(|_| (random.below(places), NUMBERS[random.below(13) as usize]))
+            .collect();
+        let relocations: Vec<Rela> = fields
+            .iter()
+            .map(|&(offset, (code, ..))| Rela {
+                offset,
+                code,
+                symbol: 1,
+                addend: 0,
+            })
+            .collect();
+        let overlaps = |&index: &usize| {
+            let (offset, (_, len, how)) = fields[index];
+            fields[..index].iter().any(|&(other, (_, its_len, its))| {
+                let composes = other == offset
+                    && its_len == len
+                    && how == Composing::Changes
+                    && its != Composing::Alone;
+                other < offset + len && offset < other + its_len && !composes
+            })
+        };
+        let expected = match (0..fields.len()).find(overlaps) {
+            None => Ok(()),
+            Some(index) => Err(SectionError {
+                index,
+                error: RelocationError::Overlaps,
+            }),
+        };
+        let mut section = vec![0; places as usize + 8];
+        let bytes = bytes_of(&relocations);
+        let result = relocate_section(RiscV, &ADDRESSES, &bytes, &symbols, &mut section);
+        assert_eq!(result, expected, "{relocations:?}");
+        match result {
+            Ok(()) => written += 1,
+            Err(_) => rejected += 1,
+        }
+    }
+    assert!(2_000 < written && 2_000 < rejected, "{written} {rejected}");
+}
+
+#[test]
+fn a_hundred_thousand_descending_relocations_are_written() {
+    let symbols = [Symbol::default(), SYMBOL];
+    let all: Vec<Rela> = (0..100_000)
+        .map(|index| Rela {
+            offset: 8 * index,
+            code: 1,
+            symbol: 1,
+            addend: -8 * index as i64,
+        })
+        .collect();
+    let [ascending, descending] = [all.clone(), all.into_iter().rev().collect()].map(|relas| {
+        let mut section = vec![0; 800_000];
+        let bytes = bytes_of(&relas);
+        let result = relocate_section(X86_64, &ADDRESSES, &bytes, &symbols, &mut section);
+        assert_eq!(result, Ok(()));
+        section
+    });
+    assert_eq!(ascending, descending);
+    assert_eq!(ascending[8..16], (0x40_5678_u64 - 8).to_le_bytes());
+}
+
 #[test]
 fn needs_are_those_of_the_formulas() {
     let entry = |class| Some(Entry { class, addend: 0 });

@@ -2,7 +2,7 @@
  *
  * usage: damaged_sections CASES SEED OBJECT...
  * Of each architecture that the objects are of it takes CASES sections, damages fields of relocations
- * and of symbols, bytes and lengths, and calls `linker_utils_relocate_section`. With an error all
+ * and of symbols, their order, bytes and lengths, and calls `linker_utils_relocate_section`. With an error all
  * bytes of the section are unchanged. The error is that of the first relocation which
  * `linker_utils_value_at` or `linker_utils_relocate` rejects, or LINKER_UTILS_OVERLAPS of the first
  * whose field has bytes of the field of one before it, with which it doesn't compose. Else the section
@@ -332,6 +332,19 @@ static uint32_t relocate(const struct given *it) {
     return status;
 }
 
+/* Relocations the other way round, or some of them exchanged. */
+static void reorder(uint8_t *relocations, size_t len) {
+    size_t count = len / 24;
+    bool is_reversed = below(2);
+    for (size_t i = 0, swaps = is_reversed || !count ? count / 2 : 1 + below(count); i < swaps; i++) {
+        uint8_t *one = relocations + 24 * (is_reversed ? i : below(count)), was[24];
+        uint8_t *other = relocations + 24 * (is_reversed ? count - 1 - i : below(count));
+        memcpy(was, one, sizeof was);
+        memmove(one, other, sizeof was);
+        memcpy(other, was, sizeof was);
+    }
+}
+
 /* A copy of a section, damaged in so many places. */
 static struct given damaged(const struct input *input, size_t places) {
     struct given it = {.len = input->len, .relocations_len = input->relocations_len,
@@ -348,6 +361,7 @@ static struct given damaged(const struct input *input, size_t places) {
     if (it.len) memcpy(it.section, input->bytes, it.len);
     if (it.relocations_len) memcpy(it.relocations, input->relocations, it.relocations_len);
     if (it.symbols_len) memcpy(it.symbols, input->symbols, it.symbols_len * sizeof *it.symbols);
+    if (places && below(4) == 0) reorder(it.relocations, it.relocations_len);
     for (size_t i = 0; i < places; i++) {
         if (below(4)) damage_relocation(it.relocations, it.relocations_len);
         else damage_symbol(it.symbols, it.symbols_len);

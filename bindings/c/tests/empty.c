@@ -38,6 +38,16 @@ int main(void) {
     EXPECT(TOO_SHORT, value_at(machine, &addresses, NULL, 0, NULL, 0, 0, &addend));
     if (linker_utils_relocate_memory(NULL, 0)) failures++;
     EXPECT(OK, relocate_section(machine, &addresses, NULL, 0, NULL, 0, NULL, 0, NULL, 0, NULL));
+    struct linker_utils_output_facts output = {true, true};
+    EXPECT(OK, survey(machine, &output, NULL, 0, NULL, 0, NULL, 0, NULL, 0));
+    EXPECT(OK, rewrite_section(machine, &output, NULL, 0, NULL, 0, NULL, 0, NULL, 0, NULL, 0, NULL));
+    struct linker_utils_provided_symbol symbol;
+    struct linker_utils_provided_run run;
+    EXPECT(TOO_SHORT, dynamic_name(LINKER_UTILS_X86_64, 8, NULL, 0, &count));
+    EXPECT(TOO_SHORT, interpreter(LINKER_UTILS_X86_64, 0, NULL, 0, &count));
+    EXPECT(TOO_SHORT, provided_symbol(LINKER_UTILS_PPC64, 0, NULL, 0, &count, &symbol));
+    EXPECT(TOO_SHORT, provided_run(LINKER_UTILS_PPC64, 0, NULL, 0, &count, &run));
+    EXPECT(TOO_SHORT, write_stub(LINKER_UTILS_X86_64, LINKER_UTILS_STUB_LOAD, 0, 0, NULL, 0));
     EXPECT(OUT_OF_SECTION, jal_site(NULL, 0, 0, 0));
     EXPECT(OUT_OF_SECTION, relax_call(NULL, 0, NULL, 0, 0, 0));
     if (linker_utils_is_plain_call(NULL, 0, 0)) failures++;

@@ -778,9 +778,10 @@ static struct buffer *symbols(size_t count) {
 }
 
 /* Relocations, of which some bytes may be behind the last, and often several are at one offset. */
-static struct buffer *relocations(uint16_t machine, size_t section_len, size_t symbols_len) {
+static struct buffer *relocations(enum use use, uint16_t machine, size_t section_len,
+                                  size_t symbols_len) {
     size_t count = any_count();
-    struct buffer *buffer = place(READ, 24 * count + (once_in(4) ? below(24) : 0), 1);
+    struct buffer *buffer = place(use, 24 * count + (once_in(4) ? below(24) : 0), 1);
     uint8_t *at = filled(buffer);
     uint64_t words[3] = {0};
     for (size_t i = 0; i < count; i++, at += sizeof words) {
@@ -811,7 +812,7 @@ static struct buffer *addresses(void) {
 static void call_value_at(void) {
     uint16_t machine = any_machine();
     struct buffer *known = symbols(any_len(8)), *where = addresses();
-    struct buffer *given = relocations(machine, 40, LEN(known, struct linker_utils_symbol));
+    struct buffer *given = relocations(READ, machine, 40, LEN(known, struct linker_utils_symbol));
     size_t index = once_in(8) ? (size_t)any_number() : below(given->len / 24 + 1);
     int64_t *value = output(sizeof(int64_t));
     uint32_t status = CALL(value_at, machine, where->given, given->given, given->len, SYMBOLS(known),
@@ -824,7 +825,8 @@ static void call_relocate_section(void) {
     uint16_t machine = any_machine();
     struct buffer *section = bytes(WRITTEN, any_section_len());
     struct buffer *known = symbols(any_len(8)), *where = addresses();
-    struct buffer *given = relocations(machine, section->len, LEN(known, struct linker_utils_symbol));
+    struct buffer *given =
+        relocations(READ, machine, section->len, LEN(known, struct linker_utils_symbol));
     size_t needed = CALL(relocate_memory, given->given, given->len);
     expect(needed == given->len / 24, "it needs other memory");
     size_t count = needed + (once_in(4) ? below(4) : 0);
@@ -841,6 +843,231 @@ static void call_relocate_section(void) {
                        status != LINKER_UTILS_SHORT_MEMORY;
     finish_faulty(faulty, is_of_entry, given->len / 24);
     finish(status == LINKER_UTILS_OK);
+}
+
+/* What a linker knows of the output and of symbols before addresses are known. */
+static struct buffer *output_facts(void) {
+    struct buffer *buffer = place(READ, 1, sizeof(struct linker_utils_output_facts));
+    struct linker_utils_output_facts *at = filled(buffer);
+    *at = (struct linker_utils_output_facts){.is_executable = !once_in(4), .is_fixed = once_in(2)};
+    return buffer;
+}
+
+static struct buffer *symbol_facts(size_t count) {
+    struct buffer *buffer = place(READ, count, sizeof(struct linker_utils_symbol_facts));
+    struct linker_utils_symbol_facts *at = filled(buffer);
+    for (size_t i = 0; i < count; i++)
+        at[i] = (struct linker_utils_symbol_facts){
+            .is_local = !once_in(4), .is_ifunc = once_in(8), .is_absolute = once_in(8),
+            .is_undefined_weak = once_in(8), .is_tls_get_addr = once_in(4),
+            .other = (uint8_t)any()};
+    return buffer;
+}
+
+static struct buffer *kept_groups(enum use use, size_t count) {
+    struct buffer *buffer = place(use, count, sizeof(struct linker_utils_kept_groups));
+    struct linker_utils_kept_groups *at = filled(buffer);
+    for (size_t i = 0; i < count; i++)
+        at[i] = (struct linker_utils_kept_groups){
+            .initial_exec = once_in(4), .general_dynamic = once_in(4), .local_dynamic = once_in(4),
+            .descriptor = once_in(4), .got_load = once_in(4)};
+    return buffer;
+}
+
+#define FACTS(buffer) (buffer)->given, LEN(buffer, struct linker_utils_symbol_facts)
+#define KEPT(buffer) (buffer)->given, LEN(buffer, struct linker_utils_kept_groups)
+
+static void call_survey(void) {
+    uint16_t machine = any_machine();
+    struct buffer *section = bytes(READ, any_section_len());
+    struct buffer *facts = output_facts(), *known = symbol_facts(any_len(8));
+    struct buffer *kept = kept_groups(WRITTEN, any_len(8));
+    size_t symbols_len = LEN(known, struct linker_utils_symbol_facts);
+    struct buffer *given = relocations(READ, machine, section->len, symbols_len);
+    uint32_t status = CALL(survey, machine, facts->given, FACTS(known), given->given, given->len,
+                           section->given, section->len, KEPT(kept));
+    /* what stays already stays */
+    const uint8_t *now = filled(kept);
+    for (size_t i = 0; i < kept->len; i++) expect(now[i] <= 1 && now[i] >= kept->was[i], "no flags");
+    finish_with(status, 0 OR(UNKNOWN_ARCHITECTURE));
+}
+
+static void call_rewrite_section(void) {
+    uint16_t machine = any_machine();
+    struct buffer *section = bytes(WRITTEN, any_section_len());
+    struct buffer *facts = output_facts(), *known = symbol_facts(any_len(8));
+    struct buffer *kept = kept_groups(READ, any_len(8));
+    size_t symbols_len = LEN(known, struct linker_utils_symbol_facts);
+    struct buffer *given = relocations(WRITTEN, machine, section->len, symbols_len);
+    size_t needed = given->len / 24;
+    size_t count = needed + (once_in(4) ? below(4) : 0);
+    bool is_short = needed > 0 && once_in(16);
+    if (is_short) count = below(needed);
+    struct buffer *decisions = place(WRITTEN, count, sizeof(struct linker_utils_decision));
+    changes(given, 0, 24 * needed);
+    changes(decisions, 0, needed * sizeof(struct linker_utils_decision));
+    size_t *faulty = any_faulty();
+    uint32_t status = CALL(rewrite_section, machine, facts->given, FACTS(known), KEPT(kept),
+                           given->given, given->len, section->given, section->len, decisions->given,
+                           count, faulty);
+    expect_status(status, 0 OR(UNKNOWN_ARCHITECTURE) OR(SHORT_MEMORY) OR(OUT_OF_MEMORY)
+                              OR(NOT_SURVEYED) OR(OVERLAPS));
+    expect((status == LINKER_UTILS_SHORT_MEMORY) <= is_short, "the memory is long enough");
+    expect(was_refused == (status == LINKER_UTILS_OUT_OF_MEMORY), "tells nothing of memory");
+    expect(allocations <= (needed > 0), "allocates more than a block");
+    allocations = 0;
+    if (status == LINKER_UTILS_OK) {
+        const struct linker_utils_decision *made = filled(decisions);
+        for (size_t i = 0; i < needed; i++)
+            expect(made[i].fate == LINKER_UTILS_FATE_REWRITTEN ||
+                       (made[i].fate <= LINKER_UTILS_FATE_TAKEN_ALONG && made[i].rewrite == 0 &&
+                        made[i].relocation == 0 && made[i].opcode_len == 0),
+                   "no decision");
+    }
+    bool is_of_entry = status == LINKER_UTILS_NOT_SURVEYED || status == LINKER_UTILS_OVERLAPS;
+    finish_faulty(faulty, is_of_entry, needed);
+    finish(status == LINKER_UTILS_OK);
+}
+
+#define UNKNOWN OR(UNKNOWN_ARCHITECTURE)
+
+/* The class of an entry of the GOT, or another number. */
+static uint32_t any_class(void) {
+    return once_in(16) ? (uint32_t)any_number() : (uint32_t)below(7);
+}
+
+static void call_dynamic_types(void) {
+    struct linker_utils_dynamic_types *types = output(sizeof *types);
+    uint32_t status = CALL(dynamic_types, any_machine(), types);
+    expect(status || (types->word && types->relative && types->irelative), "no types");
+    finish_with(status, 0 UNKNOWN);
+}
+
+static void call_dynamic_name(void) {
+    struct buffer *name = bytes(WRITTEN, any_len(LINKER_UTILS_NAME_SIZE));
+    size_t *name_used = output(sizeof(size_t));
+    uint32_t status = CALL(dynamic_name, any_machine(), any_relocation_type(), name->given, name->len,
+                           name_used);
+    if (status == LINKER_UTILS_OK) changes(name, 0, *name_used);
+    expect(status != LINKER_UTILS_TOO_SHORT || name->len < LINKER_UTILS_NAME_SIZE, "a long name");
+    finish_with(status, 0 NO_RELOCATION OR(TOO_SHORT));
+}
+
+static void call_dynamic_words(void) {
+    struct linker_utils_word_types *words = output(sizeof *words);
+    uint32_t status = CALL(dynamic_words, any_machine(), any_class(), once_in(2), once_in(2), words);
+    finish_with(status, 0 UNKNOWN OR(UNKNOWN_ENTRY_CLASS));
+}
+
+static void call_entry_words(void) {
+    uint32_t class = any_class();
+    uint64_t words = CALL(entry_words, class);
+    expect(words <= 2 && (words > 0) == (class > 0 && class <= LINKER_UTILS_ENTRY_DESCRIPTOR),
+           "other words");
+    finish(true);
+}
+
+static void call_origins(void) {
+    struct linker_utils_origins *origins = output(sizeof *origins);
+    uint32_t status = CALL(origins, any_machine(), any_number(), any_number(), any_number(), origins);
+    finish_with(status, 0 UNKNOWN);
+}
+
+static void call_static_words(void) {
+    struct buffer *origins = place(READ, 1, sizeof(struct linker_utils_origins));
+    struct linker_utils_origins *at = filled(origins);
+    *at = (struct linker_utils_origins){any_number(), any_number()};
+    struct linker_utils_entry_words *words = output(sizeof *words);
+    uint32_t status = CALL(static_words, any_class(), any_number(), origins->given, words);
+    finish_with(status, 0 OR(UNKNOWN_ENTRY_CLASS));
+}
+
+static void call_got(void) {
+    struct linker_utils_got *got = output(sizeof *got);
+    uint32_t status = CALL(got, any_machine(), any_number(), any_number(), got);
+    expect(status || (got->has_header <= 1 && (got->has_header || !got->header)), "no flag");
+    finish_with(status, 0 UNKNOWN);
+}
+
+static void call_join_flags(void) {
+    uint32_t first = (uint32_t)(once_in(4) ? any_number() : below(8));
+    uint32_t second = (uint32_t)(once_in(4) ? any_number() : below(8)), *joined = output(4);
+    uint32_t status = CALL(join_flags, any_machine(), first, second, joined);
+    expect(status || *joined == (first | second), "other flags");
+    finish_with(status, 0 UNKNOWN OR(DIFFERENT_FLAGS));
+}
+
+static void call_output_facts(void) {
+    uint16_t machine = any_machine();
+    uint32_t flags = (uint32_t)any_number();
+    uint32_t made = CALL(output_flags, machine, flags);
+    expect((made & flags) == flags && (made & ~flags) <= 2, "other flags");
+    uint64_t page = CALL(page, machine), unit = CALL(code_unit, machine, flags);
+    expect(!(page & (page - 1)) && page <= 0x10000 && unit <= 4 && !page == !unit, "no page");
+    uint8_t filler = CALL(filler, machine, any_number());
+    expect(page || !filler, "filler of no machine");
+    finish(true);
+}
+
+static void call_interpreter(void) {
+    struct buffer *path = bytes(WRITTEN, any_len(LINKER_UTILS_NAME_SIZE));
+    size_t *path_used = output(sizeof(size_t));
+    uint32_t flags = (uint32_t)(once_in(4) ? any_number() : below(8));
+    uint32_t status = CALL(interpreter, any_machine(), flags, path->given, path->len, path_used);
+    if (status == LINKER_UTILS_OK) changes(path, 0, *path_used);
+    expect(status != LINKER_UTILS_TOO_SHORT || path->len < LINKER_UTILS_NAME_SIZE, "a long path");
+    finish_with(status, 0 UNKNOWN OR(NOT_PROVIDED) OR(TOO_SHORT));
+}
+
+static void call_provided_symbol(void) {
+    struct buffer *name = bytes(WRITTEN, any_len(LINKER_UTILS_NAME_SIZE));
+    size_t *name_used = output(sizeof(size_t));
+    struct linker_utils_provided_symbol *symbol = output(sizeof *symbol);
+    size_t index = once_in(4) ? (size_t)any_number() : below(3);
+    uint32_t status = CALL(provided_symbol, any_machine(), index, name->given, name->len, name_used,
+                           symbol);
+    if (status == LINKER_UTILS_OK) changes(name, 0, *name_used);
+    expect(status || symbol->place <= LINKER_UTILS_PLACE_SMALL_DATA, "no place");
+    expect(status != LINKER_UTILS_TOO_SHORT || name->len < LINKER_UTILS_NAME_SIZE, "a long name");
+    finish_with(status, 0 UNKNOWN OR(NOT_PROVIDED) OR(TOO_SHORT));
+}
+
+static void call_provided_run(void) {
+    struct buffer *prefix = bytes(WRITTEN, any_len(LINKER_UTILS_NAME_SIZE));
+    size_t *prefix_used = output(sizeof(size_t));
+    struct linker_utils_provided_run *run = output(sizeof *run);
+    size_t index = once_in(4) ? (size_t)any_number() : below(7);
+    uint32_t status = CALL(provided_run, any_machine(), index, prefix->given, prefix->len, prefix_used,
+                           run);
+    if (status == LINKER_UTILS_OK) changes(prefix, 0, *prefix_used);
+    expect(status || run->len >= run->count, "no run");
+    expect(status != LINKER_UTILS_TOO_SHORT || prefix->len < LINKER_UTILS_NAME_SIZE, "a long name");
+    finish_with(status, 0 UNKNOWN OR(NOT_PROVIDED) OR(TOO_SHORT));
+}
+
+static void call_provided_word(void) {
+    uint32_t *word = output(sizeof *word);
+    size_t run = once_in(4) ? (size_t)any_number() : below(7);
+    uint64_t index = once_in(4) ? any_number() : below(24);
+    uint32_t status = CALL(provided_word, any_machine(), run, index, word);
+    finish_with(status, 0 UNKNOWN OR(NOT_PROVIDED));
+}
+
+static void call_stub(void) {
+    struct linker_utils_stub *stub = output(sizeof *stub);
+    uint32_t kind = once_in(8) ? (uint32_t)any_number() : (uint32_t)below(2);
+    uint32_t status = CALL(stub, any_machine(), kind, stub);
+    expect(status || (stub->len <= 64 && stub->entry < stub->len), "no stub");
+    finish_with(status, 0 UNKNOWN OR(UNKNOWN_STUB));
+}
+
+static void call_write_stub(void) {
+    struct buffer *code = bytes(WRITTEN, any_len(48));
+    uint32_t kind = once_in(8) ? (uint32_t)any_number() : (uint32_t)below(2);
+    uint64_t at = any_number(), target = once_in(4) ? any_number() : at + 4 * below(1 << 20);
+    changes(code, 0, 36);
+    uint32_t status = CALL(write_stub, any_machine(), kind, at, target, code->given, code->len);
+    finish_with(status, 0 UNKNOWN OR(UNKNOWN_STUB) OR(TOO_SHORT) OR(OUT_OF_REACH) OR(MISALIGNED));
 }
 
 static void call_clui_rel_info(void) {
@@ -1343,7 +1570,10 @@ static void call_run_deltas(void) {
 }
 
 /* Relocations of a section, of which most are in it, and its items. */
-static void call_section_items(bool is_riscv) {
+static void call_section_items(void) {
+    bool is_riscv = once_in(2);
+    uint16_t machine = once_in(16) ? (uint16_t)any_number() : is_riscv ? LINKER_UTILS_RISCV
+                                          : LINKER_UTILS_LOONGARCH64;
     size_t section_len = any_section_len(), count = any_len(8);
     struct buffer *section = bytes(READ, section_len);
     struct buffer *given = place(READ, count, sizeof(struct linker_utils_rela));
@@ -1365,31 +1595,26 @@ static void call_section_items(bool is_riscv) {
     }
     size_t items_len = once_in(8) ? any_len(8) : count;
     struct buffer *items = place(WRITTEN, items_len, sizeof(struct linker_utils_item));
+    size_t makers_len = once_in(8) ? any_len(8) : count;
+    struct buffer *makers = place(WRITTEN, makers_len, sizeof(size_t));
     uint64_t base = once_in(8) ? any_number() : below(64);
     size_t *len = output(sizeof(size_t));
     size_t *faulty = any_faulty();
-    uint32_t status =
-        is_riscv ? CALL(riscv_items, section->given, section_len, base, given->given, count,
-                        ITEMS(items), len, faulty)
-                 : CALL(loongarch_items, section->given, section_len, base, given->given, count,
-                        ITEMS(items), len, faulty);
+    uint32_t status = CALL(section_items, machine, section->given, section_len, base, given->given,
+                           count, ITEMS(items), makers->given, makers_len, len, faulty);
     expect(was_refused == (status == LINKER_UTILS_OUT_OF_MEMORY), "tells nothing of memory");
-    expect((status == LINKER_UTILS_DIFFERENT_LENGTHS) == (items_len != count), "another length");
+    bool is_known = machine == LINKER_UTILS_RISCV || machine == LINKER_UTILS_LOONGARCH64;
+    expect((status == LINKER_UTILS_UNKNOWN_ARCHITECTURE) == !is_known, "another machine");
+    expect((status == LINKER_UTILS_DIFFERENT_LENGTHS) ==
+               (is_known && (items_len != count || makers_len != count)), "another length");
     expect(status != LINKER_UTILS_OK || *len <= count, "more items than relocations");
     changes(items, 0, *len * sizeof(struct linker_utils_item));
+    changes(makers, 0, *len * sizeof(size_t));
     finish_faulty(faulty, status == LINKER_UTILS_MALFORMED_RELOCATION, count);
     expect(live == 0, "keeps memory");
     allocations = 0;
-    finish_with(status, 0 OR(DIFFERENT_LENGTHS) OR(ENDS_TOO_HIGH) OR(OUT_OF_MEMORY)
-                            OR(MALFORMED_RELOCATION));
-}
-
-static void call_riscv_items(void) {
-    call_section_items(true);
-}
-
-static void call_loongarch_items(void) {
-    call_section_items(false);
+    finish_with(status, 0 OR(UNKNOWN_ARCHITECTURE) OR(DIFFERENT_LENGTHS) OR(ENDS_TOO_HIGH)
+                            OR(OUT_OF_MEMORY) OR(MALFORMED_RELOCATION));
 }
 
 static void call_has_its_instructions(void) {
@@ -1591,6 +1816,20 @@ static void expect_recognised(const struct linker_utils_recognised *found) {
     if (found->value.end_bit) expect_field_value(&found->value);
 }
 
+static void call_recognise_window(void) {
+    uint16_t machine = any_machine();
+    uint32_t r_type = any_relocation_type();
+    struct buffer *original = bytes(READ, once_in(16) ? 60 + below(10) : any_len(24));
+    uint64_t offset = any_offset(original->len);
+    struct linker_utils_window_bounds *window = output(sizeof *window);
+    uint32_t status = CALL(recognise_window, machine, r_type, original->given, original->len, offset,
+                           window);
+    expect(status != LINKER_UTILS_OK || window->len == 0 ||
+               (window->back <= offset && offset - window->back + window->len <= original->len),
+           "the window isn't in the bytes");
+    finish_with(status, 0 OR(UNKNOWN_ARCHITECTURE) OR(WINDOW_TOO_LONG));
+}
+
 /* Windows that are the same but for a byte or a few that are deleted, or any two. */
 static void call_recognised(bool is_chosen) {
     uint16_t machine = any_machine();
@@ -1644,8 +1883,11 @@ static void (*const all[])(void) = {
     call_status_text, call_operands_of, call_version, call_window, call_write, call_read, call_apply, call_matches,
     call_choose, call_relocation_fits, call_is_unchanged, call_rewrite_window,
     call_next_modifier, call_relocation, call_relocation_name, call_value, call_reach, call_relocate,
-    call_relocate_all, call_needs, call_value_at, call_relocate_section,
-    call_clui_rel_info, call_jal_site, call_jal_site_with, call_relax_call,
+    call_relocate_all, call_needs, call_value_at, call_relocate_section, call_survey,
+    call_rewrite_section, call_dynamic_types, call_dynamic_name, call_dynamic_words,
+    call_entry_words, call_origins, call_static_words, call_got, call_join_flags,
+    call_output_facts, call_interpreter, call_provided_symbol, call_provided_run,
+    call_provided_word, call_stub, call_write_stub, call_clui_rel_info, call_jal_site, call_jal_site_with, call_relax_call,
     call_tests, call_write_mov_sequence, call_write_address_sequence, call_write_ha_lo,
     call_u32_from_slice, call_u64_from_slice, call_read_u32, call_read_uleb128, call_write_uleb128,
     call_write_uleb128_pair,
@@ -1653,9 +1895,9 @@ static void (*const all[])(void) = {
     call_deltas_merge, call_has_valid_deltas, call_deltas_total_deleted, call_translations,
     call_deltas_translate_all,
     call_deltas_heads, call_pack, call_shrink_calls, call_standard_shapes, call_relax, call_run_deltas,
-    call_riscv_items, call_loongarch_items, call_has_its_instructions, call_pack_run,
+    call_section_items, call_has_its_instructions, call_pack_run,
     call_operand, call_read_value, call_solve, call_join, call_field_bits, call_same_but_for,
-    call_recognise, call_recognise_chosen,
+    call_recognise_window, call_recognise, call_recognise_chosen,
 };
 
 int main(int count, char **arguments) {

@@ -35,7 +35,7 @@ struct results {
     uint64_t outputs[DELETIONS], inputs[DELETIONS], sums[8];
     struct linker_utils_delta merged[2 * DELETIONS], freed_list[3 * CALLS];
     uint8_t chosen[CALLS], packed[LENGTH];
-    size_t items_len, places[3 * CALLS], freed_len, count;
+    size_t items_len, makers[3 * CALLS], places[3 * CALLS], freed_len, count;
     struct linker_utils_item items[3 * CALLS];
     uint8_t shapes[3 * CALLS], packed_run[LENGTH];
     uint64_t kept[3 * CALLS], freed[3 * CALLS + 1];
@@ -80,8 +80,8 @@ static void run(uint8_t *part, struct results *to) {
     EXPECT(pack(code, LENGTH, of_jumps, CALLS, calls, CALLS, LINKER_UTILS_LINK_OF_JALR, to->packed,
                 linker_utils_packed_len(code, LENGTH, of_jumps, CALLS), &faulty));
 
-    EXPECT(riscv_items(code, LENGTH, 0, relocations, 3 * CALLS, to->items, 3 * CALLS,
-                       &to->items_len, &faulty));
+    EXPECT(section_items(riscv, code, LENGTH, 0, relocations, 3 * CALLS, to->items, 3 * CALLS,
+                         to->makers, 3 * CALLS, &to->items_len, &faulty));
     const size_t items = to->items_len;
     EXPECT(relax(to->items, items, 0x10000, to->shapes, items, to->kept, items, to->places, items,
                  to->freed, items + 1, &faulty));

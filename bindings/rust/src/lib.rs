@@ -399,6 +399,120 @@ impl From<raw::Requirements> for Requirements {
     }
 }
 
+/// What a linker knows of a symbol before addresses are known. Each field is explained at
+/// `struct linker_utils_symbol_facts` in `include/linker_utils.h`.
+#[repr(C)]
+#[derive(Debug, Clone, Copy, Default, PartialEq, Eq)]
+pub struct SymbolFacts {
+    pub is_local: bool,
+    pub is_ifunc: bool,
+    pub is_absolute: bool,
+    pub is_undefined_weak: bool,
+    pub is_tls_get_addr: bool,
+    pub other: u8,
+}
+
+/// What a linker knows of the output. Each field is explained at `struct linker_utils_output_facts`
+/// in `include/linker_utils.h`.
+#[repr(C)]
+#[derive(Debug, Clone, Copy, Default, PartialEq, Eq)]
+pub struct OutputFacts {
+    pub is_executable: bool,
+    pub is_fixed: bool,
+}
+
+/// Which groups of a symbol stay as they are. Each field is explained at
+/// `struct linker_utils_kept_groups` in `include/linker_utils.h`.
+#[repr(C)]
+#[derive(Debug, Clone, Copy, Default, PartialEq, Eq)]
+pub struct KeptGroups {
+    pub initial_exec: bool,
+    pub general_dynamic: bool,
+    pub local_dynamic: bool,
+    pub descriptor: bool,
+    pub got_load: bool,
+}
+
+/// What becomes of a relocation and of its instruction, as `enum linker_utils_fate` in
+/// `include/linker_utils.h` explains.
+#[derive(Debug, Clone, Copy, PartialEq, Eq)]
+pub enum Decision {
+    Kept,
+    /// The instruction is rewritten, and the relocation gets this type.
+    Rewritten { rewrite: Rewrite, relocation: u32 },
+    TakenAlong,
+}
+
+/// The types of the dynamic relocations that a linker emits. Each field is explained at
+/// `struct linker_utils_dynamic_types` in `include/linker_utils.h`.
+#[repr(C)]
+#[derive(Debug, Clone, Copy, Default, PartialEq, Eq)]
+pub struct DynamicTypes {
+    pub word: u32,
+    pub relative: u32,
+    pub glob_dat: u32,
+    pub jump_slot: u32,
+    pub copy: u32,
+    pub irelative: u32,
+    pub module_number: u32,
+    pub module_offset: u32,
+    pub thread_offset: u32,
+    /// 0 where the psABI has none.
+    pub descriptor: u32,
+}
+
+/// The addresses that offsets of thread-local storage count from.
+#[repr(C)]
+#[derive(Debug, Clone, Copy, Default, PartialEq, Eq)]
+pub struct Origins {
+    /// The address that the thread pointer stands for.
+    pub thread_pointer: u64,
+    /// What offsets in the module's block count from.
+    pub module_block: u64,
+}
+
+/// What a linker knows of the GOT by its address.
+#[derive(Debug, Clone, Copy, PartialEq, Eq)]
+pub struct Got {
+    /// What offsets from the GOT count from.
+    pub base: u64,
+    /// Its first word, if that isn't an entry.
+    pub header: Option<u64>,
+}
+
+/// A symbol that a linker defines if an object refers to it.
+#[derive(Debug, Clone, PartialEq, Eq)]
+pub struct ProvidedSymbol {
+    pub name: String,
+    pub place: SymbolPlace,
+    /// How many bytes above its place.
+    pub offset: u64,
+}
+
+/// Functions that compilers call and linkers provide, in one run of code. That with a number n begins
+/// 4 * (n - `first`) bytes behind the run's start.
+#[derive(Debug, Clone, PartialEq, Eq)]
+pub struct ProvidedRun {
+    /// The functions' names without the number, which stands behind it in decimal.
+    pub prefix: String,
+    /// The least number.
+    pub first: u32,
+    /// How many functions there are.
+    pub count: u32,
+    /// The run's instructions.
+    pub words: Vec<u32>,
+}
+
+/// A stub of an architecture.
+#[repr(C)]
+#[derive(Debug, Clone, Copy, Default, PartialEq, Eq)]
+pub struct Stub {
+    /// In bytes.
+    pub len: u64,
+    /// The offset at which a call enters.
+    pub entry: u64,
+}
+
 /// What is known of a number of 64 bits, a relocation's value or an address: bits `first_bit` and up,
 /// below `end_bit`, of the sum of the number and `rounding`, modulo 2^64. The first of them is bit 0
 /// of `bits`.
@@ -803,6 +917,255 @@ pub fn relocate_section(
             faulty,
         )
     })
+}
+
+/// Notes in `kept` which groups of an object stay, by one of its sections of code. Relocations are the
+/// bytes of `Elf64_Rela`s.
+pub fn survey(
+    architecture: Architecture,
+    output: &OutputFacts,
+    symbols: &[SymbolFacts],
+    relocations: &[u8],
+    section: &[u8],
+    kept: &mut [KeptGroups],
+) {
+    let status = unsafe {
+        raw::linker_utils_survey_nonnull(
+            architecture.machine(),
+            output,
+            symbols.as_ptr(),
+            symbols.len(),
+            relocations.as_ptr(),
+            relocations.len(),
+            section.as_ptr(),
+            section.len(),
+            kept.as_mut_ptr(),
+            kept.len(),
+        )
+    };
+    debug_assert_eq!(status, 0);
+}
+
+/// Rewrites the instructions of a section of code before addresses are known, and turns its
+/// relocations into those after it. `kept` is what `survey` noted. What became of each relocation is
+/// returned. The entry at fault is the first relocation that isn't accepted.
+pub fn rewrite_section(
+    architecture: Architecture,
+    output: &OutputFacts,
+    symbols: &[SymbolFacts],
+    kept: &[KeptGroups],
+    relocations: &mut [u8],
+    section: &mut [u8],
+) -> Result<Vec<Decision>, ArrayError> {
+    let mut decisions = Vec::new();
+    let len = relocations.len() / 24;
+    let refused = |_| ArrayError::from(Status::OutOfMemory);
+    decisions.try_reserve_exact(len).map_err(refused)?;
+    decisions.resize(len, raw::Decision::default());
+    result_over(|faulty| unsafe {
+        raw::linker_utils_rewrite_section_nonnull(
+            architecture.machine(),
+            output,
+            symbols.as_ptr(),
+            symbols.len(),
+            kept.as_ptr(),
+            kept.len(),
+            relocations.as_mut_ptr(),
+            relocations.len(),
+            section.as_mut_ptr(),
+            section.len(),
+            decisions.as_mut_ptr(),
+            decisions.len(),
+            faulty,
+        )
+    })?;
+    let decision = |made: &raw::Decision| match Fate::from_number(made.fate.into()) {
+        Some(Fate::Rewritten) => Decision::Rewritten {
+            rewrite: Rewrite::from_numbers(architecture, made.rewrite, made.opcode_len)
+                .expect("a rewrite of the architecture"),
+            relocation: made.relocation,
+        },
+        Some(Fate::TakenAlong) => Decision::TakenAlong,
+        _ => Decision::Kept,
+    };
+    Ok(decisions.iter().map(decision).collect())
+}
+
+/// The types of the dynamic relocations of an architecture.
+pub fn dynamic_types(architecture: Architecture) -> DynamicTypes {
+    let mut types = DynamicTypes::default();
+    let status = unsafe { raw::linker_utils_dynamic_types(architecture.machine(), &mut types) };
+    debug_assert_eq!(status, 0);
+    types
+}
+
+/// A text that a call writes with its length.
+fn text_of(call: impl FnOnce(&mut [u8], &mut usize) -> u32) -> Result<String, Status> {
+    let (mut text, mut used) = ([0; names::NAME_SIZE], 0);
+    let status = call(&mut text, &mut used);
+    result_of(status, ())?;
+    Ok(String::from_utf8_lossy(&text[..used]).into_owned())
+}
+
+/// The name of a type of dynamic relocations, as `R_X86_64_RELATIVE`.
+pub fn dynamic_name(architecture: Architecture, r_type: u32) -> Result<String, Status> {
+    text_of(|name, used| unsafe {
+        let (at, len) = (name.as_mut_ptr(), name.len());
+        raw::linker_utils_dynamic_name_nonnull(architecture.machine(), r_type, at, len, used)
+    })
+}
+
+/// The types of the dynamic relocations of both words of a GOT entry; `None` for a word that has none.
+pub fn dynamic_words(
+    architecture: Architecture,
+    class: EntryClass,
+    is_bound: bool,
+    is_executable: bool,
+) -> [Option<u32>; 2] {
+    let (machine, mut words) = (architecture.machine(), raw::WordTypes::default());
+    let class = class.number();
+    let status = unsafe {
+        raw::linker_utils_dynamic_words(machine, class, is_bound, is_executable, &mut words)
+    };
+    debug_assert_eq!(status, 0);
+    [words.first, words.second].map(|r_type| (r_type != 0).then_some(r_type))
+}
+
+/// How many words of 8 bytes an entry of a class has.
+pub fn entry_words(class: EntryClass) -> u64 {
+    unsafe { raw::linker_utils_entry_words(class.number()) }
+}
+
+/// What offsets of thread-local storage count from, by the TLS image.
+pub fn origins(architecture: Architecture, image: u64, len: u64, alignment: u64) -> Origins {
+    let (machine, mut origins) = (architecture.machine(), Origins::default());
+    let status =
+        unsafe { raw::linker_utils_origins(machine, image, len, alignment, &mut origins) };
+    debug_assert_eq!(status, 0);
+    origins
+}
+
+/// What the words of an entry hold in a static executable, which has no TLS descriptors.
+pub fn static_words(class: EntryClass, address: u64, origins: &Origins) -> Result<[u64; 2], Status> {
+    let mut words = raw::EntryWords::default();
+    let status = unsafe {
+        raw::linker_utils_static_words(class.number(), address, origins, &mut words)
+    };
+    result_of(status, [words.first, words.second])
+}
+
+/// What a linker knows of the GOT by its address and that of `_DYNAMIC`, 0 where there is none.
+pub fn got(architecture: Architecture, address: u64, dynamic: u64) -> Got {
+    let (machine, mut got) = (architecture.machine(), raw::Got::default());
+    let status = unsafe { raw::linker_utils_got(machine, address, dynamic, &mut got) };
+    debug_assert_eq!(status, 0);
+    Got {
+        base: got.base,
+        header: (got.has_header != 0).then_some(got.header),
+    }
+}
+
+/// `e_flags` of two objects that are linked.
+pub fn join_flags(architecture: Architecture, first: u32, second: u32) -> Result<u32, Status> {
+    let (machine, mut joined) = (architecture.machine(), 0);
+    let status = unsafe { raw::linker_utils_join_flags(machine, first, second, &mut joined) };
+    result_of(status, joined)
+}
+
+/// `e_flags` of an output, from those that `join_flags` made of its objects.
+pub fn output_flags(architecture: Architecture, joined: u32) -> u32 {
+    unsafe { raw::linker_utils_output_flags(architecture.machine(), joined) }
+}
+
+/// The largest page, in bytes, for which an output has to be right.
+pub fn page(architecture: Architecture) -> u64 {
+    unsafe { raw::linker_utils_page(architecture.machine()) }
+}
+
+/// How many bytes the shortest instruction of an output with such `e_flags` has.
+pub fn code_unit(architecture: Architecture, flags: u32) -> u64 {
+    unsafe { raw::linker_utils_code_unit(architecture.machine(), flags) }
+}
+
+/// The byte at an offset of a gap in code, which counts from a multiple of 4.
+pub fn filler(architecture: Architecture, offset: u64) -> u8 {
+    unsafe { raw::linker_utils_filler(architecture.machine(), offset) }
+}
+
+/// The path of the dynamic linker in glibc, for an output with such `e_flags`.
+pub fn interpreter(architecture: Architecture, flags: u32) -> Result<String, Status> {
+    text_of(|path, used| unsafe {
+        let (at, len) = (path.as_mut_ptr(), path.len());
+        raw::linker_utils_interpreter_nonnull(architecture.machine(), flags, at, len, used)
+    })
+}
+
+/// The symbols that a linker defines if an object refers to them.
+pub fn provided_symbols(architecture: Architecture) -> Vec<ProvidedSymbol> {
+    let machine = architecture.machine();
+    let symbol = |index| {
+        let mut symbol = raw::ProvidedSymbol::default();
+        let name = text_of(|name, used| unsafe {
+            let (at, len) = (name.as_mut_ptr(), name.len());
+            raw::linker_utils_provided_symbol_nonnull(machine, index, at, len, used, &mut symbol)
+        });
+        name.ok().map(|name| ProvidedSymbol {
+            name,
+            place: SymbolPlace::from_number(symbol.place).expect("a place of the library's"),
+            offset: symbol.offset,
+        })
+    };
+    (0..).map_while(symbol).collect()
+}
+
+/// The functions that compilers call and linkers provide.
+pub fn provided_runs(architecture: Architecture) -> Vec<ProvidedRun> {
+    let machine = architecture.machine();
+    let run = |index| {
+        let mut run = raw::ProvidedRun::default();
+        let prefix = text_of(|prefix, used| unsafe {
+            let (at, len) = (prefix.as_mut_ptr(), prefix.len());
+            raw::linker_utils_provided_run_nonnull(machine, index, at, len, used, &mut run)
+        });
+        let word = |at| {
+            let mut word = 0;
+            let status =
+                unsafe { raw::linker_utils_provided_word(machine, index, at, &mut word) };
+            debug_assert_eq!(status, 0);
+            word
+        };
+        prefix.ok().map(|prefix| ProvidedRun {
+            prefix,
+            first: run.first,
+            count: run.count,
+            words: (0..run.len).map(word).collect(),
+        })
+    };
+    (0..).map_while(run).collect()
+}
+
+/// The stub of a kind, if the architecture has one.
+pub fn stub(architecture: Architecture, kind: StubKind) -> Result<Stub, Status> {
+    let mut stub = Stub::default();
+    let status =
+        unsafe { raw::linker_utils_stub(architecture.machine(), kind.number(), &mut stub) };
+    result_of(status, stub)
+}
+
+/// Writes the stub of a kind that stands at an address to the beginning of bytes: to the word at
+/// `target`, or to the address `target`.
+pub fn write_stub(
+    architecture: Architecture,
+    kind: StubKind,
+    place: u64,
+    target: u64,
+    bytes: &mut [u8],
+) -> Result<(), Status> {
+    let (machine, kind) = (architecture.machine(), kind.number());
+    let (at, len) = (bytes.as_mut_ptr(), bytes.len());
+    let status =
+        unsafe { raw::linker_utils_write_stub_nonnull(machine, kind, place, target, at, len) };
+    result_of(status, ())
 }
 
 /// The name of the relocation of an ELF type, as `R_X86_64_PC32`.
@@ -1251,18 +1614,22 @@ fn of_section(error: ArrayError) -> ArrayError {
     }
 }
 
-/// Writes the items that a RISC-V section's relocations make, and returns how many there are. `items`
-/// has as many elements as there are relocations. The section begins at the input offset `base` of
-/// the run. The entry at fault is a relocation.
-pub fn riscv_items(
+/// Writes the items that the relocations of a section of RISC-V or LoongArch make, and the index of the
+/// relocation that makes each, and returns how many there are. `items` and `makers` have as many elements
+/// as there are relocations. The section begins at the input offset `base` of the run. The entry at fault
+/// is a relocation.
+pub fn section_items(
+    machine: u16,
     section: &[u8],
     base: u64,
     relocations: &[Rela],
     items: &mut [Item],
+    makers: &mut [usize],
 ) -> Result<usize, ArrayError> {
     let mut len = 0;
     result_over(|faulty| unsafe {
-        raw::linker_utils_riscv_items_nonnull(
+        raw::linker_utils_section_items_nonnull(
+            machine,
             section.as_ptr(),
             section.len(),
             base,
@@ -1270,31 +1637,8 @@ pub fn riscv_items(
             relocations.len(),
             items.as_mut_ptr(),
             items.len(),
-            &mut len,
-            faulty,
-        )
-    })
-    .map_err(of_section)?;
-    Ok(len)
-}
-
-/// Writes the items that a LoongArch section's relocations make, as `riscv_items`.
-pub fn loongarch_items(
-    section: &[u8],
-    base: u64,
-    relocations: &[Rela],
-    items: &mut [Item],
-) -> Result<usize, ArrayError> {
-    let mut len = 0;
-    result_over(|faulty| unsafe {
-        raw::linker_utils_loongarch_items_nonnull(
-            section.as_ptr(),
-            section.len(),
-            base,
-            relocations.as_ptr(),
-            relocations.len(),
-            items.as_mut_ptr(),
-            items.len(),
+            makers.as_mut_ptr(),
+            makers.len(),
             &mut len,
             faulty,
         )
@@ -1504,6 +1848,27 @@ fn recognised(architecture: Architecture, found: &raw::Recognised) -> Recognised
         offset: found.offset,
         value: (found.value.end_bit != 0).then_some(found.value),
     }
+}
+
+/// The window that `recognise` wants, in bytes of an object around the relocation at an offset of them.
+pub fn recognise_window(
+    architecture: Architecture,
+    r_type: u32,
+    original: &[u8],
+    offset: u64,
+) -> Result<RewriteWindow, Status> {
+    let mut window = RewriteWindow::default();
+    let status = unsafe {
+        raw::linker_utils_recognise_window_nonnull(
+            architecture.machine(),
+            r_type,
+            original.as_ptr(),
+            original.len(),
+            offset,
+            &mut window,
+        )
+    };
+    result_of(status, window)
 }
 
 /// Which rewrites, and relocations after them, a linker may have made at a relocation.

@@ -205,6 +205,21 @@ linker_utils_entry_class! { numbered_or_none
     EntryClass: u32
 }
 
+linker_utils_symbol_place! { numbered
+    /// Where a symbol is that linkers define.
+    SymbolPlace: u32
+}
+
+linker_utils_stub_kind! { numbered
+    /// A stub that a linker adds to code.
+    StubKind: u32
+}
+
+linker_utils_fate! { numbered
+    /// What becomes of a relocation and of its instruction.
+    Fate: u32
+}
+
 linker_utils_reference! { numbered
     /// Which address a relocation's value is computed from, in the letters that
     /// `include/linker_utils.h` explains at `enum linker_utils_relocation_kind`.

@@ -2,7 +2,8 @@
 //! requires of pointers and counts, and does, is said there. No pointer to a slice may be null.
 
 pub use crate::{Addresses, BlockHead, Call, Deletion, Delta, FieldBits, FieldValue, Item, Operands};
-pub use crate::{Relocation, RewriteWindow, Rela, Shape, Shapes, Symbol};
+pub use crate::{KeptGroups, OutputFacts, Relocation, RewriteWindow, Rela, Shape, Shapes, Symbol};
+pub use crate::{DynamicTypes, Origins, Stub, SymbolFacts};
 use std::ffi::c_char;
 
 /// `struct linker_utils_relocation_info`.
@@ -67,6 +68,58 @@ pub struct Requirements {
     pub may_use_stub: u8,
     pub is_word: u8,
     pub depends_on_load: u8,
+}
+
+/// `struct linker_utils_decision`.
+#[repr(C)]
+#[derive(Debug, Clone, Copy, Default, PartialEq, Eq)]
+pub struct Decision {
+    pub rewrite: u32,
+    pub relocation: u32,
+    pub fate: u8,
+    pub opcode_len: u8,
+}
+
+/// `struct linker_utils_word_types`.
+#[repr(C)]
+#[derive(Debug, Clone, Copy, Default, PartialEq, Eq)]
+pub struct WordTypes {
+    pub first: u32,
+    pub second: u32,
+}
+
+/// `struct linker_utils_entry_words`.
+#[repr(C)]
+#[derive(Debug, Clone, Copy, Default, PartialEq, Eq)]
+pub struct EntryWords {
+    pub first: u64,
+    pub second: u64,
+}
+
+/// `struct linker_utils_got`.
+#[repr(C)]
+#[derive(Debug, Clone, Copy, Default, PartialEq, Eq)]
+pub struct Got {
+    pub base: u64,
+    pub header: u64,
+    pub has_header: u8,
+}
+
+/// `struct linker_utils_provided_symbol`.
+#[repr(C)]
+#[derive(Debug, Clone, Copy, Default, PartialEq, Eq)]
+pub struct ProvidedSymbol {
+    pub offset: u64,
+    pub place: u32,
+}
+
+/// `struct linker_utils_provided_run`.
+#[repr(C)]
+#[derive(Debug, Clone, Copy, Default, PartialEq, Eq)]
+pub struct ProvidedRun {
+    pub len: u64,
+    pub first: u32,
+    pub count: u32,
 }
 
 /// `struct linker_utils_choice`.
@@ -236,6 +289,111 @@ extern "C" {
         memory: *mut u64,
         memory_len: usize,
         faulty: *mut usize,
+    ) -> u32;
+    pub fn linker_utils_survey_nonnull(
+        machine: u16,
+        output: *const OutputFacts,
+        symbols: *const SymbolFacts,
+        symbols_len: usize,
+        relocations: *const u8,
+        relocations_len: usize,
+        section: *const u8,
+        section_len: usize,
+        kept: *mut KeptGroups,
+        kept_len: usize,
+    ) -> u32;
+    pub fn linker_utils_rewrite_section_nonnull(
+        machine: u16,
+        output: *const OutputFacts,
+        symbols: *const SymbolFacts,
+        symbols_len: usize,
+        kept: *const KeptGroups,
+        kept_len: usize,
+        relocations: *mut u8,
+        relocations_len: usize,
+        section: *mut u8,
+        section_len: usize,
+        decisions: *mut Decision,
+        decisions_len: usize,
+        faulty: *mut usize,
+    ) -> u32;
+    pub fn linker_utils_dynamic_types(machine: u16, types: *mut DynamicTypes) -> u32;
+    pub fn linker_utils_dynamic_name_nonnull(
+        machine: u16,
+        r_type: u32,
+        name: *mut u8,
+        name_len: usize,
+        name_used: *mut usize,
+    ) -> u32;
+    pub fn linker_utils_dynamic_words(
+        machine: u16,
+        entry_class: u32,
+        is_bound: bool,
+        is_executable: bool,
+        words: *mut WordTypes,
+    ) -> u32;
+    pub fn linker_utils_entry_words(entry_class: u32) -> u64;
+    pub fn linker_utils_origins(
+        machine: u16,
+        image: u64,
+        image_len: u64,
+        alignment: u64,
+        origins: *mut Origins,
+    ) -> u32;
+    pub fn linker_utils_static_words(
+        entry_class: u32,
+        address: u64,
+        origins: *const Origins,
+        words: *mut EntryWords,
+    ) -> u32;
+    pub fn linker_utils_got(machine: u16, address: u64, dynamic: u64, got: *mut Got) -> u32;
+    pub fn linker_utils_join_flags(
+        machine: u16,
+        first: u32,
+        second: u32,
+        joined: *mut u32,
+    ) -> u32;
+    pub fn linker_utils_output_flags(machine: u16, joined: u32) -> u32;
+    pub fn linker_utils_page(machine: u16) -> u64;
+    pub fn linker_utils_code_unit(machine: u16, flags: u32) -> u64;
+    pub fn linker_utils_filler(machine: u16, offset: u64) -> u8;
+    pub fn linker_utils_interpreter_nonnull(
+        machine: u16,
+        flags: u32,
+        path: *mut u8,
+        path_len: usize,
+        path_used: *mut usize,
+    ) -> u32;
+    pub fn linker_utils_provided_symbol_nonnull(
+        machine: u16,
+        index: usize,
+        name: *mut u8,
+        name_len: usize,
+        name_used: *mut usize,
+        symbol: *mut ProvidedSymbol,
+    ) -> u32;
+    pub fn linker_utils_provided_run_nonnull(
+        machine: u16,
+        index: usize,
+        prefix: *mut u8,
+        prefix_len: usize,
+        prefix_used: *mut usize,
+        run: *mut ProvidedRun,
+    ) -> u32;
+    pub fn linker_utils_provided_word(
+        machine: u16,
+        run: usize,
+        index: u64,
+        word: *mut u32,
+    ) -> u32;
+    pub fn linker_utils_stub(machine: u16, kind: u32, stub: *mut Stub) -> u32;
+    pub fn linker_utils_write_stub_nonnull(
+        machine: u16,
+        kind: u32,
+        place: u64,
+        target: u64,
+        bytes: *mut u8,
+        bytes_len: usize,
     ) -> u32;
     pub fn linker_utils_jal_site_nonnull(
         section: *mut u8,
@@ -441,7 +599,8 @@ extern "C" {
         input_offset: *mut u64,
     ) -> u32;
     pub fn linker_utils_standard_shapes(number: u32, shapes: *mut Shapes) -> u32;
-    pub fn linker_utils_riscv_items_nonnull(
+    pub fn linker_utils_section_items_nonnull(
+        machine: u16,
         section: *const u8,
         section_len: usize,
         base: u64,
@@ -449,17 +608,8 @@ extern "C" {
         relocations_len: usize,
         items: *mut Item,
         items_len: usize,
-        len: *mut usize,
-        faulty: *mut usize,
-    ) -> u32;
-    pub fn linker_utils_loongarch_items_nonnull(
-        section: *const u8,
-        section_len: usize,
-        base: u64,
-        relocations: *const Rela,
-        relocations_len: usize,
-        items: *mut Item,
-        items_len: usize,
+        makers: *mut usize,
+        makers_len: usize,
         len: *mut usize,
         faulty: *mut usize,
     ) -> u32;
@@ -561,6 +711,14 @@ extern "C" {
         b: *const u8,
         b_len: usize,
     ) -> bool;
+    pub fn linker_utils_recognise_window_nonnull(
+        machine: u16,
+        r_type: u32,
+        original: *const u8,
+        original_len: usize,
+        offset: u64,
+        window: *mut RewriteWindow,
+    ) -> u32;
     pub fn linker_utils_recognise_nonnull(
         machine: u16,
         r_type: u32,

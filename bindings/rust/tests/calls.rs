@@ -1421,8 +1421,9 @@ fn makes_items_of_relocations() {
         relocation(16, 43, 6, None),
     ];
     let other = Item::site(1, 2, 3, Shapes::fixed(1));
-    let mut items = [other; 5];
-    let made = riscv_items(&section, 64, &relocations, &mut items);
+    let (mut items, mut makers) = ([other; 5], [9; 5]);
+    let riscv = 243;
+    let made = section_items(riscv, &section, 64, &relocations, &mut items, &mut makers);
     assert_eq!(made, Ok(3));
     assert_eq!(
         items,
@@ -1440,19 +1441,25 @@ fn makes_items_of_relocations() {
             other,
         ]
     );
+    assert_eq!(makers, [0, 2, 4, 9, 9]);
     // without the C extension the tail call can only become a `jal`
     relocations[2].may_compress = 0;
-    let made = riscv_items(&section, 64, &relocations, &mut items);
+    let made = section_items(riscv, &section, 64, &relocations, &mut items, &mut makers);
     assert_eq!(made, Ok(3));
     assert_eq!(items[1].shapes, standard_shapes(ShapesName::RiscVCall));
     // five bytes are no nops
     relocations[4].addend = 5;
-    let made = riscv_items(&section, 64, &relocations, &mut items);
+    let made = section_items(riscv, &section, 64, &relocations, &mut items, &mut makers);
     assert_eq!(made, Err(at(4, Status::MalformedRelocation)));
-    let made = riscv_items(&section, u64::MAX - 21, &relocations, &mut items);
+    let made = section_items(riscv, &section, u64::MAX - 21, &relocations, &mut items, &mut makers);
     assert_eq!(made, Err(failure(Status::EndsTooHigh)));
-    let made = riscv_items(&section, 0, &relocations, &mut items[..4]);
+    let made = section_items(riscv, &section, 0, &relocations, &mut items[..4], &mut makers);
     assert_eq!(made, Err(failure(Status::DifferentLengths)));
+    let made = section_items(riscv, &section, 0, &relocations, &mut items, &mut makers[..4]);
+    assert_eq!(made, Err(failure(Status::DifferentLengths)));
+    // x86-64
+    let made = section_items(62, &section, 0, &relocations, &mut items, &mut makers);
+    assert_eq!(made, Err(failure(Status::UnknownArchitecture)));
 
     // pcaddu18i ra, 0; jirl ra, ra, 0; pcalau12i a0, 0; addi.d a0, a0, 0; nop
     let section = bytes_of(&[
@@ -1468,11 +1475,11 @@ fn makes_items_of_relocations() {
         relocation(16, 102, 12 << 8 | 4, None),
     ];
     relocations[6].has_symbol = 1;
-    let mut items = [other; 7];
-    assert_eq!(
-        loongarch_items(&section, 0, &relocations, &mut items),
-        Ok(3)
-    );
+    let (mut items, mut makers) = ([other; 7], [9; 7]);
+    let loongarch = 258;
+    let made = section_items(loongarch, &section, 0, &relocations, &mut items, &mut makers);
+    assert_eq!(made, Ok(3));
+    assert_eq!(makers, [0, 2, 6, 9, 9, 9, 9]);
     let call = Item::site(0, 8, 4096, standard_shapes(ShapesName::LoongArchCall36));
     let address = Item::site(8, 8, 8192, standard_shapes(ShapesName::LoongArchPcala));
     assert_eq!(items[..2], [call, address]);
@@ -1482,7 +1489,7 @@ fn makes_items_of_relocations() {
     };
     assert_eq!(items[2..], [aligned, other, other, other, other]);
     relocations[6].addend = -1;
-    let made = loongarch_items(&section, 0, &relocations, &mut items);
+    let made = section_items(loongarch, &section, 0, &relocations, &mut items, &mut makers);
     assert_eq!(made, Err(at(6, Status::MalformedRelocation)));
 }
 

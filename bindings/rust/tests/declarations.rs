@@ -61,10 +61,10 @@ fn list(text: &str) -> impl Iterator<Item = String> + '_ {
     text.split(',').map(words).filter(|part| !part.is_empty())
 }
 
-/// Both headers, each directive in one line: what users read, and then its inline functions.
+/// The headers, each directive in one line: what users read, and then its inline functions.
 fn headers() -> String {
-    let texts = ["linker_utils.h", "linker_utils_inline.h"]
-        .map(|name| repository(&format!("include/{name}")).replace("\\\n", " "));
+    let texts = ["_lists", "", "_further", "_inline"]
+        .map(|name| repository(&format!("include/linker_utils{name}.h")).replace("\\\n", " "));
     texts.join("\n")
 }
 
@@ -120,6 +120,18 @@ fn type_of_c(text: &str) -> String {
         "struct linker_utils_symbol" => "Symbol",
         "struct linker_utils_addresses" => "Addresses",
         "struct linker_utils_requirements" => "Requirements",
+        "struct linker_utils_symbol_facts" => "SymbolFacts",
+        "struct linker_utils_output_facts" => "OutputFacts",
+        "struct linker_utils_kept_groups" => "KeptGroups",
+        "struct linker_utils_decision" => "Decision",
+        "struct linker_utils_dynamic_types" => "DynamicTypes",
+        "struct linker_utils_word_types" => "WordTypes",
+        "struct linker_utils_origins" => "Origins",
+        "struct linker_utils_entry_words" => "EntryWords",
+        "struct linker_utils_got" => "Got",
+        "struct linker_utils_provided_symbol" => "ProvidedSymbol",
+        "struct linker_utils_provided_run" => "ProvidedRun",
+        "struct linker_utils_stub" => "Stub",
         "struct linker_utils_field_value" => "FieldValue",
         "struct linker_utils_window_bits" => "FieldBits",
         "struct linker_utils_recognised" => "Recognised",
@@ -238,6 +250,13 @@ fn element(kind: &str) -> String {
         "FieldValueNumbers" => "FieldValue".to_string(),
         "RecognisedNumbers" => "Recognised".to_string(),
         "RequirementNumbers" => "Requirements".to_string(),
+        "DecisionNumbers" => "Decision".to_string(),
+        "DynamicCodes" => "DynamicTypes".to_string(),
+        "WordCodes" => "WordTypes".to_string(),
+        "GotNumbers" => "Got".to_string(),
+        "SymbolNumbers" => "ProvidedSymbol".to_string(),
+        "RunNumbers" => "ProvidedRun".to_string(),
+        "StubNumbers" => "Stub".to_string(),
         other => other.to_string(),
     }
 }
@@ -392,6 +411,9 @@ fn c_element(kind: &str, element: &str) -> String {
         "Item" => "struct linker_utils_item".to_string(),
         "Rela" => "struct linker_utils_rela".to_string(),
         "Symbol" => "struct linker_utils_symbol".to_string(),
+        "SymbolFacts" => "struct linker_utils_symbol_facts".to_string(),
+        "KeptGroups" => "struct linker_utils_kept_groups".to_string(),
+        "Decision" => "struct linker_utils_decision".to_string(),
         "FieldBits" => "struct linker_utils_window_bits".to_string(),
         "Recognised" => "struct linker_utils_recognised".to_string(),
         "usize" => "size_t".to_string(),
@@ -630,6 +652,18 @@ fn the_numbers_are_those_of_the_library() {
         equations("linker_utils_c/specs/Sections", "class_number")
     );
     assert_eq!(
+        numbers(Fate::ALL, Fate::number),
+        equations("linker_utils_c/specs/Rewriting", "fate_number")
+    );
+    assert_eq!(
+        numbers(SymbolPlace::ALL, SymbolPlace::number),
+        equations("linker_utils_c/specs/Output", "place_number")
+    );
+    assert_eq!(
+        numbers(StubKind::ALL, StubKind::number),
+        variants("linker_output/src/stubs", "StubKind")
+    );
+    assert_eq!(
         numbers(RelocationKind::ALL, RelocationKind::number),
         variants("linker_elf/src/elf", "RelocationKind")
     );
@@ -775,6 +809,25 @@ fn the_structs_are_those_of_the_library() {
         "linker_utils_addresses": Addresses {
             section, got_base, thread_origin, module_origin, module_entry,
         }
+        "linker_utils_symbol_facts": SymbolFacts {
+            is_local, is_ifunc, is_absolute, is_undefined_weak, is_tls_get_addr, other,
+        }
+        "linker_utils_output_facts": OutputFacts { is_executable, is_fixed, }
+        "linker_utils_kept_groups": KeptGroups {
+            initial_exec, general_dynamic, local_dynamic, descriptor, got_load,
+        }
+        "linker_utils_decision": raw::Decision { rewrite, relocation, fate, opcode_len, }
+        "linker_utils_dynamic_types": DynamicTypes {
+            word, relative, glob_dat, jump_slot, copy, irelative, module_number, module_offset,
+            thread_offset, descriptor,
+        }
+        "linker_utils_word_types": raw::WordTypes { first, second, }
+        "linker_utils_origins": Origins { thread_pointer, module_block, }
+        "linker_utils_entry_words": raw::EntryWords { first, second, }
+        "linker_utils_got": raw::Got { base, header, has_header, }
+        "linker_utils_provided_symbol": raw::ProvidedSymbol { offset, place, }
+        "linker_utils_provided_run": raw::ProvidedRun { len, first, count, }
+        "linker_utils_stub": Stub { len, entry, }
         "linker_utils_field_value": FieldValue { bits, rounding, first_bit, end_bit, }
         "linker_utils_window_bits": FieldBits { offset, bits, }
         "linker_utils_recognised": raw::Recognised { choice, offset, value, }
@@ -791,7 +844,10 @@ fn the_structs_are_those_of_the_library() {
         + &repository("crates/linker_elf/src/elf/numbers.rt")
         + &repository("crates/linker_runs/src/relaxation.rt")
         + &repository("crates/linker_reading/src/recognise/fields.rt")
-        + &repository("crates/linker_section/src/facts.rt");
+        + &repository("crates/linker_section/src/facts.rt")
+        + &repository("crates/linker_rewriting/src/facts.rt")
+        + &repository("crates/linker_rewriting/src/groups.rt")
+        + &repository("crates/linker_output/src/got.rt");
     for (name, of_library) in [
         ("linker_utils_deletion", "Deletion"),
         ("linker_utils_call", "Call"),
@@ -811,6 +867,18 @@ fn the_structs_are_those_of_the_library() {
         ("linker_utils_requirements", "RequirementNumbers"),
         ("linker_utils_symbol", "Symbol"),
         ("linker_utils_addresses", "Addresses"),
+        ("linker_utils_symbol_facts", "SymbolFacts"),
+        ("linker_utils_output_facts", "OutputFacts"),
+        ("linker_utils_kept_groups", "KeptGroups"),
+        ("linker_utils_decision", "DecisionNumbers"),
+        ("linker_utils_dynamic_types", "DynamicCodes"),
+        ("linker_utils_word_types", "WordCodes"),
+        ("linker_utils_origins", "Origins"),
+        ("linker_utils_entry_words", "EntryWords"),
+        ("linker_utils_got", "GotNumbers"),
+        ("linker_utils_provided_symbol", "SymbolNumbers"),
+        ("linker_utils_provided_run", "RunNumbers"),
+        ("linker_utils_stub", "StubNumbers"),
         ("linker_utils_field_value", "FieldValueNumbers"),
         ("linker_utils_window_bits", "FieldBits"),
         ("linker_utils_recognised", "RecognisedNumbers"),

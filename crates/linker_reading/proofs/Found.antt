@@ -32,12 +32,12 @@ at_place a [] i e = absurd (not_none None a refl e)
 at_place a (x ∷ xs) zero e = inl e
 at_place a (x ∷ xs) (suc i) e = inr (at_place a xs i e)
 
-place_in : {A : Type 0} (a : A) (xs : List A) → IsOneOf a xs → (i : ℕ) × (slice_get xs i ≡ Some a)
+pub place_in : {A : Type 0} (a : A) (xs : List A) → IsOneOf a xs → (i : ℕ) × (slice_get xs i ≡ Some a)
 place_in a [] h = absurd h
 place_in a (x ∷ xs) (inl e) = (0, ap Some e)
 place_in a (x ∷ xs) (inr h) = let rest = place_in a xs h in (suc rest.0, rest.1)
 
-one_of : {A : Type 0} (a : A) (xs : List A) (i : ℕ) → slice_get xs i ≡ Some a → IsOneOf a xs
+pub one_of : {A : Type 0} (a : A) (xs : List A) (i : ℕ) → slice_get xs i ≡ Some a → IsOneOf a xs
 one_of a [] i e = absurd (not_none None a refl e)
 one_of a (x ∷ xs) zero e = inl (some_same x a e)
 one_of a (x ∷ xs) (suc i) e = inr (one_of a xs i e)

@@ -5,6 +5,7 @@ pub mod FieldBits
 pub mod Formulas
 pub mod Found
 pub mod Kept
+pub mod LeastWindow
 pub mod Masked
 pub mod Numbers
 pub mod Proper

@@ -7,5 +7,6 @@ pub mod Reading
 pub mod Recognised
 pub mod Recognisers
 pub mod Solving
+pub mod Windows
 pub mod WrittenFields
 pub mod WrittenRows

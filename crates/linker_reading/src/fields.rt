@@ -18,6 +18,7 @@ pub struct FieldValue {
 }
 
 /// Bits `start` and up, below `end`, of a number of 64 bits; 0 where there are none.
+#[inline(always)]
 pub(crate) fn bits_of(number: u64, start: u8, end: u8) -> u64
     ensures { result ≡ field number start end }
 {
@@ -36,6 +37,7 @@ pub(crate) fn bits_of(number: u64, start: u8, end: u8) -> u64
 }
 
 /// 2 to a power.
+#[inline(always)]
 pub(crate) fn power_of_two(exponent: u8) -> u64
     requires { exponent < 64 }
     ensures { result ≡ 2 ^ exponent }

@@ -8,3 +8,4 @@ pub mod operands;
 pub mod reading;
 pub mod recognise;
 pub mod solving;
+pub mod windows;

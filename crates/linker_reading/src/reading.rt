@@ -30,6 +30,7 @@ use linker_elf::elf::{
 use linker_elf::ppc64::DQ_UNIT;
 
 /// Whether bytes hold the value, or its low bits, and not a sum of it and what stood there.
+#[inline(always)]
 fn holds_value(kind: RelocationKind) -> bool
     ensures { result ≡ holds_value kind }
 {
@@ -45,6 +46,7 @@ fn holds_value(kind: RelocationKind) -> bool
 }
 
 /// Whether an instruction holds bits of a value from the range's start up.
+#[inline(always)]
 fn holds_bits(insn: RelocationInstruction, bits: BitRange) -> bool
     ensures { result ≡ holds_bits insn bits }
 {
@@ -61,6 +63,7 @@ fn holds_bits(insn: RelocationInstruction, bits: BitRange) -> bool
 }
 
 /// What an instruction of AArch64 holds.
+#[inline(always)]
 fn aarch64_number(insn: AArch64Instruction, bytes: &[u8]) -> u64
     requires { byte_len (aarch64_form insn).window ≤ length bytes.now }
     ensures { result ≡ cast_unsigned w64
@@ -76,6 +79,7 @@ fn aarch64_number(insn: AArch64Instruction, bytes: &[u8]) -> u64
 }
 
 /// What an instruction of RISC-V holds, its value rounded.
+#[inline(always)]
 fn riscv_number(insn: RiscVInstruction, bytes: &[u8]) -> u64
     requires { byte_len (riscv_form insn).window ≤ length bytes.now }
     ensures { result ≡ cast_unsigned w64
@@ -90,6 +94,7 @@ fn riscv_number(insn: RiscVInstruction, bytes: &[u8]) -> u64
 }
 
 /// What an instruction of PowerPC64 holds, in two's complement.
+#[inline(always)]
 fn ppc64_number(insn: Ppc64Instruction, bytes: &[u8]) -> u64
     requires { byte_len (ppc64_form insn).window ≤ length bytes.now }
     ensures { result ≡ cast_unsigned w64 (ppc64_reads insn (window_of (ppc64_form insn) bytes.now)) }
@@ -112,6 +117,7 @@ fn ppc64_number(insn: Ppc64Instruction, bytes: &[u8]) -> u64
 }
 
 /// What an instruction of LoongArch, or a pair, holds, in two's complement.
+#[inline(always)]
 fn loongarch_number(insn: LoongArch64Instruction, bytes: &[u8]) -> u64
     requires { byte_len (loongarch_form insn).window ≤ length bytes.now }
     ensures { result ≡ cast_unsigned w64
@@ -135,6 +141,7 @@ fn loongarch_number(insn: LoongArch64Instruction, bytes: &[u8]) -> u64
 }
 
 /// What the machine reads of an instruction, in units of the first bit of its range, modulo 2^64.
+#[inline(always)]
 pub(crate) fn number_held(insn: RelocationInstruction, bytes: &[u8]) -> u64
     requires { byte_len (relocation_form insn).window ≤ length bytes.now }
     ensures { result ≡ cast_unsigned w64 (number_held insn
@@ -149,6 +156,7 @@ pub(crate) fn number_held(insn: RelocationInstruction, bytes: &[u8]) -> u64
 }
 
 /// Whether every allowed value is a number of `count` signed bits.
+#[inline(always)]
 fn are_signed(count: u32, reach: AllowedRange) -> bool
     requires some { 1 ≤ count }
     requires short { count ≤ 62 }
@@ -162,6 +170,7 @@ fn are_signed(count: u32, reach: AllowedRange) -> bool
 }
 
 /// Which bits of a value, of a range, an immediate has.
+#[inline(always)]
 fn bits_within(immediate: BitRange, bits: BitRange) -> BitRange
     requires range { bits.end ≤ 64 }
     requires immediate { immediate.start ≤ 64 }
@@ -180,6 +189,7 @@ fn bits_within(immediate: BitRange, bits: BitRange) -> BitRange
 }
 
 /// Which bits of the value, rounded, an instruction holds.
+#[inline(always)]
 fn bits_held(insn: RelocationInstruction, bits: BitRange, reach: AllowedRange) -> BitRange
     requires end { bits.end ≤ 64 }
     requires start { bits.start ≤ 64 }
@@ -201,6 +211,7 @@ fn bits_held(insn: RelocationInstruction, bits: BitRange, reach: AllowedRange) -
 }
 
 /// Whether a field holds a value, or some of its bits.
+#[inline(always)]
 fn holds_field(kind: RelocationKind, size: RelocationSize, reach: AllowedRange) -> bool
     ensures { result ≡ holds_field kind size reach.bounds }
 {
@@ -220,6 +231,7 @@ fn holds_field(kind: RelocationKind, size: RelocationSize, reach: AllowedRange) 
 }
 
 /// What is added to a value before an instruction takes its bits.
+#[inline(always)]
 fn rounding_of(insn: RelocationInstruction) -> u64
     ensures { result ≡ rounding_of insn }
 {
@@ -230,6 +242,7 @@ fn rounding_of(insn: RelocationInstruction) -> u64
 }
 
 /// The number of the first `len` bytes.
+#[inline(always)]
 pub(crate) fn number_of_bytes(len: usize, bytes: &[u8]) -> u64
     requires short { len ≤ 8 }
     requires room { len ≤ length bytes.now }
@@ -241,6 +254,7 @@ pub(crate) fn number_of_bytes(len: usize, bytes: &[u8]) -> u64
 }
 
 /// What stands in a `jirl` at the low part of an address: bits 2 to 11 of the value, of which bits 0 and 1 are 0.
+#[inline(always)]
 fn jump_read(bytes: &[u8]) -> FieldValue
     requires { 4 ≤ length bytes.now }
     ensures { result ≡ jump_read (window_of (loongarch_form LoongArch64Instruction.Shift10) bytes.now) }
@@ -254,6 +268,7 @@ fn jump_read(bytes: &[u8]) -> FieldValue
 }
 
 /// What stands in an instruction of a form.
+#[inline(always)]
 fn instruction_read(
     insn: RelocationInstruction,
     range: BitRange,
@@ -276,6 +291,7 @@ fn instruction_read(
 }
 
 /// What stands in the field.
+#[inline(always)]
 fn field_read(row: &RelocationKindInfo, reach: AllowedRange, bytes: &[u8]) -> FieldValue
     requires room { size_len row.now.size ≤ length bytes.now }
     requires held { holds_field row.now.kind row.now.size reach.bounds ≡ true }
@@ -307,6 +323,7 @@ fn field_read(row: &RelocationKindInfo, reach: AllowedRange, bytes: &[u8]) -> Fi
 
 /// Whether the values from `min` up, below `max`, with the known bits differ below the first of
 /// these only.
+#[inline(always)]
 fn leaves_one(min: i64, max: i64, field: FieldValue) -> bool
     requires { field.known.start < field.known.end }
     ensures { result ≡ leaves_one (min, max) field }
@@ -320,6 +337,7 @@ fn leaves_one(min: i64, max: i64, field: FieldValue) -> bool
 }
 
 /// Adds all bits above the known ones.
+#[inline(always)]
 fn up_to_sign(min: i64, max: i64, field: FieldValue) -> FieldValue
     requires some { field.known.start < field.known.end }
     requires short { field.known.end < 64 }
@@ -343,6 +361,7 @@ fn up_to_sign(min: i64, max: i64, field: FieldValue) -> FieldValue
 }
 
 /// Adds the bits above that the reach leaves.
+#[inline(always)]
 fn with_reach(reach: AllowedRange, field: FieldValue) -> FieldValue
     requires { field.known.start < field.known.end }
     ensures value { result ≡ with_reach reach.bounds field }
@@ -362,6 +381,7 @@ fn with_reach(reach: AllowedRange, field: FieldValue) -> FieldValue
 }
 
 /// Adds the bits below that are 0 in multiples of the alignment.
+#[inline(always)]
 fn with_alignment(alignment: u64, field: FieldValue) -> FieldValue
     requires some { field.known.start < field.known.end }
     requires short { field.known.end ≤ 64 }
@@ -424,6 +444,24 @@ pub fn read(row: &Row, bytes: &[u8]) -> Option<FieldValue>
 
 /// The same, of a row that was read from a table.
 pub fn read_row(row: &RelocationKindInfo, bytes: &[u8]) -> Option<FieldValue>
+    ensures value { result ≡ value_read row.now bytes.now }
+    ensures proper { IfSome result IsProper }
+    ensures written { IsReadBack row.now bytes.now result }
+{
+    // in each arm the compiler knows the architecture, and tests it no more
+    match row.size {
+        RelocationSize::ByteSize(_) => read_as(row, bytes),
+        RelocationSize::BitMasking { insn, .. } => match insn {
+            RelocationInstruction::AArch64(_) => read_as(row, bytes),
+            RelocationInstruction::RiscV(_) => read_as(row, bytes),
+            RelocationInstruction::Ppc64(_) => read_as(row, bytes),
+            RelocationInstruction::LoongArch64(_) => read_as(row, bytes),
+        },
+    }
+}
+
+#[inline(always)]
+fn read_as(row: &RelocationKindInfo, bytes: &[u8]) -> Option<FieldValue>
     ensures value { result ≡ value_read row.now bytes.now }
     ensures proper { IfSome result IsProper }
     ensures written { IsReadBack row.now bytes.now result }

@@ -1,43 +1,43 @@
 -- Decisions, relocation by relocation.
 use Rattle.std.proofs.Common.{◌≡◌, ℕ, zero, suc, ◌+◌, ◌-◌, ◌≤◌, ◌<◌, ◌⊎◌, inl, inr, ◌∙◌, List, length, ap, sym, subst, arith, refl, Bool, true, false, None, Some, slice_set}
 use Rattle.std.proofs.lemmas.List.{get_or-set_same, get_or-set_other}
-use Rattle.linker_rewriting.specs.Decisions.{window_of, CanBeMade, AllCanBeMade, AreApart, decision_at, is_taken, takes_next, len_at, start_at, end_at, IsDecidedAfter, IsDecidedAlone, IsDecisionAfter, IsNotSurveyed, IsOverlapping, AreDecided, IsEndBehind}
+use Rattle.linker_rewriting.specs.Decisions.{CanBeMade, AllCanBeMade, AreApart, decision_at, is_taken, takes_next, start_by, end_by, start_at, end_at, IsDecidedAfter, IsDecidedAlone, IsDecisionAfter, IsNotSurveyed, IsOverlapping, AreDecidedIn, IsEndBehind}
+use Rattle.linker_rewriting.specs.Facts.{Setting}
 use Rattle.linker_rewriting.specs.declared.decisions.Decision.{Decision}
 use Rattle.linker_rewriting.specs.declared.decisions.Decision.TheVariants.{Kept, TakenAlong}
-use Rattle.linker_rewriting.specs.declared.facts.OutputFacts.{OutputFacts}
-use Rattle.linker_rewriting.specs.declared.facts.SymbolFacts.{SymbolFacts}
 use Rattle.linker_rewriting.specs.declared.groups.KeptGroups.{KeptGroups}
 use Rattle.linker_section.specs.Relocations.{relocation_in}
 use Rattle.linker_section.specs.declared.relocations.Rela.{Rela}
-use Rattle.linker_utils.specs.declared.elf.Architecture.{Architecture}
 use borrow.Author.Count.{below_more}
 
-abbrev start_by : List ℕ → ℕ → Decision → ℕ
-start_by bytes n d = (relocation_in bytes n).offset - (window_of d).back
+-- those of a relocation with an index
+abbrev start_of : List ℕ → ℕ → Decision → ℕ
+start_of bytes n d = start_by d (relocation_in bytes n).offset
 
-abbrev end_by : List ℕ → ℕ → Decision → ℕ
-end_by bytes n d = start_by bytes n d + (window_of d).len
+abbrev end_of : List ℕ → ℕ → Decision → ℕ
+end_of bytes n d = end_by d (relocation_in bytes n).offset
+
+abbrev IsSome : List ℕ → ℕ → Decision → Type 0
+IsSome bytes n d = start_of bytes n d < end_of bytes n d
 
 -- windows so far end at or below the limit, which one of them reaches
 pub record EndsAt (bytes : List ℕ) (decisions : List Decision) (end k : ℕ) : Type 0 where
-  pub below : (n : ℕ) → n < k → 0 < len_at decisions n → end_at bytes decisions n ≤ end
+  pub below : (n : ℕ) → n < k → IsSome bytes n (decision_at decisions n) → end_at bytes decisions n ≤ end
   pub reached : (end ≡ 0)
-      ⊎ ((n : ℕ) × (n < k) × (0 < len_at decisions n) × (end_at bytes decisions n ≡ end))
+      ⊎ ((n : ℕ) × (n < k) × (IsSome bytes n (decision_at decisions n)) × (end_at bytes decisions n ≡ end))
 
-pub record AreDecidedTo (architecture : Architecture) (output : OutputFacts)
-    (symbols : List SymbolFacts) (kept : List KeptGroups) (bytes section : List ℕ)
+pub record AreDecidedTo (s : Setting) (kept : List KeptGroups) (bytes section : List ℕ)
     (decisions : List Decision) (end : ℕ) (taken : Bool) (k : ℕ) : Type 0 where
-  pub decided : AreDecided architecture output symbols kept bytes section decisions k
+  pub decided : AreDecidedIn s kept bytes section decisions k
   pub made : AllCanBeMade bytes section decisions k
   pub apart : AreApart bytes decisions k
   pub taken_is : taken ≡ is_taken decisions k
   pub ends : EndsAt bytes decisions end k
 
-pub none_decided : (architecture : Architecture) (output : OutputFacts)
-    (symbols : List SymbolFacts) (kept : List KeptGroups) (bytes section : List ℕ)
+pub none_decided : (s : Setting) (kept : List KeptGroups) (bytes section : List ℕ)
     (decisions : List Decision)
-    → AreDecidedTo architecture output symbols kept bytes section decisions 0 false 0
-none_decided architecture output symbols kept bytes section decisions =
+    → AreDecidedTo s kept bytes section decisions 0 false 0
+none_decided s kept bytes section decisions =
     record {
       decided = λ n less. absurd (omega arith);
       made = λ n less. absurd (omega arith);
@@ -64,8 +64,8 @@ taken_next decisions k =
 -- the end of one more window, as `end_behind` gives it
 abbrev pub IsGrown : List ℕ → ℕ → Decision → ℕ → ℕ → Type 0
 IsGrown bytes k d end new =
-    ((window_of d).len ≡ 0 × (new ≡ end))
-    ⊎ ((0 < (window_of d).len) × (end ≤ start_by bytes k d) × (new ≡ end_by bytes k d))
+    ((end_of bytes k d ≤ start_of bytes k d) × (new ≡ end))
+    ⊎ (IsSome bytes k d × (end ≤ start_of bytes k d) × (new ≡ end_of bytes k d))
 
 grown_le : (bytes : List ℕ) (k : ℕ) (d : Decision) (end new : ℕ) → IsGrown bytes k d end new
     → end ≤ new
@@ -74,12 +74,12 @@ grown_le bytes k d end new (inr grows) =
     let a = grows.1 in let b = grows.2 in omega arith
 
 grown_start : (bytes : List ℕ) (k : ℕ) (d : Decision) (end new : ℕ) → IsGrown bytes k d end new
-    → 0 < (window_of d).len → end ≤ start_by bytes k d
+    → IsSome bytes k d → end ≤ start_of bytes k d
 grown_start bytes k d end new (inl stays) some = let e = stays.0 in absurd (omega arith)
 grown_start bytes k d end new (inr grows) some = grows.1
 
 grown_end : (bytes : List ℕ) (k : ℕ) (d : Decision) (end new : ℕ) → IsGrown bytes k d end new
-    → 0 < (window_of d).len → end_by bytes k d ≤ new
+    → IsSome bytes k d → end_of bytes k d ≤ new
 grown_end bytes k d end new (inl stays) some = let e = stays.0 in absurd (omega arith)
 grown_end bytes k d end new (inr grows) some = let e = grows.2 in omega arith
 
@@ -87,7 +87,7 @@ grown_end bytes k d end new (inr grows) some = let e = grows.2 in omega arith
 abbrev IsReached : List ℕ → List Decision → ℕ → ℕ → Type 0
 IsReached bytes decisions end k =
     (end ≡ 0)
-    ⊎ ((n : ℕ) × (n < k) × (0 < len_at decisions n) × (end_at bytes decisions n ≡ end))
+    ⊎ ((n : ℕ) × (n < k) × (IsSome bytes n (decision_at decisions n)) × (end_at bytes decisions n ≡ end))
 
 reached_on : (bytes : List ℕ) (old new : List Decision) (k end : ℕ) → AreSame old new k
     → IsReached bytes old end k → IsReached bytes new end (k + 1)
@@ -96,8 +96,8 @@ reached_on bytes old new k end same (inr one) =
     inr (
       one.0,
       omega (arith, one.1),
-      subst (λ x. 0 < (window_of x).len) (sym (same (one.0) (one.1))) (one.2),
-      ap (end_by bytes (one.0)) (same (one.0) (one.1)) ∙ one.3,
+      subst (λ x. IsSome bytes (one.0) x) (sym (same (one.0) (one.1))) (one.2),
+      ap (end_of bytes (one.0)) (same (one.0) (one.1)) ∙ one.3,
     )
 
 reached_more : (bytes : List ℕ) (old new : List Decision) (k end grown : ℕ) (d : Decision)
@@ -110,8 +110,8 @@ reached_more bytes old new k end grown d same here reached (inr grows) =
     inr (
       k,
       omega arith,
-      subst (λ x. 0 < (window_of x).len) (sym here) (grows.0),
-      ap (end_by bytes k) here ∙ sym (grows.2),
+      subst (λ x. IsSome bytes k x) (sym here) (grows.0),
+      ap (end_of bytes k) here ∙ sym (grows.2),
     )
 
 ends_more : (bytes : List ℕ) (old new : List Decision) (k end grown : ℕ) (d : Decision)
@@ -119,10 +119,10 @@ ends_more : (bytes : List ℕ) (old new : List Decision) (k end grown : ℕ) (d 
     → IsGrown bytes k d end grown → EndsAt bytes new grown (k + 1)
 ends_more bytes old new k end grown d same here ends grow =
     record {
-      below = below_more (λ n. 0 < len_at new n → end_at bytes new n ≤ grown) k
-          (λ n less. subst (λ x. 0 < (window_of x).len → end_by bytes n x ≤ grown) (sym (same n less))
+      below = below_more (λ n. IsSome bytes n (decision_at new n) → end_at bytes new n ≤ grown) k
+          (λ n less. subst (λ x. IsSome bytes n x → end_of bytes n x ≤ grown) (sym (same n less))
           (λ some. let a = ends.below n less some in let b = grown_le bytes k d end grown grow in omega arith))
-          (subst (λ x. 0 < (window_of x).len → end_by bytes k x ≤ grown) (sym here)
+          (subst (λ x. IsSome bytes k x → end_of bytes k x ≤ grown) (sym here)
           (grown_end bytes k d end grown grow));
       reached = reached_more bytes old new k end grown d same here ends.reached grow;
     }
@@ -131,36 +131,35 @@ apart_more : (bytes : List ℕ) (old new : List Decision) (k end grown : ℕ) (d
     → AreSame old new k → decision_at new k ≡ d → EndsAt bytes old end k → AreApart bytes old k
     → IsGrown bytes k d end grown → AreApart bytes new (k + 1)
 apart_more bytes old new k end grown d same here ends apart grow i j ij less =
-    below_more (λ m. (n : ℕ) → n < m → 0 < len_at new n → 0 < len_at new m → end_at bytes new n ≤ start_at bytes new m) k
-    (λ m mk n nm. subst (λ x. 0 < (window_of x).len → 0 < len_at new m → end_by bytes n x ≤ start_at bytes new m) (sym (same n (omega arith)))
-    (subst (λ x. 0 < len_at old n → 0 < (window_of x).len → end_at bytes old n ≤ start_by bytes m x) (sym (same m mk))
+    below_more (λ m. (n : ℕ) → n < m → IsSome bytes n (decision_at new n) → IsSome bytes m (decision_at new m) → end_at bytes new n ≤ start_at bytes new m) k
+    (λ m mk n nm. subst (λ x. IsSome bytes n x → IsSome bytes m (decision_at new m) → end_of bytes n x ≤ start_at bytes new m) (sym (same n (omega arith)))
+    (subst (λ x. IsSome bytes n (decision_at old n) → IsSome bytes m x → end_at bytes old n ≤ start_of bytes m x) (sym (same m mk))
     (apart n m nm mk)))
-    (λ n nk. subst (λ x. 0 < (window_of x).len → 0 < len_at new k → end_by bytes n x ≤ start_at bytes new k) (sym (same n nk))
-    (subst (λ x. 0 < len_at old n → 0 < (window_of x).len → end_at bytes old n ≤ start_by bytes k x) (sym here)
+    (λ n nk. subst (λ x. IsSome bytes n x → IsSome bytes k (decision_at new k) → end_of bytes n x ≤ start_at bytes new k) (sym (same n nk))
+    (subst (λ x. IsSome bytes n (decision_at old n) → IsSome bytes k x → end_at bytes old n ≤ start_of bytes k x) (sym here)
     (λ some_n some_k. let a = ends.below n nk some_n in let b = grown_start bytes k d end grown grow some_k in omega arith)))
     j less i ij
 
-pub more_decided : (architecture : Architecture) (output : OutputFacts)
-    (symbols : List SymbolFacts) (kept : List KeptGroups) (bytes section : List ℕ)
+pub more_decided : (s : Setting) (kept : List KeptGroups) (bytes section : List ℕ)
     (old : List Decision) (end grown : ℕ) (taken : Bool) (k : ℕ) (d : Decision)
-    → AreDecidedTo architecture output symbols kept bytes section old end taken k
+    → AreDecidedTo s kept bytes section old end taken k
     → k < length old
-    → IsDecidedAfter architecture output symbols kept bytes section k taken d
+    → IsDecidedAfter s kept bytes section k taken d
     → CanBeMade d section (relocation_in bytes k).offset
     → IsGrown bytes k d end grown
-    → AreDecidedTo architecture output symbols kept bytes section (slice_set old k d) grown
+    → AreDecidedTo s kept bytes section (slice_set old k d) grown
     (takes_next d) (k + 1)
-more_decided architecture output symbols kept bytes section old end grown taken k d before within is can grow =
+more_decided s kept bytes section old end grown taken k d before within is can grow =
     let new : List Decision = slice_set old k d in
     let same : AreSame old new k =
     λ n less. get_or-set_other old k n d Kept (λ e. absurd (omega (arith, e))) in
     let here : decision_at new k ≡ d = get_or-set_same old k d Kept within in
     record {
-      decided = below_more (λ n. IsDecidedAfter architecture output symbols kept bytes section n (is_taken new n) (decision_at new n)) k
-          (λ n less. subst (λ t. IsDecidedAfter architecture output symbols kept bytes section n t (decision_at new n)) (sym (same_taken old new k n same (omega arith)))
-          (subst (λ x. IsDecidedAfter architecture output symbols kept bytes section n (is_taken old n) x) (sym (same n less)) (before.decided n less)))
-          (subst (λ t. IsDecidedAfter architecture output symbols kept bytes section k t (decision_at new k)) (before.taken_is ∙ sym (same_taken old new k k same (omega arith)))
-          (subst (λ x. IsDecidedAfter architecture output symbols kept bytes section k taken x) (sym here) is));
+      decided = below_more (λ n. IsDecidedAfter s kept bytes section n (is_taken new n) (decision_at new n)) k
+          (λ n less. subst (λ t. IsDecidedAfter s kept bytes section n t (decision_at new n)) (sym (same_taken old new k n same (omega arith)))
+          (subst (λ x. IsDecidedAfter s kept bytes section n (is_taken old n) x) (sym (same n less)) (before.decided n less)))
+          (subst (λ t. IsDecidedAfter s kept bytes section k t (decision_at new k)) (before.taken_is ∙ sym (same_taken old new k k same (omega arith)))
+          (subst (λ x. IsDecidedAfter s kept bytes section k taken x) (sym here) is));
       made = below_more (λ n. CanBeMade (decision_at new n) section (relocation_in bytes n).offset) k
           (λ n less. subst (λ x. CanBeMade x section (relocation_in bytes n).offset) (sym (same n less)) (before.made n less))
           (subst (λ x. CanBeMade x section (relocation_in bytes k).offset) (sym here) can);
@@ -171,39 +170,36 @@ more_decided architecture output symbols kept bytes section old end grown taken 
 
 -- ---- one more decision, and errors
 
-pub not_surveyed : (architecture : Architecture) (output : OutputFacts)
-    (symbols : List SymbolFacts) (kept : List KeptGroups) (bytes section : List ℕ) (k : ℕ)
+pub not_surveyed : (s : Setting) (kept : List KeptGroups) (bytes section : List ℕ) (k : ℕ)
     (r : Rela) (taken : Bool)
-    → IsDecisionAfter architecture output symbols kept bytes section k r taken None
+    → IsDecisionAfter s kept bytes section k r taken None
     → r ≡ relocation_in bytes k
-    → IsNotSurveyed architecture output symbols kept bytes section k (relocation_in bytes k)
-not_surveyed architecture output symbols kept bytes section k r true is same =
+    → IsNotSurveyed s kept bytes section k (relocation_in bytes k)
+not_surveyed s kept bytes section k r true is same =
     absurd (let e : None ≡ Some TakenAlong = is in cc)
-not_surveyed architecture output symbols kept bytes section k r false is same =
-    subst (IsNotSurveyed architecture output symbols kept bytes section k) same is
+not_surveyed s kept bytes section k r false is same =
+    subst (IsNotSurveyed s kept bytes section k) same is
 
-pub decided_after : (architecture : Architecture) (output : OutputFacts)
-    (symbols : List SymbolFacts) (kept : List KeptGroups) (bytes section : List ℕ) (k : ℕ)
+pub decided_after : (s : Setting) (kept : List KeptGroups) (bytes section : List ℕ) (k : ℕ)
     (r : Rela) (taken : Bool) (d : Decision)
-    → IsDecisionAfter architecture output symbols kept bytes section k r taken (Some d)
+    → IsDecisionAfter s kept bytes section k r taken (Some d)
     → r ≡ relocation_in bytes k
-    → IsDecidedAfter architecture output symbols kept bytes section k taken d
-decided_after architecture output symbols kept bytes section k r true d is same =
+    → IsDecidedAfter s kept bytes section k taken d
+decided_after s kept bytes section k r true d is same =
     let e : Some d ≡ Some TakenAlong = is in cc
-decided_after architecture output symbols kept bytes section k r false d is same =
-    subst (λ x. IsDecidedAlone architecture output symbols kept bytes section k x d) same is
+decided_after s kept bytes section k r false d is same =
+    subst (λ x. IsDecidedAlone s kept bytes section k x d) same is
 
 -- one of the windows so far ends above the start
-overlapping_one : (architecture : Architecture) (output : OutputFacts)
-    (symbols : List SymbolFacts) (kept : List KeptGroups) (bytes section : List ℕ)
+overlapping_one : (s : Setting) (kept : List KeptGroups) (bytes section : List ℕ)
     (decisions : List Decision) (end k : ℕ) (d : Decision)
-    → IsDecidedAlone architecture output symbols kept bytes section k (relocation_in bytes k) d
-    → IsEndBehind (window_of d) (relocation_in bytes k).offset end None
+    → IsDecidedAlone s kept bytes section k (relocation_in bytes k) d
+    → IsEndBehind (start_of bytes k d) (end_of bytes k d) end None
     → IsReached bytes decisions end k
-    → IsOverlapping architecture output symbols kept bytes section decisions k
-overlapping_one architecture output symbols kept bytes section decisions end k d decided behind (inl none) =
+    → IsOverlapping s kept bytes section decisions k
+overlapping_one s kept bytes section decisions end k d decided behind (inl none) =
     absurd (let e = behind.1 in omega arith)
-overlapping_one architecture output symbols kept bytes section decisions end k d decided behind (inr one) =
+overlapping_one s kept bytes section decisions end k d decided behind (inr one) =
     record {
       decision = d;
       decided = decided;
@@ -214,17 +210,16 @@ overlapping_one architecture output symbols kept bytes section decisions end k d
       overlap = let e = behind.1 in let reach = one.3 in omega arith;
     }
 
-pub overlapping : (architecture : Architecture) (output : OutputFacts)
-    (symbols : List SymbolFacts) (kept : List KeptGroups) (bytes section : List ℕ)
+pub overlapping : (s : Setting) (kept : List KeptGroups) (bytes section : List ℕ)
     (decisions : List Decision) (end k : ℕ) (r : Rela) (taken : Bool) (d : Decision)
-    → IsDecisionAfter architecture output symbols kept bytes section k r taken (Some d)
-    → r ≡ relocation_in bytes k → IsEndBehind (window_of d) r.offset end None
+    → IsDecisionAfter s kept bytes section k r taken (Some d)
+    → r ≡ relocation_in bytes k → IsEndBehind (start_by d r.offset) (end_by d r.offset) end None
     → EndsAt bytes decisions end k
-    → IsOverlapping architecture output symbols kept bytes section decisions k
-overlapping architecture output symbols kept bytes section decisions end k r true d is same behind ends =
+    → IsOverlapping s kept bytes section decisions k
+overlapping s kept bytes section decisions end k r true d is same behind ends =
     absurd (let none : d ≡ TakenAlong = (let e : Some d ≡ Some TakenAlong = is in cc) in
-    let len = ap (λ x. (window_of x).len) none in let some = behind.0 in omega arith)
-overlapping architecture output symbols kept bytes section decisions end k r false d is same behind ends =
-    overlapping_one architecture output symbols kept bytes section decisions end k d
-    (subst (λ x. IsDecidedAlone architecture output symbols kept bytes section k x d) same is)
-    (subst (λ x. IsEndBehind (window_of d) x.offset end None) same behind) ends.reached
+    let some = subst (λ x. start_by x r.offset < end_by x r.offset) none (behind.0) in omega arith)
+overlapping s kept bytes section decisions end k r false d is same behind ends =
+    overlapping_one s kept bytes section decisions end k d
+    (subst (λ x. IsDecidedAlone s kept bytes section k x d) same is)
+    (subst (λ x. IsEndBehind (start_by d x.offset) (end_by d x.offset) end None) same behind) ends.reached

@@ -1,6 +1,11 @@
 pub mod Deciding
 pub mod Keeping
+pub mod Listing
 pub mod Making
+pub mod Noted
+pub mod Order
+pub mod PhaseTables
 pub mod Surveying
+pub mod Unique
 pub mod Whole
 pub mod Windows

@@ -1,8 +1,10 @@
 -- What has been made of a section and of its relocations, one decision after the other.
-use Rattle.std.proofs.Common.{◌≡◌, ◌≢◌, ℕ, ◌+◌, ◌-◌, ◌≤◌, ◌<◌, inl, inr, ◌∙◌, List, length, take, drop, get_or, ap, sym, subst, arith, refl, IsTrue, Option, None, Some}
+use Rattle.std.proofs.Common.{◌≡◌, ◌≢◌, ℕ, ◌+◌, ◌-◌, ◌≤◌, ◌<◌, inl, inr, ◌∙◌, List, length, take, drop, get_or, ap, sym, subst, arith, refl, IsTrue, Option, None, Some, true, nat_le}
 use Rattle.linker_base.specs.Rewrite.{Rewrite, CanRewrite, IsRewritable, rewritten, rewrite_window}
 use Rattle.linker_base.specs.RewriteWindow.{window_of_rewrite}
-use Rattle.linker_rewriting.specs.Decisions.{window_of, CanBeMade, AllCanBeMade, AreApart, decision_at, len_at, start_at}
+use Rattle.linker_base.specs.declared.rewrite.DeletedBytes.{DeletedBytes}
+use Rattle.linker_rewriting.specs.Candidates.{deletes_within}
+use Rattle.linker_rewriting.specs.Decisions.{window_of, CanBeMade, AllCanBeMade, AreApart, decision_at, start_at, written_end_at, end_at}
 use Rattle.linker_rewriting.specs.Rewritten.{section_after, relocation_after, IsMade, IsDone, AreDone, AreRelocationsAfter, OthersStay}
 use Rattle.linker_rewriting.specs.declared.decisions.Decision.{Decision}
 use Rattle.linker_rewriting.specs.declared.decisions.Decision.TheVariants.{Kept, Rewritten, TakenAlong}
@@ -10,7 +12,7 @@ use Rattle.linker_rewriting.proofs.Windows.{IsReplaced, in_window, IsStep, step_
 use Rattle.linker_section.specs.Relocations.{relocation_in}
 use Rattle.linker_section.specs.declared.relocations.Rela.{Rela}
 use Rattle.std.proofs.lemmas.List.{get_or_default}
-use Rattle.linker_utils.specs.Architectures.{relaxation_rewrite}
+use Rattle.linker_utils.specs.Architectures.{relaxation_rewrite, relaxation_deleted}
 use borrow.Author.Count.{below_more}
 
 -- ---- one rewrite
@@ -74,6 +76,13 @@ stays_by (Some r) o first before after made same = same ∙ made
 
 -- ---- one decision
 
+same_deletes : (deleted : Option DeletedBytes) (o : ℕ) (first before : List ℕ)
+    → length before ≡ length first → deletes_within first o deleted ≡ true
+    → deletes_within before o deleted ≡ true
+same_deletes None o first before len is = is
+same_deletes (Some deleted) o first before len is =
+    subst (λ n. nat_le (o + (deleted.start + deleted.count)) n ≡ true) (sym len) is
+
 abbrev start_in : Decision → ℕ → ℕ
 start_in d o = o - (window_of d).back
 
@@ -84,7 +93,7 @@ pub can_make : (d : Decision) (o : ℕ) (first before : List ℕ) → CanBeMade 
 can_make Kept o first before can len ahead = tt
 can_make TakenAlong o first before can len ahead = tt
 can_make (Rewritten chosen) o first before can len ahead =
-    can_by (relaxation_rewrite chosen.kind) o first before can len ahead
+    (can_by (relaxation_rewrite chosen.kind) o first before (can.0) len ahead, same_deletes (relaxation_deleted chosen.kind) o first before len (can.1))
 
 step_made : (d : Decision) (o : ℕ) (first before after : List ℕ) → CanBeMade d first o
     → length before ≡ length first → length after ≡ length before
@@ -93,7 +102,7 @@ step_made : (d : Decision) (o : ℕ) (first before after : List ℕ) → CanBeMa
 step_made Kept o first before after can len same made = inl made
 step_made TakenAlong o first before after can len same made = inl made
 step_made (Rewritten chosen) o first before after can len same made =
-    step_by (relaxation_rewrite chosen.kind) o first before after can len same made
+    step_by (relaxation_rewrite chosen.kind) o first before after (can.0) len same made
 
 done_made : (d : Decision) (o : ℕ) (first before after : List ℕ) → CanBeMade d first o
     → length before ≡ length first → length after ≡ length before
@@ -103,7 +112,7 @@ done_made : (d : Decision) (o : ℕ) (first before after : List ℕ) → CanBeMa
 done_made Kept o first before after can len same made ahead = tt
 done_made TakenAlong o first before after can len same made ahead = tt
 done_made (Rewritten chosen) o first before after can len same made ahead =
-    made_by (relaxation_rewrite chosen.kind) o first before after can len same made ahead
+    made_by (relaxation_rewrite chosen.kind) o first before after (can.0) len same made ahead
 
 done_stays : (d : Decision) (o : ℕ) (first before after : List ℕ) → IsDone d o first before
     → take (window_of d).len (drop (start_in d o) after)
@@ -113,6 +122,24 @@ done_stays Kept o first before after done same = tt
 done_stays TakenAlong o first before after done same = tt
 done_stays (Rewritten chosen) o first before after done same =
     stays_by (relaxation_rewrite chosen.kind) o first before after done same
+
+-- ---- windows
+
+abbrev len_at : List Decision → ℕ → ℕ
+len_at decisions n = (window_of (decision_at decisions n)).len
+
+abbrev pub AreWindowsApart : List ℕ → List Decision → ℕ → Type 0
+AreWindowsApart bytes decisions limit =
+    (i j : ℕ) → i < j → j < limit → 0 < len_at decisions i → 0 < len_at decisions j
+    → written_end_at bytes decisions i ≤ start_at bytes decisions j
+
+pub windows_apart : (bytes : List ℕ) (decisions : List Decision) (limit : ℕ)
+    → AreApart bytes decisions limit → AreWindowsApart bytes decisions limit
+windows_apart bytes decisions limit apart i j ij less some_i some_j =
+    let a : start_at bytes decisions i < end_at bytes decisions i = omega arith in
+    let b : start_at bytes decisions j < end_at bytes decisions j = omega arith in
+    let c = apart i j ij less a b in
+    omega arith
 
 -- ---- all up to an index
 
@@ -143,7 +170,7 @@ none_made decisions entries section limit =
 
 pub more_made : (decisions : List Decision) (entries old new section before after : List ℕ)
     (limit k : ℕ) → AreMade decisions entries old section before limit k → k < limit
-    → AllCanBeMade entries section decisions limit → AreApart entries decisions limit
+    → AllCanBeMade entries section decisions limit → AreWindowsApart entries decisions limit
     → after ≡ section_after (decision_at decisions k) (relocation_in entries k).offset before
     → length after ≡ length before
     → relocation_in new k ≡ relocation_after (decision_at decisions k) (relocation_in entries k)
@@ -182,7 +209,7 @@ pub made_next : (decisions : List Decision) (entries old new section before afte
     (limit k : ℕ) (x : Decision) (r r_new : Rela)
     → AreMade decisions entries old section before limit k → k < limit
     → limit ≤ length decisions
-    → AllCanBeMade entries section decisions limit → AreApart entries decisions limit
+    → AllCanBeMade entries section decisions limit → AreWindowsApart entries decisions limit
     → r ≡ relocation_in old k
     → after ≡ section_after (get_or decisions k x) r.offset before
     → length after ≡ length before
@@ -201,3 +228,34 @@ made_next decisions entries old new section before after limit k x r r_new made 
     (set ∙ (set_is ∙ (ap (λ y. relocation_after y r) d
     ∙ ap (relocation_after (decision_at decisions k)) there)))
     others new_len
+
+-- and where nothing is made
+pub kept_next : (decisions : List Decision) (entries old section before : List ℕ) (limit k : ℕ)
+    (x : Decision) → AreMade decisions entries old section before limit k → k < limit
+    → limit ≤ length decisions
+    → AllCanBeMade entries section decisions limit → AreWindowsApart entries decisions limit
+    → get_or decisions k x ≡ Kept
+    → AreMade decisions entries old section before limit (k + 1)
+kept_next decisions entries old section before limit k x made less enough can apart is =
+    let d : decision_at decisions k ≡ Kept =
+    sym (get_or_default decisions k x Kept (omega arith)) ∙ is in
+    more_made decisions entries old old section before before limit k made less can apart
+    (sym (ap (λ y. section_after y (relocation_in entries k).offset before) d)) refl
+    (made.left k (omega arith) less
+    ∙ sym (ap (λ y. relocation_after y (relocation_in entries k)) d))
+    (λ n less_n ne. refl) refl
+
+-- what is to be made can still be
+pub can_next : (decisions : List Decision) (entries old section before : List ℕ) (limit k : ℕ)
+    (x : Decision) (r : Rela) → AreMade decisions entries old section before limit k → k < limit
+    → limit ≤ length decisions → AllCanBeMade entries section decisions limit
+    → r ≡ relocation_in old k
+    → CanBeMade (get_or decisions k x) before r.offset
+can_next decisions entries old section before limit k x r made less enough can is =
+    let d : get_or decisions k x ≡ decision_at decisions k =
+    get_or_default decisions k x Kept (omega arith) in
+    let there : r ≡ relocation_in entries k = is ∙ made.left k (omega arith) less in
+    subst (λ y. CanBeMade y before r.offset) (sym d)
+    (subst (λ y. CanBeMade (decision_at decisions k) before y.offset) (sym there)
+    (can_make (decision_at decisions k) (relocation_in entries k).offset section before (can k less)
+    made.same_len (made.ahead k (omega arith) less)))

@@ -1,27 +1,25 @@
 -- The groups that stay, noted relocation by relocation.
 use Rattle.std.proofs.Common.{ℕ, ◌+◌, inl, inr, ◌∙◌, List, ap, sym, subst, arith, refl, IsTrue, Option, None, Some, Bool, true, false}
+use Rattle.linker_rewriting.specs.Facts.{Setting}
 use Rattle.linker_rewriting.specs.Groups.{stays_at, symbol_of_group}
-use Rattle.linker_rewriting.specs.Surveys.{AreKeptToo, IsGroupOf, IsOfThreads, IsKeeping, IsUnmarked, StaysBy, AllStayIf, IsNoted, IsCause, IsSurveyed}
-use Rattle.linker_rewriting.specs.declared.facts.OutputFacts.{OutputFacts}
-use Rattle.linker_rewriting.specs.declared.facts.SymbolFacts.{SymbolFacts}
+use Rattle.linker_rewriting.specs.Surveys.{AreKeptToo, IsGroupOf, IsOfThreads, IsKeeping, IsUnmarked, StaysBy, AllStayIf, IsNoted, IsCause, IsSurveyedIn}
 use Rattle.linker_rewriting.specs.declared.groups.Group.{Group}
 use Rattle.linker_rewriting.specs.declared.groups.KeptGroups.{KeptGroups}
 use Rattle.linker_section.specs.Relocations.{relocation_in}
-use Rattle.linker_utils.specs.declared.elf.Architecture.{Architecture}
 use borrow.Author.Count.{below_more}
 
-abbrev AreKept : List KeptGroups → List KeptGroups → Type 0
+abbrev pub AreKept : List KeptGroups → List KeptGroups → Type 0
 AreKept before after =
     (group : Group) (symbol : ℕ) → IsTrue (stays_at before group symbol)
     → IsTrue (stays_at after group symbol)
 
-stays_on : (before after : List KeptGroups) (symbol : ℕ) (group : Option Group)
+pub stays_on : (before after : List KeptGroups) (symbol : ℕ) (group : Option Group)
     → AreKept before after → StaysBy before symbol group → StaysBy after symbol group
 stays_on before after symbol None kept stays = tt
 stays_on before after symbol (Some group) kept stays =
     kept group (symbol_of_group group symbol) stays
 
-all_stay_on : (before after : List KeptGroups) (unmarked : Bool) → AreKept before after
+pub all_stay_on : (before after : List KeptGroups) (unmarked : Bool) → AreKept before after
     → AllStayIf unmarked before → AllStayIf unmarked after
 all_stay_on before after false kept stay = tt
 all_stay_on before after true kept stay = λ group threads. kept group 0 (stay group threads)
@@ -38,42 +36,39 @@ all_stay_now before after false same = tt
 all_stay_now before after true same =
     λ group threads. (same group 0).1 (inr (refl, threads, refl))
 
-group_cause : (architecture : Architecture) (output : OutputFacts) (symbols : List SymbolFacts)
-    (bytes section : List ℕ) (n : ℕ) (group : Option Group)
-    → IsKeeping architecture output symbols bytes section n (relocation_in bytes n) group
-    → (g : Group) (s : ℕ) → IsGroupOf group (relocation_in bytes n).symbol g s
-    → IsCause architecture output symbols bytes section n g s
-group_cause architecture output symbols bytes section n None keeping g s is = absurd is
-group_cause architecture output symbols bytes section n (Some group) keeping g s is =
+group_cause : (s : Setting) (bytes section : List ℕ) (n : ℕ) (group : Option Group)
+    → IsKeeping s bytes section n (relocation_in bytes n) group
+    → (g : Group) (y : ℕ) → IsGroupOf group (relocation_in bytes n).symbol g y
+    → IsCause s bytes section n g y
+group_cause s bytes section n None keeping g y is = absurd is
+group_cause s bytes section n (Some group) keeping g y is =
     inl (
-      subst (λ x. IsKeeping architecture output symbols bytes section n (relocation_in bytes n) (Some x)) (sym (is.0)) keeping,
+      subst (λ x. IsKeeping s bytes section n (relocation_in bytes n) (Some x)) (sym (is.0)) keeping,
       is.1 ∙ ap (λ x. symbol_of_group x (relocation_in bytes n).symbol) (sym (is.0)),
     )
 
-pub none_surveyed : (architecture : Architecture) (output : OutputFacts)
-    (symbols : List SymbolFacts) (bytes section : List ℕ) (before : List KeptGroups)
-    → IsSurveyed architecture output symbols bytes section before before 0
-none_surveyed architecture output symbols bytes section before =
+pub none_surveyed : (s : Setting) (bytes section : List ℕ) (before : List KeptGroups)
+    → IsSurveyedIn s bytes section before before 0
+none_surveyed s bytes section before =
     record {
       noted = λ n less. absurd (omega arith);
       stayed = λ group symbol stays. stays;
       caused = λ group symbol stays. inl stays;
     }
 
-pub more_surveyed : (architecture : Architecture) (output : OutputFacts)
-    (symbols : List SymbolFacts) (bytes section : List ℕ) (before mid once after : List KeptGroups)
+pub more_surveyed : (s : Setting) (bytes section : List ℕ) (before mid once after : List KeptGroups)
     (k : ℕ) (group : Option Group) (unmarked : Bool)
-    → IsSurveyed architecture output symbols bytes section before mid k
-    → IsKeeping architecture output symbols bytes section k (relocation_in bytes k) group
+    → IsSurveyedIn s bytes section before mid k
+    → IsKeeping s bytes section k (relocation_in bytes k) group
     → AreKeptToo mid once (IsGroupOf group (relocation_in bytes k).symbol)
-    → IsUnmarked architecture symbols bytes k (relocation_in bytes k) unmarked
+    → IsUnmarked s bytes k (relocation_in bytes k) unmarked
     → AreKeptToo once after (IsOfThreads unmarked)
-    → IsSurveyed architecture output symbols bytes section before after (k + 1)
-more_surveyed architecture output symbols bytes section before mid once after k group unmarked surveyed keeping first is_unmarked second =
-    let later : AreKept once after = λ g s h. (second g s).1 (inl h) in
-    let all : AreKept mid after = λ g s h. later g s ((first g s).1 (inl h)) in
+    → IsSurveyedIn s bytes section before after (k + 1)
+more_surveyed s bytes section before mid once after k group unmarked surveyed keeping first is_unmarked second =
+    let later : AreKept once after = λ g y h. (second g y).1 (inl h) in
+    let all : AreKept mid after = λ g y h. later g y ((first g y).1 (inl h)) in
     record {
-      noted = below_more (λ n. IsNoted architecture output symbols bytes section after n) k
+      noted = below_more (λ n. IsNoted s bytes section after n) k
           (λ n less. let was = surveyed.noted n less in record {
             group = was.group;
             is_keeping = was.is_keeping;
@@ -91,15 +86,15 @@ more_surveyed architecture output symbols bytes section before mid once after k 
             is_unmarked = is_unmarked;
             all_stay = all_stay_now once after unmarked second;
           });
-      stayed = λ g s h. all g s (surveyed.stayed g s h);
-      caused = λ g s h. elim ((second g s).0 h) [
-        | inl in_once ↦ elim ((first g s).0 in_once) [
-          | inl in_mid ↦ elim (surveyed.caused g s in_mid) [
+      stayed = λ g y h. all g y (surveyed.stayed g y h);
+      caused = λ g y h. elim ((second g y).0 h) [
+        | inl in_once ↦ elim ((first g y).0 in_once) [
+          | inl in_mid ↦ elim (surveyed.caused g y in_mid) [
             | inl in_before ↦ inl in_before
             | inr cause ↦ inr (cause.0, omega (arith, cause.1), cause.2)
           ]
-          | inr is ↦ inr (k, omega arith, group_cause architecture output symbols bytes section k group keeping g s is)
+          | inr is ↦ inr (k, omega arith, group_cause s bytes section k group keeping g y is)
         ]
-        | inr is ↦ inr (k, omega arith, inr (subst (IsUnmarked architecture symbols bytes k (relocation_in bytes k)) (is.0) is_unmarked, is.1, is.2))
+        | inr is ↦ inr (k, omega arith, inr (subst (IsUnmarked s bytes k (relocation_in bytes k)) (is.0) is_unmarked, is.1, is.2))
       ];
     }

@@ -1,15 +1,16 @@
 -- The rewrite of a relocation's instruction, if each other one of its group is rewritten.
-use Rattle.std.specs.Prelude.{◌≡◌, ℕ, ◌+◌, ◌⊎◌, Bool, true, false, ◌&&◌, ◌==◌, List, Option, Some, None}
-use Rattle.std.specs.Prelude.{slice_get}
+use Rattle.std.specs.Prelude.{◌≡◌, ℕ, ◌+◌, ◌⊎◌, Bool, true, false, ◌&&◌, ◌==◌, nat_le, List, length}
+use Rattle.std.specs.Prelude.{Option, Some, None, slice_get, is_some, pos}
+use Rattle.linker_base.specs.declared.rewrite.DeletedBytes.{DeletedBytes}
 use Rattle.linker_elf.specs.declared.elf.choice.Choice.{Choice}
-use Rattle.linker_rewriting.specs.Facts.{facts_of}
-use Rattle.linker_rewriting.specs.Sequences.{IsWhole}
-use Rattle.linker_rewriting.specs.declared.facts.OutputFacts.{OutputFacts}
+use Rattle.linker_elf.specs.declared.elf.choice.LinkFacts.{LinkFacts}
+use Rattle.linker_rewriting.specs.Facts.{Setting, link_facts}
+use Rattle.linker_rewriting.specs.Sequences.{IsWhole, is_marked_at}
 use Rattle.linker_rewriting.specs.declared.facts.SymbolFacts.{SymbolFacts}
 use Rattle.linker_section.specs.Relocations.{relocation_at}
 use Rattle.linker_section.specs.declared.relocations.Rela.{Rela}
 use Rattle.linker_utils.specs.Architectures.{IsArchitectureChoice, IsSkippable, IsUnchanged}
-use Rattle.linker_utils.specs.Architectures.{relaxation_skipped}
+use Rattle.linker_utils.specs.Architectures.{relaxation_skipped, relaxation_deleted}
 use Rattle.linker_utils.specs.declared.architecture.Relaxation.{Relaxation}
 use Rattle.linker_utils.specs.declared.elf.Architecture.{Architecture}
 
@@ -32,33 +33,57 @@ IsTaken architecture symbols bytes n offset None found = found ≡ true
 IsTaken architecture symbols bytes n offset (Some distance) found =
     IsCallIn architecture symbols offset distance (relocation_at bytes (n + 1)) found
 
--- what `choose` has for a relocation of a symbol
-abbrev pub IsChosen : Architecture → OutputFacts → List ℕ → Rela → SymbolFacts
-    → Choice Relaxation ℕ → Type 0
-IsChosen architecture output section r symbol chosen =
-    IsArchitectureChoice architecture r.code section r.offset (facts_of output symbol r.addend) chosen
+-- what is deleted after a rewrite at an offset is in the section
+abbrev pub deletes_within : List ℕ → ℕ → Option DeletedBytes → Bool
+deletes_within section offset None = true
+deletes_within section offset (Some deleted) =
+    nat_le (offset + (deleted.start + deleted.count)) (length section)
 
--- It changes something, what it takes along is there, and so is the sequence that the relocation is of.
-abbrev pub IsCandidateBy : Architecture → OutputFacts → List SymbolFacts → List ℕ → List ℕ → ℕ
-    → Rela → SymbolFacts → Option (Choice Relaxation ℕ) → Type 0
-IsCandidateBy architecture output symbols bytes section n r symbol (Some chosen) =
-    IsChosen architecture output section r symbol chosen × (¬ IsUnchanged r.code chosen)
+-- It changes something, what it takes along is there, so is the sequence that the relocation is of,
+-- and what it deletes is in the section.
+abbrev pub IsCandidateBy : Architecture → List SymbolFacts → List ℕ → List ℕ → ℕ → Rela → LinkFacts
+    → Option (Choice Relaxation ℕ) → Type 0
+IsCandidateBy architecture symbols bytes section n r facts (Some chosen) =
+    IsArchitectureChoice architecture r.code section r.offset facts chosen
+    × (¬ IsUnchanged r.code chosen)
     × IsTaken architecture symbols bytes n r.offset (relaxation_skipped chosen.kind) true
     × IsWhole architecture bytes n r true
-IsCandidateBy architecture output symbols bytes section n r symbol None =
-    (chosen : Choice Relaxation ℕ) × IsChosen architecture output section r symbol chosen
+    × (deletes_within section r.offset (relaxation_deleted chosen.kind) ≡ true)
+IsCandidateBy architecture symbols bytes section n r facts None =
+    (chosen : Choice Relaxation ℕ)
+    × IsArchitectureChoice architecture r.code section r.offset facts chosen
     × (IsUnchanged r.code chosen
     ⊎ (IsTaken architecture symbols bytes n r.offset (relaxation_skipped chosen.kind) false
-    ⊎ IsWhole architecture bytes n r false))
+    ⊎ (IsWhole architecture bytes n r false
+    ⊎ (deletes_within section r.offset (relaxation_deleted chosen.kind) ≡ false))))
 
-abbrev pub IsCandidateOf : Architecture → OutputFacts → List SymbolFacts → List ℕ → List ℕ → ℕ
-    → Rela → Option SymbolFacts → Option (Choice Relaxation ℕ) → Type 0
-IsCandidateOf architecture output symbols bytes section n r None candidate = candidate ≡ None
-IsCandidateOf architecture output symbols bytes section n r (Some symbol) candidate =
-    IsCandidateBy architecture output symbols bytes section n r symbol candidate
+-- none where a table has no entry for the symbol
+abbrev pub IsCandidateWith : Setting → List ℕ → List ℕ → ℕ → Rela → Option LinkFacts
+    → Option (Choice Relaxation ℕ) → Type 0
+IsCandidateWith s bytes section n r None candidate = candidate ≡ None
+IsCandidateWith s bytes section n r (Some facts) candidate =
+    IsCandidateBy s.architecture s.symbols bytes section n r facts candidate
 
 -- of the relocation with an index among those in bytes
-abbrev pub IsCandidate : Architecture → OutputFacts → List SymbolFacts → List ℕ → List ℕ → ℕ
-    → Rela → Option (Choice Relaxation ℕ) → Type 0
-IsCandidate architecture output symbols bytes section n r candidate =
-    IsCandidateOf architecture output symbols bytes section n r (slice_get symbols r.symbol) candidate
+abbrev pub IsCandidate : Setting → List ℕ → List ℕ → ℕ → Rela → Option (Choice Relaxation ℕ) → Type 0
+IsCandidate s bytes section n r candidate =
+    IsCandidateWith s bytes section n r
+    (link_facts s.phase s.output s.symbols s.addresses s.values r r
+    (is_marked_at s.architecture bytes n r)) candidate
+
+-- the same facts of what is where the GOT's or the TOC's base is, at the distance 0
+abbrev pub at_base : Option LinkFacts → Option LinkFacts
+at_base None = None
+at_base (Some facts) =
+    Some (record facts {
+      operands = record facts.operands { symbol = facts.operands.got_base; addend = pos 0 };
+    })
+
+-- its instruction is one that the rewrite is meant for, whatever the distance
+abbrev pub IsMatched : Setting → List ℕ → List ℕ → ℕ → Rela → Bool → Type 0
+IsMatched s bytes section n r matched =
+    (candidate : Option (Choice Relaxation ℕ))
+    × IsCandidateWith s bytes section n r
+    (at_base (link_facts s.phase s.output s.symbols s.addresses s.values r r
+    (is_marked_at s.architecture bytes n r))) candidate
+    × (matched ≡ is_some candidate)

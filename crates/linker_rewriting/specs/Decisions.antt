@@ -1,12 +1,14 @@
 -- What becomes of a section's relocations and of their instructions.
-use Rattle.std.specs.Prelude.{◌≡◌, ℕ, zero, suc, ◌+◌, ◌-◌, ◌<◌, ◌≤◌, ◌/◌, ◌⊎◌, Bool, true, false, List}
-use Rattle.std.specs.Prelude.{length, get_or, Option, Some, None, is_some}
+use Rattle.std.specs.Prelude.{◌≡◌, ℕ, zero, suc, ◌+◌, ◌-◌, ◌<◌, ◌≤◌, ◌/◌, ◌⊎◌, ◌++◌, max, Bool, true}
+use Rattle.std.specs.Prelude.{false, IsTrue, ◌↔◌, List, [], ◌∷◌, length, get_or, Option, Some, None, is_some}
 use Rattle.linker_base.specs.Rewrite.{CanRewrite}
 use Rattle.linker_base.specs.RewriteWindow.{window_of_rewrite}
+use Rattle.linker_base.specs.declared.rewrite.DeletedBytes.{DeletedBytes}
 use Rattle.linker_base.specs.declared.rewrite.RewriteWindow.{RewriteWindow}
 use Rattle.linker_elf.specs.declared.elf.choice.Choice.{Choice}
-use Rattle.linker_rewriting.specs.Candidates.{IsCandidate}
-use Rattle.linker_rewriting.specs.Groups.{IsScope, group_stays}
+use Rattle.linker_rewriting.specs.Candidates.{IsCandidate, deletes_within}
+use Rattle.linker_rewriting.specs.Facts.{Setting, early}
+use Rattle.linker_rewriting.specs.Groups.{IsScopeIn, group_stays, stays_at}
 use Rattle.linker_rewriting.specs.declared.decisions.Decision.{Decision}
 use Rattle.linker_rewriting.specs.declared.decisions.Decision.TheVariants.{Kept, Rewritten, TakenAlong}
 use Rattle.linker_rewriting.specs.declared.decisions.RewritingError.{RewritingError}
@@ -17,9 +19,11 @@ use Rattle.linker_rewriting.specs.declared.groups.Group.{Group}
 use Rattle.linker_rewriting.specs.declared.groups.KeptGroups.{KeptGroups}
 use Rattle.linker_rewriting.specs.declared.groups.Scope.{Scope}
 use Rattle.linker_rewriting.specs.declared.groups.Scope.TheVariants.{Unlisted, Alone, Grouped}
-use Rattle.linker_section.specs.Relocations.{relocation_in}
+use Rattle.linker_rewriting.specs.declared.groups.Scope.TheVariants.{Ahead, Matched}
+use Rattle.linker_section.specs.Relocations.{relocation_in, relocation_at}
 use Rattle.linker_section.specs.declared.relocations.Rela.{Rela}
 use Rattle.linker_utils.specs.Architectures.{relaxation_rewrite, relaxation_skipped}
+use Rattle.linker_utils.specs.Architectures.{relaxation_deleted}
 use Rattle.linker_utils.specs.declared.architecture.Relaxation.{Relaxation}
 use Rattle.linker_utils.specs.declared.elf.Architecture.{Architecture}
 
@@ -35,10 +39,16 @@ abbrev pub window_of : Decision → RewriteWindow
 window_of (Rewritten chosen) = window_of_rewrite (relaxation_rewrite chosen.kind)
 window_of decision = record { back = 0; len = 0 }
 
--- they are in the section, and a window that the rewrite takes
+-- those that are deleted after it
+abbrev pub deleted_of : Decision → Option DeletedBytes
+deleted_of (Rewritten chosen) = relaxation_deleted chosen.kind
+deleted_of decision = None
+
+-- they are in the section, and the window is one that the rewrite takes
 abbrev pub CanBeMade : Decision → List ℕ → ℕ → Type 0
 CanBeMade (Rewritten chosen) section offset =
     CanRewrite (relaxation_rewrite chosen.kind) section offset
+    × (deletes_within section offset (relaxation_deleted chosen.kind) ≡ true)
 CanBeMade decision section offset = Unit {0}
 
 abbrev pub decision_of : Option (Choice Relaxation ℕ) → Decision
@@ -46,48 +56,80 @@ decision_of None = Kept
 decision_of (Some chosen) = Rewritten chosen
 
 -- a relocation of a group that stays, and of one that doesn't: it has a rewrite
-abbrev pub IsGroupDecision : Architecture → OutputFacts → List SymbolFacts → List ℕ → List ℕ → ℕ
+abbrev pub IsGroupDecision : Setting → List ℕ → List ℕ → ℕ
     → Rela → Bool → Decision → Type 0
-IsGroupDecision architecture output symbols bytes section n r true decision = decision ≡ Kept
-IsGroupDecision architecture output symbols bytes section n r false decision =
+IsGroupDecision s bytes section n r true decision = decision ≡ Kept
+IsGroupDecision s bytes section n r false decision =
     (chosen : Choice Relaxation ℕ)
-    × IsCandidate architecture output symbols bytes section n r (Some chosen)
+    × IsCandidate s bytes section n r (Some chosen)
     × (decision ≡ Rewritten chosen)
 
--- by its scope
-abbrev pub IsScopeDecision : Architecture → OutputFacts → List SymbolFacts → List KeptGroups
-    → List ℕ → List ℕ → ℕ → Rela → Scope → Decision → Type 0
-IsScopeDecision architecture output symbols kept bytes section n r Unlisted decision =
-    decision ≡ Kept
-IsScopeDecision architecture output symbols kept bytes section n r Alone decision =
-    (candidate : Option (Choice Relaxation ℕ))
-    × IsCandidate architecture output symbols bytes section n r candidate
+-- a relocation of a group that stays, and of one that doesn't: it is rewritten if it can be
+abbrev pub IsMatchedDecision : Setting → List ℕ → List ℕ → ℕ → Rela → Bool → Decision → Type 0
+IsMatchedDecision s bytes section n r true decision = decision ≡ Kept
+IsMatchedDecision s bytes section n r false decision =
+    (candidate : Option (Choice Relaxation ℕ)) × IsCandidate s bytes section n r candidate
     × (decision ≡ decision_of candidate)
-IsScopeDecision architecture output symbols kept bytes section n r (Grouped group) decision =
-    IsGroupDecision architecture output symbols bytes section n r (group_stays kept group r.symbol)
+
+-- whether one alone is rewritten
+abbrev pub IsRewrittenAlone : Setting → List ℕ → List ℕ → ℕ → Rela → Scope → Bool → Type 0
+IsRewrittenAlone s bytes section n r Alone is_rewritten =
+    (candidate : Option (Choice Relaxation ℕ))
+    × IsCandidate s bytes section n r candidate × (is_rewritten ≡ is_some candidate)
+IsRewrittenAlone s bytes section n r scope is_rewritten = is_rewritten ≡ false
+
+-- and there is one with an index
+abbrev pub IsRewrittenAt : Setting → List ℕ → List ℕ → ℕ → Option Rela → Bool → Type 0
+IsRewrittenAt s bytes section n None is_rewritten = is_rewritten ≡ false
+IsRewrittenAt s bytes section n (Some r) is_rewritten =
+    (scope : Scope) × IsScopeIn s.architecture s.phase r.code scope
+    × IsRewrittenAlone s bytes section n r scope is_rewritten
+
+-- it goes with the next one
+abbrev pub decision_ahead : Bool → Decision
+decision_ahead true = TakenAlong
+decision_ahead false = Kept
+
+-- by its scope
+abbrev pub IsScopeDecision : Setting → List KeptGroups → List ℕ → List ℕ → ℕ → Rela → Scope
+    → Decision → Type 0
+IsScopeDecision s kept bytes section n r Unlisted decision =
+    decision ≡ Kept
+IsScopeDecision s kept bytes section n r Alone decision =
+    (candidate : Option (Choice Relaxation ℕ))
+    × IsCandidate s bytes section n r candidate
+    × (decision ≡ decision_of candidate)
+IsScopeDecision s kept bytes section n r (Grouped group) decision =
+    IsGroupDecision s bytes section n r (group_stays kept group r.symbol)
     decision
+IsScopeDecision s kept bytes section n r (Matched group) decision =
+    IsMatchedDecision s bytes section n r (group_stays kept group r.symbol) decision
+IsScopeDecision s kept bytes section n r Ahead decision =
+    (is_rewritten : Bool)
+    × IsRewrittenAt s bytes section (n + 1) (relocation_at bytes (n + 1)) is_rewritten
+    × (decision ≡ decision_ahead is_rewritten)
 
 -- of a relocation that no other takes along
-abbrev pub IsDecidedAlone : Architecture → OutputFacts → List SymbolFacts → List KeptGroups
+abbrev pub IsDecidedAlone : Setting → List KeptGroups
     → List ℕ → List ℕ → ℕ → Rela → Decision → Type 0
-IsDecidedAlone architecture output symbols kept bytes section n r decision =
-    (scope : Scope) × IsScope architecture r.code scope
-    × IsScopeDecision architecture output symbols kept bytes section n r scope decision
+IsDecidedAlone s kept bytes section n r decision =
+    (scope : Scope) × IsScopeIn s.architecture s.phase r.code scope
+    × IsScopeDecision s kept bytes section n r scope decision
 
 -- its group doesn't stay, but it has no rewrite
-abbrev pub IsNotSurveyed : Architecture → OutputFacts → List SymbolFacts → List KeptGroups
+abbrev pub IsNotSurveyed : Setting → List KeptGroups
     → List ℕ → List ℕ → ℕ → Rela → Type 0
-IsNotSurveyed architecture output symbols kept bytes section n r =
-    (group : Group) × IsScope architecture r.code (Grouped group)
+IsNotSurveyed s kept bytes section n r =
+    (group : Group) × IsScopeIn s.architecture s.phase r.code (Grouped group)
     × (group_stays kept group r.symbol ≡ false)
-    × IsCandidate architecture output symbols bytes section n r None
+    × IsCandidate s bytes section n r None
 
-abbrev pub IsDecision : Architecture → OutputFacts → List SymbolFacts → List KeptGroups → List ℕ
+abbrev pub IsDecision : Setting → List KeptGroups → List ℕ
     → List ℕ → ℕ → Rela → Option Decision → Type 0
-IsDecision architecture output symbols kept bytes section n r (Some decision) =
-    IsDecidedAlone architecture output symbols kept bytes section n r decision
-IsDecision architecture output symbols kept bytes section n r None =
-    IsNotSurveyed architecture output symbols kept bytes section n r
+IsDecision s kept bytes section n r (Some decision) =
+    IsDecidedAlone s kept bytes section n r decision
+IsDecision s kept bytes section n r None =
+    IsNotSurveyed s kept bytes section n r
 
 -- ---- all decisions
 
@@ -99,83 +141,141 @@ abbrev pub is_taken : List Decision → ℕ → Bool
 is_taken decisions zero = false
 is_taken decisions (suc n) = takes_next (decision_at decisions n)
 
-abbrev pub IsDecidedAfter : Architecture → OutputFacts → List SymbolFacts → List KeptGroups
+abbrev pub IsDecidedAfter : Setting → List KeptGroups
     → List ℕ → List ℕ → ℕ → Bool → Decision → Type 0
-IsDecidedAfter architecture output symbols kept bytes section n true decision =
+IsDecidedAfter s kept bytes section n true decision =
     decision ≡ TakenAlong
-IsDecidedAfter architecture output symbols kept bytes section n false decision =
-    IsDecidedAlone architecture output symbols kept bytes section n (relocation_in bytes n) decision
+IsDecidedAfter s kept bytes section n false decision =
+    IsDecidedAlone s kept bytes section n (relocation_in bytes n) decision
 
-abbrev pub IsDecisionAfter : Architecture → OutputFacts → List SymbolFacts → List KeptGroups
+abbrev pub IsDecisionAfter : Setting → List KeptGroups
     → List ℕ → List ℕ → ℕ → Rela → Bool → Option Decision → Type 0
-IsDecisionAfter architecture output symbols kept bytes section n r true decision =
+IsDecisionAfter s kept bytes section n r true decision =
     decision ≡ Some TakenAlong
-IsDecisionAfter architecture output symbols kept bytes section n r false decision =
-    IsDecision architecture output symbols kept bytes section n r decision
+IsDecisionAfter s kept bytes section n r false decision =
+    IsDecision s kept bytes section n r decision
 
 -- those of the relocations with an index below a limit
-abbrev pub AreDecided : Architecture → OutputFacts → List SymbolFacts → List KeptGroups → List ℕ
+abbrev pub AreDecidedIn : Setting → List KeptGroups → List ℕ
     → List ℕ → List Decision → ℕ → Type 0
-AreDecided architecture output symbols kept bytes section decisions limit =
+AreDecidedIn s kept bytes section decisions limit =
     (n : ℕ) → n < limit
-    → IsDecidedAfter architecture output symbols kept bytes section n (is_taken decisions n)
+    → IsDecidedAfter s kept bytes section n (is_taken decisions n)
     (decision_at decisions n)
 
 abbrev pub AllCanBeMade : List ℕ → List ℕ → List Decision → ℕ → Type 0
 AllCanBeMade bytes section decisions limit =
     (n : ℕ) → n < limit → CanBeMade (decision_at decisions n) section (relocation_in bytes n).offset
 
--- ---- where bytes are rewritten
+-- before addresses are known
+abbrev pub AreDecided : Architecture → OutputFacts → List SymbolFacts → List KeptGroups → List ℕ
+    → List ℕ → List Decision → ℕ → Type 0
+AreDecided architecture output symbols = AreDecidedIn (early architecture output symbols)
 
-abbrev pub len_at : List Decision → ℕ → ℕ
-len_at decisions n = (window_of (decision_at decisions n)).len
+-- ---- where bytes are rewritten and deleted
+
+abbrev pub start_by : Decision → ℕ → ℕ
+start_by decision offset = offset - (window_of decision).back
+
+abbrev pub written_end_by : Decision → ℕ → ℕ
+written_end_by decision offset = start_by decision offset + (window_of decision).len
+
+-- where what is deleted ends
+abbrev pub deleted_end : ℕ → Option DeletedBytes → ℕ
+deleted_end offset None = 0
+deleted_end offset (Some deleted) = offset + (deleted.start + deleted.count)
+
+abbrev pub end_by : Decision → ℕ → ℕ
+end_by decision offset =
+    max (written_end_by decision offset) (deleted_end offset (deleted_of decision))
 
 abbrev pub start_at : List ℕ → List Decision → ℕ → ℕ
-start_at bytes decisions n =
-    (relocation_in bytes n).offset - (window_of (decision_at decisions n)).back
+start_at bytes decisions n = start_by (decision_at decisions n) (relocation_in bytes n).offset
+
+abbrev pub written_end_at : List ℕ → List Decision → ℕ → ℕ
+written_end_at bytes decisions n =
+    written_end_by (decision_at decisions n) (relocation_in bytes n).offset
 
 abbrev pub end_at : List ℕ → List Decision → ℕ → ℕ
-end_at bytes decisions n = start_at bytes decisions n + len_at decisions n
+end_at bytes decisions n = end_by (decision_at decisions n) (relocation_in bytes n).offset
 
--- those of each rewrite end before those of the next ones begin
+-- Those of each rewrite end before those of the next ones begin. A decision with none has no end
+-- behind its start.
 abbrev pub AreApart : List ℕ → List Decision → ℕ → Type 0
 AreApart bytes decisions limit =
-    (i j : ℕ) → i < j → j < limit → 0 < len_at decisions i → 0 < len_at decisions j
+    (i j : ℕ) → i < j → j < limit → start_at bytes decisions i < end_at bytes decisions i
+    → start_at bytes decisions j < end_at bytes decisions j
     → end_at bytes decisions i ≤ start_at bytes decisions j
 
--- where they end, with one more window beside an offset; none if it isn't behind them
-abbrev pub IsEndBehind : RewriteWindow → ℕ → ℕ → Option ℕ → Type 0
-IsEndBehind window offset end (Some new) =
-    ((window.len ≡ 0) × (new ≡ end))
-    ⊎ ((0 < window.len) × (end ≤ offset - window.back) × (new ≡ offset - window.back + window.len))
-IsEndBehind window offset end None = (0 < window.len) × (offset - window.back < end)
+-- where they end, with some more from a start to an end; none if they aren't behind them
+abbrev pub IsEndBehind : ℕ → ℕ → ℕ → Option ℕ → Type 0
+IsEndBehind start own end (Some new) =
+    ((own ≤ start) × (new ≡ end)) ⊎ ((start < own) × (end ≤ start) × (new ≡ own))
+IsEndBehind start own end None = (start < own) × (start < end)
+
+-- the bytes that one decision deletes, by their offset and how many they are
+abbrev pub deletion_by : ℕ → Option DeletedBytes → List (ℕ × ℕ)
+deletion_by offset None = []
+deletion_by offset (Some deleted) = (offset + deleted.start, deleted.count) ∷ []
+
+-- those of all decisions below a limit
+abbrev pub deletions_by : List ℕ → List Decision → ℕ → List (ℕ × ℕ)
+deletions_by bytes decisions zero = []
+deletions_by bytes decisions (suc n) =
+    deletions_by bytes decisions n
+    ++ deletion_by (relocation_in bytes n).offset (deleted_of (decision_at decisions n))
 
 -- ---- errors
 
--- the rewrite of the relocation with an index would write bytes at or below those of one before it
-pub record IsOverlapping (architecture : Architecture) (output : OutputFacts)
-    (symbols : List SymbolFacts) (kept : List KeptGroups) (bytes section : List ℕ)
+-- the rewrite of the relocation with an index would write or delete bytes at or below those of one
+-- before it
+pub record IsOverlapping (s : Setting) (kept : List KeptGroups) (bytes section : List ℕ)
     (decisions : List Decision) (n : ℕ) : Type 0 where
   pub decision : Decision
-  pub decided : IsDecidedAlone architecture output symbols kept bytes section n
-      (relocation_in bytes n) decision
-  pub writes : 0 < (window_of decision).len
+  pub decided : IsDecidedAlone s kept bytes section n (relocation_in bytes n) decision
+  pub writes : start_by decision (relocation_in bytes n).offset
+      < end_by decision (relocation_in bytes n).offset
   pub before : ℕ
   pub is_before : before < n
-  pub is_written : 0 < len_at decisions before
-  pub overlap : (relocation_in bytes n).offset - (window_of decision).back
+  pub is_written : start_at bytes decisions before < end_at bytes decisions before
+  pub overlap : start_by decision (relocation_in bytes n).offset
       < end_at bytes decisions before
 
 -- Those below the index are decided. That at the index isn't.
+abbrev pub IsRejectedIn : Setting → List KeptGroups → List ℕ → List ℕ → List Decision
+    → RewritingError → Type 0
+IsRejectedIn s kept bytes section decisions TooShort = length decisions < length bytes / 24
+IsRejectedIn s kept bytes section decisions (NotSurveyed n) =
+    (n < length bytes / 24) × AreDecidedIn s kept bytes section decisions n
+    × IsNotSurveyed s kept bytes section n (relocation_in bytes n)
+IsRejectedIn s kept bytes section decisions (Overlaps n) =
+    (n < length bytes / 24) × AreDecidedIn s kept bytes section decisions n
+    × IsOverlapping s kept bytes section decisions n
+
+-- before addresses are known
 abbrev pub IsRejected : Architecture → OutputFacts → List SymbolFacts → List KeptGroups → List ℕ
     → List ℕ → List Decision → RewritingError → Type 0
-IsRejected architecture output symbols kept bytes section decisions TooShort =
-    length decisions < length bytes / 24
-IsRejected architecture output symbols kept bytes section decisions (NotSurveyed n) =
-    (n < length bytes / 24)
-    × AreDecided architecture output symbols kept bytes section decisions n
-    × IsNotSurveyed architecture output symbols kept bytes section n (relocation_in bytes n)
-IsRejected architecture output symbols kept bytes section decisions (Overlaps n) =
-    (n < length bytes / 24)
-    × AreDecided architecture output symbols kept bytes section decisions n
-    × IsOverlapping architecture output symbols kept bytes section decisions n
+IsRejected architecture output symbols = IsRejectedIn (early architecture output symbols)
+
+-- and once they are: there may also be less room for deletions than there are
+abbrev pub IsRejectedPlaced : Setting → List KeptGroups → List ℕ → List ℕ → List Decision → ℕ
+    → RewritingError → Type 0
+IsRejectedPlaced s kept bytes section decisions room TooShort =
+    (length decisions < length bytes / 24)
+    ⊎ (AreDecidedIn s kept bytes section decisions (length bytes / 24)
+    × (room < length (deletions_by bytes decisions (length bytes / 24))))
+IsRejectedPlaced s kept bytes section decisions room error =
+    IsRejectedIn s kept bytes section decisions error
+
+-- ---- what decisions follow from
+
+-- All that is decided follows from which groups stay.
+abbrev pub DecisionsFollow : Type 0
+DecisionsFollow =
+    (s : Setting) (kept kept_too : List KeptGroups) (bytes section : List ℕ)
+    (decisions others : List Decision) (limit : ℕ)
+    → ((group : Group) (symbol : ℕ)
+    → (IsTrue (stays_at kept group symbol) ↔ IsTrue (stays_at kept_too group symbol)))
+    → AreDecidedIn s kept bytes section decisions limit
+    → AreDecidedIn s kept_too bytes section others limit
+    → (n : ℕ) → n < limit → decision_at decisions n ≡ decision_at others n

@@ -1,9 +1,19 @@
 -- What a relocation's rewrite is chosen by before addresses are known, from the facts of its symbol
 -- and of the output (the psABIs' sections on symbols and on thread-local storage).
-use Rattle.std.specs.Prelude.{ℤ, ◌/◌, ◌==◌, ◌||◌, not, true, false, Bool}
+use Rattle.std.specs.Prelude.{ℕ, ℤ, ◌/◌, ◌==◌, ◌||◌, ◌&&◌, not, true, false, Bool, List, []}
+use Rattle.std.specs.Prelude.{Option, Some, None, if◌then◌else◌, slice_get}
+use Rattle.linker_elf.specs.Value.{sum_64}
 use Rattle.linker_elf.specs.declared.elf.choice.LinkFacts.{LinkFacts}
 use Rattle.linker_rewriting.specs.declared.facts.OutputFacts.{OutputFacts}
 use Rattle.linker_rewriting.specs.declared.facts.SymbolFacts.{SymbolFacts}
+use Rattle.linker_rewriting.specs.declared.phases.Phase.{Phase}
+use Rattle.linker_rewriting.specs.declared.phases.Phase.TheVariants.{Early, ThreadOffsets}
+use Rattle.linker_section.specs.declared.facts.Addresses.{Addresses}
+use Rattle.linker_section.specs.declared.facts.Symbol.{Symbol}
+use Rattle.linker_section.specs.declared.relocations.Rela.{Rela}
+use Rattle.linker_utils.specs.declared.elf.Architecture.{Architecture}
+
+-- ---- before addresses are known
 
 -- its address is a number, wherever the output is loaded
 abbrev pub has_own_address : SymbolFacts → Bool
@@ -49,3 +59,109 @@ facts_of output symbol addend =
         tls_base = 0;
       };
     }
+
+-- ---- once they are
+
+-- S, which counts as the thread pointer's address of a thread-local symbol that nothing defines
+abbrev pub address_in : Addresses → Symbol → ℕ
+address_in addresses value =
+    if value.is_undefined_weak then (if value.is_thread_local then addresses.thread_origin else 0)
+    else value.address
+
+-- An executable whose definition of the symbol is used: what a rewrite to local-exec requires. In the
+-- phase of offsets from the thread pointer no other one is made.
+abbrev pub is_executable_in : Phase → OutputFacts → SymbolFacts → Bool
+is_executable_in ThreadOffsets output symbol =
+    output.is_executable && (symbol.is_local && not symbol.is_ifunc)
+is_executable_in phase output symbol = output.is_executable
+
+-- The facts of a relocation at an offset, of a symbol and an addend, where each other one of its group
+-- can be rewritten. The distance to a symbol that nothing defines isn't that of its value.
+abbrev pub placed_facts : Phase → OutputFacts → Addresses → SymbolFacts → Symbol → ℕ → ℤ → Bool
+    → LinkFacts
+placed_facts phase output addresses symbol value offset addend marked =
+    record {
+      is_local = symbol.is_local;
+      is_ifunc = symbol.is_ifunc;
+      is_undefined_weak = symbol.is_undefined_weak;
+      has_fixed_address = output.is_fixed || has_own_address symbol;
+      has_fixed_distance = (output.is_fixed || not (has_own_address symbol))
+          && not symbol.is_undefined_weak;
+      is_executable = is_executable_in phase output symbol;
+      has_local_exec_base = true;
+      may_compress = false;
+      is_relaxable = marked;
+      has_got_high_part = true;
+      is_label_relaxable = marked;
+      toc_base_is_exclusive = true;
+      may_change_toc = may_change_toc symbol;
+      group_fits = true;
+      has_addresses = true;
+      operands = record {
+        addend = addend;
+        symbol = address_in addresses value;
+        place = sum_64 addresses.section offset;
+        got_entry = 0;
+        got_base = addresses.got_base;
+        plt_entry = 0;
+        symbol_size = 0;
+        tls_base = addresses.thread_origin;
+      };
+    }
+
+-- ---- in any phase
+
+-- What rewrites are chosen by: the architecture, the phase, the output, and an object's symbols, with
+-- addresses once they are known.
+pub record Setting : Type 0 where
+  pub architecture : Architecture
+  pub phase : Phase
+  pub output : OutputFacts
+  pub symbols : List SymbolFacts
+  pub addresses : Addresses
+  pub values : List Symbol
+
+abbrev pub setting : Architecture → Phase → OutputFacts → List SymbolFacts → Addresses
+    → List Symbol → Setting
+setting architecture phase output symbols addresses values =
+    record {
+      architecture = architecture;
+      phase = phase;
+      output = output;
+      symbols = symbols;
+      addresses = addresses;
+      values = values;
+    }
+
+abbrev pub no_addresses : Addresses
+no_addresses =
+    record { section = 0; got_base = 0; thread_origin = 0; module_origin = 0; module_entry = 0 }
+
+abbrev pub early : Architecture → OutputFacts → List SymbolFacts → Setting
+early architecture output symbols = setting architecture Early output symbols no_addresses []
+
+-- The facts of a relocation whose subject is another one or itself: that whose symbol and addend count.
+-- None where a table has no entry for the symbol.
+abbrev pub facts_with : Phase → OutputFacts → Addresses → Rela → Rela → Bool → SymbolFacts
+    → Option Symbol → Option LinkFacts
+facts_with phase output addresses r subject marked symbol None = None
+facts_with phase output addresses r subject marked symbol (Some value) =
+    Some (placed_facts phase output addresses symbol value r.offset subject.addend marked)
+
+abbrev pub facts_at : Phase → OutputFacts → Addresses → List Symbol → Rela → Rela → Bool
+    → SymbolFacts → Option LinkFacts
+facts_at Early output addresses values r subject marked symbol =
+    Some (facts_of output symbol subject.addend)
+facts_at phase output addresses values r subject marked symbol =
+    facts_with phase output addresses r subject marked symbol (slice_get values subject.symbol)
+
+abbrev pub facts_by : Phase → OutputFacts → Addresses → List Symbol → Rela → Rela → Bool
+    → Option SymbolFacts → Option LinkFacts
+facts_by phase output addresses values r subject marked None = None
+facts_by phase output addresses values r subject marked (Some symbol) =
+    facts_at phase output addresses values r subject marked symbol
+
+abbrev pub link_facts : Phase → OutputFacts → List SymbolFacts → Addresses → List Symbol → Rela
+    → Rela → Bool → Option LinkFacts
+link_facts phase output symbols addresses values r subject marked =
+    facts_by phase output addresses values r subject marked (slice_get symbols subject.symbol)

@@ -1,12 +1,11 @@
--- Which relocations a rewrite is made at before addresses are known, and which are a group, whose
--- instructions are rewritten all or not at all (ELF Handling For Thread-Local Storage; the psABIs'
--- sections on relaxation, "TOC Optimizations" and "TLS Linkage Optimizations" of the 64-Bit ELF V2
--- ABI).
+-- Which relocations a rewrite is made at, in which phase, and which are a group, whose instructions
+-- are rewritten all or not at all (ELF Handling For Thread-Local Storage; the psABIs' sections on
+-- relaxation, "TOC Optimizations" and "TLS Linkage Optimizations" of the 64-Bit ELF V2 ABI).
 use Rattle.std.specs.Prelude.{◌≡◌, ℕ, Bool, true, false, ◌||◌, List, Option, Some, None, slice_get}
-use Rattle.linker_elf.specs.ElfNames.{ElfName, IsNameOf, IsNamed}
 use Rattle.linker_elf.specs.AArch64Relocations.{aarch64_name}
 use Rattle.linker_elf.specs.LoongArchRelocations.{loongarch_name}
 use Rattle.linker_elf.specs.Ppc64Relocations.{ppc64_name}
+use Rattle.linker_elf.specs.RiscVRelocations.{riscv_name}
 use Rattle.linker_elf.specs.X86Relocations.{x86_64_name}
 use Rattle.linker_elf.specs.declared.aarch64.relocations.AArch64Relocation.{AArch64Relocation}
 use Rattle.linker_elf.specs.declared.aarch64.relocations.AArch64Relocation.TheVariants as aarch64
@@ -14,6 +13,8 @@ use Rattle.linker_elf.specs.declared.loongarch64.relocations.LoongArch64Relocati
 use Rattle.linker_elf.specs.declared.loongarch64.relocations.LoongArch64Relocation.TheVariants as loongarch64
 use Rattle.linker_elf.specs.declared.ppc64.relocations.Ppc64Relocation.{Ppc64Relocation}
 use Rattle.linker_elf.specs.declared.ppc64.relocations.Ppc64Relocation.TheVariants as ppc64
+use Rattle.linker_elf.specs.declared.riscv64.relocations.RiscVRelocation.{RiscVRelocation}
+use Rattle.linker_elf.specs.declared.riscv64.relocations.RiscVRelocation.TheVariants as riscv64
 use Rattle.linker_elf.specs.declared.x86_64.relocations.X86_64Relocation.{X86_64Relocation}
 use Rattle.linker_elf.specs.declared.x86_64.relocations.X86_64Relocation.TheVariants as x86_64
 use Rattle.linker_rewriting.specs.declared.groups.Group.{Group}
@@ -23,12 +24,16 @@ use Rattle.linker_rewriting.specs.declared.groups.Group.TheVariants.{GotLoad}
 use Rattle.linker_rewriting.specs.declared.groups.KeptGroups.{KeptGroups}
 use Rattle.linker_rewriting.specs.declared.groups.Scope.{Scope}
 use Rattle.linker_rewriting.specs.declared.groups.Scope.TheVariants.{Unlisted, Alone, Grouped}
+use Rattle.linker_rewriting.specs.declared.groups.Scope.TheVariants.{Ahead, Matched}
+use Rattle.linker_rewriting.specs.declared.phases.Phase.{Phase}
+use Rattle.linker_rewriting.specs.declared.phases.Phase.TheVariants.{Early, ThreadOffsets}
+use Rattle.linker_rewriting.specs.declared.phases.Phase.TheVariants.{GotLoads, Distances}
 use Rattle.linker_utils.specs.Architectures.{IsOf}
 use Rattle.linker_utils.specs.declared.elf.Architecture.{Architecture}
 use Rattle.linker_utils.specs.declared.elf.Architecture.TheVariants.{AArch64, RiscV, LoongArch64}
 use Rattle.linker_utils.specs.declared.elf.Architecture.TheVariants.{Ppc64, X86_64}
 
--- ---- scopes
+-- ---- scopes before addresses are known
 
 abbrev pub aarch64_scope : AArch64Relocation → Scope
 aarch64_scope aarch64.R_AARCH64_CALL26 = Alone
@@ -42,6 +47,8 @@ aarch64_scope aarch64.R_AARCH64_TLSDESC_CALL = Grouped Descriptor
 aarch64_scope name = Unlisted
 
 abbrev pub loongarch_scope : LoongArch64Relocation → Scope
+loongarch_scope loongarch64.R_LARCH_GOT_PC_HI20 = Grouped GotLoad
+loongarch_scope loongarch64.R_LARCH_GOT_PC_LO12 = Grouped GotLoad
 loongarch_scope loongarch64.R_LARCH_TLS_IE_PC_HI20 = Grouped InitialExec
 loongarch_scope loongarch64.R_LARCH_TLS_IE_PC_LO12 = Grouped InitialExec
 loongarch_scope loongarch64.R_LARCH_TLS_IE64_PC_LO20 = Grouped InitialExec
@@ -105,28 +112,79 @@ x86_64_scope x86_64.R_X86_64_CODE_6_GOTPC32_TLSDESC = Grouped Descriptor
 x86_64_scope x86_64.R_X86_64_TLSDESC_CALL = Grouped Descriptor
 x86_64_scope name = Unlisted
 
--- that of a code; RISC-V's rewrites all wait for addresses
+-- ---- scopes in any phase
+
+abbrev pub aarch64_scope_in : Phase → AArch64Relocation → Scope
+aarch64_scope_in Early name = aarch64_scope name
+aarch64_scope_in GotLoads aarch64.R_AARCH64_ADR_GOT_PAGE = Grouped GotLoad
+aarch64_scope_in GotLoads aarch64.R_AARCH64_LD64_GOT_LO12_NC = Grouped GotLoad
+aarch64_scope_in Distances aarch64.R_AARCH64_ADR_PREL_PG_HI21 = Ahead
+aarch64_scope_in Distances aarch64.R_AARCH64_ADD_ABS_LO12_NC = Alone
+aarch64_scope_in phase name = Unlisted
+
+-- all of RISC-V's wait for addresses
+abbrev pub riscv_scope_in : Phase → RiscVRelocation → Scope
+riscv_scope_in ThreadOffsets riscv64.R_RISCV_TPREL_HI20 = Grouped InitialExec
+riscv_scope_in ThreadOffsets riscv64.R_RISCV_TPREL_ADD = Grouped InitialExec
+riscv_scope_in ThreadOffsets riscv64.R_RISCV_TPREL_LO12_I = Grouped InitialExec
+riscv_scope_in ThreadOffsets riscv64.R_RISCV_TPREL_LO12_S = Grouped InitialExec
+riscv_scope_in phase name = Unlisted
+
+abbrev pub loongarch_scope_in : Phase → LoongArch64Relocation → Scope
+loongarch_scope_in Early name = loongarch_scope name
+loongarch_scope_in ThreadOffsets loongarch64.R_LARCH_TLS_LE_HI20_R = Grouped InitialExec
+loongarch_scope_in ThreadOffsets loongarch64.R_LARCH_TLS_LE_ADD_R = Grouped InitialExec
+loongarch_scope_in ThreadOffsets loongarch64.R_LARCH_TLS_LE_LO12_R = Grouped InitialExec
+loongarch_scope_in phase name = Unlisted
+
+abbrev pub ppc64_scope_in : Phase → Ppc64Relocation → Scope
+ppc64_scope_in Early name = ppc64_scope name
+ppc64_scope_in ThreadOffsets ppc64.R_PPC64_TPREL16_HA = Grouped InitialExec
+ppc64_scope_in ThreadOffsets ppc64.R_PPC64_TPREL16_LO = Grouped InitialExec
+ppc64_scope_in ThreadOffsets ppc64.R_PPC64_TPREL16_LO_DS = Grouped InitialExec
+ppc64_scope_in Distances ppc64.R_PPC64_TOC16_HA = Matched GotLoad
+ppc64_scope_in Distances ppc64.R_PPC64_TOC16_LO = Matched GotLoad
+ppc64_scope_in Distances ppc64.R_PPC64_TOC16_LO_DS = Matched GotLoad
+ppc64_scope_in phase name = Unlisted
+
+abbrev pub x86_64_scope_in : Phase → X86_64Relocation → Scope
+x86_64_scope_in Early name = x86_64_scope name
+x86_64_scope_in phase name = Unlisted
+
+-- that of a code
+abbrev pub IsScopeIn : Architecture → Phase → ℕ → Scope → Type 0
+IsScopeIn AArch64 phase = IsOf aarch64_name (aarch64_scope_in phase)
+IsScopeIn RiscV phase = IsOf riscv_name (riscv_scope_in phase)
+IsScopeIn LoongArch64 phase = IsOf loongarch_name (loongarch_scope_in phase)
+IsScopeIn Ppc64 phase = IsOf ppc64_name (ppc64_scope_in phase)
+IsScopeIn X86_64 phase = IsOf x86_64_name (x86_64_scope_in phase)
+
+-- a phase has rewrites
+abbrev pub has_rewrites : Architecture → Phase → Bool
+has_rewrites AArch64 ThreadOffsets = false
+has_rewrites AArch64 phase = true
+has_rewrites RiscV ThreadOffsets = true
+has_rewrites RiscV phase = false
+has_rewrites LoongArch64 Early = true
+has_rewrites LoongArch64 ThreadOffsets = true
+has_rewrites LoongArch64 phase = false
+has_rewrites Ppc64 GotLoads = false
+has_rewrites Ppc64 phase = true
+has_rewrites X86_64 Early = true
+has_rewrites X86_64 phase = false
+
+-- in one without them no relocation has a scope
+abbrev pub IsUnlistedUnless : Architecture → Phase → Bool → Type 0
+IsUnlistedUnless architecture phase true = Unit {0}
+IsUnlistedUnless architecture phase false =
+    (code : ℕ) (scope : Scope) → IsScopeIn architecture phase code scope → scope ≡ Unlisted
+
 abbrev pub IsScope : Architecture → ℕ → Scope → Type 0
-IsScope AArch64 = IsOf aarch64_name aarch64_scope
-IsScope LoongArch64 = IsOf loongarch_name loongarch_scope
-IsScope Ppc64 = IsOf ppc64_name ppc64_scope
-IsScope X86_64 = IsOf x86_64_name x86_64_scope
-IsScope RiscV = λ code scope. scope ≡ Unlisted
+IsScope architecture = IsScopeIn architecture Early
 
--- a code is of a group's kind, by its name among names
-pub record IsNamedInGroup {Name : Type 0} (elf : Name → ElfName) (scope_of : Name → Scope)
-    (code : ℕ) (group : Group) : Type 0 where
-  pub name : Name
-  pub is_name : IsNameOf elf code name
-  pub is_named : IsNamed (elf name)
-  pub grouped : scope_of name ≡ Grouped group
-
-abbrev pub IsInGroup : Architecture → ℕ → Group → Type 0
-IsInGroup AArch64 = IsNamedInGroup aarch64_name aarch64_scope
-IsInGroup LoongArch64 = IsNamedInGroup loongarch_name loongarch_scope
-IsInGroup Ppc64 = IsNamedInGroup ppc64_name ppc64_scope
-IsInGroup X86_64 = IsNamedInGroup x86_64_name x86_64_scope
-IsInGroup RiscV = λ code group. ⊥
+-- a code is of a group's kind
+abbrev pub IsInGroupIn : Architecture → Phase → ℕ → Group → Type 0
+IsInGroupIn architecture phase code group = IsScopeIn architecture phase code (Grouped group)
 
 -- the index of the symbol whose groups it is one of: 0 of what is one group in the whole object
 abbrev pub symbol_of_group : Group → ℕ → ℕ

@@ -3,11 +3,16 @@ use Rattle.std.specs.Prelude.{◌≡◌, ℕ, ◌<◌, ◌≤◌, ◌⊎◌, Lis
 use Rattle.std.specs.Prelude.{Option, None, Some, false}
 use Rattle.linker_base.specs.Rewrite.{Rewrite, rewrite_window, rewritten}
 use Rattle.linker_base.specs.Rewrite.{offset_after, addend_after}
-use Rattle.linker_rewriting.specs.Decisions.{decision_at, is_taken, start_at, end_at}
-use Rattle.linker_rewriting.specs.Groups.{IsInGroup, symbol_of_group}
+use Rattle.linker_rewriting.specs.Decisions.{decision_at, is_taken, start_at, written_end_at}
+use Rattle.linker_rewriting.specs.Decisions.{AreDecidedIn}
+use Rattle.linker_rewriting.specs.Facts.{Setting}
+use Rattle.linker_rewriting.specs.Groups.{IsInGroupIn, symbol_of_group}
 use Rattle.linker_rewriting.specs.declared.decisions.Decision.{Decision}
 use Rattle.linker_rewriting.specs.declared.decisions.Decision.TheVariants.{Kept, Rewritten, TakenAlong}
 use Rattle.linker_rewriting.specs.declared.groups.Group.{Group}
+use Rattle.linker_rewriting.specs.declared.groups.KeptGroups.{KeptGroups}
+use Rattle.linker_rewriting.specs.declared.phases.Phase.{Phase}
+use Rattle.linker_rewriting.specs.declared.phases.Phase.TheVariants.{Early}
 use Rattle.linker_section.specs.Relocations.{relocation_in}
 use Rattle.linker_section.specs.declared.relocations.Rela.{Rela}
 use Rattle.linker_utils.specs.Architectures.{relaxation_rewrite}
@@ -61,7 +66,7 @@ abbrev pub OthersStay : List ℕ → List Decision → List ℕ → List ℕ →
 OthersStay bytes decisions before after limit =
     (at : ℕ)
     → ((n : ℕ) → n < limit
-    → (at < start_at bytes decisions n) ⊎ (end_at bytes decisions n ≤ at))
+    → (at < start_at bytes decisions n) ⊎ (written_end_at bytes decisions n ≤ at))
     → get_or after at 0 ≡ get_or before at 0
 
 -- ---- groups
@@ -71,12 +76,32 @@ IsRewritten (Rewritten chosen) = Unit {0}
 IsRewritten decision = ⊥
 
 -- of a group the relocations that no other takes along are all rewritten, or none is
-abbrev pub GroupsAreWhole : Architecture → List ℕ → List Decision → ℕ → Type 0
-GroupsAreWhole architecture bytes decisions limit =
+abbrev pub GroupsAreWholeIn : Architecture → Phase → List ℕ → List Decision → ℕ → Type 0
+GroupsAreWholeIn architecture phase bytes decisions limit =
     (i j : ℕ) (group : Group) → i < limit → j < limit
-    → IsInGroup architecture (relocation_in bytes i).code group
-    → IsInGroup architecture (relocation_in bytes j).code group
+    → IsInGroupIn architecture phase (relocation_in bytes i).code group
+    → IsInGroupIn architecture phase (relocation_in bytes j).code group
     → symbol_of_group group (relocation_in bytes i).symbol
     ≡ symbol_of_group group (relocation_in bytes j).symbol
     → is_taken decisions i ≡ false → is_taken decisions j ≡ false
     → IsRewritten (decision_at decisions i) → IsRewritten (decision_at decisions j)
+
+-- before addresses are known
+abbrev pub GroupsAreWhole : Architecture → List ℕ → List Decision → ℕ → Type 0
+GroupsAreWhole architecture = GroupsAreWholeIn architecture Early
+
+-- In two sections of an object that are decided by one table, each at its address, all of a group are
+-- rewritten too, or none is.
+abbrev pub GroupsAreWholeAcross : Type 0
+GroupsAreWholeAcross =
+    (s other : Setting) (kept : List KeptGroups) (bytes section others_bytes others_section : List ℕ)
+    (decisions others : List Decision) (limit others_limit : ℕ)
+    → AreDecidedIn s kept bytes section decisions limit
+    → AreDecidedIn other kept others_bytes others_section others others_limit
+    → (i j : ℕ) (group : Group) → i < limit → j < others_limit
+    → IsInGroupIn s.architecture s.phase (relocation_in bytes i).code group
+    → IsInGroupIn other.architecture other.phase (relocation_in others_bytes j).code group
+    → symbol_of_group group (relocation_in bytes i).symbol
+    ≡ symbol_of_group group (relocation_in others_bytes j).symbol
+    → is_taken decisions i ≡ false → is_taken others j ≡ false
+    → IsRewritten (decision_at decisions i) → IsRewritten (decision_at others j)

@@ -1,9 +1,12 @@
 -- Which groups stay, since one of their instructions can't be rewritten.
-use Rattle.std.specs.Prelude.{◌≡◌, ℕ, zero, suc, ◌<◌, ◌⊎◌, ◌↔◌, ◌&&◌, ◌==◌, not, Bool, true, false}
-use Rattle.std.specs.Prelude.{IsTrue, List, Option, Some, None, slice_get}
+use Rattle.std.specs.Prelude.{◌≡◌, ℕ, zero, suc, ◌<◌, ◌/◌, ◌⊎◌, ◌↔◌, ◌&&◌, ◌==◌, not, Bool, true}
+use Rattle.std.specs.Prelude.{false, IsTrue, List, length, Option, Some, None, slice_get}
 use Rattle.linker_elf.specs.declared.elf.choice.Choice.{Choice}
-use Rattle.linker_rewriting.specs.Candidates.{IsCandidate, calls_tls_get_addr}
-use Rattle.linker_rewriting.specs.Groups.{IsScope, IsMark, stays_at, symbol_of_group}
+use Rattle.linker_rewriting.specs.Candidates.{IsCandidate, IsMatched, calls_tls_get_addr}
+use Rattle.linker_rewriting.specs.Facts.{Setting, early}
+use Rattle.linker_rewriting.specs.Groups.{IsScopeIn, IsMark, stays_at, symbol_of_group}
+use Rattle.linker_rewriting.specs.declared.decisions.RewritingError.{RewritingError}
+use Rattle.linker_rewriting.specs.declared.decisions.RewritingError.TheVariants.{NotSurveyed}
 use Rattle.linker_rewriting.specs.declared.facts.OutputFacts.{OutputFacts}
 use Rattle.linker_rewriting.specs.declared.facts.SymbolFacts.{SymbolFacts}
 use Rattle.linker_rewriting.specs.declared.groups.Group.{Group}
@@ -11,7 +14,9 @@ use Rattle.linker_rewriting.specs.declared.groups.Group.TheVariants.{InitialExec
 use Rattle.linker_rewriting.specs.declared.groups.Group.TheVariants.{LocalDynamic}
 use Rattle.linker_rewriting.specs.declared.groups.KeptGroups.{KeptGroups}
 use Rattle.linker_rewriting.specs.declared.groups.Scope.{Scope}
-use Rattle.linker_rewriting.specs.declared.groups.Scope.TheVariants.{Grouped}
+use Rattle.linker_rewriting.specs.declared.groups.Scope.TheVariants.{Grouped, Matched}
+use Rattle.linker_rewriting.specs.declared.phases.Phase.{Phase}
+use Rattle.linker_rewriting.specs.declared.phases.Phase.TheVariants.{Early}
 use Rattle.linker_section.specs.Relocations.{relocation_in}
 use Rattle.linker_section.specs.declared.relocations.Rela.{Rela}
 use Rattle.linker_utils.specs.declared.architecture.Relaxation.{Relaxation}
@@ -34,10 +39,14 @@ IsUnmarkedBy true bytes n r unmarked =
 
 -- PowerPC64: a use of `__tls_get_addr` without a mark, of which nobody knows whose address it is
 -- called for (64-Bit ELF V2 ABI, "TLS Linkage Optimizations")
-abbrev pub IsUnmarked : Architecture → List SymbolFacts → List ℕ → ℕ → Rela → Bool → Type 0
-IsUnmarked Ppc64 symbols bytes n r unmarked =
+abbrev pub IsUnmarkedIn : Phase → Architecture → List SymbolFacts → List ℕ → ℕ → Rela → Bool
+    → Type 0
+IsUnmarkedIn Early Ppc64 symbols bytes n r unmarked =
     IsUnmarkedBy (calls_tls_get_addr (slice_get symbols r.symbol)) bytes n r unmarked
-IsUnmarked architecture symbols bytes n r unmarked = unmarked ≡ false
+IsUnmarkedIn phase architecture symbols bytes n r unmarked = unmarked ≡ false
+
+abbrev pub IsUnmarked : Setting → List ℕ → ℕ → Rela → Bool → Type 0
+IsUnmarked s = IsUnmarkedIn s.phase s.architecture s.symbols
 
 -- it keeps these
 abbrev pub IsThreadLocal : Group → Type 0
@@ -46,22 +55,22 @@ IsThreadLocal GeneralDynamic = Unit {0}
 IsThreadLocal LocalDynamic = Unit {0}
 IsThreadLocal group = ⊥
 
-abbrev pub HasRewrite : Architecture → OutputFacts → List SymbolFacts → List ℕ → List ℕ → ℕ → Rela
-    → Scope → Type 0
-HasRewrite architecture output symbols bytes section n r (Grouped group) =
-    (chosen : Choice Relaxation ℕ)
-    × IsCandidate architecture output symbols bytes section n r (Some chosen)
-HasRewrite architecture output symbols bytes section n r scope = Unit {0}
+abbrev pub HasRewrite : Setting → List ℕ → List ℕ → ℕ → Rela → Scope → Type 0
+HasRewrite s bytes section n r (Grouped group) =
+    (chosen : Choice Relaxation ℕ) × IsCandidate s bytes section n r (Some chosen)
+HasRewrite s bytes section n r (Matched group) = IsMatched s bytes section n r true
+HasRewrite s bytes section n r scope = Unit {0}
 
 -- the kind of groups that a relocation keeps, since it has no rewrite, though it is of one
-abbrev pub IsKeeping : Architecture → OutputFacts → List SymbolFacts → List ℕ → List ℕ → ℕ → Rela
-    → Option Group → Type 0
-IsKeeping architecture output symbols bytes section n r (Some group) =
-    IsScope architecture r.code (Grouped group)
-    × IsCandidate architecture output symbols bytes section n r None
-IsKeeping architecture output symbols bytes section n r None =
-    (scope : Scope) × IsScope architecture r.code scope
-    × HasRewrite architecture output symbols bytes section n r scope
+abbrev pub IsKeeping : Setting → List ℕ → List ℕ → ℕ → Rela → Option Group → Type 0
+IsKeeping s bytes section n r (Some group) =
+    (IsScopeIn s.architecture s.phase r.code (Grouped group)
+    × IsCandidate s bytes section n r None)
+    ⊎ (IsScopeIn s.architecture s.phase r.code (Matched group)
+    × IsMatched s bytes section n r false)
+IsKeeping s bytes section n r None =
+    (scope : Scope) × IsScopeIn s.architecture s.phase r.code scope
+    × HasRewrite s bytes section n r scope
 
 -- ---- tables before and after
 
@@ -93,34 +102,66 @@ abbrev pub AllStayIf : Bool → List KeptGroups → Type 0
 AllStayIf false after = Unit {0}
 AllStayIf true after = (group : Group) → IsThreadLocal group → IsTrue (stays_at after group 0)
 
-pub record IsNoted (architecture : Architecture) (output : OutputFacts)
-    (symbols : List SymbolFacts) (bytes section : List ℕ) (after : List KeptGroups) (n : ℕ)
+pub record IsNoted (s : Setting) (bytes section : List ℕ) (after : List KeptGroups) (n : ℕ)
     : Type 0 where
   pub group : Option Group
-  pub is_keeping : IsKeeping architecture output symbols bytes section n (relocation_in bytes n)
-      group
+  pub is_keeping : IsKeeping s bytes section n (relocation_in bytes n) group
   pub stays : StaysBy after (relocation_in bytes n).symbol group
   pub unmarked : Bool
-  pub is_unmarked : IsUnmarked architecture symbols bytes n (relocation_in bytes n) unmarked
+  pub is_unmarked : IsUnmarked s bytes n (relocation_in bytes n) unmarked
   pub all_stay : AllStayIf unmarked after
 
--- a relocation is why a group stays
-abbrev pub IsCause : Architecture → OutputFacts → List SymbolFacts → List ℕ → List ℕ → ℕ → Group
-    → ℕ → Type 0
-IsCause architecture output symbols bytes section n group symbol =
-    (IsKeeping architecture output symbols bytes section n (relocation_in bytes n) (Some group)
-    × (symbol ≡ symbol_of_group group (relocation_in bytes n).symbol))
-    ⊎ (IsUnmarked architecture symbols bytes n (relocation_in bytes n) true
-    × IsThreadLocal group × (symbol ≡ 0))
+-- of the relocations with an index below a limit each that keeps a group is noted
+abbrev pub AreNoted : Setting → List ℕ → List ℕ → List KeptGroups → ℕ → Type 0
+AreNoted s bytes section after limit = (n : ℕ) → n < limit → IsNoted s bytes section after n
 
--- Of the relocations with an index below a limit each that keeps a group is noted. What stayed
--- before stays, and what else stays has a cause.
-pub record IsSurveyed (architecture : Architecture) (output : OutputFacts)
-    (symbols : List SymbolFacts) (bytes section : List ℕ) (before after : List KeptGroups)
+-- a relocation is why a group stays
+abbrev pub IsCause : Setting → List ℕ → List ℕ → ℕ → Group → ℕ → Type 0
+IsCause s bytes section n group symbol =
+    (IsKeeping s bytes section n (relocation_in bytes n) (Some group)
+    × (symbol ≡ symbol_of_group group (relocation_in bytes n).symbol))
+    ⊎ (IsUnmarked s bytes n (relocation_in bytes n) true × IsThreadLocal group × (symbol ≡ 0))
+
+-- They are noted. What stayed before stays, and what else stays has a cause.
+pub record IsSurveyedIn (s : Setting) (bytes section : List ℕ) (before after : List KeptGroups)
     (limit : ℕ) : Type 0 where
-  pub noted : (n : ℕ) → n < limit → IsNoted architecture output symbols bytes section after n
+  pub noted : AreNoted s bytes section after limit
   pub stayed : (group : Group) (symbol : ℕ) → IsTrue (stays_at before group symbol)
       → IsTrue (stays_at after group symbol)
   pub caused : (group : Group) (symbol : ℕ) → IsTrue (stays_at after group symbol)
       → IsTrue (stays_at before group symbol)
-      ⊎ ((n : ℕ) × (n < limit) × IsCause architecture output symbols bytes section n group symbol)
+      ⊎ ((n : ℕ) × (n < limit) × IsCause s bytes section n group symbol)
+
+-- before addresses are known
+abbrev pub IsSurveyed : Architecture → OutputFacts → List SymbolFacts → List ℕ → List ℕ
+    → List KeptGroups → List KeptGroups → ℕ → Type 0
+IsSurveyed architecture output symbols = IsSurveyedIn (early architecture output symbols)
+
+-- ---- surveyed sections
+
+-- an error that a section wasn't surveyed comes only where what it keeps isn't all noted
+abbrev pub MeansUnsurveyed : Setting → List ℕ → List ℕ → List KeptGroups → RewritingError → Type 0
+MeansUnsurveyed s bytes section kept (NotSurveyed n) =
+    ¬ AreNoted s bytes section kept (length bytes / 24)
+MeansUnsurveyed s bytes section kept error = Unit {0}
+
+-- what is noted of one section is still noted when another one has been surveyed
+abbrev pub NotesStay : Type 0
+NotesStay =
+    (s other : Setting) (bytes section others_bytes others_section : List ℕ)
+    (mid after : List KeptGroups) (limit others_limit : ℕ)
+    → AreNoted s bytes section mid limit
+    → IsSurveyedIn other others_bytes others_section mid after others_limit
+    → AreNoted s bytes section after limit
+
+-- two sections can be surveyed in either order: the same groups stay
+abbrev pub SurveysCommute : Type 0
+SurveysCommute =
+    (s other : Setting) (bytes section others_bytes others_section : List ℕ)
+    (before mid after mid_too after_too : List KeptGroups) (limit others_limit : ℕ)
+    → IsSurveyedIn s bytes section before mid limit
+    → IsSurveyedIn other others_bytes others_section mid after others_limit
+    → IsSurveyedIn other others_bytes others_section before mid_too others_limit
+    → IsSurveyedIn s bytes section mid_too after_too limit
+    → (group : Group) (symbol : ℕ)
+    → (IsTrue (stays_at after group symbol) ↔ IsTrue (stays_at after_too group symbol))

@@ -1,17 +1,23 @@
 //! Whether the instruction of a relocation can be rewritten, if each other one of its group can.
 
-ghost use Rattle.std.specs.Prelude.{◌≡◌, ◌+◌, ◌<◌, ◌≤◌, slice_get, IfSome};
+ghost use Rattle.std.specs.Prelude.{◌≡◌, ◌+◌, ◌<◌, ◌≤◌, slice_get, IfSome, true};
 ghost use Rattle.linker_base.specs.Rewrite.{CanRewrite};
 ghost use Rattle.linker_utils.specs.Architectures.{relaxation_rewrite, relaxation_skipped};
+ghost use Rattle.linker_utils.specs.Architectures.{relaxation_deleted};
 ghost use Rattle.linker_section.specs.Relocations.{relocation_at};
-ghost use Rattle.linker_rewriting.specs.Candidates.{IsCallIn, IsTaken, IsCandidate};
-ghost use Rattle.linker_rewriting.specs.Candidates.{calls_tls_get_addr};
+ghost use Rattle.linker_rewriting.specs.Candidates.{IsCallIn, IsTaken, IsCandidate, IsCandidateBy};
+ghost use Rattle.linker_rewriting.specs.Candidates.{calls_tls_get_addr, deletes_within};
+ghost use Rattle.linker_rewriting.specs.Candidates.{at_base, IsMatched};
+ghost use Rattle.linker_rewriting.specs.Facts.{setting};
 
-use crate::facts::{OutputFacts, SymbolFacts, facts_of};
-use crate::sequences::is_whole;
+use crate::facts::{OutputFacts, SymbolFacts, link_facts};
+use crate::phases::Phase;
+use crate::sequences::{is_marked_at, is_whole};
+use linker_base::rewrite::DeletedBytes;
+use linker_section::facts::{Addresses, Symbol};
 use linker_section::relocations::{Rela, relocation_at};
 use linker_utils::architecture::Relaxation;
-use linker_utils::elf::{Architecture, Choice};
+use linker_utils::elf::{Architecture, Choice, LinkFacts, Operands};
 
 /// Whether the symbol at an index is `__tls_get_addr`.
 #[inline(always)]
@@ -66,30 +72,42 @@ fn finds_next(
     }
 }
 
-/// The rewrite of the instruction of the relocation with an index, if each other one of its group is
-/// rewritten, and the code of the relocation after it. None where there is none: `choose` has no
-/// rewrite for it, the one that it has takes a relocation along that isn't the next one, or it is of a
-/// sequence whose relocations aren't all next to it.
-pub(crate) fn candidate(
+/// Whether what is deleted after a rewrite at an offset is in the section.
+#[inline(always)]
+fn deletes_within(section: &[u8], offset: u64, deleted: Option<DeletedBytes>) -> bool
+    ensures { result ≡ deletes_within section.now offset deleted }
+{
+    let Some(deleted) = deleted else {
+        return true;
+    };
+    let len = section.len() as u64;
+    if offset > len {
+        return false;
+    }
+    let room = len - offset;
+    deleted.start <= room && u64::from(deleted.count) <= room - deleted.start
+}
+
+/// The rewrite of the instruction of the relocation with an index by facts, and the code of the
+/// relocation after it, as `candidate` says.
+fn candidate_by(
     architecture: Architecture,
-    output: &OutputFacts,
     symbols: &[SymbolFacts],
     relocations: &[u8],
     section: &[u8],
     index: usize,
     relocation: &Rela,
+    facts: &LinkFacts,
 ) -> Option<Choice<Relaxation, u32>>
     requires { index + 3 ≤ usize.MAX }
-    ensures candidate { IsCandidate architecture output.now symbols.now relocations.now section.now
-        index relocation.now result }
+    ensures candidate { IsCandidateBy architecture symbols.now relocations.now section.now index
+        relocation.now facts.now result }
     ensures rewritable { IfSome result (λ chosen. CanRewrite (relaxation_rewrite chosen.kind)
         section.now relocation.now.offset) }
+    ensures deletes { IfSome result (λ chosen. deletes_within section.now relocation.now.offset
+        (relaxation_deleted chosen.kind) ≡ true) }
 {
-    let Some(symbol) = symbols.get(relocation.symbol as usize) else {
-        return None;
-    };
-    let facts = facts_of(output, symbol, relocation.addend);
-    let chosen = architecture.choose(relocation.code, section, relocation.offset, &facts);
+    let chosen = architecture.choose(relocation.code, section, relocation.offset, facts);
     if chosen.is_unchanged(relocation.code) {
         return None;
     }
@@ -106,5 +124,105 @@ pub(crate) fn candidate(
     if !is_whole(architecture, relocations, index, relocation) {
         return None;
     }
+    if !deletes_within(section, relocation.offset, chosen.kind.deleted()) {
+        return None;
+    }
     Some(chosen)
+}
+
+/// The rewrite of the instruction of the relocation with an index, if each other one of its group is
+/// rewritten, and the code of the relocation after it. None where there is none: `choose` has no
+/// rewrite for it, the one that it has takes a relocation along that isn't the next one or deletes
+/// bytes behind the section, or it is of a sequence whose relocations aren't all next to it.
+pub(crate) fn candidate(
+    architecture: Architecture,
+    phase: Phase,
+    output: &OutputFacts,
+    symbols: &[SymbolFacts],
+    addresses: &Addresses,
+    values: &[Symbol],
+    relocations: &[u8],
+    section: &[u8],
+    index: usize,
+    relocation: &Rela,
+) -> Option<Choice<Relaxation, u32>>
+    requires { index + 3 ≤ usize.MAX }
+    ensures candidate { IsCandidate (setting architecture phase output.now symbols.now addresses.now
+        values.now) relocations.now section.now index relocation.now result }
+    ensures rewritable { IfSome result (λ chosen. CanRewrite (relaxation_rewrite chosen.kind)
+        section.now relocation.now.offset) }
+    ensures deletes { IfSome result (λ chosen. deletes_within section.now relocation.now.offset
+        (relaxation_deleted chosen.kind) ≡ true) }
+{
+    let marked = is_marked_at(architecture, relocations, index, relocation);
+    let facts = link_facts(
+        phase, output, symbols, addresses, values, relocation, relocation, marked,
+    );
+    match facts {
+        Some(facts) => candidate_by(
+            architecture,
+            symbols,
+            relocations,
+            section,
+            index,
+            relocation,
+            &facts,
+        ),
+        None => None,
+    }
+}
+
+/// The same facts of what is where the GOT's or the TOC's base is, at the distance 0.
+#[inline(always)]
+fn at_base(facts: Option<LinkFacts>) -> Option<LinkFacts>
+    ensures { result ≡ at_base facts }
+{
+    match facts {
+        Some(facts) => Some(LinkFacts {
+            operands: Operands {
+                symbol: facts.operands.got_base,
+                addend: 0,
+                ..facts.operands
+            },
+            ..facts
+        }),
+        None => None,
+    }
+}
+
+/// Whether the instruction of the relocation with an index is one that its rewrite is meant for,
+/// whatever the distance.
+pub(crate) fn is_matched(
+    architecture: Architecture,
+    phase: Phase,
+    output: &OutputFacts,
+    symbols: &[SymbolFacts],
+    addresses: &Addresses,
+    values: &[Symbol],
+    relocations: &[u8],
+    section: &[u8],
+    index: usize,
+    relocation: &Rela,
+) -> bool
+    requires { index + 3 ≤ usize.MAX }
+    ensures { IsMatched (setting architecture phase output.now symbols.now addresses.now values.now)
+        relocations.now section.now index relocation.now result }
+{
+    let marked = is_marked_at(architecture, relocations, index, relocation);
+    let facts = link_facts(
+        phase, output, symbols, addresses, values, relocation, relocation, marked,
+    );
+    let Some(facts) = at_base(facts) else {
+        return false;
+    };
+    candidate_by(
+        architecture,
+        symbols,
+        relocations,
+        section,
+        index,
+        relocation,
+        &facts,
+    )
+    .is_some()
 }

@@ -1,16 +1,22 @@
 //! What becomes of each relocation of a section and of its instruction.
 
 ghost use Rattle.std.specs.Prelude.{◌≡◌, ◌<◌, ◌≤◌, ◌+◌, ◌-◌, ◌/◌, length, IfSome, IfErr, OnOk};
-ghost use Rattle.linker_section.specs.Relocations.{relocation_in};
+ghost use Rattle.linker_section.specs.Relocations.{relocation_in, relocation_at};
 ghost use Rattle.linker_rewriting.specs.Decisions.{takes_next, window_of, IsDecision, CanBeMade};
-ghost use Rattle.linker_rewriting.specs.Decisions.{AreDecided, AreApart, AllCanBeMade, IsRejected};
-ghost use Rattle.linker_rewriting.specs.Decisions.{IsDecisionAfter, IsEndBehind};
+ghost use Rattle.linker_rewriting.specs.Decisions.{deleted_of, deleted_end, start_by, end_by};
+ghost use Rattle.linker_rewriting.specs.Decisions.{AreDecidedIn, AreApart, AllCanBeMade};
+ghost use Rattle.linker_rewriting.specs.Decisions.{IsDecisionAfter, IsEndBehind, IsRejectedIn};
+ghost use Rattle.linker_rewriting.specs.Decisions.{IsRewrittenAt};
+ghost use Rattle.linker_rewriting.specs.Facts.{setting};
 
 use crate::candidates::candidate;
 use crate::facts::{OutputFacts, SymbolFacts};
-use crate::groups::{KeptGroups, Scope, group_stays, scope_of};
+use crate::groups::{KeptGroups, Scope, group_stays, scope_in};
+use crate::phases::Phase;
 use crate::relocations::relocation_in;
-use linker_section::relocations::{Rela, relocations_len};
+use linker_base::rewrite::DeletedBytes;
+use linker_section::facts::{Addresses, Symbol};
+use linker_section::relocations::{Rela, relocation_at, relocations_len};
 use linker_utils::architecture::Relaxation;
 use linker_utils::elf::{Architecture, Choice, InstructionRewrite, RewriteWindow};
 
@@ -21,20 +27,20 @@ pub enum Decision {
     Kept,
     /// The instruction is rewritten by this, and the relocation becomes the one after it.
     Rewritten(Choice<Relaxation, u32>),
-    /// The relocation goes, since the rewrite at the one before takes it along.
+    /// The relocation goes, since the rewrite at the one before or at the next one takes it along.
     TakenAlong,
 }
 
 /// Why a section isn't rewritten.
 #[derive(Debug, Clone, Copy, PartialEq, Eq)]
 pub enum RewritingError {
-    /// There are fewer decisions than relocations.
+    /// There are fewer decisions than relocations, or less room for deletions than there are.
     TooShort,
     /// The relocation with this index can't be rewritten, though its group doesn't stay: the section
     /// was surveyed with other facts, or not at all.
     NotSurveyed(usize),
-    /// Bytes that would be rewritten at the relocation with this index are also rewritten at one
-    /// before it, or lie below such bytes.
+    /// Bytes that would be rewritten or deleted at the relocation with this index are also rewritten
+    /// or deleted at one before it, or lie below such bytes.
     Overlaps(usize),
 }
 
@@ -61,32 +67,86 @@ impl Decision {
             _ => RewriteWindow { back: 0, len: 0 },
         }
     }
+
+    /// The bytes that are deleted after the rewrite, beside the relocation's offset.
+    #[inline(always)]
+    pub fn deleted(&self) -> Option<DeletedBytes>
+        ensures { result ≡ deleted_of self.now }
+    {
+        match self {
+            Decision::Rewritten(choice) => choice.kind.deleted(),
+            _ => None,
+        }
+    }
+}
+
+/// Whether the relocation with an index, if there is one, is alone and is rewritten.
+fn is_rewritten_at(
+    architecture: Architecture,
+    phase: Phase,
+    output: &OutputFacts,
+    symbols: &[SymbolFacts],
+    addresses: &Addresses,
+    values: &[Symbol],
+    relocations: &[u8],
+    section: &[u8],
+    index: usize,
+) -> bool
+    requires { index + 3 ≤ usize.MAX }
+    ensures { IsRewrittenAt (setting architecture phase output.now symbols.now addresses.now
+        values.now) relocations.now section.now index (relocation_at relocations.now index) result }
+{
+    let Some(relocation) = relocation_at(relocations, index) else {
+        return false;
+    };
+    match scope_in(architecture, phase, relocation.code) {
+        Scope::Alone => candidate(
+            architecture,
+            phase,
+            output,
+            symbols,
+            addresses,
+            values,
+            relocations,
+            section,
+            index,
+            &relocation,
+        )
+        .is_some(),
+        _ => false,
+    }
 }
 
 /// What becomes of a relocation that no other takes along. None if its group doesn't stay, but it
 /// can't be rewritten.
 fn decide(
     architecture: Architecture,
+    phase: Phase,
     output: &OutputFacts,
     symbols: &[SymbolFacts],
+    addresses: &Addresses,
+    values: &[Symbol],
     kept: &[KeptGroups],
     relocations: &[u8],
     section: &[u8],
     index: usize,
     relocation: &Rela,
 ) -> Option<Decision>
-    requires { index + 3 ≤ usize.MAX }
-    ensures decision { IsDecision architecture output.now symbols.now kept.now relocations.now
-        section.now index relocation.now result }
+    requires { index + 4 ≤ usize.MAX }
+    ensures decision { IsDecision (setting architecture phase output.now symbols.now addresses.now
+        values.now) kept.now relocations.now section.now index relocation.now result }
     ensures made { IfSome result (λ d. CanBeMade d section.now relocation.now.offset) }
 {
-    match scope_of(architecture, relocation.code) {
+    match scope_in(architecture, phase, relocation.code) {
         Scope::Unlisted => Some(Decision::Kept),
         Scope::Alone => {
             match candidate(
                 architecture,
+                phase,
                 output,
                 symbols,
+                addresses,
+                values,
                 relocations,
                 section,
                 index,
@@ -102,8 +162,11 @@ fn decide(
             }
             match candidate(
                 architecture,
+                phase,
                 output,
                 symbols,
+                addresses,
+                values,
                 relocations,
                 section,
                 index,
@@ -111,6 +174,43 @@ fn decide(
             ) {
                 Some(choice) => Some(Decision::Rewritten(choice)),
                 None => None,
+            }
+        }
+        Scope::Matched(group) => {
+            if group_stays(kept, group, relocation.symbol) {
+                return Some(Decision::Kept);
+            }
+            match candidate(
+                architecture,
+                phase,
+                output,
+                symbols,
+                addresses,
+                values,
+                relocations,
+                section,
+                index,
+                relocation,
+            ) {
+                Some(choice) => Some(Decision::Rewritten(choice)),
+                None => Some(Decision::Kept),
+            }
+        }
+        Scope::Ahead => {
+            if is_rewritten_at(
+                architecture,
+                phase,
+                output,
+                symbols,
+                addresses,
+                values,
+                relocations,
+                section,
+                index + 1,
+            ) {
+                Some(Decision::TakenAlong)
+            } else {
+                Some(Decision::Kept)
             }
         }
     }
@@ -121,17 +221,21 @@ fn decide(
 fn decide_after(
     is_taken: bool,
     architecture: Architecture,
+    phase: Phase,
     output: &OutputFacts,
     symbols: &[SymbolFacts],
+    addresses: &Addresses,
+    values: &[Symbol],
     kept: &[KeptGroups],
     relocations: &[u8],
     section: &[u8],
     index: usize,
     relocation: &Rela,
 ) -> Option<Decision>
-    requires { index + 3 ≤ usize.MAX }
-    ensures decision { IsDecisionAfter architecture output.now symbols.now kept.now relocations.now
-        section.now index relocation.now is_taken result }
+    requires { index + 4 ≤ usize.MAX }
+    ensures decision { IsDecisionAfter (setting architecture phase output.now symbols.now
+        addresses.now values.now) kept.now relocations.now section.now index relocation.now is_taken
+        result }
     ensures made { IfSome result (λ d. CanBeMade d section.now relocation.now.offset) }
 {
     if is_taken {
@@ -139,8 +243,11 @@ fn decide_after(
     }
     decide(
         architecture,
+        phase,
         output,
         symbols,
+        addresses,
+        values,
         kept,
         relocations,
         section,
@@ -149,43 +256,76 @@ fn decide_after(
     )
 }
 
-/// Where the bytes end that are rewritten up to a window beside an offset, by where those before it
-/// do. None if the window isn't behind those.
+/// Where the bytes begin that a decision rewrites.
 #[inline(always)]
-fn end_behind(window: RewriteWindow, offset: u64, end: u64) -> Option<u64>
-    requires { offset - window.back + window.len ≤ u64.MAX }
-    ensures { IsEndBehind window offset end result }
+fn start_by(decision: &Decision, offset: u64) -> u64
+    ensures { result ≡ start_by decision.now offset }
 {
-    if window.len == 0 {
+    offset.saturating_sub(decision.window().back)
+}
+
+/// Where what is deleted ends; 0 if nothing is.
+#[inline(always)]
+fn deleted_end(offset: u64, deleted: Option<DeletedBytes>) -> u64
+    requires { deleted_end offset deleted ≤ u64.MAX }
+    ensures { result ≡ deleted_end offset deleted }
+{
+    match deleted {
+        Some(deleted) => offset + (deleted.start + u64::from(deleted.count)),
+        None => 0,
+    }
+}
+
+/// Where the bytes end that a decision rewrites or deletes.
+#[inline(always)]
+fn end_by(decision: &Decision, offset: u64) -> u64
+    requires { end_by decision.now offset ≤ u64.MAX }
+    ensures { result ≡ end_by decision.now offset }
+{
+    let end = start_by(decision, offset) + decision.window().len;
+    let deleted = deleted_end(offset, decision.deleted());
+    if end < deleted { deleted } else { end }
+}
+
+/// Where the bytes end that are rewritten or deleted up to some from a start to an end, by where those
+/// before them do. None if they aren't behind those.
+#[inline(always)]
+fn end_behind(start: u64, own: u64, end: u64) -> Option<u64>
+    ensures { IsEndBehind start own end result }
+{
+    if own <= start {
         return Some(end);
     }
-    let start = offset.saturating_sub(window.back);
     if start < end {
         return None;
     }
-    Some(start + window.len)
+    Some(own)
 }
 
 /// Decides what becomes of each relocation of a section and of its instruction, in the caller's
 /// memory. Nothing is rewritten.
 pub(crate) fn decide_section(
     architecture: Architecture,
+    phase: Phase,
     output: &OutputFacts,
     symbols: &[SymbolFacts],
+    addresses: &Addresses,
+    values: &[Symbol],
     kept: &[KeptGroups],
     relocations: &[u8],
     section: &[u8],
     decisions: &mut [Decision],
 ) -> Result<(), RewritingError>
     ensures enough { OnOk result (length relocations.now / 24 ≤ length decisions.old) }
-    ensures decided { OnOk result (AreDecided architecture output.now symbols.now kept.now
-        relocations.now section.now decisions.new (length relocations.now / 24)) }
+    ensures decided { OnOk result (AreDecidedIn (setting architecture phase output.now symbols.now
+        addresses.now values.now) kept.now relocations.now section.now decisions.new
+        (length relocations.now / 24)) }
     ensures made { OnOk result (AllCanBeMade relocations.now section.now decisions.new
         (length relocations.now / 24)) }
     ensures apart { OnOk result (AreApart relocations.now decisions.new
         (length relocations.now / 24)) }
-    ensures rejected { IfErr result (IsRejected architecture output.now symbols.now kept.now
-        relocations.now section.now decisions.new) }
+    ensures rejected { IfErr result (IsRejectedIn (setting architecture phase output.now symbols.now
+        addresses.now values.now) kept.now relocations.now section.now decisions.new) }
 {
     let len = relocations_len(relocations);
     if decisions.len() < len {
@@ -198,8 +338,11 @@ pub(crate) fn decide_section(
         let Some(decision) = decide_after(
             is_taken,
             architecture,
+            phase,
             output,
             symbols,
+            addresses,
+            values,
             kept,
             relocations,
             section,
@@ -208,7 +351,9 @@ pub(crate) fn decide_section(
         ) else {
             return Err(RewritingError::NotSurveyed(index));
         };
-        let Some(new_end) = end_behind(decision.window(), relocation.offset, end) else {
+        let start = start_by(&decision, relocation.offset);
+        let own = end_by(&decision, relocation.offset);
+        let Some(new_end) = end_behind(start, own, end) else {
             return Err(RewritingError::Overlaps(index));
         };
         end = new_end;

@@ -1,16 +1,23 @@
-//! The rewrites of a section, made in one call.
+//! The rewrites of a section, made in one call for each phase.
 
-ghost use Rattle.std.specs.Prelude.{◌≡◌, ◌<◌, ◌≤◌, ◌/◌, length, IfErr, OnOk, OnErr};
+ghost use Rattle.std.specs.Prelude.{◌≡◌, ◌<◌, ◌≤◌, ◌/◌, ℕ, length, take, IfErr, IfOk, IfSome};
+ghost use Rattle.std.specs.Prelude.{IfNone, OnOk, OnErr};
 ghost use Rattle.linker_section.specs.Relocations.{relocation_in};
 ghost use Rattle.linker_rewriting.specs.Decisions.{CanBeMade, AllCanBeMade, AreDecided, AreApart};
-ghost use Rattle.linker_rewriting.specs.Decisions.{IsRejected};
+ghost use Rattle.linker_rewriting.specs.Decisions.{AreDecidedIn, IsRejected, IsRejectedPlaced};
+ghost use Rattle.linker_rewriting.specs.Decisions.{decision_at, deleted_of, deleted_end, deletions_by};
+ghost use Rattle.linker_rewriting.specs.Facts.{early, setting};
 ghost use Rattle.linker_rewriting.specs.Rewritten.{section_after, relocation_after, AreDone};
 ghost use Rattle.linker_rewriting.specs.Rewritten.{AreRelocationsAfter, OthersStay, GroupsAreWhole};
+ghost use Rattle.linker_rewriting.specs.Rewritten.{GroupsAreWholeIn};
+ghost use Rattle.linker_rewriting.specs.Surveys.{MeansUnsurveyed};
 
 use crate::decisions::{Decision, RewritingError, decide_section};
-use crate::facts::{OutputFacts, SymbolFacts};
+use crate::facts::{NO_ADDRESSES, OutputFacts, SymbolFacts};
 use crate::groups::KeptGroups;
+use crate::phases::Phase;
 use crate::relocations::{relocation_in, set_relocation};
+use linker_section::facts::{Addresses, Symbol};
 use linker_section::relocations::{Rela, relocations_len};
 use linker_utils::elf::{Architecture, InstructionRewrite};
 
@@ -73,7 +80,8 @@ fn make_all(decisions: &[Decision], relocations: &mut [u8], section: &mut [u8])
 /// # Errors
 ///
 /// The section and its relocations are as before. `TooShort`: there are more relocations than
-/// `decisions`. `NotSurveyed`: a relocation of a group that doesn't stay has no rewrite. `Overlaps`:
+/// `decisions`. `NotSurveyed`: a relocation of a group that doesn't stay has no rewrite; it never comes
+/// where the section was surveyed into the table with the same facts. `Overlaps`:
 /// the bytes of two rewrites overlap, or those of the second lie below those of the first, so the
 /// relocations of instructions that can be rewritten have to ascend by offset.
 ///
@@ -129,13 +137,18 @@ pub fn rewrite_section(
         (length relocations.old / 24)) }
     ensures rejected { IfErr result (IsRejected architecture output.now symbols.now kept.now
         relocations.old section.old decisions.new) }
+    ensures surveyed { IfErr result (MeansUnsurveyed (early architecture output.now symbols.now)
+        relocations.old section.old kept.now) }
     ensures section { OnErr result (section.new ≡ section.old) }
     ensures entries { OnErr result (relocations.new ≡ relocations.old) }
 {
     match decide_section(
         architecture,
+        Phase::Early,
         output,
         symbols,
+        &NO_ADDRESSES,
+        &[],
         kept,
         relocations,
         section,
@@ -146,5 +159,165 @@ pub fn rewrite_section(
             Ok(())
         }
         Err(error) => Err(error),
+    }
+}
+
+/// Lists what decisions delete, in the caller's memory. Returns how many there are; none where there
+/// is less room.
+fn list_deletions(
+    relocations: &[u8],
+    decisions: &[Decision],
+    deleted: &mut [(u64, u32)],
+) -> Option<usize>
+    requires enough { length relocations.now / 24 ≤ length decisions.now }
+    requires fit { (n : ℕ) → n < length relocations.now / 24
+        → deleted_end (relocation_in relocations.now n).offset (deleted_of (decision_at decisions.now n))
+        ≤ u64.MAX }
+    ensures listed { IfSome result (λ len. take len deleted.new ≡ deletions_by relocations.now
+        decisions.now (length relocations.now / 24)) }
+    ensures short { IfNone result (length deleted.old < length (deletions_by relocations.now
+        decisions.now (length relocations.now / 24))) }
+{
+    let mut len = 0;
+    for index in 0..relocations_len(relocations) {
+        let Some(bytes) = decisions[index].deleted() else {
+            continue;
+        };
+        if deleted.len() <= len {
+            return None;
+        }
+        let relocation = relocation_in(relocations, index);
+        deleted[len] = (relocation.offset + bytes.start, bytes.count);
+        len += 1;
+    }
+    Some(len)
+}
+
+/// Rewrites the instructions of a section of code in a phase, once addresses are known, and turns its
+/// relocations into those after it, as `rewrite_section` does before. What is in the way of a group, as
+/// a distance out of reach or a missing mark, keeps all of it, by the table that
+/// `survey_placed_section` made of all sections of code of the object for the phase with the same facts
+/// and addresses.
+///
+/// `symbols` and `values` both have an object's symbols at the indexes that its relocations name. Each
+/// address has to be that by which values are written later, or differ from it by less than the reach
+/// that is left: a linker that deletes bytes afterwards makes distances shorter, never longer.
+///
+/// Bytes that are to be deleted are listed in `deleted` by their offset in the section and how many
+/// they are, ascending, as `SectionRelaxDeltas::new` of `linker_base::relaxation` takes them. They are
+/// in the section, apart from each other and from all that is rewritten, and still there.
+/// `Phase::ThreadOffsets` alone has any. Returns how many there are. A relocation that goes, with its
+/// instruction or without, gets the type 0.
+///
+/// - `ThreadOffsets`: where an offset from the thread pointer has 12 bits, RISC-V's and LoongArch's
+///   `lui` and `add` of it are deleted, and loads and stores are over the thread pointer; where it has
+///   16 bits, PowerPC64's `addis` becomes a `nop`. An instruction of RISC-V and LoongArch has to be
+///   marked for that.
+/// - `GotLoads`: AArch64's loads of an address from the GOT become `adrp` and `add`, where both
+///   relocations are next to each other and have no addend.
+/// - `Distances`: AArch64's `adrp` and `add` next to each other become `nop` and `adr`. Where a distance
+///   from the TOC pointer has 16 bits, PowerPC64's `addis` becomes a `nop`, and what reads it is over the
+///   TOC pointer.
+///
+/// # Errors
+///
+/// The section and its relocations are as before. Those of `rewrite_section`, and `TooShort` where
+/// `deleted` has less room than there are deletions.
+///
+/// ```
+/// use linker_rewriting::decisions::Decision;
+/// use linker_rewriting::facts::{OutputFacts, SymbolFacts};
+/// use linker_rewriting::groups::KeptGroups;
+/// use linker_rewriting::phases::Phase;
+/// use linker_rewriting::sections::rewrite_placed_section;
+/// use linker_section::facts::{Addresses, Symbol};
+/// use linker_utils::elf::Architecture;
+///
+/// // adrp x0, x and add x0, x0, :lo12:x, at 0x1000, where x is at 0x2004, become nop and adr x0, x
+/// let mut section = [0, 0, 0, 0x90, 0, 0, 0, 0x91];
+/// let mut relocations = [0; 48];
+/// for (index, offset, code) in [(0, 0, 275u32), (1, 4, 277)] {
+///     relocations[24 * index] = offset;
+///     relocations[24 * index + 8..][..4].copy_from_slice(&code.to_le_bytes());
+///     relocations[24 * index + 12] = 1;
+/// }
+/// let values = [Symbol::default(), Symbol { address: 0x2004, ..Symbol::default() }];
+/// let rewritten = rewrite_placed_section(
+///     Architecture::AArch64,
+///     Phase::Distances,
+///     &OutputFacts { is_executable: true, is_fixed: true },
+///     &[SymbolFacts { is_local: true, ..SymbolFacts::default() }; 2],
+///     &Addresses { section: 0x1000, ..Addresses::default() },
+///     &values,
+///     &[KeptGroups::default(); 2],
+///     &mut relocations,
+///     &mut section,
+///     &mut [Decision::Kept; 2],
+///     &mut [],
+/// );
+/// assert_eq!(rewritten, Ok(0));
+/// assert_eq!(section, [0x1f, 0x20, 0x03, 0xd5, 0, 0, 0, 0x10]);
+/// // R_AARCH64_ADR_PREL_LO21, and no relocation of the nop
+/// assert_eq!((relocations[8], relocations[9]), (0, 0));
+/// assert_eq!((relocations[32], relocations[33]), (0x12, 1));
+/// ```
+pub fn rewrite_placed_section(
+    architecture: Architecture,
+    phase: Phase,
+    output: &OutputFacts,
+    symbols: &[SymbolFacts],
+    addresses: &Addresses,
+    values: &[Symbol],
+    kept: &[KeptGroups],
+    relocations: &mut [u8],
+    section: &mut [u8],
+    decisions: &mut [Decision],
+    deleted: &mut [(u64, u32)],
+) -> Result<usize, RewritingError>
+    ensures decided { OnOk result (AreDecidedIn (setting architecture phase output.now symbols.now
+        addresses.now values.now) kept.now relocations.old section.old decisions.new
+        (length relocations.old / 24)) }
+    ensures groups { OnOk result (GroupsAreWholeIn architecture phase relocations.old decisions.new
+        (length relocations.old / 24)) }
+    ensures apart { OnOk result (AreApart relocations.old decisions.new
+        (length relocations.old / 24)) }
+    ensures within { OnOk result (AllCanBeMade relocations.old section.old decisions.new
+        (length relocations.old / 24)) }
+    ensures relocations { OnOk result (AreRelocationsAfter decisions.new relocations.old
+        relocations.new (length relocations.old / 24)) }
+    ensures done { OnOk result (AreDone relocations.old decisions.new section.old section.new
+        (length relocations.old / 24)) }
+    ensures others { OnOk result (OthersStay relocations.old decisions.new section.old section.new
+        (length relocations.old / 24)) }
+    ensures listed { IfOk result (λ len. take len deleted.new ≡ deletions_by relocations.old
+        decisions.new (length relocations.old / 24)) }
+    ensures rejected { IfErr result (IsRejectedPlaced (setting architecture phase output.now
+        symbols.now addresses.now values.now) kept.now relocations.old section.old decisions.new
+        (length deleted.old)) }
+    ensures surveyed { IfErr result (MeansUnsurveyed (setting architecture phase output.now
+        symbols.now addresses.now values.now) relocations.old section.old kept.now) }
+    ensures section { OnErr result (section.new ≡ section.old) }
+    ensures entries { OnErr result (relocations.new ≡ relocations.old) }
+{
+    if let Err(error) = decide_section(
+        architecture,
+        phase,
+        output,
+        symbols,
+        addresses,
+        values,
+        kept,
+        relocations,
+        section,
+        decisions,
+    ) {
+        return Err(error);
+    }
+    match list_deletions(relocations, decisions, deleted) {
+        Some(len) => {
+            make_all(decisions, relocations, section);
+            Ok(len)
+        }
+        None => Err(RewritingError::TooShort),
     }
 }

@@ -4,6 +4,9 @@ use Rattle.std.specs.Prelude.{◌⊎◌}
 use Rattle.std.proofs.lemmas.Bool.{cases_lt}
 use Rattle.linker_runs.specs.declared.items.Relocation.{Relocation}
 use Rattle.linker_runs.specs.RiscVItems.{IsNextAlignment}
+use Rattle.linker_runs.specs.Inner.Ahead.{IsAhead, MayBeAhead}
+use Rattle.linker_runs.specs.declared.packing.Machine.{Machine}
+use Rattle.linker_runs.specs.declared.packing.Machine.TheVariants.{RiscV64, LoongArch64}
 
 -- the next alignment behind one relocation is that behind the relocation after it, or this one
 pub next_on : (relocations : List Relocation) (i j : ℕ) → IsNextAlignment relocations i j → (j ≤ i + 1) ⊎ IsNextAlignment relocations (i + 1) j
@@ -16,3 +19,8 @@ next_on relocations i j next = ⊎_elim
     }))
     (λ (here : j ≤ i + 1). inl here)
     (cases_lt (i + 1) j)
+
+-- and so of what a walk knows
+pub ahead_on : (machine : Machine) (relocations : List Relocation) (i j : ℕ) → IsAhead machine relocations i j → MayBeAhead machine relocations (i + 1) j
+ahead_on RiscV64 relocations i j next = next_on relocations i j next
+ahead_on LoongArch64 relocations i j next = inr tt

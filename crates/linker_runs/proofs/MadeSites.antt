@@ -15,16 +15,18 @@ use Rattle.linker_runs.specs.RiscVItems.{RiscVMakes, IsRiscVFormed, MayBeCJ}
 use Rattle.linker_runs.specs.LoongArchItems.{LoongArchMakes, IsCall36, IsPcala}
 use Rattle.linker_runs.specs.declared.items.Relocation.{Relocation}
 use Rattle.linker_runs.specs.Origins.{HasItsInstructions, HasRiscVShapes, HasLoongArchShapes}
+use Rattle.linker_runs.specs.SectionItems.{Makes, IsFormed}
+use Rattle.linker_runs.specs.declared.packing.Machine.{Machine}
 use Rattle.linker_runs.specs.declared.packing.Machine.TheVariants.{RiscV64, LoongArch64}
 use Rattle.linker_runs.specs.Writable.{MadeSitesHaveInstructions}
 
 -- what holds of each item that a relocation makes holds of each item
-each_made : (Makes : ℕ → Item → Type 0) (P : Item → Type 0) (n : ℕ) (items : List Item) → AreMade Makes n items → ((i : ℕ) (item : Item) → i < n → Makes i item → P item) → (j : ℕ) → j < length items → P (item_at items j)
-each_made Makes P zero [] none each j below = absurd (omega arith)
-each_made Makes P zero (_ ∷ _) impossible each j below = elim impossible [ ]
-each_made Makes P (suc i) items (left_out before not) each j below = each_made Makes P i items before (λ k item h. each k item (omega arith)) j below
-each_made Makes P (suc i) all (made {items = items} {item = item} before is) each j below = ⊎_elim
-    (λ (first : j < length items). subst P (sym (get_or-append items (item ∷ []) no_item j first)) (each_made Makes P i items before (λ k item h. each k item (omega arith)) j first))
+each_made : (Makes : ℕ → Item → Type 0) (P : Item → Type 0) (n : ℕ) (items : List Item) (makers : List ℕ) → AreMade Makes n items makers → ((i : ℕ) (item : Item) → i < n → Makes i item → P item) → (j : ℕ) → j < length items → P (item_at items j)
+each_made Makes P zero [] makers none each j below = absurd (omega arith)
+each_made Makes P zero (_ ∷ _) makers impossible each j below = elim impossible [ ]
+each_made Makes P (suc i) items makers (left_out before not) each j below = each_made Makes P i items makers before (λ k item h. each k item (omega arith)) j below
+each_made Makes P (suc i) all all_makers (made {items = items} {makers = makers} {item = item} before is) each j below = ⊎_elim
+    (λ (first : j < length items). subst P (sym (get_or-append items (item ∷ []) no_item j first)) (each_made Makes P i items makers before (λ k item h. each k item (omega arith)) j first))
     (λ (last : length items ≤ j).
     let len = length-append items (item ∷ []) in
     let at : length items ≡ j = omega arith in
@@ -60,8 +62,10 @@ loongarch_site section base relocations i (Site here) makes =
     let within = site.0 in
     (makes.0.len, omega (arith, place), omega (arith, place, within), subst (λ n. HasLoongArchShapes section n here.shapes) at site.1)
 
+site : (machine : Machine) (section : List ℕ) (base : ℕ) (relocations : List Relocation) (i : ℕ) (item : Item) → IsFormed machine section (relocation_at relocations i) → Makes machine section base relocations i item → HasItsInstructions machine section base item
+site RiscV64 section base relocations i item formed makes = riscv_site section base relocations i item formed makes
+site LoongArch64 section base relocations i item formed makes = loongarch_site section base relocations i item makes
+
 pub made_sites : MadeSitesHaveInstructions
-made_sites section base relocations items = (
-  λ made formed. each_made (RiscVMakes section base relocations) (HasItsInstructions RiscV64 section base) (length relocations) items made (λ i item below makes. riscv_site section base relocations i item (formed i below) makes),
-  λ made. each_made (LoongArchMakes section base relocations) (HasItsInstructions LoongArch64 section base) (length relocations) items made (λ i item below makes. loongarch_site section base relocations i item makes),
-)
+made_sites machine section base relocations items makers all formed =
+    each_made (Makes machine section base relocations) (HasItsInstructions machine section base) (length relocations) items makers all (λ i item below makes. site machine section base relocations i item (formed i below) makes)

@@ -13,5 +13,6 @@ pub mod Relaxing
 pub mod Relocations
 pub mod RiscVItems
 pub mod RiscVSites
+pub mod SectionItems
 pub mod Sites
 pub mod Writable

@@ -28,14 +28,15 @@ pub record IsMarked (code : ℕ) (relocations : List Relocation) (i : ℕ) : Typ
   pub same_place :
       (relocation_at relocations (i + 1)).offset ≡ (relocation_at relocations i).offset
 
--- The items that the relocations below an index make, in their order: each at most one, which
--- `Makes` says.
-pub data AreMade (Makes : ℕ → Item → Type 0) : ℕ → List Item → Type 0 where
-  none : AreMade Makes zero []
-  left_out : {i : ℕ} {items : List Item} → AreMade Makes i items
-      → ((item : Item) → ¬ Makes i item) → AreMade Makes (suc i) items
-  made : {i : ℕ} {items : List Item} {item : Item} → AreMade Makes i items → Makes i item
-      → AreMade Makes (suc i) (items ++ item ∷ [])
+-- The items that the relocations below an index make, in their order, each at most one, which
+-- `Makes` says, and the indexes of the relocations that make them.
+pub data AreMade (Makes : ℕ → Item → Type 0) : ℕ → List Item → List ℕ → Type 0 where
+  none : AreMade Makes zero [] []
+  left_out : {i : ℕ} {items : List Item} {makers : List ℕ} → AreMade Makes i items makers
+      → ((item : Item) → ¬ Makes i item) → AreMade Makes (suc i) items makers
+  made : {i : ℕ} {items : List Item} {makers : List ℕ} {item : Item}
+      → AreMade Makes i items makers → Makes i item
+      → AreMade Makes (suc i) (items ++ item ∷ []) (makers ++ i ∷ [])
 
 -- the relocations below an index are well formed
 abbrev pub AreWellFormed : (Relocation → Type 0) → List Relocation → ℕ → Type 0

@@ -7,9 +7,8 @@ use Rattle.linker_runs.specs.declared.shapes.loongarch64.TheConstants.{CALL36, P
 use Rattle.linker_runs.specs.Relaxing.{item_at, offset_of, target_of, choice_of}
 use Rattle.linker_runs.specs.Choosing.{AreItems, IsRelaxation, IsSite}
 use Rattle.linker_runs.specs.Deleting.{deletions_of_run}
-use Rattle.linker_runs.specs.LoongArchItems.{LoongArchMakes}
 use Rattle.linker_runs.specs.Relocations.{AreMade, AreWellFormed}
-use Rattle.linker_runs.specs.RiscVItems.{RiscVMakes, IsRiscVFormed}
+use Rattle.linker_runs.specs.SectionItems.{Makes, IsFormed}
 use Rattle.linker_runs.specs.declared.items.Relocation.{Relocation}
 use Rattle.linker_runs.specs.Origins.{HasItsInstructions}
 use Rattle.linker_runs.specs.Packing.{section_of, IsUnwritable, IsFirstRejected}
@@ -124,13 +123,11 @@ NoneIsOutOfReach = (machine : Machine) (start base : ℕ) (items : List Item)
     rejected
     → rejected.error ≢ OutOfReach
 
--- The items that relocations of a section make, as `items` of `linker_runs` returns them, have their
+-- The items that relocations of a section make, as `section_items` returns them, have their
 -- instructions.
 abbrev pub MadeSitesHaveInstructions : Type 0
-MadeSitesHaveInstructions = (section : List ℕ) (base : ℕ) (relocations : List Relocation)
-    (items : List Item)
-    → (AreMade (RiscVMakes section base relocations) (length relocations) items
-    → AreWellFormed (IsRiscVFormed section) relocations (length relocations)
-    → (j : ℕ) → j < length items → HasItsInstructions RiscV64 section base (item_at items j))
-    × (AreMade (LoongArchMakes section base relocations) (length relocations) items
-    → (j : ℕ) → j < length items → HasItsInstructions LoongArch64 section base (item_at items j))
+MadeSitesHaveInstructions = (machine : Machine) (section : List ℕ) (base : ℕ)
+    (relocations : List Relocation) (items : List Item) (makers : List ℕ)
+    → AreMade (Makes machine section base relocations) (length relocations) items makers
+    → AreWellFormed (IsFormed machine section) relocations (length relocations)
+    → (j : ℕ) → j < length items → HasItsInstructions machine section base (item_at items j)

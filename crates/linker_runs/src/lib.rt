@@ -4,9 +4,9 @@
 
 pub mod items;
 pub mod laws;
-pub mod loongarch64;
+mod loongarch64;
 pub mod packing;
 pub mod relaxation;
-pub mod riscv64;
+mod riscv64;
 mod search;
 pub mod shapes;

@@ -1,13 +1,11 @@
 //! LoongArch: the items that relocations make.
 
 ghost use Rattle.std.specs.Prelude.{◌≡◌, ◌+◌, ◌≤◌, ◌<◌, ◌^◌, ◌↔◌, ◌⊎◌, ℕ, IsTrue, length};
-ghost use Rattle.std.specs.Prelude.{IfOk, OnOk, OnErr, IfErr, IfSome, IfNone, MatchOption};
-ghost use Rattle.std.specs.Prelude.{map, take, drop, All};
+ghost use Rattle.std.specs.Prelude.{IfSome, IfNone, MatchOption, map};
 ghost use Rattle.linker_runs.specs.declared.relaxation.Item.{Item as items};
 ghost use Rattle.linker_runs.specs.declared.relaxation.Site.{Site as sites};
 ghost use Rattle.linker_runs.specs.declared.relaxation.Alignment.{Alignment as alignments};
-ghost use Rattle.linker_runs.specs.Relocations.{relocation_at, AreMade, AreWellFormed};
-ghost use Rattle.linker_runs.specs.Relocations.{IsItemsCause, IsFirstMalformed};
+ghost use Rattle.linker_runs.specs.Relocations.{relocation_at};
 ghost use Rattle.linker_runs.specs.LoongArchSites.{IsCall36At, IsPcalaAt};
 ghost use Rattle.linker_runs.specs.LoongArchItems.{HasLoongArchName, AreStated, stated_limit};
 ghost use Rattle.linker_runs.specs.LoongArchItems.{AreLoongArchNops, IsLoongArchAlignment};
@@ -16,13 +14,11 @@ ghost use Rattle.linker_runs.specs.LoongArchItems.{IsLoongArchSite, LoongArchMak
 ghost use Rattle.linker_runs.specs.LoongArchItems.{IsLoongArchFormed};
 
 use crate::items::{
-    AsItem, AsRelocation, ItemsError, Relocation, has_bytes, is_marked, relocation_at,
-    unsigned_addend,
+    AsRelocation, Relocation, has_bytes, is_marked, relocation_at, unsigned_addend,
 };
 use crate::relaxation::{Alignment, Item, Shapes, Site};
 use crate::shapes::loongarch64::{CALL36, PCALA};
 use linker_loongarch64::{LoongArch64Relocation, RelaxationKind};
-use std::alloc::Global;
 
 /// Whether a relocation has a name.
 #[inline(always)]
@@ -241,7 +237,7 @@ fn site_at<R: AsRelocation>(
 
 /// Whether a relocation is what the psABI allows.
 #[inline(always)]
-fn is_formed(section: &[u8], relocation: &Relocation) -> bool
+pub(crate) fn is_formed(section: &[u8], relocation: &Relocation) -> bool
     ensures { IsTrue result ↔ IsLoongArchFormed section.now relocation.now }
 {
     if !has_bytes(section, relocation.offset, 0) {
@@ -256,27 +252,9 @@ fn is_formed(section: &[u8], relocation: &Relocation) -> bool
     }
 }
 
-/// The index of the first relocation that isn't what the psABI allows: one that lies behind the
-/// section's end, that is an `R_LARCH_CALL36` and less than eight bytes are there, or that is an
-/// `R_LARCH_ALIGN` whose addend is below 0, whose exponent is below 2 or above 32, or whose nops
-/// aren't a multiple of 4, reach past the section's end or have 2^32 bytes or more.
-pub fn first_malformed<R: AsRelocation>(section: &[u8], relocations: &[R]) -> Option<usize>
-    ensures { MatchOption result
-        (AreWellFormed (IsLoongArchFormed section.now) (map R.relocation relocations.now)
-        (length relocations.now))
-        (IsFirstMalformed (IsLoongArchFormed section.now) (map R.relocation relocations.now)) }
-{
-    for index in 0..relocations.len() {
-        if !is_formed(section, &relocation_at(relocations, index)) {
-            return Some(index);
-        }
-    }
-    None
-}
-
 /// The item that the relocation at an index makes, if it makes one.
 #[inline]
-fn item_at<R: AsRelocation>(
+pub(crate) fn item_at<R: AsRelocation>(
     section: &[u8],
     base: u64,
     relocations: &[R],
@@ -301,85 +279,4 @@ fn item_at<R: AsRelocation>(
         Some(site) => Some(Item::Site(site)),
         None => None,
     }
-}
-
-/// The items that the relocations of a section make, in the relocations' order. The section begins
-/// at the input offset `base` of the run. The other relocations make none.
-///
-/// Where `R_LARCH_RELAX` is the next relocation, at the same offset, and the target is in the run,
-/// `R_LARCH_CALL36` makes a `CALL36` if the bytes are `pcaddu18i` and `jirl` of one register and
-/// the `jirl` links `ra` or none. `R_LARCH_PCALA_HI20` makes a `PCALA` if behind its
-/// `R_LARCH_RELAX` are `R_LARCH_PCALA_LO12` of the next instruction, with the same target, and an
-/// `R_LARCH_RELAX` there, and the bytes are `pcalau12i` and `addi.d` of one register.
-///
-/// `R_LARCH_ALIGN` makes an alignment, if there are nops. Without a symbol its addend is how many
-/// bytes the nops have, and what they align to is the next power of two above it. With a symbol the
-/// addend's lowest 8 bits are the exponent of two of what they align to, whose nops are 4 bytes
-/// fewer. The other bits are its limit, the most bytes that may stay, if they are above 0 and below
-/// the nops (LoongArch ELF psABI, "Relocations").
-///
-/// `Malformed` names the relocation that `first_malformed` returns. The vector grows as items are
-/// added. `are_items` tells whether the run can be relaxed.
-pub fn items<R: AsRelocation>(
-    alloc: Global,
-    section: &[u8],
-    base: u64,
-    relocations: &[R],
-) -> Result<Vec<Item>, ItemsError>
-    requires { base + length section.now < 2 ^ 64 }
-    ensures made { IfOk result (λ made.
-        AreMade (LoongArchMakes section.now base (map R.relocation relocations.now))
-        (length relocations.now) made.items) }
-    ensures formed { OnOk result (AreWellFormed (IsLoongArchFormed section.now)
-        (map R.relocation relocations.now) (length relocations.now)) }
-    ensures cause { IfErr result
-        (IsItemsCause (IsLoongArchFormed section.now) (map R.relocation relocations.now)) }
-{
-    if let Some(index) = first_malformed(section, relocations) {
-        return Err(ItemsError::Malformed(index));
-    }
-    let mut items = Vec::new(alloc);
-    for index in 0..relocations.len() {
-        if let Some(item) = item_at(section, base, relocations, index) {
-            items.push(item)?;
-        }
-    }
-    Ok(items)
-}
-
-/// `items` into memory of the caller's, which has an element for each relocation, since each makes
-/// one item at most. It returns how many there are; the elements from there on are unchanged.
-///
-/// The error is the index that `first_malformed` returns, and nothing is written then. It doesn't
-/// allocate.
-pub fn items_into<R: AsRelocation, I: AsItem>(
-    section: &[u8],
-    base: u64,
-    relocations: &[R],
-    out: &mut [I],
-) -> Result<usize, usize>
-    requires base { base + length section.now < 2 ^ 64 }
-    requires one_each { length out.old ≡ length relocations.now }
-    ensures made { IfOk result (λ count.
-        AreMade (LoongArchMakes section.now base (map R.relocation relocations.now))
-        (length relocations.now) (map I.item (take count out.new))) }
-    ensures form { IfOk result (λ count. All I.is_written (take count out.new)) }
-    ensures others_stay { IfOk result (λ count. drop count out.new ≡ drop count out.old) }
-    ensures formed { OnOk result (AreWellFormed (IsLoongArchFormed section.now)
-        (map R.relocation relocations.now) (length relocations.now)) }
-    ensures malformed { IfErr result
-        (IsFirstMalformed (IsLoongArchFormed section.now) (map R.relocation relocations.now)) }
-    ensures unchanged { OnErr result (out.new ≡ out.old) }
-{
-    if let Some(index) = first_malformed(section, relocations) {
-        return Err(index);
-    }
-    let mut count = 0;
-    for index in 0..relocations.len() {
-        if let Some(item) = item_at(section, base, relocations, index) {
-            out[count] = I::from_item(item);
-            count += 1;
-        }
-    }
-    Ok(count)
 }

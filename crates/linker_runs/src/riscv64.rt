@@ -1,27 +1,23 @@
 //! RISC-V: the items that relocations make.
 
 ghost use Rattle.std.specs.Prelude.{◌≡◌, ◌+◌, ◌≤◌, ◌<◌, ◌^◌, ◌↔◌, ℕ, IsTrue, length};
-ghost use Rattle.std.specs.Prelude.{IfOk, OnOk, OnErr, IfErr, IfSome, IfNone, MatchOption, None};
-ghost use Rattle.std.specs.Prelude.{map, take, drop, All};
+ghost use Rattle.std.specs.Prelude.{IfSome, IfNone, MatchOption, None, map};
 ghost use Rattle.std.specs.Int.{IsNextPowerOfTwo};
 ghost use Rattle.linker_runs.specs.declared.relaxation.Item.{Item as items};
 ghost use Rattle.linker_riscv64.specs.RiscVCalls.{link_register};
 ghost use Rattle.linker_riscv64.specs.declared.calls.LinkRegister.TheVariants.{OfJalr};
-ghost use Rattle.linker_runs.specs.Relocations.{relocation_at, AreMade, AreWellFormed};
-ghost use Rattle.linker_runs.specs.Relocations.{IsItemsCause, IsFirstMalformed};
+ghost use Rattle.linker_runs.specs.Relocations.{relocation_at};
 ghost use Rattle.linker_runs.specs.RiscVItems.{HasRiscVName, IsOfCall, AreRiscVNops, IsCallAt};
 ghost use Rattle.linker_runs.specs.RiscVItems.{Aligns, IsNextAlignment};
 ghost use Rattle.linker_runs.specs.RiscVItems.{AreEnoughAt, MayFree, IsShapesOf, IsRiscVSite};
 ghost use Rattle.linker_runs.specs.RiscVItems.{RiscVMakes, IsRiscVFormed};
 
 use crate::items::{
-    AsItem, AsRelocation, ItemsError, Relocation, has_bytes, is_marked, relocation_at,
-    unsigned_addend,
+    AsRelocation, Relocation, has_bytes, is_marked, relocation_at, unsigned_addend,
 };
 use crate::relaxation::{Alignment, Item, Shapes, Site};
 use crate::shapes::riscv64::{CALL, TAIL_C};
 use linker_riscv64::{LinkRegister, RiscVRelocation};
-use std::alloc::Global;
 
 /// Whether a relocation has a name.
 #[inline(always)]
@@ -84,7 +80,7 @@ fn aligns(relocation: &Relocation) -> bool
 
 /// The index of the next alignment behind the relocation at an index, or how many relocations there
 /// are.
-fn next_alignment<R: AsRelocation>(relocations: &[R], index: usize) -> usize
+pub(crate) fn next_alignment<R: AsRelocation>(relocations: &[R], index: usize) -> usize
     requires { index < length relocations.now }
     ensures { IsNextAlignment (map R.relocation relocations.now) index result }
 {
@@ -125,7 +121,7 @@ fn may_free<R: AsRelocation>(freed: u64, relocations: &[R], index: usize, next: 
 
 /// The register that the call at an offset links. None where no call is there.
 #[inline]
-pub fn link_at(section: &[u8], offset: u64) -> Option<u32>
+pub(crate) fn link_at(section: &[u8], offset: u64) -> Option<u32>
     requires { offset + 8 ≤ length section.now }
     ensures { MatchOption result (¬ IsCallAt section.now offset)
         (λ link. IsCallAt section.now offset × (link ≡ link_register OfJalr section.now offset)) }
@@ -200,7 +196,7 @@ fn site_at<R: AsRelocation>(
 
 /// Whether a relocation is what the psABI allows.
 #[inline(always)]
-fn is_formed(section: &[u8], relocation: &Relocation) -> bool
+pub(crate) fn is_formed(section: &[u8], relocation: &Relocation) -> bool
     ensures { IsTrue result ↔ IsRiscVFormed section.now relocation.now }
 {
     if !has_bytes(section, relocation.offset, 0) {
@@ -215,26 +211,9 @@ fn is_formed(section: &[u8], relocation: &Relocation) -> bool
     }
 }
 
-/// The index of the first relocation that isn't what the psABI allows: one that lies behind the
-/// section's end, that is a call's and less than eight bytes are there, or that is an
-/// `R_RISCV_ALIGN` whose addend isn't a multiple of 2 from 0 up, below 2^32, of bytes in the section.
-pub fn first_malformed<R: AsRelocation>(section: &[u8], relocations: &[R]) -> Option<usize>
-    ensures { MatchOption result
-        (AreWellFormed (IsRiscVFormed section.now) (map R.relocation relocations.now)
-        (length relocations.now))
-        (IsFirstMalformed (IsRiscVFormed section.now) (map R.relocation relocations.now)) }
-{
-    for index in 0..relocations.len() {
-        if !is_formed(section, &relocation_at(relocations, index)) {
-            return Some(index);
-        }
-    }
-    None
-}
-
 /// The item that the relocation at an index makes, if it makes one.
 #[inline]
-fn item_at<R: AsRelocation>(
+pub(crate) fn item_at<R: AsRelocation>(
     section: &[u8],
     base: u64,
     relocations: &[R],
@@ -264,93 +243,4 @@ fn item_at<R: AsRelocation>(
         Some(nops) => Some(Item::Aligned(alignment_of(nops, base + relocation.offset))),
         None => None,
     }
-}
-
-/// The items that the relocations of a section make, in the relocations' order. The section begins
-/// at the input offset `base` of the run. The other relocations make none.
-///
-/// `R_RISCV_CALL` and `R_RISCV_CALL_PLT` make a site where `R_RISCV_RELAX` is the next relocation,
-/// at the same offset, the target is in the run, and the bytes are `auipc` and `jalr` of one
-/// register. Its shapes are `TAIL_C` where the `jalr` links x0 and the relocation's `may_compress` is
-/// set, and else `CALL`. `R_RISCV_ALIGN` makes an alignment without a limit, if there are nops: the
-/// addend is how many bytes they have, and the next power of two above it what they align to (RISC-V
-/// ELF psABI, "Linker Relaxation").
-///
-/// Where fewer nops stand before an alignment than it may need at any even address, as the 12 bytes
-/// that assemblers write for `.balign 16` in code without the C extension, the calls between it and the
-/// alignment before it free only multiples of what has to divide its address: then no call there has
-/// `TAIL_C`, and none is a site if that is more than 4.
-///
-/// `Malformed` names the relocation that `first_malformed` returns. The vector grows as items are
-/// added. `are_items` tells whether the run can be relaxed.
-pub fn items<R: AsRelocation>(
-    alloc: Global,
-    section: &[u8],
-    base: u64,
-    relocations: &[R],
-) -> Result<Vec<Item>, ItemsError>
-    requires { base + length section.now < 2 ^ 64 }
-    ensures made { IfOk result (λ made.
-        AreMade (RiscVMakes section.now base (map R.relocation relocations.now))
-        (length relocations.now) made.items) }
-    ensures formed { OnOk result (AreWellFormed (IsRiscVFormed section.now)
-        (map R.relocation relocations.now) (length relocations.now)) }
-    ensures cause { IfErr result
-        (IsItemsCause (IsRiscVFormed section.now) (map R.relocation relocations.now)) }
-{
-    if let Some(index) = first_malformed(section, relocations) {
-        return Err(ItemsError::Malformed(index));
-    }
-    let mut items = Vec::new(alloc);
-    let mut next = 0;
-    for index in 0..relocations.len() {
-        if next <= index {
-            next = next_alignment(relocations, index);
-        }
-        if let Some(item) = item_at(section, base, relocations, index, next) {
-            items.push(item)?;
-        }
-    }
-    Ok(items)
-}
-
-/// `items` into memory of the caller's, which has an element for each relocation, since each makes
-/// one item at most. It returns how many there are; the elements from there on are unchanged.
-///
-/// The error is the index that `first_malformed` returns, and nothing is written then. It doesn't
-/// allocate.
-pub fn items_into<R: AsRelocation, I: AsItem>(
-    section: &[u8],
-    base: u64,
-    relocations: &[R],
-    out: &mut [I],
-) -> Result<usize, usize>
-    requires base { base + length section.now < 2 ^ 64 }
-    requires one_each { length out.old ≡ length relocations.now }
-    ensures made { IfOk result (λ count.
-        AreMade (RiscVMakes section.now base (map R.relocation relocations.now))
-        (length relocations.now) (map I.item (take count out.new))) }
-    ensures form { IfOk result (λ count. All I.is_written (take count out.new)) }
-    ensures others_stay { IfOk result (λ count. drop count out.new ≡ drop count out.old) }
-    ensures formed { OnOk result (AreWellFormed (IsRiscVFormed section.now)
-        (map R.relocation relocations.now) (length relocations.now)) }
-    ensures malformed { IfErr result
-        (IsFirstMalformed (IsRiscVFormed section.now) (map R.relocation relocations.now)) }
-    ensures unchanged { OnErr result (out.new ≡ out.old) }
-{
-    if let Some(index) = first_malformed(section, relocations) {
-        return Err(index);
-    }
-    let mut count = 0;
-    let mut next = 0;
-    for index in 0..relocations.len() {
-        if next <= index {
-            next = next_alignment(relocations, index);
-        }
-        if let Some(item) = item_at(section, base, relocations, index, next) {
-            out[count] = I::from_item(item);
-            count += 1;
-        }
-    }
-    Ok(count)
 }

@@ -1,7 +1,7 @@
 -- What is written to a section, byte by byte.
-use Rattle.std.proofs.Common.{◌≡◌, ℕ, ℤ, ◌+◌, ◌-◌, ◌/◌, ◌<◌, ◌≤◌, ◌⊎◌, List, [], ◌∷◌, zero, suc, length, take, drop, get_or, cond, ltb, true, true≢false, refl, sym, ap, ◌∙◌, inl, inr, arith}
+use Rattle.std.proofs.Common.{◌≡◌, ℕ, ℤ, ◌+◌, ◌-◌, ◌/◌, ◌<◌, ◌≤◌, ◌⊎◌, List, [], ◌∷◌, zero, suc, length, take, drop, get_or, cond, ltb, true, true≢false, refl, sym, ap, subst, ◌∙◌, inl, inr, arith}
 use Rattle.std.proofs.lemmas.Bool.{cases_eq, cases_lt, cases_Bool, or_left, cond_both, cond-true, cond-false}
-use Rattle.linker_section.proofs.Ulebs.{uleb_len_is, some_uleb}
+use Rattle.linker_section.proofs.Ulebs.{some_uleb}
 use Rattle.std.proofs.lemmas.List.{get_or-take, get_or-drop, length-drop}
 use Rattle.std.specs.Prelude.{slice_index}
 use Rattle.linker_elf.specs.Relocate.{window_len}
@@ -10,7 +10,7 @@ use Rattle.linker_section.proofs.Composing.{begun_is_continued_none, begun_ends_
 use Rattle.linker_section.proofs.Local.{IsLocal, one_local, pair_local}
 use Rattle.linker_section.proofs.Stepping.{len_alone, len_paired, written_alone, unchanged}
 use Rattle.linker_section.proofs.Valued.{some_value}
-use Rattle.linker_section.specs.Fields.{IsField, field_end, field_len, begins_pair, ends_pair, uleb_len, of_number, of_pair, AreApart}
+use Rattle.linker_section.specs.Fields.{IsField, field_end, field_len, begins_pair, ends_pair, uleb_len, of_number, of_pair, AreApart, Overlap}
 use Rattle.linker_section.specs.Relocations.{relocation_in}
 use Rattle.linker_section.specs.Sections.{AreRelocated, none, mark, one, pair, IsInNoField, AreAllRelocated, HasValue, IsWritten, IsPairWritten}
 use Rattle.linker_section.specs.Values.{offset_at}
@@ -38,7 +38,7 @@ local_byte o w p now after local outside =
 
 -- ---- a ULEB128 number of the same bytes
 
-same_uleb : (fuel : ℕ) (xs ys : List ℕ) → length ys ≡ length xs
+pub same_uleb : (fuel : ℕ) (xs ys : List ℕ) → length ys ≡ length xs
     → ((j : ℕ) → j < uleb_len (take fuel xs) → slice_index ys j ≡ slice_index xs j)
     → uleb_len (take fuel ys) ≡ uleb_len (take fuel xs)
 same_uleb zero xs ys len same = refl
@@ -62,7 +62,7 @@ same_uleb (suc fuel) (x ∷ xs) (y ∷ ys) len same =
 -- ---- all writes
 
 -- the bytes that no field below an index has
-abbrev AreUntouched : Architecture → List ℕ → List ℕ → ℕ → List ℕ → Type 0
+abbrev pub AreUntouched : Architecture → List ℕ → List ℕ → ℕ → List ℕ → Type 0
 AreUntouched architecture bytes before n now =
     (length now ≡ length before)
     × ((p : ℕ) → IsInNoField architecture bytes before n p → slice_index now p ≡ slice_index before p)
@@ -98,31 +98,50 @@ one_untouched architecture addresses bytes before middle now symbols n row v so_
       ]),
     )
 
--- a byte of the number of a pair is in no earlier field
-pair_byte : (architecture : Architecture) (bytes before : List ℕ) (n : ℕ)
-    (row : RelocationKindInfo) (p : ℕ) → AreApart architecture bytes before (n + 2)
-    → IsField architecture bytes before n row → begins_pair row.size row.kind ≡ true
+-- no earlier relocation has a byte of the field of one
+abbrev pub IsFirstAt : Architecture → List ℕ → List ℕ → ℕ → RelocationKindInfo → Type 0
+IsFirstAt architecture bytes before n row =
+    (i : ℕ) (other : RelocationKindInfo) → i < n → IsField architecture bytes before i other
+    → Overlap bytes before i other n row → ⊥
+
+pub first_byte : (architecture : Architecture) (bytes before : List ℕ) (n : ℕ)
+    (row : RelocationKindInfo) (p : ℕ) → IsFirstAt architecture bytes before n row
     → offset_at bytes n ≤ p → p < field_end bytes before n row
     → IsInNoField architecture bytes before n p
-pair_byte architecture bytes before n row p apart is_field begins from to i other below is_other =
+first_byte architecture bytes before n row p first from to i other below is_other =
     elim (cases_lt p (offset_at bytes i)) [
       | inl under ↦ inl under
       | inr at ↦ elim (cases_lt p (field_end bytes before i other)) [
         | inr behind ↦ inr behind
-        | inl inside ↦
-            absurd (elim (apart i n other row below (omega arith) is_other is_field ((omega (arith, at, to)), (omega (arith, from, inside)))) [
-              | of_number offset window on ↦ true≢false (sym on ∙ begun_is_continued_none row.size row.kind other.kind begins)
-              | of_pair offset after begun ended ↦ true≢false (sym ended ∙ begun_ends_none row.size row.kind begins)
-            ])
+        | inl inside ↦ absurd (first i other below is_other ((omega (arith, at, to)), (omega (arith, from, inside))))
       ]
     ]
 
-pair_untouched : (architecture : Architecture) (addresses : Addresses) (bytes before middle now : List ℕ)
+-- as of the first of a pair
+pub pair_first : (architecture : Architecture) (bytes before : List ℕ) (n : ℕ)
+    (row : RelocationKindInfo) → AreApart architecture bytes before (n + 1)
+    → IsField architecture bytes before n row → begins_pair row.size row.kind ≡ true
+    → IsFirstAt architecture bytes before n row
+pair_first architecture bytes before n row apart is_field begins i other below is_other overlap =
+    elim (apart i n other row below (omega arith) is_other is_field overlap) [
+      | of_number offset window on ↦ true≢false (sym on ∙ begun_is_continued_none row.size row.kind other.kind begins)
+      | of_pair offset after begun ended ↦ true≢false (sym ended ∙ begun_ends_none row.size row.kind begins)
+    ]
+
+-- the bytes that a pair changes are a field of the section before
+pub record IsPairPlace (architecture : Architecture) (bytes before middle now : List ℕ) (n : ℕ)
+    (row : RelocationKindInfo) : Type 0 where
+  pub is_field : IsField architecture bytes before n row
+  pub len_is : field_len row (drop (offset_at bytes n) before)
+      ≡ uleb_len (take 10 (drop (offset_at bytes n) middle))
+  pub local : IsLocal (offset_at bytes n) (field_len row (drop (offset_at bytes n) before)) middle now
+
+pub pair_place : (architecture : Architecture) (addresses : Addresses) (bytes before middle now : List ℕ)
     (symbols : List Symbol) (n : ℕ) → AreApart architecture bytes before (n + 2)
     → AreUntouched architecture bytes before n middle
-    → IsPairWritten architecture addresses bytes symbols (relocation_in bytes n) (relocation_in bytes (n + 1)) middle now
-    → AreUntouched architecture bytes before (n + 2) now
-pair_untouched architecture addresses bytes before middle now symbols n apart so_far written =
+    → (written : IsPairWritten architecture addresses bytes symbols (relocation_in bytes n) (relocation_in bytes (n + 1)) middle now)
+    → IsPairPlace architecture bytes before middle now n written.pair.row
+pair_place architecture addresses bytes before middle now symbols n apart so_far written =
     let o = offset_at bytes n in
     let pair = written.pair in
     let row = pair.row in
@@ -132,26 +151,37 @@ pair_untouched architecture addresses bytes before middle now symbols n apart so
     let len : field_len row (drop o before) ≡ uleb_len (take 10 (drop o before)) = len_paired row (drop o before) has paired in
     let same = so_far.0 in
     let d = length-drop o before in let dm = length-drop o middle in
-    let number = uleb_len_is (drop o middle) written.written.old written.written.rest written.written.was in
     let there = written.written.was.there in
     let some = some_uleb (drop o before) (omega (arith, there, d, dm, same)) in
     let is_field : IsField architecture bytes before n row = record { is_row = pair.has_value.is_row; some = omega (arith, some, len) } in
+    let first = pair_first architecture bytes before n row (λ i j x y less under. apart i j x y less (omega (arith, under))) is_field pair.begins in
     let uleb : uleb_len (take 10 (drop o middle)) ≡ uleb_len (take 10 (drop o before)) =
     same_uleb 10 (drop o before) (drop o middle) (omega (arith, d, dm, same))
     (λ j below. get_or-drop o middle j 0 ∙ (so_far.1 (o + j)
-    (pair_byte architecture bytes before n row (o + j) apart is_field pair.begins (omega arith) (omega (arith, below, len)))
-    ∙ sym (get_or-drop o before j 0))) in (
-      (local.same_length ∙ same),
+    (first_byte architecture bytes before n row (o + j) first (omega arith) (omega (arith, below, len)))
+    ∙ sym (get_or-drop o before j 0))) in
+    record {
+      is_field = is_field;
+      len_is = len ∙ sym uleb;
+      local = subst (λ w. IsLocal o w middle now) (uleb ∙ sym len) local;
+    }
+
+pair_untouched : (architecture : Architecture) (addresses : Addresses) (bytes before middle now : List ℕ)
+    (symbols : List Symbol) (n : ℕ) → AreApart architecture bytes before (n + 2)
+    → AreUntouched architecture bytes before n middle
+    → IsPairWritten architecture addresses bytes symbols (relocation_in bytes n) (relocation_in bytes (n + 1)) middle now
+    → AreUntouched architecture bytes before (n + 2) now
+pair_untouched architecture addresses bytes before middle now symbols n apart so_far written =
+    let row = written.pair.row in
+    let place = pair_place architecture addresses bytes before middle now symbols n apart so_far written in (
+      (place.local.same_length ∙ so_far.0),
       (λ p outside.
-          local_byte o (uleb_len (take 10 (drop o middle))) p middle now local
-          (elim (outside n row (omega arith) is_field) [
-            | inl below ↦ inl below
-            | inr behind ↦ inr (omega (arith, behind, len, uleb))
-          ])
+          local_byte (offset_at bytes n) (field_len row (drop (offset_at bytes n) before)) p middle now place.local
+          (outside n row (omega arith) place.is_field)
           ∙ so_far.1 p (fewer architecture bytes before n (n + 2) p (omega arith) outside)),
     )
 
-untouched : (architecture : Architecture) (addresses : Addresses) (bytes before : List ℕ)
+pub untouched : (architecture : Architecture) (addresses : Addresses) (bytes before : List ℕ)
     (symbols : List Symbol) {n : ℕ} {now : List ℕ} → AreApart architecture bytes before n
     → AreRelocated architecture addresses bytes symbols before n now
     → AreUntouched architecture bytes before n now

@@ -1,6 +1,6 @@
 -- Fields that are gone through by ascending offsets are apart, if each is clear of the last one.
 use Rattle.std.proofs.Common.{◌≡◌, ℕ, ◌+◌, ◌-◌, ◌/◌, ◌<◌, ◌≤◌, ◌⊎◌, ◌&&◌, eqb, leb, sym, ap, subst, ◌∙◌, inl, inr, arith, true, false, true≢false, List, length, Some}
-use Rattle.std.proofs.lemmas.Bool.{or_cases, or_parts, and_parts, eqb-true, eq-eqb, leb-true, leb-false, cases_eq, cases_lt, and_from, both_ways}
+use Rattle.std.proofs.lemmas.Bool.{or_cases, or_parts, and_parts, eqb-true, eq-eqb, leb-true, leb-false, cases_eq, and_from, both_ways}
 use Rattle.linker_elf.specs.Relocate.{window_len}
 use Rattle.linker_elf.specs.declared.elf.RelocationKindInfo.{RelocationKindInfo}
 use Rattle.linker_section.proofs.Composing.{no, continues_on, second_is_none, first_is_none, begun_continues_none, begun_is_continued_none, begun_ends_none}
@@ -9,7 +9,8 @@ use Rattle.linker_section.specs.Fields.{IsField, continues, field_end, begins_pa
 use Rattle.linker_section.specs.Relocations.{relocation_in}
 use Rattle.linker_section.specs.Sections.{BeginsPair}
 use Rattle.linker_utils.specs.Architectures.{IsRow}
-use Rattle.linker_section.specs.Inner.Claims.{continues_at, is_clear_of, IsContinued, IsLastField, AreClaimed, HasField, IsClear}
+use Rattle.linker_section.specs.Inner.Claims.{continues_at, is_clear_of, IsContinued, IsLastField, AreClaimed, HasField}
+use Rattle.linker_section.specs.Inner.Order.{ApartIn}
 use Rattle.linker_section.specs.declared.relocations.Rela.{Rela}
 use Rattle.std.specs.Prelude.{IfSome, is_some, Option, None}
 use Rattle.linker_section.specs.Values.{offset_at}
@@ -49,13 +50,6 @@ not_clear field last order clear =
     )
 
 -- ---- one more field
-
--- relocations that were seen compose where their fields overlap
-abbrev pub ApartIn : Architecture → List ℕ → List ℕ → (ℕ → Type 0) → Type 0
-ApartIn architecture bytes section IsSeen =
-    (i j : ℕ) (row other : RelocationKindInfo) → IsSeen i → IsSeen j → i < j
-    → IsField architecture bytes section i row → IsField architecture bytes section j other
-    → Overlap bytes section i row j other → Composes bytes i row j other
 
 pub some_len : (architecture : Architecture) (bytes section : List ℕ) (k : ℕ)
     (row : RelocationKindInfo) (field : Field) → HasField architecture bytes section k row field
@@ -105,6 +99,7 @@ earlier_composes architecture bytes section IsSeen last k row field claimed h or
 -- a set with one more
 pub record OneMore (IsSeen IsSeenNow : ℕ → Type 0) (k : ℕ) : Type 0 where
   pub before : (i : ℕ) → IsSeenNow i → IsSeen i ⊎ (i ≡ k)
+  pub kept : (i : ℕ) → IsSeen i → IsSeenNow i
   pub now : IsSeenNow k
 
 pub apart_more : (architecture : Architecture) (bytes section : List ℕ)
@@ -206,76 +201,94 @@ overlapped architecture bytes section IsSeen last k row field claimed is_field p
       ]),
     )
 
+-- the last field is also that of one of more
+last_kept : (architecture : Architecture) (bytes section : List ℕ) (IsSeen IsSeenNow : ℕ → Type 0)
+    (last : Field) → ((i : ℕ) → IsSeen i → IsSeenNow i)
+    → IsLastField architecture bytes section IsSeen last
+    → IsLastField architecture bytes section IsSeenNow last
+last_kept architecture bytes section IsSeen IsSeenNow last kept at =
+    record {
+      index = at.index;
+      seen = kept at.index at.seen;
+      row = at.row;
+      is_field = at.is_field;
+      offset_is = at.offset_is;
+      end_is = at.end_is;
+      kind_is = at.kind_is;
+      continued = at.continued;
+    }
+
 -- ---- the second of a pair, at the first's field
 
-pub apart_pair : (architecture : Architecture) (bytes section : List ℕ) (k : ℕ)
-    (row other : RelocationKindInfo) (field : Field)
-    → ApartIn architecture bytes section (λ i. i < k + 1)
-    → AreClaimed architecture bytes section (λ i. i < k + 1) field
-    → HasField architecture bytes section k row field → begins_pair row.size row.kind ≡ true
+pub apart_pair : (architecture : Architecture) (bytes section : List ℕ)
+    (IsSeen IsSeenNow : ℕ → Type 0) (k : ℕ) (row other : RelocationKindInfo)
+    → OneMore IsSeen IsSeenNow (k + 1) → IsSeen k → ApartIn architecture bytes section IsSeen
+    → IsField architecture bytes section k row → begins_pair row.size row.kind ≡ true
     → IsField architecture bytes section (k + 1) other
     → offset_at bytes (k + 1) ≡ offset_at bytes k
     → field_end bytes section (k + 1) other ≡ field_end bytes section k row
-    → ends_pair other.size other.kind ≡ true
-    → ApartIn architecture bytes section (λ i. i < k + 2)
-apart_pair architecture bytes section k row other field apart claimed h begins is_other same_offset same_end ends i j one next seen_i seen_j below is_one is_next overlap =
-    elim (cases_lt j (k + 1)) [
-      | inl under ↦ apart i j one next (omega (arith, below, under)) under below is_one is_next overlap
-      | inr from ↦
-          let new : j ≡ k + 1 = omega (arith, from, seen_j) in
-          let here : IsField architecture bytes section (k + 1) next = subst (λ x. IsField architecture bytes section x next) new is_next in
-          let same : other ≡ next = one_info architecture _ other next is_other.is_row here.is_row in
-          let o = ap (offset_at bytes) new in
-          let overlap_0 = overlap.0 in let overlap_1 = overlap.1 in
-          let end : field_end bytes section j next ≡ field_end bytes section k row =
-          subst (λ x. field_end bytes section x next ≡ field_end bytes section k row) (sym new)
-          (subst (λ x. field_end bytes section (k + 1) x ≡ field_end bytes section k row) same same_end) in
-          elim (cases_eq i k) [
-            | inl is ↦
-                let first : row ≡ one = one_info architecture _ row one h.is_field.is_row
-                (subst (λ x. IsField architecture bytes section x one) is is_one).is_row in
-                of_pair (ap (offset_at bytes) is ∙ (sym same_offset ∙ sym o)) (new ∙ ap (λ x. x + 1) (sym is))
-                (subst (λ x. begins_pair x.size x.kind ≡ true) first begins)
-                (subst (λ x. ends_pair x.size x.kind ≡ true) same ends)
-            | inr isnt ↦
-                let before : i < k = omega (arith, isnt, below, new) in
-                absurd (elim (apart i k one row (omega (arith, before)) (omega arith) before is_one h.is_field
-                ((omega (arith, overlap_0, end)), (omega (arith, overlap_1, o, same_offset)))) [
-                  | of_number offset window on ↦
-                      true≢false (sym on ∙ begun_is_continued_none row.size row.kind one.kind begins)
-                  | of_pair offset after begun ended ↦
-                      true≢false (sym ended ∙ begun_ends_none row.size row.kind begins)
-                ])
-          ]
+    → ends_pair other.size other.kind ≡ true → ApartIn architecture bytes section IsSeenNow
+apart_pair architecture bytes section IsSeen IsSeenNow k row other more seen apart is_field begins is_other same_offset same_end ends i j one next seen_i seen_j below is_one is_next overlap =
+    let overlap_0 = overlap.0 in let overlap_1 = overlap.1 in
+    elim (more.before i seen_i) [
+      | inl was_i ↦ elim (more.before j seen_j) [
+        | inl was_j ↦ apart i j one next was_i was_j below is_one is_next overlap
+        | inr new ↦
+            let here : IsField architecture bytes section (k + 1) next = subst (λ x. IsField architecture bytes section x next) new is_next in
+            let same : other ≡ next = one_info architecture _ other next is_other.is_row here.is_row in
+            let o = ap (offset_at bytes) new in
+            let end : field_end bytes section j next ≡ field_end bytes section k row =
+            subst (λ x. field_end bytes section x next ≡ field_end bytes section k row) (sym new)
+            (subst (λ x. field_end bytes section (k + 1) x ≡ field_end bytes section k row) same same_end) in
+            elim (cases_eq i k) [
+              | inl is ↦
+                  let first : row ≡ one = one_info architecture _ row one is_field.is_row
+                  (subst (λ x. IsField architecture bytes section x one) is is_one).is_row in
+                  of_pair (ap (offset_at bytes) is ∙ (sym same_offset ∙ sym o)) (new ∙ ap (λ x. x + 1) (sym is))
+                  (subst (λ x. begins_pair x.size x.kind ≡ true) first begins)
+                  (subst (λ x. ends_pair x.size x.kind ≡ true) same ends)
+              | inr isnt ↦
+                  absurd (elim (apart i k one row was_i seen (omega (arith, isnt, below, new)) is_one is_field
+                  ((omega (arith, overlap_0, end)), (omega (arith, overlap_1, o, same_offset)))) [
+                    | of_number offset window on ↦
+                        true≢false (sym on ∙ begun_is_continued_none row.size row.kind one.kind begins)
+                    | of_pair offset after begun ended ↦
+                        true≢false (sym ended ∙ begun_ends_none row.size row.kind begins)
+                  ])
+            ]
+      ]
+      | inr new ↦ elim (more.before j seen_j) [
+        | inl was_j ↦
+            let here : IsField architecture bytes section (k + 1) one = subst (λ x. IsField architecture bytes section x one) new is_one in
+            let same : other ≡ one = one_info architecture _ other one is_other.is_row here.is_row in
+            let o = ap (offset_at bytes) new in
+            let end : field_end bytes section i one ≡ field_end bytes section k row =
+            subst (λ x. field_end bytes section x one ≡ field_end bytes section k row) (sym new)
+            (subst (λ x. field_end bytes section (k + 1) x ≡ field_end bytes section k row) same same_end) in
+            absurd (elim (apart k j row next seen was_j (omega (arith, below, new)) is_field is_next
+            ((omega (arith, overlap_0, o, same_offset)), (omega (arith, overlap_1, end)))) [
+              | of_number offset window on ↦
+                  true≢false (sym on ∙ begun_continues_none row.size row.kind next.kind begins)
+              | of_pair offset after begun ended ↦ omega (arith, after, new, below)
+            ])
+        | inr also ↦ absurd (omega (arith, new, also, below))
+      ]
     ]
 
-pub claimed_pair : (architecture : Architecture) (bytes section : List ℕ) (k : ℕ)
-    (row other : RelocationKindInfo) (field : Field)
-    → AreClaimed architecture bytes section (λ i. i < k + 1) field
+pub claimed_pair : (architecture : Architecture) (bytes section : List ℕ)
+    (IsSeen IsSeenNow : ℕ → Type 0) (k : ℕ) (row other : RelocationKindInfo) (field : Field)
+    → OneMore IsSeen IsSeenNow (k + 1) → AreClaimed architecture bytes section IsSeen field
     → HasField architecture bytes section k row field → begins_pair row.size row.kind ≡ true
     → offset_at bytes (k + 1) ≡ offset_at bytes k
     → IsField architecture bytes section (k + 1) other
     → field_end bytes section (k + 1) other ≡ field_end bytes section k row
-    → AreClaimed architecture bytes section (λ i. i < k + 2) field
-claimed_pair architecture bytes section k row other field claimed h begins same_offset is_other same_end =
+    → AreClaimed architecture bytes section IsSeenNow field
+claimed_pair architecture bytes section IsSeen IsSeenNow k row other field more claimed h begins same_offset is_other same_end =
     record {
-      is_last = λ some.
-          let at = claimed.is_last some in
-          let seen = at.seen in
-          record {
-            index = at.index;
-            seen = omega (arith, seen);
-            row = at.row;
-            is_field = at.is_field;
-            offset_is = at.offset_is;
-            end_is = at.end_is;
-            kind_is = at.kind_is;
-            continued = at.continued;
-          };
-      others = λ i next seen is_next. elim (cases_lt i (k + 1)) [
-        | inl under ↦ claimed.others i next under is_next
-        | inr from ↦
-            let new : i ≡ k + 1 = omega (arith, from, seen) in
+      is_last = λ some. last_kept architecture bytes section IsSeen IsSeenNow field more.kept (claimed.is_last some);
+      others = λ i next seen is_next. elim (more.before i seen) [
+        | inl was ↦ claimed.others i next was is_next
+        | inr new ↦
             let here : IsField architecture bytes section (k + 1) next = subst (λ x. IsField architecture bytes section x next) new is_next in
             let same : other ≡ next = one_info architecture _ other next is_other.is_row here.is_row in
             inr (
@@ -284,42 +297,6 @@ claimed_pair architecture bytes section k row other field claimed h begins same_
                   (subst (λ x. field_end bytes section (k + 1) x ≡ field.offset + field.len) same (same_end ∙ h.end_is))),
               (λ kind is. absurd (true≢false (sym is ∙ subst (λ x. continues x kind ≡ false) h.kind_is (begun_continues_none row.size row.kind kind begins)))),
             )
-      ];
-    }
-
--- ---- a relocation without a field
-
-pub apart_mark : (architecture : Architecture) (bytes section : List ℕ) (k : ℕ)
-    → ((row : RelocationKindInfo) → IsField architecture bytes section k row → ⊥)
-    → AreApart architecture bytes section k → AreApart architecture bytes section (k + 1)
-apart_mark architecture bytes section k none apart i j row other below under is_field is_other overlap =
-    elim (cases_eq j k) [
-      | inl is ↦ absurd (none other (subst (λ x. IsField architecture bytes section x other) is is_other))
-      | inr isnt ↦ apart i j row other below (omega (arith, isnt, under)) is_field is_other overlap
-    ]
-
-pub claimed_mark : (architecture : Architecture) (bytes section : List ℕ) (k : ℕ) (last : Field)
-    → ((row : RelocationKindInfo) → IsField architecture bytes section k row → ⊥)
-    → AreClaimed architecture bytes section (λ i. i < k) last
-    → AreClaimed architecture bytes section (λ i. i < k + 1) last
-claimed_mark architecture bytes section k last none claimed =
-    record {
-      is_last = λ some.
-          let at = claimed.is_last some in
-          let seen = at.seen in
-          record {
-            index = at.index;
-            seen = omega (arith, seen);
-            row = at.row;
-            is_field = at.is_field;
-            offset_is = at.offset_is;
-            end_is = at.end_is;
-            kind_is = at.kind_is;
-            continued = at.continued;
-          };
-      others = λ i other seen is_other. elim (cases_eq i k) [
-        | inl is ↦ absurd (none other (subst (λ x. IsField architecture bytes section x other) is is_other))
-        | inr isnt ↦ claimed.others i other (omega (arith, isnt, seen)) is_other
       ];
     }
 
@@ -335,10 +312,78 @@ pub from_in : (architecture : Architecture) (bytes section : List ℕ) (k : ℕ)
 from_in architecture bytes section k apart i j row other below under is_field is_other overlap =
     apart i j row other (omega (arith, below, under)) under below is_field is_other overlap
 
+-- ---- a relocation without a field
+
+-- those that are seen now were seen before, or have no field
+abbrev pub HaveNone : Architecture → List ℕ → List ℕ → (ℕ → Type 0) → (ℕ → Type 0) → Type 0
+HaveNone architecture bytes section IsSeen IsSeenNow =
+    (i : ℕ) → IsSeenNow i
+    → IsSeen i ⊎ ((row : RelocationKindInfo) → IsField architecture bytes section i row → ⊥)
+
+pub apart_without : (architecture : Architecture) (bytes section : List ℕ)
+    (IsSeen IsSeenNow : ℕ → Type 0) → HaveNone architecture bytes section IsSeen IsSeenNow
+    → ApartIn architecture bytes section IsSeen → ApartIn architecture bytes section IsSeenNow
+apart_without architecture bytes section IsSeen IsSeenNow none apart i j row other seen_i seen_j below is_field is_other overlap =
+    elim (none i seen_i) [
+      | inr without ↦ absurd (without row is_field)
+      | inl was_i ↦ elim (none j seen_j) [
+        | inr without ↦ absurd (without other is_other)
+        | inl was_j ↦ apart i j row other was_i was_j below is_field is_other overlap
+      ]
+    ]
+
+pub claimed_without : (architecture : Architecture) (bytes section : List ℕ)
+    (IsSeen IsSeenNow : ℕ → Type 0) (last : Field)
+    → HaveNone architecture bytes section IsSeen IsSeenNow → ((i : ℕ) → IsSeen i → IsSeenNow i)
+    → AreClaimed architecture bytes section IsSeen last
+    → AreClaimed architecture bytes section IsSeenNow last
+claimed_without architecture bytes section IsSeen IsSeenNow last none kept claimed =
+    record {
+      is_last = λ some. last_kept architecture bytes section IsSeen IsSeenNow last kept (claimed.is_last some);
+      others = λ i other seen is_other. elim (none i seen) [
+        | inr without ↦ absurd (without other is_other)
+        | inl was ↦ claimed.others i other was is_other
+      ];
+    }
+
+none_below : (architecture : Architecture) (bytes section : List ℕ) (k : ℕ)
+    → ((row : RelocationKindInfo) → IsField architecture bytes section k row → ⊥)
+    → HaveNone architecture bytes section (λ i. i < k) (λ i. i < k + 1)
+none_below architecture bytes section k none i under =
+    elim (cases_eq i k) [
+      | inl is ↦ inr (λ row is_field. none row (subst (λ x. IsField architecture bytes section x row) is is_field))
+      | inr isnt ↦ inl (omega (arith, isnt, under))
+    ]
+
+pub apart_mark : (architecture : Architecture) (bytes section : List ℕ) (k : ℕ)
+    → ((row : RelocationKindInfo) → IsField architecture bytes section k row → ⊥)
+    → AreApart architecture bytes section k → AreApart architecture bytes section (k + 1)
+apart_mark architecture bytes section k none apart =
+    from_in architecture bytes section (k + 1)
+    (apart_without architecture bytes section (λ i. i < k) (λ i. i < k + 1) (none_below architecture bytes section k none)
+    (to_in architecture bytes section k apart))
+
+pub claimed_mark : (architecture : Architecture) (bytes section : List ℕ) (k : ℕ) (last : Field)
+    → ((row : RelocationKindInfo) → IsField architecture bytes section k row → ⊥)
+    → AreClaimed architecture bytes section (λ i. i < k) last
+    → AreClaimed architecture bytes section (λ i. i < k + 1) last
+claimed_mark architecture bytes section k last none claimed =
+    claimed_without architecture bytes section (λ i. i < k) (λ i. i < k + 1) last (none_below architecture bytes section k none)
+    (λ i below. omega (arith, below)) claimed
+
 pub one_below : (k : ℕ) → OneMore (λ i. i < k) (λ i. i < k + 1) k
 one_below k =
     record {
       before = λ i below. elim (cases_eq i k) [ inl is ↦ inr is | inr isnt ↦ inl (omega (arith, isnt, below)) ];
+      kept = λ i below. omega (arith, below);
+      now = omega arith;
+    }
+
+pub pair_below : (k : ℕ) → OneMore (λ i. i < k + 1) (λ i. i < k + 2) (k + 1)
+pair_below k =
+    record {
+      before = λ i below. elim (cases_eq i (k + 1)) [ inl is ↦ inr is | inr isnt ↦ inl (omega (arith, isnt, below)) ];
+      kept = λ i below. omega (arith, below);
       now = omega arith;
     }
 
@@ -374,35 +419,6 @@ pair_begins architecture bytes i j row other offset next under begins ends is_ro
       is_other = subst (λ x. IsRow architecture (relocation_in bytes x).code (Some other)) next is_other;
       ends = ends;
     }
-
--- the later field isn't before the earlier one
-pub ordered_composes : (architecture : Architecture) (bytes section : List ℕ) (i j : ℕ)
-    (row other : RelocationKindInfo) (first second : Field)
-    → HasField architecture bytes section i row first
-    → HasField architecture bytes section j other second → first.offset ≤ second.offset
-    → is_clear_of second first ≡ true → Overlap bytes section i row j other
-    → Composes bytes i row j other
-ordered_composes architecture bytes section i j row other first second h g order clear overlap =
-    elim (clear_cases second first order clear) [
-      | inl far ↦ absurd (let e = h.end_is in let o = g.offset_is in let b = overlap.1 in omega (arith, far, e, o, b))
-      | inr joins ↦
-          let on : continues row.kind other.kind ≡ true =
-          subst (λ x. continues x other.kind ≡ true) (sym h.kind_is) (subst (λ x. continues first.kind x ≡ true) (sym g.kind_is) joins.continues_is) in
-          of_number (h.offset_is ∙ (sym joins.offset_is ∙ sym g.offset_is))
-          (h.window_is (first_is_none row.kind other.kind row.size on)
-          ∙ (sym joins.len_is ∙ sym (g.window_is (second_is_none row.kind other.kind other.size on)))) on
-    ]
-
-pub behind_overlap_none : (architecture : Architecture) (bytes section : List ℕ) (i j : ℕ)
-    (row other : RelocationKindInfo) (first second : Field)
-    → HasField architecture bytes section i row first
-    → HasField architecture bytes section j other second → second.offset < first.offset
-    → is_clear_of first second ≡ true → Overlap bytes section i row j other → ⊥
-behind_overlap_none architecture bytes section i j row other first second h g order clear overlap =
-    elim (clear_cases first second (omega (arith, order)) clear) [
-      | inl far ↦ let e = g.end_is in let o = h.offset_is in let b = overlap.0 in omega (arith, far, e, o, b)
-      | inr joins ↦ let o = joins.offset_is in omega (arith, o, order)
-    ]
 
 -- a collision
 pub ordered_overlapped : (architecture : Architecture) (bytes section : List ℕ) (i j : ℕ)
@@ -457,18 +473,6 @@ behind_overlapped architecture bytes section i j row other first second below h 
         | of_pair offset next begins ends ↦ omega (arith, offset, o, p, order)
       ];
     }
-
-pub apart_upto : (architecture : Architecture) (bytes section : List ℕ) (k : ℕ)
-    → AreApart architecture bytes section k → IsClear architecture bytes section k k
-    → AreApart architecture bytes section (k + 1)
-apart_upto architecture bytes section k apart clear i j row other below under is_one is_other overlap =
-    elim (cases_eq j k) [
-      | inl is ↦
-          subst (λ x. Composes bytes i row x other) (sym is) (clear i (omega (arith, is, below)) row other is_one
-          (subst (λ x. IsField architecture bytes section x other) is is_other)
-          (subst (λ x. Overlap bytes section i row x other) is overlap))
-      | inr isnt ↦ apart i j row other below (omega (arith, isnt, under)) is_one is_other overlap
-    ]
 
 pub begun_of : (architecture : Architecture) (bytes : List ℕ) (first : ℕ) (result : Option Rela)
     → is_some result ≡ true

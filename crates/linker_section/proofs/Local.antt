@@ -1,5 +1,5 @@
 -- A write changes the bytes of its field only.
-use Rattle.std.proofs.Common.{◌≡◌, ℕ, ℤ, ◌+◌, ◌-◌, ◌^◌, ◌≤◌, List, length, take, drop, true, refl, ap, sym, ◌∙◌, arith, lit≤}
+use Rattle.std.proofs.Common.{◌≡◌, ℕ, ℤ, ◌+◌, ◌^◌, ◌≤◌, List, length, take, drop, true, refl, ap, sym, ◌∙◌, arith, lit≤}
 use Rattle.std.proofs.lemmas.Bool.{and_parts, ltb-true, cond_both}
 use Rattle.std.proofs.lemmas.List.{take_at, drop_at, drop-drop, length-drop, length-take-le, length-append}
 use Rattle.std.proofs.lemmas.Slice.{drop-append-drop}
@@ -24,7 +24,7 @@ use Rattle.linker_elf.specs.declared.elf.RelocationKind.{RelocationKind}
 use Rattle.linker_elf.specs.declared.elf.RelocationKindInfo.{RelocationKindInfo}
 use Rattle.linker_elf.specs.declared.elf.RelocationSize.{RelocationSize}
 use Rattle.linker_elf.specs.declared.elf.RelocationSize.TheVariants.{ByteSize, BitMasking}
-use Rattle.linker_section.proofs.Ulebs.{uleb_len_is}
+use Rattle.linker_section.proofs.Ulebs.{uleb_len_is, same_last}
 use Rattle.linker_section.specs.Fields.{uleb_len}
 use Rattle.linker_section.specs.Sections.{IsWritten, IsPairWritten}
 use Rattle.linker_section.specs.declared.facts.Addresses.{Addresses}
@@ -41,7 +41,7 @@ pub record IsLocal (offset len : ℕ) (before after : List ℕ) : Type 0 where
 
 -- ---- a row
 
-window_at : (insn : RelocationInstruction) (bits : BitRange) (word : ℕ)
+pub window_at : (insn : RelocationInstruction) (bits : BitRange) (word : ℕ)
     → (relocation_form (insn_at insn bits word)).window ≡ (relocation_form insn).window
 window_at (AArch64 Movnz) bits word =
     cond_both (stays_movk (AArch64 Movnz) bits word) (AArch64 Movkz) (AArch64 Movnz)
@@ -73,7 +73,7 @@ small_window (RiscV f) = small_riscv f
 small_window (Ppc64 f) = small_ppc64 f
 small_window (LoongArch64 f) = small_loongarch f
 
-small_bytes : (kind : RelocationKind) (n : ℕ) → takes_size kind (ByteSize n) ≡ true → n ≤ 8
+pub small_bytes : (kind : RelocationKind) (n : ℕ) → takes_size kind (ByteSize n) ≡ true → n ≤ 8
 small_bytes kind n takes =
     let parts = and_parts (nat_lt n 9) (not (is_of_uleb128 kind n)) takes in
     let l = ltb-true n 9 (parts.0) in omega (arith, l)
@@ -132,10 +132,7 @@ pair_local architecture addresses bytes symbols first second before after w =
     let d = length-drop offset before in
     let i = w.inside in
     let was_there = was.there in
-    let was_rest : length w.written.rest ≡ length there - (was.last + 1) = ap length was.rest_is ∙ length-drop (was.last + 1) there in
-    let now_rest : length w.written.rest ≡ length w.rest - (now.last + 1) = ap length now.rest_is ∙ length-drop (now.last + 1) w.rest in
-    let now_there = now.there in
-    let last : was.last ≡ now.last = omega (arith, was_rest, now_rest, same, was_there, now_there) in
+    let last = same_last there w.number w.rest w.written in
     record {
       inside = omega (arith, is, d, i, was_there);
       kept = ap (take offset) w.around ∙ take_at (take offset before) w.rest offset n;

@@ -8,7 +8,7 @@ use Rattle.linker_elf.specs.declared.elf.RelocationKind.TheVariants as kinds
 use Rattle.linker_elf.specs.declared.elf.RelocationKindInfo.{RelocationKindInfo}
 use Rattle.linker_elf.specs.declared.elf.RelocationSize.{RelocationSize}
 use Rattle.linker_elf.specs.declared.elf.RelocationSize.TheVariants.{ByteSize, BitMasking}
-use Rattle.linker_section.proofs.Claims.{clear_cases, apart_more, claimed_more, overlapped, apart_pair, claimed_pair, apart_mark, claimed_mark, to_in, from_in, one_below}
+use Rattle.linker_section.proofs.Claims.{clear_cases, apart_more, claimed_more, overlapped, apart_pair, claimed_pair, apart_mark, claimed_mark, to_in, from_in, one_below, pair_below}
 use Rattle.linker_section.proofs.Composing.{no, second_is_none, begun_is_continued_none, begun_ends_none, ended_begins_none, ended_has_value, unvalued_begins_none, unvalued_ends_none}
 use Rattle.linker_section.proofs.Local.{IsLocal, one_local, pair_local, small_row, takes}
 use Rattle.linker_section.proofs.Saving.{undone, restores_more, restores_by, restores_local, restores_pair, plus_one}
@@ -221,7 +221,7 @@ unchanged o w now after local none =
 split : (o w offset : ℕ) → o + w ≤ offset → offset ≡ o + w + (offset - (o + w))
 split o w offset behind = omega (arith, behind)
 
-drop_behind : (o w offset : ℕ) (now after : List ℕ) → IsLocal o w now after
+pub drop_behind : (o w offset : ℕ) (now after : List ℕ) → IsLocal o w now after
     → o + w ≤ offset ⊎ (w ≡ 0) → drop offset after ≡ drop offset now
 drop_behind o w offset now after local window =
     elim window [
@@ -506,13 +506,13 @@ set_above memory k n word most i below =
 -- ---- a pair
 
 -- the second's field is the first's
-record SamePlace (architecture : Architecture) (bytes before : List ℕ) (k : ℕ)
+pub record SamePlace (architecture : Architecture) (bytes before : List ℕ) (k : ℕ)
     (row other : RelocationKindInfo) : Type 0 where
   pub len_is : field_len other (drop (offset_at bytes (k + 1)) before)
       ≡ field_len row (drop (offset_at bytes k) before)
   pub end_is : field_end bytes before (k + 1) other ≡ field_end bytes before k row
 
-same_place : (architecture : Architecture) (bytes before : List ℕ) (k : ℕ)
+pub same_place : (architecture : Architecture) (bytes before : List ℕ) (k : ℕ)
     (row other : RelocationKindInfo) → offset_at bytes (k + 1) ≡ offset_at bytes k
     → has_value row.kind ≡ true → begins_pair row.size row.kind ≡ true
     → ends_pair other.size other.kind ≡ true
@@ -558,8 +558,8 @@ ascends_pair architecture addresses bytes before now after symbols k last row or
           subst (Ascends architecture bytes before after (k + 2)) (sym (cond-false (eqb field.len 0) last field (ne_eqb field.len 0 (λ e. omega (arith, e, some)))))
           (record {
             apart = from_in architecture bytes before (k + 2)
-                (apart_pair architecture bytes before k row pair.other field apart claimed h begins second pair.same_offset place.end_is pair.ends);
-            claimed = claimed_pair architecture bytes before k row pair.other field claimed h begins pair.same_offset second place.end_is;
+                (apart_pair architecture bytes before (λ i. i < k + 1) (λ i. i < k + 2) k row pair.other (pair_below k) (omega arith) apart h.is_field begins second pair.same_offset place.end_is pair.ends);
+            claimed = claimed_pair architecture bytes before (λ i. i < k + 1) (λ i. i < k + 2) k row pair.other field (pair_below k) claimed h begins pair.same_offset second place.end_is;
             no_pair = λ i other here is_other.
                 let at : i ≡ k + 1 = omega (arith, here) in
                 let one : pair.other ≡ other = one_info architecture _ pair.other other pair.is_other (subst (λ x. IsRow architecture (relocation_in bytes x).code (Some other)) at is_other) in

@@ -1,9 +1,17 @@
 -- How many bytes a ULEB128 number has.
-use Rattle.std.proofs.Common.{◌≡◌, ℕ, suc, zero, ◌+◌, ◌-◌, ◌<◌, ◌≤◌, List, [], ◌∷◌, length, take, drop, cond, ltb, arith, ap, ◌∙◌}
+use Rattle.std.proofs.Common.{◌≡◌, ℕ, suc, zero, ◌+◌, ◌-◌, ◌*◌, ◌%◌, ◌^◌, ◌<◌, ◌≤◌, List, [], ◌∷◌, length, take, drop, cond, ltb, arith, refl, sym, ap, subst, ◌∙◌}
+use Rattle.std.proofs.Math.Nat.{pow-suc}
+use Rattle.std.proofs.lemmas.Nat.{mod_below, mul-le}
+use Rattle.linker_base.proofs.UlebLemmas.{one_reading}
+use Rattle.linker_elf.specs.declared.elf.RelocationKind.{RelocationKind}
+use Rattle.linker_elf.specs.declared.elf.RelocationKind.TheVariants as kinds
+use Rattle.linker_section.specs.Sections.{IsPairNumber}
+use Rattle.std.specs.Int.{sum_through}
+use Rattle.std.specs.Prelude.{ℤ}
 use Rattle.std.proofs.lemmas.Bool.{cond_both, cond-true, cond-false, lt-ltb, le-ltb}
-use Rattle.std.proofs.lemmas.List.{drop_more}
+use Rattle.std.proofs.lemmas.List.{drop_more, drop_all, get_or-take, take-take, length-take, length-take-le, length-drop}
 use Rattle.std.specs.Prelude.{slice_index}
-use Rattle.linker_base.specs.Uleb.{Uleb, AllContinue}
+use Rattle.linker_base.specs.Uleb.{Uleb, AllContinue, uleb_number, IsUlebWritten}
 use Rattle.linker_section.specs.Fields.{uleb_len}
 
 -- the number's last byte is the first below 0x80
@@ -61,3 +69,109 @@ uleb_goes_on bytes i inside within on =
     uleb_step bytes i inside within
     ∙ cond-false (ltb (slice_index bytes i) 0x80) 1 (1 + uleb_len (take (10 - (i + 1)) (drop (i + 1) bytes)))
     (le-ltb (slice_index bytes i) 0x80 on)
+
+-- ---- a number by its own bytes
+
+pub sum_same : (f g : ℕ → ℕ) (k : ℕ) → ((i : ℕ) → i ≤ k → f i ≡ g i)
+    → sum_through f k ≡ sum_through g k
+sum_same f g zero same = same 0 (omega arith)
+sum_same f g (suc k) same =
+    ap (λ x. x + f (suc k)) (sum_same f g k (λ i most. same i (omega (arith, most))))
+    ∙ ap (λ x. sum_through g k + x) (same (suc k) (omega arith))
+
+pub no_rest : (n : ℕ) (xs : List ℕ) → drop n (take n xs) ≡ []
+no_rest n xs = let l = length-take n xs in drop_all n (take n xs) (omega (arith, l))
+
+-- bytes that begin with those of a number have it
+pub uleb_same : (xs ys : List ℕ) (n : ℕ) (rest : List ℕ) (u : Uleb xs n rest)
+    → take (u.last + 1) ys ≡ take (u.last + 1) xs → u.last < length ys
+    → (v : Uleb ys n (drop (u.last + 1) ys)) × (v.last ≡ u.last)
+uleb_same xs ys n rest u same there =
+    let byte : (j : ℕ) → j < u.last + 1 → slice_index xs j ≡ slice_index ys j =
+    λ j below. sym (get_or-take (u.last + 1) xs j 0 below)
+    ∙ (ap (λ l. slice_index l j) (sym same) ∙ get_or-take (u.last + 1) ys j 0 below) in
+    let last = byte u.last (omega arith) in (
+      record {
+        last = u.last;
+        there = there;
+        within_ten = u.within_ten;
+        continue = λ j below. subst (λ b. 0x80 ≤ b) (byte j (omega (arith, below))) (u.continue j below);
+        ends = subst (λ b. b < 0x80) last u.ends;
+        tenth = λ is. subst (λ b. b ≤ 1) last (u.tenth is);
+        number = u.number
+            ∙ sum_same (λ j. slice_index xs j % 128 * 128 ^ j) (λ j. slice_index ys j % 128 * 128 ^ j) u.last
+            (λ j most. ap (λ b. b % 128 * 128 ^ j) (byte j (omega (arith, most))));
+        rest_is = refl;
+      },
+      refl,
+    )
+
+pub uleb_front : (xs : List ℕ) (n : ℕ) (rest : List ℕ) (u : Uleb xs n rest) (w : ℕ)
+    → w ≡ u.last + 1 → Uleb (take w xs) n []
+uleb_front xs n rest u w whole =
+    let there = u.there in
+    let same : take (u.last + 1) (take w xs) ≡ take (u.last + 1) xs = take-take (u.last + 1) w xs (omega (arith, whole)) in
+    let long = length-take-le w xs (omega (arith, there, whole)) in
+    subst (Uleb (take w xs) n) (ap (λ k. drop k (take w xs)) (sym whole) ∙ no_rest w xs)
+    (uleb_same xs (take w xs) n rest u same (omega (arith, long, whole))).0
+
+-- a number in place of another has as many bytes
+pub same_last : (before : List ℕ) (n : ℕ) (after : List ℕ) (w : IsUlebWritten before n after)
+    → w.was.last ≡ w.is.last
+same_last before n after w =
+    let same = w.same_length in
+    let was = w.was in
+    let is = w.is in
+    let was_there = was.there in
+    let is_there = is.there in
+    let was_rest : length w.rest ≡ length before - (was.last + 1) = ap length was.rest_is ∙ length-drop (was.last + 1) before in
+    let is_rest : length w.rest ≡ length after - (is.last + 1) = ap length is.rest_is ∙ length-drop (is.last + 1) after in
+    omega (arith, was_rest, is_rest, same, was_there, is_there)
+
+pub written_front : (before : List ℕ) (n : ℕ) (after : List ℕ) (written : IsUlebWritten before n after)
+    (w : ℕ) → w ≡ written.was.last + 1 → IsUlebWritten (take w before) n (take w after)
+written_front before n after written w whole =
+    let last = same_last before n after written in
+    let was_there = written.was.there in
+    let is_there = written.is.there in
+    record {
+      old = written.old;
+      rest = [];
+      was = uleb_front before written.old written.rest written.was w whole;
+      is = uleb_front after n written.rest written.is w (whole ∙ ap (λ k. k + 1) last);
+      same_length = length-take-le w after (omega (arith, is_there, last, whole))
+          ∙ sym (length-take-le w before (omega (arith, was_there, whole)));
+    }
+
+-- a number is below 128 to the count of its bytes
+groups_below : (bytes : List ℕ) (last : ℕ) → uleb_number bytes last < 128 ^ suc last
+groups_below bytes zero =
+    let group = mod_below (slice_index bytes 0) 128 (omega arith) in omega (arith, group)
+groups_below bytes (suc last) =
+    let below = groups_below bytes last in
+    let b = slice_index bytes (suc last) % 128 in
+    let group : b < 128 = mod_below (slice_index bytes (suc last)) 128 (omega arith) in
+    let most : b * 128 ^ suc last ≤ 127 * 128 ^ suc last = mul-le b (128 ^ suc last) 127 (128 ^ suc last) (omega (arith, group)) (omega arith) in
+    let next : 128 ^ suc (suc last) ≡ 128 ^ suc last * 128 = pow-suc 128 (suc last) in
+    omega (arith, below, most, next)
+
+pub uleb_below : (bytes : List ℕ) (n : ℕ) (rest : List ℕ) (u : Uleb bytes n rest)
+    → n < 128 ^ (u.last + 1)
+uleb_below bytes n rest u =
+    let e : u.last + 1 ≡ suc u.last = omega arith in
+    subst (λ k. n < 128 ^ k) (sym e) (subst (λ m. m < 128 ^ suc u.last) (sym u.number) (groups_below bytes u.last))
+
+-- the number of a pair over bytes that have any number of others
+pub pair_number_from : (kind : RelocationKind) (xs ys : List ℕ) (v w : ℤ) (number : ℕ)
+    → ((old : ℕ) (rest : List ℕ) → Uleb ys old rest → (other : List ℕ) × Uleb xs old other)
+    → IsPairNumber kind xs v w number → IsPairNumber kind ys v w number
+pair_number_from kinds.PairSubtractionULEB128LoongArch xs ys v w number from is =
+    λ old rest u. let x = from old rest u in is old (x.0) (x.1)
+pair_number_from _ xs ys v w number from is = is
+
+pub pair_number_same : (kind : RelocationKind) (xs ys : List ℕ) (v w : ℤ) (number old : ℕ)
+    (xs_rest ys_rest : List ℕ) → Uleb xs old xs_rest → Uleb ys old ys_rest
+    → IsPairNumber kind xs v w number → IsPairNumber kind ys v w number
+pair_number_same kind xs ys v w number old xs_rest ys_rest x y is =
+    pair_number_from kind xs ys v w number
+    (λ other rest u. (xs_rest, subst (λ n. Uleb xs n xs_rest) (one_reading ys old other ys_rest rest y u).0 x)) is

@@ -4,3 +4,4 @@ pub mod Needed
 pub mod Relocations
 pub mod Sections
 pub mod Values
+pub mod WrittenFields

@@ -1,7 +1,7 @@
 -- The values of a section's relocations, written.
 use Rattle.std.specs.Prelude.{◌≡◌, ◌⊎◌, ℕ, ◌+◌, ◌/◌, ◌<◌, ◌≤◌, true, ℤ, List}
 use Rattle.std.specs.Prelude.{◌++◌, length, take, drop, slice_index, Option, Some, None, Result}
-use Rattle.std.specs.Prelude.{Ok, Err}
+use Rattle.std.specs.Prelude.{Ok, Err, ⊤}
 use Rattle.std.specs.Int.{w64, cast_unsigned}
 use Rattle.linker_base.specs.Uleb.{Uleb, IsUlebWritten, IsUlebCause}
 use Rattle.linker_base.specs.declared.utils.Uleb128Error.{Uleb128Error}
@@ -198,15 +198,20 @@ IsCauseAt architecture addresses bytes symbols before i now (Uleb128 error) =
     × IsPairRejected architecture addresses bytes symbols (relocation_in bytes i)
     (relocation_in bytes (i + 1)) now error
 
+abbrev pub IsOfValue : RelocationError → Type 0
+IsOfValue (Value error) = ⊤
+IsOfValue error = ⊥
+
 -- Those before the index would be written, and that at the index not. Where it is the second of a
--- pair, the first has a value.
+-- pair and has no value, the first has one.
 pub record IsFirstRejected (architecture : Architecture) (addresses : Addresses) (bytes : List ℕ)
     (symbols : List Symbol) (before : List ℕ) (error : SectionError) : Type 0 where
   pub within : error.index < length bytes / 24
   pub apart : AreApart architecture bytes before error.index
   pub written : ℕ
   pub is_next : (error.index ≡ written)
-      ⊎ ((error.index ≡ written + 1) × BeginsPair architecture bytes written)
+      ⊎ ((error.index ≡ written + 1) × BeginsPair architecture bytes written
+      × IsOfValue error.error)
   pub now : List ℕ
   pub relocated : AreRelocated architecture addresses bytes symbols before written now
   pub cause : IsCauseAt architecture addresses bytes symbols before error.index now error.error

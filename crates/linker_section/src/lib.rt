@@ -2,6 +2,7 @@
 //! linker, and the value of each from what is known of symbols and of the output.
 #![tactic(auto)]
 
+mod codes;
 pub mod facts;
 mod fields;
 pub mod needed;

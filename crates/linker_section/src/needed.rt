@@ -1,16 +1,13 @@
 //! What a relocation requires of a linker before addresses are known.
 
-ghost use Rattle.std.specs.Prelude.{◌≡◌, ◌&&◌, Option};
+ghost use Rattle.std.specs.Prelude.{◌≡◌, ◌%◌, Option};
 ghost use Rattle.linker_elf.specs.declared.elf.RelocationKindInfo.{RelocationKindInfo};
-ghost use Rattle.linker_section.specs.Needed.{class_of_kind, class_of, addend_of_entry};
-ghost use Rattle.linker_section.specs.Needed.{is_address, takes_page, may_use_stub, is_word};
-ghost use Rattle.linker_section.specs.Needed.{loads_plt_word, entry_of, needs_of, needs_in};
+ghost use Rattle.linker_section.specs.Inner.Codes.{class_by, entry_by, requirements_by};
+ghost use Rattle.linker_section.specs.Needed.{class_of_kind, may_use_stub, loads_plt_word, needs_in};
 ghost use Rattle.linker_utils.specs.Architectures.{IsRow};
 
-use linker_utils::elf::{
-    Architecture, RelocationInstruction, RelocationKind, RelocationKindInfo, RelocationSize,
-    RiscVInstruction,
-};
+use crate::codes::{NO_ROW, byte_of};
+use linker_utils::elf::{Architecture, RelocationInstruction, RelocationKind, RelocationSize};
 
 /// What an entry of the GOT holds.
 #[derive(Debug, Clone, Copy, PartialEq, Eq)]
@@ -101,48 +98,6 @@ pub(crate) fn loads_plt_word(size: RelocationSize, kind: RelocationKind) -> bool
     )
 }
 
-/// The class of the entry that a relocation requires, whose symbol may be thread-local.
-#[inline(always)]
-fn class_of(size: RelocationSize, kind: RelocationKind, is_thread_local: bool) -> Option<EntryClass>
-    ensures { result ≡ class_of size kind is_thread_local }
-{
-    if loads_plt_word(size, kind) {
-        return Some(EntryClass::Address);
-    }
-    match size {
-        RelocationSize::BitMasking {
-            insn: RelocationInstruction::RiscV(RiscVInstruction::IType | RiscVInstruction::SType),
-            ..
-        } => None,
-        RelocationSize::BitMasking {
-            insn: RelocationInstruction::LoongArch64(_),
-            ..
-        } => match class_of_kind(kind) {
-            Some(EntryClass::Address) if is_thread_local => Some(EntryClass::ModuleOffset),
-            class => class,
-        },
-        _ => class_of_kind(kind),
-    }
-}
-
-/// The addend of an entry's address or offset.
-#[inline(always)]
-fn addend_of_entry(size: RelocationSize, class: EntryClass, addend: i64) -> i64
-    ensures { result ≡ addend_of_entry size class addend }
-{
-    match (class, size) {
-        (EntryClass::Module, _) => 0,
-        (
-            _,
-            RelocationSize::BitMasking {
-                insn: RelocationInstruction::AArch64(_) | RelocationInstruction::Ppc64(_),
-                ..
-            },
-        ) => addend,
-        _ => 0,
-    }
-}
-
 /// Whether a stub may serve as the target.
 #[inline(always)]
 pub(crate) fn may_use_stub(size: RelocationSize, kind: RelocationKind) -> bool
@@ -155,83 +110,48 @@ pub(crate) fn may_use_stub(size: RelocationSize, kind: RelocationKind) -> bool
         ) && !loads_plt_word(size, kind))
 }
 
-/// Whether it is a word of 8 bytes with S + A.
+/// The class with a number in the byte of a code.
 #[inline(always)]
-fn is_word(size: RelocationSize, kind: RelocationKind) -> bool
-    ensures { result ≡ is_word size kind }
+fn class_by(number: u8, is_thread_local: bool) -> Option<EntryClass>
+    ensures { result ≡ class_by number is_thread_local }
 {
-    matches!(size, RelocationSize::ByteSize(8)) && matches!(kind, RelocationKind::Absolute)
-}
-
-/// Whether the value is an address.
-#[inline(always)]
-fn is_address(kind: RelocationKind) -> bool
-    ensures { result ≡ is_address kind }
-{
-    matches!(
-        kind,
-        RelocationKind::Absolute
-            | RelocationKind::AbsoluteLowPart
-            | RelocationKind::Got
-            | RelocationKind::TlsGdGot
-            | RelocationKind::TlsLdGot
-            | RelocationKind::GotTpOffGot
-            | RelocationKind::TlsDescGot
-    )
-}
-
-/// Whether bits of the value above those of the offset in a page are written.
-#[inline(always)]
-fn takes_page(size: RelocationSize) -> bool
-    ensures { result ≡ takes_page size }
-{
-    match size {
-        RelocationSize::ByteSize(_) => true,
-        RelocationSize::BitMasking {
-            insn: RelocationInstruction::RiscV(RiscVInstruction::IType | RiscVInstruction::SType),
-            ..
-        } => false,
-        RelocationSize::BitMasking { range, .. } => range.end > 12,
+    match number {
+        0 => Some(EntryClass::Address),
+        1 => Some(EntryClass::ThreadOffset),
+        2 => Some(EntryClass::ModuleOffset),
+        3 => Some(EntryClass::Module),
+        4 => Some(EntryClass::Descriptor),
+        6 if is_thread_local => Some(EntryClass::ModuleOffset),
+        6 => Some(EntryClass::Address),
+        _ => None,
     }
 }
 
-/// Whether what is written depends on where the output is loaded.
+/// The entry that the byte of a code says.
 #[inline(always)]
-fn depends_on_load(info: &RelocationKindInfo) -> bool
-    ensures { result ≡ is_address info.now.kind && takes_page info.now.size }
+pub(crate) fn entry_by(byte: u8, addend: i64, is_thread_local: bool) -> Option<Entry>
+    ensures { result ≡ entry_by byte addend (class_by (byte % 8) is_thread_local) }
 {
-    is_address(info.kind) && takes_page(info.size)
-}
-
-/// The entry that a relocation of a row requires.
-#[inline(always)]
-pub(crate) fn entry_of(
-    info: &RelocationKindInfo,
-    addend: i64,
-    is_thread_local: bool,
-) -> Option<Entry>
-    ensures { result ≡ entry_of info.now addend is_thread_local }
-{
-    match class_of(info.size, info.kind, is_thread_local) {
+    match class_by(byte % 8, is_thread_local) {
         Some(class) => Some(Entry {
             class,
-            addend: addend_of_entry(info.size, class, addend),
+            addend: if byte / 8 % 2 == 1 { addend } else { 0 },
         }),
         None => None,
     }
 }
 
-/// What a relocation of a row requires.
+/// What the byte of a code says.
 #[inline(always)]
-fn needs_of(info: &RelocationKindInfo, addend: i64, is_thread_local: bool) -> Requirements
-    ensures { result ≡ needs_of info.now addend is_thread_local }
+fn requirements_by(byte: u8, addend: i64, is_thread_local: bool) -> Requirements
+    ensures { result ≡ requirements_by byte addend is_thread_local }
 {
     Requirements {
-        entry: entry_of(info, addend, is_thread_local),
-        is_branch: info.size.is_branch(),
-        may_use_stub: may_use_stub(info.size, info.kind),
-        is_word: is_word(info.size, info.kind),
-        depends_on_load: depends_on_load(info),
+        entry: entry_by(byte, addend, is_thread_local),
+        is_branch: byte / 16 % 2 == 1,
+        may_use_stub: byte / 32 % 2 == 1,
+        is_word: byte / 64 % 2 == 1,
+        depends_on_load: byte / 128 % 2 == 1,
     }
 }
 
@@ -263,8 +183,10 @@ pub fn needs(
     ensures { (row : Option RelocationKindInfo) × IsRow architecture code row
         × (result ≡ needs_in row addend is_thread_local) }
 {
-    match architecture.row(code) {
-        Some(row) => Some(needs_of(&row.info(), addend, is_thread_local)),
-        None => None,
+    let byte = byte_of(architecture, code);
+    if byte == NO_ROW {
+        None
+    } else {
+        Some(requirements_by(byte, addend, is_thread_local))
     }
 }

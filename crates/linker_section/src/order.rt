@@ -1,19 +1,20 @@
 //! Relocations in any order: the first whose field overlaps that of an earlier one.
 
-ghost use Rattle.std.specs.Prelude.{◌≡◌, ◌<◌, ◌+◌, ◌/◌, ◌↔◌, IsTrue, IfSome, IfNone, Some, length};
-ghost use Rattle.std.specs.Prelude.{true, false};
+ghost use Rattle.std.specs.Prelude.{◌≡◌, ◌<◌, ◌≤◌, ◌+◌, ◌/◌, ◌↔◌, IsTrue, IfSome, IfNone, Some};
+ghost use Rattle.std.specs.Prelude.{true, false, length};
 ghost use Rattle.linker_elf.specs.declared.elf.RelocationKindInfo.{RelocationKindInfo};
-ghost use Rattle.linker_section.specs.Fields.{IsField, IsOverlapped};
-ghost use Rattle.linker_section.specs.Inner.Claims.{HasField, ComposeIfOverlap, IsClear};
+ghost use Rattle.linker_section.specs.Fields.{IsField, AreApart};
+ghost use Rattle.linker_section.specs.Inner.Claims.{HasField};
+ghost use Rattle.linker_section.specs.Inner.Order.{place_of, AreIndexes, IsOrder, IsOverlappedBelow};
 ghost use Rattle.linker_section.specs.Inner.Steps.{IsLimit};
 ghost use Rattle.linker_section.specs.Sections.{BeginsPair};
 ghost use Rattle.linker_section.specs.Values.{IsAscending};
 
 use crate::fields::Field;
-use crate::relocations::{relocation_in, relocations_len};
+use crate::relocations::{relocation_at, relocation_in, relocations_len};
 use crate::sections::{field_at, second_of_pair};
 use crate::values::{has_value, offset_at};
-use linker_utils::elf::Architecture;
+use linker_utils::elf::{Architecture, RelocationKind};
 
 /// Whether relocations ascend by offset.
 pub(crate) fn is_ascending(relocations: &[u8]) -> bool
@@ -31,35 +32,115 @@ pub(crate) fn is_ascending(relocations: &[u8]) -> bool
 }
 
 /// The least index of a relocation whose field overlaps that of an earlier one with which it
-/// doesn't compose; as many as there are relocations if there is none.
-pub(crate) fn first_overlap(architecture: Architecture, relocations: &[u8], section: &[u8]) -> usize
-    ensures { IsLimit architecture relocations.now section.now (Some result) }
-{
-    for index in 0..relocations_len(relocations) {
-        if overlaps_earlier(architecture, relocations, section, index) {
-            return index;
-        }
-    }
-    relocations_len(relocations)
-}
-
-/// Whether a relocation's field overlaps that of an earlier one with which it doesn't compose.
-fn overlaps_earlier(
+/// doesn't compose; as many as there are relocations if there is none. `order` is memory for its
+/// work, with an element for each relocation.
+pub(crate) fn first_overlap(
     architecture: Architecture,
     relocations: &[u8],
     section: &[u8],
-    index: usize,
-) -> bool
-    requires { index < length relocations.now / 24 }
-    ensures found { result ≡ true → IsOverlapped architecture relocations.now section.now index }
-    ensures none { result ≡ false → IsClear architecture relocations.now section.now index index }
+    order: &mut [u64],
+) -> usize
+    requires { length order.old ≡ length relocations.now / 24 }
+    ensures { IsLimit architecture relocations.now section.now (Some result) }
 {
-    for earlier in 0..index {
-        if overlaps(architecture, relocations, section, earlier, index) {
-            return true;
+    sort_indexes(relocations, order);
+    least_overlap(architecture, relocations, section, order)
+}
+
+/// A number by which the indexes of relocations are sorted: by offset, and then by themselves.
+#[inline(always)]
+fn place_of(relocations: &[u8], index: u64) -> u128
+    ensures { result ≡ place_of relocations.now index }
+{
+    match relocation_at(relocations, index as usize) {
+        Some(relocation) => u128::from(relocation.offset) * (1 << 64) + u128::from(index),
+        None => u128::from(index),
+    }
+}
+
+/// Makes the indexes of relocations, sorted by their offsets and then by themselves.
+fn sort_indexes(relocations: &[u8], order: &mut [u64])
+    requires { length order.old ≡ length relocations.now / 24 }
+    ensures { IsOrder relocations.now order.new }
+{
+    list_indexes(order);
+    order.sort_unstable_by_key(|index| place_of(relocations, *index));
+}
+
+/// Makes the indexes below a slice's length.
+fn list_indexes(order: &mut [u64])
+    ensures len { length order.new ≡ length order.old }
+    ensures indexes { AreIndexes order.new }
+{
+    for index in 0..order.len() {
+        order[index] = index as u64;
+    }
+}
+
+/// The same as `first_overlap`, by the sorted indexes: a search for how many relocations are apart.
+fn least_overlap(
+    architecture: Architecture,
+    relocations: &[u8],
+    section: &[u8],
+    order: &[u64],
+) -> usize
+    requires { IsOrder relocations.now order.now }
+    ensures { IsLimit architecture relocations.now section.now (Some result) }
+{
+    let len = relocations_len(relocations);
+    if are_apart(architecture, relocations, section, order, len) {
+        return len;
+    }
+    let mut low = 0;
+    let mut high = len;
+    while high - low > 1 {
+        let middle = low + (high - low) / 2;
+        if are_apart(architecture, relocations, section, order, middle) {
+            low = middle;
+        } else {
+            high = middle;
         }
     }
-    false
+    low
+}
+
+/// Whether of the relocations below an index those compose whose fields overlap, by the sorted
+/// indexes: each field is compared with the last one before it.
+fn are_apart(
+    architecture: Architecture,
+    relocations: &[u8],
+    section: &[u8],
+    order: &[u64],
+    count: usize,
+) -> bool
+    requires order { IsOrder relocations.now order.now }
+    requires within { count ≤ length relocations.now / 24 }
+    ensures yes { result ≡ true → AreApart architecture relocations.now section.now count }
+    ensures no { result ≡ false
+        → IsOverlappedBelow architecture relocations.now section.now count }
+{
+    let mut last = Field {
+        offset: 0,
+        len: 0,
+        kind: RelocationKind::None,
+    };
+    let mut last_index = 0;
+    for place in 0..order.len() {
+        let index = order[place] as usize;
+        if index >= count {
+            continue;
+        }
+        let Some(field) = field_in(architecture, relocations, section, index) else {
+            continue;
+        };
+        if field.is_clear_of(&last) {
+            last = field;
+            last_index = index;
+        } else if !is_second_of(architecture, relocations, last_index, index) {
+            return false;
+        }
+    }
+    true
 }
 
 /// The field of the relocation at an index, if it has one.
@@ -101,33 +182,4 @@ fn is_second_of(architecture: Architecture, relocations: &[u8], first: usize, in
         return false;
     };
     second_of_pair(architecture, relocations, first, &row).is_some()
-}
-
-/// Whether the fields of two relocations overlap, which don't compose.
-fn overlaps(
-    architecture: Architecture,
-    relocations: &[u8],
-    section: &[u8],
-    earlier: usize,
-    index: usize,
-) -> bool
-    requires order { earlier < index }
-    requires within { index < length relocations.now / 24 }
-    ensures found { result ≡ true → IsOverlapped architecture relocations.now section.now index }
-    ensures none { result ≡ false
-        → ComposeIfOverlap architecture relocations.now section.now earlier index }
-{
-    let Some(first) = field_in(architecture, relocations, section, earlier) else {
-        return false;
-    };
-    let Some(second) = field_in(architecture, relocations, section, index) else {
-        return false;
-    };
-    if second.offset < first.offset {
-        return !first.is_clear_of(&second);
-    }
-    if second.is_clear_of(&first) {
-        return false;
-    }
-    !is_second_of(architecture, relocations, earlier, index)
 }

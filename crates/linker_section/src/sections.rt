@@ -1,7 +1,7 @@
 //! The values of a section's relocations, written.
 
 ghost use Rattle.std.specs.Prelude.{◌≡◌, ◌≤◌, ◌<◌, ◌+◌, ◌/◌, ℕ, List, length, drop, IfErr, IfSome};
-ghost use Rattle.std.specs.Prelude.{IfNone, OnOk, take, true};
+ghost use Rattle.std.specs.Prelude.{IfNone, OnOk, IsOk, take, true, ◌↔◌};
 ghost use Rattle.linker_base.specs.Uleb.{Uleb};
 ghost use Rattle.linker_section.specs.Fields.{uleb_len, begins_pair};
 ghost use Rattle.linker_section.specs.Relocations.{relocation_in};
@@ -10,10 +10,12 @@ ghost use Rattle.linker_section.specs.Sections.{IsNumberWrittenAt, AreAllRelocat
 ghost use Rattle.linker_section.specs.Sections.{BeginsPair, HasValue};
 ghost use Rattle.linker_section.specs.Inner.Steps.{IsLimit, IsStopped, IsSecond, clear_in, field_of_row};
 ghost use Rattle.linker_section.specs.Inner.Steps.{IsPairOutcome};
-ghost use Rattle.linker_section.specs.Values.{has_value};
+ghost use Rattle.linker_section.specs.Values.{has_value, IsAscending};
+ghost use Rattle.linker_section.specs.WrittenFields.{AreWritten, CanBeWritten, IsFirstFault};
 ghost use Rattle.linker_utils.specs.Architectures.{IsRow};
 ghost use Rattle.linker_elf.specs.declared.elf.RelocationKindInfo.{RelocationKindInfo};
 
+use crate::codes::byte_of;
 use crate::facts::{Addresses, Symbol};
 use crate::fields::{Field, begins_pair, ends_pair, is_of_pair, uleb_len};
 use crate::order::{first_overlap, is_ascending};
@@ -78,6 +80,7 @@ fn row_value(
         addresses,
         relocations,
         symbols,
+        byte_of(architecture, relocation.code),
         &info,
         relocation,
     ) {
@@ -275,6 +278,7 @@ struct Stopped {
 
 /// Writes the values of a section's relocations in their order, and keeps the bytes that were there
 /// before.
+#[inline(always)]
 fn write_values(
     architecture: Architecture,
     addresses: &Addresses,
@@ -366,6 +370,43 @@ fn write_values(
     Ok(())
 }
 
+/// A call for an architecture, which is compiled for each by itself.
+macro_rules! of_each {
+    ($architecture:ident, $call:ident($($given:ident),*)) => {
+        match $architecture {
+            Architecture::AArch64 => $call(Architecture::AArch64, $($given),*),
+            Architecture::RiscV => $call(Architecture::RiscV, $($given),*),
+            Architecture::LoongArch64 => $call(Architecture::LoongArch64, $($given),*),
+            Architecture::Ppc64 => $call(Architecture::Ppc64, $($given),*),
+            Architecture::X86_64 => $call(Architecture::X86_64, $($given),*),
+        }
+    };
+}
+
+/// The same as `write_values`, by code of the architecture's own.
+fn write_values_of(
+    architecture: Architecture,
+    addresses: &Addresses,
+    relocations: &[u8],
+    symbols: &[Symbol],
+    limit: Option<usize>,
+    section: &mut [u8],
+    memory: &mut [u64],
+) -> Result<(), Stopped>
+    requires memory { length relocations.now / 24 ≤ length memory.old }
+    requires limit { IsLimit architecture relocations.now section.old limit }
+    ensures len { length memory.new ≡ length memory.old }
+    ensures ok { OnOk result (AreAllRelocated architecture addresses.now relocations.now
+        symbols.now section.old section.new) }
+    ensures err { IfErr result (IsStopped architecture addresses.now relocations.now symbols.now
+        section.old section.new memory.new) }
+{
+    of_each!(
+        architecture,
+        write_values(addresses, relocations, symbols, limit, section, memory)
+    )
+}
+
 /// How many elements of memory `relocate_section` takes: one for each relocation.
 #[inline(always)]
 pub fn memory_len(relocations: &[u8]) -> usize
@@ -385,9 +426,9 @@ pub fn memory_len(relocations: &[u8]) -> usize
 ///   of 24 bits; and `R_RISCV_SET6`, `R_RISCV_SUB6`, `R_LARCH_ADD6` and `R_LARCH_SUB6`), or
 /// - to be a pair at a ULEB128 number, next to each other.
 ///
-/// A relocation without a value, as `R_RISCV_RELAX`, has no field. Where relocations ascend by
-/// offset this takes time in proportion to their number. In any other order each field is compared
-/// with all before it, so the time is in proportion to the square of their number.
+/// A relocation without a value, as `R_RISCV_RELAX`, has no field. n relocations that ascend by
+/// offset take time in proportion to n. In any other order their indexes are sorted in `memory`
+/// first, and the time is in proportion to n log n.
 ///
 /// # Errors
 ///
@@ -425,16 +466,23 @@ pub fn relocate_section(
     requires memory { length relocations.now / 24 ≤ length memory.old }
     ensures ok { OnOk result (AreAllRelocated architecture addresses.now relocations.now
         symbols.now section.old section.new) }
+    ensures fields { OnOk result (AreWritten architecture addresses.now relocations.now
+        symbols.now section.old section.new) }
     ensures err { IfErr result (IsFirstRejected architecture addresses.now relocations.now
         symbols.now section.old) }
+    ensures fault { IfErr result (IsFirstFault architecture addresses.now relocations.now
+        symbols.now section.old) }
+    ensures exact { IsAscending relocations.now → (IsOk result ↔ CanBeWritten architecture
+        addresses.now relocations.now symbols.now section.old) }
     ensures unchanged { IfErr result (λ _. section.new ≡ section.old) }
 {
     let limit = if is_ascending(relocations) {
         None
     } else {
-        Some(first_overlap(architecture, relocations, section))
+        let order = &mut memory[..relocations_len(relocations)];
+        Some(first_overlap(architecture, relocations, section, order))
     };
-    match write_values(
+    match write_values_of(
         architecture,
         addresses,
         relocations,

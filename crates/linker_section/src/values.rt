@@ -1,7 +1,8 @@
 //! The value of a relocation, by what a linker knows of symbols and of the output.
 
-ghost use Rattle.std.specs.Prelude.{◌≡◌, ◌<◌, ◌≤◌, ◌/◌, ℕ, length, Some};
-ghost use Rattle.linker_section.specs.Needed.{entry_of};
+ghost use Rattle.std.specs.Prelude.{◌≡◌, ◌<◌, ◌≤◌, ◌/◌, ℕ, length, Some, IfSome};
+ghost use Rattle.linker_section.specs.Inner.Codes.{SaysNeeds};
+ghost use Rattle.linker_section.specs.Needed.{entry_of, may_use_stub};
 ghost use Rattle.linker_section.specs.Relocations.{relocation_in};
 ghost use Rattle.linker_section.specs.Values.{entry_in, has_addend, is_there, entry_address};
 ghost use Rattle.linker_section.specs.Values.{is_of_got, local_entry, is_ppc64_branch, address_of};
@@ -11,9 +12,11 @@ ghost use Rattle.linker_section.specs.Values.{operands_by, operands_of, has_valu
 ghost use Rattle.linker_section.specs.Values.{names_label, is_auipc, is_high_kind, is_high_part};
 ghost use Rattle.linker_section.specs.Values.{offset_at, IsAscending, IsHighPartAt, low_operands};
 ghost use Rattle.linker_section.specs.Values.{low_value, IsValueBy, IsValue};
+ghost use Rattle.linker_utils.specs.Architectures.{IsRow};
 
+use crate::codes::byte_of;
 use crate::facts::{Addresses, Symbol};
-use crate::needed::{Entry, EntryClass, class_of_kind, entry_of, loads_plt_word, may_use_stub};
+use crate::needed::{Entry, EntryClass, class_of_kind, entry_by, loads_plt_word, may_use_stub};
 use crate::relocations::{Rela, relocation_in, relocations_len};
 use linker_utils::elf::{
     Architecture, Operands, RelocationInstruction, RelocationKind, RelocationKindInfo,
@@ -200,18 +203,30 @@ fn defined_or_weak(
     }
 }
 
+/// Whether a stub may serve as the target of a relocation, by the byte of its code. Only the contract
+/// uses `_info`.
+#[inline(always)]
+fn serves_stub(byte: u8, _info: &RelocationKindInfo) -> bool
+    requires { SaysNeeds byte _info.now }
+    ensures { result ≡ may_use_stub _info.now.size _info.now.kind }
+{
+    byte / 32 % 2 == 1
+}
+
 /// S, or the stub by which a branch goes.
 #[inline(always)]
 fn target_of(
     architecture: Architecture,
     addresses: &Addresses,
+    byte: u8,
     info: &RelocationKindInfo,
     symbol: &Symbol,
     place: u64,
 ) -> u64
+    requires { SaysNeeds byte info.now }
     ensures { result ≡ target_of architecture addresses.now info.now symbol.now place }
 {
-    if may_use_stub(info.size, info.kind) && symbol.stub != 0 {
+    if serves_stub(byte, info) && symbol.stub != 0 {
         symbol.stub
     } else {
         defined_or_weak(architecture, addresses, info, symbol, place)
@@ -223,16 +238,18 @@ fn target_of(
 fn operands_with(
     architecture: Architecture,
     addresses: &Addresses,
+    byte: u8,
     info: &RelocationKindInfo,
     symbol: &Symbol,
     relocation: &Rela,
     entry: u64,
 ) -> Operands
+    requires { SaysNeeds byte info.now }
     ensures { result
         ≡ operands_with architecture addresses.now info.now symbol.now relocation.now entry }
 {
     let place = addresses.section.wrapping_add(relocation.offset);
-    let target = target_of(architecture, addresses, info, symbol, place);
+    let target = target_of(architecture, addresses, byte, info, symbol, place);
     let loads = loads_plt_word(info.size, info.kind);
     Operands {
         symbol: if is_of_got(architecture, relocation.code) {
@@ -250,13 +267,20 @@ fn operands_with(
     }
 }
 
-/// The entry that a relocation of a symbol requires.
+/// The entry that a relocation of a symbol requires, by the byte of its code. Only the contract uses
+/// `_info`.
 #[inline(always)]
-fn required(info: &RelocationKindInfo, relocation: &Rela, symbol: &Symbol) -> Option<Entry>
+fn required(
+    byte: u8,
+    _info: &RelocationKindInfo,
+    relocation: &Rela,
+    symbol: &Symbol,
+) -> Option<Entry>
+    requires { SaysNeeds byte _info.now }
     ensures { result
-        ≡ entry_of info.now relocation.now.addend symbol.now.is_thread_local }
+        ≡ entry_of _info.now relocation.now.addend symbol.now.is_thread_local }
 {
-    entry_of(info, relocation.addend, symbol.is_thread_local)
+    entry_by(byte, relocation.addend, symbol.is_thread_local)
 }
 
 /// The same, where there may be no such entry.
@@ -264,16 +288,26 @@ fn required(info: &RelocationKindInfo, relocation: &Rela, symbol: &Symbol) -> Op
 fn operands_by(
     architecture: Architecture,
     addresses: &Addresses,
+    byte: u8,
     info: &RelocationKindInfo,
     relocation: &Rela,
     symbol: &Symbol,
     entry: Option<u64>,
 ) -> Result<Operands, ValueError>
+    requires { SaysNeeds byte info.now }
     ensures { result
         ≡ operands_by architecture addresses.now info.now relocation.now symbol.now entry }
 {
     match entry {
-        Some(entry) => Ok(operands_with(architecture, addresses, info, symbol, relocation, entry)),
+        Some(entry) => Ok(operands_with(
+            architecture,
+            addresses,
+            byte,
+            info,
+            symbol,
+            relocation,
+            entry,
+        )),
         None => Err(ValueError::NoEntry),
     }
 }
@@ -284,17 +318,27 @@ fn operands_of(
     architecture: Architecture,
     addresses: &Addresses,
     symbols: &[Symbol],
+    byte: u8,
     info: &RelocationKindInfo,
     relocation: &Rela,
 ) -> Result<Operands, ValueError>
+    requires { SaysNeeds byte info.now }
     ensures { result
         ≡ operands_of architecture addresses.now symbols.now info.now relocation.now }
 {
     let Some(symbol) = symbols.get(relocation.symbol as usize) else {
         return Err(ValueError::NoSymbol);
     };
-    let entry = entry_address(addresses, symbol, required(info, relocation, symbol));
-    operands_by(architecture, addresses, info, relocation, symbol, entry)
+    let entry = entry_address(addresses, symbol, required(byte, info, relocation, symbol));
+    operands_by(
+        architecture,
+        addresses,
+        byte,
+        info,
+        relocation,
+        symbol,
+        entry,
+    )
 }
 
 /// Whether a relocation of a kind has a value.
@@ -314,15 +358,17 @@ fn own_value(
     architecture: Architecture,
     addresses: &Addresses,
     symbols: &[Symbol],
+    byte: u8,
     info: &RelocationKindInfo,
     relocation: &Rela,
 ) -> Result<Option<i64>, ValueError>
+    requires { SaysNeeds byte info.now }
     ensures { result ≡ own_value architecture addresses.now symbols.now info.now relocation.now }
 {
     if !has_value(info.kind) {
         return Ok(None);
     }
-    match operands_of(architecture, addresses, symbols, info, relocation) {
+    match operands_of(architecture, addresses, symbols, byte, info, relocation) {
         Ok(operands) => Ok(info.value(&operands)),
         Err(error) => Err(error),
     }
@@ -467,12 +513,14 @@ fn low_value(
     info: &RelocationKindInfo,
     high: Option<(Rela, RelocationKindInfo)>,
 ) -> Result<Option<i64>, ValueError>
+    requires { IfSome high (λ found. IsRow architecture (found.0).code (Some (found.1))) }
     ensures { result ≡ low_value architecture addresses.now symbols.now info.now high }
 {
     let Some((relocation, high)) = high else {
         return Err(ValueError::NoHighPart);
     };
-    match operands_of(architecture, addresses, symbols, &high, &relocation) {
+    let byte = byte_of(architecture, relocation.code);
+    match operands_of(architecture, addresses, symbols, byte, &high, &relocation) {
         Ok(operands) => Ok(info.value(&low_operands(&high, operands))),
         Err(error) => Err(error),
     }
@@ -485,14 +533,16 @@ pub(crate) fn value_of(
     addresses: &Addresses,
     relocations: &[u8],
     symbols: &[Symbol],
+    byte: u8,
     info: &RelocationKindInfo,
     relocation: &Rela,
 ) -> Result<Option<i64>, ValueError>
+    requires { SaysNeeds byte info.now }
     ensures { IsValueBy (names_label info.now.size info.now.kind) architecture addresses.now
         relocations.now symbols.now info.now relocation.now result }
 {
     if !names_label(info.size, info.kind) {
-        return own_value(architecture, addresses, symbols, info, relocation);
+        return own_value(architecture, addresses, symbols, byte, info, relocation);
     }
     let Some(label) = symbols.get(relocation.symbol as usize) else {
         return Err(ValueError::NoSymbol);
@@ -552,6 +602,7 @@ pub fn value(
             addresses,
             relocations,
             symbols,
+            byte_of(architecture, relocation.code),
             &row.info(),
             relocation,
         ),

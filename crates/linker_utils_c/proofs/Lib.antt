@@ -1,5 +1,6 @@
 pub mod DeltaLists
 pub mod Found
+pub mod Provided
 pub mod Relocating
 pub mod RelocationNumbers
 pub mod RunItems

@@ -1,6 +1,7 @@
 pub mod Choices
 pub mod Deltas
 pub mod Forms
+pub mod Output
 pub mod PackRuns
 pub mod Packing
 pub mod Reading
@@ -9,6 +10,7 @@ pub mod Relaxing
 pub mod Relocate
 pub mod Relocations
 pub mod Rewrites
+pub mod Rewriting
 pub mod SectionItems
 pub mod Sections
 pub mod Shrinking

@@ -2,11 +2,13 @@
 use Rattle.std.specs.Prelude.{◌≡◌, ◌≢◌, ◌<◌, ◌≤◌, ◌==◌, ◌↔◌, ℕ, List, [], ◌∷◌, length, take, ⊤}
 use Rattle.std.specs.Prelude.{slice_index_or, Bool, Option, None, Some, IsTrue}
 use Rattle.std.specs.Int.{bit_at}
+use Rattle.linker_base.specs.declared.rewrite.RewriteWindow.{RewriteWindow}
 use Rattle.linker_elf.specs.Relocate.{window_len}
 use Rattle.linker_elf.specs.declared.elf.RelocationKindInfo.{RelocationKindInfo}
 use Rattle.linker_reading.specs.declared.fields.FieldValue.{FieldValue}
 use Rattle.linker_reading.specs.FieldsOfBytes.{is_field_bit, AreSameButFor}
 use Rattle.linker_reading.specs.FoundByCode.{AreFound, IsFoundChosen}
+use Rattle.linker_reading.specs.Windows.{IsWindowOf}
 use Rattle.linker_reading.specs.declared.recognise.engine.Recognised.{Recognised}
 use Rattle.linker_reading.specs.declared.recognise.fields.FieldBits.{FieldBits}
 use Rattle.linker_utils.specs.Architectures.{relaxation_architecture}
@@ -85,6 +87,13 @@ pub record AreRecognised (architecture : Architecture) (r_type : ℕ) (original 
   pub found : length old ≡ 6 → length original ≤ 64 → (status ≡ code Success)
       × (made : List (Option (Recognised Relaxation ℕ)))
       × AreFound architecture r_type original o others linked made × AreWritten made old new count
+
+-- the window that recognising wants, around a relocation in at most 64 bytes
+pub record IsWindowGiven (architecture : Architecture) (r_type : ℕ) (original : List ℕ) (o : ℕ)
+    (old new : RewriteWindow) (status : ℕ) : Type 0 where
+  pub long : 64 < length original → (status ≡ code WindowTooLong) × (new ≡ old)
+  pub given : length original ≤ 64
+      → (status ≡ code Success) × IsWindowOf architecture r_type original o new
 
 -- what was found of the choice, or that it leaves other bytes
 abbrev pub IsChosenInNumbers : Option (Recognised Relaxation ℕ) → RecognisedNumbers → RecognisedNumbers

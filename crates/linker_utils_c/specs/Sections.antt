@@ -2,6 +2,7 @@
 use Rattle.std.specs.Prelude.{◌≡◌, ℕ, ◌/◌, ◌<◌, ◌≤◌, List, length, ℤ, pos, Bool, true, false}
 use Rattle.std.specs.Prelude.{Option, None, Some, Result, Ok, Err}
 use Rattle.linker_section.specs.Sections.{AreAllRelocated, IsFirstRejected}
+use Rattle.linker_section.specs.WrittenFields.{AreWritten, IsFirstFault}
 use Rattle.linker_section.specs.Values.{IsValue}
 use Rattle.linker_section.specs.declared.facts.Addresses.{Addresses}
 use Rattle.linker_section.specs.declared.facts.Symbol.{Symbol}
@@ -108,10 +109,12 @@ abbrev pub IsSectionOutcome : Architecture → Addresses → List ℕ → List S
 IsSectionOutcome architecture addresses bytes symbols before after old_faulty faulty status (Ok u) =
     (status ≡ code Success) × (faulty ≡ old_faulty)
     × AreAllRelocated architecture addresses bytes symbols before after
+    × AreWritten architecture addresses bytes symbols before after
 IsSectionOutcome architecture addresses bytes symbols before after old_faulty faulty status
     (Err error) =
     (status ≡ code (relocation_status error.error)) × (faulty ≡ error.index) × (after ≡ before)
     × IsFirstRejected architecture addresses bytes symbols before error
+    × IsFirstFault architecture addresses bytes symbols before error
 
 pub record IsSectionReturned (architecture : Architecture) (addresses : Addresses) (bytes : List ℕ)
     (symbols : List Symbol) (before after memory : List ℕ) (old_faulty faulty status : ℕ) : Type 0

@@ -38,6 +38,9 @@ use Rattle.linker_utils_c.specs.declared.status.Status.TheVariants.{MayBeMisalig
 use Rattle.linker_utils_c.specs.declared.status.Status.TheVariants.{DeletedOutside}
 use Rattle.linker_utils_c.specs.declared.status.Status.TheVariants.{NoSymbol, NoEntry, NoHighPart}
 use Rattle.linker_utils_c.specs.declared.status.Status.TheVariants.{Overlaps, ShortMemory}
+use Rattle.linker_utils_c.specs.declared.status.Status.TheVariants.{NotSurveyed, UnknownEntryClass}
+use Rattle.linker_utils_c.specs.declared.status.Status.TheVariants.{DifferentFlags, NotProvided}
+use Rattle.linker_utils_c.specs.declared.status.Status.TheVariants.{UnknownStub}
 
 abbrev pub code : Status → ℕ
 code Success = 0
@@ -104,6 +107,11 @@ code NoEntry = 62
 code NoHighPart = 63
 code Overlaps = 64
 code ShortMemory = 65
+code NotSurveyed = 66
+code UnknownEntryClass = 67
+code DifferentFlags = 68
+code NotProvided = 69
+code UnknownStub = 70
 
 -- the status is one of these
 abbrev pub IsOneOf : List Status → ℕ → Type 0

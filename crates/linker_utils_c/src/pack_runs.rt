@@ -18,9 +18,9 @@ use linker_runs::packing::{ItemError, Machine, has_its_instructions, pack_run, p
 use linker_utils::elf::Architecture;
 use linker_utils::relaxation::RelaxDelta;
 
-/// The machine whose sections are packed, by `e_machine`.
+/// The machine whose code becomes shorter, by `e_machine`.
 #[inline]
-fn packing_machine(machine: u16) -> Option<Machine>
+pub(crate) fn packing_machine(machine: u16) -> Option<Machine>
     ensures { result ≡ packing_machine machine }
 {
     match Architecture::from_machine(machine) {

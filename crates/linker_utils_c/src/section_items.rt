@@ -1,18 +1,19 @@
 //! The items that a section's relocations make, in arrays of the caller's.
 
-ghost use Rattle.std.specs.Prelude.{◌≡◌, ◌≢◌, ◌+◌, ◌^◌, ◌≤◌, ◌↔◌, ◌⊎◌, All, IfOk, IfErr, length};
-ghost use Rattle.std.specs.Prelude.{take, drop};
+ghost use Rattle.std.specs.Prelude.{◌≡◌, ◌≢◌, ◌+◌, ◌^◌, ◌≤◌, ◌↔◌, ◌⊎◌, All, length};
+ghost use Rattle.std.specs.Prelude.{take, drop, Some, None};
 ghost use Rattle.linker_runs.specs.Relocations.{AreMade, AreWellFormed, IsFirstMalformed};
-ghost use Rattle.linker_runs.specs.RiscVItems.{RiscVMakes, IsRiscVFormed};
-ghost use Rattle.linker_runs.specs.LoongArchItems.{LoongArchMakes, IsLoongArchFormed};
+ghost use Rattle.linker_runs.specs.SectionItems.{Makes, IsFormed};
+ghost use Rattle.linker_runs.specs.declared.packing.Machine.{Machine as machines};
+ghost use Rattle.linker_utils_c.specs.PackRuns.{packing_machine};
 ghost use Rattle.linker_utils_c.specs.Relaxing.{items_in, HasKind};
 ghost use Rattle.linker_utils_c.specs.SectionItems.{relocations_in};
 ghost use Rattle.linker_utils_c.specs.Status.{code};
 
+use crate::pack_runs::packing_machine;
 use crate::relaxing::ItemNumbers;
 use crate::status::Status;
-use linker_runs::items::{AsRelocation, Relocation};
-use linker_runs::{loongarch64, riscv64};
+use linker_runs::items::{AsRelocation, Relocation, section_items_into};
 
 /// A relocation of a section, and what it refers to in a run.
 #[repr(C)]
@@ -58,14 +59,67 @@ impl AsRelocation for Rela {
     }
 }
 
-/// What is returned of items that were written, or of why none were.
-fn put(made: Result<usize, usize>, len: &mut usize, faulty: &mut usize) -> u32
-    ensures written { IfOk made (λ count. (result ≡ code Status.Success) × (len.new ≡ count)
-        × (faulty.new ≡ faulty.old)) }
-    ensures malformed { IfErr made (λ index. (result ≡ code Status.MalformedRelocation)
-        × (len.new ≡ len.old) × (faulty.new ≡ index)) }
+/// Writes the items that the relocations of a section of a machine make, as `section_items`, and to
+/// `makers` the index of the relocation that makes each. The section begins at the input offset `base`
+/// of the run.
+///
+/// `items` and `makers` have as many elements as there are relocations, since each makes one item at
+/// most. `len` is how many items there are, and the elements from there on are unchanged. The first that
+/// applies of `UnknownArchitecture`, where no code of the machine becomes shorter; `DifferentLengths`;
+/// `EndsTooHigh`, where `base` and the section's length add up to 2^64 or more; and
+/// `MalformedRelocation`, of the relocation at `faulty`. Nothing is written then.
+#[unsafe(no_mangle)]
+pub extern "C" fn linker_utils_section_items_nonnull(
+    machine: u16,
+    section: &[u8],
+    base: u64,
+    relocations: &[Rela],
+    items: &mut [ItemNumbers],
+    makers: &mut [usize],
+    len: &mut usize,
+    faulty: &mut usize,
+) -> u32
+    ensures known { (result ≡ code Status.Success) ⊎ (result ≡ code Status.UnknownArchitecture)
+        ⊎ (result ≡ code Status.DifferentLengths) ⊎ (result ≡ code Status.EndsTooHigh)
+        ⊎ (result ≡ code Status.MalformedRelocation) }
+    ensures unknown { (result ≡ code Status.UnknownArchitecture)
+        ↔ (packing_machine machine ≡ None) }
+    ensures different_lengths { (result ≡ code Status.DifferentLengths)
+        ↔ ((packing_machine machine ≢ None) × ((length items.old ≢ length relocations.now)
+        ⊎ (length makers.old ≢ length relocations.now))) }
+    ensures too_high { (result ≡ code Status.EndsTooHigh)
+        ↔ ((packing_machine machine ≢ None) × (length items.old ≡ length relocations.now)
+        × (length makers.old ≡ length relocations.now) × (2 ^ 64 ≤ base + length section.now)) }
+    ensures made { result ≡ code Status.Success → (of : machines)
+        → packing_machine machine ≡ Some of
+        → AreMade (Makes of section.now base (relocations_in relocations.now))
+        (length relocations.now) (items_in (take len.new items.new)) (take len.new makers.new) }
+    ensures kinds { result ≡ code Status.Success → All HasKind (take len.new items.new) }
+    ensures formed { result ≡ code Status.Success → (of : machines)
+        → packing_machine machine ≡ Some of
+        → AreWellFormed (IsFormed of section.now)
+        (relocations_in relocations.now) (length relocations.now) }
+    ensures malformed { result ≡ code Status.MalformedRelocation → (of : machines)
+        → packing_machine machine ≡ Some of
+        → IsFirstMalformed (IsFormed of section.now)
+        (relocations_in relocations.now) faulty.new }
+    ensures others_stay { result ≡ code Status.Success
+        → (drop len.new items.new ≡ drop len.new items.old)
+        × (drop len.new makers.new ≡ drop len.new makers.old) }
+    ensures unchanged { result ≢ code Status.Success → (items.new ≡ items.old)
+        × (makers.new ≡ makers.old) × (len.new ≡ len.old) }
+    ensures faulty_stays { result ≢ code Status.MalformedRelocation → faulty.new ≡ faulty.old }
 {
-    match made {
+    let Some(of) = packing_machine(machine) else {
+        return Status::UnknownArchitecture.number();
+    };
+    if items.len() != relocations.len() || makers.len() != relocations.len() {
+        return Status::DifferentLengths.number();
+    }
+    if section.len() as u64 > u64::MAX - base {
+        return Status::EndsTooHigh.number();
+    }
+    match section_items_into(of, section, base, relocations, items, makers) {
         Ok(count) => {
             *len = count;
             Status::Success.number()
@@ -75,100 +129,4 @@ fn put(made: Result<usize, usize>, len: &mut usize, faulty: &mut usize) -> u32
             Status::MalformedRelocation.number()
         }
     }
-}
-
-/// Writes the items that the relocations of a RISC-V section make, as `riscv64::items`. The section
-/// begins at the input offset `base` of the run.
-///
-/// `items` has as many elements as there are relocations, since each makes one item at most. `len`
-/// is how many there are, and the elements from there on are unchanged. The first that applies of
-/// `DifferentLengths`; `EndsTooHigh`, where `base` and the section's length add up to 2^64 or more;
-/// and `MalformedRelocation`, of the relocation at `faulty`. Nothing is written then.
-#[unsafe(no_mangle)]
-pub extern "C" fn linker_utils_riscv_items_nonnull(
-    section: &[u8],
-    base: u64,
-    relocations: &[Rela],
-    items: &mut [ItemNumbers],
-    len: &mut usize,
-    faulty: &mut usize,
-) -> u32
-    ensures known { (result ≡ code Status.Success) ⊎ (result ≡ code Status.DifferentLengths)
-        ⊎ (result ≡ code Status.EndsTooHigh) ⊎ (result ≡ code Status.MalformedRelocation) }
-    ensures different_lengths { (result ≡ code Status.DifferentLengths)
-        ↔ (length items.old ≢ length relocations.now) }
-    ensures too_high { (result ≡ code Status.EndsTooHigh)
-        ↔ ((length items.old ≡ length relocations.now) × (2 ^ 64 ≤ base + length section.now)) }
-    ensures made { result ≡ code Status.Success
-        → AreMade (RiscVMakes section.now base (relocations_in relocations.now))
-        (length relocations.now) (items_in (take len.new items.new)) }
-    ensures kinds { result ≡ code Status.Success → All HasKind (take len.new items.new) }
-    ensures formed { result ≡ code Status.Success
-        → AreWellFormed (IsRiscVFormed section.now)
-        (relocations_in relocations.now) (length relocations.now) }
-    ensures malformed { result ≡ code Status.MalformedRelocation
-        → IsFirstMalformed (IsRiscVFormed section.now)
-        (relocations_in relocations.now) faulty.new }
-    ensures others_stay { result ≡ code Status.Success
-        → drop len.new items.new ≡ drop len.new items.old }
-    ensures unchanged { result ≢ code Status.Success
-        → (items.new ≡ items.old) × (len.new ≡ len.old) }
-    ensures faulty_stays { result ≢ code Status.MalformedRelocation → faulty.new ≡ faulty.old }
-{
-    if items.len() != relocations.len() {
-        return Status::DifferentLengths.number();
-    }
-    if section.len() as u64 > u64::MAX - base {
-        return Status::EndsTooHigh.number();
-    }
-    put(
-        riscv64::items_into(section, base, relocations, items),
-        len,
-        faulty,
-    )
-}
-
-/// Writes the items that the relocations of a LoongArch section make, as `loongarch64::items`. What
-/// is written and the statuses are as those of `linker_utils_riscv_items`.
-#[unsafe(no_mangle)]
-pub extern "C" fn linker_utils_loongarch_items_nonnull(
-    section: &[u8],
-    base: u64,
-    relocations: &[Rela],
-    items: &mut [ItemNumbers],
-    len: &mut usize,
-    faulty: &mut usize,
-) -> u32
-    ensures known { (result ≡ code Status.Success) ⊎ (result ≡ code Status.DifferentLengths)
-        ⊎ (result ≡ code Status.EndsTooHigh) ⊎ (result ≡ code Status.MalformedRelocation) }
-    ensures different_lengths { (result ≡ code Status.DifferentLengths)
-        ↔ (length items.old ≢ length relocations.now) }
-    ensures too_high { (result ≡ code Status.EndsTooHigh)
-        ↔ ((length items.old ≡ length relocations.now) × (2 ^ 64 ≤ base + length section.now)) }
-    ensures made { result ≡ code Status.Success
-        → AreMade (LoongArchMakes section.now base (relocations_in relocations.now))
-        (length relocations.now) (items_in (take len.new items.new)) }
-    ensures kinds { result ≡ code Status.Success → All HasKind (take len.new items.new) }
-    ensures formed { result ≡ code Status.Success → AreWellFormed (IsLoongArchFormed section.now)
-        (relocations_in relocations.now) (length relocations.now) }
-    ensures malformed { result ≡ code Status.MalformedRelocation
-        → IsFirstMalformed (IsLoongArchFormed section.now) (relocations_in relocations.now)
-        faulty.new }
-    ensures others_stay { result ≡ code Status.Success
-        → drop len.new items.new ≡ drop len.new items.old }
-    ensures unchanged { result ≢ code Status.Success
-        → (items.new ≡ items.old) × (len.new ≡ len.old) }
-    ensures faulty_stays { result ≢ code Status.MalformedRelocation → faulty.new ≡ faulty.old }
-{
-    if items.len() != relocations.len() {
-        return Status::DifferentLengths.number();
-    }
-    if section.len() as u64 > u64::MAX - base {
-        return Status::EndsTooHigh.number();
-    }
-    put(
-        loongarch64::items_into(section, base, relocations, items),
-        len,
-        faulty,
-    )
 }

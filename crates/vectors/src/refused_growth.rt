@@ -3,10 +3,10 @@
 //! whichever growth is refused.
 
 use crate::rows::expect_eq;
-use linker_runs::items::Relocation;
+use linker_runs::items::{Relocation, section_items};
+use linker_runs::packing::Machine;
 use linker_runs::relaxation::{Item, Site, are_items, relax};
 use linker_runs::shapes::riscv64::CALL as CALL_SHAPES;
-use linker_runs::{loongarch64, riscv64};
 use linker_utils::relaxation::{
     OutOfMemory, PackError, RelaxDeltaMap, SectionRelaxDeltas, calls_apart, calls_shrinkable,
     pack_section, shrink_calls,
@@ -332,11 +332,12 @@ pub(crate) const NOPS: [Relocation; 1] = [Relocation {
 #[test]
 fn refused_items_are_made_when_tried_again(rt: HostRuntime) -> Result<(), Fail> {
     let alloc = rt.alloc();
-    let calls = riscv64::items(alloc, &CALL, 0, &MARKED_CALL);
-    let calls = calls.or_else(|_| riscv64::items(alloc, &CALL, 0, &MARKED_CALL))?;
-    assert_eq!(rt; calls.as_slice(), [call_at(0)].as_slice());
-    let nops = loongarch64::items(alloc, &[0; 12], 0, &NOPS);
-    let nops = nops.or_else(|_| loongarch64::items(alloc, &[0; 12], 0, &NOPS))?;
-    assert_eq!(rt; nops.len(), 1);
+    let calls = section_items(alloc, Machine::RiscV64, &CALL, 0, &MARKED_CALL);
+    let calls = calls.or_else(|_| section_items(alloc, Machine::RiscV64, &CALL, 0, &MARKED_CALL))?;
+    assert_eq!(rt; calls.items.as_slice(), [call_at(0)].as_slice());
+    assert_eq!(rt; calls.makers.as_slice(), [0].as_slice());
+    let nops = section_items(alloc, Machine::LoongArch64, &[0; 12], 0, &NOPS);
+    let nops = nops.or_else(|_| section_items(alloc, Machine::LoongArch64, &[0; 12], 0, &NOPS))?;
+    assert_eq!(rt; nops.items.len(), 1);
     Ok(())
 }

@@ -3,8 +3,9 @@
 
 use crate::refused_growth::{MARKED_CALL, NOPS, many_calls};
 use crate::rows::expect_eq;
+use linker_runs::items::section_items;
+use linker_runs::packing::Machine;
 use linker_runs::relaxation::{are_items, relax};
-use linker_runs::{loongarch64, riscv64};
 use linker_utils::relaxation::{
     RelaxDeltaMap, SectionRelaxDeltas, calls_apart, calls_shrinkable, pack_section, shrink_calls,
 };
@@ -79,7 +80,7 @@ fn maps_and_their_copies_take_4(rt: HostRuntime) -> Result<(), Fail> {
     Ok(())
 }
 
-// what each returns
+// both vectors of what each returns
 #[test]
 fn packing_and_choosing_take_2(rt: HostRuntime) -> Result<(), Fail> {
     let none = SectionRelaxDeltas::new(rt.alloc(), &[])?;
@@ -112,13 +113,13 @@ fn runs_take_14(rt: HostRuntime) -> Result<(), Fail> {
     Ok(())
 }
 
-// what each returns
+// both vectors of what each returns
 #[test]
-fn items_of_relocations_take_2(rt: HostRuntime) -> Result<(), Fail> {
+fn items_of_relocations_take_4(rt: HostRuntime) -> Result<(), Fail> {
     let call = [0x97, 0, 0, 0, 0xe7, 0x80, 0, 0];
-    let calls = riscv64::items(rt.alloc(), &call, 0, &MARKED_CALL)?;
-    assert_eq!(rt; calls.len(), 1);
-    let nops = loongarch64::items(rt.alloc(), &[0; 12], 0, &NOPS)?;
-    assert_eq!(rt; nops.len(), 1);
+    let calls = section_items(rt.alloc(), Machine::RiscV64, &call, 0, &MARKED_CALL)?;
+    assert_eq!(rt; calls.items.len(), 1);
+    let nops = section_items(rt.alloc(), Machine::LoongArch64, &[0; 12], 0, &NOPS)?;
+    assert_eq!(rt; nops.items.len(), 1);
     Ok(())
 }

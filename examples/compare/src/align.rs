@@ -206,8 +206,9 @@ impl<'a> Walk<'a> {
         for site in sites {
             self.compare(&mut states, at, site.start);
             let values = self.values(site);
-            let after = states.iter().flat_map(|state| self.deletions_of(*state, site, &values));
-            states = self.best(after.collect());
+            let mut after = Vec::new();
+            states.iter().for_each(|state| self.deletions_of(*state, site, &values, &mut after));
+            states = self.best(after);
             at = at.max(site.end);
         }
         self.compare(&mut states, at, to);
@@ -227,21 +228,18 @@ impl<'a> Walk<'a> {
             self.compare(&mut states, site.end, at);
             let most = if site.is_alignment { site.len() } else { site.len().min(8) };
             let values = self.values(site);
-            let before = states.iter().flat_map(|state| {
-                let before = (0..=most).step_by(2).map(|deleted| State {
-                    delta: state.delta.wrapping_add(deleted),
-                    ..*state
-                });
-                let all = before.flat_map(|before| {
-                    let after = self.deletions_of(before, site, &values).into_iter();
-                    let after = after.filter(|(after, _)| after.delta == state.delta);
-                    after.map(move |(after, place)| {
+            let (mut all, mut after) = (Vec::new(), Vec::new());
+            for state in &states {
+                for deleted in (0..=most).step_by(2) {
+                    let before = State { delta: state.delta.wrapping_add(deleted), ..*state };
+                    self.deletions_of(before, site, &values, &mut after);
+                    let after = after.drain(..).filter(|(after, _)| after.delta == state.delta);
+                    all.extend(after.map(|(after, place)| {
                         (State { delta: before.delta, ..after }, place)
-                    })
-                });
-                all.collect::<Vec<_>>()
-            });
-            states = self.best(before.collect());
+                    }));
+                }
+            }
+            states = self.best(all);
             at = at.min(site.start);
         }
         self.compare(&mut states, 0, at);
@@ -310,17 +308,18 @@ impl<'a> Walk<'a> {
             !site.is_alignment && !made::is_mark(architecture, self.it.relocations[*index].code)
         };
         let values = site.indices.clone().filter(is_value);
-        values.map(|index| Deletable::new(self.linked, self.it, index)).collect()
+        values.map(|index| Deletable::new(self.linked, self.it, index, site.is_relaxable)).collect()
     }
 
-    /// The states behind the relocations at an offset, and the offset behind deleted bytes with its
-    /// address.
+    /// Adds the states behind the relocations at an offset, and the offset behind deleted bytes with
+    /// its address.
     fn deletions_of(
         &self,
         state: State,
         site: &Site,
         values: &[Deletable],
-    ) -> Vec<(State, Option<(u64, u64)>)> {
+        all: &mut Vec<(State, Option<(u64, u64)>)>,
+    ) {
         let architecture = self.linked.architecture;
         let place = site.start.wrapping_add(state.delta);
         let after = |deleted: u64, cost: u32| State {
@@ -329,19 +328,20 @@ impl<'a> Walk<'a> {
             ..state
         };
         if site.is_alignment {
-            let mut all = self.it.relocations[site.indices.clone()].iter();
-            let nops = all.find_map(|one| made::alignment(architecture, one, place));
-            return match nops {
+            let mut here = self.it.relocations[site.indices.clone()].iter();
+            let nops = here.find_map(|one| made::alignment(architecture, one, place));
+            match nops {
                 Some((nops, kept)) if kept < nops => {
                     let place = (site.start + nops, place.wrapping_add(kept));
-                    vec![(after(nops - kept, 0), Some(place)), (after(0, UNKNOWN), None)]
+                    all.extend([(after(nops - kept, 0), Some(place)), (after(0, UNKNOWN), None)]);
                 }
-                _ => vec![(after(0, 0), None)],
-            };
+                _ => all.push((after(0, 0), None)),
+            }
+            return;
         }
         let counts: &[u64] = if site.is_relaxable { &[0, 2, 4, 6, 8] } else { &[0] };
         let counts = counts.iter().copied().take_while(|count| *count <= site.len());
-        let all = counts.map(|count| {
+        all.extend(counts.map(|count| {
             let (mut first, mut unknown) = (None, 0);
             for value in values {
                 let start = value.start(place, count);
@@ -351,7 +351,6 @@ impl<'a> Walk<'a> {
             let start = first.unwrap_or(site.len() - count);
             let past = (site.start + start + count, place.wrapping_add(start));
             (after(count, UNKNOWN * unknown), (count > 0).then_some(past))
-        });
-        all.collect()
+        }));
     }
 }

@@ -310,13 +310,12 @@ pub fn read_linked<'a>(bytes: &'a [u8]) -> Result<Linked<'a>, Reason> {
             globals.entry(symbol.name.clone()).or_insert(definition);
         }
         if symbol.kind != elf::STT_TLS {
-            by_address.push((symbol.value, symbol.name));
+            by_address.push((symbol.value, is_label(&symbol.name), symbol.name));
         }
     }
     // of symbols at one address those come first whose names are no compiler's labels
-    by_address.sort_by(|(a, one), (b, other)| {
-        (a, is_label(one), one).cmp(&(b, is_label(other), other))
-    });
+    by_address.sort_unstable();
+    let by_address = by_address.into_iter().map(|(address, _, name)| (address, name)).collect();
     let (mut moved, mut resolvers) = (HashMap::default(), HashMap::default());
     for section in table.iter().filter(|section| section.sh_flags(LE) & 2 != 0) {
         let Some((all, link)) = section.rela(LE, bytes).map_err(because)? else {

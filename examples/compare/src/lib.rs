@@ -13,10 +13,14 @@ mod stubs;
 mod symbols;
 mod tables;
 mod targets;
+mod threads;
 mod walk;
 
 use linker_utils::elf::Architecture;
 use side::{Made, Side};
+use std::panic::resume_unwind;
+use std::sync::atomic::{AtomicU64, Ordering};
+use std::time::Duration;
 
 /// A relocation, and what each linker made of it.
 pub struct Line {
@@ -56,23 +60,32 @@ pub fn compare<'a>(
     mut each: impl FnMut(Line),
 ) -> Result<Counts, (usize, elf::Reason)> {
     let sections: usize = objects.iter().map(|object| object.sections.len()).sum();
-    let (total, done) = (4 * sections as u64, std::cell::Cell::new(0));
-    let advance = || {
-        done.set(done.get() + 1);
-        step(done.get().min(total), total);
-    };
+    let (total, done) = (4 * sections as u64, AtomicU64::new(0));
+    let (main, ended) = (std::thread::current(), AtomicU64::new(0));
     let side = |which: usize| {
-        Side::new(files[which], objects).map_err(|reason| (which, reason))
+        let mut side = Side::new(files[which], objects);
+        if let Ok(side) = &mut side {
+            side.locate(&|| _ = done.fetch_add(1, Ordering::Relaxed));
+        }
+        ended.fetch_add(1, Ordering::Relaxed);
+        main.unpark();
+        side.map_err(|reason| (which, reason))
     };
-    let mut sides = [side(0)?, side(1)?];
-    for side in &mut sides {
-        side.locate(&advance);
-    }
+    let sides = std::thread::scope(|scope| {
+        let both = [0, 1].map(|which| scope.spawn(move || side(which)));
+        while ended.load(Ordering::Relaxed) < 2 && !both.iter().all(|one| one.is_finished()) {
+            step(done.load(Ordering::Relaxed).min(total), total);
+            std::thread::park_timeout(Duration::from_millis(50));
+        }
+        both.map(|one| one.join().unwrap_or_else(|panic| resume_unwind(panic)))
+    });
+    let [first, second] = sides;
+    let mut sides = [first?, second?];
     let mut counts = Counts::default();
     for (at, object) in objects.iter().enumerate() {
         let names = report::names_of(object);
         for (index, section) in object.sections.iter().enumerate() {
-            advance();
+            step((done.fetch_add(1, Ordering::Relaxed) + 1).min(total), total);
             if !section.is_allocated || section.relocations.is_empty() {
                 continue;
             }

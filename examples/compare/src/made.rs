@@ -3,6 +3,7 @@
 
 use crate::elf::{Relocation, Section};
 use crate::forms::{self, Base, Form};
+use crate::map::Bytes;
 use linker_utils::architecture::Relaxation;
 use linker_utils::elf::{Architecture, InstructionRewrite, Operands, Row};
 use linker_utils::ppc64;
@@ -73,7 +74,6 @@ impl Chosen {
 }
 
 /// What a relocation's name and row say, which is asked for often.
-#[derive(Clone, Copy)]
 struct Properties {
     row: Option<Row>,
     is_mark: bool,
@@ -98,21 +98,25 @@ impl Properties {
 /// The numbers that have properties of their own; the psABIs' are below.
 const CODES: u32 = 2048;
 
-fn properties(architecture: Architecture, code: u32) -> Properties {
+fn properties(architecture: Architecture, code: u32) -> &'static Properties {
     static TABLES: [OnceLock<Vec<Properties>>; 5] = [const { OnceLock::new() }; 5];
+    static NOTHING: Properties = Properties {
+        row: None,
+        is_mark: false,
+        is_uleb128: false,
+        may_delete: false,
+        is_alignment: false,
+    };
     let table = match architecture {
         Architecture::AArch64 => &TABLES[0],
         Architecture::LoongArch64 => &TABLES[1],
         Architecture::Ppc64 => &TABLES[2],
         Architecture::RiscV => &TABLES[3],
         Architecture::X86_64 => &TABLES[4],
-        _ => return Properties::new(architecture, code),
+        _ => return &NOTHING,
     };
     let all = || (0..CODES).map(|code| Properties::new(architecture, code)).collect();
-    match table.get_or_init(all).get(code as usize) {
-        Some(found) => *found,
-        None => Properties::new(architecture, code),
-    }
+    table.get_or_init(all).get(code as usize).unwrap_or(&NOTHING)
 }
 
 /// The row of a relocation, as `Architecture::row`.
@@ -185,23 +189,23 @@ pub struct Field {
 pub struct Before {
     architecture: Architecture,
     code: u32,
-    bytes: Vec<u8>,
+    bytes: Bytes,
     /// Where the relocation is in the bytes.
     offset: u64,
     addend: i64,
 }
 
 impl Before {
-    /// A relocation of a section, with a window of its bytes.
+    /// A relocation of a section, with a window of its bytes: `None` where it has more than 64.
     pub fn new(
         architecture: Architecture,
         one: &Relocation,
         it: &Section,
         (start, end): (u64, u64),
-    ) -> Before {
-        let bytes = it.bytes[start as usize..end as usize].to_vec();
+    ) -> Option<Before> {
+        let bytes = Bytes::of(&it.bytes[start as usize..end as usize])?;
         let (code, offset, addend) = (one.code, one.offset - start, one.addend);
-        Before { architecture, code, bytes, offset, addend }
+        Some(Before { architecture, code, bytes, offset, addend })
     }
 
     /// The library's choices after which the linked bytes are as they are.
@@ -209,7 +213,7 @@ impl Before {
         &self,
         others: &[FieldBits],
         linked: &[u8],
-    ) -> impl Iterator<Item = Chosen> + use<> {
+    ) -> impl Iterator<Item = Chosen> + Clone + use<> {
         let (bytes, offset) = (&self.bytes, self.offset);
         recognise::architecture::recognise(
             self.architecture, self.code, bytes, offset, others, linked,

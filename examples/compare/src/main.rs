@@ -1,16 +1,21 @@
 //! `compare OBJECT.. A B`: see `HELP`.
 
+mod summary;
+
 use compare::{Line, compare, elf, report};
 use console::{Style, Term};
 use indicatif::{ProgressBar, ProgressDrawTarget, ProgressStyle};
 use std::cell::{Cell, OnceCell};
 use std::ffi::OsString;
 use std::io::{self, BufWriter, Write};
+use std::panic::resume_unwind;
 use std::process::ExitCode;
+use std::thread::ScopedJoinHandle;
 use std::time::{Duration, Instant};
+use summary::Functions;
 
 const HELP: &str = "\
-compare [--all] [--json] OBJECT.. A B
+compare [--all | --summary] [--json] OBJECT.. A B
 
 Says of each relocation of the objects what two linkers made of it. A and B are linked files, with
 symbol tables, made of the same objects; an OBJECT is a relocatable object or an archive of them.
@@ -28,9 +33,11 @@ was`. `(through the GOT)` says that the field has the address of a GOT entry. `t
 the field doesn't lead to the relocation's symbol and addend. Symbols are compared by their names, so
 that files with different layouts can be the same. Sums of relocations (ADD, SUB, ULEB128) are not
 read, nor what relocations that only mark or pad stand for. Control characters in names are written
-as escapes.
+as escapes. Those that differ are listed by function, the one with the most first, and then a summary
+that fits a screen: which functions differ most, and what A and B have there.
 
-  --all       all relocations, not only those that differ
+  --all       all relocations in the objects' order, also those that are the same
+  --summary   the summary alone
   --json      an object a line for each, with its addresses in A and B, and a last one with the counts
   -h, --help  this text
 
@@ -56,6 +63,7 @@ impl From<lexopt::Error> for Failure {
 
 struct Arguments {
     is_all: bool,
+    is_summary: bool,
     is_json: bool,
     files: Vec<OsString>,
 }
@@ -63,15 +71,19 @@ struct Arguments {
 fn arguments() -> Result<Option<Arguments>, lexopt::Error> {
     use lexopt::Arg::{Long, Short, Value};
     let mut parser = lexopt::Parser::from_env();
-    let mut it = Arguments { is_all: false, is_json: false, files: Vec::new() };
+    let mut it = Arguments { is_all: false, is_summary: false, is_json: false, files: Vec::new() };
     while let Some(argument) = parser.next()? {
         match argument {
             Long("all") => it.is_all = true,
+            Long("summary") => it.is_summary = true,
             Long("json") => it.is_json = true,
             Short('h') | Long("help") => return Ok(None),
             Value(file) => it.files.push(file),
             other => return Err(other.unexpected()),
         }
+    }
+    if it.is_summary && (it.is_all || it.is_json) {
+        return Err("--summary is given alone".into());
     }
     if it.files.len() < 3 {
         return Err("at least one object and two linked files are needed".into());
@@ -115,16 +127,21 @@ fn run() -> Result<ExitCode, Failure> {
         files.push((name, bytes));
     }
     let (inputs, linked) = files.split_at(files.len() - 2);
-    let mut objects = Vec::new();
-    for (name, bytes) in inputs {
-        let all = elf::read_objects(name, bytes);
-        objects.extend(all.map_err(|reason| Failure::Said(format!("{name}: {reason}")))?);
-    }
-    let mut both = Vec::new();
-    for (name, bytes) in linked {
-        let file = elf::read_linked(bytes);
-        both.push(file.map_err(|reason| Failure::Said(format!("{name}: {reason}")))?);
-    }
+    let because = |name: &str, reason| Failure::Said(format!("{name}: {reason}"));
+    let (objects, both) = std::thread::scope(|scope| {
+        let both: Vec<_> =
+            linked.iter().map(|(_, bytes)| scope.spawn(|| elf::read_linked(bytes))).collect();
+        let objects: Vec<_> =
+            inputs.iter().map(|(name, bytes)| elf::read_objects(name, bytes)).collect();
+        let join = |one: ScopedJoinHandle<'_, _>| one.join().unwrap_or_else(|it| resume_unwind(it));
+        (objects, both.into_iter().map(join).collect::<Vec<_>>())
+    });
+    let objects = inputs.iter().zip(objects);
+    let objects = objects.map(|((name, _), all)| all.map_err(|reason| because(name, reason)));
+    let objects: Vec<_> = objects.collect::<Result<Vec<_>, _>>()?.into_iter().flatten().collect();
+    let both = linked.iter().zip(both);
+    let both = both.map(|((name, _), file)| file.map_err(|reason| because(name, reason)));
+    let both = both.collect::<Result<Vec<_>, _>>()?;
     for (name, architecture) in (objects.iter().map(|one| (&one.path, one.architecture)))
         .chain(linked.iter().map(|(name, _)| name).zip(both.iter().map(|one| one.architecture)))
     {
@@ -137,26 +154,27 @@ fn run() -> Result<ExitCode, Failure> {
     let (place, choice) = (Style::new().bold(), Style::new().cyan());
     let progress =
         Progress { since: Instant::now(), shown: Cell::new(0), bar: OnceCell::new() };
-    let mut written = Ok(());
-    let write = |line: Line, out: &mut BufWriter<_>| -> io::Result<()> {
-        if !arguments.is_all && line.is_same() {
-            return Ok(());
-        }
+    let (mut written, mut functions) = (Ok(()), Functions::default());
+    let write = |line: &Line, out: &mut BufWriter<_>| -> io::Result<()> {
         if arguments.is_json {
-            return writeln!(out, "{}", report::line_as_json(&line));
+            return writeln!(out, "{}", report::line_as_json(line));
         }
-        writeln!(out, "{}", place.apply_to(report::head(&line)))?;
+        writeln!(out, "{}", place.apply_to(report::head(line)))?;
         let [a, b] = &line.made;
         if line.is_same() {
-            return writeln!(out, "    both: {}", report::words(&line, a));
+            return writeln!(out, "    both: {}", report::words(line, a));
         }
-        writeln!(out, "    A: {}", choice.apply_to(report::words(&line, a)))?;
-        writeln!(out, "    B: {}", choice.apply_to(report::words(&line, b)))
+        writeln!(out, "    A: {}", choice.apply_to(report::words(line, a)))?;
+        writeln!(out, "    B: {}", choice.apply_to(report::words(line, b)))
     };
     let step = |done, total| progress.step(done, total);
     let counts = compare(&objects, [&both[0], &both[1]], &step, |line| {
-        if written.is_ok() {
-            written = write(line, &mut out);
+        // JSON and all relocations are written as they come
+        if (arguments.is_all || arguments.is_json && !line.is_same()) && written.is_ok() {
+            written = write(&line, &mut out);
+        }
+        if !arguments.is_json {
+            functions.add(line);
         }
     });
     if let Some(bar) = progress.bar.get() {
@@ -169,13 +187,20 @@ fn run() -> Result<ExitCode, Failure> {
     if arguments.is_json {
         writeln!(out, "{}", report::counts_as_json(&counts))?;
     } else {
-        let (all, different) = (counts.relocations, counts.different);
-        writeln!(out, "{all} relocations, {different} differ")?;
-        if counts.nowhere > 0 {
-            writeln!(out, "{} more are in sections that no symbol leads to", counts.nowhere)?;
+        functions.worst_first();
+        if !arguments.is_all && !arguments.is_summary {
+            for (head, lines) in functions.differences() {
+                writeln!(out, "{}", place.apply_to(head))?;
+                lines.iter().try_for_each(|line| write(line, &mut out))?;
+            }
+        }
+        for line in summary::counts(&counts).iter().chain(&functions.summary()) {
+            writeln!(out, "{line}")?;
         }
     }
     out.flush()?;
+    // the program ends, and what it knows of the files is large
+    std::mem::forget((objects, both, functions));
     Ok(if counts.different > 0 { ExitCode::from(1) } else { ExitCode::SUCCESS })
 }
 

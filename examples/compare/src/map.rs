@@ -15,17 +15,56 @@ pub fn address_in(map: &Anchors, offset: u64) -> Option<u64> {
     (*address != NOWHERE).then(|| address.wrapping_add(offset).wrapping_sub(*start))
 }
 
+/// The bytes of a window, at most 64 of them.
+#[derive(Clone, Copy)]
+pub struct Bytes {
+    all: [u8; 64],
+    len: usize,
+}
+
+impl Bytes {
+    pub const NONE: Bytes = Bytes { all: [0; 64], len: 0 };
+
+    /// `None` where there is no room.
+    pub fn of(bytes: &[u8]) -> Option<Bytes> {
+        let mut it = Bytes::NONE;
+        it.push(bytes)?;
+        Some(it)
+    }
+
+    /// Adds bytes behind these, if there is room.
+    pub fn push(&mut self, bytes: &[u8]) -> Option<()> {
+        self.all.get_mut(self.len..self.len + bytes.len())?.copy_from_slice(bytes);
+        self.len += bytes.len();
+        Some(())
+    }
+}
+
+impl std::ops::Deref for Bytes {
+    type Target = [u8];
+
+    fn deref(&self) -> &[u8] {
+        &self.all[..self.len]
+    }
+}
+
+impl std::ops::DerefMut for Bytes {
+    fn deref_mut(&mut self) -> &mut [u8] {
+        &mut self.all[..self.len]
+    }
+}
+
 /// Some bytes of a section as they are in the linked file.
 pub struct Window {
     /// Without those that were deleted of a relocation, and with the object's where others were.
-    pub bytes: Vec<u8>,
+    pub bytes: Bytes,
     /// How many were deleted of the relocation.
     pub deleted: u64,
     /// Where they would begin if none before the relocation were deleted.
     pub address: u64,
 }
 
-/// The bytes between two offsets of a section, for a relocation that is of those of `own`.
+/// The bytes between two offsets of a section, at most 64 apart, for a relocation that is of those of `own`.
 pub fn window(
     linked: &Linked,
     it: &Section,
@@ -38,7 +77,7 @@ pub fn window(
     let before = own.0.wrapping_sub(start);
     let place = address_in(map, own.0)?;
     let address_of_start = place.wrapping_sub(before);
-    let mut found = Window { bytes: Vec::new(), deleted: 0, address: address_of_start };
+    let mut found = Window { bytes: Bytes::NONE, deleted: 0, address: address_of_start };
     let next = map[after..].iter().copied().chain([(u64::MAX, 0)]);
     for (offset, there) in next {
         // the bytes that are deleted before the next offset
@@ -48,7 +87,7 @@ pub fn window(
         let is_near = offset != u64::MAX && deleted <= offset - at;
         let kept = (offset - at).checked_sub(if is_near { deleted } else { 0 })?.min(end - at);
         if kept > 0 {
-            found.bytes.extend(linked.bytes_at(address)?.get(..kept as usize)?);
+            found.bytes.push(linked.bytes_at(address)?.get(..kept as usize)?)?;
         }
         at += kept;
         if at == end || !is_near {
@@ -58,7 +97,7 @@ pub fn window(
         if own.0 <= at && to <= own.1 {
             found.deleted += to - at;
         } else {
-            found.bytes.extend(it.bytes.get(at as usize..to as usize)?);
+            found.bytes.push(it.bytes.get(at as usize..to as usize)?)?;
         }
         (at, address) = (to, there);
         if at == end {

@@ -1,14 +1,16 @@
 //! The rewrite after which the linked bytes are as they are.
 
-use crate::map::{self, Anchors};
+use crate::map::{self, Anchors, Bytes};
 use crate::elf::{Home, Linked, Relocation, Section};
 use crate::made::{self, Before, Chosen};
 use crate::side::{Side, Target};
+use crate::targets::Pending;
 use linker_utils::elf::Architecture;
 use linker_utils::recognise::{FieldBits, field_bits};
 use object::elf::{
     R_PPC64_ADDR64, R_PPC64_GOT16_HA, R_PPC64_GOT16_LO_DS, R_PPC64_TOC16_HA, R_PPC64_TOC16_LO_DS,
 };
+use std::cell::RefCell;
 
 pub struct Found {
     /// A rewrite before this one.
@@ -52,12 +54,14 @@ pub struct At<'a> {
     pub it: &'a Section<'a>,
     pub index: usize,
     pub map: &'a Anchors,
+    /// What asks for the places of sections.
+    pub pending: &'a RefCell<Vec<Pending>>,
 }
 
 impl Side<'_> {
     /// The choice that leaves the bytes of the widest window; of several the one whose relocation
     /// leads to its symbol, and of these the one that is unchanged.
-    pub fn recognise(&mut self, at: At) -> Option<Found> {
+    pub fn recognise(&self, at: At) -> Option<Found> {
         let one = &at.it.relocations[at.index];
         let mut best = self.recognise_as(at, one);
         let Some(word) = self.address_in_toc(at.object, one) else { return best };
@@ -99,14 +103,14 @@ impl Side<'_> {
     }
 
     /// The choice for a relocation at a place, which may be another than the object has there.
-    fn recognise_as(&mut self, at: At, one: &Relocation) -> Option<Found> {
+    fn recognise_as(&self, at: At, one: &Relocation) -> Option<Found> {
         let architecture = self.linked.architecture;
         let len = made::len(architecture, one.code);
         let windows: &[(u64, u64)] = match architecture {
             Architecture::X86_64 => &[(6, 12), (4, 12), (6, len), (3, len), (0, len)],
             _ => &[(4, 8), (0, 8), (4, 4), (0, 4), (0, len)],
         };
-        let mut try_windows = |windows: &[(u64, u64)], pass| {
+        let try_windows = |windows: &[(u64, u64)], pass| {
             let mut best = None;
             for (back, forward) in windows {
                 let start = one.offset.saturating_sub(*back);
@@ -130,7 +134,7 @@ impl Side<'_> {
 
     /// The same in a window of the section.
     fn recognise_in(
-        &mut self,
+        &self,
         at: At,
         one: &Relocation,
         (start, end): (u64, u64),
@@ -143,27 +147,17 @@ impl Side<'_> {
         };
         let own = (one.offset, one.offset + made::len(architecture, one.code));
         let Some(window) = map::window(linked, at.it, at.map, (start, end), own) else { return };
-        let before = Before::new(architecture, one, at.it, (start, end));
-        let alone = |chosen| (before.clone(), chosen, None);
-        let mut found: Vec<_> = match pass {
-            Pass::Library => {
-                before.choices(&others, &window.bytes).map(alone).collect()
-            }
-            Pass::Own => before.own_choice(&window.bytes).into_iter().map(alone).collect(),
-            Pass::Twice => before.choices_after(&others, &window.bytes),
-        };
-        // a high part alone may lead to its symbol by either relocation: its low half tells
-        found.sort_by_key(|(_, chosen, _)| chosen.relocation != one.code);
-        for (before, chosen, first) in found {
+        let Some(before) = Before::new(architecture, one, at.it, (start, end)) else { return };
+        let mut take = |before: &Before, chosen: Chosen, first: Option<Chosen>| {
             let is_alone = first.is_none() && !chosen.is_rewrite();
             if chosen.deleted_count() != window.deleted
                 || (is_alone && !has_same_opcode(linked, at))
             {
-                continue;
+                return;
             }
             let field = before.field(&chosen, &window.bytes, window.address);
             let target = match &field {
-                Some(field) => self.target_of(at.object, one, field),
+                Some(field) => self.target_of(at, one, field),
                 None => Target::Nothing,
             };
             let is_sure = target == Target::AsWritten;
@@ -174,6 +168,26 @@ impl Side<'_> {
             } else if is_sure || best.is_none() {
                 let other = None;
                 *best = Some(Found { first, chosen, other, is_through_got, target, start, end });
+            }
+        };
+        match pass {
+            Pass::Library => {
+                // a high part alone may lead to its symbol by either relocation: its low half tells
+                let found = before.choices(&others, &window.bytes);
+                let is_same = |chosen: &Chosen| chosen.relocation == one.code;
+                found.clone().filter(is_same).for_each(|chosen| take(&before, chosen, None));
+                found.filter(|one| !is_same(one)).for_each(|chosen| take(&before, chosen, None));
+            }
+            Pass::Own => {
+                let found = before.own_choice(&window.bytes);
+                found.into_iter().for_each(|chosen| take(&before, chosen, None));
+            }
+            Pass::Twice => {
+                let mut found = before.choices_after(&others, &window.bytes);
+                found.sort_by_key(|(_, chosen, _)| chosen.relocation != one.code);
+                for (before, chosen, first) in found {
+                    take(&before, chosen, first);
+                }
             }
         }
     }
@@ -196,14 +210,24 @@ fn has_same_opcode(linked: &Linked, at: At) -> bool {
 /// A relocation of which bytes may be deleted, in one or two windows of its section.
 pub struct Deletable<'a> {
     linked: &'a Linked<'a>,
-    /// How many bytes the relocation is of.
-    len: u64,
+    /// Its bytes.
+    own: &'a [u8],
+    /// Their bits that are as they were where nothing is rewritten.
+    kept: u64,
+    /// A bit for each count of deleted bytes that choices of the library may have.
+    counts: u64,
     /// Before a deletion, the fields of other relocations, and the bytes behind the relocation's.
     windows: Vec<(Before, Vec<FieldBits>, &'a [u8])>,
 }
 
 impl<'a> Deletable<'a> {
-    pub fn new(linked: &'a Linked<'a>, it: &'a Section<'a>, index: usize) -> Deletable<'a> {
+    /// `may_delete`: whether bytes are deleted, or else `start` is asked for none alone.
+    pub fn new(
+        linked: &'a Linked<'a>,
+        it: &'a Section<'a>,
+        index: usize,
+        may_delete: bool,
+    ) -> Deletable<'a> {
         let one = &it.relocations[index];
         let architecture = linked.architecture;
         let len = made::len(architecture, one.code);
@@ -215,30 +239,72 @@ impl<'a> Deletable<'a> {
                 return None;
             }
             let behind = it.bytes.get(past as usize..end as usize)?;
-            Some((Before::new(architecture, one, it, (start, end)), others, behind))
+            Some((Before::new(architecture, one, it, (start, end))?, others, behind))
         };
         let ends = if ends[0] == ends[1] { &ends[..1] } else { &ends[..] };
-        Deletable { linked, len, windows: ends.iter().filter_map(|end| window(*end)).collect() }
+        let windows: Vec<_> = ends.iter().filter_map(|end| window(*end)).collect();
+        let own = it.bytes.get(one.offset as usize..past as usize).unwrap_or(&[]);
+        let row = made::row(architecture, one.code);
+        let field = row.filter(|row| row.window() <= own.len()).map(|row| field_bits(&row, own));
+        let mut it = Deletable { linked, own, kept: !field.unwrap_or(0), counts: 0, windows };
+        // whatever bytes there are: all of them are other fields
+        let all = [0, 8, 16, 24, 32, 40, 48, 56].map(|offset| FieldBits { offset, bits: u64::MAX });
+        for count in (0..=len.min(8)).step_by(2).filter(|count| may_delete || *count == 0) {
+            let there = [0; 64];
+            let Some(there) = there.get(..(len - count) as usize) else { continue };
+            let may_be = it.find(there, |before, _, bytes| {
+                before.choices(&all, bytes).find(|one| one.deleted_count() == count)
+            });
+            it.counts |= u64::from(may_be.is_some()) << count;
+        }
+        it
+    }
+
+    /// What is found of one of the windows, of which these bytes are left of the relocation's.
+    fn find<T>(
+        &self,
+        there: &[u8],
+        find: impl Fn(&Before, &[FieldBits], &[u8]) -> Option<T>,
+    ) -> Option<T> {
+        self.windows.iter().find_map(|(before, others, behind)| {
+            let mut bytes = Bytes::of(there)?;
+            bytes.push(behind)?;
+            find(before, others, &bytes)
+        })
     }
 
     /// Whether some choice leaves the bytes that are at a place, without the bytes behind those of the
     /// relocation, after a deletion of so many; returned is where the deletion begins, behind the
     /// relocation's offset.
     pub fn start(&self, place: u64, deleted: u64) -> Option<u64> {
-        let kept = self.len.checked_sub(deleted)?;
+        let kept = (self.own.len() as u64).checked_sub(deleted)?;
         let there: &[u8] = match kept {
             0 => &[],
             _ => self.linked.bytes_at(place)?.get(..kept as usize)?,
         };
-        self.windows.iter().find_map(|(before, others, behind)| {
-            let mut linked = [0; 128];
-            let linked = linked.get_mut(..there.len() + behind.len())?;
-            linked[..there.len()].copy_from_slice(there);
-            linked[there.len()..].copy_from_slice(behind);
-            let found = before.choices(others, linked).chain(before.own_choice(linked));
-            let found = { found }.find(|one| one.deleted_count() == deleted)?;
+        if deleted == 0 && !self.windows.is_empty() && self.is_as_it_was(there) {
+            return Some(0);
+        }
+        let may_be = self.counts >> deleted & 1 == 1;
+        self.find(there, |before, others, linked| {
+            let found = may_be.then(|| before.choices(others, linked));
+            let mut found = found.into_iter().flatten().chain(before.own_choice(linked));
+            let found = found.find(|one| one.deleted_count() == deleted)?;
             Some(found.deleted().map_or(0, |(start, _)| start))
         })
+    }
+
+    /// Whether bytes are the relocation's, but for its field.
+    fn is_as_it_was(&self, there: &[u8]) -> bool {
+        let word = |bytes: &[u8]| {
+            let mut word = [0; 8];
+            word.get_mut(..bytes.len())?.copy_from_slice(bytes);
+            Some(u64::from_le_bytes(word))
+        };
+        match (word(self.own), word(there)) {
+            (Some(own), Some(there)) => (own ^ there) & self.kept == 0,
+            _ => self.own == there,
+        }
     }
 }
 
@@ -251,23 +317,18 @@ fn fields(
     mut end: u64,
 ) -> Option<(u64, u64, Vec<FieldBits>)> {
     let one = &it.relocations[index];
-    let mut near = Vec::new();
-    let before = it.relocations[..index].iter().enumerate().rev();
-    let after = it.relocations.iter().enumerate().skip(index + 1);
-    let is_far = |other: &Relocation| other.offset + 16 < start || other.offset > end + 16;
-    for (_, other) in before.take_while(|(_, other)| !is_far(other)).chain(
-        after.take_while(|(_, other)| !is_far(other)),
-    ) {
-        if let Some(row) = made::row(architecture, other.code) {
-            near.push((row, other.offset));
+    let is_near = |other: &Relocation| other.offset + 16 >= start && other.offset <= end + 16;
+    let count = |near: &mut dyn Iterator<Item = &Relocation>| near.take_while(|one| is_near(one)).count();
+    let before = index - count(&mut it.relocations[..index].iter().rev());
+    let after = index + 1 + count(&mut it.relocations[index + 1..].iter());
+    let near = (before..index).rev().chain(index + 1..after).map(|other| &it.relocations[other]);
+    let near = near.filter_map(|other| Some((made::row(architecture, other.code)?, other.offset)));
+    for (row, offset) in near.clone() {
+        let past = offset + row.window() as u64;
+        if offset < start && past > start {
+            start = offset;
         }
-    }
-    for (row, offset) in &near {
-        let past = *offset + row.window() as u64;
-        if *offset < start && past > start {
-            start = *offset;
-        }
-        if *offset < end && past > end {
+        if offset < end && past > end {
             end = past;
         }
     }
@@ -275,10 +336,10 @@ fn fields(
         return None;
     }
     let window = &it.bytes[start as usize..end as usize];
-    let others = near.iter().filter(|(_, offset)| start <= *offset && *offset < end);
+    let others = near.filter(|(_, offset)| start <= *offset && *offset < end);
     let others = others.filter_map(|(row, offset)| {
         let (offset, bytes) = (offset - start, window.get((offset - start) as usize..)?);
-        (bytes.len() >= row.window()).then(|| FieldBits { offset, bits: field_bits(row, bytes) })
+        (bytes.len() >= row.window()).then(|| FieldBits { offset, bits: field_bits(&row, bytes) })
     });
     Some((start, end, others.collect()))
 }

@@ -48,7 +48,7 @@ fn name(architecture: Architecture, code: u32) -> String {
 
 /// A text without control characters, which names may have: the local labels of LoongArch's
 /// assembler do.
-fn printable(text: &str) -> String {
+pub fn printable(text: &str) -> String {
     let mut shown = String::with_capacity(text.len());
     for one in text.chars() {
         match one.is_control() {
@@ -57,6 +57,18 @@ fn printable(text: &str) -> String {
         }
     }
     shown
+}
+
+/// What a linker made of a relocation, without where it leads.
+pub fn kind(line: &Line, made: &Made) -> String {
+    match made {
+        Made::Chosen { target: Target::Other(_), .. } => {
+            said(line, made).split(" to ").next().unwrap_or_default().to_string() + " elsewhere"
+        }
+        Made::Chosen { .. } => said(line, made).split(": ").next().unwrap_or_default().to_string(),
+        Made::Unknown(_) => "not recognised".into(),
+        _ => said(line, made),
+    }
 }
 
 /// What a linker made of a relocation, in words.

@@ -1,11 +1,12 @@
 //! A linked file beside the objects: where their sections are in it.
 
 use crate::align;
-use crate::elf::{Definition, Home, Linked, Object, Reason, Symbol};
+use crate::elf::{Definition, Home, Linked, Object, Reason, Relocation, Symbol};
 use crate::map::{self, Anchors};
 use crate::symbols::{self, Definers, LocalSymbols};
 use crate::tables::Frames;
 use crate::targets::Pending;
+use crate::threads;
 
 /// What a relocation leads to.
 #[derive(Clone, PartialEq, Eq)]
@@ -44,10 +45,10 @@ pub struct Side<'a> {
     pub maps: Vec<Vec<Anchors>>,
     /// Objects, sections and anchors by local symbols whose names are there more than once.
     repeated: Vec<(usize, usize, (u64, u64))>,
-    /// By object.
-    pub pending: Vec<Vec<Pending>>,
-    /// The objects of which places were found since `walk` was there, which asks for those of no other.
-    pub is_stale: Vec<bool>,
+    /// By object and section.
+    pub pending: Vec<Vec<Vec<Pending>>>,
+    /// The sections, by object, whose places were found since `walk` was there.
+    pub is_new: Vec<Vec<bool>>,
     /// What `locate` found last, by object and section.
     pub made: Vec<Vec<Vec<Made>>>,
 }
@@ -95,18 +96,19 @@ impl<'a> Side<'a> {
             }
             anchors.push(of_sections);
         }
-        let all = anchors.iter().zip(objects).map(|(anchors, object)| {
-            let sections = anchors.iter().zip(&object.sections);
+        let maps = threads::all(objects.len(), |object| {
+            let sections = anchors[object].iter().zip(&objects[object].sections);
             sections.map(|(anchors, section)| align::map_of(linked, section, anchors)).collect()
         });
-        let maps = all.collect();
         let global = |one: &Symbol| match one.is_local {
             true => None,
             false => linked.globals.get(&one.name).copied(),
         };
         let globals = objects.iter().map(|it| it.symbols.iter().map(global).collect()).collect();
-        let pending = objects.iter().map(|_| Vec::new()).collect();
-        let (is_stale, made) = (vec![true; objects.len()], vec![Vec::new(); objects.len()]);
+        let sections = || objects.iter().map(|it| it.sections.len());
+        let pending = sections().map(|len| (0..len).map(|_| Vec::new()).collect()).collect();
+        let made = sections().map(|len| vec![Vec::new(); len]).collect();
+        let is_new = sections().map(|len| vec![true; len]).collect();
         Ok(Side {
             linked,
             objects,
@@ -116,32 +118,67 @@ impl<'a> Side<'a> {
             maps,
             repeated,
             pending,
-            is_stale,
+            is_new,
             made,
         })
     }
 
     /// Finds the places of all sections, as far as they can be found; `step` is called for each
     /// section that was looked at.
-    pub fn locate(&mut self, step: &dyn Fn()) {
+    pub fn locate(&mut self, step: &(dyn Fn() + Sync)) {
         let frames = Frames::new(self.linked);
         for _ in 0..5 {
             self.find_tables(&frames);
-            let none = vec![false; self.objects.len()];
-            let is_stale = std::mem::replace(&mut self.is_stale, none);
-            for object in (0..self.objects.len()).filter(|object| is_stale[*object]) {
-                self.pending[object].clear();
-                self.made[object].clear();
-                for section in 0..self.objects[object].sections.len() {
-                    let made = self.walk(object, section);
-                    self.made[object].push(made);
-                    step();
-                }
+            let is_walked: Vec<bool> = self.is_new.iter().map(|all| all.contains(&true)).collect();
+            let stale = (0..self.objects.len()).flat_map(|object| {
+                self.stale(object).into_iter().map(move |section| (object, section))
+            });
+            let stale: Vec<_> = stale.collect();
+            let walk = |index| {
+                let (object, section) = stale[index];
+                let found = self.walk(object, section);
+                step();
+                found
+            };
+            for ((object, section), (made, pending)) in
+                stale.iter().zip(threads::all(stale.len(), walk))
+            {
+                self.made[*object][*section] = made;
+                self.pending[*object][*section] = pending;
             }
-            if !self.learn(&is_stale) && !self.use_repeated() {
+            self.is_new.iter_mut().for_each(|all| all.fill(false));
+            if !self.learn(&is_walked) && !self.use_repeated() {
                 break;
             }
         }
+    }
+
+    /// The sections of an object that `walk` has to look at again: those that are new, and those with
+    /// relocations to one that is. That may be by the label of a high part, or by a word of the TOC.
+    fn stale(&self, object: usize) -> Vec<usize> {
+        let (it, is_new) = (&self.objects[object], &self.is_new[object]);
+        if !is_new.contains(&true) {
+            return Vec::new();
+        }
+        let home = |one: &Relocation| match it.symbols[one.symbol].home {
+            Home::Section(section) => Some(section),
+            _ => None,
+        };
+        let leads = |section: &usize| {
+            let mut all = it.sections[*section].relocations.iter();
+            all.any(|one| home(one).is_some_and(|home| is_new[home]))
+        };
+        let all = 0..it.sections.len();
+        let to_new: Vec<bool> = all.clone().map(|section| leads(&section)).collect();
+        let is_link = |one: &Relocation, home: usize| {
+            it.sections[home].name == ".toc" || self.is_low(one)
+        };
+        all.filter(|section| {
+            let mut links = it.sections[*section].relocations.iter();
+            is_new[*section] || to_new[*section]
+                || links.any(|one| home(one).is_some_and(|home| to_new[home] && is_link(one, home)))
+        })
+        .collect()
     }
 
     /// Takes the anchors of names that are there more than once, where a section has no other.
@@ -165,7 +202,7 @@ impl<'a> Side<'a> {
             anchors.dedup_by_key(|(offset, _)| *offset);
             let it = &self.objects[*object].sections[*section];
             self.maps[*object][*section] = align::map_of(self.linked, it, anchors);
-            self.is_stale[*object] = true;
+            self.is_new[*object][*section] = true;
         }
         !new.is_empty()
     }

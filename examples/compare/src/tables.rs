@@ -140,7 +140,7 @@ impl Side<'_> {
         for (object, it) in self.objects.iter().enumerate() {
             for (index, section) in it.sections.iter().enumerate() {
                 let anchors = if section.name == ".eh_frame" {
-                    if !self.is_stale[object] {
+                    if !self.is_new[object].contains(&true) {
                         continue;
                     }
                     frames.anchors(section, |one| {
@@ -164,7 +164,7 @@ impl Side<'_> {
         for (object, section, anchors) in new {
             self.maps[object][section].clone_from(&anchors);
             self.anchors[object][section] = anchors;
-            self.is_stale[object] = true;
+            self.is_new[object][section] = true;
         }
         is_any
     }

@@ -4,6 +4,7 @@ use crate::elf::{Entry, Home, Relocation, Symbol};
 use crate::forms::Base;
 use crate::hash::HashMap;
 use crate::made::{self, Field};
+use crate::recognise::At;
 use crate::side::{Side, Target};
 use linker_utils::elf::{Architecture, Operands, RelocationKind};
 use object::elf::STT_TLS;
@@ -14,6 +15,17 @@ pub struct Pending {
     value: u64,
     field: Field,
     operands: Operands,
+}
+
+/// Once for each relocation and each choice of it.
+fn add_pending(at: At, one: Pending) {
+    let is_same = |last: &&Pending| {
+        (last.field.place, last.field.row.kind()) == (one.field.place, one.field.row.kind())
+    };
+    let mut pending = at.pending.borrow_mut();
+    if !pending.iter().rev().take(2).any(|last| is_same(&last)) {
+        pending.push(one);
+    }
 }
 
 impl<'a> Side<'a> {
@@ -115,11 +127,12 @@ impl<'a> Side<'a> {
         (operands, field.row.kind() == RelocationKind::RelativeRiscVLow12)
     }
 
-    pub fn target_of(&mut self, object: usize, one: &Relocation, field: &Field) -> Target {
+    pub fn target_of(&self, at: At, one: &Relocation, field: &Field) -> Target {
+        let object = at.object;
         let symbol = &self.objects[object].symbols[one.symbol];
         let (mut operands, is_low) = self.operands(object, one, field);
         if is_low {
-            return self.low_target(object, symbol, field, operands);
+            return self.low_target(at, symbol, field, operands);
         }
         let mut one = one;
         if self.is_low(one) {
@@ -131,7 +144,7 @@ impl<'a> Side<'a> {
         let address = self.address_of(object, one.symbol);
         if let (None, Home::Section(section)) = (address, symbol.home) {
             let (home, value) = ((object, section), symbol.value);
-            self.add_pending(object, Pending { home, value, field: *field, operands });
+            add_pending(at, Pending { home, value, field: *field, operands });
         }
         if symbol.kind == STT_TLS {
             operands.tls_base = 0;
@@ -140,24 +153,14 @@ impl<'a> Side<'a> {
     }
 
     /// Whether a relocation is of the low part of an address, by the label of its high part.
-    fn is_low(&self, one: &Relocation) -> bool {
+    pub fn is_low(&self, one: &Relocation) -> bool {
         let row = made::row(self.linked.architecture, one.code);
         row.is_some_and(|row| row.kind() == RelocationKind::RelativeRiscVLow12)
     }
 
-    /// Once for each relocation and each choice of it.
-    fn add_pending(&mut self, object: usize, one: Pending) {
-        let is_same = |last: &&Pending| {
-            (last.field.place, last.field.row.kind()) == (one.field.place, one.field.row.kind())
-        };
-        let pending = &mut self.pending[object];
-        if !pending.iter().rev().take(2).any(|last| is_same(&last)) {
-            pending.push(one);
-        }
-    }
-
     /// What the low part of a RISC-V address leads to: the symbol of the high part.
-    fn low_target(&mut self, object: usize, label: &Symbol, field: &Field, low: Operands) -> Target {
+    fn low_target(&self, at: At, label: &Symbol, field: &Field, low: Operands) -> Target {
+        let object = at.object;
         let Some((high, place)) = self.high_part(object, label) else { return self.bits(field) };
         let Some(row) = made::row(self.linked.architecture, high.code) else { return self.bits(field) };
         let symbol = &self.objects[object].symbols[high.symbol];
@@ -165,7 +168,7 @@ impl<'a> Side<'a> {
         let Some((address, _)) = self.address_of(object, high.symbol) else {
             if let (Home::Section(section), false) = (symbol.home, row.asks_for_got()) {
                 let (home, value) = ((object, section), symbol.value);
-                self.add_pending(object, Pending { home, value, field: *field, operands: low });
+                add_pending(at, Pending { home, value, field: *field, operands: low });
             }
             return self.bits(field);
         };
@@ -195,7 +198,7 @@ impl<'a> Side<'a> {
     pub fn learn(&mut self, was_walked: &[bool]) -> bool {
         let mut by_home = HashMap::<(usize, usize), Vec<&Pending>>::default();
         let walked = self.pending.iter().zip(was_walked).filter(|(_, is_it)| **is_it);
-        for one in walked.flat_map(|(pending, _)| pending) {
+        for one in walked.flat_map(|(pending, _)| pending).flatten() {
             by_home.entry(one.home).or_default().push(one);
         }
         let mut found = Vec::new();

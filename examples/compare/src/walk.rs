@@ -5,18 +5,21 @@ use crate::made;
 use crate::map;
 use crate::recognise::At;
 use crate::side::{Made, Side, Target};
+use crate::targets::Pending;
 use linker_utils::elf::RelocationKind;
+use std::cell::RefCell;
 
 impl<'a> Side<'a> {
-    /// What was made of each relocation of a section, by what is known of places.
-    pub fn walk(&mut self, object: usize, section: usize) -> Vec<Made> {
+    /// What was made of each relocation of a section, by what is known of places, and what asks for
+    /// the places of others.
+    pub fn walk(&self, object: usize, section: usize) -> (Vec<Made>, Vec<Pending>) {
         let it: &'a Section<'a> = &self.objects[object].sections[section];
         let mut all = vec![Made::Nowhere; it.relocations.len()];
-        let map = self.maps[object][section].clone();
+        let (map, pending) = (&self.maps[object][section], RefCell::new(Vec::new()));
         let (mut skipped, mut covered) = (false, 0);
         let mut either = Vec::new();
         if !it.is_allocated || map.is_empty() || it.bytes.is_empty() {
-            return all;
+            return (all, Vec::new());
         }
         let architecture = self.linked.architecture;
         for (index, one) in it.relocations.iter().enumerate() {
@@ -25,8 +28,8 @@ impl<'a> Side<'a> {
                 all[index] = Made::Part;
                 continue;
             }
-            let Some(found) = self.recognise(At { object, it, index, map: &map }) else {
-                let place = map::address_in(&map, one.offset);
+            let Some(found) = self.recognise(At { object, it, index, map, pending: &pending }) else {
+                let place = map::address_in(map, one.offset);
                 all[index] = match place.and_then(|place| self.linked.bytes_at(place)) {
                     _ if one.offset < covered => Made::Part,
                     // sums aren't read, and these have as many bytes as their numbers
@@ -76,7 +79,7 @@ impl<'a> Side<'a> {
                 all[index] = other;
             }
         }
-        all
+        (all, pending.into_inner())
     }
 
     /// The relocation of the other half of an address whose high part this is.

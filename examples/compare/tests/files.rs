@@ -416,6 +416,18 @@ fn the_program_returns_its_status() {
     assert_eq!(lines[0]["b"]["rewrite"], "MovIndirectToLea");
     assert_eq!(run(&files, Some("--all")).1.lines().filter(|line| line.contains("both: ")).count(), 69);
 
+    // by function, the worst first, and a summary that fits a screen
+    let (status, said, _) = run(&files, None);
+    let heads = said.lines().filter_map(|line| line.split_once(" of ")?.1.split_once(" of ")).map(|it| it.0);
+    let heads: Vec<&str> = heads.take(2).collect();
+    assert_eq!((status, &heads[..]), (Some(1), &["47 differ in main", "4 differ in say"][..]));
+    let (status, summary, _) = run(&files, Some("--summary"));
+    assert_eq!(status, Some(1));
+    assert!(said.ends_with(&summary) && summary.starts_with("81 relocations, 12 differ\n"));
+    assert!(summary.lines().count() <= 24 && summary.lines().all(|line| line.chars().count() <= 80));
+    let way = "12: as it was (through the GOT) | MovIndirectToLea (direct)";
+    assert!(summary.trim_end().ends_with(way), "{summary}");
+
     let fails = |file: PathBuf, wanted: &str| {
         let mut files = files.clone();
         files[6] = file.clone();

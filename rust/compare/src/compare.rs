@@ -3,8 +3,10 @@
 
 use exports::*;
 use linker_utils::elf::{Operands, RelocationNumbers, RewriteWindow};
+use linker_utils::output::Origins;
 use linker_utils::recognise::FieldBits;
 use linker_utils::relaxation::{BlockHead, Call, RelaxDelta};
+use linker_utils::rewriting::{KeptGroups, OutputFacts, SymbolFacts};
 use linker_utils::runs::relaxation::{Shape, Shapes};
 use linker_utils::runs::shapes::{fixed, loongarch64, riscv64};
 use linker_utils::section::{Addresses, Symbol};
@@ -331,6 +333,12 @@ fields! {
     entry_addend, other, is_thread_local, is_undefined_weak,
 }
 fields! { Addresses: section, got_base, thread_origin, module_origin, module_entry, }
+fields! {
+    SymbolFacts: is_local, is_ifunc, is_absolute, is_undefined_weak, is_tls_get_addr, other,
+}
+fields! { OutputFacts: is_executable, is_fixed, }
+fields! { KeptGroups: initial_exec, general_dynamic, local_dynamic, descriptor, got_load, }
+fields! { Origins: thread_pointer, module_block, }
 fields! { Operands: symbol, addend, place, got_entry, got_base, plt_entry, symbol_size, tls_base, }
 fields! {
     RelocationNumbers: kind, form, mask, machine, is_bits, byte_size, first_bit, end_bit,

@@ -5,19 +5,31 @@
 use crate::choices::ChoiceNumbers;
 use crate::choices::LinkFactNumbers;
 use crate::deltas::Deletion;
+use crate::output::DynamicCodes;
+use crate::output::EntryWords;
+use crate::output::GotNumbers;
+use crate::output::RunNumbers;
+use crate::output::StubNumbers;
+use crate::output::SymbolNumbers;
+use crate::output::WordCodes;
 use crate::reading::FieldValueNumbers;
 use crate::recognising::RecognisedNumbers;
 use crate::relaxing::ItemNumbers;
 use crate::relocate::Reach;
 use crate::relocate::Relocation;
+use crate::rewriting::DecisionNumbers;
 use crate::section_items::Rela;
 use crate::sections::RequirementNumbers;
 use linker_utils::elf::Operands;
 use linker_utils::elf::RelocationNumbers;
 use linker_utils::elf::RewriteWindow;
+use linker_utils::output::Origins;
 use linker_utils::recognise::FieldBits;
 use linker_utils::relaxation::BlockHead;
 use linker_utils::relaxation::RelaxDelta;
+use linker_utils::rewriting::KeptGroups;
+use linker_utils::rewriting::OutputFacts;
+use linker_utils::rewriting::SymbolFacts;
 use linker_utils::riscv64::Call;
 use linker_utils::runs::relaxation::Shapes;
 use linker_utils::section::Addresses;
@@ -503,6 +515,300 @@ unsafe extern "C" fn linker_utils_deltas_merge_nonnull(
 }
 
 #[unsafe(no_mangle)]
+unsafe extern "C" fn linker_utils_dynamic_types(
+    machine: u16,
+    types: *mut DynamicCodes,
+) -> u32 {
+    // SAFETY: the arguments are as the head of the header says.
+    unsafe {
+        crate::output::linker_utils_dynamic_types(
+            machine,
+            &mut *types,
+        )
+    }
+}
+
+#[unsafe(no_mangle)]
+unsafe extern "C" fn linker_utils_dynamic_name_nonnull(
+    machine: u16,
+    r_type: u32,
+    name: *mut u8,
+    name_len: usize,
+    name_used: *mut usize,
+) -> u32 {
+    // SAFETY: the arguments are as the head of the header says.
+    unsafe {
+        crate::output::linker_utils_dynamic_name_nonnull(
+            machine,
+            r_type,
+            from_raw_parts_mut(name, name_len),
+            &mut *name_used,
+        )
+    }
+}
+
+#[unsafe(no_mangle)]
+unsafe extern "C" fn linker_utils_dynamic_words(
+    machine: u16,
+    entry_class: u32,
+    is_bound: bool,
+    is_executable: bool,
+    words: *mut WordCodes,
+) -> u32 {
+    // SAFETY: the arguments are as the head of the header says.
+    unsafe {
+        crate::output::linker_utils_dynamic_words(
+            machine,
+            entry_class,
+            is_bound,
+            is_executable,
+            &mut *words,
+        )
+    }
+}
+
+#[unsafe(no_mangle)]
+extern "C" fn linker_utils_entry_words(
+    entry_class: u32,
+) -> u64 {
+    crate::output::linker_utils_entry_words(
+        entry_class,
+    )
+}
+
+#[unsafe(no_mangle)]
+unsafe extern "C" fn linker_utils_static_words(
+    entry_class: u32,
+    address: u64,
+    origins: *const Origins,
+    words: *mut EntryWords,
+) -> u32 {
+    // SAFETY: the arguments are as the head of the header says.
+    unsafe {
+        crate::output::linker_utils_static_words(
+            entry_class,
+            address,
+            &*origins,
+            &mut *words,
+        )
+    }
+}
+
+#[unsafe(no_mangle)]
+unsafe extern "C" fn linker_utils_origins(
+    machine: u16,
+    image: u64,
+    image_len: u64,
+    alignment: u64,
+    origins: *mut Origins,
+) -> u32 {
+    // SAFETY: the arguments are as the head of the header says.
+    unsafe {
+        crate::output::linker_utils_origins(
+            machine,
+            image,
+            image_len,
+            alignment,
+            &mut *origins,
+        )
+    }
+}
+
+#[unsafe(no_mangle)]
+unsafe extern "C" fn linker_utils_got(
+    machine: u16,
+    address: u64,
+    dynamic: u64,
+    got: *mut GotNumbers,
+) -> u32 {
+    // SAFETY: the arguments are as the head of the header says.
+    unsafe {
+        crate::output::linker_utils_got(
+            machine,
+            address,
+            dynamic,
+            &mut *got,
+        )
+    }
+}
+
+#[unsafe(no_mangle)]
+unsafe extern "C" fn linker_utils_join_flags(
+    machine: u16,
+    first: u32,
+    second: u32,
+    joined: *mut u32,
+) -> u32 {
+    // SAFETY: the arguments are as the head of the header says.
+    unsafe {
+        crate::output::linker_utils_join_flags(
+            machine,
+            first,
+            second,
+            &mut *joined,
+        )
+    }
+}
+
+#[unsafe(no_mangle)]
+extern "C" fn linker_utils_output_flags(
+    machine: u16,
+    joined: u32,
+) -> u32 {
+    crate::output::linker_utils_output_flags(
+        machine,
+        joined,
+    )
+}
+
+#[unsafe(no_mangle)]
+extern "C" fn linker_utils_page(
+    machine: u16,
+) -> u64 {
+    crate::output::linker_utils_page(
+        machine,
+    )
+}
+
+#[unsafe(no_mangle)]
+extern "C" fn linker_utils_code_unit(
+    machine: u16,
+    flags: u32,
+) -> u64 {
+    crate::output::linker_utils_code_unit(
+        machine,
+        flags,
+    )
+}
+
+#[unsafe(no_mangle)]
+extern "C" fn linker_utils_filler(
+    machine: u16,
+    offset: u64,
+) -> u8 {
+    crate::output::linker_utils_filler(
+        machine,
+        offset,
+    )
+}
+
+#[unsafe(no_mangle)]
+unsafe extern "C" fn linker_utils_interpreter_nonnull(
+    machine: u16,
+    flags: u32,
+    path: *mut u8,
+    path_len: usize,
+    path_used: *mut usize,
+) -> u32 {
+    // SAFETY: the arguments are as the head of the header says.
+    unsafe {
+        crate::output::linker_utils_interpreter_nonnull(
+            machine,
+            flags,
+            from_raw_parts_mut(path, path_len),
+            &mut *path_used,
+        )
+    }
+}
+
+#[unsafe(no_mangle)]
+unsafe extern "C" fn linker_utils_provided_symbol_nonnull(
+    machine: u16,
+    index: usize,
+    name: *mut u8,
+    name_len: usize,
+    name_used: *mut usize,
+    symbol: *mut SymbolNumbers,
+) -> u32 {
+    // SAFETY: the arguments are as the head of the header says.
+    unsafe {
+        crate::output::linker_utils_provided_symbol_nonnull(
+            machine,
+            index,
+            from_raw_parts_mut(name, name_len),
+            &mut *name_used,
+            &mut *symbol,
+        )
+    }
+}
+
+#[unsafe(no_mangle)]
+unsafe extern "C" fn linker_utils_provided_run_nonnull(
+    machine: u16,
+    index: usize,
+    prefix: *mut u8,
+    prefix_len: usize,
+    prefix_used: *mut usize,
+    run: *mut RunNumbers,
+) -> u32 {
+    // SAFETY: the arguments are as the head of the header says.
+    unsafe {
+        crate::output::linker_utils_provided_run_nonnull(
+            machine,
+            index,
+            from_raw_parts_mut(prefix, prefix_len),
+            &mut *prefix_used,
+            &mut *run,
+        )
+    }
+}
+
+#[unsafe(no_mangle)]
+unsafe extern "C" fn linker_utils_provided_word(
+    machine: u16,
+    run: usize,
+    index: u64,
+    word: *mut u32,
+) -> u32 {
+    // SAFETY: the arguments are as the head of the header says.
+    unsafe {
+        crate::output::linker_utils_provided_word(
+            machine,
+            run,
+            index,
+            &mut *word,
+        )
+    }
+}
+
+#[unsafe(no_mangle)]
+unsafe extern "C" fn linker_utils_stub(
+    machine: u16,
+    kind: u32,
+    stub: *mut StubNumbers,
+) -> u32 {
+    // SAFETY: the arguments are as the head of the header says.
+    unsafe {
+        crate::output::linker_utils_stub(
+            machine,
+            kind,
+            &mut *stub,
+        )
+    }
+}
+
+#[unsafe(no_mangle)]
+unsafe extern "C" fn linker_utils_write_stub_nonnull(
+    machine: u16,
+    kind: u32,
+    place: u64,
+    target: u64,
+    bytes: *mut u8,
+    bytes_len: usize,
+) -> u32 {
+    // SAFETY: the arguments are as the head of the header says.
+    unsafe {
+        crate::output::linker_utils_write_stub_nonnull(
+            machine,
+            kind,
+            place,
+            target,
+            from_raw_parts_mut(bytes, bytes_len),
+        )
+    }
+}
+
+#[unsafe(no_mangle)]
 unsafe extern "C" fn linker_utils_packed_run_len_nonnull(
     base: u64,
     section_len: usize,
@@ -785,6 +1091,27 @@ unsafe extern "C" fn linker_utils_same_but_for_nonnull(
             r_type,
             from_raw_parts(a, a_len),
             from_raw_parts(b, b_len),
+        )
+    }
+}
+
+#[unsafe(no_mangle)]
+unsafe extern "C" fn linker_utils_recognise_window_nonnull(
+    machine: u16,
+    r_type: u32,
+    original: *const u8,
+    original_len: usize,
+    offset: u64,
+    window: *mut RewriteWindow,
+) -> u32 {
+    // SAFETY: the arguments are as the head of the header says.
+    unsafe {
+        crate::recognising::linker_utils_recognise_window_nonnull(
+            machine,
+            r_type,
+            from_raw_parts(original, original_len),
+            offset,
+            &mut *window,
         )
     }
 }
@@ -1231,32 +1558,65 @@ unsafe extern "C" fn linker_utils_next_modifier(
 }
 
 #[unsafe(no_mangle)]
-unsafe extern "C" fn linker_utils_riscv_items_nonnull(
+unsafe extern "C" fn linker_utils_survey_nonnull(
+    machine: u16,
+    output: *const OutputFacts,
+    symbols: *const SymbolFacts,
+    symbols_len: usize,
+    relocations: *const u8,
+    relocations_len: usize,
     section: *const u8,
     section_len: usize,
-    base: u64,
-    relocations: *const Rela,
+    kept: *mut KeptGroups,
+    kept_len: usize,
+) -> u32 {
+    // SAFETY: the arguments are as the head of the header says.
+    unsafe {
+        crate::rewriting::linker_utils_survey_nonnull(
+            machine,
+            &*output,
+            from_raw_parts(symbols, symbols_len),
+            from_raw_parts(relocations, relocations_len),
+            from_raw_parts(section, section_len),
+            from_raw_parts_mut(kept, kept_len),
+        )
+    }
+}
+
+#[unsafe(no_mangle)]
+unsafe extern "C" fn linker_utils_rewrite_section_nonnull(
+    machine: u16,
+    output: *const OutputFacts,
+    symbols: *const SymbolFacts,
+    symbols_len: usize,
+    kept: *const KeptGroups,
+    kept_len: usize,
+    relocations: *mut u8,
     relocations_len: usize,
-    items: *mut ItemNumbers,
-    items_len: usize,
-    len: *mut usize,
+    section: *mut u8,
+    section_len: usize,
+    decisions: *mut DecisionNumbers,
+    decisions_len: usize,
     faulty: *mut usize,
 ) -> u32 {
     // SAFETY: the arguments are as the head of the header says.
     unsafe {
-        crate::section_items::linker_utils_riscv_items_nonnull(
-            from_raw_parts(section, section_len),
-            base,
-            from_raw_parts(relocations, relocations_len),
-            from_raw_parts_mut(items, items_len),
-            &mut *len,
+        crate::rewriting::linker_utils_rewrite_section_nonnull(
+            machine,
+            &*output,
+            from_raw_parts(symbols, symbols_len),
+            from_raw_parts(kept, kept_len),
+            from_raw_parts_mut(relocations, relocations_len),
+            from_raw_parts_mut(section, section_len),
+            from_raw_parts_mut(decisions, decisions_len),
             &mut *faulty,
         )
     }
 }
 
 #[unsafe(no_mangle)]
-unsafe extern "C" fn linker_utils_loongarch_items_nonnull(
+unsafe extern "C" fn linker_utils_section_items_nonnull(
+    machine: u16,
     section: *const u8,
     section_len: usize,
     base: u64,
@@ -1264,16 +1624,20 @@ unsafe extern "C" fn linker_utils_loongarch_items_nonnull(
     relocations_len: usize,
     items: *mut ItemNumbers,
     items_len: usize,
+    makers: *mut usize,
+    makers_len: usize,
     len: *mut usize,
     faulty: *mut usize,
 ) -> u32 {
     // SAFETY: the arguments are as the head of the header says.
     unsafe {
-        crate::section_items::linker_utils_loongarch_items_nonnull(
+        crate::section_items::linker_utils_section_items_nonnull(
+            machine,
             from_raw_parts(section, section_len),
             base,
             from_raw_parts(relocations, relocations_len),
             from_raw_parts_mut(items, items_len),
+            from_raw_parts_mut(makers, makers_len),
             &mut *len,
             &mut *faulty,
         )

@@ -8,9 +8,9 @@ use linker_utils::runs::packing::{ItemError, Machine, has_its_instructions, pack
 use linker_utils::elf::Architecture;
 use linker_utils::relaxation::RelaxDelta;
 
-/// The machine whose sections are packed, by `e_machine`.
+/// The machine whose code becomes shorter, by `e_machine`.
 #[inline]
-fn packing_machine(machine: u16) -> Option<Machine> {
+pub(crate) fn packing_machine(machine: u16) -> Option<Machine> {
     match Architecture::from_machine(machine) {
         Some(Architecture::RiscV) => Some(Machine::RiscV64),
         Some(Architecture::LoongArch64) => Some(Machine::LoongArch64),

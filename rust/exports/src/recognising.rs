@@ -5,11 +5,11 @@ use crate::choices::{ChoiceNumbers, LinkFactNumbers, in_numbers};
 use crate::reading::FieldValueNumbers;
 use crate::status::Status;
 use linker_utils::reading::FieldValue;
-use linker_utils::recognise::architecture::{recognise, recognise_chosen};
+use linker_utils::recognise::architecture::{recognise, recognise_chosen, window_of};
 use linker_utils::recognise::{FieldBits, field_bits, same_but_for};
 use linker_utils::recognise::{CANDIDATES, MAX_WINDOW, Recognised};
 use linker_utils::architecture::Relaxation;
-use linker_utils::elf::{Architecture, Row};
+use linker_utils::elf::{Architecture, RewriteWindow, Row};
 
 /// Which bits of the bytes that `bytes` begins with a write of the relocation with `r_type` may
 /// change, bit 0 the lowest of the first byte, as `field_bits` of `linker_reading` returns them.
@@ -103,6 +103,26 @@ fn write_found(
         }
     }
     count
+}
+
+/// Writes the window that `linker_utils_recognise` wants around the relocation with `r_type`, whose
+/// offset in the original bytes is given, as `window_of` of `linker_reading`. The first that applies of
+/// `UnknownArchitecture`; `WindowTooLong`.
+pub fn linker_utils_recognise_window_nonnull(
+    machine: u16,
+    r_type: u32,
+    original: &[u8],
+    offset: u64,
+    window: &mut RewriteWindow,
+) -> u32 {
+    let Some(architecture) = Architecture::from_machine(machine) else {
+        return Status::UnknownArchitecture.number();
+    };
+    if original.len() > MAX_WINDOW {
+        return Status::WindowTooLong.number();
+    }
+    *window = window_of(architecture, r_type, original, offset);
+    Status::Success.number()
 }
 
 /// Writes which rewrites, and relocations after them, a linker may have made at the relocation with

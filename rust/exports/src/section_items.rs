@@ -1,10 +1,10 @@
 // Made by tools/erase of crates/linker_utils_c/src/section_items.rt.
 //! The items that a section's relocations make, in arrays of the caller's.
 
+use crate::pack_runs::packing_machine;
 use crate::relaxing::ItemNumbers;
 use crate::status::Status;
-use linker_utils::runs::items::{AsRelocation, Relocation};
-use linker_utils::runs::{loongarch64, riscv64};
+use linker_utils::runs::items::{AsRelocation, Relocation, section_items_into};
 
 /// A relocation of a section, and what it refers to in a run.
 #[repr(C)]
@@ -46,9 +46,35 @@ impl AsRelocation for Rela {
     }
 }
 
-/// What is returned of items that were written, or of why none were.
-fn put(made: Result<usize, usize>, len: &mut usize, faulty: &mut usize) -> u32 {
-    match made {
+/// Writes the items that the relocations of a section of a machine make, as `section_items`, and to
+/// `makers` the index of the relocation that makes each. The section begins at the input offset `base`
+/// of the run.
+///
+/// `items` and `makers` have as many elements as there are relocations, since each makes one item at
+/// most. `len` is how many items there are, and the elements from there on are unchanged. The first that
+/// applies of `UnknownArchitecture`, where no code of the machine becomes shorter; `DifferentLengths`;
+/// `EndsTooHigh`, where `base` and the section's length add up to 2^64 or more; and
+/// `MalformedRelocation`, of the relocation at `faulty`. Nothing is written then.
+pub fn linker_utils_section_items_nonnull(
+    machine: u16,
+    section: &[u8],
+    base: u64,
+    relocations: &[Rela],
+    items: &mut [ItemNumbers],
+    makers: &mut [usize],
+    len: &mut usize,
+    faulty: &mut usize,
+) -> u32 {
+    let Some(of) = packing_machine(machine) else {
+        return Status::UnknownArchitecture.number();
+    };
+    if items.len() != relocations.len() || makers.len() != relocations.len() {
+        return Status::DifferentLengths.number();
+    }
+    if section.len() as u64 > u64::MAX - base {
+        return Status::EndsTooHigh.number();
+    }
+    match section_items_into(of, section, base, relocations, items, makers) {
         Ok(count) => {
             *len = count;
             Status::Success.number()
@@ -58,55 +84,4 @@ fn put(made: Result<usize, usize>, len: &mut usize, faulty: &mut usize) -> u32 {
             Status::MalformedRelocation.number()
         }
     }
-}
-
-/// Writes the items that the relocations of a RISC-V section make, as `riscv64::items`. The section
-/// begins at the input offset `base` of the run.
-///
-/// `items` has as many elements as there are relocations, since each makes one item at most. `len`
-/// is how many there are, and the elements from there on are unchanged. The first that applies of
-/// `DifferentLengths`; `EndsTooHigh`, where `base` and the section's length add up to 2^64 or more;
-/// and `MalformedRelocation`, of the relocation at `faulty`. Nothing is written then.
-pub fn linker_utils_riscv_items_nonnull(
-    section: &[u8],
-    base: u64,
-    relocations: &[Rela],
-    items: &mut [ItemNumbers],
-    len: &mut usize,
-    faulty: &mut usize,
-) -> u32 {
-    if items.len() != relocations.len() {
-        return Status::DifferentLengths.number();
-    }
-    if section.len() as u64 > u64::MAX - base {
-        return Status::EndsTooHigh.number();
-    }
-    put(
-        riscv64::items_into(section, base, relocations, items),
-        len,
-        faulty,
-    )
-}
-
-/// Writes the items that the relocations of a LoongArch section make, as `loongarch64::items`. What
-/// is written and the statuses are as those of `linker_utils_riscv_items`.
-pub fn linker_utils_loongarch_items_nonnull(
-    section: &[u8],
-    base: u64,
-    relocations: &[Rela],
-    items: &mut [ItemNumbers],
-    len: &mut usize,
-    faulty: &mut usize,
-) -> u32 {
-    if items.len() != relocations.len() {
-        return Status::DifferentLengths.number();
-    }
-    if section.len() as u64 > u64::MAX - base {
-        return Status::EndsTooHigh.number();
-    }
-    put(
-        loongarch64::items_into(section, base, relocations, items),
-        len,
-        faulty,
-    )
 }

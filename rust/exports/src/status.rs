@@ -138,6 +138,17 @@ pub enum Status {
     Overlaps,
     /// The memory has fewer elements than the call needs.
     ShortMemory,
+    /// The relocation cannot be rewritten, though its group does not stay: the section was surveyed
+    /// with other facts, or not at all.
+    NotSurveyed,
+    /// No class of entries of the GOT has this number, or a static executable has no such entry.
+    UnknownEntryClass,
+    /// The psABI keeps objects with these `e_flags` apart, or does not define a bit of them.
+    DifferentFlags,
+    /// The architecture has none with this index, or glibc has none for these `e_flags`.
+    NotProvided,
+    /// No kind of stubs has this number, or the architecture has no stub of the kind.
+    UnknownStub,
 }
 
 impl Status {

@@ -21,6 +21,7 @@ pub enum ThreadPointer {
 }
 
 /// The addresses that offsets of thread-local storage count from.
+#[repr(C)]
 #[derive(Debug, Clone, Copy, PartialEq, Eq)]
 pub struct Origins {
     /// The address that the thread pointer stands for.

@@ -15,6 +15,7 @@ pub struct FieldValue {
 }
 
 /// Bits `start` and up, below `end`, of a number of 64 bits; 0 where there are none.
+#[inline(always)]
 pub(crate) fn bits_of(number: u64, start: u8, end: u8) -> u64 {
     if start >= end {
         return 0;
@@ -31,6 +32,7 @@ pub(crate) fn bits_of(number: u64, start: u8, end: u8) -> u64 {
 }
 
 /// 2 to a power.
+#[inline(always)]
 pub(crate) fn power_of_two(exponent: u8) -> u64 {
     1 << exponent
 }

@@ -12,6 +12,7 @@ use crate::linker_elf::elf::{
 use crate::linker_elf::ppc64::DQ_UNIT;
 
 /// Whether bytes hold the value, or its low bits, and not a sum of it and what stood there.
+#[inline(always)]
 fn holds_value(kind: RelocationKind) -> bool {
     !matches!(
         kind,
@@ -25,6 +26,7 @@ fn holds_value(kind: RelocationKind) -> bool {
 }
 
 /// Whether an instruction holds bits of a value from the range's start up.
+#[inline(always)]
 fn holds_bits(insn: RelocationInstruction, bits: BitRange) -> bool {
     match insn {
         RelocationInstruction::AArch64(AArch64Instruction::Movnz) => {
@@ -39,6 +41,7 @@ fn holds_bits(insn: RelocationInstruction, bits: BitRange) -> bool {
 }
 
 /// What an instruction of AArch64 holds.
+#[inline(always)]
 fn aarch64_number(insn: AArch64Instruction, bytes: &[u8]) -> u64 {
     let (number, _) = insn.read(bytes);
     match insn {
@@ -50,6 +53,7 @@ fn aarch64_number(insn: AArch64Instruction, bytes: &[u8]) -> u64 {
 }
 
 /// What an instruction of RISC-V holds, its value rounded.
+#[inline(always)]
 fn riscv_number(insn: RiscVInstruction, bytes: &[u8]) -> u64 {
     let (number, _) = insn.read(bytes);
     match insn {
@@ -60,6 +64,7 @@ fn riscv_number(insn: RiscVInstruction, bytes: &[u8]) -> u64 {
 }
 
 /// What an instruction of PowerPC64 holds, in two's complement.
+#[inline(always)]
 fn ppc64_number(insn: Ppc64Instruction, bytes: &[u8]) -> u64 {
     let (number, _) = insn.read(bytes);
     match insn {
@@ -79,6 +84,7 @@ fn ppc64_number(insn: Ppc64Instruction, bytes: &[u8]) -> u64 {
 }
 
 /// What an instruction of LoongArch, or a pair, holds, in two's complement.
+#[inline(always)]
 fn loongarch_number(insn: LoongArch64Instruction, bytes: &[u8]) -> u64 {
     match insn {
         LoongArch64Instruction::Shift5 => insn.read(bytes).0.low_bits_signed(20),
@@ -97,6 +103,7 @@ fn loongarch_number(insn: LoongArch64Instruction, bytes: &[u8]) -> u64 {
 }
 
 /// What the machine reads of an instruction, in units of the first bit of its range, modulo 2^64.
+#[inline(always)]
 pub(crate) fn number_held(insn: RelocationInstruction, bytes: &[u8]) -> u64 {
     match insn {
         RelocationInstruction::AArch64(insn) => aarch64_number(insn, bytes),
@@ -107,6 +114,7 @@ pub(crate) fn number_held(insn: RelocationInstruction, bytes: &[u8]) -> u64 {
 }
 
 /// Whether every allowed value is a number of `count` signed bits.
+#[inline(always)]
 fn are_signed(count: u32, reach: AllowedRange) -> bool {
     let all = AllowedRange::from_bit_size(count, Sign::Signed);
     match (all.bounds, reach.bounds) {
@@ -116,6 +124,7 @@ fn are_signed(count: u32, reach: AllowedRange) -> bool {
 }
 
 /// Which bits of a value, of a range, an immediate has.
+#[inline(always)]
 fn bits_within(immediate: BitRange, bits: BitRange) -> BitRange {
     let end = bits.start as u32 + immediate.end as u32;
     BitRange {
@@ -129,6 +138,7 @@ fn bits_within(immediate: BitRange, bits: BitRange) -> BitRange {
 }
 
 /// Which bits of the value, rounded, an instruction holds.
+#[inline(always)]
 fn bits_held(insn: RelocationInstruction, bits: BitRange, reach: AllowedRange) -> BitRange {
     match insn {
         RelocationInstruction::AArch64(AArch64Instruction::Movnz) => {
@@ -146,6 +156,7 @@ fn bits_held(insn: RelocationInstruction, bits: BitRange, reach: AllowedRange) -
 }
 
 /// Whether a field holds a value, or some of its bits.
+#[inline(always)]
 fn holds_field(kind: RelocationKind, size: RelocationSize, reach: AllowedRange) -> bool {
     match size {
         RelocationSize::ByteSize(len) => 0 < len && len < 9 && holds_value(kind),
@@ -163,6 +174,7 @@ fn holds_field(kind: RelocationKind, size: RelocationSize, reach: AllowedRange) 
 }
 
 /// What is added to a value before an instruction takes its bits.
+#[inline(always)]
 fn rounding_of(insn: RelocationInstruction) -> u64 {
     match insn {
         RelocationInstruction::RiscV(RiscVInstruction::UType | RiscVInstruction::CluiType) => 0x800,
@@ -171,6 +183,7 @@ fn rounding_of(insn: RelocationInstruction) -> u64 {
 }
 
 /// The number of the first `len` bytes.
+#[inline(always)]
 pub(crate) fn number_of_bytes(len: usize, bytes: &[u8]) -> u64 {
     let mut word = [0u8; 8];
     word[..len].copy_from_slice(&bytes[..len]);
@@ -178,6 +191,7 @@ pub(crate) fn number_of_bytes(len: usize, bytes: &[u8]) -> u64 {
 }
 
 /// What stands in a `jirl` at the low part of an address: bits 2 to 11 of the value, of which bits 0 and 1 are 0.
+#[inline(always)]
 fn jump_read(bytes: &[u8]) -> FieldValue {
     let word = u32_from_slice(bytes) as u64;
     FieldValue {
@@ -188,6 +202,7 @@ fn jump_read(bytes: &[u8]) -> FieldValue {
 }
 
 /// What stands in an instruction of a form.
+#[inline(always)]
 fn instruction_read(
     insn: RelocationInstruction,
     range: BitRange,
@@ -204,6 +219,7 @@ fn instruction_read(
 }
 
 /// What stands in the field.
+#[inline(always)]
 fn field_read(row: &RelocationKindInfo, reach: AllowedRange, bytes: &[u8]) -> FieldValue {
     match row.size {
         RelocationSize::ByteSize(len) => {
@@ -231,6 +247,7 @@ fn field_read(row: &RelocationKindInfo, reach: AllowedRange, bytes: &[u8]) -> Fi
 
 /// Whether the values from `min` up, below `max`, with the known bits differ below the first of
 /// these only.
+#[inline(always)]
 fn leaves_one(min: i64, max: i64, field: FieldValue) -> bool {
     if field.known.end >= 64 {
         return false;
@@ -241,6 +258,7 @@ fn leaves_one(min: i64, max: i64, field: FieldValue) -> bool {
 }
 
 /// Adds all bits above the known ones.
+#[inline(always)]
 fn up_to_sign(min: i64, max: i64, field: FieldValue) -> FieldValue {
     let unit = power_of_two(field.known.start);
     let least = min.cast_unsigned().wrapping_add(field.rounding);
@@ -257,6 +275,7 @@ fn up_to_sign(min: i64, max: i64, field: FieldValue) -> FieldValue {
 }
 
 /// Adds the bits above that the reach leaves.
+#[inline(always)]
 fn with_reach(reach: AllowedRange, field: FieldValue) -> FieldValue {
     match reach.bounds {
         Some((min, max)) => {
@@ -271,6 +290,7 @@ fn with_reach(reach: AllowedRange, field: FieldValue) -> FieldValue {
 }
 
 /// Adds the bits below that are 0 in multiples of the alignment.
+#[inline(always)]
 fn with_alignment(alignment: u64, field: FieldValue) -> FieldValue {
     let unit = power_of_two(field.known.start);
     if field.rounding == 0 && alignment % unit == 0 {
@@ -324,6 +344,20 @@ pub fn read(row: &Row, bytes: &[u8]) -> Option<FieldValue> {
 /// The same, of a row that was read from a table.
 #[must_use]
 pub fn read_row(row: &RelocationKindInfo, bytes: &[u8]) -> Option<FieldValue> {
+    // in each arm the compiler knows the architecture, and tests it no more
+    match row.size {
+        RelocationSize::ByteSize(_) => read_as(row, bytes),
+        RelocationSize::BitMasking { insn, .. } => match insn {
+            RelocationInstruction::AArch64(_) => read_as(row, bytes),
+            RelocationInstruction::RiscV(_) => read_as(row, bytes),
+            RelocationInstruction::Ppc64(_) => read_as(row, bytes),
+            RelocationInstruction::LoongArch64(_) => read_as(row, bytes),
+        },
+    }
+}
+
+#[inline(always)]
+fn read_as(row: &RelocationKindInfo, bytes: &[u8]) -> Option<FieldValue> {
     let reach = row.reach();
     if !holds_field(row.kind, row.size, reach) {
         return None;

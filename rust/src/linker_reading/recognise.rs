@@ -8,6 +8,6 @@ pub mod fields;
 mod recognisers;
 
 pub use self::engine::{
-    CANDIDATES, MAX_WINDOW, Recognised, RecognisedName, recognise, recognise_chosen,
+    CANDIDATES, Choices, MAX_WINDOW, Recognised, RecognisedName, recognise, recognise_chosen,
 };
 pub use self::recognisers::written_choices_are_left;

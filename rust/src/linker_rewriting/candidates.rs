@@ -1,11 +1,14 @@
 // Made by tools/erase of crates/linker_rewriting/src/candidates.rt.
 //! Whether the instruction of a relocation can be rewritten, if each other one of its group can.
 
-use crate::linker_rewriting::facts::{OutputFacts, SymbolFacts, facts_of};
-use crate::linker_rewriting::sequences::is_whole;
+use crate::linker_rewriting::facts::{OutputFacts, SymbolFacts, link_facts};
+use crate::linker_rewriting::phases::Phase;
+use crate::linker_rewriting::sequences::{is_marked_at, is_whole};
+use crate::linker_base::rewrite::DeletedBytes;
+use crate::linker_section::facts::{Addresses, Symbol};
 use crate::linker_section::relocations::{Rela, relocation_at};
 use crate::architecture::Relaxation;
-use crate::elf::{Architecture, Choice};
+use crate::elf::{Architecture, Choice, LinkFacts, Operands};
 
 /// Whether the symbol at an index is `__tls_get_addr`.
 #[inline(always)]
@@ -52,24 +55,32 @@ fn finds_next(
     }
 }
 
-/// The rewrite of the instruction of the relocation with an index, if each other one of its group is
-/// rewritten, and the code of the relocation after it. None where there is none: `choose` has no
-/// rewrite for it, the one that it has takes a relocation along that isn't the next one, or it is of a
-/// sequence whose relocations aren't all next to it.
-pub(crate) fn candidate(
+/// Whether what is deleted after a rewrite at an offset is in the section.
+#[inline(always)]
+fn deletes_within(section: &[u8], offset: u64, deleted: Option<DeletedBytes>) -> bool {
+    let Some(deleted) = deleted else {
+        return true;
+    };
+    let len = section.len() as u64;
+    if offset > len {
+        return false;
+    }
+    let room = len - offset;
+    deleted.start <= room && u64::from(deleted.count) <= room - deleted.start
+}
+
+/// The rewrite of the instruction of the relocation with an index by facts, and the code of the
+/// relocation after it, as `candidate` says.
+fn candidate_by(
     architecture: Architecture,
-    output: &OutputFacts,
     symbols: &[SymbolFacts],
     relocations: &[u8],
     section: &[u8],
     index: usize,
     relocation: &Rela,
+    facts: &LinkFacts,
 ) -> Option<Choice<Relaxation, u32>> {
-    let Some(symbol) = symbols.get(relocation.symbol as usize) else {
-        return None;
-    };
-    let facts = facts_of(output, symbol, relocation.addend);
-    let chosen = architecture.choose(relocation.code, section, relocation.offset, &facts);
+    let chosen = architecture.choose(relocation.code, section, relocation.offset, facts);
     if chosen.is_unchanged(relocation.code) {
         return None;
     }
@@ -86,5 +97,91 @@ pub(crate) fn candidate(
     if !is_whole(architecture, relocations, index, relocation) {
         return None;
     }
+    if !deletes_within(section, relocation.offset, chosen.kind.deleted()) {
+        return None;
+    }
     Some(chosen)
+}
+
+/// The rewrite of the instruction of the relocation with an index, if each other one of its group is
+/// rewritten, and the code of the relocation after it. None where there is none: `choose` has no
+/// rewrite for it, the one that it has takes a relocation along that isn't the next one or deletes
+/// bytes behind the section, or it is of a sequence whose relocations aren't all next to it.
+pub(crate) fn candidate(
+    architecture: Architecture,
+    phase: Phase,
+    output: &OutputFacts,
+    symbols: &[SymbolFacts],
+    addresses: &Addresses,
+    values: &[Symbol],
+    relocations: &[u8],
+    section: &[u8],
+    index: usize,
+    relocation: &Rela,
+) -> Option<Choice<Relaxation, u32>> {
+    let marked = is_marked_at(architecture, relocations, index, relocation);
+    let facts = link_facts(
+        phase, output, symbols, addresses, values, relocation, relocation, marked,
+    );
+    match facts {
+        Some(facts) => candidate_by(
+            architecture,
+            symbols,
+            relocations,
+            section,
+            index,
+            relocation,
+            &facts,
+        ),
+        None => None,
+    }
+}
+
+/// The same facts of what is where the GOT's or the TOC's base is, at the distance 0.
+#[inline(always)]
+fn at_base(facts: Option<LinkFacts>) -> Option<LinkFacts> {
+    match facts {
+        Some(facts) => Some(LinkFacts {
+            operands: Operands {
+                symbol: facts.operands.got_base,
+                addend: 0,
+                ..facts.operands
+            },
+            ..facts
+        }),
+        None => None,
+    }
+}
+
+/// Whether the instruction of the relocation with an index is one that its rewrite is meant for,
+/// whatever the distance.
+pub(crate) fn is_matched(
+    architecture: Architecture,
+    phase: Phase,
+    output: &OutputFacts,
+    symbols: &[SymbolFacts],
+    addresses: &Addresses,
+    values: &[Symbol],
+    relocations: &[u8],
+    section: &[u8],
+    index: usize,
+    relocation: &Rela,
+) -> bool {
+    let marked = is_marked_at(architecture, relocations, index, relocation);
+    let facts = link_facts(
+        phase, output, symbols, addresses, values, relocation, relocation, marked,
+    );
+    let Some(facts) = at_base(facts) else {
+        return false;
+    };
+    candidate_by(
+        architecture,
+        symbols,
+        relocations,
+        section,
+        index,
+        relocation,
+        &facts,
+    )
+    .is_some()
 }

@@ -3,9 +3,12 @@
 
 use crate::linker_rewriting::candidates::candidate;
 use crate::linker_rewriting::facts::{OutputFacts, SymbolFacts};
-use crate::linker_rewriting::groups::{KeptGroups, Scope, group_stays, scope_of};
+use crate::linker_rewriting::groups::{KeptGroups, Scope, group_stays, scope_in};
+use crate::linker_rewriting::phases::Phase;
 use crate::linker_rewriting::relocations::relocation_in;
-use crate::linker_section::relocations::{Rela, relocations_len};
+use crate::linker_base::rewrite::DeletedBytes;
+use crate::linker_section::facts::{Addresses, Symbol};
+use crate::linker_section::relocations::{Rela, relocation_at, relocations_len};
 use crate::architecture::Relaxation;
 use crate::elf::{Architecture, Choice, InstructionRewrite, RewriteWindow};
 
@@ -16,20 +19,20 @@ pub enum Decision {
     Kept,
     /// The instruction is rewritten by this, and the relocation becomes the one after it.
     Rewritten(Choice<Relaxation, u32>),
-    /// The relocation goes, since the rewrite at the one before takes it along.
+    /// The relocation goes, since the rewrite at the one before or at the next one takes it along.
     TakenAlong,
 }
 
 /// Why a section isn't rewritten.
 #[derive(Debug, Clone, Copy, PartialEq, Eq)]
 pub enum RewritingError {
-    /// There are fewer decisions than relocations.
+    /// There are fewer decisions than relocations, or less room for deletions than there are.
     TooShort,
     /// The relocation with this index can't be rewritten, though its group doesn't stay: the section
     /// was surveyed with other facts, or not at all.
     NotSurveyed(usize),
-    /// Bytes that would be rewritten at the relocation with this index are also rewritten at one
-    /// before it, or lie below such bytes.
+    /// Bytes that would be rewritten or deleted at the relocation with this index are also rewritten
+    /// or deleted at one before it, or lie below such bytes.
     Overlaps(usize),
 }
 
@@ -54,27 +57,76 @@ impl Decision {
             _ => RewriteWindow { back: 0, len: 0 },
         }
     }
+
+    /// The bytes that are deleted after the rewrite, beside the relocation's offset.
+    #[must_use]
+    #[inline(always)]
+    pub fn deleted(&self) -> Option<DeletedBytes> {
+        match self {
+            Decision::Rewritten(choice) => choice.kind.deleted(),
+            _ => None,
+        }
+    }
+}
+
+/// Whether the relocation with an index, if there is one, is alone and is rewritten.
+fn is_rewritten_at(
+    architecture: Architecture,
+    phase: Phase,
+    output: &OutputFacts,
+    symbols: &[SymbolFacts],
+    addresses: &Addresses,
+    values: &[Symbol],
+    relocations: &[u8],
+    section: &[u8],
+    index: usize,
+) -> bool {
+    let Some(relocation) = relocation_at(relocations, index) else {
+        return false;
+    };
+    match scope_in(architecture, phase, relocation.code) {
+        Scope::Alone => candidate(
+            architecture,
+            phase,
+            output,
+            symbols,
+            addresses,
+            values,
+            relocations,
+            section,
+            index,
+            &relocation,
+        )
+        .is_some(),
+        _ => false,
+    }
 }
 
 /// What becomes of a relocation that no other takes along. None if its group doesn't stay, but it
 /// can't be rewritten.
 fn decide(
     architecture: Architecture,
+    phase: Phase,
     output: &OutputFacts,
     symbols: &[SymbolFacts],
+    addresses: &Addresses,
+    values: &[Symbol],
     kept: &[KeptGroups],
     relocations: &[u8],
     section: &[u8],
     index: usize,
     relocation: &Rela,
 ) -> Option<Decision> {
-    match scope_of(architecture, relocation.code) {
+    match scope_in(architecture, phase, relocation.code) {
         Scope::Unlisted => Some(Decision::Kept),
         Scope::Alone => {
             match candidate(
                 architecture,
+                phase,
                 output,
                 symbols,
+                addresses,
+                values,
                 relocations,
                 section,
                 index,
@@ -90,8 +142,11 @@ fn decide(
             }
             match candidate(
                 architecture,
+                phase,
                 output,
                 symbols,
+                addresses,
+                values,
                 relocations,
                 section,
                 index,
@@ -99,6 +154,43 @@ fn decide(
             ) {
                 Some(choice) => Some(Decision::Rewritten(choice)),
                 None => None,
+            }
+        }
+        Scope::Matched(group) => {
+            if group_stays(kept, group, relocation.symbol) {
+                return Some(Decision::Kept);
+            }
+            match candidate(
+                architecture,
+                phase,
+                output,
+                symbols,
+                addresses,
+                values,
+                relocations,
+                section,
+                index,
+                relocation,
+            ) {
+                Some(choice) => Some(Decision::Rewritten(choice)),
+                None => Some(Decision::Kept),
+            }
+        }
+        Scope::Ahead => {
+            if is_rewritten_at(
+                architecture,
+                phase,
+                output,
+                symbols,
+                addresses,
+                values,
+                relocations,
+                section,
+                index + 1,
+            ) {
+                Some(Decision::TakenAlong)
+            } else {
+                Some(Decision::Kept)
             }
         }
     }
@@ -109,8 +201,11 @@ fn decide(
 fn decide_after(
     is_taken: bool,
     architecture: Architecture,
+    phase: Phase,
     output: &OutputFacts,
     symbols: &[SymbolFacts],
+    addresses: &Addresses,
+    values: &[Symbol],
     kept: &[KeptGroups],
     relocations: &[u8],
     section: &[u8],
@@ -122,8 +217,11 @@ fn decide_after(
     }
     decide(
         architecture,
+        phase,
         output,
         symbols,
+        addresses,
+        values,
         kept,
         relocations,
         section,
@@ -132,26 +230,51 @@ fn decide_after(
     )
 }
 
-/// Where the bytes end that are rewritten up to a window beside an offset, by where those before it
-/// do. None if the window isn't behind those.
+/// Where the bytes begin that a decision rewrites.
 #[inline(always)]
-fn end_behind(window: RewriteWindow, offset: u64, end: u64) -> Option<u64> {
-    if window.len == 0 {
+fn start_by(decision: &Decision, offset: u64) -> u64 {
+    offset.saturating_sub(decision.window().back)
+}
+
+/// Where what is deleted ends; 0 if nothing is.
+#[inline(always)]
+fn deleted_end(offset: u64, deleted: Option<DeletedBytes>) -> u64 {
+    match deleted {
+        Some(deleted) => offset + (deleted.start + u64::from(deleted.count)),
+        None => 0,
+    }
+}
+
+/// Where the bytes end that a decision rewrites or deletes.
+#[inline(always)]
+fn end_by(decision: &Decision, offset: u64) -> u64 {
+    let end = start_by(decision, offset) + decision.window().len;
+    let deleted = deleted_end(offset, decision.deleted());
+    if end < deleted { deleted } else { end }
+}
+
+/// Where the bytes end that are rewritten or deleted up to some from a start to an end, by where those
+/// before them do. None if they aren't behind those.
+#[inline(always)]
+fn end_behind(start: u64, own: u64, end: u64) -> Option<u64> {
+    if own <= start {
         return Some(end);
     }
-    let start = offset.saturating_sub(window.back);
     if start < end {
         return None;
     }
-    Some(start + window.len)
+    Some(own)
 }
 
 /// Decides what becomes of each relocation of a section and of its instruction, in the caller's
 /// memory. Nothing is rewritten.
 pub(crate) fn decide_section(
     architecture: Architecture,
+    phase: Phase,
     output: &OutputFacts,
     symbols: &[SymbolFacts],
+    addresses: &Addresses,
+    values: &[Symbol],
     kept: &[KeptGroups],
     relocations: &[u8],
     section: &[u8],
@@ -168,8 +291,11 @@ pub(crate) fn decide_section(
         let Some(decision) = decide_after(
             is_taken,
             architecture,
+            phase,
             output,
             symbols,
+            addresses,
+            values,
             kept,
             relocations,
             section,
@@ -178,7 +304,9 @@ pub(crate) fn decide_section(
         ) else {
             return Err(RewritingError::NotSurveyed(index));
         };
-        let Some(new_end) = end_behind(decision.window(), relocation.offset, end) else {
+        let start = start_by(&decision, relocation.offset);
+        let own = end_by(&decision, relocation.offset);
+        let Some(new_end) = end_behind(start, own, end) else {
             return Err(RewritingError::Overlaps(index));
         };
         end = new_end;

@@ -1,6 +1,9 @@
 // Made by tools/erase of crates/linker_rewriting/src/facts.rt.
-//! What a linker knows of symbols and of the output before addresses are known.
+//! What a linker knows of symbols and of the output, and what a rewrite is chosen by.
 
+use crate::linker_rewriting::phases::Phase;
+use crate::linker_section::facts::{Addresses, Symbol};
+use crate::linker_section::relocations::Rela;
 use crate::elf::{LinkFacts, Operands};
 
 /// What a linker knows of a symbol of an object once names are resolved. A table of these has those
@@ -32,18 +35,39 @@ pub struct OutputFacts {
     pub is_fixed: bool,
 }
 
-/// What `choose` reads of a relocation of a symbol, where each other relocation of its group can be
-/// rewritten, as `facts_of` says.
+/// No address is known.
+pub(crate) const NO_ADDRESSES: Addresses = Addresses {
+    section: 0,
+    got_base: 0,
+    thread_origin: 0,
+    module_origin: 0,
+    module_entry: 0,
+};
+
+/// Whether a symbol's address is a number, wherever the output is loaded.
+#[inline(always)]
+fn has_own_address(symbol: &SymbolFacts) -> bool {
+    symbol.is_absolute || symbol.is_undefined_weak
+}
+
+/// Whether a call of a symbol may return with another TOC pointer.
+#[inline(always)]
+fn may_change_toc(symbol: &SymbolFacts) -> bool {
+    let is_known = symbol.is_local || symbol.is_undefined_weak;
+    symbol.is_ifunc || !is_known || symbol.other >> 5 == 1
+}
+
+/// What `choose` reads of a relocation of a symbol before addresses are known, where each other
+/// relocation of its group can be rewritten, as `facts_of` says.
 #[inline(always)]
 pub(crate) fn facts_of(output: &OutputFacts, symbol: &SymbolFacts, addend: i64) -> LinkFacts {
-    let is_bound_address = symbol.is_absolute || symbol.is_undefined_weak;
-    let is_known = symbol.is_local || symbol.is_undefined_weak;
+    let has_own_address = has_own_address(symbol);
     LinkFacts {
         is_local: symbol.is_local,
         is_ifunc: symbol.is_ifunc,
         is_undefined_weak: symbol.is_undefined_weak,
-        has_fixed_address: output.is_fixed || is_bound_address,
-        has_fixed_distance: output.is_fixed || !is_bound_address,
+        has_fixed_address: output.is_fixed || has_own_address,
+        has_fixed_distance: output.is_fixed || !has_own_address,
         is_executable: output.is_executable,
         has_local_exec_base: true,
         may_compress: false,
@@ -51,7 +75,7 @@ pub(crate) fn facts_of(output: &OutputFacts, symbol: &SymbolFacts, addend: i64) 
         has_got_high_part: false,
         is_label_relaxable: false,
         toc_base_is_exclusive: false,
-        may_change_toc: symbol.is_ifunc || !is_known || symbol.other >> 5 == 1,
+        may_change_toc: may_change_toc(symbol),
         group_fits: true,
         has_addresses: false,
         operands: Operands {
@@ -64,5 +88,122 @@ pub(crate) fn facts_of(output: &OutputFacts, symbol: &SymbolFacts, addend: i64) 
             symbol_size: 0,
             tls_base: 0,
         },
+    }
+}
+
+/// S, which counts as the thread pointer's address of a thread-local symbol that nothing defines.
+#[inline(always)]
+fn address_in(addresses: &Addresses, value: &Symbol) -> u64 {
+    if !value.is_undefined_weak {
+        value.address
+    } else if value.is_thread_local {
+        addresses.thread_origin
+    } else {
+        0
+    }
+}
+
+/// Whether the output is an executable, whose definition of the symbol is used in the phase of
+/// offsets from the thread pointer.
+#[inline(always)]
+fn is_executable_in(phase: Phase, output: &OutputFacts, symbol: &SymbolFacts) -> bool {
+    match phase {
+        Phase::ThreadOffsets => output.is_executable && symbol.is_local && !symbol.is_ifunc,
+        _ => output.is_executable,
+    }
+}
+
+/// What `choose` reads of a relocation of a symbol once addresses are known, where each other
+/// relocation of its group can be rewritten, as `placed_facts` says.
+#[inline(always)]
+fn placed_facts(
+    phase: Phase,
+    output: &OutputFacts,
+    addresses: &Addresses,
+    symbol: &SymbolFacts,
+    value: &Symbol,
+    offset: u64,
+    addend: i64,
+    marked: bool,
+) -> LinkFacts {
+    let has_own_address = has_own_address(symbol);
+    let is_near = output.is_fixed || !has_own_address;
+    LinkFacts {
+        is_local: symbol.is_local,
+        is_ifunc: symbol.is_ifunc,
+        is_undefined_weak: symbol.is_undefined_weak,
+        has_fixed_address: output.is_fixed || has_own_address,
+        has_fixed_distance: is_near && !symbol.is_undefined_weak,
+        is_executable: is_executable_in(phase, output, symbol),
+        has_local_exec_base: true,
+        may_compress: false,
+        is_relaxable: marked,
+        has_got_high_part: true,
+        is_label_relaxable: marked,
+        toc_base_is_exclusive: true,
+        may_change_toc: may_change_toc(symbol),
+        group_fits: true,
+        has_addresses: true,
+        operands: Operands {
+            addend,
+            symbol: address_in(addresses, value),
+            place: addresses.section.wrapping_add(offset),
+            got_entry: 0,
+            got_base: addresses.got_base,
+            plt_entry: 0,
+            symbol_size: 0,
+            tls_base: addresses.thread_origin,
+        },
+    }
+}
+
+/// The facts of a relocation of a symbol in a phase, as `facts_at` says.
+#[inline(always)]
+fn facts_at(
+    phase: Phase,
+    output: &OutputFacts,
+    addresses: &Addresses,
+    values: &[Symbol],
+    relocation: &Rela,
+    subject: &Rela,
+    marked: bool,
+    symbol: &SymbolFacts,
+) -> Option<LinkFacts> {
+    match phase {
+        Phase::Early => Some(facts_of(output, symbol, subject.addend)),
+        _ => match values.get(subject.symbol as usize) {
+            Some(value) => Some(placed_facts(
+                phase,
+                output,
+                addresses,
+                symbol,
+                value,
+                relocation.offset,
+                subject.addend,
+                marked,
+            )),
+            None => None,
+        },
+    }
+}
+
+/// The facts that a relocation's rewrite is chosen by. Its subject is another relocation or itself:
+/// that whose symbol and addend count. None where a table has no entry for the symbol.
+#[inline(always)]
+pub(crate) fn link_facts(
+    phase: Phase,
+    output: &OutputFacts,
+    symbols: &[SymbolFacts],
+    addresses: &Addresses,
+    values: &[Symbol],
+    relocation: &Rela,
+    subject: &Rela,
+    marked: bool,
+) -> Option<LinkFacts> {
+    match symbols.get(subject.symbol as usize) {
+        Some(symbol) => facts_at(
+            phase, output, addresses, values, relocation, subject, marked, symbol,
+        ),
+        None => None,
     }
 }

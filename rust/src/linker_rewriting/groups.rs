@@ -2,17 +2,20 @@
 //! Which relocations a rewrite is made at, and which of them are a group: all of its instructions
 //! are rewritten, or none is.
 
+use crate::linker_rewriting::phases::Phase;
 use crate::aarch64::AArch64Relocation;
 use crate::elf::Architecture;
 use crate::loongarch64::LoongArch64Relocation;
 use crate::ppc64::Ppc64Relocation;
+use crate::riscv64::RiscVRelocation;
 use crate::x86_64::X86_64Relocation;
 
 /// A kind of groups. The relocations of a group are those of one kind and one symbol in an object,
 /// whatever their addends; of local-dynamic TLS all of an object.
 #[derive(Debug, Clone, Copy, PartialEq, Eq)]
 pub enum Group {
-    /// Loads of an offset from the thread pointer, of initial-exec TLS.
+    /// Loads of an offset from the thread pointer, of initial-exec TLS; in the phase of these
+    /// offsets the instructions that have them.
     InitialExec,
     /// Calls for the address of a thread-local variable, of general-dynamic TLS.
     GeneralDynamic,
@@ -20,11 +23,12 @@ pub enum Group {
     LocalDynamic,
     /// TLS descriptors.
     Descriptor,
-    /// PowerPC64's loads of an address from the GOT by its two halves.
+    /// Loads of an address from the GOT by its two halves; in the phase of distances PowerPC64's
+    /// addresses by their distance from the TOC pointer.
     GotLoad,
 }
 
-/// What is rewritten together with the instruction of a relocation, before addresses are known.
+/// What is rewritten together with the instruction of a relocation in a phase.
 #[derive(Debug, Clone, Copy, PartialEq, Eq)]
 pub enum Scope {
     /// It isn't rewritten.
@@ -33,6 +37,12 @@ pub enum Scope {
     Alone,
     /// All of its group.
     Grouped(Group),
+    /// It goes where the next relocation is alone and is rewritten: that rewrite is of both
+    /// instructions.
+    Ahead,
+    /// It alone, by its own value, where each instruction of its group is one that the rewrite is
+    /// meant for.
+    Matched(Group),
 }
 
 /// The groups of a symbol that stay as they are, since one of their instructions can't be rewritten.
@@ -117,6 +127,8 @@ fn aarch64_scope(name: AArch64Relocation) -> Scope {
 #[inline(always)]
 fn loongarch_scope(name: LoongArch64Relocation) -> Scope {
     match name {
+        LoongArch64Relocation::R_LARCH_GOT_PC_HI20 | LoongArch64Relocation::R_LARCH_GOT_PC_LO12 =>
+            Scope::Grouped(Group::GotLoad),
         LoongArch64Relocation::R_LARCH_TLS_IE_PC_HI20
         | LoongArch64Relocation::R_LARCH_TLS_IE_PC_LO12
         | LoongArch64Relocation::R_LARCH_TLS_IE64_PC_LO20
@@ -191,6 +203,139 @@ fn x86_64_scope(name: X86_64Relocation) -> Scope {
     }
 }
 
+/// The scope of a relocation of AArch64 in a phase.
+#[inline(always)]
+fn aarch64_scope_in(phase: Phase, name: AArch64Relocation) -> Scope {
+    match phase {
+        Phase::Early => aarch64_scope(name),
+        Phase::GotLoads => match name {
+            AArch64Relocation::R_AARCH64_ADR_GOT_PAGE
+            | AArch64Relocation::R_AARCH64_LD64_GOT_LO12_NC => Scope::Grouped(Group::GotLoad),
+            _ => Scope::Unlisted,
+        },
+        Phase::Distances => match name {
+            AArch64Relocation::R_AARCH64_ADR_PREL_PG_HI21 => Scope::Ahead,
+            AArch64Relocation::R_AARCH64_ADD_ABS_LO12_NC => Scope::Alone,
+            _ => Scope::Unlisted,
+        },
+        Phase::ThreadOffsets => Scope::Unlisted,
+    }
+}
+
+/// That of a relocation of RISC-V, whose rewrites all wait for addresses.
+#[inline(always)]
+fn riscv_scope_in(phase: Phase, name: RiscVRelocation) -> Scope {
+    match phase {
+        Phase::ThreadOffsets => match name {
+            RiscVRelocation::R_RISCV_TPREL_HI20
+            | RiscVRelocation::R_RISCV_TPREL_ADD
+            | RiscVRelocation::R_RISCV_TPREL_LO12_I
+            | RiscVRelocation::R_RISCV_TPREL_LO12_S => Scope::Grouped(Group::InitialExec),
+            _ => Scope::Unlisted,
+        },
+        Phase::Early | Phase::GotLoads | Phase::Distances => Scope::Unlisted,
+    }
+}
+
+/// That of a relocation of LoongArch.
+#[inline(always)]
+fn loongarch_scope_in(phase: Phase, name: LoongArch64Relocation) -> Scope {
+    match phase {
+        Phase::Early => loongarch_scope(name),
+        Phase::ThreadOffsets => match name {
+            LoongArch64Relocation::R_LARCH_TLS_LE_HI20_R
+            | LoongArch64Relocation::R_LARCH_TLS_LE_ADD_R
+            | LoongArch64Relocation::R_LARCH_TLS_LE_LO12_R => Scope::Grouped(Group::InitialExec),
+            _ => Scope::Unlisted,
+        },
+        Phase::GotLoads | Phase::Distances => Scope::Unlisted,
+    }
+}
+
+/// That of a relocation of PowerPC64.
+#[inline(always)]
+fn ppc64_scope_in(phase: Phase, name: Ppc64Relocation) -> Scope {
+    match phase {
+        Phase::Early => ppc64_scope(name),
+        Phase::ThreadOffsets => match name {
+            Ppc64Relocation::R_PPC64_TPREL16_HA
+            | Ppc64Relocation::R_PPC64_TPREL16_LO
+            | Ppc64Relocation::R_PPC64_TPREL16_LO_DS => Scope::Grouped(Group::InitialExec),
+            _ => Scope::Unlisted,
+        },
+        Phase::Distances => match name {
+            Ppc64Relocation::R_PPC64_TOC16_HA
+            | Ppc64Relocation::R_PPC64_TOC16_LO
+            | Ppc64Relocation::R_PPC64_TOC16_LO_DS => Scope::Matched(Group::GotLoad),
+            _ => Scope::Unlisted,
+        },
+        Phase::GotLoads => Scope::Unlisted,
+    }
+}
+
+/// That of a relocation of x86-64, whose rewrites all are made before addresses are known.
+#[inline(always)]
+fn x86_64_scope_in(phase: Phase, name: X86_64Relocation) -> Scope {
+    match phase {
+        Phase::Early => x86_64_scope(name),
+        Phase::ThreadOffsets | Phase::GotLoads | Phase::Distances => Scope::Unlisted,
+    }
+}
+
+/// What is rewritten together with the instruction of a relocation with a code in a phase.
+///
+/// ```
+/// use linker_utils::rewriting::{Group, Scope, scope_in};
+/// use linker_utils::rewriting::Phase;
+/// use linker_utils::elf::Architecture;
+///
+/// // R_AARCH64_ADR_GOT_PAGE
+/// let group = Scope::Grouped(Group::GotLoad);
+/// assert_eq!(scope_in(Architecture::AArch64, Phase::GotLoads, 311), group);
+/// assert_eq!(scope_in(Architecture::AArch64, Phase::Early, 311), Scope::Unlisted);
+/// ```
+#[must_use]
+#[inline(always)]
+pub fn scope_in(architecture: Architecture, phase: Phase, code: u32) -> Scope {
+    match architecture {
+        Architecture::AArch64 => aarch64_scope_in(phase, AArch64Relocation::from_elf(code)),
+        Architecture::LoongArch64 => {
+            loongarch_scope_in(phase, LoongArch64Relocation::from_elf(code))
+        }
+        Architecture::Ppc64 => ppc64_scope_in(phase, Ppc64Relocation::from_elf(code)),
+        Architecture::X86_64 => x86_64_scope_in(phase, X86_64Relocation::from_elf(code)),
+        Architecture::RiscV => riscv_scope_in(phase, RiscVRelocation::from_elf(code)),
+    }
+}
+
+/// The table of `has_rewrites`.
+#[inline(always)]
+fn is_listed(architecture: Architecture, phase: Phase) -> bool {
+    match architecture {
+        Architecture::AArch64 => !matches!(phase, Phase::ThreadOffsets),
+        Architecture::RiscV => matches!(phase, Phase::ThreadOffsets),
+        Architecture::LoongArch64 => matches!(phase, Phase::Early | Phase::ThreadOffsets),
+        Architecture::Ppc64 => !matches!(phase, Phase::GotLoads),
+        Architecture::X86_64 => matches!(phase, Phase::Early),
+    }
+}
+
+/// Whether an architecture has rewrites in a phase. In one without them a linker surveys and rewrites
+/// nothing: each relocation is `Scope::Unlisted`.
+///
+/// ```
+/// use linker_utils::rewriting::has_rewrites;
+/// use linker_utils::rewriting::Phase;
+/// use linker_utils::elf::Architecture;
+///
+/// assert!(has_rewrites(Architecture::RiscV, Phase::ThreadOffsets));
+/// assert!(!has_rewrites(Architecture::X86_64, Phase::ThreadOffsets));
+/// ```
+#[must_use]
+pub fn has_rewrites(architecture: Architecture, phase: Phase) -> bool {
+    is_listed(architecture, phase)
+}
+
 /// What is rewritten together with the instruction of a relocation with a code, before addresses are
 /// known. RISC-V's rewrites all wait for them.
 ///
@@ -206,13 +351,7 @@ fn x86_64_scope(name: X86_64Relocation) -> Scope {
 #[must_use]
 #[inline(always)]
 pub fn scope_of(architecture: Architecture, code: u32) -> Scope {
-    match architecture {
-        Architecture::AArch64 => aarch64_scope(AArch64Relocation::from_elf(code)),
-        Architecture::LoongArch64 => loongarch_scope(LoongArch64Relocation::from_elf(code)),
-        Architecture::Ppc64 => ppc64_scope(Ppc64Relocation::from_elf(code)),
-        Architecture::X86_64 => x86_64_scope(X86_64Relocation::from_elf(code)),
-        Architecture::RiscV => Scope::Unlisted,
-    }
+    scope_in(architecture, Phase::Early, code)
 }
 
 /// Whether a name of PowerPC64 marks a call of `__tls_get_addr`.

@@ -1,10 +1,12 @@
 // Made by tools/erase of crates/linker_rewriting/src/surveys.rt.
 //! Which groups of an object stay as they are, since one of their instructions can't be rewritten.
 
-use crate::linker_rewriting::candidates::{candidate, is_tls_get_addr};
-use crate::linker_rewriting::facts::{OutputFacts, SymbolFacts};
-use crate::linker_rewriting::groups::{Group, KeptGroups, Scope, marks_call, scope_of, symbol_of_group};
+use crate::linker_rewriting::candidates::{candidate, is_matched, is_tls_get_addr};
+use crate::linker_rewriting::facts::{NO_ADDRESSES, OutputFacts, SymbolFacts};
+use crate::linker_rewriting::groups::{Group, KeptGroups, Scope, marks_call, scope_in, symbol_of_group};
+use crate::linker_rewriting::phases::Phase;
 use crate::linker_rewriting::relocations::relocation_in;
+use crate::linker_section::facts::{Addresses, Symbol};
 use crate::linker_section::relocations::{Rela, relocations_len};
 use crate::elf::Architecture;
 
@@ -39,27 +41,53 @@ fn keep_threads(kept: &mut [KeptGroups], stay: bool) {
 #[inline(always)]
 fn keeping(
     architecture: Architecture,
+    phase: Phase,
     output: &OutputFacts,
     symbols: &[SymbolFacts],
+    addresses: &Addresses,
+    values: &[Symbol],
     relocations: &[u8],
     section: &[u8],
     index: usize,
     relocation: &Rela,
 ) -> Option<Group> {
-    let Scope::Grouped(group) = scope_of(architecture, relocation.code) else {
-        return None;
-    };
-    match candidate(
-        architecture,
-        output,
-        symbols,
-        relocations,
-        section,
-        index,
-        relocation,
-    ) {
-        Some(_) => None,
-        None => Some(group),
+    match scope_in(architecture, phase, relocation.code) {
+        Scope::Grouped(group) => {
+            match candidate(
+                architecture,
+                phase,
+                output,
+                symbols,
+                addresses,
+                values,
+                relocations,
+                section,
+                index,
+                relocation,
+            ) {
+                Some(_) => None,
+                None => Some(group),
+            }
+        }
+        Scope::Matched(group) => {
+            if is_matched(
+                architecture,
+                phase,
+                output,
+                symbols,
+                addresses,
+                values,
+                relocations,
+                section,
+                index,
+                relocation,
+            ) {
+                None
+            } else {
+                Some(group)
+            }
+        }
+        _ => None,
     }
 }
 
@@ -92,14 +120,57 @@ fn ppc64_is_unmarked(
 #[inline(always)]
 fn is_unmarked(
     architecture: Architecture,
+    phase: Phase,
     symbols: &[SymbolFacts],
     relocations: &[u8],
     index: usize,
     relocation: &Rela,
 ) -> bool {
-    match architecture {
-        Architecture::Ppc64 => ppc64_is_unmarked(symbols, relocations, index, relocation),
+    match (phase, architecture) {
+        (Phase::Early, Architecture::Ppc64) => {
+            ppc64_is_unmarked(symbols, relocations, index, relocation)
+        }
         _ => false,
+    }
+}
+
+/// Notes which groups stay in a phase, by a section, as `survey` and `survey_placed_section` say.
+#[inline(always)]
+fn survey_in(
+    architecture: Architecture,
+    phase: Phase,
+    output: &OutputFacts,
+    symbols: &[SymbolFacts],
+    addresses: &Addresses,
+    values: &[Symbol],
+    relocations: &[u8],
+    section: &[u8],
+    kept: &mut [KeptGroups],
+) {
+    for index in 0..relocations_len(relocations) {
+        let relocation = relocation_in(relocations, index);
+        let group = keeping(
+            architecture,
+            phase,
+            output,
+            symbols,
+            addresses,
+            values,
+            relocations,
+            section,
+            index,
+            &relocation,
+        );
+        keep_group(kept, group, relocation.symbol);
+        let unmarked = is_unmarked(
+            architecture,
+            phase,
+            symbols,
+            relocations,
+            index,
+            &relocation,
+        );
+        keep_threads(kept, unmarked);
     }
 }
 
@@ -133,19 +204,71 @@ pub fn survey(
     section: &[u8],
     kept: &mut [KeptGroups],
 ) {
-    for index in 0..relocations_len(relocations) {
-        let relocation = relocation_in(relocations, index);
-        let group = keeping(
-            architecture,
-            output,
-            symbols,
-            relocations,
-            section,
-            index,
-            &relocation,
-        );
-        keep_group(kept, group, relocation.symbol);
-        let unmarked = is_unmarked(architecture, symbols, relocations, index, &relocation);
-        keep_threads(kept, unmarked);
-    }
+    survey_in(
+        architecture,
+        Phase::Early,
+        output,
+        symbols,
+        &NO_ADDRESSES,
+        &[],
+        relocations,
+        section,
+        kept,
+    );
+}
+
+/// Notes which groups of an object stay in a phase once addresses are known, by a section, as
+/// `survey` does before. `rewrite_placed_section` rewrites all of a group or none by these notes, so
+/// survey each section of code of an object before one of them is rewritten in the phase, with one
+/// table for the object and the phase. A group stays too where a table has no entry for its symbol.
+///
+/// `symbols` and `values` both have an object's symbols at the indexes that its relocations name.
+///
+/// ```
+/// use linker_utils::rewriting::{OutputFacts, SymbolFacts};
+/// use linker_utils::rewriting::KeptGroups;
+/// use linker_utils::rewriting::Phase;
+/// use linker_utils::rewriting::survey_placed_section;
+/// use linker_utils::section::{Addresses, Symbol};
+/// use linker_utils::elf::Architecture;
+///
+/// // lui a0, 0, with R_RISCV_TPREL_HI20 of symbol 1, which no mark follows
+/// let mut relocations = [0; 24];
+/// (relocations[8], relocations[12]) = (29, 1);
+/// let mut kept = [KeptGroups::default(); 2];
+/// survey_placed_section(
+///     Architecture::RiscV,
+///     Phase::ThreadOffsets,
+///     &OutputFacts { is_executable: true, is_fixed: true },
+///     &[SymbolFacts { is_local: true, ..SymbolFacts::default() }; 2],
+///     &Addresses::default(),
+///     &[Symbol::default(); 2],
+///     &relocations,
+///     &[0x37, 0x05, 0, 0],
+///     &mut kept,
+/// );
+/// assert!(kept[1].initial_exec);
+/// ```
+pub fn survey_placed_section(
+    architecture: Architecture,
+    phase: Phase,
+    output: &OutputFacts,
+    symbols: &[SymbolFacts],
+    addresses: &Addresses,
+    values: &[Symbol],
+    relocations: &[u8],
+    section: &[u8],
+    kept: &mut [KeptGroups],
+) {
+    survey_in(
+        architecture,
+        phase,
+        output,
+        symbols,
+        addresses,
+        values,
+        relocations,
+        section,
+        kept,
+    );
 }

@@ -3,8 +3,11 @@
 
 mod list;
 
+use alloc::vec::Vec;
 use crate::support::*;
+use crate::linker_runs::packing::Machine;
 use crate::linker_runs::relaxation::Item;
+use crate::linker_runs::{loongarch64, riscv64};
 pub(crate) use list::ItemList;
 
 /// A relocation of a section.
@@ -118,4 +121,173 @@ pub(crate) fn unsigned_addend(relocation: &Relocation) -> Option<u64> {
     } else {
         Some(relocation.addend as u64)
     }
+}
+
+/// Whether a relocation is what the psABI allows.
+#[inline(always)]
+fn is_formed(machine: Machine, section: &[u8], relocation: &Relocation) -> bool {
+    match machine {
+        Machine::RiscV64 => riscv64::is_formed(section, relocation),
+        Machine::LoongArch64 => loongarch64::is_formed(section, relocation),
+    }
+}
+
+/// The index of the first relocation that isn't what the psABI allows: one that lies behind the
+/// section's end, one of a call where less than eight bytes are there (`R_RISCV_CALL`,
+/// `R_RISCV_CALL_PLT`, `R_LARCH_CALL36`), or one of an alignment whose nops the addend doesn't tell.
+///
+/// The addend of `R_RISCV_ALIGN` is a multiple of 2 from 0 up, below 2^32, of bytes in the section.
+/// That of `R_LARCH_ALIGN` isn't below 0, its exponent is from 2 to 32, and its nops are a multiple of
+/// 4 below 2^32, of bytes in the section.
+#[must_use]
+pub fn first_malformed<R: AsRelocation>(
+    machine: Machine,
+    section: &[u8],
+    relocations: &[R],
+) -> Option<usize> {
+    for index in 0..relocations.len() {
+        if !is_formed(machine, section, &relocation_at(relocations, index)) {
+            return Some(index);
+        }
+    }
+    None
+}
+
+/// What a walk that stands at a relocation has to know of those behind it: on RISC-V the index of the
+/// next alignment. `known` is what it knew before.
+#[inline(always)]
+fn ahead<R: AsRelocation>(machine: Machine, relocations: &[R], index: usize, known: usize) -> usize {
+    match machine {
+        Machine::RiscV64 => {
+            if known <= index {
+                riscv64::next_alignment(relocations, index)
+            } else {
+                known
+            }
+        }
+        Machine::LoongArch64 => known,
+    }
+}
+
+/// The item that the relocation at an index makes, if it makes one.
+#[inline(always)]
+fn item_at<R: AsRelocation>(
+    machine: Machine,
+    section: &[u8],
+    base: u64,
+    relocations: &[R],
+    index: usize,
+    ahead: usize,
+) -> Option<Item> {
+    match machine {
+        Machine::RiscV64 => riscv64::item_at(section, base, relocations, index, ahead),
+        Machine::LoongArch64 => loongarch64::item_at(section, base, relocations, index),
+    }
+}
+
+/// The items of a section, and which relocation makes each.
+#[derive(Debug)]
+pub struct SectionItems {
+    /// The items, in the order of the relocations.
+    pub items: Vec<Item>,
+    /// The index of the relocation that makes each.
+    pub makers: Vec<usize>,
+}
+
+/// The items that the relocations of a section make, in the relocations' order, and the index of the
+/// relocation that makes each. The section begins at the input offset `base` of the run. The other
+/// relocations make none.
+///
+/// **RISC-V.** `R_RISCV_CALL` and `R_RISCV_CALL_PLT` make a site where `R_RISCV_RELAX` is the next
+/// relocation, at the same offset, the target is in the run, and the bytes are `auipc` and `jalr` of one
+/// register. Its shapes are `TAIL_C` where the `jalr` links x0 and the relocation's `may_compress` is
+/// set, and else `CALL`. `R_RISCV_ALIGN` makes an alignment without a limit, if there are nops: the
+/// addend is how many bytes they have, and the next power of two above it what they align to (RISC-V
+/// ELF psABI, "Linker Relaxation").
+///
+/// Where fewer nops stand before an alignment than it may need at any even address, as the 12 bytes
+/// that assemblers write for `.balign 16` in code without the C extension, the calls between it and the
+/// alignment before it free only multiples of what has to divide its address: then no call there has
+/// `TAIL_C`, and none is a site if that is more than 4.
+///
+/// **LoongArch.** Where `R_LARCH_RELAX` is the next relocation, at the same offset, and the target is
+/// in the run, `R_LARCH_CALL36` makes a `CALL36` if the bytes are `pcaddu18i` and `jirl` of one register
+/// and the `jirl` links `ra` or none. `R_LARCH_PCALA_HI20` makes a `PCALA` if behind its
+/// `R_LARCH_RELAX` are `R_LARCH_PCALA_LO12` of the next instruction, with the same target, and an
+/// `R_LARCH_RELAX` there, and the bytes are `pcalau12i` and `addi.d` of one register.
+///
+/// `R_LARCH_ALIGN` makes an alignment, if there are nops. Without a symbol its addend is how many
+/// bytes the nops have, and what they align to is the next power of two above it. With a symbol the
+/// addend's lowest 8 bits are the exponent of two of what they align to, whose nops are 4 bytes
+/// fewer. The other bits are its limit, the most bytes that may stay, if they are above 0 and below
+/// the nops (LoongArch ELF psABI, "Relocations").
+///
+/// `Malformed` names the relocation that `first_malformed` returns. The vectors grow as items are
+/// added. `are_items` tells whether the run can be relaxed.
+///
+/// # Requires
+///
+/// - `(base as u128) + (section.len() as u128) < 1 << 64`
+#[cfg_attr(debug_assertions, track_caller)]
+pub fn section_items<R: AsRelocation>(
+    machine: Machine,
+    section: &[u8],
+    base: u64,
+    relocations: &[R],
+) -> Result<SectionItems, ItemsError> {
+    debug_assert!((base as u128) + (section.len() as u128) < 1 << 64);
+    if let Some(index) = first_malformed(machine, section, relocations) {
+        return Err(ItemsError::Malformed(index));
+    }
+    let mut items = Vec::new();
+    let mut makers = Vec::new();
+    let mut next = 0;
+    for index in 0..relocations.len() {
+        next = ahead(machine, relocations, index, next);
+        if let Some(item) = item_at(machine, section, base, relocations, index, next) {
+            items.fallible_push(item)?;
+            makers.fallible_push(index)?;
+        }
+    }
+    Ok(SectionItems { items, makers })
+}
+
+/// `section_items` into memory of the caller's, which has an element of `out` and of `makers` for each
+/// relocation, since each makes one item at most. It returns how many items there are; the elements
+/// from there on are unchanged.
+///
+/// The error is the index that `first_malformed` returns, and nothing is written then. It doesn't
+/// allocate.
+///
+/// # Requires
+///
+/// - base: `(base as u128) + (section.len() as u128) < 1 << 64`
+/// - one_each: `out.len() == relocations.len()`
+/// - makers: `makers.len() == relocations.len()`
+#[cfg_attr(debug_assertions, track_caller)]
+pub fn section_items_into<R: AsRelocation, I: AsItem>(
+    machine: Machine,
+    section: &[u8],
+    base: u64,
+    relocations: &[R],
+    out: &mut [I],
+    makers: &mut [usize],
+) -> Result<usize, usize> {
+    debug_assert!((base as u128) + (section.len() as u128) < 1 << 64);
+    debug_assert!(out.len() == relocations.len());
+    debug_assert!(makers.len() == relocations.len());
+    if let Some(index) = first_malformed(machine, section, relocations) {
+        return Err(index);
+    }
+    let mut count = 0;
+    let mut next = 0;
+    for index in 0..relocations.len() {
+        next = ahead(machine, relocations, index, next);
+        if let Some(item) = item_at(machine, section, base, relocations, index, next) {
+            out[count] = I::from_item(item);
+            makers[count] = index;
+            count += 1;
+        }
+    }
+    Ok(count)
 }

@@ -1,11 +1,8 @@
 // Made by tools/erase of crates/linker_runs/src/loongarch64.rt.
 //! LoongArch: the items that relocations make.
 
-use alloc::vec::Vec;
-use crate::support::*;
 use crate::linker_runs::items::{
-    AsItem, AsRelocation, ItemsError, Relocation, has_bytes, is_marked, relocation_at,
-    unsigned_addend,
+    AsRelocation, Relocation, has_bytes, is_marked, relocation_at, unsigned_addend,
 };
 use crate::linker_runs::relaxation::{Alignment, Item, Shapes, Site};
 use crate::linker_runs::shapes::loongarch64::{CALL36, PCALA};
@@ -168,7 +165,7 @@ fn site_at<R: AsRelocation>(
 
 /// Whether a relocation is what the psABI allows.
 #[inline(always)]
-fn is_formed(section: &[u8], relocation: &Relocation) -> bool {
+pub(crate) fn is_formed(section: &[u8], relocation: &Relocation) -> bool {
     if !has_bytes(section, relocation.offset, 0) {
         return false;
     }
@@ -181,23 +178,9 @@ fn is_formed(section: &[u8], relocation: &Relocation) -> bool {
     }
 }
 
-/// The index of the first relocation that isn't what the psABI allows: one that lies behind the
-/// section's end, that is an `R_LARCH_CALL36` and less than eight bytes are there, or that is an
-/// `R_LARCH_ALIGN` whose addend is below 0, whose exponent is below 2 or above 32, or whose nops
-/// aren't a multiple of 4, reach past the section's end or have 2^32 bytes or more.
-#[must_use]
-pub fn first_malformed<R: AsRelocation>(section: &[u8], relocations: &[R]) -> Option<usize> {
-    for index in 0..relocations.len() {
-        if !is_formed(section, &relocation_at(relocations, index)) {
-            return Some(index);
-        }
-    }
-    None
-}
-
 /// The item that the relocation at an index makes, if it makes one.
 #[inline]
-fn item_at<R: AsRelocation>(
+pub(crate) fn item_at<R: AsRelocation>(
     section: &[u8],
     base: u64,
     relocations: &[R],
@@ -214,76 +197,4 @@ fn item_at<R: AsRelocation>(
         Some(site) => Some(Item::Site(site)),
         None => None,
     }
-}
-
-/// The items that the relocations of a section make, in the relocations' order. The section begins
-/// at the input offset `base` of the run. The other relocations make none.
-///
-/// Where `R_LARCH_RELAX` is the next relocation, at the same offset, and the target is in the run,
-/// `R_LARCH_CALL36` makes a `CALL36` if the bytes are `pcaddu18i` and `jirl` of one register and
-/// the `jirl` links `ra` or none. `R_LARCH_PCALA_HI20` makes a `PCALA` if behind its
-/// `R_LARCH_RELAX` are `R_LARCH_PCALA_LO12` of the next instruction, with the same target, and an
-/// `R_LARCH_RELAX` there, and the bytes are `pcalau12i` and `addi.d` of one register.
-///
-/// `R_LARCH_ALIGN` makes an alignment, if there are nops. Without a symbol its addend is how many
-/// bytes the nops have, and what they align to is the next power of two above it. With a symbol the
-/// addend's lowest 8 bits are the exponent of two of what they align to, whose nops are 4 bytes
-/// fewer. The other bits are its limit, the most bytes that may stay, if they are above 0 and below
-/// the nops (LoongArch ELF psABI, "Relocations").
-///
-/// `Malformed` names the relocation that `first_malformed` returns. The vector grows as items are
-/// added. `are_items` tells whether the run can be relaxed.
-///
-/// # Requires
-///
-/// - `(base as u128) + (section.len() as u128) < 1 << 64`
-#[cfg_attr(debug_assertions, track_caller)]
-pub fn items<R: AsRelocation>(
-    section: &[u8],
-    base: u64,
-    relocations: &[R],
-) -> Result<Vec<Item>, ItemsError> {
-    debug_assert!((base as u128) + (section.len() as u128) < 1 << 64);
-    if let Some(index) = first_malformed(section, relocations) {
-        return Err(ItemsError::Malformed(index));
-    }
-    let mut items = Vec::new();
-    for index in 0..relocations.len() {
-        if let Some(item) = item_at(section, base, relocations, index) {
-            items.fallible_push(item)?;
-        }
-    }
-    Ok(items)
-}
-
-/// `items` into memory of the caller's, which has an element for each relocation, since each makes
-/// one item at most. It returns how many there are; the elements from there on are unchanged.
-///
-/// The error is the index that `first_malformed` returns, and nothing is written then. It doesn't
-/// allocate.
-///
-/// # Requires
-///
-/// - base: `(base as u128) + (section.len() as u128) < 1 << 64`
-/// - one_each: `out.len() == relocations.len()`
-#[cfg_attr(debug_assertions, track_caller)]
-pub fn items_into<R: AsRelocation, I: AsItem>(
-    section: &[u8],
-    base: u64,
-    relocations: &[R],
-    out: &mut [I],
-) -> Result<usize, usize> {
-    debug_assert!((base as u128) + (section.len() as u128) < 1 << 64);
-    debug_assert!(out.len() == relocations.len());
-    if let Some(index) = first_malformed(section, relocations) {
-        return Err(index);
-    }
-    let mut count = 0;
-    for index in 0..relocations.len() {
-        if let Some(item) = item_at(section, base, relocations, index) {
-            out[count] = I::from_item(item);
-            count += 1;
-        }
-    }
-    Ok(count)
 }

@@ -1,11 +1,8 @@
 // Made by tools/erase of crates/linker_runs/src/riscv64.rt.
 //! RISC-V: the items that relocations make.
 
-use alloc::vec::Vec;
-use crate::support::*;
 use crate::linker_runs::items::{
-    AsItem, AsRelocation, ItemsError, Relocation, has_bytes, is_marked, relocation_at,
-    unsigned_addend,
+    AsRelocation, Relocation, has_bytes, is_marked, relocation_at, unsigned_addend,
 };
 use crate::linker_runs::relaxation::{Alignment, Item, Shapes, Site};
 use crate::linker_runs::shapes::riscv64::{CALL, TAIL_C};
@@ -58,7 +55,7 @@ fn aligns(relocation: &Relocation) -> bool {
 
 /// The index of the next alignment behind the relocation at an index, or how many relocations there
 /// are.
-fn next_alignment<R: AsRelocation>(relocations: &[R], index: usize) -> usize {
+pub(crate) fn next_alignment<R: AsRelocation>(relocations: &[R], index: usize) -> usize {
     for next in index + 1..relocations.len() {
         if aligns(&relocation_at(relocations, next)) {
             return next;
@@ -88,15 +85,8 @@ fn may_free<R: AsRelocation>(freed: u64, relocations: &[R], index: usize, next: 
 }
 
 /// The register that the call at an offset links. None where no call is there.
-///
-/// # Requires
-///
-/// - `(offset as u128) + 8 <= (section.len() as u128)`
-#[must_use]
-#[cfg_attr(debug_assertions, track_caller)]
 #[inline]
-pub fn link_at(section: &[u8], offset: u64) -> Option<u32> {
-    debug_assert!((offset as u128) + 8 <= (section.len() as u128));
+pub(crate) fn link_at(section: &[u8], offset: u64) -> Option<u32> {
     let base = LinkRegister::OfAuipc.named_at(section, offset)?;
     if base == 0 {
         return None;
@@ -153,7 +143,7 @@ fn site_at<R: AsRelocation>(
 
 /// Whether a relocation is what the psABI allows.
 #[inline(always)]
-fn is_formed(section: &[u8], relocation: &Relocation) -> bool {
+pub(crate) fn is_formed(section: &[u8], relocation: &Relocation) -> bool {
     if !has_bytes(section, relocation.offset, 0) {
         return false;
     }
@@ -166,22 +156,9 @@ fn is_formed(section: &[u8], relocation: &Relocation) -> bool {
     }
 }
 
-/// The index of the first relocation that isn't what the psABI allows: one that lies behind the
-/// section's end, that is a call's and less than eight bytes are there, or that is an
-/// `R_RISCV_ALIGN` whose addend isn't a multiple of 2 from 0 up, below 2^32, of bytes in the section.
-#[must_use]
-pub fn first_malformed<R: AsRelocation>(section: &[u8], relocations: &[R]) -> Option<usize> {
-    for index in 0..relocations.len() {
-        if !is_formed(section, &relocation_at(relocations, index)) {
-            return Some(index);
-        }
-    }
-    None
-}
-
 /// The item that the relocation at an index makes, if it makes one.
 #[inline]
-fn item_at<R: AsRelocation>(
+pub(crate) fn item_at<R: AsRelocation>(
     section: &[u8],
     base: u64,
     relocations: &[R],
@@ -202,84 +179,4 @@ fn item_at<R: AsRelocation>(
         Some(nops) => Some(Item::Aligned(alignment_of(nops, base + relocation.offset))),
         None => None,
     }
-}
-
-/// The items that the relocations of a section make, in the relocations' order. The section begins
-/// at the input offset `base` of the run. The other relocations make none.
-///
-/// `R_RISCV_CALL` and `R_RISCV_CALL_PLT` make a site where `R_RISCV_RELAX` is the next relocation,
-/// at the same offset, the target is in the run, and the bytes are `auipc` and `jalr` of one
-/// register. Its shapes are `TAIL_C` where the `jalr` links x0 and the relocation's `may_compress` is
-/// set, and else `CALL`. `R_RISCV_ALIGN` makes an alignment without a limit, if there are nops: the
-/// addend is how many bytes they have, and the next power of two above it what they align to (RISC-V
-/// ELF psABI, "Linker Relaxation").
-///
-/// Where fewer nops stand before an alignment than it may need at any even address, as the 12 bytes
-/// that assemblers write for `.balign 16` in code without the C extension, the calls between it and the
-/// alignment before it free only multiples of what has to divide its address: then no call there has
-/// `TAIL_C`, and none is a site if that is more than 4.
-///
-/// `Malformed` names the relocation that `first_malformed` returns. The vector grows as items are
-/// added. `are_items` tells whether the run can be relaxed.
-///
-/// # Requires
-///
-/// - `(base as u128) + (section.len() as u128) < 1 << 64`
-#[cfg_attr(debug_assertions, track_caller)]
-pub fn items<R: AsRelocation>(
-    section: &[u8],
-    base: u64,
-    relocations: &[R],
-) -> Result<Vec<Item>, ItemsError> {
-    debug_assert!((base as u128) + (section.len() as u128) < 1 << 64);
-    if let Some(index) = first_malformed(section, relocations) {
-        return Err(ItemsError::Malformed(index));
-    }
-    let mut items = Vec::new();
-    let mut next = 0;
-    for index in 0..relocations.len() {
-        if next <= index {
-            next = next_alignment(relocations, index);
-        }
-        if let Some(item) = item_at(section, base, relocations, index, next) {
-            items.fallible_push(item)?;
-        }
-    }
-    Ok(items)
-}
-
-/// `items` into memory of the caller's, which has an element for each relocation, since each makes
-/// one item at most. It returns how many there are; the elements from there on are unchanged.
-///
-/// The error is the index that `first_malformed` returns, and nothing is written then. It doesn't
-/// allocate.
-///
-/// # Requires
-///
-/// - base: `(base as u128) + (section.len() as u128) < 1 << 64`
-/// - one_each: `out.len() == relocations.len()`
-#[cfg_attr(debug_assertions, track_caller)]
-pub fn items_into<R: AsRelocation, I: AsItem>(
-    section: &[u8],
-    base: u64,
-    relocations: &[R],
-    out: &mut [I],
-) -> Result<usize, usize> {
-    debug_assert!((base as u128) + (section.len() as u128) < 1 << 64);
-    debug_assert!(out.len() == relocations.len());
-    if let Some(index) = first_malformed(section, relocations) {
-        return Err(index);
-    }
-    let mut count = 0;
-    let mut next = 0;
-    for index in 0..relocations.len() {
-        if next <= index {
-            next = next_alignment(relocations, index);
-        }
-        if let Some(item) = item_at(section, base, relocations, index, next) {
-            out[count] = I::from_item(item);
-            count += 1;
-        }
-    }
-    Ok(count)
 }

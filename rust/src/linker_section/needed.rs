@@ -1,10 +1,8 @@
 // Made by tools/erase of crates/linker_section/src/needed.rt.
 //! What a relocation requires of a linker before addresses are known.
 
-use crate::elf::{
-    Architecture, RelocationInstruction, RelocationKind, RelocationKindInfo, RelocationSize,
-    RiscVInstruction,
-};
+use crate::linker_section::codes::{NO_ROW, byte_of};
+use crate::elf::{Architecture, RelocationInstruction, RelocationKind, RelocationSize};
 
 /// What an entry of the GOT holds.
 #[derive(Debug, Clone, Copy, PartialEq, Eq)]
@@ -91,44 +89,6 @@ pub(crate) fn loads_plt_word(size: RelocationSize, kind: RelocationKind) -> bool
     )
 }
 
-/// The class of the entry that a relocation requires, whose symbol may be thread-local.
-#[inline(always)]
-fn class_of(size: RelocationSize, kind: RelocationKind, is_thread_local: bool) -> Option<EntryClass> {
-    if loads_plt_word(size, kind) {
-        return Some(EntryClass::Address);
-    }
-    match size {
-        RelocationSize::BitMasking {
-            insn: RelocationInstruction::RiscV(RiscVInstruction::IType | RiscVInstruction::SType),
-            ..
-        } => None,
-        RelocationSize::BitMasking {
-            insn: RelocationInstruction::LoongArch64(_),
-            ..
-        } => match class_of_kind(kind) {
-            Some(EntryClass::Address) if is_thread_local => Some(EntryClass::ModuleOffset),
-            class => class,
-        },
-        _ => class_of_kind(kind),
-    }
-}
-
-/// The addend of an entry's address or offset.
-#[inline(always)]
-fn addend_of_entry(size: RelocationSize, class: EntryClass, addend: i64) -> i64 {
-    match (class, size) {
-        (EntryClass::Module, _) => 0,
-        (
-            _,
-            RelocationSize::BitMasking {
-                insn: RelocationInstruction::AArch64(_) | RelocationInstruction::Ppc64(_),
-                ..
-            },
-        ) => addend,
-        _ => 0,
-    }
-}
-
 /// Whether a stub may serve as the target.
 #[inline(always)]
 pub(crate) fn may_use_stub(size: RelocationSize, kind: RelocationKind) -> bool {
@@ -139,71 +99,42 @@ pub(crate) fn may_use_stub(size: RelocationSize, kind: RelocationKind) -> bool {
         ) && !loads_plt_word(size, kind))
 }
 
-/// Whether it is a word of 8 bytes with S + A.
+/// The class with a number in the byte of a code.
 #[inline(always)]
-fn is_word(size: RelocationSize, kind: RelocationKind) -> bool {
-    matches!(size, RelocationSize::ByteSize(8)) && matches!(kind, RelocationKind::Absolute)
-}
-
-/// Whether the value is an address.
-#[inline(always)]
-fn is_address(kind: RelocationKind) -> bool {
-    matches!(
-        kind,
-        RelocationKind::Absolute
-            | RelocationKind::AbsoluteLowPart
-            | RelocationKind::Got
-            | RelocationKind::TlsGdGot
-            | RelocationKind::TlsLdGot
-            | RelocationKind::GotTpOffGot
-            | RelocationKind::TlsDescGot
-    )
-}
-
-/// Whether bits of the value above those of the offset in a page are written.
-#[inline(always)]
-fn takes_page(size: RelocationSize) -> bool {
-    match size {
-        RelocationSize::ByteSize(_) => true,
-        RelocationSize::BitMasking {
-            insn: RelocationInstruction::RiscV(RiscVInstruction::IType | RiscVInstruction::SType),
-            ..
-        } => false,
-        RelocationSize::BitMasking { range, .. } => range.end > 12,
+fn class_by(number: u8, is_thread_local: bool) -> Option<EntryClass> {
+    match number {
+        0 => Some(EntryClass::Address),
+        1 => Some(EntryClass::ThreadOffset),
+        2 => Some(EntryClass::ModuleOffset),
+        3 => Some(EntryClass::Module),
+        4 => Some(EntryClass::Descriptor),
+        6 if is_thread_local => Some(EntryClass::ModuleOffset),
+        6 => Some(EntryClass::Address),
+        _ => None,
     }
 }
 
-/// Whether what is written depends on where the output is loaded.
+/// The entry that the byte of a code says.
 #[inline(always)]
-fn depends_on_load(info: &RelocationKindInfo) -> bool {
-    is_address(info.kind) && takes_page(info.size)
-}
-
-/// The entry that a relocation of a row requires.
-#[inline(always)]
-pub(crate) fn entry_of(
-    info: &RelocationKindInfo,
-    addend: i64,
-    is_thread_local: bool,
-) -> Option<Entry> {
-    match class_of(info.size, info.kind, is_thread_local) {
+pub(crate) fn entry_by(byte: u8, addend: i64, is_thread_local: bool) -> Option<Entry> {
+    match class_by(byte % 8, is_thread_local) {
         Some(class) => Some(Entry {
             class,
-            addend: addend_of_entry(info.size, class, addend),
+            addend: if byte / 8 % 2 == 1 { addend } else { 0 },
         }),
         None => None,
     }
 }
 
-/// What a relocation of a row requires.
+/// What the byte of a code says.
 #[inline(always)]
-fn needs_of(info: &RelocationKindInfo, addend: i64, is_thread_local: bool) -> Requirements {
+fn requirements_by(byte: u8, addend: i64, is_thread_local: bool) -> Requirements {
     Requirements {
-        entry: entry_of(info, addend, is_thread_local),
-        is_branch: info.size.is_branch(),
-        may_use_stub: may_use_stub(info.size, info.kind),
-        is_word: is_word(info.size, info.kind),
-        depends_on_load: depends_on_load(info),
+        entry: entry_by(byte, addend, is_thread_local),
+        is_branch: byte / 16 % 2 == 1,
+        may_use_stub: byte / 32 % 2 == 1,
+        is_word: byte / 64 % 2 == 1,
+        depends_on_load: byte / 128 % 2 == 1,
     }
 }
 
@@ -233,8 +164,10 @@ pub fn needs(
     addend: i64,
     is_thread_local: bool,
 ) -> Option<Requirements> {
-    match architecture.row(code) {
-        Some(row) => Some(needs_of(&row.info(), addend, is_thread_local)),
-        None => None,
+    let byte = byte_of(architecture, code);
+    if byte == NO_ROW {
+        None
+    } else {
+        Some(requirements_by(byte, addend, is_thread_local))
     }
 }

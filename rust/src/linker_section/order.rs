@@ -2,10 +2,10 @@
 //! Relocations in any order: the first whose field overlaps that of an earlier one.
 
 use crate::linker_section::fields::Field;
-use crate::linker_section::relocations::{relocation_in, relocations_len};
+use crate::linker_section::relocations::{relocation_at, relocation_in, relocations_len};
 use crate::linker_section::sections::{field_at, second_of_pair};
 use crate::linker_section::values::{has_value, offset_at};
-use crate::elf::Architecture;
+use crate::elf::{Architecture, RelocationKind};
 
 /// Whether relocations ascend by offset.
 pub(crate) fn is_ascending(relocations: &[u8]) -> bool {
@@ -21,29 +21,95 @@ pub(crate) fn is_ascending(relocations: &[u8]) -> bool {
 }
 
 /// The least index of a relocation whose field overlaps that of an earlier one with which it
-/// doesn't compose; as many as there are relocations if there is none.
-pub(crate) fn first_overlap(architecture: Architecture, relocations: &[u8], section: &[u8]) -> usize {
-    for index in 0..relocations_len(relocations) {
-        if overlaps_earlier(architecture, relocations, section, index) {
-            return index;
-        }
-    }
-    relocations_len(relocations)
-}
-
-/// Whether a relocation's field overlaps that of an earlier one with which it doesn't compose.
-fn overlaps_earlier(
+/// doesn't compose; as many as there are relocations if there is none. `order` is memory for its
+/// work, with an element for each relocation.
+pub(crate) fn first_overlap(
     architecture: Architecture,
     relocations: &[u8],
     section: &[u8],
-    index: usize,
-) -> bool {
-    for earlier in 0..index {
-        if overlaps(architecture, relocations, section, earlier, index) {
-            return true;
+    order: &mut [u64],
+) -> usize {
+    sort_indexes(relocations, order);
+    least_overlap(architecture, relocations, section, order)
+}
+
+/// A number by which the indexes of relocations are sorted: by offset, and then by themselves.
+#[inline(always)]
+fn place_of(relocations: &[u8], index: u64) -> u128 {
+    match relocation_at(relocations, index as usize) {
+        Some(relocation) => u128::from(relocation.offset) * (1 << 64) + u128::from(index),
+        None => u128::from(index),
+    }
+}
+
+/// Makes the indexes of relocations, sorted by their offsets and then by themselves.
+fn sort_indexes(relocations: &[u8], order: &mut [u64]) {
+    list_indexes(order);
+    order.sort_unstable_by_key(|index| place_of(relocations, *index));
+}
+
+/// Makes the indexes below a slice's length.
+fn list_indexes(order: &mut [u64]) {
+    for index in 0..order.len() {
+        order[index] = index as u64;
+    }
+}
+
+/// The same as `first_overlap`, by the sorted indexes: a search for how many relocations are apart.
+fn least_overlap(
+    architecture: Architecture,
+    relocations: &[u8],
+    section: &[u8],
+    order: &[u64],
+) -> usize {
+    let len = relocations_len(relocations);
+    if are_apart(architecture, relocations, section, order, len) {
+        return len;
+    }
+    let mut low = 0;
+    let mut high = len;
+    while high - low > 1 {
+        let middle = low + (high - low) / 2;
+        if are_apart(architecture, relocations, section, order, middle) {
+            low = middle;
+        } else {
+            high = middle;
         }
     }
-    false
+    low
+}
+
+/// Whether of the relocations below an index those compose whose fields overlap, by the sorted
+/// indexes: each field is compared with the last one before it.
+fn are_apart(
+    architecture: Architecture,
+    relocations: &[u8],
+    section: &[u8],
+    order: &[u64],
+    count: usize,
+) -> bool {
+    let mut last = Field {
+        offset: 0,
+        len: 0,
+        kind: RelocationKind::None,
+    };
+    let mut last_index = 0;
+    for place in 0..order.len() {
+        let index = order[place] as usize;
+        if index >= count {
+            continue;
+        }
+        let Some(field) = field_in(architecture, relocations, section, index) else {
+            continue;
+        };
+        if field.is_clear_of(&last) {
+            last = field;
+            last_index = index;
+        } else if !is_second_of(architecture, relocations, last_index, index) {
+            return false;
+        }
+    }
+    true
 }
 
 /// The field of the relocation at an index, if it has one.
@@ -73,27 +139,4 @@ fn is_second_of(architecture: Architecture, relocations: &[u8], first: usize, in
         return false;
     };
     second_of_pair(architecture, relocations, first, &row).is_some()
-}
-
-/// Whether the fields of two relocations overlap, which don't compose.
-fn overlaps(
-    architecture: Architecture,
-    relocations: &[u8],
-    section: &[u8],
-    earlier: usize,
-    index: usize,
-) -> bool {
-    let Some(first) = field_in(architecture, relocations, section, earlier) else {
-        return false;
-    };
-    let Some(second) = field_in(architecture, relocations, section, index) else {
-        return false;
-    };
-    if second.offset < first.offset {
-        return !first.is_clear_of(&second);
-    }
-    if second.is_clear_of(&first) {
-        return false;
-    }
-    !is_second_of(architecture, relocations, earlier, index)
 }

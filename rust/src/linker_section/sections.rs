@@ -1,6 +1,7 @@
 // Made by tools/erase of crates/linker_section/src/sections.rt.
 //! The values of a section's relocations, written.
 
+use crate::linker_section::codes::byte_of;
 use crate::linker_section::facts::{Addresses, Symbol};
 use crate::linker_section::fields::{Field, begins_pair, ends_pair, is_of_pair, uleb_len};
 use crate::linker_section::order::{first_overlap, is_ascending};
@@ -60,6 +61,7 @@ fn row_value(
         addresses,
         relocations,
         symbols,
+        byte_of(architecture, relocation.code),
         &info,
         relocation,
     ) {
@@ -221,6 +223,7 @@ struct Stopped {
 
 /// Writes the values of a section's relocations in their order, and keeps the bytes that were there
 /// before.
+#[inline(always)]
 fn write_values(
     architecture: Architecture,
     addresses: &Addresses,
@@ -304,6 +307,35 @@ fn write_values(
     Ok(())
 }
 
+/// A call for an architecture, which is compiled for each by itself.
+macro_rules! of_each {
+    ($architecture:ident, $call:ident($($given:ident),*)) => {
+        match $architecture {
+            Architecture::AArch64 => $call(Architecture::AArch64, $($given),*),
+            Architecture::RiscV => $call(Architecture::RiscV, $($given),*),
+            Architecture::LoongArch64 => $call(Architecture::LoongArch64, $($given),*),
+            Architecture::Ppc64 => $call(Architecture::Ppc64, $($given),*),
+            Architecture::X86_64 => $call(Architecture::X86_64, $($given),*),
+        }
+    };
+}
+
+/// The same as `write_values`, by code of the architecture's own.
+fn write_values_of(
+    architecture: Architecture,
+    addresses: &Addresses,
+    relocations: &[u8],
+    symbols: &[Symbol],
+    limit: Option<usize>,
+    section: &mut [u8],
+    memory: &mut [u64],
+) -> Result<(), Stopped> {
+    of_each!(
+        architecture,
+        write_values(addresses, relocations, symbols, limit, section, memory)
+    )
+}
+
 /// How many elements of memory `relocate_section` takes: one for each relocation.
 #[must_use]
 #[inline(always)]
@@ -322,9 +354,9 @@ pub fn memory_len(relocations: &[u8]) -> usize {
 ///   of 24 bits; and `R_RISCV_SET6`, `R_RISCV_SUB6`, `R_LARCH_ADD6` and `R_LARCH_SUB6`), or
 /// - to be a pair at a ULEB128 number, next to each other.
 ///
-/// A relocation without a value, as `R_RISCV_RELAX`, has no field. Where relocations ascend by
-/// offset this takes time in proportion to their number. In any other order each field is compared
-/// with all before it, so the time is in proportion to the square of their number.
+/// A relocation without a value, as `R_RISCV_RELAX`, has no field. n relocations that ascend by
+/// offset take time in proportion to n. In any other order their indexes are sorted in `memory`
+/// first, and the time is in proportion to n log n.
 ///
 /// # Errors
 ///
@@ -368,9 +400,10 @@ pub fn relocate_section(
     let limit = if is_ascending(relocations) {
         None
     } else {
-        Some(first_overlap(architecture, relocations, section))
+        let order = &mut memory[..relocations_len(relocations)];
+        Some(first_overlap(architecture, relocations, section, order))
     };
-    match write_values(
+    match write_values_of(
         architecture,
         addresses,
         relocations,

@@ -1,8 +1,9 @@
 // Made by tools/erase of crates/linker_section/src/values.rt.
 //! The value of a relocation, by what a linker knows of symbols and of the output.
 
+use crate::linker_section::codes::byte_of;
 use crate::linker_section::facts::{Addresses, Symbol};
-use crate::linker_section::needed::{Entry, EntryClass, class_of_kind, entry_of, loads_plt_word, may_use_stub};
+use crate::linker_section::needed::{Entry, EntryClass, class_of_kind, entry_by, loads_plt_word, may_use_stub};
 use crate::linker_section::relocations::{Rela, relocation_in, relocations_len};
 use crate::elf::{
     Architecture, Operands, RelocationInstruction, RelocationKind, RelocationKindInfo,
@@ -163,16 +164,24 @@ fn defined_or_weak(
     }
 }
 
+/// Whether a stub may serve as the target of a relocation, by the byte of its code. Only the contract
+/// uses `_info`.
+#[inline(always)]
+fn serves_stub(byte: u8, _info: &RelocationKindInfo) -> bool {
+    byte / 32 % 2 == 1
+}
+
 /// S, or the stub by which a branch goes.
 #[inline(always)]
 fn target_of(
     architecture: Architecture,
     addresses: &Addresses,
+    byte: u8,
     info: &RelocationKindInfo,
     symbol: &Symbol,
     place: u64,
 ) -> u64 {
-    if may_use_stub(info.size, info.kind) && symbol.stub != 0 {
+    if serves_stub(byte, info) && symbol.stub != 0 {
         symbol.stub
     } else {
         defined_or_weak(architecture, addresses, info, symbol, place)
@@ -184,13 +193,14 @@ fn target_of(
 fn operands_with(
     architecture: Architecture,
     addresses: &Addresses,
+    byte: u8,
     info: &RelocationKindInfo,
     symbol: &Symbol,
     relocation: &Rela,
     entry: u64,
 ) -> Operands {
     let place = addresses.section.wrapping_add(relocation.offset);
-    let target = target_of(architecture, addresses, info, symbol, place);
+    let target = target_of(architecture, addresses, byte, info, symbol, place);
     let loads = loads_plt_word(info.size, info.kind);
     Operands {
         symbol: if is_of_got(architecture, relocation.code) {
@@ -208,10 +218,16 @@ fn operands_with(
     }
 }
 
-/// The entry that a relocation of a symbol requires.
+/// The entry that a relocation of a symbol requires, by the byte of its code. Only the contract uses
+/// `_info`.
 #[inline(always)]
-fn required(info: &RelocationKindInfo, relocation: &Rela, symbol: &Symbol) -> Option<Entry> {
-    entry_of(info, relocation.addend, symbol.is_thread_local)
+fn required(
+    byte: u8,
+    _info: &RelocationKindInfo,
+    relocation: &Rela,
+    symbol: &Symbol,
+) -> Option<Entry> {
+    entry_by(byte, relocation.addend, symbol.is_thread_local)
 }
 
 /// The same, where there may be no such entry.
@@ -219,13 +235,22 @@ fn required(info: &RelocationKindInfo, relocation: &Rela, symbol: &Symbol) -> Op
 fn operands_by(
     architecture: Architecture,
     addresses: &Addresses,
+    byte: u8,
     info: &RelocationKindInfo,
     relocation: &Rela,
     symbol: &Symbol,
     entry: Option<u64>,
 ) -> Result<Operands, ValueError> {
     match entry {
-        Some(entry) => Ok(operands_with(architecture, addresses, info, symbol, relocation, entry)),
+        Some(entry) => Ok(operands_with(
+            architecture,
+            addresses,
+            byte,
+            info,
+            symbol,
+            relocation,
+            entry,
+        )),
         None => Err(ValueError::NoEntry),
     }
 }
@@ -236,14 +261,23 @@ fn operands_of(
     architecture: Architecture,
     addresses: &Addresses,
     symbols: &[Symbol],
+    byte: u8,
     info: &RelocationKindInfo,
     relocation: &Rela,
 ) -> Result<Operands, ValueError> {
     let Some(symbol) = symbols.get(relocation.symbol as usize) else {
         return Err(ValueError::NoSymbol);
     };
-    let entry = entry_address(addresses, symbol, required(info, relocation, symbol));
-    operands_by(architecture, addresses, info, relocation, symbol, entry)
+    let entry = entry_address(addresses, symbol, required(byte, info, relocation, symbol));
+    operands_by(
+        architecture,
+        addresses,
+        byte,
+        info,
+        relocation,
+        symbol,
+        entry,
+    )
 }
 
 /// Whether a relocation of a kind has a value.
@@ -261,13 +295,14 @@ fn own_value(
     architecture: Architecture,
     addresses: &Addresses,
     symbols: &[Symbol],
+    byte: u8,
     info: &RelocationKindInfo,
     relocation: &Rela,
 ) -> Result<Option<i64>, ValueError> {
     if !has_value(info.kind) {
         return Ok(None);
     }
-    match operands_of(architecture, addresses, symbols, info, relocation) {
+    match operands_of(architecture, addresses, symbols, byte, info, relocation) {
         Ok(operands) => Ok(info.value(&operands)),
         Err(error) => Err(error),
     }
@@ -393,7 +428,8 @@ fn low_value(
     let Some((relocation, high)) = high else {
         return Err(ValueError::NoHighPart);
     };
-    match operands_of(architecture, addresses, symbols, &high, &relocation) {
+    let byte = byte_of(architecture, relocation.code);
+    match operands_of(architecture, addresses, symbols, byte, &high, &relocation) {
         Ok(operands) => Ok(info.value(&low_operands(&high, operands))),
         Err(error) => Err(error),
     }
@@ -406,11 +442,12 @@ pub(crate) fn value_of(
     addresses: &Addresses,
     relocations: &[u8],
     symbols: &[Symbol],
+    byte: u8,
     info: &RelocationKindInfo,
     relocation: &Rela,
 ) -> Result<Option<i64>, ValueError> {
     if !names_label(info.size, info.kind) {
-        return own_value(architecture, addresses, symbols, info, relocation);
+        return own_value(architecture, addresses, symbols, byte, info, relocation);
     }
     let Some(label) = symbols.get(relocation.symbol as usize) else {
         return Err(ValueError::NoSymbol);
@@ -468,6 +505,7 @@ pub fn value(
             addresses,
             relocations,
             symbols,
+            byte_of(architecture, relocation.code),
             &row.info(),
             relocation,
         ),

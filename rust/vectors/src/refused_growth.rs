@@ -5,10 +5,10 @@
 
 use crate::support::*;
 use crate::rows::expect_eq;
-use linker_utils::runs::items::Relocation;
+use linker_utils::runs::items::{Relocation, section_items};
+use linker_utils::runs::packing::Machine;
 use linker_utils::runs::relaxation::{Item, Site, are_items, relax};
 use linker_utils::runs::shapes::riscv64::CALL as CALL_SHAPES;
-use linker_utils::runs::{loongarch64, riscv64};
 use linker_utils::relaxation::{
     OutOfMemory, PackError, RelaxDeltaMap, SectionRelaxDeltas, calls_apart, calls_shrinkable,
     pack_section, shrink_calls,
@@ -321,11 +321,12 @@ pub(crate) const NOPS: [Relocation; 1] = [Relocation {
 
 #[test]
 fn refused_items_are_made_when_tried_again() -> Result<(), Fail> {
-    let calls = riscv64::items(&CALL, 0, &MARKED_CALL);
-    let calls = calls.or_else(|_| riscv64::items(&CALL, 0, &MARKED_CALL))?;
-    assert_eq!(calls.as_slice(), [call_at(0)].as_slice());
-    let nops = loongarch64::items(&[0; 12], 0, &NOPS);
-    let nops = nops.or_else(|_| loongarch64::items(&[0; 12], 0, &NOPS))?;
-    assert_eq!(nops.len(), 1);
+    let calls = section_items(Machine::RiscV64, &CALL, 0, &MARKED_CALL);
+    let calls = calls.or_else(|_| section_items(Machine::RiscV64, &CALL, 0, &MARKED_CALL))?;
+    assert_eq!(calls.items.as_slice(), [call_at(0)].as_slice());
+    assert_eq!(calls.makers.as_slice(), [0].as_slice());
+    let nops = section_items(Machine::LoongArch64, &[0; 12], 0, &NOPS);
+    let nops = nops.or_else(|_| section_items(Machine::LoongArch64, &[0; 12], 0, &NOPS))?;
+    assert_eq!(nops.items.len(), 1);
     Ok(())
 }

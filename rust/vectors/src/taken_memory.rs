@@ -5,8 +5,9 @@
 use crate::support::*;
 use crate::refused_growth::{MARKED_CALL, NOPS, many_calls};
 use crate::rows::expect_eq;
+use linker_utils::runs::items::section_items;
+use linker_utils::runs::packing::Machine;
 use linker_utils::runs::relaxation::{are_items, relax};
-use linker_utils::runs::{loongarch64, riscv64};
 use linker_utils::relaxation::{
     RelaxDeltaMap, SectionRelaxDeltas, calls_apart, calls_shrinkable, pack_section, shrink_calls,
 };
@@ -79,7 +80,7 @@ fn maps_and_their_copies_take_4() -> Result<(), Fail> {
     Ok(())
 }
 
-// what each returns
+// both vectors of what each returns
 #[test]
 fn packing_and_choosing_take_2() -> Result<(), Fail> {
     let none = SectionRelaxDeltas::new(&[])?;
@@ -110,13 +111,13 @@ fn runs_take_14() -> Result<(), Fail> {
     Ok(())
 }
 
-// what each returns
+// both vectors of what each returns
 #[test]
-fn items_of_relocations_take_2() -> Result<(), Fail> {
+fn items_of_relocations_take_4() -> Result<(), Fail> {
     let call = [0x97, 0, 0, 0, 0xe7, 0x80, 0, 0];
-    let calls = riscv64::items(&call, 0, &MARKED_CALL)?;
-    assert_eq!(calls.len(), 1);
-    let nops = loongarch64::items(&[0; 12], 0, &NOPS)?;
-    assert_eq!(nops.len(), 1);
+    let calls = section_items(Machine::RiscV64, &call, 0, &MARKED_CALL)?;
+    assert_eq!(calls.items.len(), 1);
+    let nops = section_items(Machine::LoongArch64, &[0; 12], 0, &NOPS)?;
+    assert_eq!(nops.items.len(), 1);
     Ok(())
 }

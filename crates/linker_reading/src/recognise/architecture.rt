@@ -2,13 +2,16 @@
 
 ghost use Rattle.std.specs.Prelude.{◌≡◌, ◌≤◌, length, map};
 ghost use Rattle.linker_reading.specs.FoundByCode.{by_code, AreFound, IsFoundChosen};
+ghost use Rattle.linker_reading.specs.Windows.{IsWindowOf};
 ghost use Rattle.linker_utils.specs.Architectures.{of_some};
 
 use crate::recognise::engine::{self, CANDIDATES, Recognised, RecognisedName};
 use crate::recognise::fields::FieldBits;
+use crate::windows;
+pub use crate::windows::{Destination, destination_of};
 use linker_utils::aarch64::AArch64Relocation;
 use linker_utils::architecture::Relaxation;
-use linker_utils::elf::{Architecture, Choice, LinkFacts};
+use linker_utils::elf::{Architecture, Choice, LinkFacts, RewriteWindow};
 use linker_utils::loongarch64::LoongArch64Relocation;
 use linker_utils::ppc64::Ppc64Relocation;
 use linker_utils::riscv64::RiscVRelocation;
@@ -62,7 +65,8 @@ fn all_by_code<N: RecognisedName>(
 }
 
 /// Which rewrites, and relocations after them, a linker may have made at the relocation with a
-/// code, `r_type` in ELF files, as `recognise` of this crate says.
+/// code, `r_type` in ELF files, as `recognise` of this crate says. `window_of` returns the window
+/// that it wants, and `destination_of` the address that one of them leads to.
 ///
 /// ```
 /// use linker_reading::recognise::architecture::recognise;
@@ -112,5 +116,24 @@ pub fn recognise_chosen(
 {
     of_name!(architecture, code, name => {
         coded(engine::recognise_chosen(name, original, offset, others, linked, facts))
+    })
+}
+
+/// The window that `recognise` wants, in bytes of an object around the relocation with a code at an
+/// offset of them: the least one with the bytes of each choice of its table that is meant for what is
+/// there. They are those that the rewrite writes and deletes, and the field of the relocation after
+/// it. It begins `back` bytes before the offset. A choice whose bytes aren't all given isn't counted:
+/// give 16 before the offset and 48 from there on, or those that there are.
+pub fn window_of(
+    architecture: Architecture,
+    code: u32,
+    original: &[u8],
+    offset: u64,
+) -> RewriteWindow
+    requires { length original.now ≤ 64 }
+    ensures { IsWindowOf architecture code original.now offset result }
+{
+    of_name!(architecture, code, name => {
+        windows::least_window(&name.listed(original, offset), original, offset)
     })
 }

@@ -5,8 +5,7 @@ use Rattle.std.specs.Prelude.{nat_le, if◌then◌else◌, List}
 use Rattle.linker_elf.specs.Relocate.{window_len}
 use Rattle.linker_elf.specs.declared.elf.RelocationKind.{RelocationKind}
 use Rattle.linker_elf.specs.declared.elf.RelocationKindInfo.{RelocationKindInfo}
-use Rattle.linker_section.specs.Fields.{IsField, is_of_pair, continues, field_end, Overlap}
-use Rattle.linker_section.specs.Fields.{Composes}
+use Rattle.linker_section.specs.Fields.{IsField, is_of_pair, continues, field_end}
 use Rattle.linker_section.specs.Values.{offset_at}
 use Rattle.linker_section.specs.declared.fields.Field.{Field}
 use Rattle.linker_utils.specs.declared.elf.Architecture.{Architecture}
@@ -60,15 +59,3 @@ pub record AreClaimed (architecture : Architecture) (bytes section : List ℕ)
       → (field_end bytes section i row ≤ last.offset)
       ⊎ ((offset_at bytes i ≡ last.offset)
       × (field_end bytes section i row ≡ last.offset + last.len) × IsContinued row last)
-
--- two relocations compose if their fields overlap
-abbrev pub ComposeIfOverlap : Architecture → List ℕ → List ℕ → ℕ → ℕ → Type 0
-ComposeIfOverlap architecture bytes section i j =
-    (row other : RelocationKindInfo) → IsField architecture bytes section i row
-    → IsField architecture bytes section j other → Overlap bytes section i row j other
-    → Composes bytes i row j other
-
--- a relocation with those below an index
-abbrev pub IsClear : Architecture → List ℕ → List ℕ → ℕ → ℕ → Type 0
-IsClear architecture bytes section k j =
-    (i : ℕ) → i < k → ComposeIfOverlap architecture bytes section i j

@@ -3,9 +3,11 @@
 
 use crate::linker_reading::recognise::engine::{self, CANDIDATES, Recognised, RecognisedName};
 use crate::linker_reading::recognise::fields::FieldBits;
+use crate::linker_reading::windows;
+pub use crate::linker_reading::windows::{Destination, destination_of};
 use crate::aarch64::AArch64Relocation;
 use crate::architecture::Relaxation;
-use crate::elf::{Architecture, Choice, LinkFacts};
+use crate::elf::{Architecture, Choice, LinkFacts, RewriteWindow};
 use crate::loongarch64::LoongArch64Relocation;
 use crate::ppc64::Ppc64Relocation;
 use crate::riscv64::RiscVRelocation;
@@ -54,7 +56,8 @@ fn all_by_code<N: RecognisedName>(
 }
 
 /// Which rewrites, and relocations after them, a linker may have made at the relocation with a
-/// code, `r_type` in ELF files, as `recognise` of this crate says.
+/// code, `r_type` in ELF files, as `recognise` of this crate says. `window_of` returns the window
+/// that it wants, and `destination_of` the address that one of them leads to.
 ///
 /// ```
 /// use linker_utils::recognise::architecture::recognise;
@@ -111,5 +114,28 @@ pub fn recognise_chosen(
     debug_assert!(original.len() <= 64);
     of_name!(architecture, code, name => {
         coded(engine::recognise_chosen(name, original, offset, others, linked, facts))
+    })
+}
+
+/// The window that `recognise` wants, in bytes of an object around the relocation with a code at an
+/// offset of them: the least one with the bytes of each choice of its table that is meant for what is
+/// there. They are those that the rewrite writes and deletes, and the field of the relocation after
+/// it. It begins `back` bytes before the offset. A choice whose bytes aren't all given isn't counted:
+/// give 16 before the offset and 48 from there on, or those that there are.
+///
+/// # Requires
+///
+/// - `original.len() <= 64`
+#[must_use]
+#[cfg_attr(debug_assertions, track_caller)]
+pub fn window_of(
+    architecture: Architecture,
+    code: u32,
+    original: &[u8],
+    offset: u64,
+) -> RewriteWindow {
+    debug_assert!(original.len() <= 64);
+    of_name!(architecture, code, name => {
+        windows::least_window(&name.listed(original, offset), original, offset)
     })
 }

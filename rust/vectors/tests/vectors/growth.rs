@@ -14,11 +14,16 @@ use linker_utils::relaxation::{
     calls_apart, calls_shrinkable, first_invalid, first_not_apart, first_not_shrinkable,
     pack_section, shrink_calls,
 };
-use linker_utils::runs::items::Relocation;
+use linker_utils::rewriting::{
+    Decision, KeptGroups, OutputFacts, SymbolFacts, rewrite_section, survey,
+};
+use linker_utils::runs::items::{Relocation, first_malformed, section_items};
 use linker_utils::runs::packing::{Machine, pack_run, packed_run_len};
 use linker_utils::runs::relaxation::{Item, are_items, deletions, first_faulty, relax};
 use linker_utils::runs::shapes::riscv64::CALL;
-use linker_utils::runs::{loongarch64, riscv64};
+use linker_utils::section::{
+    Addresses, Rela, RelocationError, SectionError, Symbol, memory_len, relocate_section,
+};
 use std::cell::Cell;
 use std::hint::black_box;
 
@@ -353,18 +358,21 @@ fn expect_sections(count: usize) {
         (LOONGARCH_CALL.repeat(count), all)
     };
     expect_growth("items of RISC-V", count, of_riscv, |(section, relocations)| {
-        assert_eq!(riscv64::first_malformed(&section, &relocations), None);
-        let items = riscv64::items(&section, 0, &relocations).expect("memory");
+        assert_eq!(first_malformed(Machine::RiscV64, &section, &relocations), None);
+        let items =
+            section_items(Machine::RiscV64, &section, 0, &relocations).expect("memory").items;
         assert_eq!(items.len(), section.len() / 8);
     });
     expect_growth("items of LoongArch", count, of_loongarch, |(section, relocations)| {
-        assert_eq!(loongarch64::first_malformed(&section, &relocations), None);
-        let items = loongarch64::items(&section, 0, &relocations).expect("memory");
+        assert_eq!(first_malformed(Machine::LoongArch64, &section, &relocations), None);
+        let items =
+            section_items(Machine::LoongArch64, &section, 0, &relocations).expect("memory").items;
         assert_eq!(items.len(), section.len() / 8);
     });
     let to_pack = |count: usize| {
         let (section, relocations) = of_riscv(count);
-        let items = riscv64::items(&section, 0, &relocations).expect("memory");
+        let items =
+            section_items(Machine::RiscV64, &section, 0, &relocations).expect("memory").items;
         let plan = relax(&items, 0).expect("memory");
         let deltas = deletions(&items, 0, &plan.kept).expect("memory");
         (section, items, deltas)
@@ -385,6 +393,131 @@ fn expect_sections(count: usize) {
     });
 }
 
+/// The bytes of a section of relocations.
+fn entries(relocations: impl Iterator<Item = Rela>) -> Vec<u8> {
+    let entry = |it: Rela| {
+        let info = u64::from(it.code) | u64::from(it.symbol) << 32;
+        [it.offset.to_le_bytes(), info.to_le_bytes(), it.addend.to_le_bytes()].concat()
+    };
+    relocations.flat_map(entry).collect()
+}
+
+/// A section's relocations of symbols, and its bytes.
+struct Relocated {
+    relocations: Vec<u8>,
+    symbols: Vec<Symbol>,
+    section: Vec<u8>,
+}
+
+/// RISC-V's low parts, each of a high part of its own, and all of one.
+fn relocated() -> [(&'static str, fn(usize) -> Relocated); 2] {
+    const AT: u64 = 0x10_0000;
+    fn symbol(address: u64) -> Symbol {
+        Symbol { address, ..Symbol::default() }
+    }
+    /// R_RISCV_PCREL_HI20 of symbol 1, and R_RISCV_PCREL_LO12_I of the label of the one at an offset.
+    fn high(offset: u64) -> Rela {
+        Rela { offset, code: 23, symbol: 1, addend: 0 }
+    }
+    fn low(offset: u64, label: u32) -> Rela {
+        Rela { offset, code: 24, symbol: label, addend: 0 }
+    }
+    /// auipc a0, 0; addi a0, a0, 0
+    const AUIPC: [u8; 4] = [0x17, 0x05, 0, 0];
+    const ADDI: [u8; 4] = [0x13, 0x05, 0x05, 0];
+    [
+        ("of pairs", |count| {
+            let pairs = (0..count as u64 / 2).map(|index| 8 * index);
+            let labels = pairs.clone().map(|offset| symbol(AT + offset));
+            let both = |offset| [high(offset), low(offset + 4, 2 + offset as u32 / 8)];
+            Relocated {
+                relocations: entries(pairs.flat_map(both)),
+                symbols: [symbol(0), symbol(AT)].into_iter().chain(labels).collect(),
+                section: [AUIPC, ADDI].concat().repeat(count / 2),
+            }
+        }),
+        ("of one high part", |count| {
+            let lows = (1..count as u64).map(|index| low(4 * index, 2));
+            Relocated {
+                relocations: entries([high(0)].into_iter().chain(lows)),
+                symbols: vec![symbol(0), symbol(AT), symbol(AT)],
+                section: [AUIPC].into_iter().chain(vec![ADDI; count - 1]).flatten().collect(),
+            }
+        }),
+    ]
+}
+
+fn expect_relocated(count: usize) {
+    for (name, made) in relocated() {
+        let name = format!("a section relocated, {name}");
+        expect_growth(&name, count, made, |mut it| {
+            let addresses = Addresses { section: 0x10_0000, ..Addresses::default() };
+            let mut memory = vec![0; memory_len(&it.relocations)];
+            relocate_section(
+                Architecture::RiscV,
+                &addresses,
+                &it.relocations,
+                &it.symbols,
+                &mut it.section,
+                &mut memory,
+            )
+            .expect("values");
+        });
+    }
+}
+
+/// Rewrites before addresses are known: all of one symbol, and each of its own.
+fn expect_rewritten(count: usize) {
+    // `call *f@GOTPCREL(%rip)`, with R_X86_64_GOTPCRELX
+    let call = |index: usize, symbol: u32| Rela {
+        offset: 6 * index as u64 + 2,
+        code: 41,
+        symbol,
+        addend: -4,
+    };
+    // `adrp` and `ldr`, with R_AARCH64_TLSIE_ADR_GOTTPREL_PAGE21 and
+    // R_AARCH64_TLSIE_LD64_GOTTPREL_LO12_NC
+    let page = |index: usize, symbol: u32| {
+        let (offset, code) = (4 * index as u64, 541 + index as u32 % 2);
+        Rela { offset, code, symbol: symbol / 2 * 2, addend: 0 }
+    };
+    let pair = [0x03, 0, 0, 0x90, 0x63, 0, 0x40, 0xf9];
+    type Made<'a> = (&'a str, Architecture, &'a dyn Fn(usize, u32) -> Rela, Vec<u8>);
+    let all: [Made; 2] = [
+        ("calls", Architecture::X86_64, &call, [0xff, 0x15, 0, 0, 0, 0].repeat(count)),
+        ("loads", Architecture::AArch64, &page, pair.repeat(count / 2)),
+    ];
+    for (name, architecture, relocation, section) in all {
+        for is_one in [true, false] {
+            let made = |count: usize| {
+                let symbol = |index: usize| if is_one { 0 } else { index as u32 };
+                entries((0..count).map(|index| relocation(index, symbol(index))))
+            };
+            let name = format!("rewrites of {name}, one symbol: {is_one}");
+            expect_growth(&name, count, made, |mut relocations| {
+                let count = relocations.len() / 24;
+                let output = OutputFacts { is_executable: true, is_fixed: true };
+                let facts = SymbolFacts { is_local: true, ..SymbolFacts::default() };
+                let (symbols, mut kept) = (vec![facts; count], vec![KeptGroups::default(); count]);
+                let mut section = section[..relocation(count, 0).offset as usize & !3].to_vec();
+                survey(architecture, &output, &symbols, &relocations, &section, &mut kept);
+                let mut decisions = vec![Decision::Kept; count];
+                rewrite_section(
+                    architecture,
+                    &output,
+                    &symbols,
+                    &kept,
+                    &mut relocations,
+                    &mut section,
+                    &mut decisions,
+                )
+                .expect("rewrites");
+                assert!(!decisions.contains(&Decision::Kept), "{name}");
+            });
+        }
+    }
+}
+
 /// The fields of other relocations may be many.
 fn expect_recognising(count: usize) {
     let others = |count: usize| -> Vec<FieldBits> {
@@ -399,6 +532,43 @@ fn expect_recognising(count: usize) {
             assert!(found.iter().flatten().count() > 0);
         }
     });
+}
+
+/// The bytes of relocations of x86-64, `R_X86_64_PC32` of symbol 1, at offsets.
+fn relocations(offsets: &[(u64, u32)]) -> Vec<u8> {
+    let words = |offset: u64| [offset, 2 | 1 << 32, 0];
+    offsets.iter().flat_map(|(offset, _)| words(*offset)).flat_map(u64::to_le_bytes).collect()
+}
+
+fn expect_relocating(count: usize) {
+    for (order, pairs) in ORDERS {
+        let given = |relocations: Vec<u8>, count: usize| {
+            let memory = vec![0; memory_len(&relocations)];
+            (relocations, vec![0; 8 * count + 8], memory)
+        };
+        let relocate = |relocations: &[u8], section: &mut [u8], memory: &mut [u64]| {
+            let symbols = [Symbol::default(); 2];
+            let of = Architecture::X86_64;
+            relocate_section(of, &Addresses::default(), relocations, &symbols, section, memory)
+        };
+        let apart = |count| given(relocations(&pairs(count)), count);
+        expect_growth(&format!("relocating, {order}"), count, apart, |it| {
+            let (relocations, mut section, mut memory) = it;
+            assert_eq!(relocate(&relocations, &mut section, &mut memory), Ok(()));
+        });
+        // the last overlaps the one before it
+        let overlapping = |count| {
+            let mut pairs = pairs(count);
+            pairs[count - 1].0 = pairs[count - 2].0 + 2;
+            given(relocations(&pairs), count)
+        };
+        expect_growth(&format!("refused relocating, {order}"), count, overlapping, |it| {
+            let (relocations, mut section, mut memory) = it;
+            let (index, error) = (memory.len() - 1, RelocationError::Overlaps);
+            let refused = relocate(&relocations, &mut section, &mut memory);
+            assert_eq!(refused, Err(SectionError { index, error }));
+        });
+    }
 }
 
 /// Calls to a few functions from code that is 1,000 times as long as they reach: a boundary every 16 KiB
@@ -439,6 +609,7 @@ fn expect_placements(count: usize) {
 
 fn expect_all(count: usize) {
     expect_placements(count);
+    expect_relocating(count);
     expect_merges(count);
     expect_merges_of_one(count);
     expect_deltas(count);
@@ -446,6 +617,8 @@ fn expect_all(count: usize) {
     expect_shrinking(count.min(100_000));
     expect_runs(count);
     expect_sections(count);
+    expect_relocated(count);
+    expect_rewritten(count);
     expect_recognising(count);
 }
 

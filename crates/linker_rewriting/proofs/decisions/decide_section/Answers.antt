@@ -1,7 +1,8 @@
 use Rattle.std.proofs.Common.{◌<◌, ◌+◌, ◌/◌, length, slice_set, sym, subst, arith, Some, None}
 use Rattle.std.specs.Prelude.{IfSome}
 use Rattle.linker_rewriting.proofs.Deciding.{AreDecidedTo, more_decided, not_surveyed, decided_after, overlapping, IsGrown}
-use Rattle.linker_rewriting.specs.Decisions.{CanBeMade, IsDecisionAfter, IsEndBehind, window_of}
+use Rattle.linker_rewriting.specs.Facts.{setting}
+use Rattle.linker_rewriting.specs.Decisions.{CanBeMade, IsDecisionAfter, IsEndBehind, start_by, end_by}
 use Rattle.linker_rewriting.proofs.decisions.decide_section.Goals as goal
 
 pub returns-in_default-clause-rejected : goal.returns-in_default-clause-rejected
@@ -13,8 +14,8 @@ returns-in_default-clause-rejected c =
     (let t = c.loop-index-test.true in let e = c.relocations_len-len.ensures in omega arith) in (
       less,
       c.loop-index.invariant.decided,
-      not_surveyed a.architecture a.output.now a.symbols.now a.kept.now a.relocations.now a.section.now k r c.loop-index.is_taken
-          (subst (IsDecisionAfter a.architecture a.output.now a.symbols.now a.kept.now a.relocations.now a.section.now k r c.loop-index.is_taken) c.in_default.is c.decide_after.ensures.decision)
+      not_surveyed (setting a.architecture a.phase a.output.now a.symbols.now a.addresses.now a.values.now) a.kept.now a.relocations.now a.section.now k r c.loop-index.is_taken
+          (subst (IsDecisionAfter (setting a.architecture a.phase a.output.now a.symbols.now a.addresses.now a.values.now) a.kept.now a.relocations.now a.section.now k r c.loop-index.is_taken) c.in_default.is c.decide_after.ensures.decision)
           c.relocation_in-relocation.ensures,
     )
 
@@ -27,11 +28,12 @@ returns-in_default-end_behind-clause-rejected c =
     (let t = c.loop-index-test.true in let e = c.relocations_len-len.ensures in omega arith) in (
       less,
       c.loop-index.invariant.decided,
-      overlapping a.architecture a.output.now a.symbols.now a.kept.now a.relocations.now a.section.now c.loop-index.decisions c.loop-index.end k r c.loop-index.is_taken c.in-Some.decision
-          (subst (IsDecisionAfter a.architecture a.output.now a.symbols.now a.kept.now a.relocations.now a.section.now k r c.loop-index.is_taken) c.in-Some.is c.decide_after.ensures.decision)
+      overlapping (setting a.architecture a.phase a.output.now a.symbols.now a.addresses.now a.values.now) a.kept.now a.relocations.now a.section.now c.loop-index.decisions c.loop-index.end k r c.loop-index.is_taken c.in-Some.decision
+          (subst (IsDecisionAfter (setting a.architecture a.phase a.output.now a.symbols.now a.addresses.now a.values.now) a.kept.now a.relocations.now a.section.now k r c.loop-index.is_taken) c.in-Some.is c.decide_after.ensures.decision)
           c.relocation_in-relocation.ensures
-          (subst (λ w. IsEndBehind w r.offset c.loop-index.end None) c.window.ensures
-          (subst (IsEndBehind c.window.result r.offset c.loop-index.end) c.in_default-end_behind.is c.end_behind.ensures))
+          (subst (λ x. IsEndBehind x (end_by c.in-Some.decision r.offset) c.loop-index.end None) c.start_by-start.ensures
+          (subst (λ y. IsEndBehind c.start_by-start.result y c.loop-index.end None) c.end_by-own.ensures
+          (subst (IsEndBehind c.start_by-start.result c.end_by-own.result c.loop-index.end) c.in_default-end_behind.is c.end_behind.ensures)))
           c.loop-index.invariant.ends,
     )
 
@@ -46,14 +48,15 @@ loop-index-preserved c =
     let within : k < length c.loop-index.decisions =
     (let t = c.loop-index-test.true in let e = c.relocations_len-len.ensures in let f = c.if-decisions-len.false in let l = c.loop-index.auto.decisions in omega arith) in
     let grow : IsGrown a.relocations.now k d c.loop-index.end end =
-    subst (λ y. IsEndBehind (window_of d) y.offset c.loop-index.end (Some end)) same
-    (subst (λ w. IsEndBehind w r.offset c.loop-index.end (Some end)) c.window.ensures
-    (subst (IsEndBehind c.window.result r.offset c.loop-index.end) c.in-Some-end_behind.is c.end_behind.ensures)) in
-    subst (λ t. AreDecidedTo a.architecture a.output.now a.symbols.now a.kept.now a.relocations.now a.section.now (slice_set c.loop-index.decisions k d) end t (k + 1)) (sym c.takes_next-is_taken.ensures)
-    (more_decided a.architecture a.output.now a.symbols.now a.kept.now a.relocations.now a.section.now c.loop-index.decisions c.loop-index.end end c.loop-index.is_taken k d
+    subst (λ x. IsEndBehind (start_by d x.offset) (end_by d x.offset) c.loop-index.end (Some end)) same
+    (subst (λ x. IsEndBehind x (end_by d r.offset) c.loop-index.end (Some end)) c.start_by-start.ensures
+    (subst (λ y. IsEndBehind c.start_by-start.result y c.loop-index.end (Some end)) c.end_by-own.ensures
+    (subst (IsEndBehind c.start_by-start.result c.end_by-own.result c.loop-index.end) c.in-Some-end_behind.is c.end_behind.ensures))) in
+    subst (λ t. AreDecidedTo (setting a.architecture a.phase a.output.now a.symbols.now a.addresses.now a.values.now) a.kept.now a.relocations.now a.section.now (slice_set c.loop-index.decisions k d) end t (k + 1)) (sym c.takes_next-is_taken.ensures)
+    (more_decided (setting a.architecture a.phase a.output.now a.symbols.now a.addresses.now a.values.now) a.kept.now a.relocations.now a.section.now c.loop-index.decisions c.loop-index.end end c.loop-index.is_taken k d
     c.loop-index.invariant within
-    (decided_after a.architecture a.output.now a.symbols.now a.kept.now a.relocations.now a.section.now k r c.loop-index.is_taken d
-    (subst (IsDecisionAfter a.architecture a.output.now a.symbols.now a.kept.now a.relocations.now a.section.now k r c.loop-index.is_taken) c.in-Some.is c.decide_after.ensures.decision) same)
+    (decided_after (setting a.architecture a.phase a.output.now a.symbols.now a.addresses.now a.values.now) a.kept.now a.relocations.now a.section.now k r c.loop-index.is_taken d
+    (subst (IsDecisionAfter (setting a.architecture a.phase a.output.now a.symbols.now a.addresses.now a.values.now) a.kept.now a.relocations.now a.section.now k r c.loop-index.is_taken) c.in-Some.is c.decide_after.ensures.decision) same)
     (subst (λ y. CanBeMade d a.section.now y.offset) same
     (subst (λ x. IfSome x (λ y. CanBeMade y a.section.now r.offset)) c.in-Some.is c.decide_after.ensures.made))
     grow)

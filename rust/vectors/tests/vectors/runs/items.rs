@@ -1,9 +1,10 @@
 //! Relocations and bytes as assemblers make them.
 
 use super::{aligned, site};
-use linker_utils::runs::items::{ItemsError, Relocation};
+use linker_utils::runs::items::{ItemsError, Relocation, section_items};
+use linker_utils::runs::packing::Machine::{self, LoongArch64, RiscV64};
 use linker_utils::runs::relaxation::{Item, are_items};
-use linker_utils::runs::{loongarch64, riscv64, shapes};
+use linker_utils::runs::shapes;
 
 fn relocation(offset: u64, code: u32, addend: i64, target: Option<u64>) -> Relocation {
     Relocation { offset, code, has_symbol: false, addend, target, may_compress: true }
@@ -14,10 +15,19 @@ fn of_symbol(offset: u64, code: u32, addend: i64) -> Relocation {
     Relocation { has_symbol: true, ..relocation(offset, code, addend, None) }
 }
 
-/// Requires these items of a RISC-V section.
-fn expect_riscv(section: &[u8], relocations: &[Relocation], expected: &[Item]) {
-    let items = riscv64::items(section, 0x100, relocations).unwrap();
-    assert_eq!(items, expected);
+/// Requires these items of a section at the offset 0x100 of the run, each of the relocation at its
+/// place.
+fn expect_items(
+    machine: Machine,
+    section: &[u8],
+    relocations: &[Relocation],
+    expected: &[Item],
+) {
+    let made = section_items(machine, section, 0x100, relocations).unwrap();
+    assert_eq!(made.items, expected);
+    for (item, &maker) in made.items.iter().zip(&made.makers) {
+        assert_eq!(item.offset(), 0x100 + relocations[maker].offset);
+    }
 }
 
 /// `call f`, `tail f`, `call t0, f` and the nops of `.p2align 4`, as GNU as and clang assemble
@@ -45,7 +55,7 @@ fn riscv_calls_and_alignments_are_items() {
         site(0x110, 0x900, shapes::riscv64::CALL),
         aligned(0x118, 14, 16, None),
     ];
-    expect_riscv(&RISC_V, &relocations, &expected);
+    expect_items(RiscV64, &RISC_V, &relocations, &expected);
 }
 
 #[test]
@@ -54,7 +64,7 @@ fn riscv_code_of_four_byte_instructions_has_no_short_ones() {
     let relocations = [call, relocation(8, 51, 0, None), relocation(24, 43, 12, None)];
     let expected =
         [site(0x108, 0x900, shapes::riscv64::CALL_WITHOUT_C), aligned(0x118, 12, 16, None)];
-    expect_riscv(&RISC_V, &relocations, &expected);
+    expect_items(RiscV64, &RISC_V, &relocations, &expected);
 }
 
 /// `tail f`, `.option norvc` and `.balign 16`: assemblers write 12 bytes of nops, for a multiple of 4.
@@ -65,7 +75,7 @@ fn riscv_calls_leave_the_next_alignment_its_nops() {
     let tail = [relocation(8, 19, 0, Some(0x900)), relocation(8, 51, 0, None)];
     let run = |addends: [i64; 2]| {
         let [first, second] = addends.map(|addend| relocation(24, 43, addend, None));
-        riscv64::items(&RISC_V, 0x100, &[tail[0], tail[1], first, second]).unwrap()
+        section_items(RiscV64, &RISC_V, 0x100, &[tail[0], tail[1], first, second]).unwrap().items
     };
     let (call, c_j) = (shapes::riscv64::CALL, shapes::riscv64::TAIL_C);
     assert_eq!(run([12, 14])[0], site(0x108, 0x900, call));
@@ -93,7 +103,7 @@ fn riscv_calls_that_stay_are_left_out() {
         relocation(4, 51, 0, None),
         relocation(24, 43, 0, None),
     ];
-    expect_riscv(&RISC_V, &relocations, &[]);
+    expect_items(RiscV64, &RISC_V, &relocations, &[]);
 }
 
 #[test]
@@ -107,7 +117,7 @@ fn malformed_riscv_relocations_are_named() {
     ];
     for &malformed in &rows {
         let relocations = [relocation(38, 51, 0, None), malformed];
-        let items = riscv64::items(&RISC_V, 0, &relocations);
+        let items = section_items(RiscV64, &RISC_V, 0, &relocations);
         assert_eq!(items.err(), Some(ItemsError::Malformed(1)), "{malformed:?}");
     }
 }
@@ -119,12 +129,6 @@ const LOONGARCH: [u8; 36] = [
     0x04, 0x00, 0x00, 0x1a, 0x84, 0x00, 0xc0, 0x02, 0x00, 0x00, 0x40, 0x03, 0x00, 0x00, 0x40, 0x03,
     0x00, 0x00, 0x40, 0x03,
 ];
-
-/// Requires these items of a LoongArch section.
-fn expect_loongarch(section: &[u8], relocations: &[Relocation], expected: &[Item]) {
-    let items = loongarch64::items(section, 0x100, relocations).unwrap();
-    assert_eq!(items, expected);
-}
 
 #[test]
 fn loongarch_calls_addresses_and_alignments_are_items() {
@@ -145,18 +149,18 @@ fn loongarch_calls_addresses_and_alignments_are_items() {
         site(0x110, 0x900, shapes::loongarch64::PCALA),
         aligned(0x118, 12, 16, None),
     ];
-    expect_loongarch(&LOONGARCH, &relocations, &expected);
+    expect_items(LoongArch64, &LOONGARCH, &relocations, &expected);
 }
 
 /// Without a site the units of a run are bytes, and code whose alignments need nops is still a run.
 #[test]
 fn alignments_alone_are_a_run() {
     let relocations = [relocation(24, 43, 14, None)];
-    let riscv = riscv64::items(&[0; 40], 0x100, &relocations).unwrap();
-    assert!(are_items(&riscv, 0));
+    let riscv = section_items(RiscV64, &[0; 40], 0x100, &relocations).unwrap();
+    assert!(are_items(&riscv.items, 0));
     let relocations = [relocation(24, 102, 12, None)];
-    let loongarch = loongarch64::items(&[0; 40], 0x100, &relocations).unwrap();
-    assert!(are_items(&loongarch, 0));
+    let loongarch = section_items(LoongArch64, &[0; 40], 0x100, &relocations).unwrap();
+    assert!(are_items(&loongarch.items, 0));
 }
 
 /// `.p2align 4` and `.p2align 4, , 4` in a section with a symbol: the exponent, and the most bytes
@@ -174,7 +178,7 @@ fn loongarch_alignments_have_two_spellings() {
         (of_symbol(24, 102, 0x1404), aligned(0x118, 12, 16, None)),
     ];
     for &(relocation, expected) in &rows {
-        expect_loongarch(&LOONGARCH, &[relocation], &[expected]);
+        expect_items(LoongArch64, &LOONGARCH, &[relocation], &[expected]);
     }
 }
 
@@ -190,11 +194,11 @@ fn loongarch_addresses_that_stay_are_left_out() {
         relocation(20, 72, 0, Some(0x900)),
         relocation(20, 100, 0, None),
     ];
-    expect_loongarch(&other_register, &relocations, &[]);
+    expect_items(LoongArch64, &other_register, &relocations, &[]);
     relocations[2].target = Some(0x904);
-    expect_loongarch(&LOONGARCH, &relocations, &[]);
+    expect_items(LoongArch64, &LOONGARCH, &relocations, &[]);
     relocations[2].target = Some(0x900);
-    expect_loongarch(&LOONGARCH, &relocations[..3], &[]);
+    expect_items(LoongArch64, &LOONGARCH, &relocations[..3], &[]);
 }
 
 #[test]
@@ -211,7 +215,7 @@ fn malformed_loongarch_relocations_are_named() {
     ];
     for &malformed in &rows {
         let relocations = [relocation(36, 100, 0, None), malformed];
-        let items = loongarch64::items(&LOONGARCH, 0, &relocations);
+        let items = section_items(LoongArch64, &LOONGARCH, 0, &relocations);
         assert_eq!(items.err(), Some(ItemsError::Malformed(1)), "{malformed:?}");
     }
 }

@@ -1,0 +1,275 @@
+//! Sections rewritten in one call, and surveyed before: relocations of 4 MiB, of which some are of
+//! groups; and stubs.
+
+use crate::inputs::Random;
+use crate::library::added;
+use crate::measure::{Beside, Report, Side};
+use crate::table::{AARCH64, PPC64, X86_64, name_of};
+use erased_crate::elf::Architecture;
+use erased_crate::{output, rewriting};
+use sathunne::raw::*;
+
+const LEN: usize = 4 << 20;
+/// From one sequence to the next.
+const STEP: usize = 40;
+const SYMBOLS: usize = 4096;
+/// An executable at a fixed address.
+const EXECUTABLE: (bool, bool) = (true, true);
+
+/// Instructions, and their relocations: each with its offset in them, and its code.
+type Sequence = (&'static [u8], &'static [(u64, u32)]);
+
+/// A load and a call by the GOT, a load of an offset from the thread pointer, and a call.
+const OF_X86_64: [Sequence; 4] = [
+    (&[0x48, 0x8b, 0x05, 0, 0, 0, 0], &[(3, 42)]),
+    (&[0xff, 0x15, 0, 0, 0, 0], &[(2, 41)]),
+    (&[0x48, 0x8b, 0x05, 0, 0, 0, 0], &[(3, 22)]),
+    (&[0xe8, 0, 0, 0, 0], &[(1, 4)]),
+];
+
+/// A load of an offset from the thread pointer, a call, and a load by a page's address.
+const OF_AARCH64: [Sequence; 3] = [
+    (&[0, 0, 0, 0x90, 0, 0, 0x40, 0xf9], &[(0, 541), (4, 542)]),
+    (&[0, 0, 0, 0x94], &[(0, 283)]),
+    (&[0, 0, 0, 0x90, 0, 0, 0x40, 0xf9], &[(0, 275), (4, 286)]),
+];
+
+/// A call, a load of an offset from the thread pointer with its use, and a load by the TOC pointer.
+const OF_PPC64: [Sequence; 3] = [
+    (&[1, 0, 0, 0x48, 0, 0, 0, 0x60], &[(0, 10)]),
+    (
+        &[0, 0, 0x22, 0x3d, 0, 0, 0x29, 0xe9, 0x14, 0x6a, 0x29, 0x7d],
+        &[(0, 90), (4, 88), (8, 67)],
+    ),
+    (&[0, 0, 0x62, 0x3c, 0, 0, 0x63, 0xe8], &[(0, 50), (4, 64)]),
+];
+
+/// A section with its relocations behind it, and what a linker knows of symbols.
+struct Input {
+    machine: u16,
+    bytes: Vec<u8>,
+    symbols: Vec<sathunne::SymbolFacts>,
+    kept: Vec<sathunne::KeptGroups>,
+}
+
+impl Input {
+    fn count(&self) -> usize {
+        (self.bytes.len() - LEN) / 24
+    }
+}
+
+fn input(random: &mut Random, machine: u16, sequences: &[Sequence]) -> Input {
+    let (mut bytes, mut relocations) = (vec![0; LEN], Vec::new());
+    for at in (0..LEN - STEP).step_by(STEP) {
+        let (code, listed) = *random.one_of(sequences);
+        bytes[at..at + code.len()].copy_from_slice(code);
+        let symbol = 1 + random.below(SYMBOLS as u128 - 1);
+        for (offset, r_type) in listed {
+            let addend = if machine == X86_64 { -4 } else { 0i64 };
+            relocations.extend((at as u64 + offset).to_le_bytes());
+            relocations.extend((u64::from(*r_type) | symbol << 32).to_le_bytes());
+            relocations.extend(addend.to_le_bytes());
+        }
+    }
+    bytes.extend(relocations);
+    let defined = sathunne::SymbolFacts {
+        is_local: true,
+        ..sathunne::SymbolFacts::default()
+    };
+    // one of eight is of another file, and its groups stay
+    let imported = sathunne::SymbolFacts::default();
+    let symbols: Vec<_> = (0..SYMBOLS)
+        .map(|at| if at % 8 == 0 { imported } else { defined })
+        .collect();
+    let mut kept = vec![sathunne::KeptGroups::default(); SYMBOLS];
+    let (section, relocations) = bytes.split_at(LEN);
+    let (is_executable, is_fixed) = EXECUTABLE;
+    let output = sathunne::OutputFacts {
+        is_executable,
+        is_fixed,
+    };
+    let architecture = crate::architecture(machine);
+    sathunne::survey(architecture, &output, &symbols, relocations, section, &mut kept);
+    Input {
+        machine,
+        bytes,
+        symbols,
+        kept,
+    }
+}
+
+/// The same symbols and groups for the crate.
+fn of_crate(input: &Input) -> (Vec<rewriting::SymbolFacts>, Vec<rewriting::KeptGroups>) {
+    let symbols = input.symbols.iter().map(|it| rewriting::SymbolFacts {
+        is_local: it.is_local,
+        ..rewriting::SymbolFacts::default()
+    });
+    let kept = input.kept.iter().map(|it| rewriting::KeptGroups {
+        initial_exec: it.initial_exec,
+        general_dynamic: it.general_dynamic,
+        local_dynamic: it.local_dynamic,
+        descriptor: it.descriptor,
+        got_load: it.got_load,
+    });
+    (symbols.collect(), kept.collect())
+}
+
+fn surveys(report: &mut Report, input: &Input) {
+    let (section, relocations) = input.bytes.split_at(LEN);
+    let (is_executable, is_fixed) = EXECUTABLE;
+    let output = sathunne::OutputFacts {
+        is_executable,
+        is_fixed,
+    };
+    let none = vec![sathunne::KeptGroups::default(); SYMBOLS];
+    let exports = Side::over(
+        none.clone(),
+        |kept: &mut Vec<_>| kept.fill(sathunne::KeptGroups::default()),
+        move |kept: &mut Vec<_>| {
+            // SAFETY: a slice's pointer and length are its own, and a reference is of one value.
+            let status = unsafe {
+                linker_utils_survey_nonnull(
+                    input.machine,
+                    &output,
+                    input.symbols.as_ptr(),
+                    input.symbols.len(),
+                    relocations.as_ptr(),
+                    relocations.len(),
+                    section.as_ptr(),
+                    section.len(),
+                    kept.as_mut_ptr(),
+                    kept.len(),
+                )
+            };
+            assert_eq!(status, 0);
+        },
+        |kept: &Vec<sathunne::KeptGroups>| kept.iter().filter(|it| it.initial_exec).count(),
+    );
+    let (symbols, _) = of_crate(input);
+    let architecture = Architecture::from_machine(input.machine).expect("an architecture");
+    let erased = Side::over(
+        vec![rewriting::KeptGroups::default(); SYMBOLS],
+        |kept: &mut Vec<_>| kept.fill(rewriting::KeptGroups::default()),
+        move |kept: &mut Vec<_>| {
+            let output = rewriting::OutputFacts {
+                is_executable,
+                is_fixed,
+            };
+            rewriting::survey(architecture, &output, &symbols, relocations, section, kept);
+        },
+        |kept: &Vec<rewriting::KeptGroups>| kept.iter().filter(|it| it.initial_exec).count(),
+    );
+    let name = format!("`linker_utils_survey`, {}", name_of(input.machine));
+    report.line(&name, input.count(), true, [Some(exports), None, Some(erased), None]);
+}
+
+/// Rounds that write to the input's bytes as they were at first.
+fn anew<'a>(input: &'a Input, mut round: impl FnMut(&mut [u8]) + 'a) -> Side<'a> {
+    Side::over(
+        input.bytes.clone(),
+        |bytes: &mut Vec<u8>| bytes.copy_from_slice(&input.bytes),
+        move |bytes: &mut Vec<u8>| round(bytes),
+        Vec::clone,
+    )
+}
+
+fn rewrites(report: &mut Report, input: &Input) {
+    let (is_executable, is_fixed) = EXECUTABLE;
+    let output = sathunne::OutputFacts {
+        is_executable,
+        is_fixed,
+    };
+    let mut decisions = vec![sathunne::raw::Decision::default(); input.count()];
+    let exports = anew(input, move |bytes| {
+        let (section, relocations) = bytes.split_at_mut(LEN);
+        // SAFETY: a slice's pointer and length are its own, and a reference is of one value.
+        let status = unsafe {
+            linker_utils_rewrite_section_nonnull(
+                input.machine,
+                &output,
+                input.symbols.as_ptr(),
+                input.symbols.len(),
+                input.kept.as_ptr(),
+                input.kept.len(),
+                relocations.as_mut_ptr(),
+                relocations.len(),
+                section.as_mut_ptr(),
+                section.len(),
+                decisions.as_mut_ptr(),
+                decisions.len(),
+                &mut 0,
+            )
+        };
+        assert_eq!(status, 0);
+    });
+    let (symbols, kept) = of_crate(input);
+    let architecture = Architecture::from_machine(input.machine).expect("an architecture");
+    let mut made = vec![rewriting::Decision::Kept; input.count()];
+    let erased = anew(input, move |bytes| {
+        let (section, relocations) = bytes.split_at_mut(LEN);
+        let output = rewriting::OutputFacts {
+            is_executable,
+            is_fixed,
+        };
+        let done = rewriting::rewrite_section(
+            architecture,
+            &output,
+            &symbols,
+            &kept,
+            relocations,
+            section,
+            &mut made,
+        );
+        assert_eq!(done, Ok(()));
+    });
+    let name = format!("`linker_utils_rewrite_section`, {}", name_of(input.machine));
+    report.line(&name, input.count(), true, [Some(exports), None, Some(erased), None]);
+}
+
+/// Stubs that go to words in reach.
+fn stubs(report: &mut Report, machine: u16) {
+    const COUNT: u64 = 1000;
+    let mut code = [0; 48];
+    let exports = Side::number(move || {
+        (0..COUNT).fold(0, |sum, at| {
+            let (place, target) = (0x1000_0000 + 64 * at, 0x1080_0000 + 8 * at);
+            // SAFETY: a slice's pointer and length are its own.
+            let status = unsafe {
+                linker_utils_write_stub_nonnull(machine, 0, place, target, code.as_mut_ptr(), 48)
+            };
+            assert_eq!(status, 0);
+            added(sum, u64::from(code[2]))
+        })
+    });
+    let architecture = Architecture::from_machine(machine).expect("an architecture");
+    let mut code = [0; 48];
+    let erased = Side::number(move || {
+        (0..COUNT).fold(0, |sum, at| {
+            let (place, target) = (0x1000_0000 + 64 * at, 0x1080_0000 + 8 * at);
+            let description = output::Target::of(architecture);
+            let kind = output::StubKind::Load;
+            description.write_stub(kind, place, target, &mut code).expect("it reaches");
+            added(sum, u64::from(code[2]))
+        })
+    });
+    let name = format!("`linker_utils_write_stub`, {}", name_of(machine));
+    report.line(&name, COUNT as usize, true, [Some(exports), None, Some(erased), None]);
+}
+
+pub fn rewriting(report: &mut Report) {
+    let random = &mut Random::new(23);
+    let inputs = [
+        input(random, X86_64, &OF_X86_64),
+        input(random, AARCH64, &OF_AARCH64),
+        input(random, PPC64, &OF_PPC64),
+    ];
+    report.heading("Sections of 4 MiB surveyed and rewritten, a relocation", Beside::Nothing);
+    for input in &inputs {
+        surveys(report, input);
+        rewrites(report, input);
+    }
+    report.heading("Stubs", Beside::Nothing);
+    for input in &inputs {
+        stubs(report, input.machine);
+    }
+}

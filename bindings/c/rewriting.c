@@ -1,0 +1,45 @@
+/* Rewriting: a load and a call of x86-64 code without the GOT, where this output defines their
+ * symbols. */
+#include <elf.h>
+#include <stdio.h>
+
+#include "linker_utils.h"
+
+int main(void) {
+    /* mov x@gottpoff(%rip), %rax; call *f@GOTPCREL(%rip). The symbols are `x` and `f`, which
+     * another file may define at first. */
+    const uint8_t code[13] = {0x48, 0x8b, 0x05, 0, 0, 0, 0, 0xff, 0x15, 0, 0, 0, 0};
+    const Elf64_Rela relas[2] = {{3, ELF64_R_INFO(UINT64_C(1), R_X86_64_GOTTPOFF), -4},
+                                 {9, ELF64_R_INFO(UINT64_C(2), R_X86_64_GOTPCRELX), -4}};
+    const struct linker_utils_output_facts output = {true, true};
+    const struct linker_utils_symbol_facts none = {false, false, false, false, false, 0};
+    struct linker_utils_symbol_facts symbols[3] = {none, none, none};
+    for (int step = 0; step < 2; step++) {
+        symbols[1].is_local = true;
+        symbols[2].is_local = step == 1;
+        uint8_t section[13];
+        Elf64_Rela given[2] = {relas[0], relas[1]};
+        for (int i = 0; i < 13; i++) section[i] = code[i];
+        struct linker_utils_kept_groups kept[3];
+        for (int i = 0; i < 3; i++) {
+            const struct linker_utils_kept_groups all = {false, false, false, false, false};
+            kept[i] = all;
+        }
+        if (linker_utils_survey(EM_X86_64, &output, symbols, 3, (const uint8_t *)given,
+                                sizeof given, section, sizeof section, kept, 3))
+            return 1;
+        struct linker_utils_decision decisions[2];
+        size_t faulty = 0;
+        uint32_t status = linker_utils_rewrite_section(
+            EM_X86_64, &output, symbols, 3, kept, 3, (uint8_t *)given, sizeof given, section,
+            sizeof section, decisions, 2, &faulty);
+        for (int i = 0; i < 13; i++) printf("%02x ", (unsigned)section[i]);
+        printf("%s\n", linker_utils_status_text(status));
+        for (int i = 0; i < 2; i++)
+            printf("%d: %s, %s\n", i,
+                   decisions[i].fate == LINKER_UTILS_FATE_REWRITTEN ? "rewritten" : "kept",
+                   ELF64_R_TYPE(given[i].r_info) == ELF64_R_TYPE(relas[i].r_info)
+                       ? "the same relocation" : "another relocation");
+    }
+    return 0;
+}

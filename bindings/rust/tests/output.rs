@@ -1,0 +1,113 @@
+//! What a linker adds to an output: numbers of `<elf.h>`, words as "ELF Handling For Thread-Local
+//! Storage" has them, and code of stubs as assemblers and ld.lld make it.
+
+use sathunne::*;
+
+const AARCH64: Architecture = Architecture::AArch64;
+const RISCV: Architecture = Architecture::RiscV;
+const LOONGARCH: Architecture = Architecture::LoongArch64;
+const PPC64: Architecture = Architecture::Ppc64;
+const X86_64: Architecture = Architecture::X86_64;
+
+#[test]
+fn dynamic_relocations_have_their_codes_and_names() {
+    let types = dynamic_types(X86_64);
+    assert_eq!((types.word, types.relative, types.copy), (1, 8, 5));
+    assert_eq!((types.glob_dat, types.jump_slot, types.irelative), (6, 7, 37));
+    assert_eq!((types.module_number, types.module_offset, types.thread_offset), (16, 17, 18));
+    assert_eq!(types.descriptor, 36);
+    assert_eq!(dynamic_types(PPC64).descriptor, 0);
+    assert_eq!(dynamic_name(X86_64, 8).as_deref(), Ok("R_X86_64_RELATIVE"));
+    assert_eq!(dynamic_name(LOONGARCH, 12).as_deref(), Ok("R_LARCH_IRELATIVE"));
+    assert_eq!(dynamic_name(LOONGARCH, 200), Err(Status::UnknownRelocation));
+    // a function that is imported, and a thread-local variable of the executable's own
+    let words = dynamic_words(AARCH64, EntryClass::Address, false, true);
+    assert_eq!(words, [Some(1025), None]);
+    assert_eq!(dynamic_words(AARCH64, EntryClass::ThreadOffset, true, true), [None; 2]);
+    let both = dynamic_words(AARCH64, EntryClass::ModuleOffset, false, false);
+    assert_eq!(both, [Some(1028), Some(1029)]);
+}
+
+#[test]
+fn entries_lead_to_their_symbols() {
+    // the image of 0x14 bytes, aligned to 8, as in variant II and variant I
+    let x86 = origins(X86_64, 0x40_1000, 0x14, 8);
+    assert_eq!((x86.thread_pointer, x86.module_block), (0x40_1018, 0x40_1000));
+    let ppc64 = origins(PPC64, 0x40_1000, 0x14, 8);
+    assert_eq!((ppc64.thread_pointer, ppc64.module_block), (0x40_8000, 0x40_9000));
+    let words = static_words(EntryClass::ThreadOffset, 0x40_1008, &x86);
+    assert_eq!(words, Ok([0_u64.wrapping_sub(16), 0]));
+    assert_eq!(static_words(EntryClass::Module, 0, &x86), Ok([1, 0]));
+    let none = static_words(EntryClass::Descriptor, 0, &x86);
+    assert_eq!(none, Err(Status::UnknownEntryClass));
+    assert_eq!(entry_words(EntryClass::Address), 1);
+    assert_eq!(entry_words(EntryClass::Descriptor), 2);
+    let header = Some(0x41_8000);
+    assert_eq!(got(PPC64, 0x41_0000, 0), Got { base: 0x41_8000, header });
+    assert_eq!(got(RISCV, 0x41_0000, 0x40_0000).header, Some(0x40_0000));
+    let base = 0x41_0000;
+    assert_eq!(got(X86_64, base, 0x40_0000), Got { base, header: None });
+}
+
+#[test]
+fn flags_are_joined_or_kept_apart() {
+    // EF_RISCV_RVC, and EF_RISCV_FLOAT_ABI_DOUBLE beside none
+    assert_eq!(join_flags(RISCV, 5, 4), Ok(5));
+    assert_eq!(join_flags(RISCV, 5, 1), Err(Status::DifferentFlags));
+    assert_eq!(join_flags(PPC64, 0, 2), Ok(2));
+    assert_eq!(join_flags(PPC64, 1, 1), Err(Status::DifferentFlags));
+    assert_eq!((output_flags(PPC64, 0), output_flags(RISCV, 5)), (2, 5));
+}
+
+#[test]
+fn code_and_pages_are_the_machines() {
+    assert_eq!((page(X86_64), page(AARCH64)), (0x1000, 0x1_0000));
+    assert_eq!((code_unit(RISCV, 5), code_unit(RISCV, 4), code_unit(X86_64, 0)), (2, 4, 1));
+    // `trap`
+    let trap = [4, 5, 6, 7].map(|offset| filler(PPC64, offset));
+    assert_eq!(u32::from_le_bytes(trap), 0x7fe0_0008);
+    assert_eq!(interpreter(X86_64, 0).as_deref(), Ok("/lib64/ld-linux-x86-64.so.2"));
+    assert_eq!(interpreter(RISCV, 5).as_deref(), Ok("/lib/ld-linux-riscv64-lp64d.so.1"));
+    assert_eq!(interpreter(RISCV, 6), Err(Status::NotProvided));
+}
+
+#[test]
+fn linkers_provide_symbols_and_functions() {
+    let symbols = provided_symbols(PPC64);
+    let toc = ProvidedSymbol {
+        name: ".TOC.".to_string(),
+        place: SymbolPlace::Got,
+        offset: 0x8000,
+    };
+    assert_eq!(symbols, [toc]);
+    assert_eq!(provided_symbols(X86_64)[0].place, SymbolPlace::ThreadLocal);
+    assert_eq!(provided_symbols(RISCV)[0].place, SymbolPlace::SmallData);
+    assert_eq!(provided_symbols(AARCH64), []);
+    // `_savegpr0_31`: std 31,-8(1); std 0,16(1); blr
+    let runs = provided_runs(PPC64);
+    let save = runs.iter().find(|run| run.prefix == "_savegpr0_").expect("it is there");
+    assert_eq!((save.first, save.count, save.words.len()), (14, 18, 20));
+    assert_eq!(save.words[17..], [0xfbe1_fff8, 0xf801_0010, 0x4e80_0020]);
+    assert_eq!(provided_runs(X86_64), []);
+}
+
+#[test]
+fn stubs_go_to_their_targets() {
+    // `jmp *word(%rip)`, and two of `int3`; a byte behind it is left
+    let mut code = [7; 9];
+    assert_eq!(write_stub(X86_64, StubKind::Load, 0x40_1000, 0x40_3010, &mut code), Ok(()));
+    assert_eq!(code, [0xff, 0x25, 0x0a, 0x20, 0, 0, 0xcc, 0xcc, 7]);
+    // pcaddu18i $t3, and jirl $zero, $t3, 0x40 forward
+    let mut code = [0; 8];
+    assert_eq!(write_stub(LOONGARCH, StubKind::Jump, 0x1000, 0x1040, &mut code), Ok(()));
+    assert_eq!(code, [0x0f, 0, 0, 0x1e, 0xe0, 0x41, 0, 0x4c]);
+    let (len, entry) = (36, 4);
+    assert_eq!(stub(PPC64, StubKind::Load), Ok(Stub { len, entry }));
+    // RISC-V's calls reach 2 GiB
+    assert_eq!(stub(RISCV, StubKind::Jump), Err(Status::UnknownStub));
+    let mut code = [7; 8];
+    let far = write_stub(X86_64, StubKind::Load, 0, 1 << 40, &mut code);
+    assert_eq!((far, code), (Err(Status::OutOfReach), [7; 8]));
+    let short = write_stub(X86_64, StubKind::Load, 0, 8, &mut code[..7]);
+    assert_eq!((short, code), (Err(Status::TooShort), [7; 8]));
+}

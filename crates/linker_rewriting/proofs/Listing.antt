@@ -1,0 +1,137 @@
+-- What decisions delete, listed one after the other.
+use Rattle.std.proofs.Common.{◌≡◌, ℕ, zero, suc, ◌+◌, ◌-◌, ◌≤◌, ◌<◌, ◌⊎◌, inl, inr, ◌∙◌, List, [], ◌∷◌, ◌++◌, length, take, get_or, ap, sym, subst, arith, refl, true, Option, None, Some, slice_set, append-nil}
+use Rattle.std.proofs.lemmas.Bool.{leb-true}
+use Rattle.std.proofs.lemmas.List.{length-append, length-take-le, get_or_default}
+use Rattle.linker_base.specs.declared.rewrite.DeletedBytes.{DeletedBytes}
+use Rattle.linker_rewriting.specs.Candidates.{deletes_within}
+use Rattle.linker_rewriting.specs.Decisions.{CanBeMade, AllCanBeMade, decision_at, deleted_of, deleted_end, deletion_by, deletions_by}
+use Rattle.linker_rewriting.specs.declared.decisions.Decision.{Decision}
+use Rattle.linker_rewriting.specs.declared.decisions.Decision.TheVariants.{Kept, Rewritten, TakenAlong}
+use Rattle.linker_section.specs.Relocations.{relocation_in}
+use Rattle.linker_utils.specs.Architectures.{relaxation_deleted}
+
+pub record AreListed (bytes : List ℕ) (decisions : List Decision) (old now : List (ℕ × ℕ))
+    (len k : ℕ) : Type 0 where
+  pub listed : take len now ≡ deletions_by bytes decisions k
+  pub within : len ≤ length now
+  pub same_len : length now ≡ length old
+
+pub none_listed : (bytes : List ℕ) (decisions : List Decision) (old : List (ℕ × ℕ))
+    → AreListed bytes decisions old old 0 0
+none_listed bytes decisions old =
+    record { listed = refl; within = omega arith; same_len = refl }
+
+deletions_next : (bytes : List ℕ) (decisions : List Decision) (k : ℕ)
+    → deletions_by bytes decisions (k + 1)
+    ≡ deletions_by bytes decisions k
+    ++ deletion_by (relocation_in bytes k).offset (deleted_of (decision_at decisions k))
+deletions_next bytes decisions k =
+    let e : suc k ≡ k + 1 = omega arith in
+    subst (λ n. deletions_by bytes decisions n ≡ deletions_by bytes decisions k ++ deletion_by (relocation_in bytes k).offset (deleted_of (decision_at decisions k))) e refl
+
+-- one that deletes nothing
+pub nothing_more : (bytes : List ℕ) (decisions : List Decision) (old now : List (ℕ × ℕ))
+    (len k : ℕ) → AreListed bytes decisions old now len k → deleted_of (decision_at decisions k) ≡ None
+    → AreListed bytes decisions old now len (k + 1)
+nothing_more bytes decisions old now len k are none =
+    record {
+      listed = are.listed ∙ (sym (append-nil (deletions_by bytes decisions k))
+          ∙ sym (deletions_next bytes decisions k
+          ∙ ap (λ d. deletions_by bytes decisions k ++ deletion_by (relocation_in bytes k).offset d) none));
+      within = are.within;
+      same_len = are.same_len;
+    }
+
+take_set : {A : Type 0} (xs : List A) (n : ℕ) (x : A) → n < length xs
+    → take (n + 1) (slice_set xs n x) ≡ take n xs ++ (x ∷ [])
+take_set [] n x less = absurd (omega arith)
+take_set (y ∷ ys) zero x less = refl
+take_set (y ∷ ys) (suc n) x less =
+    let e : suc (n + 1) ≡ suc n + 1 = omega arith in
+    subst (λ m. take m (y ∷ slice_set ys n x) ≡ y ∷ (take n ys ++ (x ∷ []))) e
+    (ap (λ t. y ∷ t) (take_set ys n x (omega arith)))
+
+length_set : {A : Type 0} (xs : List A) (n : ℕ) (x : A) → length (slice_set xs n x) ≡ length xs
+length_set [] n x = refl
+length_set (y ∷ ys) zero x = refl
+length_set (y ∷ ys) (suc n) x = ap suc (length_set ys n x)
+
+-- one more
+pub one_more : (bytes : List ℕ) (decisions : List Decision) (old now : List (ℕ × ℕ))
+    (len k : ℕ) (deleted : DeletedBytes) (offset : ℕ) → AreListed bytes decisions old now len k
+    → deleted_of (decision_at decisions k) ≡ Some deleted → len < length now
+    → offset ≡ (relocation_in bytes k).offset
+    → AreListed bytes decisions old (slice_set now len (offset + deleted.start, deleted.count))
+    (len + 1) (k + 1)
+one_more bytes decisions old now len k deleted offset are is less there =
+    let x : ℕ × ℕ = (offset + deleted.start, deleted.count) in
+    let set = length_set now len x in
+    record {
+      listed = take_set now len x less
+          ∙ (ap (λ l. l ++ (x ∷ [])) are.listed
+          ∙ (ap (λ o. deletions_by bytes decisions k ++ ((o + deleted.start, deleted.count) ∷ [])) there
+          ∙ sym (deletions_next bytes decisions k
+          ∙ ap (λ d. deletions_by bytes decisions k ++ deletion_by (relocation_in bytes k).offset d) is)));
+      within = omega (arith, set);
+      same_len = set ∙ are.same_len;
+    }
+
+last_or_before : (k m : ℕ) → k ≤ suc m → (k ≡ suc m) ⊎ (k ≤ m)
+last_or_before k m le = grind arith
+
+-- there are no fewer up to a later one
+deletions_grow : (bytes : List ℕ) (decisions : List Decision) (k m : ℕ) → k ≤ m
+    → length (deletions_by bytes decisions k) ≤ length (deletions_by bytes decisions m)
+deletions_grow bytes decisions k zero le =
+    let e : k ≡ 0 = omega arith in
+    subst (λ n. length (deletions_by bytes decisions n) ≤ 0) (sym e) (omega arith)
+deletions_grow bytes decisions k (suc m) le =
+    elim (last_or_before k m le) [
+      | inl same ↦ subst (λ n. length (deletions_by bytes decisions n) ≤ length (deletions_by bytes decisions (suc m))) (sym same) (omega arith)
+      | inr before ↦
+          let ih = deletions_grow bytes decisions k m before in
+          let more = length-append (deletions_by bytes decisions m) (deletion_by (relocation_in bytes m).offset (deleted_of (decision_at decisions m))) in
+          omega (arith, ih, more)
+    ]
+
+-- where there is no room for one more
+pub no_room : (bytes : List ℕ) (decisions : List Decision) (old now : List (ℕ × ℕ))
+    (len k limit : ℕ) (deleted : DeletedBytes) (x : Decision)
+    → AreListed bytes decisions old now len k
+    → length now ≤ len → k < limit → limit ≤ length decisions
+    → Some deleted ≡ deleted_of (get_or decisions k x)
+    → length old < length (deletions_by bytes decisions limit)
+no_room bytes decisions old now len k limit deleted x are full less enough is =
+    let there : deleted_of (decision_at decisions k) ≡ Some deleted =
+    sym (is ∙ ap deleted_of (get_or_default decisions k x Kept (omega arith))) in
+    let so_far : length (deletions_by bytes decisions k) ≡ len =
+    sym (ap length are.listed) ∙ length-take-le len now are.within in
+    let one = ap length (deletions_next bytes decisions k
+    ∙ ap (λ d. deletions_by bytes decisions k ++ deletion_by (relocation_in bytes k).offset d) there) in
+    let sum = length-append (deletions_by bytes decisions k) (((relocation_in bytes k).offset + deleted.start, deleted.count) ∷ []) in
+    let grow = deletions_grow bytes decisions (k + 1) limit (omega arith) in
+    let same = are.same_len in
+    let within = are.within in
+    omega (arith, one, sum, grow, same, within, so_far, full)
+
+-- ---- what is deleted is in the section
+
+end_fits : (section : List ℕ) (o max : ℕ) (deleted : Option DeletedBytes)
+    → deletes_within section o deleted ≡ true → length section ≤ max → deleted_end o deleted ≤ max
+end_fits section o max None within le = omega arith
+end_fits section o max (Some deleted) within le =
+    let e : o + (deleted.start + deleted.count) ≤ length section = leb-true (o + (deleted.start + deleted.count)) (length section) within in
+    omega (arith, e)
+
+one_fits : (d : Decision) (section : List ℕ) (o max : ℕ) → CanBeMade d section o
+    → length section ≤ max → deleted_end o (deleted_of d) ≤ max
+one_fits Kept section o max can le = omega arith
+one_fits TakenAlong section o max can le = omega arith
+one_fits (Rewritten chosen) section o max can le =
+    end_fits section o max (relaxation_deleted chosen.kind) (can.1) le
+
+pub all_fit : (bytes section : List ℕ) (decisions : List Decision) (limit max : ℕ)
+    → AllCanBeMade bytes section decisions limit → length section ≤ max → (n : ℕ) → n < limit
+    → deleted_end (relocation_in bytes n).offset (deleted_of (decision_at decisions n)) ≤ max
+all_fit bytes section decisions limit max can le n less =
+    one_fits (decision_at decisions n) section (relocation_in bytes n).offset max (can n less) le

@@ -1,0 +1,378 @@
+-- What a code, a choice and a candidate are is one thing.
+use Rattle.std.proofs.Common.{◌≡◌, ℕ, refl, sym, ap, subst, ◌∙◌, List, [], ◌∷◌, Option, Some, None, Bool, true, false, ◌⊎◌, inl, inr, slice_get, ◌&&◌, ◌==◌, ◌+◌, zero, suc, is_some, not}
+use Rattle.linker_elf.specs.AArch64Relocations.{aarch64_name}
+use Rattle.linker_elf.specs.Choices.{Entry, IsFirst, choice}
+use Rattle.linker_elf.specs.ElfNames.{ElfName, named, unnamed, IsNamed, IsNameOf, code_of}
+use Rattle.linker_elf.specs.LoongArchRelocations.{loongarch_name}
+use Rattle.linker_elf.specs.Ppc64Relocations.{ppc64_name}
+use Rattle.linker_elf.specs.RiscVRelocations.{riscv_name}
+use Rattle.linker_elf.specs.X86Relocations.{x86_64_name}
+use Rattle.linker_elf.specs.declared.aarch64.relocations.AArch64Relocation.{AArch64Relocation}
+use Rattle.linker_elf.specs.declared.aarch64.relocations.AArch64Relocation.TheVariants as aarch64_names
+use Rattle.linker_elf.specs.declared.loongarch64.relocations.LoongArch64Relocation.{LoongArch64Relocation}
+use Rattle.linker_elf.specs.declared.loongarch64.relocations.LoongArch64Relocation.TheVariants as loongarch64_names
+use Rattle.linker_elf.specs.declared.ppc64.relocations.Ppc64Relocation.{Ppc64Relocation}
+use Rattle.linker_elf.specs.declared.ppc64.relocations.Ppc64Relocation.TheVariants as ppc64_names
+use Rattle.linker_elf.specs.declared.riscv64.relocations.RiscVRelocation.{RiscVRelocation}
+use Rattle.linker_elf.specs.declared.riscv64.relocations.RiscVRelocation.TheVariants as riscv64_names
+use Rattle.linker_elf.specs.declared.x86_64.relocations.X86_64Relocation.{X86_64Relocation}
+use Rattle.linker_elf.specs.declared.x86_64.relocations.X86_64Relocation.TheVariants as x86_64_names
+use Rattle.linker_aarch64.specs.AArch64Rewrites.{IsAArch64Choice}
+use Rattle.linker_aarch64.specs.declared.rewrites.RelaxationKind.{RelaxationKind as AArch64Kind}
+use Rattle.linker_aarch64.specs.declared.rewrites.RelaxationKind.TheVariants as aarch64_kinds
+use Rattle.linker_elf.specs.declared.elf.choice.Choice.{Choice}
+use Rattle.linker_elf.specs.declared.elf.choice.LinkFacts.{LinkFacts}
+use Rattle.linker_loongarch64.specs.LoongArchRewrites.{IsLoongArchChoice}
+use Rattle.linker_loongarch64.specs.declared.rewrites.RelaxationKind.{RelaxationKind as LoongArchKind}
+use Rattle.linker_loongarch64.specs.declared.rewrites.RelaxationKind.TheVariants as loongarch64_kinds
+use Rattle.linker_ppc64.specs.Ppc64Rewrites.{IsPpc64Choice, ppc64_may_be_skipped}
+use Rattle.linker_ppc64.specs.declared.rewrites.RelaxationKind.{RelaxationKind as Ppc64Kind}
+use Rattle.linker_ppc64.specs.declared.rewrites.RelaxationKind.TheVariants as ppc64_kinds
+use Rattle.linker_riscv64.specs.RiscVRewrites.{IsRiscVChoice, riscv_may_be_skipped}
+use Rattle.linker_riscv64.specs.declared.rewrites.RelaxationKind.{RelaxationKind as RiscVKind}
+use Rattle.linker_riscv64.specs.declared.rewrites.RelaxationKind.TheVariants as riscv64_kinds
+use Rattle.linker_x86_64.specs.X86Rewrites.{IsX86Choice, x86_64_may_be_skipped}
+use Rattle.linker_x86_64.specs.declared.rewrites.RelaxationKind.{RelaxationKind as X86Kind}
+use Rattle.linker_x86_64.specs.declared.rewrites.RelaxationKind.TheVariants as x86_64_kinds
+use Rattle.linker_utils.specs.Architectures.{IsArchitectureChoice, IsChosenBy, IsSkippable, IsUnchanged, relaxation_skipped, relaxation_deleted}
+use Rattle.linker_utils.specs.declared.architecture.Relaxation.{Relaxation}
+use Rattle.linker_utils.specs.declared.architecture.Relaxation.TheVariants as relaxations
+use Rattle.linker_rewriting.specs.Candidates.{IsCallIn, IsTaken, IsCandidate, IsCandidateBy, IsCandidateWith, IsMatched, at_base, calls_tls_get_addr, deletes_within}
+use Rattle.linker_rewriting.specs.Facts.{Setting, link_facts}
+use Rattle.linker_rewriting.specs.Sequences.{IsWhole, place_in, place_in_load, is_whole_at, is_load_at, is_marked_at}
+use Rattle.linker_rewriting.specs.declared.facts.SymbolFacts.{SymbolFacts}
+use Rattle.linker_section.specs.Relocations.{relocation_at, relocation_in}
+use Rattle.linker_section.specs.declared.relocations.Rela.{Rela}
+use Rattle.linker_rewriting.specs.Surveys.{IsMarked, IsUnmarkedBy, IsUnmarkedIn}
+use Rattle.linker_rewriting.specs.Groups.{is_mark, aarch64_scope_in, riscv_scope_in, loongarch_scope_in, ppc64_scope_in, x86_64_scope_in, IsScopeIn}
+use Rattle.linker_rewriting.specs.declared.groups.Scope.{Scope}
+use Rattle.linker_rewriting.specs.declared.groups.Scope.TheVariants.{Unlisted}
+use Rattle.linker_rewriting.specs.declared.phases.Phase.{Phase}
+use Rattle.linker_rewriting.specs.declared.phases.Phase.TheVariants as phases
+use Rattle.linker_utils.specs.Architectures.{IsOf}
+use Rattle.linker_utils.specs.declared.elf.Architecture.{Architecture}
+use Rattle.linker_utils.specs.declared.elf.Architecture.TheVariants.{AArch64, RiscV, LoongArch64, Ppc64, X86_64}
+
+-- ---- one name
+
+is_named_or_not : (elf : ElfName) → IsNamed elf ⊎ (IsNamed elf → ⊥)
+is_named_or_not (named code text) = inl tt
+is_named_or_not (unnamed code) = inr (λ is. is)
+
+-- two names of a code are the same, or have no text
+abbrev AreOfOne : {Name : Type 0} → (Name → ElfName) → Name → Name → Type 0
+AreOfOne elf a b = (b ≡ a) ⊎ ((IsNamed (elf a) → ⊥) × (IsNamed (elf b) → ⊥))
+
+one_name : {Name : Type 0} (elf : Name → ElfName) (code : ℕ) (a b : Name) → IsNameOf elf code a
+    → IsNameOf elf code b → AreOfOne elf a b
+one_name elf code a b is_a is_b =
+    elim (is_named_or_not (elf a)) [
+      | inl is ↦ inl (is_b.named a is is_a.code_is)
+      | inr isnt ↦ elim (is_named_or_not (elf b)) [
+        | inl is ↦ inl (sym (is_a.named b is is_b.code_is))
+        | inr other ↦ inr (isnt, other)
+      ]
+    ]
+
+of_one : {Name A : Type 0} (elf : Name → ElfName) (value_of : Name → A) (none : A) (code : ℕ)
+    (x y : A) → ((name : Name) → (IsNamed (elf name) → ⊥) → value_of name ≡ none)
+    → IsOf elf value_of code x → IsOf elf value_of code y → x ≡ y
+of_one elf value_of none code x y nothing a b =
+    elim (one_name elf code a.name b.name a.is_name b.is_name) [
+      | inl same ↦ a.value_is ∙ (sym (ap value_of same) ∙ sym b.value_is)
+      | inr isnt ↦ a.value_is ∙ (nothing a.name (isnt.0) ∙ (sym (nothing b.name (isnt.1)) ∙ sym b.value_is))
+    ]
+
+-- ---- names without a text have no scope
+
+aarch64_unlisted : (phase : Phase) (name : AArch64Relocation) → (IsNamed (aarch64_name name) → ⊥) → aarch64_scope_in phase name ≡ Unlisted
+aarch64_unlisted phases.Early (aarch64_names.Other code) isnt = refl
+aarch64_unlisted phases.ThreadOffsets (aarch64_names.Other code) isnt = refl
+aarch64_unlisted phases.GotLoads (aarch64_names.Other code) isnt = refl
+aarch64_unlisted phases.Distances (aarch64_names.Other code) isnt = refl
+aarch64_unlisted phase _ isnt = absurd (isnt tt)
+
+riscv64_unlisted : (phase : Phase) (name : RiscVRelocation) → (IsNamed (riscv_name name) → ⊥) → riscv_scope_in phase name ≡ Unlisted
+riscv64_unlisted phases.Early (riscv64_names.Other code) isnt = refl
+riscv64_unlisted phases.ThreadOffsets (riscv64_names.Other code) isnt = refl
+riscv64_unlisted phases.GotLoads (riscv64_names.Other code) isnt = refl
+riscv64_unlisted phases.Distances (riscv64_names.Other code) isnt = refl
+riscv64_unlisted phase _ isnt = absurd (isnt tt)
+
+loongarch64_unlisted : (phase : Phase) (name : LoongArch64Relocation) → (IsNamed (loongarch_name name) → ⊥) → loongarch_scope_in phase name ≡ Unlisted
+loongarch64_unlisted phases.Early (loongarch64_names.Other code) isnt = refl
+loongarch64_unlisted phases.ThreadOffsets (loongarch64_names.Other code) isnt = refl
+loongarch64_unlisted phases.GotLoads (loongarch64_names.Other code) isnt = refl
+loongarch64_unlisted phases.Distances (loongarch64_names.Other code) isnt = refl
+loongarch64_unlisted phase _ isnt = absurd (isnt tt)
+
+ppc64_unlisted : (phase : Phase) (name : Ppc64Relocation) → (IsNamed (ppc64_name name) → ⊥) → ppc64_scope_in phase name ≡ Unlisted
+ppc64_unlisted phases.Early (ppc64_names.Other code) isnt = refl
+ppc64_unlisted phases.ThreadOffsets (ppc64_names.Other code) isnt = refl
+ppc64_unlisted phases.GotLoads (ppc64_names.Other code) isnt = refl
+ppc64_unlisted phases.Distances (ppc64_names.Other code) isnt = refl
+ppc64_unlisted phase _ isnt = absurd (isnt tt)
+
+x86_64_unlisted : (phase : Phase) (name : X86_64Relocation) → (IsNamed (x86_64_name name) → ⊥) → x86_64_scope_in phase name ≡ Unlisted
+x86_64_unlisted phases.Early (x86_64_names.Other code) isnt = refl
+x86_64_unlisted phases.ThreadOffsets (x86_64_names.Other code) isnt = refl
+x86_64_unlisted phases.GotLoads (x86_64_names.Other code) isnt = refl
+x86_64_unlisted phases.Distances (x86_64_names.Other code) isnt = refl
+x86_64_unlisted phase _ isnt = absurd (isnt tt)
+
+pub one_scope : (architecture : Architecture) (phase : Phase) (code : ℕ) (x y : Scope)
+    → IsScopeIn architecture phase code x → IsScopeIn architecture phase code y → x ≡ y
+one_scope AArch64 phase code x y = of_one aarch64_name (aarch64_scope_in phase) Unlisted code x y (aarch64_unlisted phase)
+one_scope RiscV phase code x y = of_one riscv_name (riscv_scope_in phase) Unlisted code x y (riscv64_unlisted phase)
+one_scope LoongArch64 phase code x y = of_one loongarch_name (loongarch_scope_in phase) Unlisted code x y (loongarch64_unlisted phase)
+one_scope Ppc64 phase code x y = of_one ppc64_name (ppc64_scope_in phase) Unlisted code x y (ppc64_unlisted phase)
+one_scope X86_64 phase code x y = of_one x86_64_name (x86_64_scope_in phase) Unlisted code x y (x86_64_unlisted phase)
+
+-- ---- one choice
+
+first_one : {K R : Type 0} (A : Entry K R → Type 0) (es : List (Entry K R)) (o x y : Choice K R)
+    → IsFirst A es o x → IsFirst A es o y → x ≡ y
+first_one A [] o x y a b = a ∙ sym b
+first_one A (e ∷ es) o x y (inl a) (inl b) = a.1 ∙ sym (b.1)
+first_one A (e ∷ es) o x y (inl a) (inr b) = absurd (b.0 (a.0))
+first_one A (e ∷ es) o x y (inr a) (inl b) = absurd (a.0 (b.0))
+first_one A (e ∷ es) o x y (inr a) (inr b) = first_one A es o x y (a.1) (b.1)
+
+same_choice : (x y : Choice Relaxation ℕ) → x.kind ≡ y.kind → x.relocation ≡ y.relocation → x ≡ y
+same_choice x y kind code =
+    ap (λ k. choice k x.relocation) kind ∙ ap (choice y.kind) code
+
+of_name : {Kind Name : Type 0} (elf : Name → ElfName) (relaxation : Kind → Relaxation)
+    (IsChoice : Name → Choice Kind Name → Type 0) (code : ℕ) (x y : Choice Relaxation ℕ)
+    → ((name : Name) (p q : Choice Kind Name) → IsChoice name p → IsChoice name q → p ≡ q)
+    → (a : IsChosenBy elf relaxation IsChoice code x) → (b : IsChosenBy elf relaxation IsChoice code y)
+    → b.name ≡ a.name → x ≡ y
+of_name elf relaxation IsChoice code x y one a b same =
+    let both = one a.name a.named b.named a.is_choice (subst (λ n. IsChoice n b.named) same b.is_choice) in
+    same_choice x y
+    (a.kind_is ∙ (ap (λ p. relaxation p.kind) both ∙ sym b.kind_is))
+    (a.code_is ∙ (ap (λ p. code_of (elf p.relocation)) both ∙ sym b.code_is))
+
+-- of a code without a name the choice changes nothing
+of_none : {Kind Name : Type 0} (elf : Name → ElfName) (relaxation : Kind → Relaxation)
+    (IsChoice : Name → Choice Kind Name → Type 0) (none : Kind) (code : ℕ) (x : Choice Relaxation ℕ)
+    → ((name : Name) (p : Choice Kind Name) → (IsNamed (elf name) → ⊥) → IsChoice name p → p ≡ choice none name)
+    → (a : IsChosenBy elf relaxation IsChoice code x) → (IsNamed (elf a.name) → ⊥)
+    → x ≡ choice (relaxation none) code
+of_none elf relaxation IsChoice none code x nothing a isnt =
+    let is = nothing a.name a.named isnt a.is_choice in
+    same_choice x (choice (relaxation none) code)
+    (a.kind_is ∙ ap (λ p. relaxation p.kind) is)
+    (a.code_is ∙ (ap (λ p. code_of (elf p.relocation)) is ∙ a.is_name.code_is))
+
+by_name : {Kind Name : Type 0} (elf : Name → ElfName) (relaxation : Kind → Relaxation)
+    (IsChoice : Name → Choice Kind Name → Type 0) (none : Kind) (code : ℕ) (x y : Choice Relaxation ℕ)
+    → ((name : Name) (p q : Choice Kind Name) → IsChoice name p → IsChoice name q → p ≡ q)
+    → ((name : Name) (p : Choice Kind Name) → (IsNamed (elf name) → ⊥) → IsChoice name p → p ≡ choice none name)
+    → IsChosenBy elf relaxation IsChoice code x → IsChosenBy elf relaxation IsChoice code y → x ≡ y
+by_name elf relaxation IsChoice none code x y one nothing a b =
+    elim (one_name elf code a.name b.name a.is_name b.is_name) [
+      | inl same ↦ of_name elf relaxation IsChoice code x y one a b same
+      | inr isnt ↦ of_none elf relaxation IsChoice none code x nothing a (isnt.0)
+          ∙ sym (of_none elf relaxation IsChoice none code y nothing b (isnt.1))
+    ]
+
+aarch64_nothing : (section : List ℕ) (o : ℕ) (facts : LinkFacts) (name : AArch64Relocation) (p : Choice AArch64Kind AArch64Relocation) → (IsNamed (aarch64_name name) → ⊥) → IsAArch64Choice name section o facts p → p ≡ choice aarch64_kinds.NoOp name
+aarch64_nothing section o facts (aarch64_names.Other code) p isnt is = is
+aarch64_nothing section o facts _ p isnt is = absurd (isnt tt)
+
+riscv64_nothing : (section : List ℕ) (o : ℕ) (facts : LinkFacts) (name : RiscVRelocation) (p : Choice RiscVKind RiscVRelocation) → (IsNamed (riscv_name name) → ⊥) → IsRiscVChoice name section o facts p → p ≡ choice riscv64_kinds.NoOp name
+riscv64_nothing section o facts (riscv64_names.Other code) p isnt is = is
+riscv64_nothing section o facts _ p isnt is = absurd (isnt tt)
+
+loongarch64_nothing : (section : List ℕ) (o : ℕ) (facts : LinkFacts) (name : LoongArch64Relocation) (p : Choice LoongArchKind LoongArch64Relocation) → (IsNamed (loongarch_name name) → ⊥) → IsLoongArchChoice name section o facts p → p ≡ choice loongarch64_kinds.NoOp name
+loongarch64_nothing section o facts (loongarch64_names.Other code) p isnt is = is
+loongarch64_nothing section o facts _ p isnt is = absurd (isnt tt)
+
+ppc64_nothing : (section : List ℕ) (o : ℕ) (facts : LinkFacts) (name : Ppc64Relocation) (p : Choice Ppc64Kind Ppc64Relocation) → (IsNamed (ppc64_name name) → ⊥) → IsPpc64Choice name section o facts p → p ≡ choice ppc64_kinds.NoOp name
+ppc64_nothing section o facts (ppc64_names.Other code) p isnt is = is
+ppc64_nothing section o facts _ p isnt is = absurd (isnt tt)
+
+x86_64_nothing : (section : List ℕ) (o : ℕ) (facts : LinkFacts) (name : X86_64Relocation) (p : Choice X86Kind X86_64Relocation) → (IsNamed (x86_64_name name) → ⊥) → IsX86Choice name section o facts p → p ≡ choice x86_64_kinds.NoOp name
+x86_64_nothing section o facts (x86_64_names.Other code) p isnt is = is
+x86_64_nothing section o facts _ p isnt is = absurd (isnt tt)
+
+pub one_choice : (architecture : Architecture) (code : ℕ) (section : List ℕ) (o : ℕ)
+    (facts : LinkFacts) (x y : Choice Relaxation ℕ)
+    → IsArchitectureChoice architecture code section o facts x
+    → IsArchitectureChoice architecture code section o facts y → x ≡ y
+one_choice AArch64 code section o facts x y =
+    by_name aarch64_name relaxations.AArch64 (λ name. IsAArch64Choice name section o facts) aarch64_kinds.NoOp code x y
+    (λ name p q. first_one _ _ _ p q) (aarch64_nothing section o facts)
+one_choice RiscV code section o facts x y =
+    by_name riscv_name relaxations.RiscV (λ name. IsRiscVChoice name section o facts) riscv64_kinds.NoOp code x y
+    (λ name p q. first_one _ _ _ p q) (riscv64_nothing section o facts)
+one_choice LoongArch64 code section o facts x y =
+    by_name loongarch_name relaxations.LoongArch64 (λ name. IsLoongArchChoice name section o facts) loongarch64_kinds.NoOp code x y
+    (λ name p q. first_one _ _ _ p q) (loongarch64_nothing section o facts)
+one_choice Ppc64 code section o facts x y =
+    by_name ppc64_name relaxations.Ppc64 (λ name. IsPpc64Choice name section o facts) ppc64_kinds.NoOp code x y
+    (λ name p q. first_one _ _ _ p q) (ppc64_nothing section o facts)
+one_choice X86_64 code section o facts x y =
+    by_name x86_64_name relaxations.X86_64 (λ name. IsX86Choice name section o facts) x86_64_kinds.NoOp code x y
+    (λ name p q. first_one _ _ _ p q) (x86_64_nothing section o facts)
+
+-- ---- one candidate
+
+riscv64_kept : (name : RiscVRelocation) → (IsNamed (riscv_name name) → ⊥) → riscv_may_be_skipped name ≡ false
+riscv64_kept (riscv64_names.Other code) isnt = refl
+riscv64_kept _ isnt = absurd (isnt tt)
+
+ppc64_kept : (name : Ppc64Relocation) → (IsNamed (ppc64_name name) → ⊥) → ppc64_may_be_skipped name ≡ false
+ppc64_kept (ppc64_names.Other code) isnt = refl
+ppc64_kept _ isnt = absurd (isnt tt)
+
+x86_64_kept : (name : X86_64Relocation) → (IsNamed (x86_64_name name) → ⊥) → x86_64_may_be_skipped name ≡ false
+x86_64_kept (x86_64_names.Other code) isnt = refl
+x86_64_kept _ isnt = absurd (isnt tt)
+
+one_skippable : (architecture : Architecture) (code : ℕ) (x y : Bool)
+    → IsSkippable architecture code x → IsSkippable architecture code y → x ≡ y
+one_skippable AArch64 code x y a b = a ∙ sym b
+one_skippable LoongArch64 code x y a b = a ∙ sym b
+one_skippable RiscV code x y a b = of_one riscv_name riscv_may_be_skipped false code x y riscv64_kept a b
+one_skippable Ppc64 code x y a b = of_one ppc64_name ppc64_may_be_skipped false code x y ppc64_kept a b
+one_skippable X86_64 code x y a b = of_one x86_64_name x86_64_may_be_skipped false code x y x86_64_kept a b
+
+one_call : (architecture : Architecture) (symbols : List SymbolFacts) (offset distance : ℕ)
+    (next : Option Rela) (x y : Bool) → IsCallIn architecture symbols offset distance next x
+    → IsCallIn architecture symbols offset distance next y → x ≡ y
+one_call architecture symbols offset distance None x y a b = a ∙ sym b
+one_call architecture symbols offset distance (Some next) x y a b =
+    a.2
+    ∙ (ap (λ z. (next.offset == offset + distance) && (z && calls_tls_get_addr (slice_get symbols next.symbol)))
+    (one_skippable architecture next.code (a.0) (b.0) (a.1) (b.1)) ∙ sym (b.2))
+
+one_taken : (architecture : Architecture) (symbols : List SymbolFacts) (bytes : List ℕ)
+    (n offset : ℕ) (skipped : Option ℕ) (x y : Bool)
+    → IsTaken architecture symbols bytes n offset skipped x
+    → IsTaken architecture symbols bytes n offset skipped y → x ≡ y
+one_taken architecture symbols bytes n offset None x y a b = a ∙ sym b
+one_taken architecture symbols bytes n offset (Some distance) x y a b =
+    one_call architecture symbols offset distance (relocation_at bytes (n + 1)) x y a b
+
+placeless : (name : AArch64Relocation) → (IsNamed (aarch64_name name) → ⊥) → place_in name ≡ None
+placeless (aarch64_names.Other code) isnt = refl
+placeless _ isnt = absurd (isnt tt)
+
+loadless : (name : LoongArch64Relocation) → (IsNamed (loongarch_name name) → ⊥) → place_in_load name ≡ None
+loadless (loongarch64_names.Other code) isnt = refl
+loadless _ isnt = absurd (isnt tt)
+
+one_whole : (architecture : Architecture) (bytes : List ℕ) (n : ℕ) (r : Rela) (x y : Bool)
+    → IsWhole architecture bytes n r x → IsWhole architecture bytes n r y → x ≡ y
+one_whole AArch64 bytes n r x y a b =
+    a.2 ∙ (ap (is_whole_at bytes n r) (of_one aarch64_name place_in None r.code (a.0) (b.0) placeless (a.1) (b.1)) ∙ sym (b.2))
+one_whole LoongArch64 bytes n r x y a b =
+    a.2 ∙ (ap (is_load_at bytes n r) (of_one loongarch_name place_in_load None r.code (a.0) (b.0) loadless (a.1) (b.1)) ∙ sym (b.2))
+one_whole RiscV bytes n r x y a b = a ∙ sym b
+one_whole Ppc64 bytes n r x y a b = a ∙ sym b
+one_whole X86_64 bytes n r x y a b = a ∙ sym b
+
+true_or_false : true ≡ false → ⊥
+true_or_false e = cc
+
+-- one that can be rewritten doesn't lack what another one lacks
+not_both : (architecture : Architecture) (symbols : List SymbolFacts) (bytes section : List ℕ)
+    (n : ℕ) (r : Rela) (facts : LinkFacts) (x : Choice Relaxation ℕ)
+    → IsCandidateBy architecture symbols bytes section n r facts (Some x)
+    → IsCandidateBy architecture symbols bytes section n r facts None → ⊥
+not_both architecture symbols bytes section n r facts x a b =
+    let same : b.0 ≡ x = one_choice architecture r.code section r.offset facts (b.0) x (b.1) (a.0) in
+    elim (b.2) [
+      | inl unchanged ↦ a.1 (subst (IsUnchanged r.code) same unchanged)
+      | inr lacks ↦ elim lacks [
+        | inl taken ↦ true_or_false
+            (one_taken architecture symbols bytes n r.offset (relaxation_skipped x.kind) true false (a.2)
+            (subst (λ z. IsTaken architecture symbols bytes n r.offset (relaxation_skipped z.kind) false) same taken))
+        | inr less ↦ elim less [
+          | inl whole ↦ true_or_false (one_whole architecture bytes n r true false (a.3) whole)
+          | inr deletes ↦ true_or_false
+              (sym (a.4) ∙ subst (λ z. deletes_within section r.offset (relaxation_deleted z.kind) ≡ false) same deletes)
+        ]
+      ]
+    ]
+
+not_both_with : (s : Setting) (bytes section : List ℕ) (n : ℕ) (r : Rela)
+    (facts : Option LinkFacts) (x : Choice Relaxation ℕ)
+    → IsCandidateWith s bytes section n r facts (Some x)
+    → IsCandidateWith s bytes section n r facts None → ⊥
+not_both_with s bytes section n r None x a b = let e : Some x ≡ None = a in cc
+not_both_with s bytes section n r (Some facts) x a b =
+    not_both s.architecture s.symbols bytes section n r facts x a b
+
+pub no_other : (s : Setting) (bytes section : List ℕ) (n : ℕ) (r : Rela)
+    (x : Choice Relaxation ℕ) → IsCandidate s bytes section n r (Some x)
+    → IsCandidate s bytes section n r None → ⊥
+no_other s bytes section n r x a b =
+    not_both_with s bytes section n r
+    (link_facts s.phase s.output s.symbols s.addresses s.values r r (is_marked_at s.architecture bytes n r))
+    x a b
+
+pub one_candidate_with : (s : Setting) (bytes section : List ℕ) (n : ℕ) (r : Rela)
+    (facts : Option LinkFacts) (x y : Option (Choice Relaxation ℕ))
+    → IsCandidateWith s bytes section n r facts x
+    → IsCandidateWith s bytes section n r facts y → x ≡ y
+one_candidate_with s bytes section n r None x y a b = a ∙ sym b
+one_candidate_with s bytes section n r (Some facts) None None a b = refl
+one_candidate_with s bytes section n r (Some facts) (Some x) None a b =
+    absurd (not_both s.architecture s.symbols bytes section n r facts x a b)
+one_candidate_with s bytes section n r (Some facts) None (Some y) a b =
+    absurd (not_both s.architecture s.symbols bytes section n r facts y b a)
+one_candidate_with s bytes section n r (Some facts) (Some x) (Some y) a b =
+    ap Some (one_choice s.architecture r.code section r.offset facts x y (a.0) (b.0))
+
+pub one_candidate : (s : Setting) (bytes section : List ℕ) (n : ℕ) (r : Rela)
+    (x y : Option (Choice Relaxation ℕ)) → IsCandidate s bytes section n r x
+    → IsCandidate s bytes section n r y → x ≡ y
+one_candidate s bytes section n r x y a b =
+    one_candidate_with s bytes section n r
+    (link_facts s.phase s.output s.symbols s.addresses s.values r r (is_marked_at s.architecture bytes n r))
+    x y a b
+
+pub one_matched : (s : Setting) (bytes section : List ℕ) (n : ℕ) (r : Rela) (x y : Bool)
+    → IsMatched s bytes section n r x → IsMatched s bytes section n r y → x ≡ y
+one_matched s bytes section n r x y a b =
+    a.2
+    ∙ (ap is_some (one_candidate_with s bytes section n r
+    (at_base (link_facts s.phase s.output s.symbols s.addresses s.values r r (is_marked_at s.architecture bytes n r)))
+    (a.0) (b.0) (a.1) (b.1)) ∙ sym (b.2))
+
+-- ---- marks of PowerPC64's calls
+
+markless : (name : Ppc64Relocation) → (IsNamed (ppc64_name name) → ⊥) → is_mark name ≡ false
+markless (ppc64_names.Other code) isnt = refl
+markless _ isnt = absurd (isnt tt)
+
+one_marked : (bytes : List ℕ) (n : ℕ) (r : Rela) (x y : Bool) → IsMarked bytes n r x
+    → IsMarked bytes n r y → x ≡ y
+one_marked bytes zero r x y a b = a ∙ sym b
+one_marked bytes (suc n) r x y a b =
+    a.2
+    ∙ (ap (λ z. z && (relocation_in bytes n).offset == r.offset)
+    (of_one ppc64_name is_mark false (relocation_in bytes n).code (a.0) (b.0) markless (a.1) (b.1)) ∙ sym (b.2))
+
+one_unmarked_by : (calls : Bool) (bytes : List ℕ) (n : ℕ) (r : Rela) (x y : Bool)
+    → IsUnmarkedBy calls bytes n r x → IsUnmarkedBy calls bytes n r y → x ≡ y
+one_unmarked_by false bytes n r x y a b = a ∙ sym b
+one_unmarked_by true bytes n r x y a b =
+    a.2 ∙ (ap not (one_marked bytes n r (a.0) (b.0) (a.1) (b.1)) ∙ sym (b.2))
+
+pub one_unmarked : (phase : Phase) (architecture : Architecture) (symbols : List SymbolFacts)
+    (bytes : List ℕ) (n : ℕ) (r : Rela) (x y : Bool)
+    → IsUnmarkedIn phase architecture symbols bytes n r x
+    → IsUnmarkedIn phase architecture symbols bytes n r y → x ≡ y
+one_unmarked phases.Early Ppc64 symbols bytes n r x y a b =
+    one_unmarked_by (calls_tls_get_addr (slice_get symbols r.symbol)) bytes n r x y a b
+one_unmarked phases.Early AArch64 symbols bytes n r x y a b = a ∙ sym b
+one_unmarked phases.Early RiscV symbols bytes n r x y a b = a ∙ sym b
+one_unmarked phases.Early LoongArch64 symbols bytes n r x y a b = a ∙ sym b
+one_unmarked phases.Early X86_64 symbols bytes n r x y a b = a ∙ sym b
+one_unmarked phases.ThreadOffsets architecture symbols bytes n r x y a b = a ∙ sym b
+one_unmarked phases.GotLoads architecture symbols bytes n r x y a b = a ∙ sym b
+one_unmarked phases.Distances architecture symbols bytes n r x y a b = a ∙ sym b

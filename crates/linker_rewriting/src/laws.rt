@@ -1,0 +1,27 @@
+//! Laws of surveys and of sections that are rewritten by them. The functions do nothing.
+
+ghost use Rattle.linker_rewriting.specs.Decisions.{DecisionsFollow};
+ghost use Rattle.linker_rewriting.specs.Rewritten.{GroupsAreWholeAcross};
+ghost use Rattle.linker_rewriting.specs.Surveys.{NotesStay, SurveysCommute};
+
+/// What is noted of one section of an object is still noted when the others have been surveyed, so that
+/// the clause `surveyed` of `rewrite_section` holds of each.
+pub fn notes_stay()
+    ensures { NotesStay }
+{}
+
+/// The order in which sections are surveyed doesn't matter: the same groups stay.
+pub fn surveys_commute()
+    ensures { SurveysCommute }
+{}
+
+/// All that is decided of a section follows from which groups stay, and from nothing else of the table.
+pub fn decisions_follow()
+    ensures { DecisionsFollow }
+{}
+
+/// Of a group all relocations of an object that no other takes along are rewritten, or none is, in
+/// whichever of its sections they are: these are decided by one table.
+pub fn groups_are_whole_across()
+    ensures { GroupsAreWholeAcross }
+{}

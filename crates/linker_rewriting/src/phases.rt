@@ -1,0 +1,14 @@
+//! When rewrites are made.
+
+/// When a rewrite is made: what a linker has to know before.
+#[derive(Debug, Clone, Copy, PartialEq, Eq)]
+pub enum Phase {
+    /// Before addresses are known.
+    Early,
+    /// Once offsets from the thread pointer are known. Bytes may be deleted.
+    ThreadOffsets,
+    /// Once addresses are known: loads of an address from the GOT become its computation.
+    GotLoads,
+    /// After these: addresses that an instruction reaches alone.
+    Distances,
+}

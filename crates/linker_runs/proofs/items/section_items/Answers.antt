@@ -1,0 +1,31 @@
+use Rattle.std.proofs.Common.{ℕ, List, ◌∙◌, ap, map, arith, subst, inl}
+use Rattle.std.specs.Prelude.{MatchOption}
+use Rattle.linker_runs.specs.declared.relaxation.Item.{Item}
+use Rattle.linker_runs.specs.declared.items.Relocation.{Relocation}
+use Rattle.linker_runs.specs.SectionItems.{Makes}
+use Rattle.linker_runs.proofs.Alignments.{ahead_on}
+use Rattle.linker_runs.proofs.Made.{made_none, made_less, made_more}
+use Rattle.linker_runs.proofs.items.section_items.Goals as goal
+use Rattle.linker_runs.proofs.items.section_items.Goals.{in-Some-item_at+in_ok-push+in_ok-push-2, in_default-item_at}
+
+pub loop-index-init : goal.loop-index-init
+loop-index-init g c = record { made = made_none _ _ _ c.new-items.ensures.items c.new-makers.ensures.items; next = inl (omega arith) }
+
+pub loop-index-preserved : goal.loop-index-preserved
+loop-index-preserved g c =
+    let rs : List Relocation = map g.R.AsRelocation.relocation c.args.relocations.now in
+    let makes : ℕ → Item → Type 0 = Makes c.args.machine c.args.section.now c.args.base rs in
+    let i = c.loop-index.index in
+    let before = c.loop-index.invariant.made in
+    record {
+      made = elim c.match-item_at.branch [
+        | in-Some-item_at+in_ok-push+in_ok-push-2 w ↦
+            made_more makes i _ c.match-item_at.items.items _ c.match-item_at.makers.items w.in-Some-item_at.item before (ap (λ v. v.items) w.items-is ∙ w.in_ok-push.ensures.items)
+            (ap (λ v. v.items) w.makers-is ∙ w.in_ok-push-2.ensures.items)
+            (subst (λ made. MatchOption made ((item : Item) → ¬ makes i item) (makes i)) w.in-Some-item_at.is c.item_at.ensures)
+        | in_default-item_at w ↦
+            let less = made_less makes i _ _ before (subst (λ made. MatchOption made ((item : Item) → ¬ makes i item) (makes i)) w.in_default-item_at.is c.item_at.ensures) in
+            rw (w.items-is, w.makers-is) less
+      ];
+      next = ahead_on c.args.machine rs i c.ahead-next.result c.ahead-next.ensures;
+    }

@@ -1,0 +1,14 @@
+use Rattle.std.specs.Prelude.{map}
+use Rattle.linker_runs.specs.Inner.Ahead.{MayBeAhead}
+use Rattle.linker_runs.specs.Relocations.{AreMade}
+use Rattle.linker_runs.specs.SectionItems.{Makes}
+use Rattle.linker_runs.proofs.items.section_items.Given as goal
+
+-- the items so far are those of the relocations so far
+abbrev pub invariant-loop-index : goal.invariant-loop-index
+invariant-loop-index g l =
+    let rs = map g.R.AsRelocation.relocation l.relocations in
+    record {
+      made : AreMade (Makes l.machine l.section l.base rs) l.index l.items.items l.makers.items;
+      next : MayBeAhead l.machine rs l.index l.next;
+    }

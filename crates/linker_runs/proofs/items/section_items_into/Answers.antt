@@ -1,0 +1,38 @@
+use Rattle.std.proofs.Common.{ℕ, inl, List, map, arith, subst, sym}
+use Rattle.std.specs.Prelude.{MatchOption}
+use Rattle.linker_runs.specs.declared.relaxation.Item.{Item}
+use Rattle.linker_runs.specs.declared.items.Relocation.{Relocation}
+use Rattle.linker_runs.specs.SectionItems.{Makes}
+use Rattle.linker_runs.proofs.Alignments.{ahead_on}
+use Rattle.linker_runs.proofs.Made.{put_none, put_less, put_more}
+use Rattle.linker_runs.proofs.items.section_items_into.Goals as goal
+use Rattle.linker_runs.proofs.items.section_items_into.Goals.{in-Some-item_at, in_default-item_at}
+
+pub loop-index-init : goal.loop-index-init
+loop-index-init g c = record { put = put_none g.I.AsItem.item g.I.AsItem.is_written _ c.args.out.now c.args.makers.now; next = inl (omega arith) }
+
+pub loop-index-preserved : goal.loop-index-preserved
+loop-index-preserved g c =
+    let rs : List Relocation = map g.R.AsRelocation.relocation c.args.relocations.now in
+    let makes : ℕ → Item → Type 0 = Makes c.args.machine c.args.section.now c.args.base rs in
+    let f = g.I.AsItem.item in
+    let form = g.I.AsItem.is_written in
+    let i = c.loop-index.index in
+    let n = c.loop-index.count in
+    let before = c.args.out.now in
+    let known = c.args.makers.now in
+    let put = c.loop-index.invariant.put in
+    record {
+      put = elim c.match-item_at.branch [
+        | in-Some-item_at w ↦
+            let made : makes i w.in-Some-item_at.item = subst (λ made. MatchOption made ((item : Item) → ¬ makes i item) (makes i)) w.in-Some-item_at.is c.item_at.ensures in
+            let is : makes i (f w.from_item.result) = subst (makes i) (sym w.from_item.ensures.item) made in
+            let more = put_more f form makes i n c.loop-index.out before c.loop-index.makers known w.from_item.result put (omega (arith, put.few, put.room)) (omega (arith, put.few, put.makers_room)) is w.from_item.ensures.form in
+            rw (w.count-is, w.out-is, w.makers-is) more
+        | in_default-item_at w ↦
+            let not : (item : Item) → ¬ makes i item = subst (λ made. MatchOption made ((item : Item) → ¬ makes i item) (makes i)) w.in_default-item_at.is c.item_at.ensures in
+            let less = put_less f form makes i n c.loop-index.out before c.loop-index.makers known put not in
+            rw (w.count-is, w.out-is, w.makers-is) less
+      ];
+      next = ahead_on c.args.machine rs i c.ahead-next.result c.ahead-next.ensures;
+    }

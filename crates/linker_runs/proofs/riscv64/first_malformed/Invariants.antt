@@ -1,7 +1,0 @@
-use Rattle.std.proofs.Common.{map}
-use Rattle.linker_runs.specs.Relocations.{AreWellFormed}
-use Rattle.linker_runs.specs.RiscVItems.{IsRiscVFormed}
-use Rattle.linker_runs.proofs.riscv64.first_malformed.Given as goal
-
-abbrev pub invariant-loop-index : goal.invariant-loop-index
-invariant-loop-index g l = AreWellFormed (IsRiscVFormed l.section) (map g.R.AsRelocation.relocation l.relocations) l.index

@@ -1,0 +1,14 @@
+-- What a walk through relocations knows of those behind the one where it stands.
+use Rattle.std.specs.Prelude.{ℕ, ◌≤◌, ◌⊎◌, List, ⊤}
+use Rattle.linker_runs.specs.RiscVItems.{IsNextAlignment}
+use Rattle.linker_runs.specs.declared.items.Relocation.{Relocation}
+use Rattle.linker_runs.specs.declared.packing.Machine.{Machine}
+use Rattle.linker_runs.specs.declared.packing.Machine.TheVariants.{RiscV64, LoongArch64}
+
+abbrev pub IsAhead : Machine → List Relocation → ℕ → ℕ → Type 0
+IsAhead RiscV64 relocations i known = IsNextAlignment relocations i known
+IsAhead LoongArch64 relocations i known = ⊤
+
+-- of RISC-V it may also be what the walk has passed
+abbrev pub MayBeAhead : Machine → List Relocation → ℕ → ℕ → Type 0
+MayBeAhead machine relocations i known = (known ≤ i) ⊎ IsAhead machine relocations i known

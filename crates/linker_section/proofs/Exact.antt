@@ -1,0 +1,398 @@
+-- Where relocations ascend, a section that can be written has no fault: each relocation has one value.
+use Rattle.std.proofs.Common.{◌≡◌, ℕ, ℤ, ◌+◌, ◌/◌, ◌<◌, ◌≤◌, ◌⊎◌, ◌^◌, List, length, drop, Bool, true, false, true≢false, ltb, refl, sym, ap, subst, ◌∙◌, inl, inr, arith, Option, Some, None, Ok, Err, Result}
+use Rattle.std.proofs.lemmas.Bool.{cases_eq, cases_lt, cases_Bool, and_parts, or_left, cond-true, cond-false, le-ltb, lt-ltb}
+use Rattle.std.specs.Prelude.{slice_get, slice_index, ◌||◌}
+use Rattle.linker_base.specs.Uleb.{Uleb, IsUlebCause}
+use Rattle.linker_base.specs.declared.bit_misc.BitRange.{BitRange}
+use Rattle.linker_base.specs.declared.utils.Uleb128Error.{Uleb128Error}
+use Rattle.linker_base.specs.declared.utils.Uleb128Error.TheVariants.{Ended, TooLarge, DoesNotFit}
+use Rattle.linker_elf.specs.Relocate.{IsCause, IsAccepted, size_len}
+use Rattle.linker_elf.specs.declared.elf.RelocationInstruction.TheVariants.{RiscV}
+use Rattle.linker_elf.specs.declared.elf.RelocationKind.{RelocationKind}
+use Rattle.linker_elf.specs.declared.elf.RelocationKind.TheVariants as kinds
+use Rattle.linker_elf.specs.declared.elf.RelocationKindInfo.{RelocationKindInfo}
+use Rattle.linker_elf.specs.declared.elf.RelocationSize.{RelocationSize}
+use Rattle.linker_elf.specs.declared.elf.RelocationSize.TheVariants.{BitMasking}
+use Rattle.linker_elf.specs.declared.elf.relocate.RelocateError.{RelocateError}
+use Rattle.linker_elf.specs.declared.elf.relocate.RelocateError.TheVariants.{Unsupported, TooShort, Misaligned, OutOfReach}
+use Rattle.linker_elf.specs.declared.riscv64.forms.RiscVInstruction.TheVariants.{UType}
+use Rattle.linker_section.proofs.Composing.{begun_ends_none}
+use Rattle.linker_section.proofs.Fronts.{some_window}
+use Rattle.linker_section.proofs.Rows.{one_row, one_info}
+use Rattle.linker_section.proofs.Sized.{is_composing, first_composes, instruction_alone, auipc_valued}
+use Rattle.linker_section.proofs.Stepping.{len_alone}
+use Rattle.linker_section.specs.Fields.{IsField, begins_pair, ends_pair, is_of_pair, Composes, of_number, of_pair, AreApart}
+use Rattle.linker_section.specs.Relocations.{relocation_in, relocation_at}
+use Rattle.linker_section.specs.Sections.{HasValue, IsRowValue, IsNotAccepted, IsPairRejected, IsPairNumber, IsCauseAt, IsOfValue, BeginsPair}
+use Rattle.linker_section.specs.Values.{IsAscending, offset_at, is_auipc, is_high_kind, is_high_part, names_label, IsHighPart, IsHighPartAt, low_value, IsLowValue, IsValueBy, IsValueIn, IsValue}
+use Rattle.linker_section.specs.WrittenFields.{CanBeWritten, IsFirstFault, PairFits}
+use Rattle.linker_section.specs.declared.facts.Addresses.{Addresses}
+use Rattle.linker_section.specs.declared.facts.Symbol.{Symbol}
+use Rattle.linker_section.specs.declared.relocations.Rela.{Rela}
+use Rattle.linker_section.specs.declared.sections.RelocationError.{RelocationError}
+use Rattle.linker_section.specs.declared.sections.RelocationError.TheVariants.{Value, Overlaps, Write, Uleb128}
+use Rattle.linker_section.specs.declared.sections.SectionError.{SectionError}
+use Rattle.linker_section.specs.declared.values.ValueError.{ValueError}
+use Rattle.linker_utils.specs.Architectures.{IsRow}
+use Rattle.linker_utils.specs.declared.elf.Architecture.{Architecture}
+
+-- ---- one high part
+
+record IsAuipcSize (size : RelocationSize) : Type 0 where
+  pub bits : BitRange
+  pub is : size ≡ BitMasking bits (RiscV UType)
+
+auipc_size : (size : RelocationSize) → is_auipc size ≡ true → IsAuipcSize size
+auipc_size (BitMasking bits (RiscV UType)) is = record { bits = bits; is = refl }
+auipc_size _ is = absurd (true≢false (sym is))
+
+-- what is at an index is there
+record IsThere (bytes : List ℕ) (i : ℕ) (r : Rela) : Type 0 where
+  pub within : i < length bytes / 24
+  pub is : relocation_in bytes i ≡ r
+
+abbrev first_of : {A : Type 0} → A → Option A → A
+first_of x None = x
+first_of x (Some y) = y
+
+there_is : (bytes : List ℕ) (i : ℕ) (r : Rela) → relocation_at bytes i ≡ Some r → IsThere bytes i r
+there_is bytes i r is =
+    elim (cases_lt i (length bytes / 24)) [
+      | inl within ↦ record {
+        within = within;
+        is = ap (first_of r) (sym (cond-true (ltb i (length bytes / 24)) (Some (relocation_in bytes i)) None (lt-ltb i (length bytes / 24) within)) ∙ is);
+      }
+      | inr past ↦ absurd (subst IsNone (sym (cond-false (ltb i (length bytes / 24)) (Some (relocation_in bytes i)) None (le-ltb i (length bytes / 24) past)) ∙ is) tt)
+    ]
+  where
+    IsNone : Option Rela → Type 0
+    IsNone None = Unit
+    IsNone (Some r) = ⊥
+
+-- a high part is of an instruction with a field
+record IsHighField (architecture : Architecture) (bytes section : List ℕ) (i : ℕ)
+    (row : RelocationKindInfo) : Type 0 where
+  pub is_field : IsField architecture bytes section i row
+  pub alone : is_composing row.kind ≡ false
+  pub no_pair : is_of_pair row ≡ false
+
+high_field : (architecture : Architecture) (bytes section : List ℕ) (low : RelocationKind) (at : ℕ)
+    (r : Rela) (row : RelocationKindInfo) (high : IsHighPart architecture bytes low at r row)
+    → IsHighField architecture bytes section high.index row
+high_field architecture bytes section low at r row high =
+    let i = high.index in
+    let there = there_is bytes i r high.is_there in
+    let is_row : IsRow architecture (relocation_in bytes i).code (Some row) = subst (λ x. IsRow architecture x.code (Some row)) (sym there.is) high.row_is in
+    let auipc = auipc_size row.size (and_parts (is_auipc row.size) (is_high_kind low row.kind) high.is_high).0 in
+    let no_pair : is_of_pair row ≡ false = ap (λ x. begins_pair x row.kind || ends_pair x row.kind) auipc.is in
+    let valued = auipc_valued architecture _ row is_row (and_parts (is_auipc row.size) (is_high_kind low row.kind) high.is_high).0 in
+    let len = len_alone row (drop (offset_at bytes i) section) valued no_pair in
+    let width = some_window (RiscV UType) in
+    record {
+      is_field = record { is_row = is_row; some = subst (λ k. 0 < k) (sym (len ∙ ap size_len auipc.is)) width };
+      alone = instruction_alone architecture _ row auipc.bits (RiscV UType) is_row auipc.is;
+      no_pair = no_pair;
+    }
+
+high_composes_none : {bytes : List ℕ} {i j : ℕ} {row other : RelocationKindInfo} {A : Type 0}
+    → is_composing row.kind ≡ false → is_of_pair row ≡ false → Composes bytes i row j other → A
+high_composes_none {bytes} {i} {j} {row} {other} alone no_pair composes =
+    elim composes [
+      | of_number offset window on ↦ absurd (true≢false (sym (first_composes row.kind other.kind on) ∙ alone))
+      | of_pair offset next begins ends ↦
+          absurd (true≢false (sym (or_left (begins_pair row.size row.kind) (ends_pair row.size row.kind) begins) ∙ no_pair))
+    ]
+
+abbrev of_ok : Option ℤ → Result (Option ℤ) ValueError → Option ℤ
+of_ok x (Ok y) = y
+of_ok x (Err error) = x
+
+abbrev is_ok : Result (Option ℤ) ValueError → Bool
+is_ok (Ok x) = true
+is_ok (Err error) = false
+
+module _ (architecture : Architecture) (addresses : Addresses) (bytes : List ℕ) (symbols : List Symbol) (section : List ℕ) (apart : AreApart architecture bytes section (length bytes / 24)) (ascending : IsAscending bytes) where
+  high_apart : (low : RelocationKind) (at : ℕ) (r s : Rela) (row other : RelocationKindInfo)
+      (x : IsHighPart architecture bytes low at r row) (y : IsHighPart architecture bytes low at s other)
+      → x.index < y.index → ⊥
+  high_apart low at r s row other x y less =
+      let f = high_field architecture bytes section low at r row x in
+      let g = high_field architecture bytes section low at s other y in
+      let a = there_is bytes x.index r x.is_there in
+      let b = there_is bytes y.index s y.is_there in
+      let same : offset_at bytes x.index ≡ offset_at bytes y.index =
+      ap (λ z. z.offset) a.is ∙ (x.offset_is ∙ (sym y.offset_is ∙ sym (ap (λ z. z.offset) b.is))) in
+      let fs = f.is_field.some in let gs = g.is_field.some in
+      high_composes_none f.alone f.no_pair
+      (apart x.index y.index row other less b.within f.is_field g.is_field ((omega (arith, same, gs)), (omega (arith, same, fs))))
+
+  record IsOneHigh (r s : Rela) (row other : RelocationKindInfo) : Type 0 where
+    pub relocation_is : r ≡ s
+    pub row_is : row ≡ other
+
+  one_high : (low : RelocationKind) (at : ℕ) (r s : Rela) (row other : RelocationKindInfo)
+      → IsHighPart architecture bytes low at r row → IsHighPart architecture bytes low at s other
+      → IsOneHigh r s row other
+  one_high low at r s row other x y =
+      elim (cases_eq x.index y.index) [
+        | inl is ↦
+            let a = there_is bytes x.index r x.is_there in
+            let b = there_is bytes y.index s y.is_there in
+            let same : r ≡ s = sym a.is ∙ (ap (relocation_in bytes) is ∙ b.is) in
+            record { relocation_is = same; row_is = one_info architecture _ row other x.row_is (subst (λ z. IsRow architecture z.code (Some other)) (sym same) y.row_is) }
+        | inr isnt ↦ elim (cases_lt x.index y.index) [
+          | inl less ↦ absurd (high_apart low at r s row other x y less)
+          | inr most ↦ absurd (high_apart low at s r other row y x (omega (arith, isnt, most)))
+        ]
+      ]
+
+  no_high : (low : RelocationKind) (at : ℕ) (r : Rela) (row : RelocationKindInfo)
+      → IsHighPart architecture bytes low at r row → IsHighPartAt architecture bytes low at None → ⊥
+  no_high low at r row x none =
+      elim (none ascending x.index r x.is_there) [
+        | inl elsewhere ↦ elsewhere x.offset_is
+        | inr other ↦
+            true≢false (sym x.is_high ∙ (ap (is_high_part low) (one_row architecture r.code (Some row) (other.0) x.row_is (other.1)) ∙ other.2))
+      ]
+
+  same_high : (low : RelocationKind) (at : ℕ) (x y : Option (Rela × RelocationKindInfo))
+      → IsHighPartAt architecture bytes low at x → IsHighPartAt architecture bytes low at y → x ≡ y
+  same_high low at (Some f) (Some g) x y =
+      let one = one_high low at (f.0) (g.0) (f.1) (g.1) x y in
+      ap (λ r. Some (r, f.1)) one.relocation_is ∙ ap (λ row. Some (g.0, row)) one.row_is
+  same_high low at (Some f) None x y = absurd (no_high low at (f.0) (f.1) x y)
+  same_high low at None (Some g) x y = absurd (no_high low at (g.0) (g.1) y x)
+  same_high low at None None x y = refl
+
+  -- ---- one value
+
+  one_low : (row : RelocationKindInfo) (label : Option Symbol) (x y : Result (Option ℤ) ValueError)
+      → IsLowValue architecture addresses bytes symbols row label x
+      → IsLowValue architecture addresses bytes symbols row label y → x ≡ y
+  one_low row None x y a b = a ∙ sym b
+  one_low row (Some label) x y a b =
+      a.2 ∙ (ap (low_value architecture addresses symbols row) (same_high row.kind _ (a.0) (b.0) (a.1) (b.1)) ∙ sym (b.2))
+
+  one_by : (labelled : Bool) (row : RelocationKindInfo) (r : Rela) (x y : Result (Option ℤ) ValueError)
+      → IsValueBy labelled architecture addresses bytes symbols row r x
+      → IsValueBy labelled architecture addresses bytes symbols row r y → x ≡ y
+  one_by true row r x y a b = one_low row (slice_get symbols r.symbol) x y a b
+  one_by false row r x y a b = a ∙ sym b
+
+  one_in : (r : Rela) (row : Option RelocationKindInfo) (x y : Result (Option ℤ) ValueError)
+      → IsValueIn architecture addresses bytes symbols r row x
+      → IsValueIn architecture addresses bytes symbols r row y → x ≡ y
+  one_in r None x y a b = a ∙ sym b
+  one_in r (Some row) x y a b = one_by (names_label row.size row.kind) row r x y a b
+
+  one_value : (r : Rela) (x y : Result (Option ℤ) ValueError)
+      → IsValue architecture addresses bytes symbols r x
+      → IsValue architecture addresses bytes symbols r y → x ≡ y
+  one_value r x y a b =
+      one_in r (a.0) x y (a.2)
+      (subst (λ row. IsValueIn architecture addresses bytes symbols r row y) (one_row architecture r.code (b.0) (a.0) (b.1) (a.1)) (b.2))
+
+  value_of_has : (r : Rela) (row : RelocationKindInfo) (v : ℤ)
+      → HasValue architecture addresses bytes symbols r row v
+      → IsValue architecture addresses bytes symbols r (Ok (Some v))
+  value_of_has r row v has = (Some row, has.is_row, has.is_value)
+
+  found_value : (r : Rela) (found : Option (RelocationKindInfo × ℤ)) → IsRowValue architecture addresses bytes symbols r (Ok found)
+      → (x : Option ℤ) × IsValue architecture addresses bytes symbols r (Ok x)
+  found_value r None is = (None, is)
+  found_value r (Some f) is = (Some (f.1), value_of_has r (f.0) (f.1) is)
+
+  none_has : (r : Rela) (row : RelocationKindInfo) (v : ℤ) → IsValue architecture addresses bytes symbols r (Ok None)
+      → HasValue architecture addresses bytes symbols r row v → ⊥
+  none_has r row v none has =
+      subst IsNone (ap (of_ok None) (one_value r (Ok None) (Ok (Some v)) none (value_of_has r row v has))) tt
+    where
+      IsNone : Option ℤ → Type 0
+      IsNone None = Unit
+      IsNone (Some v) = ⊥
+
+  -- what is found is a relocation's row and value
+  found_is : (r : Rela) (found : Option (RelocationKindInfo × ℤ)) (row : RelocationKindInfo) (v : ℤ)
+      → IsRowValue architecture addresses bytes symbols r (Ok found)
+      → HasValue architecture addresses bytes symbols r row v → found ≡ Some (row, v)
+  found_is r None row v is has = absurd (none_has r row v is has)
+  found_is r (Some f) row v is has =
+      ap (λ x. Some (x, f.1)) (one_info architecture r.code (f.0) row is.is_row has.is_row)
+      ∙ ap (λ x. Some (row, x)) (ap (first_of v) (ap (of_ok None) (one_value r (Ok (Some (f.1))) (Ok (Some v)) (value_of_has r (f.0) (f.1) is) (value_of_has r row v has))))
+
+  has_found : (r : Rela) (found : Option (RelocationKindInfo × ℤ)) (row : RelocationKindInfo) (v : ℤ)
+      → IsRowValue architecture addresses bytes symbols r (Ok found) → found ≡ Some (row, v)
+      → HasValue architecture addresses bytes symbols r row v
+  has_found r found row v is same = subst (λ x. IsRowValue architecture addresses bytes symbols r (Ok x)) same is
+
+-- ---- what is accepted isn't rejected
+
+accepted_no_cause : (row : RelocationKindInfo) (v : ℤ) (xs : List ℕ) (error : RelocateError)
+    → IsAccepted row v xs → IsCause row v xs error → ⊥
+accepted_no_cause row v xs Unsupported is cause = true≢false (sym is.supported ∙ cause)
+accepted_no_cause row v xs TooShort is cause =
+    let long = is.long in let short = cause.1 in omega (arith, long, short)
+accepted_no_cause row v xs Misaligned is cause = cause.2 is.aligned
+accepted_no_cause row v xs OutOfReach is cause = cause.3 is.reached
+
+-- a number ends at one byte
+not_before : (xs : List ℕ) (old other : ℕ) (rest more : List ℕ) (u : Uleb xs old rest) (t : Uleb xs other more)
+    → u.last < t.last → ⊥
+not_before xs old other rest more u t less =
+    let on = t.continue u.last less in let ends = u.ends in omega (arith, on, ends)
+
+fits_no_cause : (xs : List ℕ) (number old : ℕ) (rest : List ℕ) (error : Uleb128Error)
+    (u : Uleb xs old rest) → number < 128 ^ (u.last + 1) → IsUlebCause xs number error → ⊥
+fits_no_cause xs number old rest Ended u fits cause =
+    let on = cause.continue u.last u.there in let ends = u.ends in omega (arith, on, ends)
+fits_no_cause xs number old rest TooLarge u fits cause =
+    let ends = u.ends in let ten = u.within_ten in
+    elim (cases_eq u.last 9) [
+      | inl is ↦
+          let small = u.tenth is in
+          let large = subst (λ k. 1 < slice_index xs k) (sym is) cause.tenth in
+          omega (arith, small, large)
+      | inr isnt ↦ let on = cause.continue u.last (omega (arith, isnt, ten)) in omega (arith, on, ends)
+    ]
+fits_no_cause xs number old rest DoesNotFit u fits cause =
+    let t = cause.there in
+    elim (cases_eq u.last t.last) [
+      | inl is ↦ let above = subst (λ k. 128 ^ (k + 1) ≤ number) (sym is) cause.above in omega (arith, above, fits)
+      | inr isnt ↦ elim (cases_lt u.last t.last) [
+        | inl less ↦ not_before xs old cause.old rest cause.rest u t less
+        | inr most ↦ not_before xs cause.old old cause.rest rest t u (omega (arith, isnt, most))
+      ]
+    ]
+
+one_pair_number : (kind : RelocationKind) (there : List ℕ) (v w : ℤ) (n m old : ℕ) (rest : List ℕ)
+    → Uleb there old rest → IsPairNumber kind there v w n → IsPairNumber kind there v w m → n ≡ m
+one_pair_number kinds.PairSubtractionULEB128LoongArch there v w n m old rest u a b = a old rest u ∙ sym (b old rest u)
+one_pair_number _ there v w n m old rest u a b = a ∙ sym b
+
+-- what is found once is one row and one value
+record IsOneFound (row other : RelocationKindInfo) (v w : ℤ) : Type 0 where
+  pub row_is : row ≡ other
+  pub value_is : v ≡ w
+
+one_found : (found : Option (RelocationKindInfo × ℤ)) (row other : RelocationKindInfo) (v w : ℤ)
+    → found ≡ Some (row, v) → found ≡ Some (other, w) → IsOneFound row other v w
+one_found found row other v w a b =
+    let same = ap (first_of (row, v)) (sym a ∙ b) in
+    record { row_is = ap (λ (p : RelocationKindInfo × ℤ). p.0) same; value_is = ap (λ (p : RelocationKindInfo × ℤ). p.1) same }
+
+begins_no_end : (row other : RelocationKindInfo) → row ≡ other → begins_pair row.size row.kind ≡ true
+    → ends_pair other.size other.kind ≡ true → ⊥
+begins_no_end row other same begins ends =
+    true≢false (sym ends ∙ (ap (λ x. ends_pair x.size x.kind) (sym same) ∙ begun_ends_none row.size row.kind begins))
+
+-- ---- no fault
+
+module _ (architecture : Architecture) (addresses : Addresses) (bytes : List ℕ) (symbols : List Symbol) (section : List ℕ) (can : CanBeWritten architecture addresses bytes symbols section) (ascending : IsAscending bytes) (error : SectionError) (fault : IsFirstFault architecture addresses bytes symbols section error) where
+  found_at : (i : ℕ) (row : RelocationKindInfo) (v : ℤ) → i < length bytes / 24
+      → HasValue architecture addresses bytes symbols (relocation_in bytes i) row v → can.found i ≡ Some (row, v)
+  found_at i row v within has =
+      found_is architecture addresses bytes symbols section can.apart ascending (relocation_in bytes i) (can.found i) row v (can.are_found i within) has
+
+  has_at : (i : ℕ) (row : RelocationKindInfo) (v : ℤ) → i < length bytes / 24 → can.found i ≡ Some (row, v)
+      → HasValue architecture addresses bytes symbols (relocation_in bytes i) row v
+  has_at i row v within is =
+      has_found architecture addresses bytes symbols section can.apart ascending (relocation_in bytes i) (can.found i) row v (can.are_found i within) is
+
+  no_value_error : (i : ℕ) (why : ValueError) → i < length bytes / 24
+      → IsValue architecture addresses bytes symbols (relocation_in bytes i) (Err why) → ⊥
+  no_value_error i why within is =
+      let one = found_value architecture addresses bytes symbols section can.apart ascending (relocation_in bytes i) (can.found i) (can.are_found i within) in
+      true≢false (ap is_ok (one_value architecture addresses bytes symbols section can.apart ascending (relocation_in bytes i) (Ok (one.0)) (Err why) (one.1) is))
+
+  -- the second of a pair isn't the first that is rejected
+  no_second : (first : ℕ) (fits : PairFits can.found bytes section first) → first + 1 < length bytes / 24
+      → first + 1 ≡ fault.written → ⊥
+  no_second first fits within next =
+      let pair = fits.pair in
+      let has = has_at first pair.row pair.value (omega (arith, within)) pair.is_first in
+      let is : fault.found first ≡ Some (pair.row, pair.value) =
+      found_is architecture addresses bytes symbols section can.apart ascending (relocation_in bytes first) (fault.found first) pair.row pair.value (fault.are_found first (omega (arith, next))) has in
+      let paired = or_left (begins_pair pair.row.size pair.row.kind) (ends_pair pair.row.size pair.row.kind) pair.begins in
+      let of = (fault.accepted first pair.row pair.value (omega (arith, next)) is).1 paired in
+      let below = of.1 in
+      elim (of.2) [
+        | inl at ↦ omega (arith, at, below, next)
+        | inr at ↦
+            let other = (of.3).pair in
+            let same = one_found (fault.found first) pair.row other.other pair.value other.subtracted is (ap fault.found at ∙ other.is_second) in
+            begins_no_end pair.row other.other same.row_is pair.begins other.ends
+      ]
+
+  no_write : (i : ℕ) (why : RelocateError) → i < length bytes / 24 → i ≡ fault.written
+      → IsNotAccepted architecture addresses bytes symbols i section why → ⊥
+  no_write i why within next not =
+      let row = not.row in
+      let is = found_at i row not.value within not.has_value in
+      let accepts = can.accepted i row not.value within is in
+      elim (cases_Bool (is_of_pair row)) [
+        | inr alone ↦
+            let here = accepts.0 alone in
+            accepted_no_cause row not.value (drop (offset_at bytes i) section) why here.accepted (not.rejected.inside here.inside)
+        | inl paired ↦
+            let of = accepts.1 paired in
+            let below = of.1 in
+            let pair = (of.3).pair in
+            elim (of.2) [
+              | inl at ↦ not.alone (subst (BeginsPair architecture bytes) (sym at) (record {
+                within = below;
+                same_offset = pair.same_offset;
+                row = pair.row;
+                is_row = (has_at (of.0) pair.row pair.value (omega (arith, below)) pair.is_first).is_row;
+                begins = pair.begins;
+                other = pair.other;
+                is_other = (has_at (of.0 + 1) pair.other pair.subtracted below pair.is_second).is_row;
+                ends = pair.ends;
+              }))
+              | inr at ↦ no_second (of.0) (of.3) below (sym at ∙ next)
+            ]
+      ]
+
+  no_number : (i : ℕ) (why : Uleb128Error) → i < length bytes / 24
+      → IsPairRejected architecture addresses bytes symbols (relocation_in bytes i) (relocation_in bytes (i + 1)) section why → ⊥
+  no_number i why within rejected =
+      let pair = rejected.pair in
+      let row = pair.row in
+      let is = found_at i row pair.value within pair.has_value in
+      let paired = or_left (begins_pair row.size row.kind) (ends_pair row.size row.kind) pair.begins in
+      let of = (can.accepted i row pair.value within is).1 paired in
+      let below = of.1 in
+      elim (of.2) [
+        | inl at ↦
+            let fits = subst (PairFits can.found bytes section) (sym at) (of.3) in
+            let made = fits.pair in
+            let under : i + 1 < length bytes / 24 = omega (arith, below, at) in
+            let a = one_found (can.found i) row made.row pair.value made.value is made.is_first in
+            let b = one_found (can.found (i + 1)) pair.other made.other pair.subtracted made.subtracted
+            (found_at (i + 1) pair.other pair.subtracted under pair.has_subtracted) made.is_second in
+            let there = drop (offset_at bytes i) section in
+            let mine : IsPairNumber made.other.kind there made.value made.subtracted rejected.number =
+            subst (λ x. IsPairNumber made.other.kind there made.value x rejected.number) b.value_is
+            (subst (λ x. IsPairNumber made.other.kind there x pair.subtracted rejected.number) a.value_is
+            (subst (λ x. IsPairNumber x.kind there pair.value pair.subtracted rejected.number) b.row_is pair.is_number)) in
+            let same : rejected.number ≡ fits.number =
+            one_pair_number made.other.kind there made.value made.subtracted rejected.number fits.number fits.old fits.rest fits.there mine made.is_number in
+            fits_no_cause there rejected.number fits.old fits.rest why fits.there (subst (λ n. n < 128 ^ (fits.there.last + 1)) (sym same) fits.fits) rejected.cause
+        | inr at ↦
+            let made = (of.3).pair in
+            let a = one_found (can.found i) row made.other pair.value made.subtracted is (ap can.found at ∙ made.is_second) in
+            begins_no_end row made.other a.row_is pair.begins made.ends
+      ]
+
+  no_cause : (i : ℕ) (why : RelocationError) → i < length bytes / 24
+      → (i ≡ fault.written) ⊎ ((i ≡ fault.written + 1) × BeginsPair architecture bytes fault.written × IsOfValue why)
+      → IsCauseAt architecture addresses bytes symbols section i section why → ⊥
+  no_cause i (Value why) within next cause = no_value_error i why within cause
+  no_cause i Overlaps within next cause =
+      cause.apart (can.apart cause.earlier i cause.row cause.other cause.order within cause.is_field cause.is_other cause.overlap)
+  no_cause i (Write why) within (inl is) cause = no_write i why within is (cause.1)
+  no_cause i (Write why) within (inr is) cause = is.2
+  no_cause i (Uleb128 why) within (inl is) cause = no_number i why within (cause.1)
+  no_cause i (Uleb128 why) within (inr is) cause = is.2
+
+  pub no_fault : ⊥
+  no_fault = no_cause error.index error.error fault.within fault.is_next fault.cause

@@ -1,0 +1,241 @@
+-- The first relocation that can't be written is that by the section before all writes.
+use Rattle.std.proofs.Common.{◌≡◌, ℕ, zero, suc, ℤ, ◌+◌, ◌^◌, ◌<◌, ◌≤◌, ◌⊎◌, List, [], ◌∷◌, length, take, drop, ltb, refl, sym, ap, subst, ◌∙◌, inl, inr, arith}
+use Rattle.std.proofs.lemmas.Bool.{cases_eq, or_left, cond_both, cond-false, le-ltb}
+use Rattle.std.proofs.lemmas.List.{length-drop, take_all, take-append-drop, get_or-take, drop_all}
+use Rattle.std.specs.Prelude.{slice_index}
+use Rattle.linker_base.specs.Uleb.{AllContinue, IsUlebCause}
+use Rattle.linker_base.specs.declared.utils.Uleb128Error.{Uleb128Error}
+use Rattle.linker_base.specs.declared.utils.Uleb128Error.TheVariants.{Ended, TooLarge, DoesNotFit}
+use Rattle.linker_elf.specs.Relocate.{IsCause}
+use Rattle.linker_elf.specs.declared.elf.RelocationKindInfo.{RelocationKindInfo}
+use Rattle.linker_elf.specs.declared.elf.RelocationSize.{RelocationSize}
+use Rattle.linker_elf.specs.declared.elf.RelocationSize.TheVariants.{ByteSize, BitMasking}
+use Rattle.linker_elf.specs.declared.elf.relocate.RelocateError.{RelocateError}
+use Rattle.linker_elf.specs.declared.elf.relocate.RelocateError.TheVariants.{Unsupported, TooShort, Misaligned, OutOfReach}
+use Rattle.linker_section.proofs.All.{untouched, pair_first, same_uleb}
+use Rattle.linker_section.proofs.Composing.{begun_has_value}
+use Rattle.linker_section.proofs.Fielded.{found_of, uses, found_are, are_accepted, same_at}
+use Rattle.linker_section.proofs.Fronts.{HaveSameWindow, multiple_same, reached_same}
+use Rattle.linker_section.proofs.Held.{field_untouched}
+use Rattle.linker_section.proofs.Stepping.{len_paired}
+use Rattle.linker_section.proofs.Ulebs.{some_uleb, uleb_len_is, uleb_same, pair_number_from}
+use Rattle.linker_section.specs.Fields.{IsField, field_len, begins_pair, ends_pair, uleb_len, AreApart}
+use Rattle.linker_section.specs.Relocations.{relocation_in}
+use Rattle.linker_section.specs.Sections.{AreRelocated, IsRejected, IsPairRejected, IsNotAccepted, IsCauseAt, BeginsPair, IsOfValue, IsFirstRejected}
+use Rattle.linker_section.specs.Values.{offset_at}
+use Rattle.linker_section.specs.WrittenFields.{IsFirstFault}
+use Rattle.linker_section.specs.declared.facts.Addresses.{Addresses}
+use Rattle.linker_section.specs.declared.facts.Symbol.{Symbol}
+use Rattle.linker_section.specs.declared.sections.RelocationError.{RelocationError}
+use Rattle.linker_section.specs.declared.sections.RelocationError.TheVariants.{Value, Overlaps, Write, Uleb128}
+use Rattle.linker_section.specs.declared.sections.SectionError.{SectionError}
+use Rattle.linker_utils.specs.declared.elf.Architecture.{Architecture}
+
+-- ---- a value of one relocation
+
+window_back : (size : RelocationSize) (xs ys : List ℕ) → HaveSameWindow size xs ys
+    → HaveSameWindow size ys xs
+window_back (ByteSize n) xs ys same = tt
+window_back (BitMasking bits insn) xs ys same = sym same
+
+-- what rejects a value depends on the window and on the count of bytes
+cause_same : (row : RelocationKindInfo) (v : ℤ) (xs ys : List ℕ) (error : RelocateError)
+    → HaveSameWindow row.size xs ys → length ys ≡ length xs → IsCause row v xs error
+    → IsCause row v ys error
+cause_same row v xs ys Unsupported same len cause = cause
+cause_same row v xs ys TooShort same len cause =
+    let short = cause.1 in (cause.0, omega (arith, short, len))
+cause_same row v xs ys Misaligned same len cause =
+    let long = cause.1 in (
+      cause.0,
+      omega (arith, long, len),
+      λ is. cause.2 (multiple_same row v ys xs (window_back row.size xs ys same) is),
+    )
+cause_same row v xs ys OutOfReach same len cause =
+    let long = cause.1 in (
+      cause.0,
+      omega (arith, long, len),
+      multiple_same row v xs ys same (cause.2),
+      λ is. cause.3 (reached_same row v ys xs (window_back row.size xs ys same) is),
+    )
+
+rejected_same : (row : RelocationKindInfo) (v : ℤ) (o : ℕ) (now before : List ℕ)
+    (error : RelocateError) → HaveSameWindow row.size (drop o now) (drop o before)
+    → length now ≡ length before → IsRejected row v o now error
+    → IsRejected row v o before error
+rejected_same row v o now before error same len rejected =
+    record {
+      outside = λ past. rejected.outside (omega (arith, past, len));
+      inside = λ within. cause_same row v (drop o now) (drop o before) error same
+          (let d = length-drop o before in let dn = length-drop o now in omega (arith, d, dn, len))
+          (rejected.inside (omega (arith, within, len)));
+    }
+
+-- ---- the number of a pair
+
+continues_all : (fuel : ℕ) (xs : List ℕ) → length xs ≤ fuel → AllContinue (length xs) xs
+    → uleb_len (take fuel xs) ≡ length xs
+continues_all zero [] most continue = refl
+continues_all (suc fuel) [] most continue = refl
+continues_all zero (b ∷ xs) most continue = absurd (omega (arith, most))
+continues_all (suc fuel) (b ∷ xs) most continue =
+    cond-false (ltb b 0x80) 1 (1 + uleb_len (take fuel xs)) (le-ltb b 0x80 (continue 0 (omega arith)))
+    ∙ (ap (λ n. 1 + n) (continues_all fuel xs (omega (arith, most)) (λ j below. continue (suc j) (omega (arith, below))))
+    ∙ omega arith)
+
+continues_to : (last : ℕ) (xs : List ℕ) → last < length xs → AllContinue last xs
+    → uleb_len (take (suc last) xs) ≡ suc last
+continues_to last [] there continue = absurd (omega (arith, there))
+continues_to zero (b ∷ xs) there continue =
+    cond_both (ltb b 0x80) 1 (1 + uleb_len (take 0 xs)) (λ n. n ≡ 1) (λ _. refl) (λ _. refl)
+continues_to (suc last) (b ∷ xs) there continue =
+    cond-false (ltb b 0x80) 1 (1 + uleb_len (take (suc last) xs)) (le-ltb b 0x80 (continue 0 (omega arith)))
+    ∙ (ap (λ n. 1 + n) (continues_to last xs (omega (arith, there)) (λ j below. continue (suc j) (omega (arith, below))))
+    ∙ omega arith)
+
+-- bytes that begin with the same bytes, as many as their number has
+cause_of_number : (xs ys : List ℕ) (number : ℕ) (error : Uleb128Error)
+    → take (uleb_len (take 10 xs)) ys ≡ take (uleb_len (take 10 xs)) xs → length ys ≡ length xs
+    → IsUlebCause xs number error → IsUlebCause ys number error
+cause_of_number xs ys number Ended same len cause =
+    let all : uleb_len (take 10 xs) ≡ length xs = continues_all 10 xs (let s = cause.short in omega (arith, s)) cause.continue in
+    let whole : ys ≡ xs = sym (take_all (length xs) ys (omega (arith, len))) ∙ (subst (λ k. take k ys ≡ take k xs) all same ∙ take_all (length xs) xs (omega arith)) in
+    subst (λ l. IsUlebCause l number Ended) (sym whole) cause
+cause_of_number xs ys number TooLarge same len cause =
+    let all : uleb_len (take 10 xs) ≡ 10 = continues_to 9 xs cause.long cause.continue in
+    let byte : (j : ℕ) → j < 10 → slice_index xs j ≡ slice_index ys j =
+    λ j below. sym (get_or-take 10 xs j 0 below)
+    ∙ (ap (λ l. slice_index l j) (sym (subst (λ k. take k ys ≡ take k xs) all same)) ∙ get_or-take 10 ys j 0 below) in
+    let long = cause.long in
+    record {
+      long = omega (arith, long, len);
+      continue = λ j below. subst (λ b. 0x80 ≤ b) (byte j (omega (arith, below))) (cause.continue j below);
+      tenth = subst (λ b. 1 < b) (byte 9 (omega arith)) cause.tenth;
+    }
+cause_of_number xs ys number DoesNotFit same len cause =
+    let u = cause.there in
+    let inside = u.there in
+    let there = uleb_same xs ys cause.old cause.rest u
+    (subst (λ k. take k ys ≡ take k xs) (uleb_len_is xs cause.old cause.rest u) same) (omega (arith, inside, len)) in
+    record {
+      old = cause.old;
+      rest = drop (u.last + 1) ys;
+      there = there.0;
+      above = subst (λ k. 128 ^ (k + 1) ≤ number) (sym (there.1)) cause.above;
+    }
+
+-- ---- by the section before
+
+module _ (architecture : Architecture) (addresses : Addresses) (bytes : List ℕ) (symbols : List Symbol) (before now : List ℕ) where
+  write_cause : (n : ℕ) (error : RelocateError)
+      → AreRelocated architecture addresses bytes symbols before n now
+      → AreApart architecture bytes before (n + 1)
+      → IsNotAccepted architecture addresses bytes symbols n now error
+      → IsNotAccepted architecture addresses bytes symbols n before error
+  write_cause n error relocated apart not =
+      let so_far = untouched architecture addresses bytes before symbols (λ i j x y less under. apart i j x y less (omega (arith, under))) relocated in
+      let row = not.row in
+      record {
+        row = row;
+        value = not.value;
+        has_value = not.has_value;
+        rejected = rejected_same row not.value (offset_at bytes n) now before error
+            (same_at architecture addresses bytes symbols before (n + 1) apart (found_of relocated) row not.value row.size refl (omega arith) relocated not.has_value)
+            (so_far.0) not.rejected;
+        alone = not.alone;
+      }
+
+  number_cause : (n : ℕ) (error : Uleb128Error)
+      → AreRelocated architecture addresses bytes symbols before n now
+      → AreApart architecture bytes before (n + 1)
+      → IsPairRejected architecture addresses bytes symbols (relocation_in bytes n) (relocation_in bytes (n + 1)) now error
+      → IsPairRejected architecture addresses bytes symbols (relocation_in bytes n) (relocation_in bytes (n + 1)) before error
+  number_cause n error relocated apart rejected =
+      let so_far = untouched architecture addresses bytes before symbols (λ i j x y less under. apart i j x y less (omega (arith, under))) relocated in
+      let o = offset_at bytes n in
+      let pair = rejected.pair in
+      let row = pair.row in
+      let d = length-drop o before in let dn = length-drop o now in let len = so_far.0 in
+      let lengths : length (drop o before) ≡ length (drop o now) = omega (arith, d, dn, len) in
+      let paired = or_left (begins_pair row.size row.kind) (ends_pair row.size row.kind) pair.begins in
+      let width : field_len row (drop o before) ≡ uleb_len (take 10 (drop o before)) =
+      len_paired row (drop o before) (begun_has_value row.size row.kind pair.begins) paired in
+      let w = uleb_len (take 10 (drop o before)) in
+      let same : take w (drop o now) ≡ take w (drop o before) = elim (cases_eq (length (drop o before)) 0) [
+        | inl empty ↦
+            ap (take w) (sym (take-append-drop 0 (drop o now)) ∙ (drop_all 0 (drop o now) (omega (arith, empty, lengths))
+            ∙ sym (sym (take-append-drop 0 (drop o before)) ∙ drop_all 0 (drop o before) (omega (arith, empty)))))
+        | inr isnt ↦
+            let some = some_uleb (drop o before) (omega (arith, isnt)) in
+            let is_field : IsField architecture bytes before n row = record { is_row = pair.has_value.is_row; some = omega (arith, some, width) } in
+            subst (λ k. take k (drop o now) ≡ take k (drop o before)) width
+            (field_untouched architecture bytes before n row now so_far (pair_first architecture bytes before n row apart is_field pair.begins))
+      ] in
+      let same_len : uleb_len (take 10 (drop o now)) ≡ w =
+      same_uleb 10 (drop o before) (drop o now) (sym lengths)
+      (λ j below. sym (get_or-take w (drop o now) j 0 below) ∙ (ap (λ l. slice_index l j) same ∙ get_or-take w (drop o before) j 0 below)) in
+      record {
+        number = rejected.number;
+        pair = record {
+          same_offset = pair.same_offset;
+          row = row;
+          value = pair.value;
+          has_value = pair.has_value;
+          begins = pair.begins;
+          other = pair.other;
+          subtracted = pair.subtracted;
+          has_subtracted = pair.has_subtracted;
+          ends = pair.ends;
+          is_number = pair_number_from pair.other.kind (drop o now) (drop o before) pair.value pair.subtracted rejected.number
+              (λ old rest u.
+              let inside = u.there in (
+                _,
+                (uleb_same (drop o before) (drop o now) old rest u
+                    (subst (λ k. take k (drop o now) ≡ take k (drop o before)) (uleb_len_is (drop o before) old rest u) same)
+                    (omega (arith, inside, lengths))).0,
+              )) pair.is_number;
+        };
+        cause = cause_of_number (drop o now) (drop o before) rejected.number error
+            (subst (λ k. take k (drop o before) ≡ take k (drop o now)) (sym same_len) (sym same)) lengths rejected.cause;
+      }
+
+  by_before : (written i : ℕ) (error : RelocationError)
+      → (i ≡ written) ⊎ ((i ≡ written + 1) × BeginsPair architecture bytes written × IsOfValue error)
+      → AreRelocated architecture addresses bytes symbols before written now
+      → IsCauseAt architecture addresses bytes symbols before i now error
+      → IsCauseAt architecture addresses bytes symbols before i before error
+  by_before written i (Value error) next relocated cause = cause
+  by_before written i Overlaps next relocated cause = cause
+  by_before written i (Write error) (inl is) relocated cause = (
+    cause.0,
+    write_cause i error (subst (λ n. AreRelocated architecture addresses bytes symbols before n now) (sym is) relocated) (cause.0) (cause.1),
+  )
+  by_before written i (Write error) (inr is) relocated cause = absurd (is.2)
+  by_before written i (Uleb128 error) (inl is) relocated cause = (
+    cause.0,
+    number_cause i error (subst (λ n. AreRelocated architecture addresses bytes symbols before n now) (sym is) relocated) (cause.0) (cause.1),
+  )
+  by_before written i (Uleb128 error) (inr is) relocated cause = absurd (is.2)
+
+next_most : {A B : Type 0} (i written : ℕ) → (i ≡ written) ⊎ ((i ≡ written + 1) × A × B) → written ≤ i
+next_most i written (inl is) = omega (arith, is)
+next_most i written (inr is) = let e = is.0 in omega (arith, e)
+
+pub first_fault : (architecture : Architecture) (addresses : Addresses) (bytes : List ℕ)
+    (symbols : List Symbol) (before : List ℕ) (error : SectionError)
+    → IsFirstRejected architecture addresses bytes symbols before error
+    → IsFirstFault architecture addresses bytes symbols before error
+first_fault architecture addresses bytes symbols before error rejected =
+    let found = found_of rejected.relocated in
+    let most = next_most error.index rejected.written rejected.is_next in
+    let used = uses architecture addresses bytes symbols before error.index rejected.apart found rejected.relocated (λ i below. refl) in
+    record {
+      within = rejected.within;
+      written = rejected.written;
+      is_next = rejected.is_next;
+      found = found;
+      are_found = found_are architecture addresses bytes symbols before error.index rejected.apart found rejected.relocated used;
+      apart = rejected.apart;
+      accepted = are_accepted architecture addresses bytes symbols before error.index rejected.apart found rejected.relocated most used;
+      cause = by_before architecture addresses bytes symbols before rejected.now rejected.written error.index error.error rejected.is_next rejected.relocated rejected.cause;
+    }

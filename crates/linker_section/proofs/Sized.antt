@@ -1,0 +1,211 @@
+-- Rows whose values compose are of whole bytes.
+use Rattle.std.proofs.Common.{◌≡◌, ℕ, Bool, true, false, refl, sym, ap, ◌∙◌, Option, Some, None, not, subst, inl, inr, ◌||◌}
+use Rattle.std.proofs.lemmas.Bool.{not-true, or_cases}
+use Rattle.linker_base.specs.declared.bit_misc.BitRange.{BitRange}
+use Rattle.linker_elf.specs.declared.elf.RelocationInstruction.{RelocationInstruction}
+use Rattle.linker_elf.specs.AArch64Relocations.{aarch64_name, aarch64_row}
+use Rattle.linker_elf.specs.ElfNames.{ElfName}
+use Rattle.linker_elf.specs.LoongArchRelocations.{loongarch_name, loongarch_row}
+use Rattle.linker_elf.specs.Ppc64Relocations.{ppc64_name, ppc64_row}
+use Rattle.linker_elf.specs.Relocate.{size_len, window_len}
+use Rattle.linker_elf.specs.RiscVRelocations.{riscv_name, riscv_relocation}
+use Rattle.linker_elf.specs.X86Relocations.{x86_64_name, x86_64_row}
+use Rattle.linker_elf.specs.declared.aarch64.relocations.AArch64Relocation.{AArch64Relocation}
+use Rattle.linker_elf.specs.declared.aarch64.relocations.AArch64Relocation.TheVariants as aarch64_names
+use Rattle.linker_elf.specs.declared.elf.RelocationKind.{RelocationKind}
+use Rattle.linker_elf.specs.declared.elf.RelocationKind.TheVariants as kinds
+use Rattle.linker_elf.specs.declared.elf.RelocationKindInfo.{RelocationKindInfo}
+use Rattle.linker_elf.specs.declared.elf.RelocationSize.{RelocationSize}
+use Rattle.linker_elf.specs.declared.elf.RelocationSize.TheVariants.{ByteSize, BitMasking}
+use Rattle.linker_elf.specs.declared.loongarch64.relocations.LoongArch64Relocation.{LoongArch64Relocation}
+use Rattle.linker_elf.specs.declared.loongarch64.relocations.LoongArch64Relocation.TheVariants as loongarch_names
+use Rattle.linker_elf.specs.declared.ppc64.relocations.Ppc64Relocation.{Ppc64Relocation}
+use Rattle.linker_elf.specs.declared.ppc64.relocations.Ppc64Relocation.TheVariants as ppc64_names
+use Rattle.linker_elf.specs.declared.riscv64.relocations.RiscVRelocation.{RiscVRelocation}
+use Rattle.linker_elf.specs.declared.riscv64.relocations.RiscVRelocation.TheVariants as riscv_names
+use Rattle.linker_elf.specs.declared.x86_64.relocations.X86_64Relocation.{X86_64Relocation}
+use Rattle.linker_elf.specs.declared.x86_64.relocations.X86_64Relocation.TheVariants as x86_64_names
+use Rattle.linker_section.proofs.Composing.{no}
+use Rattle.linker_section.proofs.Numbers.{is_word6}
+use Rattle.linker_section.specs.Fields.{changes_number, changes_bits, continues}
+use Rattle.linker_section.specs.Values.{has_value, is_auipc}
+use Rattle.linker_utils.specs.Architectures.{IsOf, IsRow}
+use Rattle.linker_utils.specs.declared.elf.Architecture.{Architecture}
+use Rattle.linker_utils.specs.declared.elf.Architecture.TheVariants.{AArch64, RiscV, LoongArch64}
+use Rattle.linker_utils.specs.declared.elf.Architecture.TheVariants.{Ppc64, X86_64}
+
+-- the kinds whose values compose
+abbrev pub is_composing : RelocationKind → Bool
+is_composing kinds.AbsoluteSet = true
+is_composing kinds.AbsoluteAddition = true
+is_composing kinds.AbsoluteSubtraction = true
+is_composing kinds.AbsoluteSetWord6 = true
+is_composing kinds.AbsoluteAdditionWord6 = true
+is_composing kinds.AbsoluteSubtractionWord6 = true
+is_composing kind = false
+
+pub first_composes : (first second : RelocationKind) → continues first second ≡ true
+    → is_composing first ≡ true
+first_composes kinds.AbsoluteSet second on = refl
+first_composes kinds.AbsoluteAddition second on = refl
+first_composes kinds.AbsoluteSubtraction second on = refl
+first_composes kinds.AbsoluteSetWord6 second on = refl
+first_composes kinds.AbsoluteAdditionWord6 second on = refl
+first_composes kinds.AbsoluteSubtractionWord6 second on = refl
+first_composes _ second on = no on
+
+number_composes : (second : RelocationKind) → changes_number second ≡ true → is_composing second ≡ true
+number_composes kinds.AbsoluteAddition on = refl
+number_composes kinds.AbsoluteSubtraction on = refl
+number_composes _ on = no on
+
+bits_compose : (second : RelocationKind) → changes_bits second ≡ true → is_composing second ≡ true
+bits_compose kinds.AbsoluteAdditionWord6 on = refl
+bits_compose kinds.AbsoluteSubtractionWord6 on = refl
+bits_compose _ on = no on
+
+pub second_composes : (first second : RelocationKind) → continues first second ≡ true
+    → is_composing second ≡ true
+second_composes kinds.AbsoluteSet second on = number_composes second on
+second_composes kinds.AbsoluteAddition second on = number_composes second on
+second_composes kinds.AbsoluteSubtraction second on = number_composes second on
+second_composes kinds.AbsoluteSetWord6 second on = bits_compose second on
+second_composes kinds.AbsoluteAdditionWord6 second on = bits_compose second on
+second_composes kinds.AbsoluteSubtractionWord6 second on = bits_compose second on
+second_composes _ second on = no on
+
+number_plain : (second : RelocationKind) → changes_number second ≡ true → is_word6 second ≡ false
+number_plain kinds.AbsoluteAddition on = refl
+number_plain kinds.AbsoluteSubtraction on = refl
+number_plain _ on = no on
+
+bits_word6 : (second : RelocationKind) → changes_bits second ≡ true → is_word6 second ≡ true
+bits_word6 kinds.AbsoluteAdditionWord6 on = refl
+bits_word6 kinds.AbsoluteSubtractionWord6 on = refl
+bits_word6 _ on = no on
+
+-- values that compose are of as many bits
+pub alike : (first second : RelocationKind) → continues first second ≡ true
+    → is_word6 first ≡ is_word6 second
+alike kinds.AbsoluteSet second on = sym (number_plain second on)
+alike kinds.AbsoluteAddition second on = sym (number_plain second on)
+alike kinds.AbsoluteSubtraction second on = sym (number_plain second on)
+alike kinds.AbsoluteSetWord6 second on = sym (bits_word6 second on)
+alike kinds.AbsoluteAdditionWord6 second on = sym (bits_word6 second on)
+alike kinds.AbsoluteSubtractionWord6 second on = sym (bits_word6 second on)
+alike _ second on = no on
+
+-- ---- rows
+
+abbrev is_sized : RelocationSize → RelocationKind → Bool
+is_sized (ByteSize n) kind = true
+is_sized (BitMasking bits insn) kind = not (is_composing kind)
+
+abbrev is_sized_row : Option RelocationKindInfo → Bool
+is_sized_row None = true
+is_sized_row (Some row) = is_sized row.size row.kind
+
+sized_aarch64 : (name : AArch64Relocation) → is_sized_row (aarch64_row name) ≡ true
+sized_aarch64 (aarch64_names.Other code) = refl
+sized_aarch64 _ = refl
+
+sized_riscv : (name : RiscVRelocation) → is_sized_row ((riscv_relocation name).row) ≡ true
+sized_riscv (riscv_names.Other code) = refl
+sized_riscv _ = refl
+
+sized_loongarch : (name : LoongArch64Relocation) → is_sized_row (loongarch_row name) ≡ true
+sized_loongarch (loongarch_names.Other code) = refl
+sized_loongarch _ = refl
+
+sized_ppc64 : (name : Ppc64Relocation) → is_sized_row (ppc64_row name) ≡ true
+sized_ppc64 (ppc64_names.Other code) = refl
+sized_ppc64 _ = refl
+
+sized_x86_64 : (name : X86_64Relocation) → is_sized_row (x86_64_row name) ≡ true
+sized_x86_64 (x86_64_names.Other code) = refl
+sized_x86_64 _ = refl
+
+-- and each `auipc` has a value
+abbrev is_valued : RelocationSize → RelocationKind → Bool
+is_valued size kind = not (is_auipc size) || has_value kind
+
+abbrev is_valued_row : Option RelocationKindInfo → Bool
+is_valued_row None = true
+is_valued_row (Some row) = is_valued row.size row.kind
+
+valued_aarch64 : (name : AArch64Relocation) → is_valued_row (aarch64_row name) ≡ true
+valued_aarch64 (aarch64_names.Other code) = refl
+valued_aarch64 _ = refl
+
+valued_riscv : (name : RiscVRelocation) → is_valued_row ((riscv_relocation name).row) ≡ true
+valued_riscv (riscv_names.Other code) = refl
+valued_riscv _ = refl
+
+valued_loongarch : (name : LoongArch64Relocation) → is_valued_row (loongarch_row name) ≡ true
+valued_loongarch (loongarch_names.Other code) = refl
+valued_loongarch _ = refl
+
+valued_ppc64 : (name : Ppc64Relocation) → is_valued_row (ppc64_row name) ≡ true
+valued_ppc64 (ppc64_names.Other code) = refl
+valued_ppc64 _ = refl
+
+valued_x86_64 : (name : X86_64Relocation) → is_valued_row (x86_64_row name) ≡ true
+valued_x86_64 (x86_64_names.Other code) = refl
+valued_x86_64 _ = refl
+
+test_of : {Name : Type 0} (elf : Name → ElfName) (row_of : Name → Option RelocationKindInfo)
+    (code : ℕ) (row : Option RelocationKindInfo) (test : Option RelocationKindInfo → Bool)
+    → ((name : Name) → test (row_of name) ≡ true) → IsOf elf row_of code row
+    → test row ≡ true
+test_of elf row_of code row test all is = ap test is.value_is ∙ all is.name
+
+sized : (architecture : Architecture) (code : ℕ) (row : Option RelocationKindInfo)
+    → IsRow architecture code row → is_sized_row row ≡ true
+sized AArch64 code row is = test_of aarch64_name aarch64_row code row is_sized_row sized_aarch64 is
+sized RiscV code row is = test_of riscv_name (λ name. (riscv_relocation name).row) code row is_sized_row sized_riscv is
+sized LoongArch64 code row is = test_of loongarch_name loongarch_row code row is_sized_row sized_loongarch is
+sized Ppc64 code row is = test_of ppc64_name ppc64_row code row is_sized_row sized_ppc64 is
+sized X86_64 code row is = test_of x86_64_name x86_64_row code row is_sized_row sized_x86_64 is
+
+valued : (architecture : Architecture) (code : ℕ) (row : Option RelocationKindInfo)
+    → IsRow architecture code row → is_valued_row row ≡ true
+valued AArch64 code row is = test_of aarch64_name aarch64_row code row is_valued_row valued_aarch64 is
+valued RiscV code row is = test_of riscv_name (λ name. (riscv_relocation name).row) code row is_valued_row valued_riscv is
+valued LoongArch64 code row is = test_of loongarch_name loongarch_row code row is_valued_row valued_loongarch is
+valued Ppc64 code row is = test_of ppc64_name ppc64_row code row is_valued_row valued_ppc64 is
+valued X86_64 code row is = test_of x86_64_name x86_64_row code row is_valued_row valued_x86_64 is
+
+-- a size of whole bytes, as many as a field of another has
+size_of : (size : RelocationSize) (kind : RelocationKind) (n : ℕ) → is_sized size kind ≡ true
+    → is_composing kind ≡ true → size_len size ≡ n → size ≡ ByteSize n
+size_of (ByteSize m) kind n sized composing len = ap ByteSize len
+size_of (BitMasking bits insn) kind n sized composing len =
+    no (sym (ap not composing) ∙ sized)
+
+-- a row of which a value composes is of whole bytes
+pub whole_bytes : (architecture : Architecture) (code : ℕ) (row : RelocationKindInfo) (n : ℕ)
+    → IsRow architecture code (Some row) → is_composing row.kind ≡ true → window_len row ≡ n
+    → row.size ≡ ByteSize n
+whole_bytes architecture code row n is_row composing len =
+    size_of row.size row.kind n (sized architecture code (Some row) is_row) composing len
+
+-- and one of an instruction composes with none
+instruction_size : (size : RelocationSize) (kind : RelocationKind) (bits : BitRange)
+    (insn : RelocationInstruction) → size ≡ BitMasking bits insn → is_sized size kind ≡ true
+    → is_composing kind ≡ false
+instruction_size size kind bits insn same sized =
+    not-true (is_composing kind) (subst (λ x. is_sized x kind ≡ true) same sized)
+
+pub instruction_alone : (architecture : Architecture) (code : ℕ) (row : RelocationKindInfo)
+    (bits : BitRange) (insn : RelocationInstruction) → IsRow architecture code (Some row)
+    → row.size ≡ BitMasking bits insn → is_composing row.kind ≡ false
+instruction_alone architecture code row bits insn is_row same =
+    instruction_size row.size row.kind bits insn same (sized architecture code (Some row) is_row)
+
+pub auipc_valued : (architecture : Architecture) (code : ℕ) (row : RelocationKindInfo)
+    → IsRow architecture code (Some row) → is_auipc row.size ≡ true → has_value row.kind ≡ true
+auipc_valued architecture code row is_row auipc =
+    elim (or_cases (not (is_auipc row.size)) (has_value row.kind) (valued architecture code (Some row) is_row)) [
+      | inl isnt ↦ no (sym (ap not auipc) ∙ isnt)
+      | inr has ↦ has
+    ]

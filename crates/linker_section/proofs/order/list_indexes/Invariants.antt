@@ -1,0 +1,9 @@
+use Rattle.std.proofs.Common.{◌≡◌, ℕ, ◌<◌, length}
+use Rattle.std.specs.Prelude.{slice_index}
+use Rattle.linker_section.proofs.order.list_indexes.Given as goal
+
+abbrev pub invariant-loop-index : goal.invariant-loop-index
+invariant-loop-index l = record {
+  same_length : length l.order ≡ length l.fn.order;
+  so_far : (i : ℕ) → i < l.index → slice_index l.order i ≡ i;
+}

@@ -1,0 +1,6 @@
+use Rattle.std.proofs.Common.{ap, false}
+use Rattle.std.specs.Prelude.{pos}
+use Rattle.linker_section.proofs.values.serves_stub.Goals as goal
+
+pub returns : goal.returns
+returns c = ap (λ r. r.may_use_stub) (c.requires (pos 0) false)

@@ -1,0 +1,38 @@
+use Rattle.std.proofs.Common.{◌≡◌, ◌∙◌, ap, refl, Some, None, slice_get, arith, length}
+use Rattle.std.specs.Prelude.{option_map}
+use Rattle.std.proofs.lemmas.Option.{slice_get_past, slice_get_read}
+use Rattle.linker_utils_c.proofs.Provided.{symbols_at, view_symbol}
+use Rattle.linker_utils_c.proofs.output.put_symbol.Goals as goal
+
+pub returns-in_default : goal.returns-in_default
+returns-in_default c =
+    let all = c.args.target.now.symbols.now in
+    let none : slice_get all c.args.index ≡ None = slice_get_past all c.args.index (omega (arith, c.in_default.ensures.lookup)) in
+    rw (symbols_at all c.args.index ∙ ap (option_map view_symbol) none) (c.number.ensures, refl, refl, refl)
+
+pub returns-then-name-provided : goal.returns-then-name-provided
+returns-then-name-provided c =
+    let all = c.args.target.now.symbols.now in
+    let lookup = c.in-Some.ensures.lookup in
+    let here : slice_get all c.args.index ≡ Some c.in-Some.provided.now =
+    slice_get_read all (length all) c.args.index c.in-Some.provided.now refl lookup.3.0 lookup.1 in
+    rw (symbols_at all c.args.index ∙ ap (option_map view_symbol) here) (record {
+      copied = record {
+        fits = λ fits. absurd (omega (arith, fits, c.if-name-provided.true));
+        short = λ short. (c.number-then-name-provided.ensures, refl, refl);
+      };
+      fits = λ fits. absurd (omega (arith, fits, c.if-name-provided.true));
+      short = λ short. refl;
+    })
+
+pub returns : goal.returns
+returns c =
+    let all = c.args.target.now.symbols.now in
+    let lookup = c.in-Some.ensures.lookup in
+    let here : slice_get all c.args.index ≡ Some c.in-Some.provided.now =
+    slice_get_read all (length all) c.args.index c.in-Some.provided.now refl lookup.3.0 lookup.1 in
+    rw (symbols_at all c.args.index ∙ ap (option_map view_symbol) here) (record {
+      copied = c.put_text.ensures;
+      fits = λ fits. rw c.place_number.ensures refl;
+      short = λ short. absurd (omega (arith, short, c.if-name-provided.false));
+    })

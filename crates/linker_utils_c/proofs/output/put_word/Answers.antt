@@ -1,0 +1,32 @@
+use Rattle.std.proofs.Common.{◌≡◌, ◌∙◌, ap, sym, refl, Some, None, slice_get, arith, length}
+use Rattle.std.specs.Prelude.{option_map}
+use Rattle.std.proofs.lemmas.Option.{slice_get_past, slice_get_read}
+use Rattle.linker_output.specs.View.{view_run}
+use Rattle.linker_utils_c.proofs.Provided.{runs_at}
+use Rattle.linker_utils_c.proofs.output.put_word.Goals as goal
+
+pub returns-in_default : goal.returns-in_default
+returns-in_default c =
+    let all = c.args.target.now.runs.now in
+    let none : slice_get all c.args.run ≡ None = slice_get_past all c.args.run (omega (arith, c.in_default.ensures.lookup)) in
+    rw (runs_at all c.args.run ∙ ap (option_map view_run) none) (c.number.ensures, refl)
+
+pub returns-in-Some-word_at : goal.returns-in-Some-word_at
+returns-in-Some-word_at c =
+    let all = c.args.target.now.runs.now in
+    let lookup = c.in-Some.ensures.lookup in
+    let here : slice_get all c.args.run ≡ Some c.in-Some.provided.now =
+    slice_get_read all (length all) c.args.run c.in-Some.provided.now refl lookup.3.0 lookup.1 in
+    rw (runs_at all c.args.run ∙ ap (option_map view_run) here) (
+    rw (sym c.word_at.ensures ∙ c.in-Some-word_at.is) (c.number-in-Some-word_at.ensures, refl)
+    )
+
+pub returns-in-None : goal.returns-in-None
+returns-in-None c =
+    let all = c.args.target.now.runs.now in
+    let lookup = c.in-Some.ensures.lookup in
+    let here : slice_get all c.args.run ≡ Some c.in-Some.provided.now =
+    slice_get_read all (length all) c.args.run c.in-Some.provided.now refl lookup.3.0 lookup.1 in
+    rw (runs_at all c.args.run ∙ ap (option_map view_run) here) (
+    rw (sym c.word_at.ensures ∙ c.in-None.is) (c.number-in-None.ensures, refl)
+    )

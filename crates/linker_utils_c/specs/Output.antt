@@ -1,0 +1,190 @@
+-- What a linker adds to an output, in the numbers that C sees.
+use Rattle.std.specs.Prelude.{◌≡◌, ◌⊎◌, ℕ, ◌<◌, ◌≤◌, ◌==◌, if◌then◌else◌, List, [], ◌∷◌, length}
+use Rattle.std.specs.Prelude.{Bool, Option, Some, None, Err}
+use Rattle.linker_output.specs.Dynamic.{DynamicKind, DynamicKinds, dynamic_words}
+use Rattle.linker_output.specs.Got.{entry_words, static_words}
+use Rattle.linker_output.specs.Layout.{Run, run_len, run_word}
+use Rattle.linker_output.specs.Stubs.{StubCode, told_len, WritesStub, RejectsStub}
+use Rattle.linker_output.specs.View.{Description, Symbol}
+use Rattle.linker_output.specs.declared.got.Origins.{Origins}
+use Rattle.linker_output.specs.declared.layout.SymbolPlace.{SymbolPlace}
+use Rattle.linker_output.specs.declared.layout.SymbolPlace.TheVariants.{ThreadLocal, Got, SmallData}
+use Rattle.linker_output.specs.declared.stubs.StubError.{StubError}
+use Rattle.linker_output.specs.declared.stubs.StubError.TheVariants as errors
+use Rattle.linker_output.specs.declared.stubs.StubKind.{StubKind}
+use Rattle.linker_output.specs.declared.stubs.StubKind.TheVariants.{Load, Jump}
+use Rattle.linker_section.specs.declared.needed.EntryClass.{EntryClass}
+use Rattle.linker_section.specs.declared.needed.EntryClass.TheVariants.{Address, ThreadOffset}
+use Rattle.linker_section.specs.declared.needed.EntryClass.TheVariants.{ModuleOffset, Module}
+use Rattle.linker_section.specs.declared.needed.EntryClass.TheVariants.{Descriptor}
+use Rattle.linker_utils.specs.declared.elf.Architecture.{Architecture}
+use Rattle.linker_utils_c.specs.Relocate.{write_status}
+use Rattle.linker_utils_c.specs.Relocations.{IsCopied}
+use Rattle.linker_utils_c.specs.Status.{code}
+use Rattle.linker_utils_c.specs.declared.output.DynamicCodes.{DynamicCodes}
+use Rattle.linker_utils_c.specs.declared.output.EntryWords.{EntryWords}
+use Rattle.linker_utils_c.specs.declared.output.GotNumbers.{GotNumbers}
+use Rattle.linker_utils_c.specs.declared.output.RunNumbers.{RunNumbers}
+use Rattle.linker_utils_c.specs.declared.output.StubNumbers.{StubNumbers}
+use Rattle.linker_utils_c.specs.declared.output.SymbolNumbers.{SymbolNumbers}
+use Rattle.linker_utils_c.specs.declared.output.WordCodes.{WordCodes}
+use Rattle.linker_utils_c.specs.declared.status.Status.{Status}
+use Rattle.linker_utils_c.specs.declared.status.Status.TheVariants.{Success, TooShort}
+use Rattle.linker_utils_c.specs.declared.status.Status.TheVariants.{UnknownEntryClass}
+use Rattle.linker_utils_c.specs.declared.status.Status.TheVariants.{DifferentFlags, UnknownStub}
+use Rattle.linker_utils_c.specs.declared.status.Status.TheVariants.{NotProvided}
+
+-- ---- dynamic relocations
+
+-- 0 where the psABI has no such type
+abbrev pub code_or_none : Option DynamicKind → ℕ
+code_or_none None = 0
+code_or_none (Some kind) = kind.code
+
+abbrev pub codes_of : DynamicKinds → DynamicCodes
+codes_of types =
+    record {
+      word = types.word.code;
+      relative = types.relative.code;
+      glob_dat = types.glob_dat.code;
+      jump_slot = types.jump_slot.code;
+      copy = types.copy.code;
+      irelative = types.irelative.code;
+      module_number = types.module_number.code;
+      module_offset = types.module_offset.code;
+      thread_offset = types.thread_offset.code;
+      descriptor = code_or_none types.descriptor;
+    }
+
+-- a text is copied, or the status says that there is none
+abbrev pub IsTextReturned : Option (List ℕ) → ℕ → List ℕ → List ℕ → ℕ → ℕ → ℕ → Type 0
+IsTextReturned (Some text) absent before after used_before used status =
+    IsCopied text before after used_before used status
+IsTextReturned None absent before after used_before used status =
+    (status ≡ absent) × (after ≡ before) × (used ≡ used_before)
+
+-- ---- entries of the GOT
+
+-- the class with a number
+abbrev pub class_of : ℕ → Option EntryClass
+class_of number =
+    if number == 1 then Some Address
+    else if number == 2 then Some ThreadOffset
+    else if number == 3 then Some ModuleOffset
+    else if number == 4 then Some Module
+    else if number == 5 then Some Descriptor
+    else None
+
+-- 0 of a word without a dynamic relocation
+abbrev pub number_or_none : Option ℕ → ℕ
+number_or_none None = 0
+number_or_none (Some number) = number
+
+abbrev pub AreCodes : List (Option ℕ) → WordCodes → Type 0
+AreCodes (first ∷ second ∷ []) words =
+    words ≡ record { first = number_or_none first; second = number_or_none second }
+AreCodes others words = ⊥
+
+abbrev pub AreWordsReturned : DynamicKinds → Option EntryClass → Bool → Bool → WordCodes
+    → WordCodes → ℕ → Type 0
+AreWordsReturned types None is_bound is_executable old new status =
+    (status ≡ code UnknownEntryClass) × (new ≡ old)
+AreWordsReturned types (Some class) is_bound is_executable old new status =
+    (status ≡ code Success) × AreCodes (dynamic_words types class is_bound is_executable) new
+
+-- 0 of no class
+abbrev pub entry_words_of : Option EntryClass → ℕ
+entry_words_of None = 0
+entry_words_of (Some class) = entry_words class
+
+abbrev pub AreStaticWords : Option (List ℕ) → EntryWords → EntryWords → ℕ → Type 0
+AreStaticWords (Some (first ∷ second ∷ [])) old new status =
+    (status ≡ code Success) × (new ≡ record { first = first; second = second })
+AreStaticWords others old new status = (status ≡ code UnknownEntryClass) × (new ≡ old)
+
+abbrev pub AreStaticReturned : Option EntryClass → ℕ → Origins → EntryWords → EntryWords → ℕ
+    → Type 0
+AreStaticReturned None address origins old new status =
+    (status ≡ code UnknownEntryClass) × (new ≡ old)
+AreStaticReturned (Some class) address origins old new status =
+    AreStaticWords (static_words class address origins) old new status
+
+-- the first word, if it isn't an entry
+abbrev pub IsHeader : Option ℕ → GotNumbers → Type 0
+IsHeader None got = (got.has_header ≡ 0) × (got.header ≡ 0)
+IsHeader (Some word) got = (got.has_header ≡ 1) × (got.header ≡ word)
+
+-- ---- the file header
+
+abbrev pub AreFlagsReturned : Option ℕ → ℕ → ℕ → ℕ → Type 0
+AreFlagsReturned None old new status = (status ≡ code DifferentFlags) × (new ≡ old)
+AreFlagsReturned (Some flags) old new status = (status ≡ code Success) × (new ≡ flags)
+
+-- ---- what linkers provide
+
+abbrev pub place_number : SymbolPlace → ℕ
+place_number ThreadLocal = 0
+place_number Got = 1
+place_number SmallData = 2
+
+-- a text is copied and numbers are written, or neither
+pub record AreBothCopied {A : Type 0} (text before after : List ℕ) (used_before used : ℕ)
+    (numbers old new : A) (status : ℕ) : Type 0 where
+  pub copied : IsCopied text before after used_before used status
+  pub fits : length text ≤ length before → new ≡ numbers
+  pub short : length before < length text → new ≡ old
+
+abbrev pub IsSymbolReturned : Option Symbol → List ℕ → List ℕ → ℕ → ℕ → SymbolNumbers
+    → SymbolNumbers → ℕ → Type 0
+IsSymbolReturned None before after used_before used old new status =
+    (status ≡ code NotProvided) × (after ≡ before) × (used ≡ used_before) × (new ≡ old)
+IsSymbolReturned (Some symbol) before after used_before used old new status =
+    AreBothCopied symbol.name before after used_before used
+    (record { offset = symbol.offset; place = place_number symbol.place }) old new status
+
+abbrev pub IsRunReturned : Option Run → List ℕ → List ℕ → ℕ → ℕ → RunNumbers → RunNumbers → ℕ
+    → Type 0
+IsRunReturned None before after used_before used old new status =
+    (status ≡ code NotProvided) × (after ≡ before) × (used ≡ used_before) × (new ≡ old)
+IsRunReturned (Some run) before after used_before used old new status =
+    AreBothCopied run.prefix before after used_before used
+    (record { len = run_len run; first = run.first; count = run.count }) old new status
+
+abbrev pub IsFoundWord : Option ℕ → ℕ → ℕ → ℕ → Type 0
+IsFoundWord None old new status = (status ≡ code NotProvided) × (new ≡ old)
+IsFoundWord (Some word) old new status = (status ≡ code Success) × (new ≡ word)
+
+abbrev pub IsWordReturned : Option Run → ℕ → ℕ → ℕ → ℕ → Type 0
+IsWordReturned None index old new status = (status ≡ code NotProvided) × (new ≡ old)
+IsWordReturned (Some run) index old new status = IsFoundWord (run_word run index) old new status
+
+-- ---- stubs
+
+-- the kind with a number
+abbrev pub stub_kind_of : ℕ → Option StubKind
+stub_kind_of number =
+    if number == 0 then Some Load
+    else if number == 1 then Some Jump
+    else None
+
+abbrev pub stub_in : Description → Option StubKind → Option StubCode
+stub_in target None = None
+stub_in target (Some Load) = Some target.load_stub
+stub_in target (Some Jump) = target.jump_stub
+
+abbrev pub IsStubReturned : Option StubCode → StubNumbers → StubNumbers → ℕ → Type 0
+IsStubReturned None old new status = (status ≡ code UnknownStub) × (new ≡ old)
+IsStubReturned (Some stub) old new status =
+    (status ≡ code Success) × (new ≡ record { len = told_len stub; entry = stub.entry })
+
+abbrev pub stub_status : StubError → Status
+stub_status errors.Missing = UnknownStub
+stub_status errors.TooShort = TooShort
+stub_status (errors.Field error) = write_status (Err error)
+
+-- a stub is written, or its error is returned and nothing is
+abbrev pub IsStubWritten : Architecture → Option StubCode → ℕ → ℕ → List ℕ → List ℕ → ℕ → Type 0
+IsStubWritten architecture stub place target before after status =
+    ((status ≡ code Success) × WritesStub architecture stub place target before after)
+    ⊎ ((error : StubError) × (status ≡ code (stub_status error)) × (after ≡ before)
+    × RejectsStub architecture stub place target before error)

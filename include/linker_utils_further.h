@@ -1,0 +1,758 @@
+/* The further calls of linker_utils.h, which includes this file. What is said there of all calls
+ * holds for these. */
+#ifndef LINKER_UTILS_FURTHER_H
+#define LINKER_UTILS_FURTHER_H
+
+#ifndef LINKER_UTILS_H
+#error "Include linker_utils.h."
+#endif
+
+/* ---- Relocations: what they mean.
+ *
+ * The statuses LINKER_UTILS_UNKNOWN_ARCHITECTURE and LINKER_UTILS_UNKNOWN_RELOCATION come first,
+ * except where `linker_utils_relocate_all` says otherwise. */
+
+/* What a relocation means. `linker_utils_value` and `linker_utils_relocate` apply it in these
+ * steps, with <elf.h>'s names of the relocation's fields:
+ * 1. Add `bias` to the address that the formula of `kind` begins with: S + A, or the GOT entry's,
+ *    with A where `struct linker_utils_operands` says so.
+ * 2. Round the addresses that `mask` names down to their page, and compute the value v by the
+ *    formula.
+ * 3. Where `has_range` is 1, v has to be `min` or above, and below `max`. v has to be a multiple of
+ *    `alignment`.
+ * 4. Where `is_bits` is 0, write the low `byte_size` bytes of v at `r_offset`, lowest first. Where
+ *    it is 1, take the bits of v from `first_bit` up, below `end_bit`, as a number. Write that with
+ *    `linker_utils_write` and the form to the window that begins at `r_offset`, with `negative` set
+ *    where v itself is below 0.
+ * The range is that of v; `linker_utils_reach` is what can be written. */
+struct linker_utils_relocation_info {
+    uint32_t kind; /* `enum linker_utils_relocation_kind` */
+    /* The form of the instruction that the bits go into, by the machine's enum. 0 for bytes. */
+    uint32_t form;
+    uint32_t mask; /* `enum linker_utils_mask` */
+    uint16_t machine; /* The machine, `enum linker_utils_architecture`. 0 for bytes. */
+    /* 1 where bits of the value go into an instruction, 0 where it goes into whole bytes. */
+    uint8_t is_bits;
+    uint8_t byte_size; /* How many bytes. 0 for bits. */
+    /* The value's bits that are taken: `first_bit` and up, below `end_bit`. 0 for bytes. */
+    uint8_t first_bit;
+    uint8_t end_bit;
+    /* 1 where only values from `min` up, below `max`, are allowed. 0 where all values are; `min`
+     * and `max` are 0 then. */
+    uint8_t has_range;
+    uint8_t thunkable; /* 1 where a thunk may replace a target that is out of range, else 0. */
+    /* 1 where the addend is in the section, 0 where it is in the relocation. */
+    uint8_t implicit_addend;
+    int64_t min;
+    int64_t max;
+    uint64_t alignment; /* What the value has to be a multiple of; 1 for any value. */
+    uint64_t bias; /* What is added first; 0 where nothing is. */
+};
+
+/* What a relocation means, by `e_machine` and ELF's relocation type. */
+uint32_t linker_utils_relocation(uint16_t machine, uint32_t r_type,
+                                 struct linker_utils_relocation_info *info);
+
+/* Whether the relocation requires a GOT entry: its value depends on where the symbol's GOT entry,
+ * its entries for TLS or its TLS descriptor are, `got_entry` of `struct linker_utils_operands`. A
+ * relocation that only counts from the GOT's address, as R_X86_64_GOTOFF64 and R_PPC64_TOC16,
+ * requires none. Nor does one whose symbol labels the high part of a RISC-V pair, as
+ * R_RISCV_TLSDESC_LOAD_LO12: the high part does. False where the machine or the type is unknown. */
+bool linker_utils_asks_for_got(uint16_t machine, uint32_t r_type);
+
+/* Whether a PLT entry may serve as the relocation's target. Its value depends on `plt_entry` of
+ * `struct linker_utils_operands`, or it is that of a branch, conditional or not, which only goes to
+ * the address. Where the formula of a branch has S in place of L, as that of R_PPC64_REL24, pass
+ * the entry's address as `symbol`. For functions that another file may define, RISC-V compilers use
+ * only R_RISCV_CALL, R_RISCV_CALL_PLT and R_RISCV_PLT32 of these. False for R_X86_64_PC32, which
+ * loads have too, and where the machine or the type is unknown. */
+bool linker_utils_may_use_plt(uint16_t machine, uint32_t r_type);
+
+/* Whether the relocation has a type that one skipped after a rewrite has. They are R_RISCV_RELAX
+ * and, of a call of `__tls_get_addr` in a sequence, R_PPC64_REL24, R_PPC64_REL24_NOTOC,
+ * R_X86_64_PLT32, R_X86_64_PC32, R_X86_64_GOTPCREL, R_X86_64_GOTPCRELX and R_X86_64_PLTOFF64. False
+ * of all others, and where the machine is unknown. */
+bool linker_utils_may_be_skipped(uint16_t machine, uint32_t r_type);
+
+/* What R_RISCV_HI20 means at a `c.lui`, which LINKER_UTILS_RISCV_REWRITE_HI20_TO_C_LUI leaves. */
+void linker_utils_clui_rel_info(struct linker_utils_relocation_info *info);
+
+/* A relocation of a section. */
+struct linker_utils_relocation_entry {
+    uint64_t offset; /* The offset in the section of the first byte that is written. */
+    int64_t value; /* The value, as `linker_utils_value` returns it. */
+    uint32_t r_type; /* The relocation's type. */
+};
+
+/* Applies several relocations of a section, in order. It stops at the first that is rejected:
+ * `faulty` is its index, and the status says why. Those before it are written; it and those after
+ * it are not. With LINKER_UTILS_UNKNOWN_ARCHITECTURE `faulty` is unchanged. An offset past the
+ * section's end is LINKER_UTILS_TOO_SHORT whatever the relocation's type, even if
+ * LINKER_UTILS_UNKNOWN_RELOCATION or LINKER_UTILS_UNSUPPORTED applies too. */
+static inline uint32_t linker_utils_relocate_all(
+    uint16_t machine, uint8_t *section, size_t section_len,
+    const struct linker_utils_relocation_entry *relocations, size_t relocations_len,
+    size_t *faulty);
+
+/* ---- Calls on PowerPC64 (64-bit ELF V2 ABI for Power, "Function Call Linkage Protocols" and
+ * "Symbol Values").
+ *
+ * A function may have two entry points. The global one is at the symbol's value, and is entered
+ * with its own address in r12, from which it makes its TOC pointer in r2. The local one is entered
+ * with the TOC pointer in r2. Bits 5 to 7 of `st_other`, as a number v, say where it is:
+ *   0       at the global one. The function neither uses nor changes r2.
+ *   1       at the global one. The function doesn't use r2, and may have changed it on return.
+ *   2 to 6  2^v bytes past the global one: 4, 8, 16, 32 or 64.
+ *   7       reserved
+ * Which address a call takes as `symbol`, and what has to be behind the call:
+ * - R_PPC64_REL24 and R_PPC64_REL14: the caller has its TOC pointer in r2, and expects it there on
+ *   return. For a function of the same output with the same TOC and v other than 1 the address is
+ *   that of the local entry point. The `nop` behind the call, if there is one, stays then. Else it
+ *   is that of a stub, which stores r2 at r1 + 24 and enters the function. It goes through the PLT
+ *   with the doubleword there in r12, or where v is 1 directly. Then the `nop` behind the call has
+ *   to become `ld 2,24(1)`, which `linker_utils_choose` at the R_PPC64_REL24 says where
+ *   `may_change_toc` is set. If no `nop` is there, as behind the `b` of a tail call, the rewrite is
+ *   NO_OP, the stub can't be used, and linkers report an error.
+ * - R_PPC64_REL24_NOTOC: the caller keeps nothing in r2, and no `nop` is behind. For a function of
+ *   the same output with v 0 or 1 the address is its own. With v from 2 up it is that of a stub
+ *   that sets r12 to the global entry point, by its own place, and goes there. Through the PLT it
+ *   sets r12 to the doubleword there. Neither stub stores r2.
+ * - R_PPC64_PLT16_HA, R_PPC64_PLT16_LO_DS, R_PPC64_PLT_PCREL34 and its _NOTOC load the doubleword
+ *   of `.plt` themselves: `plt_entry` is its address, and no stub is needed. R_PPC64_PLTSEQ and
+ *   R_PPC64_PLTCALL, and their _NOTOC, mark the other instructions of such a call, and the `ld
+ *   2,24(1)` is in the object.
+ * - `bl __tls_get_addr` has R_PPC64_TLSGD or R_PPC64_TLSLD and then R_PPC64_REL24 or
+ *   R_PPC64_REL24_NOTOC at the same offset. After a rewrite of the former the latter is skipped.
+ *   Before R_PPC64_REL24_NOTOC the former isn't rewritten: the instruction that computes the
+ *   entry's address is a prefixed one then, for which there is no rewrite. */
+
+/* ---- Forms: values in the immediates of instructions.
+ *
+ * A machine and a number of one of its enum of forms name a form. A form has a window: the bytes of
+ * the instruction, or of the pair, little-endian. Its value is a number of as many bits as the
+ * enums below say, in the instruction's own unit: for `bl` a distance in words of 4 bytes. `struct
+ * linker_utils_relocation_info` tells how a relocation's value becomes the form's value. The
+ * statuses LINKER_UTILS_UNKNOWN_ARCHITECTURE and LINKER_UTILS_UNKNOWN_FORM come first. */
+
+/* The length in bytes of a form's window, into `window`. */
+uint32_t linker_utils_window(uint16_t machine, uint32_t form, size_t *window);
+
+/* LINKER_UTILS_OK where `linker_utils_write` of the value to these bytes would return that.
+ * Otherwise LINKER_UTILS_TOO_SHORT where there are fewer bytes than the window, or
+ * LINKER_UTILS_DOES_NOT_FIT where the value has more bits than the form. */
+static inline uint32_t linker_utils_fits(uint16_t machine, uint32_t form, uint64_t value,
+                                         const uint8_t *bytes, size_t bytes_len);
+
+/* Writes a value into the instruction that `dest` begins with, and changes no other bit. `negative`
+ * is the value's sign, which matters only to LINKER_UTILS_AARCH64_FORM_MOVNZ.
+ * LINKER_UTILS_TOO_SHORT, LINKER_UTILS_DOES_NOT_FIT. */
+static inline uint32_t linker_utils_write(uint16_t machine, uint32_t form, uint64_t value,
+                                          bool negative, uint8_t *dest, size_t dest_len);
+
+/* Reads the value in the instruction that `bytes` begins with, modulo 2^64, into `value`, and into
+ * `negative` 1 where the form says that it is negative, else 0. LINKER_UTILS_TOO_SHORT. */
+static inline uint32_t linker_utils_read(uint16_t machine, uint32_t form, const uint8_t *bytes,
+                                         size_t bytes_len, uint64_t *value, uint8_t *negative);
+
+/* The number that the machine makes of the immediate of the instruction that the bytes begin with,
+ * into `number`: with its sign, and times what it counts. So distances and offsets are in bytes,
+ * and what an instruction adds, moves or compares is that number, in two's complement of 64 bits.
+ * PowerPC64's `b .-4` has -4, AArch64's `ldr x0, [x1, 0x7ff8]` 0x7ff8, and RISC-V's `lui a0,
+ * 0x12345` 0x12345000. Of a form of 8 bytes it is what both instructions add up to, where the base
+ * of the second is the destination of the first. `linker_utils_read` returns the value as
+ * `linker_utils_write` takes it, whose sign and unit are the form's.
+ *
+ * LINKER_UTILS_UNKNOWN_ARCHITECTURE, also of x86-64; LINKER_UTILS_UNKNOWN_FORM;
+ * LINKER_UTILS_DOES_NOT_MATCH where the bytes don't begin with an instruction of the form, by its
+ * opcode in the architecture's manual. */
+static inline uint32_t linker_utils_operand(uint16_t machine, uint32_t form, const uint8_t *bytes,
+                                            size_t bytes_len, int64_t *number);
+
+/* The forms of the instruction that the bytes begin with, and of both where it and the next one are
+ * a pair. Bit k is that of the form with number k. It calls `linker_utils_operand` of each form. 0
+ * where no form is there, and of x86-64 and unknown machines. */
+static inline uint32_t linker_utils_forms_of(uint16_t machine, const uint8_t *bytes,
+                                             size_t bytes_len);
+
+/* ---- Rewrites: what they write, and what can be rewritten. */
+
+/* LINKER_UTILS_OK where `linker_utils_apply` at this offset would return that, otherwise
+ * LINKER_UTILS_CANNOT_APPLY. It tests whether the bytes to be rewritten are in the section, and for
+ * LINKER_UTILS_AARCH64_REWRITE_MOVK_XN and LINKER_UTILS_AARCH64_REWRITE_LDR_TO_ADD the word there.
+ * It does not test whether the instruction is one that the rewrite is meant for:
+ * `linker_utils_matches` does. */
+static inline uint32_t linker_utils_can_apply(uint16_t machine, uint32_t rewrite,
+                                              uint8_t opcode_len,
+                                              const uint8_t *section, size_t section_len,
+                                              uint64_t offset);
+
+/* The window of a rewrite: the bytes of a section that it writes at an offset. */
+struct linker_utils_window_bounds {
+    uint64_t back; /* How many bytes before the offset it begins. */
+    uint64_t len; /* How many bytes it has; 0 where the rewrite writes none, as NO_OP. */
+};
+
+/* The bytes that `linker_utils_apply` writes at an offset, into `window`: all others stay. Two
+ * rewrites whose windows have a byte in common write over each other. On x86-64 the field of the
+ * relocation after a rewrite may lie behind the window. A general-dynamic TLS sequence has 16
+ * bytes, which are the window's 12 and the field's 4. */
+uint32_t linker_utils_rewrite_window(uint16_t machine, uint32_t rewrite, uint8_t opcode_len,
+                                     struct linker_utils_window_bounds *window);
+
+/* What happens to the next relocation, into `modifier`, by `enum linker_utils_modifier`. */
+uint32_t linker_utils_next_modifier(uint16_t machine, uint32_t rewrite, uint8_t opcode_len,
+                                    uint32_t *modifier);
+
+/* ---- Sequences of instructions. */
+
+/* AArch64: writes the four instructions, in 16 bytes, that load a number into register `rd`.
+ * LINKER_UTILS_TOO_SHORT, LINKER_UTILS_BAD_REGISTER. */
+static inline uint32_t linker_utils_write_mov_sequence(uint8_t *dest, size_t dest_len, uint32_t rd,
+                                                       uint64_t value);
+
+/* LoongArch: makes the five instructions in 20 bytes (pcalau12i, addi.d from $zero, lu32i.d,
+ * lu52i.d, add.d) compute the address `target`, with the first at `pc`. Opcodes and registers are
+ * unchanged. LINKER_UTILS_TOO_SHORT. */
+static inline uint32_t linker_utils_write_address_sequence(uint8_t *dest, size_t dest_len,
+                                                           uint64_t pc, uint64_t target);
+
+/* LoongArch: the number whose bits 32 to 51 and 52 to 63 complete the address `s`, relative to
+ * `pc`, which is the address of the first instruction plus 8. */
+uint64_t linker_utils_highest_relocation_with_bias(uint64_t s, uint64_t pc);
+
+/* PowerPC64: writes a value into a pair of D-form instructions, its adjusted high half into `ha`
+ * and its low half into `lo`. LINKER_UTILS_TOO_SHORT where one has fewer than 4 bytes. */
+static inline uint32_t linker_utils_write_ha_lo(uint8_t *ha, size_t ha_len, uint8_t *lo,
+                                                size_t lo_len, uint64_t value);
+
+/* What the relocation does. */
+enum linker_utils_role linker_utils_uleb128_role(uint16_t machine, uint32_t r_type);
+
+/* Writes a value over the ULEB128 number that `dest` begins with, in as many bytes. All except for
+ * the last are at least 0x80, so that a smaller value is padded with zeros. The following bytes are
+ * unchanged. LINKER_UTILS_ULEB128_ENDED and LINKER_UTILS_ULEB128_TOO_LARGE, both for the existing
+ * number; LINKER_UTILS_DOES_NOT_FIT. */
+static inline uint32_t linker_utils_write_uleb128(uint8_t *dest, size_t dest_len, uint64_t value);
+
+/* Writes what two relocations make of the ULEB128 number that `dest` begins with, in as many bytes:
+ * `r_type` is that of the first, and `first` and `second` are their values, S + A. With
+ * R_RISCV_SET_ULEB128 and R_RISCV_SUB_ULEB128 it is the difference of both. With
+ * R_LARCH_ADD_ULEB128 and R_LARCH_SUB_ULEB128 it is the existing number plus that, modulo 2^64.
+ *
+ * LINKER_UTILS_UNKNOWN_ARCHITECTURE. LINKER_UTILS_UNKNOWN_RELOCATION where the type is none that
+ * sets or adds. Else the errors of `linker_utils_write_uleb128`: a difference below 0 fits ten
+ * bytes alone. */
+static inline uint32_t linker_utils_write_uleb128_pair(uint16_t machine, uint32_t r_type,
+                                                       uint8_t *dest, size_t dest_len,
+                                                       uint64_t first, uint64_t second);
+
+/* ---- Readers. */
+
+/* The little-endian number of the first 4 bytes. LINKER_UTILS_TOO_SHORT. */
+static inline uint32_t linker_utils_u32_from_slice(const uint8_t *bytes, size_t bytes_len,
+                                                   uint32_t *value);
+
+/* The little-endian number of the first 8 bytes. LINKER_UTILS_TOO_SHORT. */
+static inline uint32_t linker_utils_u64_from_slice(const uint8_t *bytes, size_t bytes_len,
+                                                   uint64_t *value);
+
+/* The little-endian number of the first 4 bytes, and how many bytes it took: 4.
+ * LINKER_UTILS_TOO_SHORT. */
+static inline uint32_t linker_utils_read_u32(const uint8_t *bytes, size_t bytes_len,
+                                             uint32_t *value, size_t *consumed);
+
+/* The ULEB128 number that the bytes begin with, and how many bytes it took: at most 10.
+ * LINKER_UTILS_ULEB128_ENDED, LINKER_UTILS_ULEB128_TOO_LARGE. */
+static inline uint32_t linker_utils_read_uleb128(const uint8_t *bytes, size_t bytes_len,
+                                                 uint64_t *value, size_t *consumed);
+
+/* ---- Deletions, further calls. */
+
+/* LINKER_UTILS_OK where `linker_utils_deltas_create` takes the deletions: their offsets strictly
+ * ascend, none reaches past the offset of the next, and each ends at 2^64 - 1 or below. Otherwise
+ * LINKER_UTILS_INVALID_DELETIONS, and `faulty` is the first that ends past that or is not past the
+ * one before it. */
+static inline uint32_t linker_utils_deletions_valid(const struct linker_utils_deletion *deletions,
+                                                    size_t deletions_len, size_t *faulty);
+
+/* As `linker_utils_deltas_create`, but it tests each deletion when it writes its delta, so that it
+ * reads the deletions once. After LINKER_UTILS_INVALID_DELETIONS the deltas may be anything, unless
+ * `deltas_len` is not `deletions_len`. */
+static inline uint32_t linker_utils_deltas_create_in_one_pass(
+    const struct linker_utils_deletion *deletions, size_t deletions_len,
+    struct linker_utils_delta *deltas, size_t deltas_len, size_t *faulty);
+
+/* LINKER_UTILS_OK where `linker_utils_deltas_merge` takes the additional deletions, in any order.
+ * Each ends at 2^64 - 1 or below. Of any two, old or additional, one has the lower offset and does
+ * not reach past the other's. LINKER_UTILS_INVALID_DELETIONS where the deltas list no valid
+ * deletions, LINKER_UTILS_NOT_MERGEABLE. k additional deletions that ascend or descend take one
+ * pass besides the searches in the deltas. It doesn't allocate for those, nor for 1,024 or fewer.
+ * Others are sorted, in a copy of 16 bytes each. Without memory for the copy they take up to k
+ * searches for each longer run that ascends or descends, and for each 1,024 others. These are
+ * sorted on the stack, in 16 KB. */
+static inline uint32_t linker_utils_deletions_mergeable(
+    const struct linker_utils_delta *deltas, size_t deltas_len,
+    const struct linker_utils_deletion *additional, size_t additional_len);
+
+/* Writes the deltas of the old and the additional deletions, sorted, one for each.
+ * LINKER_UTILS_DIFFERENT_LENGTHS where `merged_len` is not the count of both.
+ * LINKER_UTILS_INVALID_DELETIONS where the deltas list no valid deletions, and `faulty` is the
+ * first delta at fault, as above. LINKER_UTILS_NOT_MERGEABLE, and `faulty` is the first additional
+ * deletion that overlaps an old or an earlier additional one, or ends past 2^64 - 1.
+ * LINKER_UTILS_OUT_OF_MEMORY where they can be merged, but no copy of them can be allocated. It
+ * doesn't allocate where the additional deletions ascend and can be merged. Else it sorts a copy of
+ * them, of 8 bytes each, and where 8 bytes are too few or can't be allocated, of 16 bytes each. To
+ * find the first that can't be merged, it allocates further copies, of the first of them. Where an
+ * allocation fails, those deletions are tested as linker_utils_deletions_mergeable tests them. */
+static inline uint32_t linker_utils_deltas_merge(
+    const struct linker_utils_delta *deltas, size_t deltas_len,
+    const struct linker_utils_deletion *additional, size_t additional_len,
+    struct linker_utils_delta *merged, size_t merged_len, size_t *faulty);
+
+/* The output offset of each of the queries, which may not decrease, in one walk through the deltas:
+ * O(n + q). LINKER_UTILS_DIFFERENT_LENGTHS. LINKER_UTILS_NOT_ASCENDING, and `faulty` is the first
+ * query that is less than the one before it. */
+static inline uint32_t linker_utils_deltas_translate_all(
+    const struct linker_utils_delta *deltas, size_t deltas_len, const uint64_t *queries,
+    size_t queries_len, uint64_t *outputs, size_t outputs_len, size_t *faulty);
+
+/* ---- Heads: searches among many deltas are faster with the heads of their blocks, an array in
+ * addition to the deltas. Each call is defined for any heads. Its result is specified for those
+ * that `linker_utils_deltas_heads` wrote for the same deltas, and for any whose number isn't that
+ * of the blocks. */
+
+/* The first delta of a block of 64: its input offset, and its output offset, which is that minus
+ * the bytes of all deletions before it. */
+struct linker_utils_block_head {
+    uint64_t input_offset;
+    uint64_t output_offset;
+};
+
+/* How many blocks of 64 the deltas have; the last may be shorter. */
+static inline size_t linker_utils_deltas_block_count(const struct linker_utils_delta *deltas,
+                                                     size_t deltas_len);
+
+/* Writes the heads of the deltas' blocks, one for each. LINKER_UTILS_DIFFERENT_LENGTHS where
+ * `heads_len` is not `linker_utils_deltas_block_count`. */
+static inline uint32_t linker_utils_deltas_heads(
+    const struct linker_utils_delta *deltas, size_t deltas_len,
+    struct linker_utils_block_head *heads, size_t heads_len);
+
+/* `linker_utils_deltas_input_to_output` with the heads of the deltas' blocks. If there are not as
+ * many heads as blocks, it ignores them. The search takes O(log n). */
+static inline uint64_t linker_utils_deltas_input_to_output_by_heads(
+    const struct linker_utils_delta *deltas, size_t deltas_len,
+    const struct linker_utils_block_head *heads, size_t heads_len, uint64_t input_offset);
+
+/* `linker_utils_deltas_output_to_input` with the heads, likewise. LINKER_UTILS_TOO_LARGE. */
+static inline uint32_t linker_utils_deltas_output_to_input_by_heads(
+    const struct linker_utils_delta *deltas, size_t deltas_len,
+    const struct linker_utils_block_head *heads, size_t heads_len, uint64_t output_offset,
+    uint64_t *input_offset);
+
+/* ---- RISC-V calls that become jumps (RISC-V ELF psABI, "Function Call Relaxation"), and the tests
+ * for shorter instructions. */
+
+/* Replaces the `auipc` at a site of a section by a `jal` over a distance in bytes, with the
+ * `auipc`'s destination register. LINKER_UTILS_OUT_OF_SECTION, LINKER_UTILS_ODD_DISTANCE,
+ * LINKER_UTILS_TOO_FAR. */
+static inline uint32_t linker_utils_jal_site(uint8_t *section, size_t section_len, uint64_t site,
+                                             int64_t distance);
+
+/* Replaces the call at a site of a section by a `jal` over a distance in bytes, which links the
+ * register that `link` chooses of `enum linker_utils_link_register`. The `jalr`'s is right for
+ * every call, as for `tail f` and `call t0, f`. The eight bytes at the site then have to be an
+ * `auipc` and a `jalr` whose base is its register. LINKER_UTILS_UNKNOWN_LINK_REGISTER.
+ * LINKER_UTILS_OUT_OF_SECTION where the four bytes at the site or, with the `jalr`'s register, the
+ * eight bytes are not in the section. LINKER_UTILS_NOT_A_CALL, LINKER_UTILS_ODD_DISTANCE,
+ * LINKER_UTILS_TOO_FAR. */
+static inline uint32_t linker_utils_jal_site_with(uint8_t *section, size_t section_len,
+                                                  uint64_t site, int64_t distance, uint32_t link);
+
+/* As `linker_utils_jal_site`, in a section from which no byte has been removed yet: the distance is
+ * that from the site's output offset to the target's. The target may be the section's end. A target
+ * inside a deletion counts as what follows the deletion. LINKER_UTILS_OUT_OF_SECTION,
+ * LINKER_UTILS_SITE_DELETED, LINKER_UTILS_ODD_DISTANCE, LINKER_UTILS_TOO_FAR. */
+static inline uint32_t linker_utils_relax_call(uint8_t *section, size_t section_len,
+                                               const struct linker_utils_delta *deltas,
+                                               size_t deltas_len, uint64_t site, uint64_t target);
+
+/* Whether the instructions at the site are `auipc` and `jalr` with one register as both
+ * destinations and as the source of the `jalr`. Then a jump that links the `auipc`'s register links
+ * the same one as the call. */
+static inline bool linker_utils_is_plain_call(const uint8_t *section, size_t section_len,
+                                              uint64_t site);
+
+/* Whether a distance in bytes is from -1048576 to 1048575. */
+bool linker_utils_distance_fits_jal(int64_t distance);
+
+/* Whether bits 12 to 31 of the value plus 0x800, modulo 2^64, are 0. */
+bool linker_utils_hi20_is_zero(uint64_t value);
+
+/* Whether `c.lui` holds the high part of a value. That is the value plus 0x800, modulo 2^64 and
+ * read signed, divided by 4096 and rounded down: from -32 to 31 and not 0. */
+bool linker_utils_hi20_fits_clui(uint64_t value);
+
+/* Whether a register can be the destination of `c.lui`: neither x0 nor x2. */
+bool linker_utils_rd_valid_for_clui(uint32_t rd);
+
+/* ---- Packing: the kept bytes of a section, with jumps in place of its calls. */
+
+/* A RISC-V call: the offset in the input section of its `auipc`, and of what it calls. */
+struct linker_utils_call {
+    uint64_t site;
+    uint64_t target;
+};
+
+/* How many bytes of a section are kept: as many as `linker_utils_pack` writes. */
+static inline size_t linker_utils_packed_len(const uint8_t *section, size_t section_len,
+                                             const struct linker_utils_delta *deltas,
+                                             size_t deltas_len);
+
+/* Writes the kept bytes of a section, in order. At each call's site a `jal` to the target's output
+ * offset is written in place of the `auipc`. It links the register that `link` names, by `enum
+ * linker_utils_link_register`. A deletion that reaches past the section's end deletes up to there.
+ * LINKER_UTILS_UNKNOWN_LINK_REGISTER. LINKER_UTILS_CALLS_NOT_APART, and `faulty` is the first call
+ * whose site is less than 4 above that of the one before it. LINKER_UTILS_DIFFERENT_LENGTHS where
+ * `packed_len` is not `linker_utils_packed_len`. If a call can't become a jump, `faulty` is the
+ * first such call, and the status is that of its cause: LINKER_UTILS_OUT_OF_SECTION, as
+ * `linker_utils_jal_site_with`, also where the target is past the section's end;
+ * LINKER_UTILS_SITE_DELETED, for the four bytes at the site; LINKER_UTILS_NOT_A_CALL,
+ * LINKER_UTILS_ODD_DISTANCE, LINKER_UTILS_TOO_FAR. */
+static inline uint32_t linker_utils_pack(
+    const uint8_t *section, size_t section_len, const struct linker_utils_delta *deltas,
+    size_t deltas_len, const struct linker_utils_call *calls, size_t calls_len, uint32_t link,
+    uint8_t *packed, size_t packed_len, size_t *faulty);
+
+/* ---- Shrinking: which calls can become jumps at once, each without the four bytes after its first
+ * instruction. */
+
+/* Whether `linker_utils_shrink_calls` accepts the calls. Their sites ascend by at least 8, and the
+ * eight bytes at each site are kept. The deletions (site + 4, 4) can all be merged, and no target
+ * is strictly inside one of them. LINKER_UTILS_CALLS_NOT_SHRINKABLE, and `faulty` is the first call
+ * that isn't accepted together with those before it. */
+static inline uint32_t linker_utils_calls_shrinkable(
+    const struct linker_utils_delta *deltas, size_t deltas_len,
+    const struct linker_utils_call *calls, size_t calls_len, size_t *faulty);
+
+/* Writes 1 for each call that is chosen, and 0 for the others. The four bytes (site + 4, 4) of each
+ * call of a choice are deleted. It is in reach if then the distance of each from its site to its
+ * target is even and in the range of `jal`. The choice that is written is the greatest: every
+ * choice in reach is part of it. The caller then merges its deletions, and packs the section with
+ * its calls.
+ *
+ * LINKER_UTILS_DIFFERENT_LENGTHS where `chosen_len` is not `calls_len`.
+ * LINKER_UTILS_CALLS_NOT_SHRINKABLE as `linker_utils_calls_shrinkable`. It takes 9 KiB of the
+ * stack. For k calls and n deltas a test of a call takes O(log n + log k + k / 1024). All calls are
+ * tested once or twice, and between that those that others take out of reach, which takes
+ * O(k log k log k) more. For these it allocates at most 120 bytes for each call that is in reach
+ * only with others, and frees them. Out of memory, it returns no error, but tests all calls up to k
+ * times. */
+static inline uint32_t linker_utils_shrink_calls(
+    const struct linker_utils_delta *deltas, size_t deltas_len,
+    const struct linker_utils_call *calls, size_t calls_len, uint8_t *chosen, size_t chosen_len,
+    size_t *faulty);
+
+/* ---- Relaxing: what a whole run of code becomes, with alignments between its instructions.
+ *
+ * A run is one section or several, in one space of input offsets; an output address is `start` and
+ * an output offset. Its items are sites, which are instructions that can become shorter where they
+ * reach their target, and alignments, which are nops. What lies between two sections can be an
+ * alignment whose nops no file has. Deletions that are decided already are sites with one shape. */
+
+/* A form of a site's instructions. It reaches a target at an output offset that lies at most
+ * `max_backward` below its own, or less than `max_forward` above it, or at it. The distance is a
+ * multiple of `granularity`, a power of two. */
+struct linker_utils_shape {
+    uint64_t max_backward;
+    uint64_t max_forward;
+    uint32_t kept; /* how many of the site's bytes stay, from the first one on */
+    uint32_t granularity;
+};
+
+/* The forms that the instructions of a site can have, by ascending length. The last one reaches
+ * everything. {.longest = n} is a deletion that is decided already, of all but the first n
+ * bytes. */
+struct linker_utils_shapes {
+    struct linker_utils_shape shorter[2]; /* of which the first `count` count */
+    uint32_t longest; /* how many bytes stay where no other form reaches the target */
+    uint8_t count; /* 0, 1 or 2 */
+};
+
+/* Writes the shapes that a number of `enum linker_utils_shapes_name` names.
+ * LINKER_UTILS_UNKNOWN_SHAPES. */
+uint32_t linker_utils_standard_shapes(uint32_t number, struct linker_utils_shapes *shapes);
+
+/* A part of a run that relaxation may shorten. */
+struct linker_utils_item {
+    uint64_t offset; /* the input offset of its first byte */
+    uint64_t target; /* of a site: the input offset that it has to reach; it means nothing where
+                        there are no shorter shapes */
+    uint64_t alignment; /* of an alignment: what the output address behind it is a multiple of */
+    uint64_t max_skip; /* of a limited alignment: how many bytes of nops may stay; where more are
+                          needed, none stay */
+    uint32_t len; /* how many bytes it has: of an alignment, its nops */
+    uint32_t kind; /* by `enum linker_utils_item_kind` */
+    struct linker_utils_shapes shapes; /* of a site: what it can become */
+};
+
+/* A relocation of a section, and what it refers to in a run. */
+struct linker_utils_rela {
+    uint64_t offset; /* r_offset, in the section */
+    uint64_t target; /* the input offset in the run that it refers to: S + A, or the PLT entry */
+    int64_t addend; /* r_addend */
+    uint32_t r_type;
+    uint8_t has_symbol; /* 0 where r_sym is 0 */
+    /* 0 where what it refers to isn't in the run, where bytes between S and S + A may be deleted,
+     * or where the instructions are to stay as they are */
+    uint8_t has_target;
+    uint8_t may_compress; /* 1 where the code may use RISC-V's C extension: EF_RISCV_RVC is in the
+                             `e_flags` of its object */
+};
+
+/* Writes the items that the relocations of a section of RISC-V or LoongArch make, in their order,
+ * and to `makers` the index of the relocation that makes each. The section begins at the input
+ * offset `base` of the run. The other relocations make none.
+ *
+ * RISC-V: R_RISCV_CALL and R_RISCV_CALL_PLT make a site where R_RISCV_RELAX is the next relocation,
+ * at the same offset, and the target is in the run. The bytes have to be an auipc and a jalr of one
+ * register, which isn't x0. It can become c.j where the jalr links x0 and `may_compress` is set,
+ * and jal. R_RISCV_ALIGN makes an alignment without a limit to the next power of two above its
+ * addend, which is how many bytes of nops there are, unless it is 0.
+ *
+ * An alignment may have fewer nops than it may need at an even address, as the 12 bytes for
+ * `.balign 16` in code without the C extension. Then no call before it becomes c.j, back to the
+ * alignment before that. None becomes jal where the nops are enough only at multiples of more than
+ * 4.
+ *
+ * LoongArch, where R_LARCH_RELAX is the relocation that has to be next: R_LARCH_CALL36 makes a site
+ * if the bytes are a pcaddu18i and a jirl of one register that links ra or none. R_LARCH_PCALA_HI20
+ * makes one if R_LARCH_PCALA_LO12 of the next instruction comes behind its R_LARCH_RELAX, with the
+ * same target and an R_LARCH_RELAX too. The bytes have to be a pcalau12i and an addi.d of one
+ * register.
+ * R_LARCH_ALIGN makes an alignment, unless there are no nops. Without a symbol its addend is how
+ * many bytes of nops there are, and they align to the next power of two above it. With a symbol the
+ * lowest 8 bits of the addend are the exponent of two of what they align to, 4 bytes more than the
+ * nops. The others are its limit: how many bytes of nops may stay. Without a symbol, and where
+ * these are 0 or no fewer than the nops, the alignment has no limit.
+ *
+ * `items_len` and `makers_len` are `relocations_len`, since a relocation makes at most one item.
+ * `len` is how many items there are; the elements from there on are unchanged.
+ * LINKER_UTILS_UNKNOWN_ARCHITECTURE for other machines. LINKER_UTILS_DIFFERENT_LENGTHS.
+ * LINKER_UTILS_ENDS_TOO_HIGH where `base` and `section_len` add up to 2^64 or more.
+ * LINKER_UTILS_MALFORMED_RELOCATION, and `faulty` is the first malformed one. It lies behind the
+ * section's end, or is a call's (of LoongArch's an R_LARCH_CALL36) with less than eight bytes
+ * there. Or it is an R_RISCV_ALIGN whose addend isn't a multiple of 2 from 0 up, below 2^32, of
+ * bytes in the section. Or it is an R_LARCH_ALIGN whose addend is below 0 or whose exponent is
+ * below 2 or above 32. It also is one whose nops aren't a multiple of 4, reach past the section's
+ * end or have 2^32 bytes or more. */
+static inline uint32_t linker_utils_section_items(
+    uint16_t machine, const uint8_t *section, size_t section_len, uint64_t base,
+    const struct linker_utils_rela *relocations, size_t relocations_len,
+    struct linker_utils_item *items, size_t items_len, size_t *makers, size_t makers_len, size_t *len,
+    size_t *faulty);
+
+/* Whether `linker_utils_relax` accepts the items of a run whose address is `start`: the statuses
+ * from LINKER_UTILS_ITEMS_OVERLAP on say what is required of them. The run's granularity is the
+ * greatest of its short shapes, and 1 where there are none.
+ *
+ * The status is the first fault of the first faulty item, in the order of these statuses and with
+ * LINKER_UTILS_MAY_BE_MISALIGNED as the last, and `faulty` is this item. Those from
+ * LINKER_UTILS_UNEVEN_SHAPE on are returned only where no item has one of those before. O(n log n)
+ * for n items.
+ *
+ * LINKER_UTILS_MAY_BE_MISALIGNED: an alignment without a limit needs as many nops as it is itself
+ * less the granularity. Fewer are accepted, as many as it less w, a power of two, where w divides
+ * the address of the first nop in every layout. It does where it divides the alignment without a
+ * limit before it, or `start`, and the bytes from there, and what lies between loses only multiples
+ * of w. So the begin of a section is an item, too: an alignment.
+ *
+ * LINKER_UTILS_ALIGNMENT_BELOW_GRANULARITY and LINKER_UTILS_UNEVEN_END aren't of an alignment whose
+ * nops are the same in every layout. It has no limit, divides the granularity, and has exactly the
+ * nops that its input address needs, or a multiple of the granularity more. */
+static inline uint32_t linker_utils_items_relaxable(
+    const struct linker_utils_item *items, size_t items_len, uint64_t start, size_t *faulty);
+
+/* Chooses a shape for each site, and says what stays of each item. Each site has its shortest shape
+ * at first. Then the run is laid out, where an alignment keeps exactly the bytes that it then
+ * needs. Each site that is out of reach by that layout has its next shape; again, until none is.
+ * Where one still is after 64 such rounds, the choice is the greatest where every alignment keeps
+ * all. No site has a longer shape than it would need if every alignment kept all of its nops.
+ * Without alignments the choice is the greatest.
+ *
+ * `shapes` has for each item the index of a site's shape, and `kept` how many of the item's bytes
+ * stay, from the first one on. `freed` has for each item how many bytes those before it lose, and
+ * one element more, which is how many all lose. `places`, with as many elements as items, is room
+ * for the work.
+ *
+ * LINKER_UTILS_DIFFERENT_LENGTHS where `shapes_len`, `kept_len` or `places_len` isn't `items_len`,
+ * or `freed_len` isn't one more. Then the statuses of `linker_utils_items_relaxable`. A round takes
+ * O(n) for n items, what comes before them O(n log n). There are usually fewer than ten rounds.
+ * After 64 come sweeps of O(n), of which one in each direction finds all sites that become long one
+ * because of another in one direction. */
+static inline uint32_t linker_utils_relax(
+    const struct linker_utils_item *items, size_t items_len, uint64_t start, uint8_t *shapes,
+    size_t shapes_len, uint64_t *kept, size_t kept_len, size_t *places, size_t places_len,
+    uint64_t *freed, size_t freed_len, size_t *faulty);
+
+/* Writes the deltas of what a run loses where so many bytes of each item stay: one for each item
+ * that loses some. `len` is how many there are; the elements of `deltas` from there on are
+ * unchanged. The deltas are valid for items as `linker_utils_items_relaxable` accepts them.
+ * LINKER_UTILS_DIFFERENT_LENGTHS where `kept_len` or `deltas_len` isn't `items_len`. */
+static inline uint32_t linker_utils_run_deltas(
+    const struct linker_utils_item *items, size_t items_len, const uint64_t *kept, size_t kept_len,
+    struct linker_utils_delta *deltas, size_t deltas_len, size_t *len);
+
+/* How many bytes of a section of a relaxed run stay: as many as `linker_utils_pack_run` writes. The
+ * section has `section_len` bytes and begins at the input offset `base` of the run. 0 where the two
+ * add up to 2^64 or more. O(log n) for n deltas. */
+static inline size_t linker_utils_packed_run_len(uint64_t base, size_t section_len,
+                                                 const struct linker_utils_delta *deltas,
+                                                 size_t deltas_len);
+
+/* Whether a site is eight bytes of a section, of instructions that can have its shapes. Of RISC-V
+ * they are an auipc and a jalr with those of LINKER_UTILS_SHAPES_RISCV_CALL, or with those of
+ * LINKER_UTILS_SHAPES_RISCV_TAIL_C where they link x0. Of LoongArch they are a pcaddu18i and a jirl
+ * with those of LINKER_UTILS_SHAPES_LOONGARCH_CALL36, or a pcalau12i and an addi.d of one register
+ * with those of LINKER_UTILS_SHAPES_LOONGARCH_PCALA. The section begins at the input offset `base`
+ * of the run. An alignment has no instructions to be tested; a site with one shape has none of
+ * these shapes. Where this is so of each site that `linker_utils_relax` made shorter,
+ * `linker_utils_pack_run` rejects none of them for its reach.
+ *
+ * LINKER_UTILS_UNKNOWN_ARCHITECTURE for each machine except for LINKER_UTILS_RISCV and
+ * LINKER_UTILS_LOONGARCH64. LINKER_UTILS_NOT_ITS_INSTRUCTIONS where it isn't so. O(1). */
+static inline uint32_t linker_utils_has_its_instructions(uint16_t machine, const uint8_t *section,
+                                                         size_t section_len, uint64_t base,
+                                                         const struct linker_utils_item *item);
+
+/* Packs a section of a relaxed run: writes the bytes that stay, in order, with the instructions of
+ * its sites and the nops of its alignments written anew. The section begins at the input offset
+ * `base` of the run. The run begins at the address `start` and loses what the deltas list, as
+ * `linker_utils_run_deltas` writes them; addresses are modulo 2^64. `items` are all of the run that
+ * lie in the section and lose bytes, in their order, and any others there. Their targets may lie
+ * anywhere in the run.
+ *
+ * How many bytes of an item stay, which have to be its first ones, says what is written:
+ * - RISC-V: in place of a call, which is an auipc and a jalr, c.j where 2 bytes stay and the jalr
+ *   links x0. Where 4 stay it is jal with the link register of the jalr, and where 8 stay the call
+ *   with R_RISCV_CALL_PLT applied. In place of nops as many bytes of nop, and at most one c.nop at
+ *   the end.
+ * - LoongArch: where 4 bytes stay, b in place of a pcaddu18i and a jirl that links none, and bl in
+ *   place of those that link ra. In place of a pcalau12i and an addi.d it is pcaddi with the
+ *   register of the addi.d. Where 8 stay, the two with R_LARCH_CALL36, or R_LARCH_PCALA_HI20 and
+ *   R_LARCH_PCALA_LO12, applied. In place of nops andi zero, zero, 0, of 4 bytes. Each goes from
+ *   the address where its site goes to the one where the target goes, or makes that address; a call
+ *   with R_RISCV_CALL_PLT leaves out bit 0 of it. What stays of a site with one shape isn't
+ *   changed.
+ *
+ * LINKER_UTILS_UNKNOWN_ARCHITECTURE for each machine except for LINKER_UTILS_RISCV and
+ * LINKER_UTILS_LOONGARCH64.
+ * LINKER_UTILS_ENDS_TOO_HIGH where `base` and `section_len` add up to 2^64 or more.
+ * LINKER_UTILS_DIFFERENT_LENGTHS where `packed_len` is not `linker_utils_packed_run_len`. Else
+ * `faulty` is the first item that can't be written, and the status the first that applies to it of
+ * LINKER_UTILS_ITEMS_OVERLAP, LINKER_UTILS_ITEM_OUT_OF_SECTION, LINKER_UTILS_DELETED_OUTSIDE,
+ * LINKER_UTILS_NOT_ITS_FIRST_BYTES, LINKER_UTILS_NOT_ITS_INSTRUCTIONS, LINKER_UTILS_NO_SHAPE and
+ * LINKER_UTILS_TARGET_OUT_OF_REACH. Only the first three can be of a site with one shape.
+ * LINKER_UTILS_DELETED_OUTSIDE where bytes before the item are deleted that are of no item: an item
+ * is missing; `faulty` is `items_len` where they are behind the last item. For k items and n deltas
+ * it takes O(k log n), and a step for each byte of the section and each delta in it. */
+static inline uint32_t linker_utils_pack_run(
+    uint16_t machine, const uint8_t *section, size_t section_len, uint64_t base,
+    const struct linker_utils_item *items, size_t items_len,
+    const struct linker_utils_delta *deltas, size_t deltas_len, uint64_t start, uint8_t *packed,
+    size_t packed_len, size_t *faulty);
+
+/* ---- Reading back: halves of an address, and which rewrite was made. */
+
+/* What is known of an address from both halves of a pair, as `linker_utils_solve` returns them:
+ * adrp and add, auipc and addi, addis and addi, pcalau12i and addi.d. A number has the bits of
+ * `whole` exactly where it has those of both. They are bit 0 up to the last of the high half, and
+ * the rounding is 0.
+ *
+ * LINKER_UTILS_BAD_FIELD_VALUE of either half, as in `linker_utils_solve`. LINKER_UTILS_NOT_HALVES
+ * unless the low half has bits 0 up to the first of the high half, and no rounding. */
+uint32_t linker_utils_join(const struct linker_utils_field_value *high,
+                           const struct linker_utils_field_value *low,
+                           struct linker_utils_field_value *whole);
+
+/* Which bits of the bytes that begin with a relocation's field `linker_utils_relocate` may change,
+ * into `bits`. Bit 0 is the lowest of the first byte, bit 8 that of the second. All others are the
+ * same after each write. Of an instruction they are the bits of its form, and for
+ * LINKER_UTILS_AARCH64_FORM_MOVNZ those of the opcode that it sets. LINKER_UTILS_TOO_SHORT where
+ * there are fewer bytes than the field has. */
+static inline uint32_t linker_utils_field_bits(uint16_t machine, uint32_t r_type,
+                                               const uint8_t *bytes, size_t bytes_len,
+                                               uint64_t *bits);
+
+/* Whether two windows of the same length, which begin with a relocation's field, differ in bits of
+ * the field only. False where the machine or the type is unknown, the lengths differ, or the field
+ * isn't in the windows. */
+static inline bool linker_utils_same_but_for(uint16_t machine, uint32_t r_type, const uint8_t *a,
+                                             size_t a_len, const uint8_t *b, size_t b_len);
+
+/* Bits of a window: some of the eight bytes from an offset on. */
+struct linker_utils_window_bits {
+    uint64_t offset; /* of the first of the bytes, in the original window */
+    uint64_t bits; /* bit 0 is the lowest of that byte, bit 8 that of the next */
+};
+
+/* A rewrite that leaves the linked bytes, and what stands in the field of the relocation after
+ * it. */
+struct linker_utils_recognised {
+    struct linker_utils_choice choice; /* as `linker_utils_choose` returns it */
+    uint64_t offset; /* of the relocation's field in the linked bytes */
+    /* What is known of the relocation's value from that field, as `linker_utils_read_value` returns
+     * it. `end_bit` is 0 where nothing is known: the relocation holds no value. */
+    struct linker_utils_field_value value;
+};
+
+/* How many rewrites a relocation may have at most, NO_OP among them. */
+#define LINKER_UTILS_CANDIDATES 6
+
+/* The window that `linker_utils_recognise` wants in bytes of an object, at most 64, around the
+ * relocation at an offset of them, into `window`. It is the least one with the bytes of each choice
+ * of its table that is meant for what is there. They are those that the rewrite writes and deletes,
+ * and the field of the relocation after it. A choice whose bytes aren't all given isn't counted:
+ * give 16 before the offset and 48 from there on, or those that there are. It is empty where no
+ * choice has its bytes there. LINKER_UTILS_UNKNOWN_ARCHITECTURE. LINKER_UTILS_WINDOW_TOO_LONG. */
+static inline uint32_t linker_utils_recognise_window(uint16_t machine, uint32_t r_type,
+                                                     const uint8_t *original, size_t original_len,
+                                                     uint64_t offset,
+                                                     struct linker_utils_window_bounds *window);
+
+/* Writes which rewrites, and relocations after them, a linker may have made at a relocation. They
+ * are those after which the original bytes differ from the linked ones only in the field of the
+ * relocation after it and in `others`. `count` is how many there are; the elements of `found` from
+ * there on are unchanged. Nothing needs to be known of the symbol: so several are returned where
+ * their bytes are the same, as where only the relocation changes.
+ *
+ * - `offset` is that of the relocation in the original bytes. Both windows may begin before it, at
+ *   the same place. The original one has at most 64 bytes. After a rewrite that deletes bytes the
+ *   linked one has fewer. `linker_utils_recognise_window` is the window to give. In a wider one
+ *   other bytes differ, and nothing is found unless `others` names them.
+ * - `others` are bits that other relocations write, as `linker_utils_field_bits` returns them,
+ *   among them those of a relocation that the rewrite skips. Of an instruction that another
+ *   relocation rewrites or deletes they are all bits.
+ * - A rewrite is among them only where `linker_utils_matches` returns LINKER_UTILS_OK of it and the
+ *   field is in the window. What `linker_utils_choose` returns is one of them, whatever the facts,
+ *   where it leaves the linked bytes so.
+ *
+ * LINKER_UTILS_UNKNOWN_ARCHITECTURE. LINKER_UTILS_DIFFERENT_LENGTHS where `found_len` is not
+ * LINKER_UTILS_CANDIDATES. LINKER_UTILS_WINDOW_TOO_LONG. A type that the library doesn't know has
+ * NO_OP only. */
+static inline uint32_t linker_utils_recognise(
+    uint16_t machine, uint32_t r_type, const uint8_t *original, size_t original_len,
+    uint64_t offset, const struct linker_utils_window_bits *others, size_t others_len,
+    const uint8_t *linked, size_t linked_len, struct linker_utils_recognised *found,
+    size_t found_len, size_t *count);
+
+/* Writes what `linker_utils_choose` returns by these facts, if it leaves the linked bytes, as
+ * `linker_utils_recognise` says. LINKER_UTILS_UNKNOWN_ARCHITECTURE. LINKER_UTILS_WINDOW_TOO_LONG.
+ * LINKER_UTILS_LEAVES_OTHER_BYTES. */
+static inline uint32_t linker_utils_recognise_chosen(
+    uint16_t machine, uint32_t r_type, const uint8_t *original, size_t original_len,
+    uint64_t offset, const struct linker_utils_window_bits *others, size_t others_len,
+    const uint8_t *linked, size_t linked_len, const struct linker_utils_link_facts *facts,
+    struct linker_utils_recognised *found);
+
+#endif

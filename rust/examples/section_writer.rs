@@ -1,0 +1,24 @@
+//! Writes the values of all relocations of a section at once, a difference of labels as a ULEB128 number
+//! among them.
+
+use linker_utils::elf::Architecture;
+use linker_utils::section::{Addresses, Symbol, memory_len, relocate_section};
+
+fn main() {
+    // jal ra, f; the number 0 in two bytes; a word of 8 bytes
+    let mut section = [0xef, 0, 0, 0, 0x80, 0, 0, 0, 0, 0, 0, 0, 0, 0];
+    let symbols = [0, 0x402000, 0x402345].map(|address| Symbol { address, ..Symbol::default() });
+    // r_offset, r_sym, r_type and r_addend: R_RISCV_JAL, SET_ULEB128, SUB_ULEB128 and 64
+    let rows = [(0, 1, 17, 0), (4, 2, 60, 0), (4, 1, 61, 0), (6, 2, 2, -5i64)];
+    let rela = rows.map(|(at, symbol, code, addend)| [at, symbol << 32 | code, addend.cast_unsigned()]);
+    let rela = rela.as_flattened().iter().flat_map(|word: &u64| word.to_le_bytes()).collect::<Vec<_>>();
+    let addresses = Addresses { section: 0x401000, ..Addresses::default() };
+    let mut memory = vec![0; memory_len(&rela)];
+    let (machine, at) = (Architecture::RiscV, &addresses);
+    relocate_section(machine, at, &rela, &symbols, &mut section, &mut memory).unwrap();
+    assert_eq!(section, [0xef, 0x10, 0, 0, 0xc5, 0x06, 0x40, 0x23, 0x40, 0, 0, 0, 0, 0]);
+    // out of reach of the `jal`: the first relocation is told, and nothing is written
+    let far = Addresses { section: 0x1000, ..addresses };
+    let error = relocate_section(machine, &far, &rela, &symbols, &mut section, &mut memory).unwrap_err();
+    println!("{error}: {:?}", error);
+}

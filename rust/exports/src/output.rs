@@ -1,0 +1,533 @@
+// Made by tools/erase of crates/linker_utils_c/src/output.rt.
+//! What a linker adds to an output: dynamic relocations, words of the GOT, `e_flags`, the symbols
+//! and functions that linkers provide, and the code of stubs.
+
+use crate::relocate::status_of;
+use crate::status::Status;
+use linker_utils::output::Target;
+use linker_utils::output::{Origins, entry_words, static_words};
+use linker_utils::output::SymbolPlace;
+use linker_utils::output::{StubError, StubKind};
+use linker_utils::section::EntryClass;
+use linker_utils::elf::Architecture;
+
+/// The codes of the dynamic relocations that a linker emits.
+#[repr(C)]
+#[derive(Clone, Copy)]
+pub struct DynamicCodes {
+    /// Of a word with S + A.
+    pub word: u32,
+    /// Of a word with the load address plus A.
+    pub relative: u32,
+    /// Of a word of the GOT with S.
+    pub glob_dat: u32,
+    /// Of a word of the PLT's GOT with S.
+    pub jump_slot: u32,
+    /// Of a copy of a variable of a shared library.
+    pub copy: u32,
+    /// Of a word with what the function at the load address plus A returns.
+    pub irelative: u32,
+    /// Of a word with the number of the symbol's module.
+    pub module_number: u32,
+    /// Of a word with the symbol's offset in the block of its module.
+    pub module_offset: u32,
+    /// Of a word with the symbol's offset from the thread pointer.
+    pub thread_offset: u32,
+    /// Of a TLS descriptor; 0 where the psABI has none.
+    pub descriptor: u32,
+}
+
+/// What a linker knows of the GOT by its address and that of `_DYNAMIC`.
+#[repr(C)]
+#[derive(Clone, Copy)]
+pub struct GotNumbers {
+    /// What offsets from the GOT count from.
+    pub base: u64,
+    /// The GOT's first word; 0 where that is an entry.
+    pub header: u64,
+    /// 1 where the first word isn't an entry; else 0.
+    pub has_header: u8,
+}
+
+/// A symbol that a linker defines if an object refers to it.
+#[repr(C)]
+#[derive(Clone, Copy)]
+pub struct SymbolNumbers {
+    /// How many bytes above its place it is.
+    pub offset: u64,
+    /// 0 thread-local, at the TLS image or in an executable at the thread pointer; 1 the GOT; 2 the
+    /// section `.sdata`.
+    pub place: u32,
+}
+
+/// Functions that compilers call and linkers provide, in one run of code.
+#[repr(C)]
+#[derive(Clone, Copy)]
+pub struct RunNumbers {
+    /// How many instructions of 4 bytes the run has.
+    pub len: u64,
+    /// The number in the first function's name.
+    pub first: u32,
+    /// How many functions there are.
+    pub count: u32,
+}
+
+/// A stub's length in bytes, and the offset at which a call enters.
+#[repr(C)]
+#[derive(Clone, Copy)]
+pub struct StubNumbers {
+    pub len: u64,
+    pub entry: u64,
+}
+
+/// Writes the codes of the dynamic relocations of an architecture. `UnknownArchitecture`.
+pub fn linker_utils_dynamic_types(machine: u16, types: &mut DynamicCodes) -> u32 {
+    let Some(architecture) = Architecture::from_machine(machine) else {
+        return Status::UnknownArchitecture.number();
+    };
+    *types = codes_in(Target::of(architecture));
+    Status::Success.number()
+}
+
+/// The codes of a description.
+fn codes_in(target: &Target) -> DynamicCodes {
+    let types = &target.dynamic;
+    DynamicCodes {
+        word: types.word.code,
+        relative: types.relative.code,
+        glob_dat: types.glob_dat.code,
+        jump_slot: types.jump_slot.code,
+        copy: types.copy.code,
+        irelative: types.irelative.code,
+        module_number: types.module_number.code,
+        module_offset: types.module_offset.code,
+        thread_offset: types.thread_offset.code,
+        descriptor: match types.descriptor {
+            Some(descriptor) => descriptor.code,
+            None => 0,
+        },
+    }
+}
+
+/// Writes a text to the beginning of bytes, without a NUL after it, and its length.
+fn put_text(text: &str, out: &mut [u8], used: &mut usize) -> u32 {
+    let len = text.len();
+    if out.len() < len {
+        return Status::TooShort.number();
+    }
+    out[..len].copy_from_slice(text.as_bytes());
+    *used = len;
+    Status::Success.number()
+}
+
+/// Writes the name of a type of dynamic relocations, as "R_X86_64_RELATIVE", to the beginning of
+/// `name`, and its length to `name_used`. The first that applies of `UnknownArchitecture`;
+/// `UnknownRelocation`, of a code that is none of `linker_utils_dynamic_types`; `TooShort`.
+pub fn linker_utils_dynamic_name_nonnull(
+    machine: u16,
+    r_type: u32,
+    name: &mut [u8],
+    name_used: &mut usize,
+) -> u32 {
+    let Some(architecture) = Architecture::from_machine(machine) else {
+        return Status::UnknownArchitecture.number();
+    };
+    match Target::of(architecture).dynamic_name(r_type) {
+        Some(text) => put_text(text, name, name_used),
+        None => Status::UnknownRelocation.number(),
+    }
+}
+
+/// The class with a number.
+#[inline]
+fn class_of(number: u32) -> Option<EntryClass> {
+    if number == 1 {
+        Some(EntryClass::Address)
+    } else if number == 2 {
+        Some(EntryClass::ThreadOffset)
+    } else if number == 3 {
+        Some(EntryClass::ModuleOffset)
+    } else if number == 4 {
+        Some(EntryClass::Module)
+    } else if number == 5 {
+        Some(EntryClass::Descriptor)
+    } else {
+        None
+    }
+}
+
+/// A code; 0 where there is none.
+#[inline]
+fn code_or_none(code: Option<u32>) -> u32 {
+    match code {
+        Some(code) => code,
+        None => 0,
+    }
+}
+
+/// The codes of the dynamic relocations of both words of a GOT entry; 0 for a word that has none.
+#[repr(C)]
+#[derive(Clone, Copy)]
+pub struct WordCodes {
+    pub first: u32,
+    pub second: u32,
+}
+
+/// Both words of a GOT entry; the second is 0 where the entry has one.
+#[repr(C)]
+#[derive(Clone, Copy)]
+pub struct EntryWords {
+    pub first: u64,
+    pub second: u64,
+}
+
+/// Writes the codes of the dynamic relocations of the words of a GOT entry of a class, as
+/// `Target::dynamic_words`. The first that applies of `UnknownArchitecture`; `UnknownEntryClass`.
+pub fn linker_utils_dynamic_words(
+    machine: u16,
+    entry_class: u32,
+    is_bound: bool,
+    is_executable: bool,
+    words: &mut WordCodes,
+) -> u32 {
+    let Some(architecture) = Architecture::from_machine(machine) else {
+        return Status::UnknownArchitecture.number();
+    };
+    let Some(class) = class_of(entry_class) else {
+        return Status::UnknownEntryClass.number();
+    };
+    let codes = Target::of(architecture).dynamic_words(class, is_bound, is_executable);
+    *words = WordCodes {
+        first: code_or_none(codes[0]),
+        second: code_or_none(codes[1]),
+    };
+    Status::Success.number()
+}
+
+/// How many words of 8 bytes an entry of a class has; 0 of a number that is no class.
+pub fn linker_utils_entry_words(entry_class: u32) -> u64 {
+    match class_of(entry_class) {
+        Some(class) => entry_words(class),
+        None => 0,
+    }
+}
+
+/// Writes what an entry's words hold in a static executable, as `static_words` of `linker_output`.
+/// `UnknownEntryClass`, also of a TLS descriptor, which no static executable has.
+pub fn linker_utils_static_words(
+    entry_class: u32,
+    address: u64,
+    origins: &Origins,
+    words: &mut EntryWords,
+) -> u32 {
+    let Some(class) = class_of(entry_class) else {
+        return Status::UnknownEntryClass.number();
+    };
+    match static_words(class, address, *origins) {
+        Some(both) => {
+            *words = EntryWords {
+                first: both[0],
+                second: both[1],
+            };
+            Status::Success.number()
+        }
+        None => Status::UnknownEntryClass.number(),
+    }
+}
+
+/// Writes what offsets of thread-local storage count from, by the TLS image, as `Target::origins`.
+/// `UnknownArchitecture`.
+pub fn linker_utils_origins(
+    machine: u16,
+    image: u64,
+    image_len: u64,
+    alignment: u64,
+    origins: &mut Origins,
+) -> u32 {
+    let Some(architecture) = Architecture::from_machine(machine) else {
+        return Status::UnknownArchitecture.number();
+    };
+    *origins = Target::of(architecture).origins(image, image_len, alignment);
+    Status::Success.number()
+}
+
+/// Writes what offsets from the GOT count from, and its first word where that isn't an entry, by
+/// the GOT's address and that of `_DYNAMIC`, 0 where there is none. `UnknownArchitecture`.
+pub fn linker_utils_got(
+    machine: u16,
+    address: u64,
+    dynamic: u64,
+    got: &mut GotNumbers,
+) -> u32 {
+    let Some(architecture) = Architecture::from_machine(machine) else {
+        return Status::UnknownArchitecture.number();
+    };
+    let target = Target::of(architecture);
+    let (has_header, header) = match target.got_header(address, dynamic) {
+        Some(word) => (1, word),
+        None => (0, 0),
+    };
+    *got = GotNumbers {
+        base: target.got_base(address),
+        header,
+        has_header,
+    };
+    Status::Success.number()
+}
+
+/// Writes `e_flags` of two objects that are linked, as `Target::join_flags`. The first that applies
+/// of `UnknownArchitecture`; `DifferentFlags`.
+pub fn linker_utils_join_flags(
+    machine: u16,
+    first: u32,
+    second: u32,
+    joined: &mut u32,
+) -> u32 {
+    let Some(architecture) = Architecture::from_machine(machine) else {
+        return Status::UnknownArchitecture.number();
+    };
+    match Target::of(architecture).join_flags(first, second) {
+        Some(flags) => {
+            *joined = flags;
+            Status::Success.number()
+        }
+        None => Status::DifferentFlags.number(),
+    }
+}
+
+/// `e_flags` of an output, from those that `linker_utils_join_flags` made of its objects. They are
+/// unchanged for a machine that isn't known.
+pub fn linker_utils_output_flags(machine: u16, joined: u32) -> u32 {
+    match Architecture::from_machine(machine) {
+        Some(architecture) => Target::of(architecture).output_flags(joined),
+        None => joined,
+    }
+}
+
+/// The largest page, in bytes, for which an output has to be right; 0 of a machine that isn't
+/// known.
+pub fn linker_utils_page(machine: u16) -> u64 {
+    match Architecture::from_machine(machine) {
+        Some(architecture) => page_of(Target::of(architecture)),
+        None => 0,
+    }
+}
+
+/// The page of a description.
+#[inline]
+fn page_of(target: &Target) -> u64 {
+    target.page
+}
+
+/// How many bytes the shortest instruction of an output with such `e_flags` has; 0 of a machine
+/// that isn't known.
+pub fn linker_utils_code_unit(machine: u16, flags: u32) -> u64 {
+    match Architecture::from_machine(machine) {
+        Some(architecture) => Target::of(architecture).unit(flags),
+        None => 0,
+    }
+}
+
+/// The byte at an offset of a gap in code, which counts from a multiple of 4; 0 of a machine that
+/// isn't known.
+pub fn linker_utils_filler(machine: u16, offset: u64) -> u8 {
+    match Architecture::from_machine(machine) {
+        Some(architecture) => Target::of(architecture).filler(offset),
+        None => 0,
+    }
+}
+
+/// Writes the path of the dynamic linker in glibc for an output with such `e_flags` to the
+/// beginning of `path`, and its length to `path_used`. The first that applies of
+/// `UnknownArchitecture`; `NotProvided`; `TooShort`.
+pub fn linker_utils_interpreter_nonnull(
+    machine: u16,
+    flags: u32,
+    path: &mut [u8],
+    path_used: &mut usize,
+) -> u32 {
+    let Some(architecture) = Architecture::from_machine(machine) else {
+        return Status::UnknownArchitecture.number();
+    };
+    match Target::of(architecture).interpreter(flags) {
+        Some(text) => put_text(text, path, path_used),
+        None => Status::NotProvided.number(),
+    }
+}
+
+/// The number of a place.
+#[inline]
+fn place_number(place: SymbolPlace) -> u32 {
+    match place {
+        SymbolPlace::ThreadLocal => 0,
+        SymbolPlace::Got => 1,
+        SymbolPlace::SmallData => 2,
+    }
+}
+
+/// Writes the symbol with an index that a linker defines if an object refers to it: its name to the
+/// beginning of `name`, its length to `name_used`, and where it is. The first that applies of
+/// `UnknownArchitecture`; `NotProvided`, of an index that is too large; `TooShort`.
+pub fn linker_utils_provided_symbol_nonnull(
+    machine: u16,
+    index: usize,
+    name: &mut [u8],
+    name_used: &mut usize,
+    symbol: &mut SymbolNumbers,
+) -> u32 {
+    let Some(architecture) = Architecture::from_machine(machine) else {
+        return Status::UnknownArchitecture.number();
+    };
+    put_symbol(Target::of(architecture), index, name, name_used, symbol)
+}
+
+fn put_symbol(
+    target: &Target,
+    index: usize,
+    name: &mut [u8],
+    name_used: &mut usize,
+    symbol: &mut SymbolNumbers,
+) -> u32 {
+    let Some(provided) = target.symbols.get(index) else {
+        return Status::NotProvided.number();
+    };
+    if name.len() < provided.name.len() {
+        return Status::TooShort.number();
+    }
+    *symbol = SymbolNumbers {
+        offset: provided.offset,
+        place: place_number(provided.place),
+    };
+    put_text(provided.name, name, name_used)
+}
+
+/// Writes the run with an index of functions that linkers provide: their names without the number
+/// behind it to the beginning of `prefix`, its length to `prefix_used`, and the numbers. The first
+/// that applies of `UnknownArchitecture`; `NotProvided`, of an index that is too large; `TooShort`.
+pub fn linker_utils_provided_run_nonnull(
+    machine: u16,
+    index: usize,
+    prefix: &mut [u8],
+    prefix_used: &mut usize,
+    run: &mut RunNumbers,
+) -> u32 {
+    let Some(architecture) = Architecture::from_machine(machine) else {
+        return Status::UnknownArchitecture.number();
+    };
+    put_run(Target::of(architecture), index, prefix, prefix_used, run)
+}
+
+fn put_run(
+    target: &Target,
+    index: usize,
+    prefix: &mut [u8],
+    prefix_used: &mut usize,
+    run: &mut RunNumbers,
+) -> u32 {
+    let Some(provided) = target.runs.get(index) else {
+        return Status::NotProvided.number();
+    };
+    if prefix.len() < provided.prefix.len() {
+        return Status::TooShort.number();
+    }
+    *run = RunNumbers {
+        len: provided.len(),
+        first: provided.first,
+        count: provided.count,
+    };
+    put_text(provided.prefix, prefix, prefix_used)
+}
+
+/// Writes the instruction at an index of the run with an index that linkers provide. The first that
+/// applies of `UnknownArchitecture`; `NotProvided`, of an index that is too large.
+pub fn linker_utils_provided_word(
+    machine: u16,
+    run: usize,
+    index: u64,
+    word: &mut u32,
+) -> u32 {
+    let Some(architecture) = Architecture::from_machine(machine) else {
+        return Status::UnknownArchitecture.number();
+    };
+    put_word(Target::of(architecture), run, index, word)
+}
+
+fn put_word(target: &Target, run: usize, index: u64, word: &mut u32) -> u32 {
+    let Some(provided) = target.runs.get(run) else {
+        return Status::NotProvided.number();
+    };
+    match provided.word_at(index) {
+        Some(found) => {
+            *word = found;
+            Status::Success.number()
+        }
+        None => Status::NotProvided.number(),
+    }
+}
+
+/// The kind with a number.
+#[inline]
+fn kind_of(number: u32) -> Option<StubKind> {
+    if number == 0 {
+        Some(StubKind::Load)
+    } else if number == 1 {
+        Some(StubKind::Jump)
+    } else {
+        None
+    }
+}
+
+/// Writes the length of a stub of a kind in bytes, and the offset at which a call enters: kind 0
+/// jumps to the address that a word has, 1 to a far target. The first that applies of
+/// `UnknownArchitecture`; `UnknownStub`, where the architecture has none of the kind.
+pub fn linker_utils_stub(machine: u16, kind: u32, stub: &mut StubNumbers) -> u32 {
+    let Some(architecture) = Architecture::from_machine(machine) else {
+        return Status::UnknownArchitecture.number();
+    };
+    put_stub(Target::of(architecture), kind, stub)
+}
+
+fn put_stub(target: &Target, kind: u32, numbers: &mut StubNumbers) -> u32 {
+    let Some(kind) = kind_of(kind) else {
+        return Status::UnknownStub.number();
+    };
+    match target.stub(kind) {
+        Some(stub) => {
+            *numbers = StubNumbers {
+                len: stub.len(),
+                entry: stub.entry,
+            };
+            Status::Success.number()
+        }
+        None => Status::UnknownStub.number(),
+    }
+}
+
+/// Writes the stub of a kind that stands at an address, as `Target::write_stub`, to the beginning
+/// of `bytes`. The first that applies of `UnknownArchitecture`; `UnknownStub`; `TooShort`; and
+/// where the target is out of the stub's reach the error of the first such field, as
+/// `linker_utils_relocate`. Then `bytes` are unchanged.
+pub fn linker_utils_write_stub_nonnull(
+    machine: u16,
+    kind: u32,
+    place: u64,
+    target: u64,
+    bytes: &mut [u8],
+) -> u32 {
+    let Some(architecture) = Architecture::from_machine(machine) else {
+        return Status::UnknownArchitecture.number();
+    };
+    write_by(Target::of(architecture), kind, place, target, bytes)
+}
+
+fn write_by(description: &Target, kind: u32, place: u64, target: u64, bytes: &mut [u8]) -> u32 {
+    let Some(kind) = kind_of(kind) else {
+        return Status::UnknownStub.number();
+    };
+    match description.write_stub(kind, place, target, bytes) {
+        Ok(()) => Status::Success.number(),
+        Err(StubError::Missing) => Status::UnknownStub.number(),
+        Err(StubError::TooShort) => Status::TooShort.number(),
+        Err(StubError::Field(error)) => status_of(Err(error)),
+    }
+}
