@@ -95,7 +95,6 @@ pub mod output {
     pub use crate::linker_output::layout::{
         CodeUnit, Interpreter, ProvidedRun, ProvidedSymbol, SymbolPlace,
     };
-    pub use crate::linker_output::routes::Route;
     pub use crate::linker_output::stubs::{Stub, StubError, StubField, StubKind};
     pub use crate::linker_output::description::Target;
 }

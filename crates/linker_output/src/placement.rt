@@ -7,10 +7,10 @@
 //! the nearest boundary stays where it is as seen from its branch, however many stubs are added.
 
 ghost use Rattle.std.specs.Prelude.{◌≡◌, ◌≢◌, ◌+◌, ◌*◌, ◌<◌, ◌≤◌, ◌^◌, ◌↔◌, ℕ, IsTrue, length, true, false};
-ghost use Rattle.std.specs.Prelude.{IfOk, IfErr, IfSome, IfNone, vec_len, ◌⊎◌, MatchOption};
+ghost use Rattle.std.specs.Prelude.{IfOk, IfErr, IfSome, IfNone, vec_len, MatchOption};
 ghost use Rattle.std.specs.List.{sum_by};
 ghost use Rattle.linker_output.specs.Placement.{Reaches, passed, size_of, stubs_in, IsLaidOut, place_of};
-ghost use Rattle.linker_output.specs.Placement.{group_at, branch_at, stub_at, at, IsAscending};
+ghost use Rattle.linker_output.specs.Placement.{branch_at, at, IsAscending};
 ghost use Rattle.linker_output.specs.Inner.Placement.{IsCode, IsState, IsNear};
 ghost use Rattle.linker_output.specs.Placement.{HasPart, part_of, ReachesAt, IsLayout, IsPlaced, IsPlaceCause};
 ghost use Rattle.linker_output.specs.Inner.Placement.{ArePlaces, IsLostBy, IsServedBy, level, way_at};
