@@ -7,10 +7,10 @@
 //! the nearest boundary stays where it is as seen from its branch, however many stubs are added.
 
 ghost use Rattle.std.specs.Prelude.{◌≡◌, ◌≢◌, ◌+◌, ◌*◌, ◌<◌, ◌≤◌, ◌^◌, ◌↔◌, ℕ, IsTrue, length, true, false};
-ghost use Rattle.std.specs.Prelude.{IfOk, IfErr, IfSome, IfNone, vec_len, ◌⊎◌, MatchOption};
+ghost use Rattle.std.specs.Prelude.{IfOk, IfErr, IfSome, IfNone, vec_len, MatchOption};
 ghost use Rattle.std.specs.List.{sum_by};
 ghost use Rattle.linker_output.specs.Placement.{Reaches, passed, size_of, stubs_in, IsLaidOut, place_of};
-ghost use Rattle.linker_output.specs.Placement.{group_at, branch_at, stub_at, at, IsAscending};
+ghost use Rattle.linker_output.specs.Placement.{branch_at, at, IsAscending};
 ghost use Rattle.linker_output.specs.Inner.Placement.{IsCode, IsState, IsNear};
 ghost use Rattle.linker_output.specs.Placement.{HasPart, part_of, ReachesAt, IsLayout, IsPlaced, IsPlaceCause};
 ghost use Rattle.linker_output.specs.Inner.Placement.{ArePlaces, IsLostBy, IsServedBy, level, way_at};
@@ -1047,7 +1047,30 @@ fn zeros(alloc: Global, len: usize) -> Result<Vec<u64>, OutOfMemory>
     Ok(vec![in alloc; 0; len + 1]?)
 }
 
-/// Places stubs.
+/// Places stubs at boundaries, so that each branch reaches its target or a stub of it, and returns the
+/// layout and by which stub each branch goes. An error that is about a layout has it.
+///
+/// A branch that doesn't reach its target shares the stub of it that was placed last, if that is in reach.
+/// Else a stub is placed for it within half of its reach ahead, or at the boundary next to it. Offsets
+/// move by the stubs before them, so that this is done again until each branch is in reach. A pass takes
+/// O((n + s) log b) for n branches, s stubs and b boundaries, and there are a few. Only where no new
+/// stub next to a branch is in its reach are all stubs searched.
+///
+/// It allocates arrays of as many elements as there are branches, targets, boundaries and stubs.
+///
+/// ```
+/// use linker_output::placement::{Branch, Code, StubShape, place_stubs};
+///
+/// const MIB: u64 = 1 << 20;
+/// let reach = 128 * MIB;
+/// let call = Branch { offset: 4, target: 0, max_backward: reach, max_forward: reach };
+/// let shape = StubShape { len: 12, unit: 16, max_backward: 1 << 32, max_forward: 1 << 32 };
+/// let code = Code { branches: &[call], targets: &[200 * MIB], boundaries: &[64 * MIB], shape };
+/// let placement = place_stubs(&code)?;
+/// assert_eq!(placement.stubs, [Some(0)]);
+/// assert_eq!(placement.layout.places, [64 * MIB]);
+/// # Ok::<(), linker_output::placement::PlaceError>(())
+/// ```
 pub fn place_stubs(alloc: Global, code: &Code<'_>) -> Result<Placement, PlaceError>
     ensures ok { IfOk result (IsPlaced code.now) }
     ensures err { IfErr result (IsPlaceCause code.now) }

@@ -785,7 +785,30 @@ fn zeros(len: usize) -> Result<Vec<u64>, OutOfMemory> {
     Ok(try_vec![0; len + 1]?)
 }
 
-/// Places stubs.
+/// Places stubs at boundaries, so that each branch reaches its target or a stub of it, and returns the
+/// layout and by which stub each branch goes. An error that is about a layout has it.
+///
+/// A branch that doesn't reach its target shares the stub of it that was placed last, if that is in reach.
+/// Else a stub is placed for it within half of its reach ahead, or at the boundary next to it. Offsets
+/// move by the stubs before them, so that this is done again until each branch is in reach. A pass takes
+/// O((n + s) log b) for n branches, s stubs and b boundaries, and there are a few. Only where no new
+/// stub next to a branch is in its reach are all stubs searched.
+///
+/// It allocates arrays of as many elements as there are branches, targets, boundaries and stubs.
+///
+/// ```
+/// use linker_utils::placement::{Branch, Code, StubShape, place_stubs};
+///
+/// const MIB: u64 = 1 << 20;
+/// let reach = 128 * MIB;
+/// let call = Branch { offset: 4, target: 0, max_backward: reach, max_forward: reach };
+/// let shape = StubShape { len: 12, unit: 16, max_backward: 1 << 32, max_forward: 1 << 32 };
+/// let code = Code { branches: &[call], targets: &[200 * MIB], boundaries: &[64 * MIB], shape };
+/// let placement = place_stubs(&code)?;
+/// assert_eq!(placement.stubs, [Some(0)]);
+/// assert_eq!(placement.layout.places, [64 * MIB]);
+/// # Ok::<(), linker_utils::placement::PlaceError>(())
+/// ```
 pub fn place_stubs(code: &Code<'_>) -> Result<Placement, PlaceError> {
     code.check()?;
     let mut state = State::new(code)?;

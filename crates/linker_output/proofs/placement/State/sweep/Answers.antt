@@ -1,11 +1,11 @@
-use Rattle.std.proofs.Common.{◌≡◌, ◌<◌, ◌≤◌, ◌+◌, ◌∙◌, ℕ, List, false, true, ap, refl, sym, subst, arith, below_more, length}
+use Rattle.std.proofs.Common.{◌≡◌, ◌<◌, ◌+◌, ◌∙◌, ℕ, List, false, true, ap, sym, subst, arith, below_more, length}
 use Rattle.std.specs.List.{sum_by}
 use Rattle.std.proofs.lemmas.Bool.{false≢true}
 use Rattle.linker_output.specs.declared.placement.Code.{Code}
 use Rattle.linker_output.specs.declared.placement.State.{State}
-use Rattle.linker_output.specs.declared.placement.Visit.TheVariants.{Served, Near, Raised, Lost}
+use Rattle.linker_output.specs.declared.placement.Visit.TheVariants.{Served, Near, Lost}
 use Rattle.linker_output.specs.Placement.{branch_at}
-use Rattle.linker_output.specs.Inner.Placement.{IsState, SameStubs, IsServedBy, Visited, level, way_at}
+use Rattle.linker_output.specs.Inner.Placement.{SameStubs, IsServedBy, Visited, level, way_at}
 use Rattle.linker_output.proofs.Near.{near_served, places_kept, laid_kept}
 use Rattle.linker_output.proofs.placement.State.sweep.Goals as goal
 use Rattle.linker_output.proofs.placement.State.sweep.Goals.{in-Served, in-Near, in-Raised, in-Lost+else-not-changed}
