@@ -557,7 +557,7 @@ struct linker_utils_output_facts {
 };
 
 /* Which groups of a symbol stay as they are. An object has an array of these by the indexes that
- * its relocations name; the element at index 0 is of all of the object: it has local-dynamic TLS,
+ * its relocations name. The element at index 0 is of all of the object: it has local-dynamic TLS,
  * and what stays whichever symbol it is of. */
 struct linker_utils_kept_groups {
     bool initial_exec; /* loads of an offset from the thread pointer */
@@ -567,7 +567,7 @@ struct linker_utils_kept_groups {
     bool got_load; /* PowerPC64's loads of an address from the GOT by its two halves */
 };
 
-/* All but `fate` is 0 where that isn't LINKER_UTILS_FATE_REWRITTEN. */
+/* All except `fate` is 0 where that isn't LINKER_UTILS_FATE_REWRITTEN. */
 struct linker_utils_decision {
     uint32_t rewrite; /* by the machine's enum of rewrites */
     uint32_t relocation; /* the relocation's type after it */
@@ -576,7 +576,7 @@ struct linker_utils_decision {
 };
 
 /* Notes in `kept` which groups of an object stay, since a relocation of this section is of them and
- * has no rewrite: its instruction is none that a rewrite is meant for, its symbol may be of another
+ * has no rewrite. Its instruction is none that a rewrite is meant for, its symbol may be of another
  * file, or what the rewrite takes along isn't there. What stays there already stays. Begin with all
  * false, and survey each section of code of an object with the same array before one of them is
  * rewritten. A group stays too where the array has no element for its symbol. O(n) for n
@@ -588,7 +588,7 @@ static inline uint32_t linker_utils_survey(
     struct linker_utils_kept_groups *kept, size_t kept_len);
 
 /* Rewrites the instructions of a section of code as `linker_utils_choose` says before addresses are
- * known, and turns its relocations into those after it: of one that goes the type becomes 0, so
+ * known, and turns its relocations into those after it. Of one that goes the type becomes 0, so
  * that indexes stay. No byte is deleted. `kept` is what `linker_utils_survey` noted of all sections
  * of code of the object, with the same facts. What became of each relocation is in `decisions`,
  * whose elements from the number of relocations on are unchanged. A relocation of a symbol that
@@ -598,8 +598,8 @@ static inline uint32_t linker_utils_survey(
  * LINKER_UTILS_UNKNOWN_ARCHITECTURE; LINKER_UTILS_SHORT_MEMORY where there are fewer decisions than
  * relocations; LINKER_UTILS_OUT_OF_MEMORY. Else the status is that of the first relocation that it
  * doesn't accept, `faulty`: LINKER_UTILS_NOT_SURVEYED; LINKER_UTILS_OVERLAPS where the bytes of its
- * rewrite overlap those of one before it, or lie below them, so the relocations of instructions
- * that can be rewritten have to ascend by offset. With any status but LINKER_UTILS_OK all is
+ * rewrite overlap those of one before it, or lie below them. So the relocations of instructions that
+ * can be rewritten have to ascend by offset. With any status except LINKER_UTILS_OK all is
  * unchanged. */
 static inline uint32_t linker_utils_rewrite_section(
     uint16_t machine, const struct linker_utils_output_facts *output,

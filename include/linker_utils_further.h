@@ -230,8 +230,8 @@ struct linker_utils_provided_run {
     uint32_t count; /* how many functions there are */
 };
 
-/* The run with an index, from 0 on: the functions' names without the number, which stands behind it
- * in decimal, to `prefix`, its length to `prefix_used`, and the numbers to `run`.
+/* The run with an index, from 0 on. It writes the functions' names without the number, which stands
+ * behind it in decimal, to `prefix`, its length to `prefix_used`, and the numbers to `run`.
  * LINKER_UTILS_NOT_PROVIDED where there is none with this index or above; LINKER_UTILS_TOO_SHORT.
  * No prefix is longer than LINKER_UTILS_NAME_SIZE. */
 static inline uint32_t linker_utils_provided_run(uint16_t machine, size_t index, uint8_t *prefix,
