@@ -409,8 +409,11 @@ struct Relocated {
     section: Vec<u8>,
 }
 
+/// Makes so many relocations.
+type MakeRelocated = fn(usize) -> Relocated;
+
 /// RISC-V's low parts, each of a high part of its own, and all of one.
-fn relocated() -> [(&'static str, fn(usize) -> Relocated); 2] {
+fn relocated() -> [(&'static str, MakeRelocated); 2] {
     const AT: u64 = 0x10_0000;
     fn symbol(address: u64) -> Symbol {
         Symbol { address, ..Symbol::default() }
@@ -578,8 +581,7 @@ fn expect_placements(count: usize) {
     const REACH: u64 = 1 << 20;
     let shape = StubShape { len: 12, unit: 16, max_backward: 1 << 40, max_forward: 1 << 40 };
     let place = |(branches, targets, boundaries): (Vec<Branch>, Vec<u64>, Vec<u64>)| {
-        let code =
-            Code { branches: &branches, targets: &targets, boundaries: &boundaries, shape };
+        let code = Code { branches: &branches, targets: &targets, boundaries: &boundaries, shape };
         black_box(place_stubs(&code).expect("each is placed"));
     };
     let long = |count: usize| {

@@ -17,12 +17,7 @@ fn of_symbol(offset: u64, code: u32, addend: i64) -> Relocation {
 
 /// Requires these items of a section at the offset 0x100 of the run, each of the relocation at its
 /// place.
-fn expect_items(
-    machine: Machine,
-    section: &[u8],
-    relocations: &[Relocation],
-    expected: &[Item],
-) {
+fn expect_items(machine: Machine, section: &[u8], relocations: &[Relocation], expected: &[Item]) {
     let made = section_items(machine, section, 0x100, relocations).unwrap();
     assert_eq!(made.items, expected);
     for (item, &maker) in made.items.iter().zip(&made.makers) {
