@@ -226,6 +226,22 @@ static void rewrite_early(struct section *s, struct relocation *r, size_t len) {
     }
 }
 
+/* LoongArch: what R_LARCH_RELAX marks of loads from the GOT becomes an address, each by itself as in
+ * ld.lld. By `linker_utils_rewrite_section` the loads of a symbol stay where one of them isn't marked. */
+static void rewrite_marked_loads(struct section *s, struct relocation *r, size_t len) {
+    uint8_t *bytes = s->output->bytes + s->offset;
+    for (size_t i = 0; i + 1 < len && relaxes && machine == EM_LOONGARCH; i++) {
+        uint64_t offset = r[i].offset - s->offset;
+        if (r[i + 1].type != LARCH_RELAX || r[i + 1].offset != r[i].offset || !is_here(r[i].symbol) ||
+            needs_of(&r[i]).entry_class != LINKER_UTILS_ENTRY_ADDRESS)
+            continue;
+        struct linker_utils_link_facts facts = {
+            .is_local = 1, .has_fixed_address = 1, .has_fixed_distance = 1,
+            .is_executable = 1, .operands.addend = r[i].addend};
+        rewrite(&r[i], bytes, s->head->sh_size, &offset, &r[i].addend, &r[i].type, &facts);
+    }
+}
+
 /* Reads the relocations of a section, and rewrites instructions where that needs no address. */
 void read_relocations(struct section *s) {
     const struct object *o = s->object;
@@ -235,7 +251,10 @@ void read_relocations(struct section *s) {
     const Elf64_Rela *elf = copy_table(o, s->relocations, sizeof *elf, &len);
     struct relocation *first = add_relocations(s->output, len), *r = first;
     for (size_t i = 0; i < len; i++) first[i] = relocation_of(s, &elf[i]);
-    if (is_code(s)) rewrite_early(s, first, len);
+    if (is_code(s)) {
+        rewrite_early(s, first, len);
+        rewrite_marked_loads(s, first, len);
+    }
     for (size_t i = 0; i < len; i++, r++) {
         if (machine == EM_PPC64) note_low_half(r, bytes, size);
         if (machine == EM_PPC64) note_offset(r, bytes, size);
