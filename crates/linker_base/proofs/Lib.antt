@@ -2,6 +2,7 @@ pub mod Apart
 pub mod Batches
 pub mod Bits
 pub mod ConsecutiveBits
+pub mod Copied
 pub mod Fields
 pub mod Fours
 pub mod Fronts

@@ -1,3 +1,4 @@
 pub mod Blocks
 pub mod Listed
+pub mod Packing
 pub mod PartitionPoint

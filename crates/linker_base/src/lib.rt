@@ -2,6 +2,7 @@
 #![tactic(auto)]
 
 pub mod bit_misc;
+pub mod packing;
 pub mod relaxation;
 pub mod rewrite;
 pub mod utils;

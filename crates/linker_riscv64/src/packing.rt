@@ -1,12 +1,13 @@
 //! The kept bytes of a section, with its calls made jumps.
 
-ghost use Rattle.std.specs.Prelude.{◌≡◌, ◌≤◌, ◌<◌, ◌+◌, ◌-◌, ◌^◌, ◌++◌, ◌↔◌, min, map, take};
-ghost use Rattle.std.specs.Prelude.{drop, length, All, IsTrue, IfOk, IfErr, OnOk, OnErr};
+ghost use Rattle.std.specs.Prelude.{◌≡◌, ◌≤◌, ◌<◌, ◌+◌, ◌-◌, ◌^◌, ◌↔◌, map};
+ghost use Rattle.std.specs.Prelude.{length, All, IsTrue, IfOk, IfErr, OnOk, OnErr};
 ghost use Rattle.std.specs.Prelude.{MatchOption};
 ghost use Rattle.linker_base.specs.Deletions.{rank};
 ghost use Rattle.linker_base.specs.Deltas.{deletions_of};
 ghost use Rattle.linker_base.specs.Listed.{AreValidDeltas};
-ghost use Rattle.linker_riscv64.specs.Inner.Packing.{IsFilled, IsJumpOf};
+ghost use Rattle.linker_base.specs.Inner.Packing.{IsFilled, IsPosition};
+ghost use Rattle.linker_riscv64.specs.Inner.Packing.{IsJumpOf};
 ghost use Rattle.linker_riscv64.specs.Packing.{AreApart, IsFirstNotApart, CanJump, IsRejected};
 ghost use Rattle.linker_riscv64.specs.Packing.{IsFirstRejected, IsFirstFailing, IsPacked};
 ghost use Rattle.linker_riscv64.specs.Packing.{PackedCallsReachTargets};
@@ -16,6 +17,7 @@ ghost use Rattle.linker_riscv64.specs.RiscVCalls.{call_len, link_register, outpu
 use super::calls::{
     AsCall, CallError, JumpError, LinkRegister, distance_between, jal_site, test_distance,
 };
+use linker_base::packing::{Position, copy_kept, position_from, position_near, position_of};
 use linker_base::relaxation::{DeltaSlice, RelaxDelta, SectionRelaxDeltas};
 use linker_base::rewrite::{has_window, overwrite};
 use std::alloc::{AllocError, AllocFailed, Global};
@@ -74,16 +76,21 @@ pub(super) fn to_output_offset(deltas: &[RelaxDelta], input_offset: u64) -> u64
     DeltaSlice::new(deltas).input_to_output_offset(input_offset)
 }
 
-/// The output offset of the four bytes at a site, or none where one of them is deleted.
+/// The output offset of the four bytes at a position, or none where one of them is deleted.
 #[inline(always)]
-fn site_output_offset(deltas: &[RelaxDelta], site: u64) -> Option<u64>
-    requires { site + 4 < 2 ^ 64 }
-    ensures { AreValidDeltas deltas.now
-        → MatchOption result (¬ IsSiteKept (deletions_of deltas.now) site)
-        (λ output. IsSiteKept (deletions_of deltas.now) site
-        × (output ≡ rank (deletions_of deltas.now) site)) }
+fn site_output_offset(deltas: &[RelaxDelta], at: &Position) -> Option<u64>
+    requires { at.now.input_offset + 4 < 2 ^ 64 }
+    ensures { AreValidDeltas deltas.now → IsPosition deltas.now at.now
+        → MatchOption result (¬ IsSiteKept (deletions_of deltas.now) at.now.input_offset)
+        (λ output. IsSiteKept (deletions_of deltas.now) at.now.input_offset
+        × (output ≡ rank (deletions_of deltas.now) at.now.input_offset)) }
 {
-    DeltaSlice::new(deltas).kept_output_offset(site, 4)
+    let behind = position_from(deltas, at, at.input_offset + 4);
+    if behind.output_offset.wrapping_sub(at.output_offset) == 4 {
+        Some(at.output_offset)
+    } else {
+        None
+    }
 }
 
 /// The index of the first call whose site is less than 4 above the site before it. None where the
@@ -110,59 +117,6 @@ pub fn calls_apart(calls: &[(u64, u64)]) -> bool
     first_not_apart(calls).is_none()
 }
 
-/// The bytes of a section from an offset up to another, as far as they lie in the section.
-#[inline(always)]
-fn between(section: &[u8], from: u64, to: u64) -> &[u8]
-    ensures { result.now
-        ≡ take (min to (length section.now) - min from (length section.now))
-        (drop (min from (length section.now)) section.now) }
-{
-    let len = section.len();
-    let start = (from.min(len as u64)) as usize;
-    let end = (to.min(len as u64)) as usize;
-    if start < end {
-        &section[start..end]
-    } else {
-        &[]
-    }
-}
-
-/// Puts bytes at an output offset of the packed section, as far as they fit there, and returns the
-/// offset behind them.
-#[inline(always)]
-fn put(packed: &mut [u8], output_offset: usize, bytes: &[u8]) -> usize
-    requires { output_offset ≤ length packed.old }
-    ensures bytes { packed.new
-        ≡ take output_offset packed.old ++ take (length packed.old - output_offset) bytes.now
-        ++ drop (output_offset + length bytes.now) packed.old }
-    ensures end { result
-        ≡ output_offset + min (length bytes.now) (length packed.old - output_offset) }
-{
-    let len = bytes.len().min(packed.len() - output_offset);
-    let end = output_offset + len;
-    packed[output_offset..end].copy_from_slice(&bytes[..len]);
-    end
-}
-
-/// Copies the kept bytes of a section.
-fn copy_kept(section: &[u8], deltas: &[RelaxDelta], packed: &mut [u8])
-    ensures { AreValidDeltas deltas.now
-        → length packed.old ≡ rank (deletions_of deltas.now) (length section.now)
-        → IsFilled (deletions_of deltas.now) section.now (length section.now) packed.new }
-{
-    let mut from = 0;
-    let mut output_offset = 0;
-    for delta in deltas {
-        let run = between(section, from, delta.input_offset);
-        output_offset = put(packed, output_offset, run);
-        from = delta
-            .input_offset
-            .saturating_add(u64::from(delta.bytes_deleted));
-    }
-    let run = between(section, from, section.len() as u64);
-    let _end = put(packed, output_offset, run);
-}
-
 /// Where the jump of a call goes in the packed section, and how far it jumps.
 #[derive(Clone, Copy)]
 struct Jump {
@@ -170,30 +124,34 @@ struct Jump {
     distance: i64,
 }
 
-/// The jump that a call becomes, or why it can't.
+/// The jump that a call at a position becomes, or why it can't.
 fn jump_of(
     section: &[u8],
     deltas: &[RelaxDelta],
-    site: u64,
+    at: &Position,
     target: u64,
     link: LinkRegister,
 ) -> Result<Jump, JumpError>
-    ensures inside { OnOk result (site + call_len link ≤ length section.now) }
-    ensures ok { AreValidDeltas deltas.now
-        → IfOk result (IsJumpOf link (deletions_of deltas.now) section.now (site, target)) }
-    ensures err { AreValidDeltas deltas.now
-        → IfErr result (IsRejected link (deletions_of deltas.now) section.now (site, target)) }
+    ensures inside { OnOk result (at.now.input_offset + call_len link ≤ length section.now) }
+    ensures ok { AreValidDeltas deltas.now → IsPosition deltas.now at.now
+        → IfOk result (IsJumpOf link (deletions_of deltas.now) section.now
+        (at.now.input_offset, target)) }
+    ensures err { AreValidDeltas deltas.now → IsPosition deltas.now at.now
+        → IfErr result (IsRejected link (deletions_of deltas.now) section.now
+        (at.now.input_offset, target)) }
 {
+    let site = at.input_offset;
     if !has_window(section, site, 0, link.call_len()) || target > section.len() as u64 {
         return Err(JumpError::Call(CallError::OutOfSection));
     }
-    let Some(output_offset) = site_output_offset(deltas, site) else {
+    let Some(output_offset) = site_output_offset(deltas, at) else {
         return Err(JumpError::Call(CallError::SiteDeleted));
     };
     let Some(_register) = link.named_at(section, site) else {
         return Err(JumpError::NotACall);
     };
-    let distance = distance_between(output_offset, to_output_offset(deltas, target));
+    let to = position_near(deltas, at, target);
+    let distance = distance_between(output_offset, to.output_offset);
     test_distance(distance)?;
     Ok(Jump {
         output_offset,
@@ -208,6 +166,7 @@ fn test_calls<C: AsCall>(
     calls: &[C],
     link: LinkRegister,
 ) -> Result<(), RejectedCall>
+    requires { AreApart (map C.call calls.now) }
     ensures ok { AreValidDeltas deltas.now
         → OnOk result (All (CanJump link (deletions_of deltas.now) section.now)
         (map C.call calls.now)) }
@@ -216,9 +175,11 @@ fn test_calls<C: AsCall>(
         IsFirstRejected link (deletions_of deltas.now) section.now (map C.call calls.now)
         rejected.index rejected.error) }
 {
+    let mut at = position_of(deltas, 0);
     for index in 0..calls.len() {
         let (site, target) = calls[index].as_call();
-        if let Err(error) = jump_of(section, deltas, site, target, link) {
+        at = position_from(deltas, &at, site);
+        if let Err(error) = jump_of(section, deltas, &at, target, link) {
             return Err(RejectedCall { index, error });
         }
     }
@@ -242,24 +203,24 @@ fn put_jump(section: &[u8], site: u64, link: LinkRegister, jump: Jump, packed: &
     let _ = jal_site(packed, jump.output_offset, jump.distance);
 }
 
-/// Puts the jump of a call into the packed section, where it can become one.
+/// Puts the jump of a call at a position into the packed section, where it can become one.
 fn put_call(
     section: &[u8],
     deltas: &[RelaxDelta],
-    site: u64,
+    at: &Position,
     target: u64,
     link: LinkRegister,
     packed: &mut [u8],
 )
-    ensures { AreValidDeltas deltas.now
+    ensures { AreValidDeltas deltas.now → IsPosition deltas.now at.now
         → length packed.old ≡ rank (deletions_of deltas.now) (length section.now)
-        → CanJump link (deletions_of deltas.now) section.now (site, target)
-        → JumpsAndLinks packed.old packed.new (rank (deletions_of deltas.now) site)
-        (link_register link section.now site)
-        (output_distance (deletions_of deltas.now) site target) }
+        → CanJump link (deletions_of deltas.now) section.now (at.now.input_offset, target)
+        → JumpsAndLinks packed.old packed.new (rank (deletions_of deltas.now) at.now.input_offset)
+        (link_register link section.now at.now.input_offset)
+        (output_distance (deletions_of deltas.now) at.now.input_offset target) }
 {
-    if let Ok(jump) = jump_of(section, deltas, site, target, link) {
-        put_jump(section, site, link, jump, packed);
+    if let Ok(jump) = jump_of(section, deltas, at, target, link) {
+        put_jump(section, at.input_offset, link, jump, packed);
     }
 }
 
@@ -275,12 +236,14 @@ fn put_calls<C: AsCall>(
         → length packed.old ≡ rank (deletions_of deltas.now) (length section.now)
         → AreApart (map C.call calls.now)
         → All (CanJump link (deletions_of deltas.now) section.now) (map C.call calls.now)
-        → IsFilled (deletions_of deltas.now) section.now (length section.now) packed.old
+        → IsFilled (deletions_of deltas.now) 0 section.now packed.old
         → IsPacked link (deletions_of deltas.now) section.now (map C.call calls.now) packed.new }
 {
+    let mut at = position_of(deltas, 0);
     for index in 0..calls.len() {
         let (site, target) = calls[index].as_call();
-        put_call(section, deltas, site, target, link, packed);
+        at = position_from(deltas, &at, site);
+        put_call(section, deltas, &at, target, link, packed);
     }
 }
 
@@ -325,7 +288,7 @@ pub fn pack_into<C: AsCall>(
     ensures unchanged { OnErr result (out.new ≡ out.old) }
 {
     test_calls(section, deltas, calls, link)?;
-    copy_kept(section, deltas, out);
+    copy_kept(section, 0, deltas, out);
     put_calls(section, deltas, calls, link, out);
     Ok(())
 }

@@ -9,7 +9,7 @@ use Rattle.linker_runs.specs.declared.relaxation.Item.TheVariants.{Site, Aligned
 use Rattle.linker_runs.specs.Relaxing.{offset_of, len_of, end_of, item_at, kept_by, freed_before, choice_of, short_shape, needed, limit_of, AreInOrder, IsSound}
 use Rattle.linker_runs.specs.Deleting.{deletion_at, deletions_before}
 use Rattle.linker_runs.proofs.Layouts.{ends_ascend}
-use Rattle.linker_riscv64.proofs.Packed.{rank-kept, rank-gone}
+use Rattle.linker_base.proofs.Copied.{rank-kept, rank-gone}
 use Rattle.linker_runs.specs.FirstBytes.{FirstBytesAreKept}
 use Rattle.linker_runs.proofs.Covering.{takes, losing, lost}
 use Rattle.linker_runs.proofs.Reaching.{loses_some, loses_none}

@@ -3,7 +3,6 @@ pub mod Alignments
 pub mod AlwaysInReach
 pub mod Bounds
 pub mod Choices
-pub mod Copied
 pub mod Covering
 pub mod Deletions
 pub mod First
@@ -11,7 +10,6 @@ pub mod Firsts
 pub mod Frees
 pub mod PackedItems
 pub mod Layouts
-pub mod Lists
 pub mod LongAddresses
 pub mod LongCalls
 pub mod LongCalls36

@@ -1,11 +1,11 @@
 -- What is written of each item.
 use Rattle.std.proofs.Common.{◌≡◌, ℕ, zero, suc, ◌+◌, ◌-◌, ◌<◌, ◌≤◌, true, false, List, ◌++◌, length, get_or, take, drop, refl, sym, subst, ◌∙◌, ap, arith, inl, inr}
-use Rattle.std.specs.Prelude.{if◌then◌else◌, IsSomeAnd}
+use Rattle.std.specs.Prelude.{if◌then◌else◌, IsSomeAnd, ◌↔◌}
 use Rattle.std.proofs.lemmas.Bool.{cases_lt, cases_Bool}
 use Rattle.std.proofs.lemmas.List.{append_assoc, length-append, length-take, length-drop, get_or-take, get_or-drop, get_or-append_right, get_or_default, take_at, drop_at, same_lists}
 use Rattle.linker_base.specs.Deletions.{is_kept, rank}
 use Rattle.linker_base.proofs.Rank.{rank_kept, rank-mono, rank_steps}
-use Rattle.linker_riscv64.proofs.Packed.{put_below}
+use Rattle.linker_base.proofs.Copied.{put_below}
 use Rattle.linker_runs.specs.declared.relaxation.Item.{Item}
 use Rattle.linker_runs.specs.declared.relaxation.Item.TheVariants.{Site, Aligned}
 use Rattle.linker_runs.specs.Relaxing.{offset_of, len_of, end_of, item_at}
@@ -13,7 +13,7 @@ use Rattle.linker_runs.specs.Sites.{IsInReach}
 use Rattle.linker_runs.specs.RiscVSites.{riscv_template, RiscVAccepts, RiscVCause}
 use Rattle.linker_runs.specs.Packing.{Section, packed_offset, kept_len, is_fixed, written_len, IsApart, IsInside, KeepsGap, gap_start, IsNotIn, ItemAccepts, ItemCause, ItemBecomes, IsWritable, IsUnwritable, IsCause, LosesItems, IsPackedRun}
 use Rattle.linker_runs.specs.Inner.Pieces.{piece_bytes, IsWhole, IsPieceOf}
-use Rattle.linker_runs.specs.Inner.Copying.{IsFilledTo}
+use Rattle.linker_base.specs.Inner.Packing.{IsFilledTo}
 use Rattle.linker_runs.specs.Inner.Packing.{AreReady, IsWrittenTo}
 use Rattle.linker_runs.specs.declared.packing.Machine.{Machine}
 use Rattle.linker_runs.specs.declared.packing.Machine.TheVariants.{RiscV64, LoongArch64}
@@ -80,6 +80,21 @@ cause_of machine s items i OutOfReach apart inside gap free u = (apart, inside, 
 cause_of machine s items i Overlaps apart inside gap free u = absurd ((not_own machine s (item_at items i) _).0 u.1)
 cause_of machine s items i OutOfSection apart inside gap free u = absurd ((not_own machine s (item_at items i) _).1 u.1)
 cause_of machine s items i DeletedOutside apart inside gap free u = absurd ((not_own machine s (item_at items i) _).2 u.1)
+
+-- the bytes before an item begin where the item before it ends
+pub gap_next : (s : Section) (items : List Item) (i : ℕ) → gap_start s items (i + 1) ≡ end_of (item_at items i)
+gap_next s items i = ap (gap_start s items) (let same : i + 1 ≡ suc i = omega arith in same)
+
+gap_before : (s : Section) (items : List Item) (i : ℕ) → 0 < i → gap_start s items i ≡ end_of (item_at items (i - 1))
+gap_before s items zero some = absurd (omega arith)
+gap_before s items (suc i) some = ap (λ n. end_of (item_at items n)) (let same : i ≡ suc i - 1 = omega arith in same)
+
+-- an item that begins there or above is apart from the one before
+pub apart_from : (s : Section) (items : List Item) (i behind : ℕ) → behind ≡ gap_start s items i → (0 < i → behind ≤ offset_of (item_at items i)) ↔ IsApart items i
+apart_from s items i behind is = (
+  λ begins some. omega (arith, gap_before s items i some, is, begins some),
+  λ apart some. omega (arith, gap_before s items i some, is, apart some),
+)
 
 -- where the bytes before an item begin, at or below it
 pub gap_below : (s : Section) (items : List Item) (i : ℕ) → IsApart items i → IsInside s (item_at items i) → gap_start s items i ≤ offset_of (item_at items i)

@@ -1,5 +1,4 @@
 pub mod Ahead
-pub mod Copying
 pub mod LoongArch
 pub mod Packing
 pub mod Pieces

@@ -6,9 +6,9 @@ ghost use Rattle.std.specs.Prelude.{List, IsTrue, IfOk, IfErr, OnOk, OnErr, IfSo
 ghost use Rattle.linker_base.specs.Deletions.{rank};
 ghost use Rattle.linker_base.specs.Deltas.{deletions_of};
 ghost use Rattle.linker_base.specs.Listed.{AreValidDeltas};
-ghost use Rattle.linker_runs.specs.Relaxing.{item_at, offset_of, end_of};
+ghost use Rattle.linker_runs.specs.Relaxing.{offset_of, end_of};
 ghost use Rattle.linker_runs.specs.Packing.{section_of, kept_len, packed_offset, is_fixed};
-ghost use Rattle.linker_runs.specs.Packing.{IsApart, IsInside, gap_start, StayWhole, KeepsEnd};
+ghost use Rattle.linker_runs.specs.Packing.{IsInside, StayWhole, KeepsEnd};
 ghost use Rattle.linker_runs.specs.Packing.{nop_len, nops, repeated};
 ghost use Rattle.linker_runs.specs.Packing.{IsPackedRun};
 ghost use Rattle.linker_runs.specs.Packing.{IsFirstRejected, SiteBecomes, SiteAccepts, SiteCause};
@@ -17,17 +17,17 @@ ghost use Rattle.linker_runs.specs.Packing.{KeepsFirst, ItemBecomes, ItemAccepts
 ghost use Rattle.linker_runs.specs.Packing.{IsUnwritable};
 ghost use Rattle.linker_runs.specs.Origins.{HasItsInstructions};
 ghost use Rattle.linker_runs.specs.Inner.Pieces.{code_bytes, piece_bytes, IsWhole, IsPieceOf};
-ghost use Rattle.linker_runs.specs.Inner.Packing.{IsFilled, AreReady};
+ghost use Rattle.linker_base.specs.Inner.Packing.{IsFilled, IsPosition};
+ghost use Rattle.linker_runs.specs.Inner.Packing.{AreReady};
 
 mod code;
-mod copying;
 mod loongarch64;
 mod riscv64;
 
 use crate::items::{AsItem, ItemList};
 use crate::packing::code::Code;
-use crate::packing::copying::{begun_about, begun_at, copy_kept, to_output};
 use crate::relaxation::{Item, Site};
+use linker_base::packing::{Position, copy_kept, position_from, position_near, position_of};
 use linker_base::relaxation::{DeltaSlice, RelaxDelta};
 
 /// The architecture of a section's code.
@@ -81,17 +81,12 @@ pub(crate) enum Piece {
     Code(Code),
 }
 
-/// Whether the item at an index begins at or above the end of the one before it.
-fn is_apart<I: AsItem>(items: &ItemList<'_, I>, index: usize) -> bool
-    requires { index < length items.now }
-    ensures { IsTrue result ↔ IsApart items.now index }
+/// Whether the item at an index begins at or above a position behind the one before it.
+fn is_apart(index: usize, behind: &Position, item: &Item) -> bool
+    ensures { IsTrue result
+        ↔ (0 < index → behind.now.input_offset ≤ offset_of item.now) }
 {
-    if index == 0 {
-        return true;
-    }
-    let before = items.at(index - 1);
-    let offset = items.at(index).offset();
-    before.offset() <= offset && before.len() <= offset - before.offset()
+    index == 0 || behind.input_offset <= item.offset()
 }
 
 /// Whether an item lies in a section that begins at the input offset `base`.
@@ -107,28 +102,15 @@ fn is_inside(section: &[u8], base: u64, item: &Item) -> bool
     at <= len && item.len() <= len - at
 }
 
-/// Where the bytes before the item at an index, which are of no item, begin.
-fn gap_start<I: AsItem>(base: u64, items: &ItemList<'_, I>, index: usize) -> u64
-    requires index { index ≤ length items.now }
-    requires small { (i : ℕ) → i < index → end_of (item_at items.now i) < 2 ^ 64 }
-    ensures { (bytes : List ℕ) (deletions : List (ℕ × ℕ)) (start : ℕ)
-        → result ≡ gap_start (section_of bytes base deletions start) items.now index }
+/// Whether all bytes between two positions stay.
+fn stay_whole(from: &Position, to: &Position) -> bool
+    requires { from.now.input_offset ≤ to.now.input_offset }
+    ensures { (deltas : List RelaxDelta) → AreValidDeltas deltas
+        → IsPosition deltas from.now → IsPosition deltas to.now
+        → (IsTrue result
+        ↔ StayWhole (deletions_of deltas) from.now.input_offset to.now.input_offset) }
 {
-    if index == 0 {
-        return base;
-    }
-    let before = items.at(index - 1);
-    before.offset() + before.len()
-}
-
-/// Whether all bytes from an input offset up to another stay.
-fn stay_whole(deltas: &[RelaxDelta], near: usize, from: u64, to: u64) -> bool
-    requires { from ≤ to }
-    ensures { AreValidDeltas deltas.now
-        → (IsTrue result ↔ StayWhole (deletions_of deltas.now) from to) }
-{
-    let output = to_output(deltas, near, from);
-    to_output(deltas, near, to).saturating_sub(output) == to - from
+    to.output_offset.saturating_sub(from.output_offset) == to.input_offset - from.input_offset
 }
 
 /// What the instructions of a site become of which so many bytes stay.
@@ -137,23 +119,24 @@ fn code_of_site(
     section: &[u8],
     base: u64,
     deltas: &[RelaxDelta],
-    near: usize,
+    at: &Position,
     start: u64,
     site: &Site,
     kept: u64,
 ) -> Result<Code, ItemError>
+    requires at { at.now.input_offset ≡ site.now.offset }
     requires from { base ≤ site.now.offset }
     requires to { site.now.offset + site.now.len ≤ base + length section.now }
-    ensures becomes { AreValidDeltas deltas.now
+    ensures becomes { AreValidDeltas deltas.now → IsPosition deltas.now at.now
         → IfOk result (λ code.
         SiteBecomes machine (section_of section.now base (deletions_of deltas.now) start) site.now
         (code_bytes code)) }
     ensures len { IfOk result (λ code. length (code_bytes code) ≡ kept) }
-    ensures accepts { AreValidDeltas deltas.now
+    ensures accepts { AreValidDeltas deltas.now → IsPosition deltas.now at.now
         → OnOk result
         (SiteAccepts machine (section_of section.now base (deletions_of deltas.now) start) site.now
         kept) }
-    ensures rejected { AreValidDeltas deltas.now
+    ensures rejected { AreValidDeltas deltas.now → IsPosition deltas.now at.now
         → IfErr result
         (SiteCause machine (section_of section.now base (deletions_of deltas.now) start) site.now
         kept) }
@@ -161,9 +144,8 @@ fn code_of_site(
     if site.len != 8 {
         return Err(ItemError::NotItsInstructions);
     }
-    let place = start.wrapping_add(to_output(deltas, near, site.offset));
-    let there = begun_about(deltas, near, site.offset, site.target);
-    let target = start.wrapping_add(to_output(deltas, there, site.target));
+    let place = start.wrapping_add(at.output_offset);
+    let target = start.wrapping_add(position_near(deltas, at, site.target).output_offset);
     match machine {
         Machine::RiscV64 => riscv64::code_of(section, site.offset - base, kept, place, target),
         Machine::LoongArch64 => {
@@ -193,18 +175,23 @@ fn is_fixed(item: &Item) -> bool
     }
 }
 
-/// How many bytes of an item stay, if they are its first ones.
-fn kept_of(deltas: &[RelaxDelta], near: usize, item: &Item) -> Option<u64>
-    requires { end_of item.now < 2 ^ 64 }
-    ensures some { AreValidDeltas deltas.now
+/// How many bytes of an item at a position stay, if they are its first ones.
+fn kept_of(deltas: &[RelaxDelta], at: &Position, item: &Item) -> Option<u64>
+    requires small { end_of item.now < 2 ^ 64 }
+    requires at { at.now.input_offset ≡ offset_of item.now }
+    ensures some { AreValidDeltas deltas.now → IsPosition deltas.now at.now
         → IfSome result (λ kept. (kept ≡ kept_len (deletions_of deltas.now) item.now)
         × KeepsFirst (deletions_of deltas.now) item.now) }
-    ensures none { AreValidDeltas deltas.now
+    ensures none { AreValidDeltas deltas.now → IsPosition deltas.now at.now
         → IfNone result (¬ KeepsFirst (deletions_of deltas.now) item.now) }
 {
-    let from = to_output(deltas, near, item.offset());
-    let kept = to_output(deltas, near, item.offset() + item.len()).saturating_sub(from);
-    if kept <= item.len() && to_output(deltas, near, item.offset() + kept) == from + kept {
+    let end = position_from(deltas, at, at.input_offset + item.len());
+    let kept = end.output_offset.saturating_sub(at.output_offset);
+    if kept > item.len() {
+        return None;
+    }
+    let behind = position_from(deltas, at, at.input_offset + kept);
+    if behind.output_offset == at.output_offset + kept {
         Some(kept)
     } else {
         None
@@ -217,24 +204,25 @@ fn piece_for(
     section: &[u8],
     base: u64,
     deltas: &[RelaxDelta],
-    near: usize,
+    at: &Position,
     start: u64,
     item: &Item,
     kept: u64,
 ) -> Result<Piece, ItemError>
+    requires at { at.now.input_offset ≡ offset_of item.now }
     requires from { base ≤ offset_of item.now }
     requires to { end_of item.now ≤ base + length section.now }
-    ensures becomes { AreValidDeltas deltas.now
+    ensures becomes { AreValidDeltas deltas.now → IsPosition deltas.now at.now
         → IfOk result (λ piece.
         ItemBecomes machine (section_of section.now base (deletions_of deltas.now) start) item.now
         (piece_bytes machine piece)) }
     ensures len { IfOk result (λ piece. length (piece_bytes machine piece) ≡ kept) }
     ensures whole { IfOk result (IsWhole machine) }
-    ensures accepts { AreValidDeltas deltas.now
+    ensures accepts { AreValidDeltas deltas.now → IsPosition deltas.now at.now
         → OnOk result
         (ItemAccepts machine (section_of section.now base (deletions_of deltas.now) start) item.now
         kept) }
-    ensures rejected { AreValidDeltas deltas.now
+    ensures rejected { AreValidDeltas deltas.now → IsPosition deltas.now at.now
         → IfErr result
         (ItemCause machine (section_of section.now base (deletions_of deltas.now) start) item.now
         kept) }
@@ -248,7 +236,7 @@ fn piece_for(
             }
         }
         Item::Site(site) => {
-            match code_of_site(machine, section, base, deltas, near, start, site, kept) {
+            match code_of_site(machine, section, base, deltas, at, start, site, kept) {
                 Ok(code) => Ok(Piece::Code(code)),
                 Err(error) => Err(error),
             }
@@ -262,21 +250,22 @@ fn piece_of(
     section: &[u8],
     base: u64,
     deltas: &[RelaxDelta],
-    near: usize,
+    at: &Position,
     start: u64,
     item: &Item,
 ) -> Result<Piece, ItemError>
     requires small { base + length section.now < 2 ^ 64 }
+    requires at { at.now.input_offset ≡ offset_of item.now }
     requires from { base ≤ offset_of item.now }
     requires to { end_of item.now ≤ base + length section.now }
-    ensures piece { AreValidDeltas deltas.now
+    ensures piece { AreValidDeltas deltas.now → IsPosition deltas.now at.now
         → IfOk result
         (IsPieceOf machine (section_of section.now base (deletions_of deltas.now) start) item.now) }
-    ensures writable { AreValidDeltas deltas.now
+    ensures writable { AreValidDeltas deltas.now → IsPosition deltas.now at.now
         → OnOk result (is_fixed item.now ≡ false
         → IsWritable machine (section_of section.now base (deletions_of deltas.now) start)
         item.now) }
-    ensures rejected { AreValidDeltas deltas.now
+    ensures rejected { AreValidDeltas deltas.now → IsPosition deltas.now at.now
         → IfErr result (λ error. (is_fixed item.now ≡ false)
         × IsUnwritable machine (section_of section.now base (deletions_of deltas.now) start)
         item.now error) }
@@ -284,8 +273,8 @@ fn piece_of(
     if is_fixed(item) {
         return Ok(Piece::Nothing);
     }
-    match kept_of(deltas, near, item) {
-        Some(kept) => piece_for(machine, section, base, deltas, near, start, item, kept),
+    match kept_of(deltas, at, item) {
+        Some(kept) => piece_for(machine, section, base, deltas, at, start, item, kept),
         None => Err(ItemError::NotItsFirstBytes),
     }
 }
@@ -310,38 +299,40 @@ fn test_items<I: AsItem>(
         (IsFirstRejected machine (section_of section.now base (deletions_of deltas.now) start)
         items.now) }
 {
-    let mut near = 0;
-    for index in 0..items.len() {
-        if !is_apart(items, index) {
+    let count = items.len();
+    let mut behind = position_of(deltas, base);
+    for index in 0..count {
+        let item = items.at(index);
+        if !is_apart(index, &behind, &item) {
             return Err(RejectedItem {
                 index,
                 error: ItemError::Overlaps,
             });
         }
-        let item = items.at(index);
         if !is_inside(section, base, &item) {
             return Err(RejectedItem {
                 index,
                 error: ItemError::OutOfSection,
             });
         }
-        if !stay_whole(deltas, near, gap_start(base, items, index), item.offset()) {
+        let at = position_from(deltas, &behind, item.offset());
+        if !stay_whole(&behind, &at) {
             return Err(RejectedItem {
                 index,
                 error: ItemError::DeletedOutside,
             });
         }
-        near = begun_at(deltas, near, item.offset());
-        if let Err(error) = piece_of(machine, section, base, deltas, near, start, &item) {
+        if let Err(error) = piece_of(machine, section, base, deltas, &at, start, &item) {
             return Err(RejectedItem { index, error });
         }
+        behind = position_from(deltas, &at, item.offset().saturating_add(item.len()));
     }
-    let end = base + section.len() as u64;
-    if stay_whole(deltas, near, gap_start(base, items, items.len()), end) {
+    let end = position_from(deltas, &behind, base + section.len() as u64);
+    if stay_whole(&behind, &end) {
         Ok(())
     } else {
         Err(RejectedItem {
-            index: items.len(),
+            index: count,
             error: ItemError::DeletedOutside,
         })
     }
@@ -432,19 +423,19 @@ fn put_items<I: AsItem>(
         → IsPackedRun machine (section_of section.now base (deletions_of deltas.now) start)
         items.now packed.new }
 {
-    let mut near = begun_at(deltas, 0, base);
-    let before = to_output(deltas, near, base);
+    let mut at = position_of(deltas, base);
+    let before = at.output_offset;
     for index in 0..items.len() {
         let item = items.at(index);
         if !is_inside(section, base, &item) {
             return;
         }
-        near = begun_at(deltas, near, item.offset());
-        match piece_of(machine, section, base, deltas, near, start, &item) {
+        at = position_from(deltas, &at, item.offset());
+        match piece_of(machine, section, base, deltas, &at, start, &item) {
             Err(_error) => return,
             Ok(piece) => {
-                let at = to_output(deltas, near, item.offset()).saturating_sub(before);
-                put_piece(machine, packed, at, piece);
+                let place = at.output_offset.saturating_sub(before);
+                put_piece(machine, packed, place, piece);
             }
         }
     }

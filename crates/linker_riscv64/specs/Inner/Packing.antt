@@ -1,31 +1,11 @@
 -- What holds while a section is packed.
-use Rattle.std.specs.Prelude.{◌≡◌, ℕ, ◌+◌, ◌<◌, ◌≤◌, List, min, length, IsTrue, slice_index}
+use Rattle.std.specs.Prelude.{◌≡◌, ℕ, ◌<◌, List, length, IsTrue, slice_index}
 use Rattle.std.specs.Prelude.{slice_index_or}
 use Rattle.linker_base.specs.Deletions.{is_kept, rank}
 use Rattle.linker_riscv64.specs.RiscVCalls.{word_at, output_distance, link_register, IsJal}
 use Rattle.linker_riscv64.specs.Packing.{IsApart, CanJump, IsNotAt}
 use Rattle.linker_riscv64.specs.declared.packing.Jump.{Jump}
 use Rattle.linker_riscv64.specs.declared.calls.LinkRegister.{LinkRegister}
-
--- the kept bytes below an offset stand where they go
-abbrev pub IsFilled : List (ℕ × ℕ) → List ℕ → ℕ → List ℕ → Type 0
-IsFilled deletions section upto packed = (p : ℕ) → p < upto → IsTrue (is_kept deletions p)
-    → slice_index packed (rank deletions p) ≡ slice_index section p
-
--- the first deletions end at an offset or below it, and the others begin at it or above
-pub record IsRunStart (deletions : List (ℕ × ℕ)) (passed from : ℕ) : Type 0 where
-  pub ended : (j : ℕ) (d : ℕ × ℕ) → j < passed
-      → (slice_index_or deletions j d).0 + (slice_index_or deletions j d).1 ≤ from
-  pub ahead : (j : ℕ) (d : ℕ × ℕ) → passed ≤ j → j < length deletions
-      → from ≤ (slice_index_or deletions j d).0
-
--- the kept bytes up to the run that begins at an offset are copied, and the next has the output
--- offset
-pub record IsCopied (deletions : List (ℕ × ℕ)) (section : List ℕ) (passed from output_offset : ℕ)
-    (packed : List ℕ) : Type 0 where
-  pub start : IsRunStart deletions passed from
-  pub output_offset_is : output_offset ≡ rank deletions (min from (length section))
-  pub filled : IsFilled deletions section (min from (length section)) packed
 
 -- the jump that a call becomes
 pub record IsJumpOf (link : LinkRegister) (deletions : List (ℕ × ℕ)) (section : List ℕ)

@@ -6,12 +6,7 @@ use Rattle.linker_runs.specs.declared.relaxation.Item.{Item}
 use Rattle.linker_runs.specs.Relaxing.{item_at, offset_of}
 use Rattle.linker_runs.specs.Packing.{Section, IsNotIn, CanWrite, is_fixed, kept_len}
 use Rattle.linker_runs.specs.Packing.{ItemBecomes, packed_offset}
-use Rattle.linker_runs.specs.Inner.Copying.{IsFilledTo}
 use Rattle.linker_runs.specs.declared.packing.Machine.{Machine}
-
-abbrev pub IsFilled : List (ℕ × ℕ) → ℕ → List ℕ → List ℕ → Type 0
-IsFilled deletions base section packed =
-    IsFilledTo deletions base section (base + length section) packed
 
 -- the first items can be written
 abbrev pub AreReady : Machine → Section → List Item → ℕ → Type 0

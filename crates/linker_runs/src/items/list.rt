@@ -5,7 +5,7 @@ ghost use Rattle.linker_runs.specs.Relaxing.{item_at, place_of, AreInOrder};
 
 use crate::items::AsItem;
 use crate::relaxation::Item;
-use crate::search::{Tested, passing_near};
+use linker_base::packing::search::{Tested, passing_near};
 use std::marker::Model;
 
 /// The items of a run. Contracts see the list of items that the array's elements say.

@@ -6,11 +6,11 @@ use Rattle.linker_riscv64.proofs.Packed.{jump_fits}
 use Rattle.linker_riscv64.proofs.packing.put_call.Goals as goal
 
 pub returns-in-Ok : goal.returns-in-Ok
-returns-in-Ok c = λ valid room can.
+returns-in-Ok c = λ valid position room can.
     let s = c.args.section.now in
     let ds = deletions_of c.args.deltas.now in
-    let jump = c.in-Ok.ensures.ok valid in
-    let fits : c.in-Ok.jump.output_offset + 4 ≤ length c.args.packed.now = omega (arith, jump.output_offset, (jump_fits c.args.link ds s (c.args.site, c.args.target) can).1, room) in
+    let jump = c.in-Ok.ensures.ok valid position in
+    let fits : c.in-Ok.jump.output_offset + 4 ≤ length c.args.packed.now = omega (arith, jump.output_offset, (jump_fits c.args.link ds s (c.args.at.now.input_offset, c.args.target) can).1, room) in
     let put = c.put_jump.ensures fits (subst IsEven (sym jump.distance) can.even) (subst IsJalDistance (sym jump.distance) can.near) in
-    subst (λ d. JumpsAndLinks c.args.packed.now c.put_jump.new.packed (rank ds c.args.site) (link_register c.args.link s c.args.site) d) jump.distance
-    (subst (λ at. JumpsAndLinks c.args.packed.now c.put_jump.new.packed at (link_register c.args.link s c.args.site) c.in-Ok.jump.distance) jump.output_offset put)
+    subst (λ d. JumpsAndLinks c.args.packed.now c.put_jump.new.packed (rank ds c.args.at.now.input_offset) (link_register c.args.link s c.args.at.now.input_offset) d) jump.distance
+    (subst (λ at. JumpsAndLinks c.args.packed.now c.put_jump.new.packed at (link_register c.args.link s c.args.at.now.input_offset) c.in-Ok.jump.distance) jump.output_offset put)

@@ -1,51 +1,99 @@
-use Rattle.std.proofs.Common.{◌≡◌, ◌+◌, ◌-◌, ◌%◌, ◌^◌, ℕ, Result, Ok, Err, OnOk, IfErr, sym, subst}
+use Rattle.std.proofs.Common.{◌≡◌, ◌+◌, ◌-◌, ◌∙◌, ◌%◌, ◌^◌, ℕ, Result, Ok, Err, OnOk, IfOk, IfErr, ap, sym, subst}
 use Rattle.linker_base.specs.Deltas.{deletions_of}
 use Rattle.linker_base.specs.Deletions.{rank}
-use Rattle.linker_runs.specs.LoongArchSites.{LoongArchAccepts, LoongArchCause}
-use Rattle.linker_runs.specs.Packing.{section_of, Section, SiteAccepts, SiteCause, address_of}
+use Rattle.linker_runs.specs.RiscVSites.{RiscVBecomes, RiscVAccepts, RiscVCause}
+use Rattle.linker_runs.specs.LoongArchSites.{LoongArchBecomes, LoongArchAccepts, LoongArchCause}
+use Rattle.linker_runs.specs.Packing.{section_of, Section, CodeCause, SiteBecomes, SiteAccepts, SiteCause, address_of}
+use Rattle.linker_runs.specs.Inner.Pieces.{code_bytes}
 use Rattle.linker_runs.specs.declared.packing.ItemError.{ItemError}
 use Rattle.linker_runs.specs.declared.packing.ItemError.TheVariants.{NotItsInstructions}
-use Rattle.linker_runs.specs.declared.packing.Machine.TheVariants.{LoongArch64}
+use Rattle.linker_runs.specs.declared.packing.Machine.{Machine}
+use Rattle.linker_runs.specs.declared.packing.Machine.TheVariants.{RiscV64, LoongArch64}
 use Rattle.linker_runs.specs.declared.relaxation.Site.{Site}
 use Rattle.linker_runs.proofs.packing.code_of_site.Goals as goal
+
+-- what holds of the addresses that the code has taken holds of those of the site and its target
+moved : (P : ℕ → ℕ → Type 0) (start a b a' b' : ℕ) → a ≡ a' → b ≡ b' → P ((start + a) % 2 ^ 64) ((start + b) % 2 ^ 64) → P ((start + a') % 2 ^ 64) ((start + b') % 2 ^ 64)
+moved P start a b a' b' e f p = subst (λ n. P ((start + a') % 2 ^ 64) ((start + n) % 2 ^ 64)) f (subst (λ n. P ((start + n) % 2 ^ 64) ((start + b) % 2 ^ 64)) e p)
 
 on_ok : {T E : Type 0} (r : Result T E) (P Q : Type 0) → (P → Q) → OnOk r P → OnOk r Q
 on_ok (Ok x) P Q f p = f p
 on_ok (Err e) P Q f p = p
 
-pub returns-in-LoongArch64-clause-accepts : goal.returns-in-LoongArch64-clause-accepts
-returns-in-LoongArch64-clause-accepts c = λ valid.
-    let s = section_of c.args.section.now c.args.base (deletions_of c.args.deltas.now) c.args.start in
-    let site = c.args.site.now in
-    let r = c.code_of-in-LoongArch64.result in
-    let accepts = λ (place target : ℕ). LoongArchAccepts s.bytes (site.offset - s.base) c.args.kept ((s.start + place) % 2 ^ 64) ((s.start + target) % 2 ^ 64) in
-    let a : OnOk r (accepts (rank s.deletions site.offset) c.to_output-2.result) =
-    subst (λ n. OnOk r (accepts n c.to_output-2.result)) (c.to_output.ensures valid) c.code_of-in-LoongArch64.ensures.accepts in
-    let b : OnOk r (accepts (rank s.deletions site.offset) (rank s.deletions site.target)) =
-    subst (λ n. OnOk r (accepts (rank s.deletions site.offset) n)) (c.to_output-2.ensures valid) a in
-    subst (λ m. OnOk r (SiteAccepts m s site c.args.kept)) (sym c.in-LoongArch64.is)
-    (on_ok r (accepts (rank s.deletions site.offset) (rank s.deletions site.target)) ((site.len ≡ 8) × accepts (rank s.deletions site.offset) (rank s.deletions site.target)) (λ h. (c.if-site-ne8.false, h)) b)
-
 on_err : {T E : Type 0} (r : Result T E) (P Q : E → Type 0) → ((e : E) → P e → Q e) → IfErr r P → IfErr r Q
 on_err (Ok x) P Q f p = p
 on_err (Err e) P Q f p = f e p
 
-with_len : (s : Section) (site : Site) (kept : ℕ) → site.len ≡ 8 → (error : ItemError)
-    → LoongArchCause s.bytes (site.offset - s.base) kept (address_of s site.offset) (address_of s site.target) error
-    → SiteCause LoongArch64 s site kept error
-with_len s site kept len NotItsInstructions cause = λ same. cause
-with_len s site kept len error cause = (len, cause)
+with_len : (machine : Machine) (s : Section) (site : Site) (kept : ℕ) → site.len ≡ 8 → (error : ItemError)
+    → CodeCause machine s.bytes (site.offset - s.base) kept (address_of s site.offset) (address_of s site.target) error
+    → SiteCause machine s site kept error
+with_len machine s site kept len NotItsInstructions cause = λ same. cause
+with_len machine s site kept len error cause = (len, cause)
 
-pub returns-in-LoongArch64-clause-rejected : goal.returns-in-LoongArch64-clause-rejected
-returns-in-LoongArch64-clause-rejected c = λ valid.
+pub returns-in-RiscV64-clause-becomes : goal.returns-in-RiscV64-clause-becomes
+returns-in-RiscV64-clause-becomes c = λ valid position.
+    let s = section_of c.args.section.now c.args.base (deletions_of c.args.deltas.now) c.args.start in
+    let site = c.args.site.now in
+    let r = c.code_of.result in
+    let here : c.args.at.now.output_offset ≡ rank s.deletions site.offset = position.output ∙ ap (rank s.deletions) c.requires.at in
+    let there : c.position_near.result.output_offset ≡ rank s.deletions site.target = (c.position_near.ensures.position valid).output ∙ ap (rank s.deletions) c.position_near.ensures.offset in
+    subst (λ m. IfOk r (λ code. SiteBecomes m s site (code_bytes code))) (sym c.in-RiscV64.is)
+    (moved (λ place target. IfOk r (λ code. RiscVBecomes s.bytes (site.offset - s.base) place target (code_bytes code))) s.start c.args.at.now.output_offset c.position_near.result.output_offset (rank s.deletions site.offset) (rank s.deletions site.target) here there c.code_of.ensures.becomes)
+
+pub returns-in-RiscV64-clause-accepts : goal.returns-in-RiscV64-clause-accepts
+returns-in-RiscV64-clause-accepts c = λ valid position.
+    let s = section_of c.args.section.now c.args.base (deletions_of c.args.deltas.now) c.args.start in
+    let site = c.args.site.now in
+    let r = c.code_of.result in
+    let here : c.args.at.now.output_offset ≡ rank s.deletions site.offset = position.output ∙ ap (rank s.deletions) c.requires.at in
+    let there : c.position_near.result.output_offset ≡ rank s.deletions site.target = (c.position_near.ensures.position valid).output ∙ ap (rank s.deletions) c.position_near.ensures.offset in
+    let accepts = λ (place target : ℕ). RiscVAccepts s.bytes (site.offset - s.base) c.args.kept place target in
+    subst (λ m. OnOk r (SiteAccepts m s site c.args.kept)) (sym c.in-RiscV64.is)
+    (on_ok r (accepts (address_of s site.offset) (address_of s site.target)) ((site.len ≡ 8) × accepts (address_of s site.offset) (address_of s site.target)) (λ h. (c.if-site-ne8.false, h))
+    (moved (λ place target. OnOk r (accepts place target)) s.start c.args.at.now.output_offset c.position_near.result.output_offset (rank s.deletions site.offset) (rank s.deletions site.target) here there c.code_of.ensures.accepts))
+
+pub returns-in-RiscV64-clause-rejected : goal.returns-in-RiscV64-clause-rejected
+returns-in-RiscV64-clause-rejected c = λ valid position.
+    let s = section_of c.args.section.now c.args.base (deletions_of c.args.deltas.now) c.args.start in
+    let site = c.args.site.now in
+    let r = c.code_of.result in
+    let here : c.args.at.now.output_offset ≡ rank s.deletions site.offset = position.output ∙ ap (rank s.deletions) c.requires.at in
+    let there : c.position_near.result.output_offset ≡ rank s.deletions site.target = (c.position_near.ensures.position valid).output ∙ ap (rank s.deletions) c.position_near.ensures.offset in
+    let causes = λ (place target : ℕ) (error : ItemError). RiscVCause s.bytes (site.offset - s.base) c.args.kept place target error in
+    subst (λ m. IfErr r (SiteCause m s site c.args.kept)) (sym c.in-RiscV64.is)
+    (on_err r (causes (address_of s site.offset) (address_of s site.target)) (SiteCause RiscV64 s site c.args.kept) (with_len RiscV64 s site c.args.kept c.if-site-ne8.false)
+    (moved (λ place target. IfErr r (causes place target)) s.start c.args.at.now.output_offset c.position_near.result.output_offset (rank s.deletions site.offset) (rank s.deletions site.target) here there c.code_of.ensures.rejected))
+
+pub returns-in-LoongArch64-clause-becomes : goal.returns-in-LoongArch64-clause-becomes
+returns-in-LoongArch64-clause-becomes c = λ valid position.
     let s = section_of c.args.section.now c.args.base (deletions_of c.args.deltas.now) c.args.start in
     let site = c.args.site.now in
     let r = c.code_of-in-LoongArch64.result in
-    let causes = λ (place target : ℕ) (error : ItemError). LoongArchCause s.bytes (site.offset - s.base) c.args.kept ((s.start + place) % 2 ^ 64) ((s.start + target) % 2 ^ 64) error in
-    let a : IfErr r (causes (rank s.deletions site.offset) c.to_output-2.result) =
-    subst (λ n. IfErr r (causes n c.to_output-2.result)) (c.to_output.ensures valid) c.code_of-in-LoongArch64.ensures.rejected in
-    let b : IfErr r (causes (rank s.deletions site.offset) (rank s.deletions site.target)) =
-    subst (λ n. IfErr r (causes (rank s.deletions site.offset) n)) (c.to_output-2.ensures valid) a in
+    let here : c.args.at.now.output_offset ≡ rank s.deletions site.offset = position.output ∙ ap (rank s.deletions) c.requires.at in
+    let there : c.position_near.result.output_offset ≡ rank s.deletions site.target = (c.position_near.ensures.position valid).output ∙ ap (rank s.deletions) c.position_near.ensures.offset in
+    subst (λ m. IfOk r (λ code. SiteBecomes m s site (code_bytes code))) (sym c.in-LoongArch64.is)
+    (moved (λ place target. IfOk r (λ code. LoongArchBecomes s.bytes (site.offset - s.base) place target (code_bytes code))) s.start c.args.at.now.output_offset c.position_near.result.output_offset (rank s.deletions site.offset) (rank s.deletions site.target) here there c.code_of-in-LoongArch64.ensures.becomes)
+
+pub returns-in-LoongArch64-clause-accepts : goal.returns-in-LoongArch64-clause-accepts
+returns-in-LoongArch64-clause-accepts c = λ valid position.
+    let s = section_of c.args.section.now c.args.base (deletions_of c.args.deltas.now) c.args.start in
+    let site = c.args.site.now in
+    let r = c.code_of-in-LoongArch64.result in
+    let here : c.args.at.now.output_offset ≡ rank s.deletions site.offset = position.output ∙ ap (rank s.deletions) c.requires.at in
+    let there : c.position_near.result.output_offset ≡ rank s.deletions site.target = (c.position_near.ensures.position valid).output ∙ ap (rank s.deletions) c.position_near.ensures.offset in
+    let accepts = λ (place target : ℕ). LoongArchAccepts s.bytes (site.offset - s.base) c.args.kept place target in
+    subst (λ m. OnOk r (SiteAccepts m s site c.args.kept)) (sym c.in-LoongArch64.is)
+    (on_ok r (accepts (address_of s site.offset) (address_of s site.target)) ((site.len ≡ 8) × accepts (address_of s site.offset) (address_of s site.target)) (λ h. (c.if-site-ne8.false, h))
+    (moved (λ place target. OnOk r (accepts place target)) s.start c.args.at.now.output_offset c.position_near.result.output_offset (rank s.deletions site.offset) (rank s.deletions site.target) here there c.code_of-in-LoongArch64.ensures.accepts))
+
+pub returns-in-LoongArch64-clause-rejected : goal.returns-in-LoongArch64-clause-rejected
+returns-in-LoongArch64-clause-rejected c = λ valid position.
+    let s = section_of c.args.section.now c.args.base (deletions_of c.args.deltas.now) c.args.start in
+    let site = c.args.site.now in
+    let r = c.code_of-in-LoongArch64.result in
+    let here : c.args.at.now.output_offset ≡ rank s.deletions site.offset = position.output ∙ ap (rank s.deletions) c.requires.at in
+    let there : c.position_near.result.output_offset ≡ rank s.deletions site.target = (c.position_near.ensures.position valid).output ∙ ap (rank s.deletions) c.position_near.ensures.offset in
+    let causes = λ (place target : ℕ) (error : ItemError). LoongArchCause s.bytes (site.offset - s.base) c.args.kept place target error in
     subst (λ m. IfErr r (SiteCause m s site c.args.kept)) (sym c.in-LoongArch64.is)
-    (on_err r (causes (rank s.deletions site.offset) (rank s.deletions site.target)) (SiteCause LoongArch64 s site c.args.kept)
-    (with_len s site c.args.kept c.if-site-ne8.false) b)
+    (on_err r (causes (address_of s site.offset) (address_of s site.target)) (SiteCause LoongArch64 s site c.args.kept) (with_len LoongArch64 s site c.args.kept c.if-site-ne8.false)
+    (moved (λ place target. IfErr r (causes place target)) s.start c.args.at.now.output_offset c.position_near.result.output_offset (rank s.deletions site.offset) (rank s.deletions site.target) here there c.code_of-in-LoongArch64.ensures.rejected))

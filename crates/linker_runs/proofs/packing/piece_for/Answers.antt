@@ -6,7 +6,7 @@ use Rattle.linker_runs.proofs.packing.piece_for.Goals as goal
 
 pub returns-then-kept-nop_len-eq0-clause-becomes :
     goal.returns-then-kept-nop_len-eq0-clause-becomes
-returns-then-kept-nop_len-eq0-clause-becomes c = λ valid.
+returns-then-kept-nop_len-eq0-clause-becomes c = λ valid position.
     let machine = c.args.machine in
     let n = c.args.kept in
     let even : n % nop_len machine ≡ 0 = ap (λ k. n % k) (sym c.nop_len.ensures.len) ∙ c.if-kept-nop_len-eq0.true in

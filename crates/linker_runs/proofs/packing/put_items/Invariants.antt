@@ -1,13 +1,23 @@
-use Rattle.std.proofs.Common.{◌≡◌, ◌+◌, length}
+use Rattle.std.proofs.Common.{◌≡◌, ◌+◌, ◌<◌, ◌≤◌, length}
 use Rattle.linker_base.specs.Deltas.{deletions_of}
 use Rattle.linker_base.specs.Listed.{AreValidDeltas}
+use Rattle.linker_base.specs.Inner.Packing.{IsFilled, IsPosition}
+use Rattle.linker_runs.specs.Relaxing.{item_at, offset_of}
 use Rattle.linker_runs.specs.Packing.{section_of, packed_offset}
-use Rattle.linker_runs.specs.Inner.Packing.{AreReady, IsFilled, IsWrittenTo}
+use Rattle.linker_runs.specs.Inner.Packing.{AreReady, IsWrittenTo}
 use Rattle.linker_runs.proofs.packing.put_items.Given as goal
 
+-- the walk isn't past the next item, and the items so far are written
 abbrev pub invariant-loop-index : goal.invariant-loop-index
-invariant-loop-index g l = AreValidDeltas l.deltas
-    → length l.packed ≡ packed_offset (section_of l.section l.base (deletions_of l.deltas) l.start) (l.base + length l.section)
-    → AreReady l.machine (section_of l.section l.base (deletions_of l.deltas) l.start) l.items (length l.items)
-    → IsFilled (deletions_of l.deltas) l.base l.section l.initial.packed
-    → IsWrittenTo l.machine (section_of l.section l.base (deletions_of l.deltas) l.start) l.items l.index l.packed
+invariant-loop-index g l = record {
+  rises : AreReady l.machine (section_of l.section l.base (deletions_of l.deltas) l.start) l.items (length l.items)
+      → l.index < length l.items → l.at.input_offset ≤ offset_of (item_at l.items l.index);
+  position : AreValidDeltas l.deltas
+      → AreReady l.machine (section_of l.section l.base (deletions_of l.deltas) l.start) l.items (length l.items)
+      → IsPosition l.deltas l.at;
+  put : AreValidDeltas l.deltas
+      → length l.packed ≡ packed_offset (section_of l.section l.base (deletions_of l.deltas) l.start) (l.base + length l.section)
+      → AreReady l.machine (section_of l.section l.base (deletions_of l.deltas) l.start) l.items (length l.items)
+      → IsFilled (deletions_of l.deltas) l.base l.section l.initial.packed
+      → IsWrittenTo l.machine (section_of l.section l.base (deletions_of l.deltas) l.start) l.items l.index l.packed;
+}

@@ -1,52 +1,83 @@
-use Rattle.std.proofs.Common.{◌≡◌, ◌∙◌, ap, false, List, zero, suc, ◌+◌, ◌<◌, ◌≤◌, ℕ, length, [], inl, sym, subst, arith, below_more}
+use Rattle.std.proofs.Common.{◌≡◌, ◌∙◌, ap, false, List, zero, suc, ◌+◌, ◌<◌, ◌≤◌, ℕ, length, [], inl, inr, sym, subst, arith, below_more, refl}
 use Rattle.std.proofs.lemmas.Bool.{both_ways}
 use Rattle.linker_base.specs.Deltas.{deletions_of}
 use Rattle.linker_runs.specs.declared.relaxation.Item.{Item}
 use Rattle.linker_runs.specs.Relaxing.{item_at, offset_of, end_of}
-use Rattle.linker_runs.specs.Packing.{section_of, gap_start, is_fixed, IsInside, IsUnwritable, IsWritable, StayWhole, CanWrite}
-use Rattle.linker_runs.proofs.PackedItems.{cause_of, gap_below}
+use Rattle.linker_runs.specs.Inner.Packing.{AreReady}
+use Rattle.linker_runs.specs.Packing.{section_of, gap_start, is_fixed, IsApart, IsInside, IsUnwritable, IsWritable, StayWhole, KeepsGap, CanWrite}
+use Rattle.linker_runs.proofs.PackedItems.{cause_of, gap_below, gap_next, apart_from}
 use Rattle.linker_runs.proofs.packing.test_items.Goals as goal
 
-pub returns-then-not-is_apart-clause-err : goal.returns-then-not-is_apart-clause-err
-returns-then-not-is_apart-clause-err g c = λ valid. record {
-  before = c.loop-index.invariant.ready valid;
-  here = inl ((omega arith), λ apart. both_ways c.is_apart.result c.if-not-is_apart.true (c.is_apart.ensures.1 apart));
+pub loop-index-init : goal.loop-index-init
+loop-index-init g c = record {
+  inside = λ i below. absurd (omega arith);
+  stands = λ ds start. c.position_of-behind.ensures.offset;
+  position = λ valid. c.position_of-behind.ensures.position valid;
+  ready = λ valid i below. absurd (omega arith);
 }
+
+pub returns-then-not-is_apart-clause-err : goal.returns-then-not-is_apart-clause-err
+returns-then-not-is_apart-clause-err g c = λ valid.
+    let ds = deletions_of c.args.deltas.now in
+    let s = section_of c.args.section.now c.args.base ds c.args.start in
+    let items = c.args.items.now in
+    let n = c.loop-index.index in
+    let here : offset_of c.at-item.result ≡ offset_of (item_at items n) = ap offset_of c.at-item.ensures in
+    let stands = c.loop-index.invariant.stands ds c.args.start in
+    record {
+      before = c.loop-index.invariant.ready valid;
+      here = inl ((omega arith), λ apart. both_ways c.is_apart.result c.if-not-is_apart.true (c.is_apart.ensures.1 (λ some. omega (arith, (apart_from s items n c.loop-index.behind.input_offset stands).1 apart some, here))));
+    }
 
 pub returns-then-not-is_inside-clause-err : goal.returns-then-not-is_inside-clause-err
-returns-then-not-is_inside-clause-err g c = λ valid. record {
-  before = c.loop-index.invariant.ready valid;
-  here = inl ((omega arith), (c.is_apart.ensures.0 c.if-not-is_apart.false, λ inside. both_ways c.is_inside.result c.if-not-is_inside.true ((c.is_inside.ensures [] 0).1 (subst (IsInside (section_of c.args.section.now c.args.base [] 0)) (sym c.at-item.ensures) inside))));
-}
-
-pub gap_start-requires-clause-small : goal.gap_start-requires-clause-small
-gap_start-requires-clause-small g c = λ i below. (let h = c.loop-index.invariant.inside i below in let r = c.requires in omega arith)
+returns-then-not-is_inside-clause-err g c = λ valid.
+    let ds = deletions_of c.args.deltas.now in
+    let s = section_of c.args.section.now c.args.base ds c.args.start in
+    let items = c.args.items.now in
+    let n = c.loop-index.index in
+    let here : offset_of c.at-item.result ≡ offset_of (item_at items n) = ap offset_of c.at-item.ensures in
+    let stands = c.loop-index.invariant.stands ds c.args.start in
+    let apart : IsApart items n = (apart_from s items n c.loop-index.behind.input_offset stands).0 (λ some. omega (arith, c.is_apart.ensures.0 c.if-not-is_apart.false some, here)) in
+    record {
+      before = c.loop-index.invariant.ready valid;
+      here = inl ((omega arith), (apart, λ inside. both_ways c.is_inside.result c.if-not-is_inside.true ((c.is_inside.ensures ds c.args.start).1 (subst (IsInside s) (sym c.at-item.ensures) inside))));
+    }
 
 pub stay_whole-requires : goal.stay_whole-requires
 stay_whole-requires g c =
-    let s = section_of c.args.section.now c.args.base [] 0 in
-    let below = gap_below s c.args.items.now c.loop-index.index (c.is_apart.ensures.0 c.if-not-is_apart.false) (subst (IsInside (section_of c.args.section.now c.args.base [] 0)) c.at-item.ensures ((c.is_inside.ensures [] 0).0 c.if-not-is_inside.false)) in
-    let g = c.gap_start.ensures c.args.section.now [] 0 in
-    let o = c.offset.ensures ∙ ap offset_of c.at-item.ensures in
-    omega arith
+    let ds = deletions_of c.args.deltas.now in
+    let s = section_of c.args.section.now c.args.base ds c.args.start in
+    let items = c.args.items.now in
+    let n = c.loop-index.index in
+    let here : offset_of c.at-item.result ≡ offset_of (item_at items n) = ap offset_of c.at-item.ensures in
+    let stands = c.loop-index.invariant.stands ds c.args.start in
+    let apart : IsApart items n = (apart_from s items n c.loop-index.behind.input_offset stands).0 (λ some. omega (arith, c.is_apart.ensures.0 c.if-not-is_apart.false some, here)) in
+    let inside : IsInside s (item_at items n) = subst (IsInside s) c.at-item.ensures ((c.is_inside.ensures ds c.args.start).0 c.if-not-is_inside.false) in
+    let place : c.position_from-at.result.input_offset ≡ offset_of (item_at items n) = c.position_from-at.ensures.offset ∙ c.offset.ensures ∙ here in
+    let up : c.loop-index.behind.input_offset ≤ c.position_from-at.result.input_offset = omega (arith, gap_below s items n apart inside, stands, place) in
+    up
 
 pub returns-then-not-stay_whole-clause-err : goal.returns-then-not-stay_whole-clause-err
 returns-then-not-stay_whole-clause-err g c = λ valid.
     let ds = deletions_of c.args.deltas.now in
-    let start = c.args.start in
-    let g = c.gap_start.ensures c.args.section.now ds start in
-    let o = c.offset.ensures ∙ ap offset_of c.at-item.ensures in
+    let s = section_of c.args.section.now c.args.base ds c.args.start in
+    let items = c.args.items.now in
+    let n = c.loop-index.index in
+    let here : offset_of c.at-item.result ≡ offset_of (item_at items n) = ap offset_of c.at-item.ensures in
+    let stands = c.loop-index.invariant.stands ds c.args.start in
+    let apart : IsApart items n = (apart_from s items n c.loop-index.behind.input_offset stands).0 (λ some. omega (arith, c.is_apart.ensures.0 c.if-not-is_apart.false some, here)) in
+    let inside : IsInside s (item_at items n) = subst (IsInside s) c.at-item.ensures ((c.is_inside.ensures ds c.args.start).0 c.if-not-is_inside.false) in
+    let place : c.position_from-at.result.input_offset ≡ offset_of (item_at items n) = c.position_from-at.ensures.offset ∙ c.offset.ensures ∙ here in
+    let up : c.loop-index.behind.input_offset ≤ c.position_from-at.result.input_offset = omega (arith, gap_below s items n apart inside, stands, place) in
+    let at = c.position_from-at.ensures.position valid (c.loop-index.invariant.position valid) (omega (arith, up, c.position_from-at.ensures.offset)) in
+    let whole = c.stay_whole.ensures c.args.deltas.now valid (c.loop-index.invariant.position valid) at in
     record {
       before = c.loop-index.invariant.ready valid;
-      here = inl (
-        (omega arith),
-        (
-          c.is_apart.ensures.0 c.if-not-is_apart.false,
-          subst (IsInside (section_of c.args.section.now c.args.base ds start)) c.at-item.ensures ((c.is_inside.ensures ds start).0 c.if-not-is_inside.false),
-          λ keeps. both_ways c.stay_whole.result c.if-not-stay_whole.true ((c.stay_whole.ensures valid).1 (subst (λ x. StayWhole ds x c.offset.result) (sym g) (subst (StayWhole ds (gap_start (section_of c.args.section.now c.args.base ds start) c.args.items.now c.loop-index.index)) (sym o) keeps))),
-        ),
-      );
+      here = inl ((omega arith), (apart, inside, λ keeps. both_ways c.stay_whole.result c.if-not-stay_whole.true (whole.1 (subst (λ x. StayWhole ds x c.position_from-at.result.input_offset) (sym stands) (subst (StayWhole ds (gap_start s items n)) (sym place) keeps)))));
     }
+
+pub piece_of-requires-clause-at : goal.piece_of-requires-clause-at
+piece_of-requires-clause-at g c = c.position_from-at.ensures.offset ∙ c.offset.ensures
 
 pub piece_of-requires-clause-from : goal.piece_of-requires-clause-from
 piece_of-requires-clause-from g c = ((c.is_inside.ensures [] 0).0 c.if-not-is_inside.false).0
@@ -58,41 +89,88 @@ pub returns-in-Err-clause-err : goal.returns-in-Err-clause-err
 returns-in-Err-clause-err g c = λ valid.
     let ds = deletions_of c.args.deltas.now in
     let s = section_of c.args.section.now c.args.base ds c.args.start in
-    let rejected = subst (λ it. (is_fixed it ≡ false) × IsUnwritable c.args.machine s it c.in-Err.error) c.at-item.ensures (c.in-Err.ensures.rejected valid) in
-    let g = c.gap_start.ensures c.args.section.now ds c.args.start in
-    let o = c.offset.ensures ∙ ap offset_of c.at-item.ensures in
-    let gap = subst (StayWhole ds (gap_start s c.args.items.now c.loop-index.index)) o (subst (λ x. StayWhole ds x c.offset.result) g ((c.stay_whole.ensures valid).0 c.if-not-stay_whole.false)) in
+    let items = c.args.items.now in
+    let n = c.loop-index.index in
+    let here : offset_of c.at-item.result ≡ offset_of (item_at items n) = ap offset_of c.at-item.ensures in
+    let stands = c.loop-index.invariant.stands ds c.args.start in
+    let apart : IsApart items n = (apart_from s items n c.loop-index.behind.input_offset stands).0 (λ some. omega (arith, c.is_apart.ensures.0 c.if-not-is_apart.false some, here)) in
+    let inside : IsInside s (item_at items n) = subst (IsInside s) c.at-item.ensures ((c.is_inside.ensures ds c.args.start).0 c.if-not-is_inside.false) in
+    let place : c.position_from-at.result.input_offset ≡ offset_of (item_at items n) = c.position_from-at.ensures.offset ∙ c.offset.ensures ∙ here in
+    let up : c.loop-index.behind.input_offset ≤ c.position_from-at.result.input_offset = omega (arith, gap_below s items n apart inside, stands, place) in
+    let at = c.position_from-at.ensures.position valid (c.loop-index.invariant.position valid) (omega (arith, up, c.position_from-at.ensures.offset)) in
+    let whole = c.stay_whole.ensures c.args.deltas.now valid (c.loop-index.invariant.position valid) at in
+    let gap : KeepsGap s items n = subst (λ x. StayWhole ds x (offset_of (item_at items n))) stands (subst (StayWhole ds c.loop-index.behind.input_offset) place (whole.0 c.if-not-stay_whole.false)) in
+    let rejected = subst (λ it. (is_fixed it ≡ false) × IsUnwritable c.args.machine s it c.in-Err.error) c.at-item.ensures (c.in-Err.ensures.rejected valid at) in
     record {
       before = c.loop-index.invariant.ready valid;
-      here = inl ((omega arith), cause_of c.args.machine s c.args.items.now c.loop-index.index c.in-Err.error (c.is_apart.ensures.0 c.if-not-is_apart.false) (subst (IsInside s) c.at-item.ensures ((c.is_inside.ensures ds c.args.start).0 c.if-not-is_inside.false)) gap rejected.0 rejected.1);
+      here = inl ((omega arith), cause_of c.args.machine s items n c.in-Err.error apart inside gap rejected.0 rejected.1);
     }
 
 pub loop-index-preserved : goal.loop-index-preserved
 loop-index-preserved g c =
-    let inside = (subst (IsInside (section_of c.args.section.now c.args.base [] 0)) c.at-item.ensures ((c.is_inside.ensures [] 0).0 c.if-not-is_inside.false)).1 in
+    let ds = deletions_of c.args.deltas.now in
+    let s = section_of c.args.section.now c.args.base ds c.args.start in
+    let items = c.args.items.now in
+    let n = c.loop-index.index in
+    let here : offset_of c.at-item.result ≡ offset_of (item_at items n) = ap offset_of c.at-item.ensures in
+    let stands = c.loop-index.invariant.stands ds c.args.start in
+    let apart : IsApart items n = (apart_from s items n c.loop-index.behind.input_offset stands).0 (λ some. omega (arith, c.is_apart.ensures.0 c.if-not-is_apart.false some, here)) in
+    let inside : IsInside s (item_at items n) = subst (IsInside s) c.at-item.ensures ((c.is_inside.ensures ds c.args.start).0 c.if-not-is_inside.false) in
+    let place : c.position_from-at.result.input_offset ≡ offset_of (item_at items n) = c.position_from-at.ensures.offset ∙ c.offset.ensures ∙ here in
+    let up : c.loop-index.behind.input_offset ≤ c.position_from-at.result.input_offset = omega (arith, gap_below s items n apart inside, stands, place) in
+    let within : end_of (item_at items n) ≤ c.args.base + length c.args.section.now = inside.1 in
+    let end : c.position_from-behind.result.input_offset ≡ end_of (item_at items n) = omega (arith, c.position_from-behind.ensures.offset, c.saturating_add.ensures, c.offset-in-loop-index.ensures, c.len.ensures, ap end_of c.at-item.ensures, within, c.requires) in
     record {
-      inside = below_more (λ i. end_of (item_at c.args.items.now i) ≤ c.args.base + length c.args.section.now) c.loop-index.index c.loop-index.invariant.inside inside;
+      inside = below_more (λ i. end_of (item_at items i) ≤ c.args.base + length c.args.section.now) n c.loop-index.invariant.inside within;
+      stands = λ ds start. end ∙ sym (gap_next (section_of c.args.section.now c.args.base ds start) items n);
+      position = λ valid.
+          let at = c.position_from-at.ensures.position valid (c.loop-index.invariant.position valid) (omega (arith, up, c.position_from-at.ensures.offset)) in
+          let whole = c.stay_whole.ensures c.args.deltas.now valid (c.loop-index.invariant.position valid) at in
+          c.position_from-behind.ensures.position valid at (omega (arith, end, place, c.position_from-behind.ensures.offset));
       ready = λ valid.
-          let ds = deletions_of c.args.deltas.now in
-          let s = section_of c.args.section.now c.args.base ds c.args.start in
-          let g = c.gap_start.ensures c.args.section.now ds c.args.start in
-          let o = c.offset.ensures ∙ ap offset_of c.at-item.ensures in
-          below_more (CanWrite c.args.machine s c.args.items.now) c.loop-index.index (c.loop-index.invariant.ready valid)
+          let at = c.position_from-at.ensures.position valid (c.loop-index.invariant.position valid) (omega (arith, up, c.position_from-at.ensures.offset)) in
+          let whole = c.stay_whole.ensures c.args.deltas.now valid (c.loop-index.invariant.position valid) at in
+          let gap : KeepsGap s items n = subst (λ x. StayWhole ds x (offset_of (item_at items n))) stands (subst (StayWhole ds c.loop-index.behind.input_offset) place (whole.0 c.if-not-stay_whole.false)) in
+          below_more (CanWrite c.args.machine s items) n (c.loop-index.invariant.ready valid)
           (record {
-            apart = c.is_apart.ensures.0 c.if-not-is_apart.false;
-            inside = subst (IsInside s) c.at-item.ensures ((c.is_inside.ensures ds c.args.start).0 c.if-not-is_inside.false);
-            gap = subst (StayWhole ds (gap_start s c.args.items.now c.loop-index.index)) o (subst (λ x. StayWhole ds x c.offset.result) g ((c.stay_whole.ensures valid).0 c.if-not-stay_whole.false));
-            writable = subst (λ it. is_fixed it ≡ false → IsWritable c.args.machine s it) c.at-item.ensures (c.in_default.ensures.writable valid);
+            apart = apart;
+            inside = inside;
+            gap = gap;
+            writable = subst (λ it. is_fixed it ≡ false → IsWritable c.args.machine s it) c.at-item.ensures (c.in_default.ensures.writable valid at);
           });
     }
 
+last_below : (base end : ℕ) (bytes : List ℕ) (items : List Item) (n : ℕ) → base ≤ end → ((i : ℕ) → i < n → end_of (item_at items i) ≤ end) → gap_start (section_of bytes base [] 0) items n ≤ end
+last_below base end bytes items zero low inside = low
+last_below base end bytes items (suc n) low inside = inside n (omega arith)
+
 pub stay_whole-requires-2 : goal.stay_whole-requires-2
 stay_whole-requires-2 g c =
+    omega (arith, last_below c.args.base (c.args.base + length c.args.section.now) c.args.section.now c.args.items.now c.loop-index.index (omega arith) c.loop-index.invariant.inside, c.loop-index.invariant.stands [] 0, c.position_from-end.ensures.offset)
+
+pub returns-then-stay_whole-clause-ok : goal.returns-then-stay_whole-clause-ok
+returns-then-stay_whole-clause-ok g c = λ valid.
+    let ds = deletions_of c.args.deltas.now in
+    let s = section_of c.args.section.now c.args.base ds c.args.start in
     let items = c.args.items.now in
-    let g = c.gap_start-2.ensures c.args.section.now [] 0 ∙ ap (gap_start (section_of c.args.section.now c.args.base [] 0) items) c.len.ensures in
-    let below = last_below items (length items) (λ i within. c.loop-index.invariant.inside i (omega arith)) in
-    omega arith
-  where
-    last_below : (items : List Item) (n : ℕ) → ((i : ℕ) → i < n → end_of (item_at items i) ≤ c.args.base + length c.args.section.now) → gap_start (section_of c.args.section.now c.args.base [] 0) items n ≤ c.args.base + length c.args.section.now
-    last_below items zero inside = omega arith
-    last_below items (suc n) inside = inside n (omega arith)
+    let all : c.loop-index.index ≡ length items = omega (arith, c.len-count.ensures) in
+    let stands = c.loop-index.invariant.stands ds c.args.start ∙ ap (gap_start s items) all in
+    let end = c.position_from-end.ensures.position valid (c.loop-index.invariant.position valid) (omega (arith, last_below c.args.base (c.args.base + length c.args.section.now) c.args.section.now items c.loop-index.index (omega arith) c.loop-index.invariant.inside, c.loop-index.invariant.stands [] 0)) in
+    let whole = c.stay_whole-2.ensures c.args.deltas.now valid (c.loop-index.invariant.position valid) end in (
+      subst (AreReady c.args.machine s items) all (c.loop-index.invariant.ready valid),
+      subst (λ x. StayWhole ds x (c.args.base + length c.args.section.now)) stands (subst (StayWhole ds c.loop-index.behind.input_offset) c.position_from-end.ensures.offset (whole.0 c.if-stay_whole.true)),
+    )
+
+pub returns-else-stay_whole-clause-err : goal.returns-else-stay_whole-clause-err
+returns-else-stay_whole-clause-err g c = λ valid.
+    let ds = deletions_of c.args.deltas.now in
+    let s = section_of c.args.section.now c.args.base ds c.args.start in
+    let items = c.args.items.now in
+    let all : c.loop-index.index ≡ length items = omega (arith, c.len-count.ensures) in
+    let stands = c.loop-index.invariant.stands ds c.args.start ∙ ap (gap_start s items) all in
+    let end = c.position_from-end.ensures.position valid (c.loop-index.invariant.position valid) (omega (arith, last_below c.args.base (c.args.base + length c.args.section.now) c.args.section.now items c.loop-index.index (omega arith) c.loop-index.invariant.inside, c.loop-index.invariant.stands [] 0)) in
+    let whole = c.stay_whole-2.ensures c.args.deltas.now valid (c.loop-index.invariant.position valid) end in
+    record {
+      before = λ i low. c.loop-index.invariant.ready valid i (omega (arith, c.len-count.ensures, all));
+      here = inr (c.len-count.ensures, refl, λ keeps. both_ways c.stay_whole-2.result c.if-stay_whole.false (whole.1 (subst (λ x. StayWhole ds x c.position_from-end.result.input_offset) (sym stands) (subst (StayWhole ds (gap_start s items (length items))) (sym c.position_from-end.ensures.offset) keeps))));
+    }

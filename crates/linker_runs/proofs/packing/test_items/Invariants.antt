@@ -1,14 +1,17 @@
-use Rattle.std.proofs.Common.{ℕ, ◌+◌, ◌<◌, ◌≤◌, length}
+use Rattle.std.proofs.Common.{◌≡◌, ℕ, List, ◌+◌, ◌<◌, ◌≤◌, length}
 use Rattle.linker_base.specs.Deltas.{deletions_of}
 use Rattle.linker_base.specs.Listed.{AreValidDeltas}
+use Rattle.linker_base.specs.Inner.Packing.{IsPosition}
 use Rattle.linker_runs.specs.Relaxing.{item_at, end_of}
-use Rattle.linker_runs.specs.Packing.{section_of}
+use Rattle.linker_runs.specs.Packing.{section_of, gap_start}
 use Rattle.linker_runs.specs.Inner.Packing.{AreReady}
 use Rattle.linker_runs.proofs.packing.test_items.Given as goal
 
--- the items so far lie in the section, and can be written
+-- the items so far lie in the section and can be written, and the walk stands behind them
 abbrev pub invariant-loop-index : goal.invariant-loop-index
 invariant-loop-index g l = record {
   inside : (i : ℕ) → i < l.index → end_of (item_at l.items i) ≤ l.base + length l.section;
+  stands : (deletions : List (ℕ × ℕ)) (start : ℕ) → l.behind.input_offset ≡ gap_start (section_of l.section l.base deletions start) l.items l.index;
+  position : AreValidDeltas l.deltas → IsPosition l.deltas l.behind;
   ready : AreValidDeltas l.deltas → AreReady l.machine (section_of l.section l.base (deletions_of l.deltas) l.start) l.items l.index;
 }

@@ -1,7 +1,7 @@
 use Rattle.std.proofs.Common.{◌≡◌, ◌<◌, ◌≤◌, ℕ, true, false, arith}
 use Rattle.std.specs.Prelude.{nat_lt}
 use Rattle.std.proofs.lemmas.Bool.Decides.{nat_tests}
-use Rattle.linker_runs.proofs.packing.copying.begun_at.Goals as goal
+use Rattle.linker_base.proofs.packing.begun_near.Goals as goal
 
 begins : (a b : ℕ) → nat_lt a b ≡ true → a < b
 begins a b test = grind (arith, nat_tests)

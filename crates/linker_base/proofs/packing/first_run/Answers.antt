@@ -1,22 +1,22 @@
 use Rattle.std.proofs.Common.{ℕ, ◌-◌, ap, arith, map}
 use Rattle.std.proofs.lemmas.List.{length-map, get_or-map}
 use Rattle.linker_base.specs.Deltas.{deletion_of}
-use Rattle.linker_runs.specs.Inner.Copying.{no_delta}
-use Rattle.linker_runs.proofs.Copied.{begin_below, begin_above, run_from_base, run_from_end}
-use Rattle.linker_runs.proofs.packing.copying.first_run.Goals as goal
+use Rattle.linker_base.specs.Inner.Packing.{no_delta}
+use Rattle.linker_base.proofs.Copied.{begin_below, begin_above, run_from_base, run_from_end}
+use Rattle.linker_base.proofs.packing.first_run.Goals as goal
 
 pub returns-then-first-eq0-clause-first : goal.returns-then-first-eq0-clause-first
 returns-then-first-eq0-clause-first c = λ valid.
     let deltas = c.args.deltas.now in
-    let first = c.begun_at-first.result in
-    let begun = c.begun_at-first.ensures.begun valid in
+    let first = c.begun_near-first.result in
+    let begun = c.begun_near-first.ensures.begun valid in
     run_from_base (map deletion_of deltas) c.args.base first valid.valid (omega (arith, length-map deltas deletion_of)) (begin_below deltas c.args.base first valid begun) (begin_above deltas c.args.base first valid begun) c.if-first-eq0.true
 
 pub returns-clause-first : goal.returns-clause-first
 returns-clause-first c = λ valid.
     let deltas = c.args.deltas.now in
-    let first = c.begun_at-first.result in
-    let begun = c.begun_at-first.ensures.begun valid in
+    let first = c.begun_near-first.result in
+    let begun = c.begun_near-first.ensures.begun valid in
     let here = get_or-map deletion_of deltas (first - 1) no_delta (0, 0) (omega arith) in
     let fits = valid.valid.ends (first - 1) (0, 0) (omega (arith, length-map deltas deletion_of)) in
     run_from_end (map deletion_of deltas) c.args.base first valid.valid (omega (arith, length-map deltas deletion_of)) (begin_below deltas c.args.base first valid begun) (begin_above deltas c.args.base first valid begun)

@@ -6,7 +6,7 @@
 ghost use Rattle.std.specs.Prelude.{◌≡◌, ◌+◌, ◌-◌, ◌<◌, ◌≤◌, ◌↔◌, ℕ, Bool, true, false, IsTrue};
 
 /// Elements of a list and a test. In an ordered list the first elements pass it and the others don't.
-pub(crate) trait Tested {
+pub trait Tested {
     /// How many elements there are, in a contract.
     ghost size: { Self → ℕ };
 
@@ -60,7 +60,7 @@ fn bounds<T: Tested>(list: &T, near: usize) -> (usize, usize)
 
 /// An index behind an element that passes, or 0, at which an element doesn't, or none is. In an
 /// ordered list it is how many elements pass. It is found faster where it is near `near`.
-pub(crate) fn passing_near<T: Tested>(list: &T, near: usize) -> usize
+pub fn passing_near<T: Tested>(list: &T, near: usize) -> usize
     ensures within { result ≤ T.size list.now }
     ensures below { 0 < result → T.test list.now (result - 1) ≡ true }
     ensures above { result < T.size list.now → T.test list.now result ≡ false }

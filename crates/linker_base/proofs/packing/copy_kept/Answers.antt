@@ -1,9 +1,9 @@
-use Rattle.std.proofs.Common.{ℕ, ◌≡◌, ◌+◌, ◌∙◌, ◌≤◌, get_or, map, ap, sym, arith, length}
+use Rattle.std.proofs.Common.{ℕ, ◌≡◌, ◌+◌, ◌-◌, ◌∙◌, ◌≤◌, get_or, map, ap, sym, arith, length, min, take, drop}
 use Rattle.std.proofs.lemmas.List.{get_or-map, length-map}
 use Rattle.linker_base.specs.Deltas.{deletion_of}
 use Rattle.linker_base.specs.declared.relaxation.RelaxDelta.{RelaxDelta}
-use Rattle.linker_runs.proofs.Copied.{copied_first, copied_step, copied_end, begin_above}
-use Rattle.linker_runs.proofs.packing.copying.copy_kept.Goals as goal
+use Rattle.linker_base.proofs.Copied.{copied_first, copied_step, copied_end, begin_above}
+use Rattle.linker_base.proofs.packing.copy_kept.Goals as goal
 
 pub loop-index-init : goal.loop-index-init
 loop-index-init c = record {
@@ -24,10 +24,10 @@ loop-index-preserved c =
       copied = λ valid room.
           let same : length c.loop-index.packed ≡ length c.put-at.new.packed = sym c.put-at.auto.packed in
           copied_step ds c.args.base s c.loop-index.packed c.between.result.now c.put-at.new.packed k c.loop-index.from c.loop-index.at
-          (c.loop-index.invariant.copied valid (same ∙ room)) (same ∙ room)
-          (get_or c.args.deltas.now k none).input_offset c.put-at.result c.saturating_add-from.result
-          valid.valid (omega (arith, length-map c.args.deltas.now deletion_of)) (sym (ap (λ (d : ℕ × ℕ). d.0) here))
-          c.between.ensures c.put-at.ensures.bytes c.put-at.ensures.end
+          (c.loop-index.invariant.copied valid (same ∙ room)) (same ∙ room) c.put-at.ensures.bytes
+          c.saturating_add-from.result c.put-at.result valid.valid (omega (arith, length-map c.args.deltas.now deletion_of))
+          (c.between.ensures ∙ ap (λ n. take (min (n - c.args.base) (length s) - min (c.loop-index.from - c.args.base) (length s)) (drop (min (c.loop-index.from - c.args.base) (length s)) s)) (sym (ap (λ (d : ℕ × ℕ). d.0) here)))
+          c.put-at.ensures.end
           (omega (arith, c.saturating_add-from.ensures, c.from.ensures, ap (λ (d : ℕ × ℕ). d.0) here, ap (λ (d : ℕ × ℕ). d.1) here));
     }
 
@@ -35,10 +35,10 @@ pub returns : goal.returns
 returns c = λ valid room.
     let deltas = c.args.deltas.now in
     let ends = c.args.base + length c.args.section.now in
-    let behind = c.begun_at-behind.result in
+    let behind = c.begun_near-behind.result in
     let same = c.loop-index.auto.packed in
     let past : behind ≤ c.loop-index.index = c.loop-index-test.false in
     copied_end (map deletion_of deltas) c.args.base c.args.section.now c.loop-index.packed c.between-2.result.now c.put-end.new.packed c.loop-index.index c.loop-index.from c.loop-index.at
-    (c.loop-index.invariant.copied valid (same ∙ room)) (same ∙ room)
-    (λ j d h inside. begin_above deltas ends behind valid (c.begun_at-behind.ensures.begun valid) j d (omega arith) inside)
-    c.between-2.ensures c.put-end.ensures.bytes
+    (c.loop-index.invariant.copied valid (same ∙ room)) (same ∙ room) c.put-end.ensures.bytes
+    (λ j d h inside. begin_above deltas ends behind valid (c.begun_near-behind.ensures.begun valid) j d (omega arith) inside)
+    c.between-2.ensures

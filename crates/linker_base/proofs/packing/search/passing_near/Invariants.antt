@@ -1,5 +1,5 @@
 use Rattle.std.proofs.Common.{◌≡◌, ◌-◌, ◌<◌, ◌≤◌, true, false}
-use Rattle.linker_runs.proofs.search.passing_near.Given as goal
+use Rattle.linker_base.proofs.packing.search.passing_near.Given as goal
 
 abbrev pub invariant-loop-low : goal.invariant-loop-low
 invariant-loop-low g l = record {

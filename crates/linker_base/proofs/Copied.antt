@@ -1,0 +1,324 @@
+-- The bytes of a section that stay are copied run by run. The section begins at a base.
+use Rattle.std.proofs.Common.{◌≡◌, ℕ, zero, suc, ◌+◌, ◌-◌, ◌<◌, ◌≤◌, ◌^◌, true, false, not, ltb, leb, List, [], ◌∷◌, ◌++◌, length, get_or, take, drop, min, max, map, refl, sym, subst, ◌∙◌, ap, arith, inl, inr, add-zero, add-suc}
+use Rattle.std.specs.List.{list_any}
+use Rattle.std.proofs.lemmas.Bool.{cases_Bool, cases_lt, both_ways, and_from, le-leb, lt-ltb}
+use Rattle.std.proofs.lemmas.Bool.Decides.{nat_tests}
+use Rattle.std.proofs.lemmas.List.Folds.{list_any_at}
+use Rattle.std.proofs.lemmas.List.{length-take, length-append, length-drop, get_or-take, get_or-drop, get_or_append_left, get_or-append_right, get_or_default, get_or-map, length-map, take_all}
+use Rattle.linker_base.specs.Deletions.{IsValid, covers, is_kept, rank}
+use Rattle.linker_base.specs.Deltas.{deletion_of}
+use Rattle.linker_base.specs.Listed.{AreValidDeltas}
+use Rattle.linker_base.specs.declared.relaxation.RelaxDelta.{RelaxDelta}
+use Rattle.linker_base.specs.Inner.Packing.{AreBegun, delta_at, no_delta, IsRunStart, IsFirstRun, IsFilledTo, IsFilled, IsCopied}
+use Rattle.linker_base.proofs.Rank.{rank_kept, rank_gone, rank-mono, rank_all_kept}
+use Rattle.linker_base.proofs.Search.{rank_at_last, rank_at_none}
+
+-- ---- bytes put over others
+
+module _ (xs ys : List ℕ) (at n : ℕ) (room : at + length ys ≤ length xs) (behind : n ≡ at + length ys) where
+  front_length : length (take at xs) ≡ at
+  front_length = length-take at xs ∙ omega arith
+
+  both_length : length (take at xs ++ ys) ≡ at + length ys
+  both_length = length-append (take at xs) ys ∙ omega (arith, front_length)
+
+  pub put_below : (j : ℕ) → j < at → get_or (take at xs ++ ys ++ drop n xs) j 0 ≡ get_or xs j 0
+  put_below j h =
+      get_or_append_left (take at xs ++ ys) (drop n xs) 0 j (omega (arith, both_length))
+      ∙ get_or_append_left (take at xs) ys 0 j (omega (arith, front_length))
+      ∙ get_or-take at xs j 0 h
+
+  pub put_at : (i : ℕ) → i < length ys → get_or (take at xs ++ ys ++ drop n xs) (at + i) 0 ≡ get_or ys i 0
+  put_at i h =
+      get_or_append_left (take at xs ++ ys) (drop n xs) 0 (at + i) (omega (arith, both_length))
+      ∙ get_or-append_right (take at xs) ys at (at + i) 0 front_length (omega arith)
+      ∙ ap (λ k. get_or ys k 0) (omega arith)
+
+-- ---- positions that are kept, and others
+
+-- a position that a deletion holds is not kept
+gone_at : (ds : List (ℕ × ℕ)) (p k : ℕ) (d : ℕ × ℕ) → k < length ds → get_or ds k d ≡ d → d.0 ≤ p → p < d.0 + d.1 → is_kept ds p ≡ true → ⊥
+gone_at ds p k d l at low high kept =
+    let held : covers d p ≡ true = and_from (leb d.0 p) (ltb p (d.0 + d.1)) (le-leb d.0 p low) (lt-ltb p (d.0 + d.1) high) in
+    let some : list_any (λ e. covers e p) ds ≡ true = list_any_at (λ e. covers e p) ds k d l (ap (λ e. covers e p) at ∙ held) in
+    both_ways (is_kept ds p) (ap not some) kept
+
+none_covers : (ds : List (ℕ × ℕ)) (p : ℕ) → ((j : ℕ) (d : ℕ × ℕ) → j < length ds → (get_or ds j d).0 ≤ p → (get_or ds j d).0 + (get_or ds j d).1 ≤ p) → list_any (λ d. covers d p) ds ≡ false
+none_covers [] p past = refl
+none_covers (d ∷ ds) p past =
+    let first : d.0 ≤ p → d.0 + d.1 ≤ p = past 0 d (omega arith) in
+    let rest = none_covers ds p (λ j e within. past (suc j) e (omega arith)) in
+    elim (cases_lt p d.0) [
+      | inl below ↦ rw rest (grind (arith, nat_tests))
+      | inr from ↦ let end : d.0 + d.1 ≤ p = first from in rw rest (grind (arith, nat_tests))
+    ]
+
+-- a position in the run from an offset up to the next deletion is kept
+pub run_kept : (ds : List (ℕ × ℕ)) (k from p : ℕ) → IsRunStart ds k from → from ≤ p → ((j : ℕ) (d : ℕ × ℕ) → k ≤ j → j < length ds → p < (get_or ds j d).0) → is_kept ds p ≡ true
+run_kept ds k from p start low high =
+    ap not (none_covers ds p (λ j d within begun. elim (cases_lt j k) [
+      | inl passed ↦ omega (arith, start.ended j d passed)
+      | inr ahead ↦ absurd (omega (arith, high j d ahead within))
+    ]))
+
+-- a position in a deletion isn't
+pub deleted_gone : (ds : List (ℕ × ℕ)) (k p : ℕ) (d : ℕ × ℕ) → k < length ds → (get_or ds k d).0 ≤ p → p < (get_or ds k d).0 + (get_or ds k d).1 → is_kept ds p ≡ false
+deleted_gone ds k p d within low high =
+    elim (cases_Bool (is_kept ds p)) [
+      | inl kept ↦ absurd (gone_at ds p k (get_or ds k d) within (get_or_default ds k (get_or ds k d) d within) low high kept)
+      | inr gone ↦ gone
+    ]
+
+-- over kept positions the rank rises with the offset
+pub rank-kept : (ds : List (ℕ × ℕ)) (i n : ℕ) → ((p : ℕ) → i ≤ p → p < i + n → is_kept ds p ≡ true) → rank ds (i + n) ≡ rank ds i + n
+rank-kept ds i n kept = rank_all_kept ds i n (λ k low. kept (i + k) (omega arith) (omega arith))
+
+-- over others it stays
+pub rank-gone : (ds : List (ℕ × ℕ)) (i n : ℕ) → ((p : ℕ) → i ≤ p → p < i + n → is_kept ds p ≡ false) → rank ds (i + n) ≡ rank ds i
+rank-gone ds i zero gone = ap (rank ds) (add-zero i)
+rank-gone ds i (suc n) gone =
+    ap (rank ds) (add-suc i n) ∙ rank_gone ds (i + n) (gone (i + n) (omega arith) (omega arith)) ∙ rank-gone ds i n (λ p low high. gone p low (omega arith))
+
+-- ---- one run
+
+module _ (ds : List (ℕ × ℕ)) (base : ℕ) (s packed bytes : List ℕ) (from upto at : ℕ)
+    (low : base ≤ from) (rise : from ≤ upto) (within : upto ≤ base + length s)
+    (kept : (p : ℕ) → from ≤ p → p < upto → is_kept ds p ≡ true)
+    (place : at + rank ds base ≡ rank ds from)
+    (filled : IsFilledTo ds base s from packed)
+    (room : length packed ≡ rank ds (base + length s) - rank ds base)
+    (run : bytes ≡ take (upto - from) (drop (from - base) s)) where
+  run_length : length bytes ≡ upto - from
+  run_length = ap length run ∙ length-take (upto - from) (drop (from - base) s) ∙ omega (arith, length-drop (from - base) s)
+
+  ranks : (n : ℕ) → from + n ≤ upto → rank ds (from + n) ≡ at + n + rank ds base
+  ranks n h = rank-kept ds from n (λ p up below. kept p up (omega arith)) ∙ omega arith
+
+  pub run_end : at + length bytes + rank ds base ≡ rank ds upto
+  run_end =
+      let e : rank ds (from + (upto - from)) ≡ at + (upto - from) + rank ds base = ranks (upto - from) (omega arith) in
+      omega (arith, run_length, e, ap (rank ds) (let same : from + (upto - from) ≡ upto = omega arith in same))
+
+  pub run_fits : at + length bytes ≤ length packed
+  run_fits = omega (arith, run_end, room, rank-mono ds upto (base + length s) within)
+
+  pub run_copied : IsFilledTo ds base s upto (take at packed ++ bytes ++ drop (at + length bytes) packed)
+  run_copied p inside below is =
+      elim (cases_lt (base + p) from) [
+        | inl before ↦
+            put_below packed bytes at (at + length bytes) run_fits refl (rank ds (base + p) - rank ds base) (omega (arith, rank_kept ds (base + p) is, rank-mono ds (suc (base + p)) from (omega arith), rank-mono ds base (base + p) (omega arith)))
+            ∙ filled p inside before is
+        | inr after ↦
+            let n = base + p - from in
+            let there : base + p ≡ from + n = omega arith in
+            let position : rank ds (base + p) - rank ds base ≡ at + n = omega (arith, ap (rank ds) there, ranks n (omega arith)) in
+            ap (λ y. get_or (take at packed ++ bytes ++ drop (at + length bytes) packed) y 0) position
+            ∙ put_at packed bytes at (at + length bytes) run_fits refl n (omega (arith, run_length))
+            ∙ ap (λ xs. get_or xs n 0) run
+            ∙ get_or-take (upto - from) (drop (from - base) s) n 0 (omega arith)
+            ∙ get_or-drop (from - base) s n 0
+            ∙ ap (λ k. get_or s k 0) (omega arith)
+      ]
+
+-- behind what is filled only deleted positions follow
+filled_on : (ds : List (ℕ × ℕ)) (base : ℕ) (s packed : List ℕ) (a b : ℕ) → IsFilledTo ds base s a packed → ((p : ℕ) → a ≤ p → p < b → is_kept ds p ≡ false) → IsFilledTo ds base s b packed
+filled_on ds base s packed a b filled gone p inside low is =
+    elim (cases_lt (base + p) a) [
+      | inl below ↦ filled p inside below is
+      | inr above ↦ absurd (both_ways (is_kept ds (base + p)) (gone (base + p) above low) is)
+    ]
+
+put_whole : (packed bytes new : List ℕ) (at : ℕ) → at + length bytes ≤ length packed
+    → new ≡ take at packed ++ take (length packed - at) bytes ++ drop (at + length bytes) packed
+    → new ≡ take at packed ++ bytes ++ drop (at + length bytes) packed
+put_whole packed bytes new at h e = e ∙ ap (λ ys. take at packed ++ ys ++ drop (at + length bytes) packed) (take_all (length packed - at) bytes (omega arith))
+
+-- the run between two offsets, as far as they lie in the section
+run_within : (base : ℕ) (s : List ℕ) (from to : ℕ) → base ≤ from → base ≤ to
+    → take (min (to - base) (length s) - min (from - base) (length s)) (drop (min (from - base) (length s)) s)
+    ≡ take (min to (base + length s) - min from (base + length s)) (drop (min from (base + length s) - base) s)
+run_within base s from to a b =
+    let e : min (to - base) (length s) - min (from - base) (length s) ≡ min to (base + length s) - min from (base + length s) = omega arith in
+    let f : min (from - base) (length s) ≡ min from (base + length s) - base = omega arith in
+    ap (λ n. take n (drop (min (from - base) (length s)) s)) e ∙ ap (λ n. take (min to (base + length s) - min from (base + length s)) (drop n s)) f
+
+-- ---- all runs
+
+module _ (ds : List (ℕ × ℕ)) (base : ℕ) (s packed bytes new : List ℕ) (k from at : ℕ)
+    (copied : IsCopied ds base s k from at packed)
+    (room : length packed ≡ rank ds (base + length s) - rank ds base)
+    (put : new ≡ take at packed ++ take (length packed - at) bytes ++ drop (at + length bytes) packed) where
+  abbrev ends : ℕ
+  ends = base + length s
+
+  above : base ≤ from
+  above = copied.above
+
+  -- the run up to the next deletion, which is passed
+  module _ (next end : ℕ) (valid : IsValid ds) (within : k < length ds)
+      (run : bytes ≡ take (min ((get_or ds k (0, 0)).0 - base) (length s) - min (from - base) (length s)) (drop (min (from - base) (length s)) s))
+      (end_at : end ≡ at + min (length bytes) (length packed - at))
+      (onward : next ≡ min ((get_or ds k (0, 0)).0 + (get_or ds k (0, 0)).1) (2 ^ 64 - 1)) where
+    abbrev to : ℕ
+    to = (get_or ds k (0, 0)).0
+
+    rise : from ≤ to
+    rise = copied.start.ahead k (0, 0) (omega arith) within
+
+    next_is : next ≡ to + (get_or ds k (0, 0)).1
+    next_is = omega (arith, valid.ends k (0, 0) within)
+
+    later : (j : ℕ) (d : ℕ × ℕ) → k < j → j < length ds → next ≤ (get_or ds j d).0
+    later j d up inside =
+        omega (arith, next_is, (valid.ascending k j d up inside).1, ap (λ (e : ℕ × ℕ). e.0 + e.1) (get_or_default ds k d (0, 0) within))
+
+    first_from : (j : ℕ) (d : ℕ × ℕ) → k ≤ j → j < length ds → to ≤ (get_or ds j d).0
+    first_from j d up inside =
+        elim (cases_lt k j) [
+          | inl after ↦ omega (arith, next_is, later j d after inside)
+          | inr here ↦ let same : j ≡ k = omega arith in rw same (omega (arith, ap (λ (e : ℕ × ℕ). e.0) (get_or_default ds k d (0, 0) within)))
+        ]
+
+    kept : (p : ℕ) → min from ends ≤ p → p < min to ends → is_kept ds p ≡ true
+    kept p low high = run_kept ds k from p copied.start (omega arith) (λ j d up inside. omega (arith, first_from j d up inside))
+
+    whole : bytes ≡ take (min to ends - min from ends) (drop (min from ends - base) s)
+    whole = run ∙ run_within base s from to above (omega (arith, above, rise))
+
+    low : base ≤ min from ends
+    low = omega (arith, above)
+
+    up : min from ends ≤ min to ends
+    up = omega (arith, rise)
+
+    fits : at + length bytes ≤ length packed
+    fits = run_fits ds base s packed bytes (min from ends) (min to ends) at low up (omega arith) kept copied.at_is copied.filled room whole
+
+    end_is : end + rank ds base ≡ rank ds (min to ends)
+    end_is = omega (arith, end_at, fits, run_end ds base s packed bytes (min from ends) (min to ends) at low up (omega arith) kept copied.at_is copied.filled room whole)
+
+    filled : IsFilledTo ds base s (min to ends) new
+    filled = subst (IsFilledTo ds base s (min to ends)) (sym (put_whole packed bytes new at fits put))
+        (run_copied ds base s packed bytes (min from ends) (min to ends) at low up (omega arith) kept copied.at_is copied.filled room whole)
+
+    gone : (p : ℕ) → min to ends ≤ p → p < min next ends → is_kept ds p ≡ false
+    gone p down high = deleted_gone ds k p (0, 0) within (omega arith) (omega (arith, next_is))
+
+    rank_same : rank ds (min next ends) ≡ rank ds (min to ends)
+    rank_same =
+        ap (rank ds) (let same : min next ends ≡ min to ends + (min next ends - min to ends) = omega (arith, next_is) in same)
+        ∙ rank-gone ds (min to ends) (min next ends - min to ends) (λ p down below. gone p down (omega (arith, next_is)))
+
+    pub copied_step : IsCopied ds base s (k + 1) next end new
+    copied_step = record {
+      start = record {
+        ended = λ j d below. elim (cases_lt j k) [
+          | inl before ↦ omega (arith, copied.start.ended j d before, rise, next_is)
+          | inr here ↦ let same : j ≡ k = omega arith in rw same (omega (arith, next_is, ap (λ (e : ℕ × ℕ). e.0 + e.1) (get_or_default ds k d (0, 0) within)))
+        ];
+        ahead = λ j d after inside. later j d (omega arith) inside;
+      };
+      above = omega (arith, above, rise, next_is);
+      at_is = end_is ∙ sym rank_same;
+      filled = filled_on ds base s new (min to ends) (min next ends) filled gone;
+    }
+
+  -- the run up to the section's end, above which the other deletions begin
+  pub copied_end : ((j : ℕ) (d : ℕ × ℕ) → k ≤ j → j < length ds → base + length s ≤ (get_or ds j d).0)
+      → bytes ≡ take (min (base + length s - base) (length s) - min (from - base) (length s)) (drop (min (from - base) (length s)) s)
+      → IsFilled ds base s new
+  copied_end past run =
+      let low = min from ends in
+      let kept : (p : ℕ) → low ≤ p → p < ends → is_kept ds p ≡ true =
+      λ p up below. run_kept ds k from p copied.start (omega arith) (λ j d after inside. (let q = past j d after inside in omega arith)) in
+      let whole : bytes ≡ take (ends - low) (drop (low - base) s) =
+      run ∙ run_within base s from ends above (omega arith) ∙ ap (λ n. take (n - low) (drop (low - base) s)) (let e : min ends ends ≡ ends = omega arith in e) in
+      let fits = run_fits ds base s packed bytes low ends at (omega (arith, above)) (omega arith) (omega arith) kept copied.at_is copied.filled room whole in
+      subst (IsFilled ds base s) (sym (put_whole packed bytes new at fits put))
+      (run_copied ds base s packed bytes low ends at (omega (arith, above)) (omega arith) (omega arith) kept copied.at_is copied.filled room whole)
+
+-- nothing is copied yet
+pub copied_first : (ds : List (ℕ × ℕ)) (base : ℕ) (s packed : List ℕ) (first from : ℕ) → IsFirstRun ds base first from → IsCopied ds base s first from 0 packed
+copied_first ds base s packed first from run =
+    let above = run.above in
+    let to = min from (base + length s) in
+    record {
+      start = run.start;
+      above = run.above;
+      at_is =
+          let e : to ≡ base + (to - base) = omega arith in
+          let gone = rank-gone ds base (to - base) (λ p low high. run.gone p low (omega arith)) in
+          omega (arith, ap (rank ds) e, gone);
+      filled = λ p inside low kept. absurd (both_ways (is_kept ds (base + p)) (run.gone (base + p) (omega arith) (omega arith)) kept);
+    }
+
+-- ---- the first run
+
+module _ (ds : List (ℕ × ℕ)) (base first : ℕ) (valid : IsValid ds) (within : first ≤ length ds)
+    (below : (j : ℕ) (d : ℕ × ℕ) → j < first → (get_or ds j d).0 < base)
+    (above : (j : ℕ) (d : ℕ × ℕ) → first ≤ j → j < length ds → base ≤ (get_or ds j d).0) where
+  -- no deletion begins below the base
+  pub run_from_base : first ≡ 0 → IsFirstRun ds base first base
+  run_from_base none = record {
+    start = record { ended = λ j d low. absurd (omega arith); ahead = above };
+    above = omega arith;
+    gone = λ p low high. absurd (omega arith);
+  }
+
+  -- the last of those that do ends at an offset
+  pub run_from_end : (end from : ℕ) → 0 < first → end ≡ (get_or ds (first - 1) (0, 0)).0 + (get_or ds (first - 1) (0, 0)).1
+      → from ≡ max end base → IsFirstRun ds base first from
+  run_from_end end from some is from_is =
+      let last : first - 1 < length ds = omega arith in
+      let last_below = below (first - 1) (0, 0) (omega arith) in
+      record {
+        start = record {
+          ended = λ j d low. elim (cases_lt j (first - 1)) [
+            | inl before ↦ omega (arith, (valid.ascending j (first - 1) d before last).1, ap (λ (e : ℕ × ℕ). e.0) (get_or_default ds (first - 1) d (0, 0) last))
+            | inr here ↦ let same : j ≡ first - 1 = omega arith in rw same (omega (arith, ap (λ (e : ℕ × ℕ). e.0 + e.1) (get_or_default ds (first - 1) d (0, 0) last)))
+          ];
+          ahead = λ j d up inside.
+              let a = (valid.ascending (first - 1) j d (omega arith) inside).1 in
+              omega (arith, a, above j d up inside, ap (λ (e : ℕ × ℕ). e.0 + e.1) (get_or_default ds (first - 1) d (0, 0) last));
+        };
+        above = omega arith;
+        gone = λ p low high. deleted_gone ds (first - 1) p (0, 0) last (omega arith) (omega arith);
+      }
+
+deletion_at : (deltas : List RelaxDelta) (j : ℕ) (d : ℕ × ℕ) (e : RelaxDelta) → j < length deltas → (get_or (map deletion_of deltas) j d).0 ≡ (get_or deltas j e).input_offset
+deletion_at deltas j d e h = ap (λ (x : ℕ × ℕ). x.0) (get_or-map deletion_of deltas j e d h)
+
+-- the deletions of deltas that begin below an offset, and of the others
+module _ (deltas : List RelaxDelta) (offset begun : ℕ) (valid : AreValidDeltas deltas) (are : AreBegun deltas offset begun) where
+  pub begin_below : (j : ℕ) (d : ℕ × ℕ) → j < begun → (get_or (map deletion_of deltas) j d).0 < offset
+  begin_below j d h =
+      let within = are.within in
+      let low = are.below (omega arith) in
+      let last = deletion_at deltas (begun - 1) d no_delta (omega arith) in
+      elim (cases_lt j (begun - 1)) [
+        | inl before ↦ let rise = (valid.valid.ascending j (begun - 1) d before (omega (arith, length-map deltas deletion_of))).0 in omega arith
+        | inr here ↦ let same : j ≡ begun - 1 = omega arith in rw same (omega arith)
+      ]
+
+  pub begin_above : (j : ℕ) (d : ℕ × ℕ) → begun ≤ j → j < length (map deletion_of deltas) → offset ≤ (get_or (map deletion_of deltas) j d).0
+  begin_above j d h inside =
+      let there : j < length deltas = omega (arith, length-map deltas deletion_of) in
+      let low = are.above (omega arith) in
+      let first = deletion_at deltas begun d no_delta (omega arith) in
+      elim (cases_lt begun j) [
+        | inl before ↦ let rise = (valid.valid.ascending begun j d before inside).0 in omega arith
+        | inr here ↦ let same : j ≡ begun = omega arith in rw same (omega arith)
+      ]
+
+  -- the rank of the offset by the last delta that begins below it
+  pub rank_begun : 0 < begun → rank (map deletion_of deltas) offset
+      ≡ max offset (min ((delta_at deltas (begun - 1)).input_offset + (delta_at deltas (begun - 1)).bytes_deleted) (2 ^ 64 - 1)) - (delta_at deltas (begun - 1)).cumulative_deleted
+  rank_begun some =
+      let within = are.within in
+      let same : begun - 1 + 1 ≡ begun = omega arith in
+      let told = rank_at_last deltas valid offset (begun - 1) (omega arith) (rw same (λ j d inside low. begin_below j d low, λ j d up inside. begin_above j d up inside)) in
+      omega (arith, told.0, told.1)
+
+  pub rank_unbegun : begun ≡ 0 → rank (map deletion_of deltas) offset ≡ offset
+  rank_unbegun none =
+      sym (rank_at_none deltas valid offset (rw (← none) (λ j d inside low. begin_below j d low, λ j d up inside. begin_above j d up inside)))
