@@ -9,12 +9,12 @@ use Rattle.linker_elf.specs.declared.loongarch64.forms.LoongArch64Instruction.Th
 use Rattle.std.specs.Prelude.{false}
 use Rattle.linker_elf.specs.Agrees.{loongarch_reads}
 use Rattle.linker_elf.specs.LoongArch.{reach}
-use Rattle.emulated.specs.Sequences.{parts_number}
-use Rattle.emulated.specs.Sequences.{upper_number}
-use Rattle.emulated.specs.Sequences.{four_number}
-use Rattle.emulated.specs.Sequences.{near_number}
-use Rattle.emulated.specs.Sequences.{address_number}
-use Rattle.emulated.specs.Emulated.{Words, words, IsComputed}
+use Rattle.vectors.specs.Sequences.{parts_number}
+use Rattle.vectors.specs.Sequences.{upper_number}
+use Rattle.vectors.specs.Sequences.{four_number}
+use Rattle.vectors.specs.Sequences.{near_number}
+use Rattle.vectors.specs.Sequences.{address_number}
+use Rattle.vectors.specs.Emulated.{Words, words, IsComputed}
 
 unfoldable pub shift5_words : List Words
 shift5_words =

@@ -1,14 +1,14 @@
 -- The words of PowerPC64: by computation.
 use Rattle.std.proofs.Common.{refl}
 use Rattle.linker_base.specs.Form.{place_sum}
-use Rattle.emulated.specs.Ppc64Table.{d_words, ds_words, dq_words, branch14_words, branch24_words}
-use Rattle.emulated.specs.Ppc64Table.{prefixed_words}
-use Rattle.emulated.specs.Ppc64Table.{halves_words}
-use Rattle.emulated.specs.Ppc64Table.{unadjusted_words}
-use Rattle.emulated.specs.Ppc64Table.{dunsigned_words, quarters_words}
-use Rattle.emulated.specs.Ppc64Steps.{ppc64_groups}
+use Rattle.vectors.specs.Ppc64Table.{d_words, ds_words, dq_words, branch14_words, branch24_words}
+use Rattle.vectors.specs.Ppc64Table.{prefixed_words}
+use Rattle.vectors.specs.Ppc64Table.{halves_words}
+use Rattle.vectors.specs.Ppc64Table.{unadjusted_words}
+use Rattle.vectors.specs.Ppc64Table.{dunsigned_words, quarters_words}
+use Rattle.vectors.specs.Ppc64Steps.{ppc64_groups}
 use lib.Count.{count_leading_zeros}
-use Rattle.emulated.proofs.ppc64.Goals as goal
+use Rattle.vectors.proofs.emulated.ppc64.Goals as goal
 
 pub returns : goal.returns
 unfolding place_sum d_words ds_words dq_words branch14_words branch24_words prefixed_words dunsigned_words halves_words unadjusted_words quarters_words ppc64_groups count_leading_zeros

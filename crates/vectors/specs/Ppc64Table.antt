@@ -8,10 +8,10 @@ use Rattle.linker_elf.specs.declared.ppc64.forms.Ppc64Instruction.TheVariants.{B
 use Rattle.linker_elf.specs.declared.ppc64.forms.Ppc64Instruction.TheVariants.{Prefixed}
 use Rattle.linker_elf.specs.declared.ppc64.forms.Ppc64Instruction.TheVariants.{DUnsigned}
 use Rattle.linker_elf.specs.Relocate.{ppc64_reads}
-use Rattle.emulated.specs.Sequences.{halves_number}
-use Rattle.emulated.specs.Sequences.{unadjusted_number}
-use Rattle.emulated.specs.Sequences.{quarters_number}
-use Rattle.emulated.specs.Emulated.{Words, words, IsComputed}
+use Rattle.vectors.specs.Sequences.{halves_number}
+use Rattle.vectors.specs.Sequences.{unadjusted_number}
+use Rattle.vectors.specs.Sequences.{quarters_number}
+use Rattle.vectors.specs.Emulated.{Words, words, IsComputed}
 
 unfoldable pub d_words : List Words
 d_words =

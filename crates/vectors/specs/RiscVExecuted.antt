@@ -5,9 +5,9 @@ use Rattle.std.specs.Prelude.{Bool, true, false, Option, Some, None}
 use Rattle.std.specs.Int.{w32, to_le_bytes}
 use Rattle.std.specs.List.{list_all}
 use Rattle.linker_laws.specs.RiscVMachine.{Hart, Instruction, register, fetched, executed}
-use Rattle.emulated.specs.Steps.{Executed, Group, Numbers, at, pc, made_high, before, memory_in}
-use Rattle.emulated.specs.Steps.{bytes_from, is_left}
-use Rattle.emulated.specs.RiscVSteps.{riscv_groups}
+use Rattle.vectors.specs.Steps.{Executed, Group, Numbers, at, pc, made_high, before, memory_in}
+use Rattle.vectors.specs.Steps.{bytes_from, is_left}
+use Rattle.vectors.specs.RiscVSteps.{riscv_groups}
 
 -- Register 0 is 0.
 abbrev pub numbers : Executed → Numbers

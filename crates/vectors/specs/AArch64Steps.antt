@@ -1,6 +1,6 @@
 -- What the emulator unicorn 2.0.1 made of instructions. `tools/emulate_steps` makes this file.
 use Rattle.std.specs.Prelude.{List, [], ◌∷◌}
-use Rattle.emulated.specs.Steps.{Group, group, pc, row, ◌=>◌, ◌with◌}
+use Rattle.vectors.specs.Steps.{Group, group, pc, row, ◌=>◌, ◌with◌}
 
 unfoldable pub aarch64_groups : List Group
 aarch64_groups =
@@ -440,5 +440,48 @@ aarch64_groups =
     row 402 0x1577d03e => (pc, 0x7000d8f56d58) ∷
     row 403 0x1579ed04 => (pc, 0x7000df83bc88) ∷
     row 404 0x162ef611 => (pc, 0x700047811d70) ∷
+    []) ∷
+    -- br
+    group 0x0 (
+    row 405 0xd61f01c0 with (14, 0x17cee5a0bff0) => (pc, 0x17cee5a0bff0) ∷
+    row 406 0xd61f0040 with (2, 0x22698dfbec8) => (pc, 0x22698dfbec8) ∷
+    row 407 0xd61f0060 with (3, 0x3022d89e55f4) => (pc, 0x3022d89e55f4) ∷
+    row 408 0xd61f0100 with (8, 0x1ca92c5dfac4) => (pc, 0x1ca92c5dfac4) ∷
+    row 409 0xd61f00c0 with (6, 0xcaf8b868438) => (pc, 0xcaf8b868438) ∷
+    row 410 0xd61f02a0 with (21, 0xd562528d06c) => (pc, 0xd562528d06c) ∷
+    row 411 0xd61f0260 with (19, 0x18a3f63677fc) => (pc, 0x18a3f63677fc) ∷
+    row 412 0xd61f0160 with (11, 0xc9fad020374) => (pc, 0xc9fad020374) ∷
+    row 413 0xd61f00e0 with (7, 0x163d37a937cc) => (pc, 0x163d37a937cc) ∷
+    row 414 0xd61f03a0 with (29, 0x3c0af6980ad4) => (pc, 0x3c0af6980ad4) ∷
+    row 415 0xd61f0200 with (16, 0x2830468eefb4) => (pc, 0x2830468eefb4) ∷
+    row 416 0xd61f02c0 with (22, 0x5a74ccf060) => (pc, 0x5a74ccf060) ∷
+    row 417 0xd61f0360 with (27, 0x141577084e4c) => (pc, 0x141577084e4c) ∷
+    row 418 0xd61f0200 with (16, 0x3be8bf3e944) => (pc, 0x3be8bf3e944) ∷
+    row 419 0xd61f0340 with (26, 0x152be274d2d4) => (pc, 0x152be274d2d4) ∷
+    row 420 0xd61f0220 with (17, 0x123cb6e32680) => (pc, 0x123cb6e32680) ∷
+    row 421 0xd61f0060 with (3, 0x22c02dbbab18) => (pc, 0x22c02dbbab18) ∷
+    row 422 0xd61f0000 with (0, 0x2a381485f1d4) => (pc, 0x2a381485f1d4) ∷
+    row 423 0xd61f01e0 with (15, 0x2eaa66c56578) => (pc, 0x2eaa66c56578) ∷
+    row 424 0xd61f02e0 with (23, 0x3c534601d530) => (pc, 0x3c534601d530) ∷
+    row 425 0xd61f0240 with (18, 0x2590078fd230) => (pc, 0x2590078fd230) ∷
+    row 426 0xd61f00e0 with (7, 0x24b0a13087bc) => (pc, 0x24b0a13087bc) ∷
+    row 427 0xd61f0180 with (12, 0x357557dc164c) => (pc, 0x357557dc164c) ∷
+    row 428 0xd61f0200 with (16, 0x68e4add7344) => (pc, 0x68e4add7344) ∷
+    row 429 0xd61f00c0 with (6, 0x29621e38ccb0) => (pc, 0x29621e38ccb0) ∷
+    row 430 0xd61f0200 with (16, 0x5abecf3db2c) => (pc, 0x5abecf3db2c) ∷
+    row 431 0xd61f01e0 with (15, 0x62e9c5bb4e0) => (pc, 0x62e9c5bb4e0) ∷
+    row 432 0xd61f01a0 with (13, 0x30f65e6d4e70) => (pc, 0x30f65e6d4e70) ∷
+    row 433 0xd61f01e0 with (15, 0xc8ede3b9938) => (pc, 0xc8ede3b9938) ∷
+    row 434 0xd61f0240 with (18, 0xf550133b9dc) => (pc, 0xf550133b9dc) ∷
+    row 435 0xd61f02a0 with (21, 0x141611bb7c90) => (pc, 0x141611bb7c90) ∷
+    row 436 0xd61f0080 with (4, 0xc709d960b2c) => (pc, 0xc709d960b2c) ∷
+    row 437 0xd61f0040 with (2, 0xaed1aa6c9b8) => (pc, 0xaed1aa6c9b8) ∷
+    row 438 0xd61f0160 with (11, 0x31811b895c) => (pc, 0x31811b895c) ∷
+    row 439 0xd61f03a0 with (29, 0x1d435462c1a0) => (pc, 0x1d435462c1a0) ∷
+    row 440 0xd61f03c0 with (30, 0xfbbcef09ca0) => (pc, 0xfbbcef09ca0) ∷
+    row 441 0xd61f0080 with (4, 0x93075ef4284) => (pc, 0x93075ef4284) ∷
+    row 442 0xd61f0060 with (3, 0x2f850c2aa33c) => (pc, 0x2f850c2aa33c) ∷
+    row 443 0xd61f0000 with (0, 0x296d98c29798) => (pc, 0x296d98c29798) ∷
+    row 444 0xd61f0160 with (11, 0x341830cbc3d4) => (pc, 0x341830cbc3d4) ∷
     []) ∷
     []

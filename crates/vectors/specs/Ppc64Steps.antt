@@ -1,6 +1,6 @@
 -- What qemu-ppc64le made of instructions. `tools/emulate_steps` makes this file.
 use Rattle.std.specs.Prelude.{List, [], ◌∷◌}
-use Rattle.emulated.specs.Steps.{Group, at, group, m1, pc, row, ◌=>◌, ◌with◌}
+use Rattle.vectors.specs.Steps.{Group, at, group, m1, pc, row, ◌=>◌, ◌with◌}
 
 unfoldable pub ppc64_groups : List Group
 ppc64_groups =
@@ -1896,5 +1896,220 @@ ppc64_groups =
     => (17, 0x4d5fbae0c6631ea4) ∷
     row 1364 0xe600058404100387 with (pc, 0x201653634) with (at, 0x204ec3bb0)
     => (16, 0xd4fd09e3c1695db5) ∷
+    []) ∷
+    -- mflr
+    group 0x0 (
+    row 1365 0x7cc802a6 with (64, 0) => (6, 0) ∷
+    row 1366 0x7c2802a6 with (64, 0x8000000000000000) => (1, 0x8000000000000000) ∷
+    row 1367 0x7f4802a6 with (64, 0x7fffffff) => (26, 0x7fffffff) ∷
+    row 1368 0x7ea802a6 with (64, 0xffffffff80000000) => (21, 0xffffffff80000000) ∷
+    row 1369 0x7d6802a6 with (64, 0xffffffffffffffff) => (11, 0xffffffffffffffff) ∷
+    row 1370 0x7ca802a6 with (64, 0x80000000) => (5, 0x80000000) ∷
+    row 1371 0x7c0802a6 with (64, 0xffffffff7fffffff) => (0, 0xffffffff7fffffff) ∷
+    row 1372 0x7fc802a6 with (64, 1) => (30, 1) ∷
+    row 1373 0x7d8802a6 with (64, 0x7fffffffffffffff) => (12, 0x7fffffffffffffff) ∷
+    row 1374 0x7ce802a6 with (64, 0xffffffff) => (7, 0xffffffff) ∷
+    row 1375 0x7c0802a6 with (64, 1) => (0, 1) ∷
+    row 1376 0x7d2802a6 with (64, 0x7fffffffffffffff) => (9, 0x7fffffffffffffff) ∷
+    row 1377 0x7d0802a6 with (64, 0xffffffff) => (8, 0xffffffff) ∷
+    row 1378 0x7e6802a6 with (64, 0) => (19, 0) ∷
+    row 1379 0x7da802a6 with (64, 0x8000000000000000) => (13, 0x8000000000000000) ∷
+    row 1380 0x7d4802a6 with (64, 0x7fffffff) => (10, 0x7fffffff) ∷
+    row 1381 0x7d4802a6 with (64, 0xffffffff80000000) => (10, 0xffffffff80000000) ∷
+    row 1382 0x7d6802a6 with (64, 0xffffffffffffffff) => (11, 0xffffffffffffffff) ∷
+    row 1383 0x7e0802a6 with (64, 0x80000000) => (16, 0x80000000) ∷
+    row 1384 0x7ec802a6 with (64, 0xffffffff7fffffff) => (22, 0xffffffff7fffffff) ∷
+    row 1385 0x7ea802a6 => (21, 0xf137b45b1a7188fd) ∷
+    row 1386 0x7d6802a6 => (11, 0x6bfbad7ea3a99791) ∷
+    row 1387 0x7c0802a6 => (0, 0x6b2b2299088a7e4d) ∷
+    row 1388 0x7e0802a6 => (16, 0x35368f2a49143d2f) ∷
+    row 1389 0x7ce802a6 => (7, 0x419c6b26546d439) ∷
+    row 1390 0x7fa802a6 => (29, 0xe0bff8315d22436b) ∷
+    row 1391 0x7d4802a6 => (10, 0xbc03a0a730a68ac3) ∷
+    row 1392 0x7d0802a6 => (8, 0xab449713dfd3aa43) ∷
+    row 1393 0x7cc802a6 => (6, 0x92e8b0776aa9a1ea) ∷
+    row 1394 0x7dc802a6 => (14, 0x94c46bd1d12871b8) ∷
+    row 1395 0x7da802a6 => (13, 0x617c1ea3135019ae) ∷
+    row 1396 0x7e8802a6 => (20, 0x9d3f766b312099cb) ∷
+    row 1397 0x7fe802a6 => (31, 0x7c91ee2a2a99f20f) ∷
+    row 1398 0x7da802a6 => (13, 0xc4b5b6dfffbc227a) ∷
+    row 1399 0x7f2802a6 => (25, 0xb6a2f38cb0872b0d) ∷
+    row 1400 0x7ea802a6 => (21, 0x736c27b03cfb0bc7) ∷
+    row 1401 0x7f8802a6 => (28, 0xfaf2ecaa517c4a8) ∷
+    row 1402 0x7e6802a6 => (19, 0xdf1327dbe8dd55b1) ∷
+    row 1403 0x7c8802a6 => (4, 0x87b69fe4084bbee1) ∷
+    row 1404 0x7f6802a6 => (27, 0x69b55de303630038) ∷
+    []) ∷
+    -- mtlr
+    group 0x0 (
+    row 1405 0x7fe803a6 with (31, 0) => (64, 0) ∷
+    row 1406 0x7fe803a6 with (31, 0x8000000000000000) => (64, 0x8000000000000000) ∷
+    row 1407 0x7f4803a6 with (26, 0x7fffffff) => (64, 0x7fffffff) ∷
+    row 1408 0x7c4803a6 with (2, 0xffffffff80000000) => (64, 0xffffffff80000000) ∷
+    row 1409 0x7dc803a6 with (14, 0xffffffffffffffff) => (64, 0xffffffffffffffff) ∷
+    row 1410 0x7c6803a6 with (3, 0x80000000) => (64, 0x80000000) ∷
+    row 1411 0x7e0803a6 with (16, 0xffffffff7fffffff) => (64, 0xffffffff7fffffff) ∷
+    row 1412 0x7c4803a6 with (2, 1) => (64, 1) ∷
+    row 1413 0x7d6803a6 with (11, 0x7fffffffffffffff) => (64, 0x7fffffffffffffff) ∷
+    row 1414 0x7ee803a6 with (23, 0xffffffff) => (64, 0xffffffff) ∷
+    row 1415 0x7e4803a6 with (18, 1) => (64, 1) ∷
+    row 1416 0x7d0803a6 with (8, 0x7fffffffffffffff) => (64, 0x7fffffffffffffff) ∷
+    row 1417 0x7ce803a6 with (7, 0xffffffff) => (64, 0xffffffff) ∷
+    row 1418 0x7dc803a6 with (14, 0) => (64, 0) ∷
+    row 1419 0x7ce803a6 with (7, 0x8000000000000000) => (64, 0x8000000000000000) ∷
+    row 1420 0x7de803a6 with (15, 0x7fffffff) => (64, 0x7fffffff) ∷
+    row 1421 0x7ec803a6 with (22, 0xffffffff80000000) => (64, 0xffffffff80000000) ∷
+    row 1422 0x7e8803a6 with (20, 0xffffffffffffffff) => (64, 0xffffffffffffffff) ∷
+    row 1423 0x7c4803a6 with (2, 0x80000000) => (64, 0x80000000) ∷
+    row 1424 0x7c0803a6 with (0, 0xffffffff7fffffff) => (64, 0xffffffff7fffffff) ∷
+    row 1425 0x7ca803a6 => (64, 0xb64f1258c1f2561f) ∷
+    row 1426 0x7de803a6 => (64, 0x9968c69927133765) ∷
+    row 1427 0x7e4803a6 => (64, 0xec75542f271092b2) ∷
+    row 1428 0x7cc803a6 => (64, 0xa5137e821c322d23) ∷
+    row 1429 0x7de803a6 => (64, 0xdcd7b2649fb3d257) ∷
+    row 1430 0x7ce803a6 => (64, 0x5fd0023ca100f8e7) ∷
+    row 1431 0x7d0803a6 => (64, 0xe5bd2618c5d6adf7) ∷
+    row 1432 0x7f8803a6 => (64, 0xabe6d8204e6ffeb) ∷
+    row 1433 0x7c8803a6 => (64, 0x6be3ea28230e532f) ∷
+    row 1434 0x7ee803a6 => (64, 0x63c63ad929567a47) ∷
+    row 1435 0x7d0803a6 => (64, 0xd054a5b5f1d3984b) ∷
+    row 1436 0x7cc803a6 => (64, 0xe17b6fda292ab30e) ∷
+    row 1437 0x7dc803a6 => (64, 0xde15985b547c5fe3) ∷
+    row 1438 0x7c6803a6 => (64, 0xe166544eb2a16624) ∷
+    row 1439 0x7fe803a6 => (64, 0x4a87175428d1ebcf) ∷
+    row 1440 0x7f2803a6 => (64, 0x250d35ccd9d428d3) ∷
+    row 1441 0x7f0803a6 => (64, 0xa55751578f8a808c) ∷
+    row 1442 0x7f2803a6 => (64, 0xb964ae96f38c8d27) ∷
+    row 1443 0x7d8803a6 => (64, 0x3be3db7b04ab3047) ∷
+    row 1444 0x7ea803a6 => (64, 0xc9f55aad511fd474) ∷
+    []) ∷
+    -- mtctr
+    group 0x0 (
+    row 1445 0x7d4903a6 with (10, 0) => (65, 0) ∷
+    row 1446 0x7c6903a6 with (3, 0x8000000000000000) => (65, 0x8000000000000000) ∷
+    row 1447 0x7d0903a6 with (8, 0x7fffffff) => (65, 0x7fffffff) ∷
+    row 1448 0x7c4903a6 with (2, 0xffffffff80000000) => (65, 0xffffffff80000000) ∷
+    row 1449 0x7e2903a6 with (17, 0xffffffffffffffff) => (65, 0xffffffffffffffff) ∷
+    row 1450 0x7d2903a6 with (9, 0x80000000) => (65, 0x80000000) ∷
+    row 1451 0x7ce903a6 with (7, 0xffffffff7fffffff) => (65, 0xffffffff7fffffff) ∷
+    row 1452 0x7e2903a6 with (17, 1) => (65, 1) ∷
+    row 1453 0x7e2903a6 with (17, 0x7fffffffffffffff) => (65, 0x7fffffffffffffff) ∷
+    row 1454 0x7c8903a6 with (4, 0xffffffff) => (65, 0xffffffff) ∷
+    row 1455 0x7fe903a6 with (31, 1) => (65, 1) ∷
+    row 1456 0x7f8903a6 with (28, 0x7fffffffffffffff) => (65, 0x7fffffffffffffff) ∷
+    row 1457 0x7fc903a6 with (30, 0xffffffff) => (65, 0xffffffff) ∷
+    row 1458 0x7c8903a6 with (4, 0) => (65, 0) ∷
+    row 1459 0x7e8903a6 with (20, 0x8000000000000000) => (65, 0x8000000000000000) ∷
+    row 1460 0x7fa903a6 with (29, 0x7fffffff) => (65, 0x7fffffff) ∷
+    row 1461 0x7e0903a6 with (16, 0xffffffff80000000) => (65, 0xffffffff80000000) ∷
+    row 1462 0x7d8903a6 with (12, 0xffffffffffffffff) => (65, 0xffffffffffffffff) ∷
+    row 1463 0x7f8903a6 with (28, 0x80000000) => (65, 0x80000000) ∷
+    row 1464 0x7d8903a6 with (12, 0xffffffff7fffffff) => (65, 0xffffffff7fffffff) ∷
+    row 1465 0x7dc903a6 => (65, 0x33c2285dfcf72358) ∷
+    row 1466 0x7c0903a6 => (65, 0xf6b110066071beb) ∷
+    row 1467 0x7fc903a6 => (65, 0xb0e42bb4d6402f7e) ∷
+    row 1468 0x7d2903a6 => (65, 0xb4cb2ffc6df021c2) ∷
+    row 1469 0x7d2903a6 => (65, 0x91adf2ea5b4fea1) ∷
+    row 1470 0x7ee903a6 => (65, 0x54c31c3753b4681a) ∷
+    row 1471 0x7c0903a6 => (65, 0x671afb8b9842be48) ∷
+    row 1472 0x7c6903a6 => (65, 0x8ab16d098c00a121) ∷
+    row 1473 0x7c0903a6 => (65, 0xbc321069adf881e7) ∷
+    row 1474 0x7de903a6 => (65, 0x4be33ae7616ccc34) ∷
+    row 1475 0x7fe903a6 => (65, 0xc72a2afa7d05c86b) ∷
+    row 1476 0x7d2903a6 => (65, 0xa2112f20328ead07) ∷
+    row 1477 0x7c2903a6 => (65, 0x4fd374e3925ebfeb) ∷
+    row 1478 0x7da903a6 => (65, 0x73c9c8c3217fc232) ∷
+    row 1479 0x7e4903a6 => (65, 0x586b93582f058f8e) ∷
+    row 1480 0x7ea903a6 => (65, 0x5fbcf690f3263cb5) ∷
+    row 1481 0x7c8903a6 => (65, 0xae9cba8185f75db8) ∷
+    row 1482 0x7c2903a6 => (65, 0x77de56e9482b1ef0) ∷
+    row 1483 0x7fa903a6 => (65, 0x1bad4fa670c5fcf9) ∷
+    row 1484 0x7f8903a6 => (65, 0xc882b97392867bb9) ∷
+    []) ∷
+    -- bcl 20, 31, .+4
+    group 0x0 (
+    row 1485 0x429f0005 => (64, 0x4018363ac) ∷
+    row 1486 0x429f0005 => (64, 0x401839538) ∷
+    row 1487 0x429f0005 => (64, 0x183e6fc) ∷
+    row 1488 0x429f0005 => (64, 0x18428f0) ∷
+    row 1489 0x429f0005 => (64, 0x40184606c) ∷
+    row 1490 0x429f0005 => (64, 0x184b2cc) ∷
+    row 1491 0x429f0005 => (64, 0x184d008) ∷
+    row 1492 0x429f0005 => (64, 0x1852824) ∷
+    row 1493 0x429f0005 => (64, 0x201856dc8) ∷
+    row 1494 0x429f0005 => (64, 0x40185aba0) ∷
+    row 1495 0x429f0005 => (64, 0x40185c458) ∷
+    row 1496 0x429f0005 => (64, 0x401861ff0) ∷
+    row 1497 0x429f0005 => (64, 0x201864668) ∷
+    row 1498 0x429f0005 => (64, 0x401868fbc) ∷
+    row 1499 0x429f0005 => (64, 0x186d3f4) ∷
+    row 1500 0x429f0005 => (64, 0x187285c) ∷
+    row 1501 0x429f0005 => (64, 0x40187524c) ∷
+    row 1502 0x429f0005 => (64, 0x20187b720) ∷
+    row 1503 0x429f0005 => (64, 0x20187c6d0) ∷
+    row 1504 0x429f0005 => (64, 0x201881160) ∷
+    row 1505 0x429f0005 => (64, 0x401886978) ∷
+    row 1506 0x429f0005 => (64, 0x2018899c8) ∷
+    row 1507 0x429f0005 => (64, 0x40188ca48) ∷
+    row 1508 0x429f0005 => (64, 0x201891300) ∷
+    row 1509 0x429f0005 => (64, 0x18953ec) ∷
+    row 1510 0x429f0005 => (64, 0x4018987b4) ∷
+    row 1511 0x429f0005 => (64, 0x189f660) ∷
+    row 1512 0x429f0005 => (64, 0x4018a2a90) ∷
+    row 1513 0x429f0005 => (64, 0x2018a46f8) ∷
+    row 1514 0x429f0005 => (64, 0x4018a863c) ∷
+    row 1515 0x429f0005 => (64, 0x18af864) ∷
+    row 1516 0x429f0005 => (64, 0x4018b1010) ∷
+    row 1517 0x429f0005 => (64, 0x4018b67f4) ∷
+    row 1518 0x429f0005 => (64, 0x18b8ab8) ∷
+    row 1519 0x429f0005 => (64, 0x4018bcdac) ∷
+    row 1520 0x429f0005 => (64, 0x18c0e30) ∷
+    row 1521 0x429f0005 => (64, 0x4018c618c) ∷
+    row 1522 0x429f0005 => (64, 0x2018c87cc) ∷
+    row 1523 0x429f0005 => (64, 0x4018ce8e8) ∷
+    row 1524 0x429f0005 => (64, 0x2018d2f90) ∷
+    []) ∷
+    -- bctr
+    group 0x0 (
+    row 1525 0x4e800420 with (65, 0x8027d9) => (pc, 0x8027d8) ∷
+    row 1526 0x4e800420 with (65, 0x200e20a58) => (pc, 0x200e20a58) ∷
+    row 1527 0x4e800420 with (65, 0xd3ca56) => (pc, 0xd3ca54) ∷
+    row 1528 0x4e800420 with (65, 0x400a508bc) => (pc, 0x400a508bc) ∷
+    row 1529 0x4e800420 with (65, 0x161f0e4) => (pc, 0x161f0e4) ∷
+    row 1530 0x4e800420 with (65, 0x2016f2d8f) => (pc, 0x2016f2d8c) ∷
+    row 1531 0x4e800420 with (65, 0x20018aecb) => (pc, 0x20018aec8) ∷
+    row 1532 0x4e800420 with (65, 0x2004b0c3d) => (pc, 0x2004b0c3c) ∷
+    row 1533 0x4e800420 with (65, 0x20154e260) => (pc, 0x20154e260) ∷
+    row 1534 0x4e800420 with (65, 0x40175d9a9) => (pc, 0x40175d9a8) ∷
+    row 1535 0x4e800420 with (65, 0x401782404) => (pc, 0x401782404) ∷
+    row 1536 0x4e800420 with (65, 0x2017acf7d) => (pc, 0x2017acf7c) ∷
+    row 1537 0x4e800420 with (65, 0x4004a2d5f) => (pc, 0x4004a2d5c) ∷
+    row 1538 0x4e800420 with (65, 0x3a6e2f) => (pc, 0x3a6e2c) ∷
+    row 1539 0x4e800420 with (65, 0x20032f2bc) => (pc, 0x20032f2bc) ∷
+    row 1540 0x4e800420 with (65, 0x4001819cb) => (pc, 0x4001819c8) ∷
+    row 1541 0x4e800420 with (65, 0x2011f3139) => (pc, 0x2011f3138) ∷
+    row 1542 0x4e800420 with (65, 0x4016b9ed6) => (pc, 0x4016b9ed4) ∷
+    row 1543 0x4e800420 with (65, 0x12e22e9) => (pc, 0x12e22e8) ∷
+    row 1544 0x4e800420 with (65, 0x400f84f26) => (pc, 0x400f84f24) ∷
+    row 1545 0x4e800420 with (65, 0x1901612) => (pc, 0x1901610) ∷
+    row 1546 0x4e800420 with (65, 0x2ec697) => (pc, 0x2ec694) ∷
+    row 1547 0x4e800420 with (65, 0x114b22d) => (pc, 0x114b22c) ∷
+    row 1548 0x4e800420 with (65, 0x10127a2) => (pc, 0x10127a0) ∷
+    row 1549 0x4e800420 with (65, 0x40019ca6e) => (pc, 0x40019ca6c) ∷
+    row 1550 0x4e800420 with (65, 0x20126a11f) => (pc, 0x20126a11c) ∷
+    row 1551 0x4e800420 with (65, 0x40109976b) => (pc, 0x401099768) ∷
+    row 1552 0x4e800420 with (65, 0xa39043) => (pc, 0xa39040) ∷
+    row 1553 0x4e800420 with (65, 0x133bbd2) => (pc, 0x133bbd0) ∷
+    row 1554 0x4e800420 with (65, 0x200cc0aa0) => (pc, 0x200cc0aa0) ∷
+    row 1555 0x4e800420 with (65, 0x920a8d) => (pc, 0x920a8c) ∷
+    row 1556 0x4e800420 with (65, 0x2006611df) => (pc, 0x2006611dc) ∷
+    row 1557 0x4e800420 with (65, 0xc5ba79) => (pc, 0xc5ba78) ∷
+    row 1558 0x4e800420 with (65, 0x4004a9ad6) => (pc, 0x4004a9ad4) ∷
+    row 1559 0x4e800420 with (65, 0x723042) => (pc, 0x723040) ∷
+    row 1560 0x4e800420 with (65, 0x18c2839) => (pc, 0x18c2838) ∷
+    row 1561 0x4e800420 with (65, 0x2010e6521) => (pc, 0x2010e6520) ∷
+    row 1562 0x4e800420 with (65, 0x401718f44) => (pc, 0x401718f44) ∷
+    row 1563 0x4e800420 with (65, 0x14c5aab) => (pc, 0x14c5aa8) ∷
+    row 1564 0x4e800420 with (65, 0x201441196) => (pc, 0x201441194) ∷
     []) ∷
     []

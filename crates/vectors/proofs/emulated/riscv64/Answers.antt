@@ -1,12 +1,12 @@
 -- The words of RISC-V: by computation.
 use Rattle.std.proofs.Common.{refl}
 use Rattle.linker_base.specs.Form.{place_sum}
-use Rattle.emulated.specs.RiscVTable.{utype_words, itype_words, stype_words, btype_words}
-use Rattle.emulated.specs.RiscVTable.{jtype_words, cbtype_words, cjtype_words, cluitype_words}
-use Rattle.emulated.specs.RiscVTable.{uitype_words}
-use Rattle.emulated.specs.RiscVTable.{call_words}
-use Rattle.emulated.specs.RiscVSteps.{riscv_groups}
-use Rattle.emulated.proofs.riscv64.Goals as goal
+use Rattle.vectors.specs.RiscVTable.{utype_words, itype_words, stype_words, btype_words}
+use Rattle.vectors.specs.RiscVTable.{jtype_words, cbtype_words, cjtype_words, cluitype_words}
+use Rattle.vectors.specs.RiscVTable.{uitype_words}
+use Rattle.vectors.specs.RiscVTable.{call_words}
+use Rattle.vectors.specs.RiscVSteps.{riscv_groups}
+use Rattle.vectors.proofs.emulated.riscv64.Goals as goal
 
 pub returns : goal.returns
 unfolding place_sum utype_words itype_words stype_words btype_words jtype_words cbtype_words cjtype_words cluitype_words uitype_words call_words riscv_groups

@@ -1,6 +1,6 @@
 -- What the emulator unicorn 2.0.1 made of instructions. `tools/emulate_steps` makes this file.
 use Rattle.std.specs.Prelude.{List, [], ◌∷◌}
-use Rattle.emulated.specs.Steps.{Group, group, m1, pc, row, ◌=>◌, ◌with◌}
+use Rattle.vectors.specs.Steps.{Group, group, m1, pc, row, ◌=>◌, ◌with◌}
 
 unfoldable pub riscv_groups : List Group
 riscv_groups =

@@ -1,8 +1,8 @@
 -- The instructions of x86-64: by computation.
 use Rattle.std.proofs.Common.{refl}
-use Rattle.emulated.specs.X86Steps.{x86_groups}
+use Rattle.vectors.specs.X86Steps.{x86_groups}
 use lib.Count.{ones}
-use Rattle.emulated.proofs.x86_64.Goals as goal
+use Rattle.vectors.proofs.emulated.x86_64.Goals as goal
 
 pub returns : goal.returns
 unfolding x86_groups ones

@@ -1,6 +1,6 @@
 -- What qemu-loongarch64 made of instructions. `tools/emulate_steps` makes this file.
 use Rattle.std.specs.Prelude.{List, [], ◌∷◌}
-use Rattle.emulated.specs.Steps.{Group, at, group, m0, m1, m2, m3, pc, row, ◌=>◌, ◌with◌}
+use Rattle.vectors.specs.Steps.{Group, at, group, m0, m1, m2, m3, pc, row, ◌=>◌, ◌with◌}
 
 unfoldable pub loongarch_groups : List Group
 loongarch_groups =

@@ -1,14 +1,16 @@
--- PowerPC64: the instructions of `linker_laws` compared with an emulator. Registers 32 to 63 are
--- those of floating-point numbers, and 64 is the link register.
+-- PowerPC64: the instructions of `linker_laws`, and those of stubs of `linker_output`, compared with
+-- an emulator. Registers 32 to 63 are those of floating-point numbers, 64 is the link register, and
+-- 65 the count register.
 use Rattle.std.specs.Prelude.{ℕ, ◌≡◌, ◌+◌, ◌-◌, ◌*◌, ◌/◌, ◌^◌, ◌==◌, nat_lt, if◌then◌else◌}
 use Rattle.std.specs.Prelude.{Bool, true, false, Option, Some, None}
 use Rattle.std.specs.List.{list_all}
 use Rattle.std.specs.Int.{w64, leading_zeros}
 use Rattle.linker_base.specs.Bits.{field}
-use Rattle.linker_laws.specs.Ppc64Machine.{State, Formats, step, step_prefixed}
-use Rattle.emulated.specs.Steps.{Executed, Group, Numbers, at, pc, made_low, before, memory_in}
-use Rattle.emulated.specs.Steps.{bytes_from, is_left}
-use Rattle.emulated.specs.Ppc64Steps.{ppc64_groups}
+use Rattle.linker_laws.specs.Ppc64Machine.{Formats, step_prefixed}
+use Rattle.linker_output.specs.Ppc64Stubs.{Counted, step_counted, lifted}
+use Rattle.vectors.specs.Steps.{Executed, Group, Numbers, at, pc, made_low, before, memory_in}
+use Rattle.vectors.specs.Steps.{bytes_from, is_left}
+use Rattle.vectors.specs.Ppc64Steps.{ppc64_groups}
 
 -- ---- single and double precision
 
@@ -52,35 +54,41 @@ formats = record { widened = widened; narrowed = narrowed }
 abbrev pub numbers : Executed → Numbers
 numbers = before made_low
 
-abbrev pub begun : Executed → State
+abbrev pub begun : Executed → Counted
 begun e =
     let start = numbers e at in
     let memory = memory_in (numbers e) in
     record {
-      registers = numbers e;
-      floats = λ r. numbers e (32 + r);
-      link = numbers e 64;
-      pc = numbers e pc;
-      memory = bytes_from start memory;
+      state =
+          record {
+            registers = numbers e;
+            floats = λ r. numbers e (32 + r);
+            link = numbers e 64;
+            pc = numbers e pc;
+            memory = bytes_from start memory;
+          };
+      count = numbers e 65;
     }
 
-abbrev pub register : State → ℕ → ℕ
-register s r =
-    if nat_lt r 32 then s.registers r else (if nat_lt r 64 then s.floats (r - 32) else s.link)
+abbrev pub register : Counted → ℕ → ℕ
+register c r =
+    if nat_lt r 32 then c.state.registers r else (
+    if nat_lt r 64 then c.state.floats (r - 32) else (
+    if r == 64 then c.state.link else c.count))
 
 -- an instruction of 4 bytes, or a prefixed one of 8
 abbrev pub length_of : ℕ → ℕ
 length_of code = if nat_lt code (2 ^ 32) then 4 else 8
 
-abbrev pub ends_so : Executed → Option State → Bool
+abbrev pub ends_so : Executed → Option Counted → Bool
 ends_so e None = false
-ends_so e (Some s) =
-    is_left 65 (length_of e.code) 0 e (numbers e) (register s) s.pc s.memory 0
+ends_so e (Some c) =
+    is_left 66 (length_of e.code) 0 e (numbers e) (register c) c.state.pc c.state.memory 0
 
-abbrev pub executed : Executed → Option State
+abbrev pub executed : Executed → Option Counted
 executed e =
-    if length_of e.code == 4 then step formats e.code (begun e)
-    else step_prefixed formats e.code (begun e)
+    if length_of e.code == 4 then step_counted formats e.code (begun e)
+    else lifted (begun e) (step_prefixed formats e.code ((begun e).state))
 
 -- Each instruction leaves what the emulator did.
 abbrev pub Agrees : Type 0

@@ -5,20 +5,18 @@
 //! the definitions of one architecture read of each word what came of it, and that its machine
 //! leaves of each state what the emulator left. `tools/emulate` and `tools/emulate_steps` make the
 //! tables, and their heads say what is compared.
-#![tactic(auto)]
-
-ghost use Rattle.emulated.specs.AArch64Executed as aarch64_executed;
-ghost use Rattle.emulated.specs.AArch64Table as aarch64_table;
-ghost use Rattle.emulated.specs.LoongArchExecuted as loongarch_executed;
-ghost use Rattle.emulated.specs.LoongArchTable as loongarch_table;
-ghost use Rattle.emulated.specs.Ppc64Executed as ppc64_executed;
-ghost use Rattle.emulated.specs.Ppc64Table as ppc64_table;
-ghost use Rattle.emulated.specs.RiscVExecuted as riscv_executed;
-ghost use Rattle.emulated.specs.RiscVTable as riscv_table;
-ghost use Rattle.emulated.specs.X86Executed as x86_executed;
+ghost use Rattle.vectors.specs.AArch64Executed as aarch64_executed;
+ghost use Rattle.vectors.specs.AArch64Table as aarch64_table;
+ghost use Rattle.vectors.specs.LoongArchExecuted as loongarch_executed;
+ghost use Rattle.vectors.specs.LoongArchTable as loongarch_table;
+ghost use Rattle.vectors.specs.Ppc64Executed as ppc64_executed;
+ghost use Rattle.vectors.specs.Ppc64Table as ppc64_table;
+ghost use Rattle.vectors.specs.RiscVExecuted as riscv_executed;
+ghost use Rattle.vectors.specs.RiscVTable as riscv_table;
+ghost use Rattle.vectors.specs.X86Executed as x86_executed;
 
 /// AArch64: offsets of loads and stores, `adr` and `adrp`, moves, additions, branches, a number by
-/// four moves, and `adrp` with `add`; and what the instructions of `linker_laws` do.
+/// four moves, and `adrp` with `add`; and what the instructions of `linker_laws`, and BR, do.
 pub fn aarch64()
     ensures agrees { aarch64_table.Agrees }
     ensures steps { aarch64_executed.Agrees }
@@ -43,7 +41,7 @@ pub fn loongarch64()
 /// PowerPC64: displacements, also those in units of 4 and 16 bytes, branches, `paddi`, `ori` and
 /// `oris`, `addis` with `addi` or `ori`, and numbers of 64 bits by five instructions; and what the
 /// instructions of `linker_laws` do, but for `stfs` of a number that is too small for single
-/// precision.
+/// precision, and those of stubs that move the link and the count register.
 pub fn ppc64()
     ensures agrees { ppc64_table.Agrees }
     ensures steps { ppc64_executed.Agrees }

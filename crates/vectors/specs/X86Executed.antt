@@ -5,9 +5,9 @@ use Rattle.std.specs.Prelude.{Option, Some, None, if◌then◌else◌, List, [],
 use Rattle.std.specs.List.{list_all}
 use Rattle.std.specs.Int.{bit_at}
 use Rattle.linker_laws.specs.X86Machine.{State, Flags, step, bit_of}
-use Rattle.emulated.specs.Steps.{Executed, Group, Numbers, at, flags, pc, made_high, before}
-use Rattle.emulated.specs.Steps.{memory_in, bytes_from, is_left}
-use Rattle.emulated.specs.X86Steps.{x86_groups}
+use Rattle.vectors.specs.Steps.{Executed, Group, Numbers, at, flags, pc, made_high, before}
+use Rattle.vectors.specs.Steps.{memory_in, bytes_from, is_left}
+use Rattle.vectors.specs.X86Steps.{x86_groups}
 
 -- EFLAGS: CF is bit 0, PF 2, AF 4, ZF 6, SF 7 and OF 11
 abbrev pub flags_in : ℕ → Flags

@@ -1,6 +1,6 @@
 -- What the emulator unicorn 2.0.1 made of instructions. `tools/emulate_steps` makes this file.
 use Rattle.std.specs.Prelude.{List, [], ◌∷◌}
-use Rattle.emulated.specs.Steps.{Group, at, flags, group, m0, m1, pc, row, ◌=>◌, ◌with◌}
+use Rattle.vectors.specs.Steps.{Group, at, flags, group, m0, m1, pc, row, ◌=>◌, ◌with◌}
 
 unfoldable pub x86_groups : List Group
 x86_groups =

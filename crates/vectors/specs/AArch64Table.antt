@@ -12,9 +12,9 @@ use Rattle.linker_elf.specs.declared.aarch64.forms.AArch64Instruction.TheVariant
 use Rattle.linker_elf.specs.declared.aarch64.forms.AArch64Instruction.TheVariants.{Bcond}
 use Rattle.linker_elf.specs.declared.aarch64.forms.AArch64Instruction.TheVariants.{JumpCall}
 use Rattle.linker_elf.specs.declared.aarch64.forms.AArch64Instruction.TheVariants.{MachOLow12}
-use Rattle.emulated.specs.Sequences.{moves_number}
-use Rattle.emulated.specs.Sequences.{page_number}
-use Rattle.emulated.specs.Emulated.{Words, words, IsComputed}
+use Rattle.vectors.specs.Sequences.{moves_number}
+use Rattle.vectors.specs.Sequences.{page_number}
+use Rattle.vectors.specs.Emulated.{Words, words, IsComputed}
 
 unfoldable pub adr_words : List Words
 adr_words =

@@ -10,8 +10,8 @@ use Rattle.linker_elf.specs.declared.riscv64.forms.RiscVInstruction.TheVariants.
 use Rattle.linker_elf.specs.declared.riscv64.forms.RiscVInstruction.TheVariants.{CjType}
 use Rattle.linker_elf.specs.declared.riscv64.forms.RiscVInstruction.TheVariants.{CluiType}
 use Rattle.linker_elf.specs.declared.riscv64.forms.RiscVInstruction.TheVariants.{UiType}
-use Rattle.emulated.specs.Sequences.{call_number}
-use Rattle.emulated.specs.Emulated.{Words, words, IsComputed}
+use Rattle.vectors.specs.Sequences.{call_number}
+use Rattle.vectors.specs.Emulated.{Words, words, IsComputed}
 
 unfoldable pub utype_words : List Words
 utype_words =

@@ -4,9 +4,9 @@ use Rattle.std.specs.Prelude.{ℕ, ◌≡◌, ◌+◌, ◌-◌, ◌*◌, ◌/◌
 use Rattle.std.specs.Prelude.{if◌then◌else◌, Bool, true, false, Option, Some, None}
 use Rattle.std.specs.List.{list_all}
 use Rattle.linker_laws.specs.LoongArchMachine.{State, Floats, step, read}
-use Rattle.emulated.specs.Steps.{Executed, Group, Numbers, at, pc, noise, made_low, before}
-use Rattle.emulated.specs.Steps.{memory_in, bytes_from, is_left}
-use Rattle.emulated.specs.LoongArchSteps.{loongarch_groups}
+use Rattle.vectors.specs.Steps.{Executed, Group, Numbers, at, pc, noise, made_low, before}
+use Rattle.vectors.specs.Steps.{memory_in, bytes_from, is_left}
+use Rattle.vectors.specs.LoongArchSteps.{loongarch_groups}
 
 -- Register 0 is 0, and vectors have 256 bits.
 abbrev pub made : ℕ → Numbers
