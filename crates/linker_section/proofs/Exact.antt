@@ -23,7 +23,7 @@ use Rattle.linker_section.proofs.Sized.{is_composing, first_composes, instructio
 use Rattle.linker_section.proofs.Stepping.{len_alone}
 use Rattle.linker_section.specs.Fields.{IsField, begins_pair, ends_pair, is_of_pair, Composes, of_number, of_pair, AreApart}
 use Rattle.linker_section.specs.Relocations.{relocation_in, relocation_at}
-use Rattle.linker_section.specs.Sections.{HasValue, IsRowValue, IsNotAccepted, IsPairRejected, IsPairNumber, IsCauseAt, IsOfValue, BeginsPair}
+use Rattle.linker_section.specs.Sections.{HasValue, IsRowValue, IsNotAccepted, IsPairRejected, IsNumberOfPair, IsCauseAt, IsOfValue, BeginsPair}
 use Rattle.linker_section.specs.Values.{IsAscending, offset_at, is_auipc, is_high_kind, is_high_part, names_label, IsHighPart, IsHighPartAt, low_value, IsLowValue, IsValueBy, IsValueIn, IsValue}
 use Rattle.linker_section.specs.WrittenFields.{CanBeWritten, IsFirstFault, PairFits}
 use Rattle.linker_section.specs.declared.facts.Addresses.{Addresses}
@@ -265,7 +265,7 @@ fits_no_cause xs number old rest DoesNotFit u fits cause =
     ]
 
 one_pair_number : (kind : RelocationKind) (there : List ℕ) (v w : ℤ) (n m old : ℕ) (rest : List ℕ)
-    → Uleb there old rest → IsPairNumber kind there v w n → IsPairNumber kind there v w m → n ≡ m
+    → Uleb there old rest → IsNumberOfPair kind there v w n → IsNumberOfPair kind there v w m → n ≡ m
 one_pair_number kinds.PairSubtractionULEB128LoongArch there v w n m old rest u a b = a old rest u ∙ sym (b old rest u)
 one_pair_number _ there v w n m old rest u a b = a ∙ sym b
 
@@ -370,10 +370,10 @@ module _ (architecture : Architecture) (addresses : Addresses) (bytes : List ℕ
             let b = one_found (can.found (i + 1)) pair.other made.other pair.subtracted made.subtracted
             (found_at (i + 1) pair.other pair.subtracted under pair.has_subtracted) made.is_second in
             let there = drop (offset_at bytes i) section in
-            let mine : IsPairNumber made.other.kind there made.value made.subtracted rejected.number =
-            subst (λ x. IsPairNumber made.other.kind there made.value x rejected.number) b.value_is
-            (subst (λ x. IsPairNumber made.other.kind there x pair.subtracted rejected.number) a.value_is
-            (subst (λ x. IsPairNumber x.kind there pair.value pair.subtracted rejected.number) b.row_is pair.is_number)) in
+            let mine : IsNumberOfPair made.other.kind there made.value made.subtracted rejected.number =
+            subst (λ x. IsNumberOfPair made.other.kind there made.value x rejected.number) b.value_is
+            (subst (λ x. IsNumberOfPair made.other.kind there x pair.subtracted rejected.number) a.value_is
+            (subst (λ x. IsNumberOfPair x.kind there pair.value pair.subtracted rejected.number) b.row_is pair.is_number)) in
             let same : rejected.number ≡ fits.number =
             one_pair_number made.other.kind there made.value made.subtracted rejected.number fits.number fits.old fits.rest fits.there mine made.is_number in
             fits_no_cause there rejected.number fits.old fits.rest why fits.there (subst (λ n. n < 128 ^ (fits.there.last + 1)) (sym same) fits.fits) rejected.cause

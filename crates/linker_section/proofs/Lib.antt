@@ -1,6 +1,6 @@
 pub mod All
-pub mod Bytes
 pub mod Claims
+pub mod CodeNumbers
 pub mod Composing
 pub mod Exact
 pub mod Faults
@@ -9,6 +9,8 @@ pub mod Fronts
 pub mod Held
 pub mod Local
 pub mod Numbers
+pub mod QuickValues
+pub mod Reaching
 pub mod RowNames
 pub mod Rows
 pub mod Saving

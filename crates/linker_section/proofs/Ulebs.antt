@@ -5,7 +5,7 @@ use Rattle.std.proofs.lemmas.Nat.{mod_below, mul-le}
 use Rattle.linker_base.proofs.UlebLemmas.{one_reading}
 use Rattle.linker_elf.specs.declared.elf.RelocationKind.{RelocationKind}
 use Rattle.linker_elf.specs.declared.elf.RelocationKind.TheVariants as kinds
-use Rattle.linker_section.specs.Sections.{IsPairNumber}
+use Rattle.linker_section.specs.Sections.{IsNumberOfPair}
 use Rattle.std.specs.Int.{sum_through}
 use Rattle.std.specs.Prelude.{ℤ}
 use Rattle.std.proofs.lemmas.Bool.{cond_both, cond-true, cond-false, lt-ltb, le-ltb}
@@ -164,14 +164,14 @@ uleb_below bytes n rest u =
 -- the number of a pair over bytes that have any number of others
 pub pair_number_from : (kind : RelocationKind) (xs ys : List ℕ) (v w : ℤ) (number : ℕ)
     → ((old : ℕ) (rest : List ℕ) → Uleb ys old rest → (other : List ℕ) × Uleb xs old other)
-    → IsPairNumber kind xs v w number → IsPairNumber kind ys v w number
+    → IsNumberOfPair kind xs v w number → IsNumberOfPair kind ys v w number
 pair_number_from kinds.PairSubtractionULEB128LoongArch xs ys v w number from is =
     λ old rest u. let x = from old rest u in is old (x.0) (x.1)
 pair_number_from _ xs ys v w number from is = is
 
 pub pair_number_same : (kind : RelocationKind) (xs ys : List ℕ) (v w : ℤ) (number old : ℕ)
     (xs_rest ys_rest : List ℕ) → Uleb xs old xs_rest → Uleb ys old ys_rest
-    → IsPairNumber kind xs v w number → IsPairNumber kind ys v w number
+    → IsNumberOfPair kind xs v w number → IsNumberOfPair kind ys v w number
 pair_number_same kind xs ys v w number old xs_rest ys_rest x y is =
     pair_number_from kind xs ys v w number
     (λ other rest u. (xs_rest, subst (λ n. Uleb xs n xs_rest) (one_reading ys old other ys_rest rest y u).0 x)) is

@@ -3,13 +3,14 @@ use Rattle.std.specs.Prelude.{◌≡◌, ◌⊎◌, ℕ, ◌+◌, ◌/◌, ◌<�
 use Rattle.std.specs.Prelude.{◌++◌, length, take, drop, slice_index, Option, Some, None, Result}
 use Rattle.std.specs.Prelude.{Ok, Err, ⊤}
 use Rattle.std.specs.Int.{w64, cast_unsigned}
-use Rattle.linker_base.specs.Uleb.{Uleb, IsUlebWritten, IsUlebCause}
+use Rattle.linker_base.specs.Uleb.{IsUlebWritten, IsUlebCause}
 use Rattle.linker_base.specs.declared.utils.Uleb128Error.{Uleb128Error}
 use Rattle.linker_elf.specs.Relocate.{WritesRow, IsCause}
-use Rattle.linker_elf.specs.Value.{sum_64, difference_64}
 use Rattle.linker_elf.specs.declared.elf.RelocationKind.{RelocationKind}
 use Rattle.linker_elf.specs.declared.elf.RelocationKind.TheVariants.{PairSubtractionULEB128LoongArch}
 use Rattle.linker_elf.specs.declared.elf.RelocationKindInfo.{RelocationKindInfo}
+use Rattle.linker_elf.specs.declared.elf.Uleb128Role.{Uleb128Role}
+use Rattle.linker_elf.specs.declared.elf.Uleb128Role.TheVariants.{Sets, Adds}
 use Rattle.linker_elf.specs.declared.elf.relocate.RelocateError.{RelocateError}
 use Rattle.linker_elf.specs.declared.elf.relocate.RelocateError.TheVariants.{TooShort}
 use Rattle.linker_section.specs.Fields.{begins_pair, ends_pair, field_end, IsField}
@@ -25,6 +26,7 @@ use Rattle.linker_section.specs.declared.sections.RelocationError.TheVariants.{W
 use Rattle.linker_section.specs.declared.sections.SectionError.{SectionError}
 use Rattle.linker_section.specs.declared.values.ValueError.{ValueError}
 use Rattle.linker_utils.specs.Architectures.{IsRow}
+use Rattle.linker_utils.specs.Uleb128.{IsPairNumber}
 use Rattle.linker_utils.specs.declared.elf.Architecture.{Architecture}
 
 -- ---- one value, at an offset
@@ -71,13 +73,15 @@ IsRowValue architecture addresses bytes symbols r (Err error) =
 
 -- ---- a pair at a ULEB128 number
 
--- the number that a pair writes over another, modulo 2 ^ 64
-abbrev pub IsPairNumber : RelocationKind → List ℕ → ℤ → ℤ → ℕ → Type 0
-IsPairNumber PairSubtractionULEB128LoongArch before v w number =
-    (old : ℕ) (rest : List ℕ) → Uleb before old rest
-    → number ≡ sum_64 old (difference_64 (cast_unsigned w64 v) (cast_unsigned w64 w))
-IsPairNumber kind before v w number =
-    number ≡ difference_64 (cast_unsigned w64 v) (cast_unsigned w64 w)
+-- the role of the first relocation of a pair, by the formula of the second
+abbrev pub first_role : RelocationKind → Uleb128Role
+first_role PairSubtractionULEB128LoongArch = Adds
+first_role kind = Sets
+
+-- the number that the values of a pair write over another, modulo 2 ^ 64
+abbrev pub IsNumberOfPair : RelocationKind → List ℕ → ℤ → ℤ → ℕ → Type 0
+IsNumberOfPair kind before v w number =
+    IsPairNumber (first_role kind) before (cast_unsigned w64 v) (cast_unsigned w64 w) number
 
 -- the number stands at an offset in place of the one there, or the bytes there don't hold it
 abbrev pub IsNumberWrittenAt : ℕ → ℕ → List ℕ → List ℕ → Result Unit Uleb128Error → Type 0
@@ -99,7 +103,7 @@ pub record IsPair (architecture : Architecture) (addresses : Addresses) (bytes :
   pub subtracted : ℤ
   pub has_subtracted : HasValue architecture addresses bytes symbols second other subtracted
   pub ends : ends_pair other.size other.kind ≡ true
-  pub is_number : IsPairNumber other.kind there value subtracted number
+  pub is_number : IsNumberOfPair other.kind there value subtracted number
 
 -- the number is written in place of the one there, in as many bytes, and all other bytes stay
 pub record IsPairWritten (architecture : Architecture) (addresses : Addresses) (bytes : List ℕ)

@@ -17,7 +17,7 @@ use Rattle.linker_elf.specs.declared.elf.RelocationSize.{RelocationSize}
 use Rattle.linker_elf.specs.declared.elf.RelocationSize.TheVariants.{ByteSize, BitMasking}
 use Rattle.linker_section.specs.Fields.{field_len, begins_pair, ends_pair, is_of_pair, AreApart}
 use Rattle.linker_section.specs.Relocations.{relocation_in}
-use Rattle.linker_section.specs.Sections.{IsRowValue, IsPairNumber, IsInNoField, BeginsPair}
+use Rattle.linker_section.specs.Sections.{IsRowValue, IsNumberOfPair, IsInNoField, BeginsPair}
 use Rattle.linker_section.specs.Sections.{IsCauseAt, IsOfValue}
 use Rattle.linker_section.specs.Values.{offset_at}
 use Rattle.linker_section.specs.declared.facts.Addresses.{Addresses}
@@ -99,7 +99,7 @@ pub record MakePair (found : Found) (bytes : List ℕ) (first : ℕ) (there : Li
   pub is_second : found (first + 1) ≡ Some (other, subtracted)
   pub ends : ends_pair other.size other.kind ≡ true
   pub same_offset : offset_at bytes (first + 1) ≡ offset_at bytes first
-  pub is_number : IsPairNumber other.kind there value subtracted number
+  pub is_number : IsNumberOfPair other.kind there value subtracted number
 
 -- what is said, by the first's index, of the pair of relocations below an index that one is of
 abbrev pub OfPair : (ℕ → Type 0) → ℕ → ℕ → Type 0

@@ -14,7 +14,7 @@ ghost use Rattle.linker_section.specs.Values.{offset_at, IsAscending, IsHighPart
 ghost use Rattle.linker_section.specs.Values.{low_value, IsValueBy, IsValue};
 ghost use Rattle.linker_utils.specs.Architectures.{IsRow};
 
-use crate::codes::byte_of;
+use crate::codes::number_of;
 use crate::facts::{Addresses, Symbol};
 use crate::needed::{Entry, EntryClass, class_of_kind, entry_by, loads_plt_word, may_use_stub};
 use crate::relocations::{Rela, relocation_in, relocations_len};
@@ -71,7 +71,11 @@ fn is_there(addresses: &Addresses, symbol: &Symbol, entry: Entry) -> bool
 
 /// The address of the entry that is required; 0 where none is, and none where there isn't one.
 #[inline(always)]
-fn entry_address(addresses: &Addresses, symbol: &Symbol, entry: Option<Entry>) -> Option<u64>
+pub(crate) fn entry_address(
+    addresses: &Addresses,
+    symbol: &Symbol,
+    entry: Option<Entry>,
+) -> Option<u64>
     ensures { result ≡ entry_address addresses.now symbol.now entry }
 {
     match entry {
@@ -96,7 +100,7 @@ fn is_of_got(architecture: Architecture, code: u32) -> bool
 
 /// How far behind a function's global entry point its local one is.
 #[inline(always)]
-fn local_entry(other: u8) -> u64
+pub(crate) fn local_entry(other: u8) -> u64
     ensures { result ≡ local_entry other }
 {
     let logarithm = other / 32;
@@ -203,30 +207,30 @@ fn defined_or_weak(
     }
 }
 
-/// Whether a stub may serve as the target of a relocation, by the byte of its code. Only the contract
+/// Whether a stub may serve as the target of a relocation, by the number of its code. Only the contract
 /// uses `_info`.
 #[inline(always)]
-fn serves_stub(byte: u8, _info: &RelocationKindInfo) -> bool
-    requires { SaysNeeds byte _info.now }
+fn serves_stub(number: u16, _info: &RelocationKindInfo) -> bool
+    requires { SaysNeeds number _info.now }
     ensures { result ≡ may_use_stub _info.now.size _info.now.kind }
 {
-    byte / 32 % 2 == 1
+    number / 32 % 2 == 1
 }
 
 /// S, or the stub by which a branch goes.
 #[inline(always)]
-fn target_of(
+pub(crate) fn target_of(
     architecture: Architecture,
     addresses: &Addresses,
-    byte: u8,
+    number: u16,
     info: &RelocationKindInfo,
     symbol: &Symbol,
     place: u64,
 ) -> u64
-    requires { SaysNeeds byte info.now }
+    requires { SaysNeeds number info.now }
     ensures { result ≡ target_of architecture addresses.now info.now symbol.now place }
 {
-    if serves_stub(byte, info) && symbol.stub != 0 {
+    if serves_stub(number, info) && symbol.stub != 0 {
         symbol.stub
     } else {
         defined_or_weak(architecture, addresses, info, symbol, place)
@@ -238,18 +242,18 @@ fn target_of(
 fn operands_with(
     architecture: Architecture,
     addresses: &Addresses,
-    byte: u8,
+    number: u16,
     info: &RelocationKindInfo,
     symbol: &Symbol,
     relocation: &Rela,
     entry: u64,
 ) -> Operands
-    requires { SaysNeeds byte info.now }
+    requires { SaysNeeds number info.now }
     ensures { result
         ≡ operands_with architecture addresses.now info.now symbol.now relocation.now entry }
 {
     let place = addresses.section.wrapping_add(relocation.offset);
-    let target = target_of(architecture, addresses, byte, info, symbol, place);
+    let target = target_of(architecture, addresses, number, info, symbol, place);
     let loads = loads_plt_word(info.size, info.kind);
     Operands {
         symbol: if is_of_got(architecture, relocation.code) {
@@ -267,20 +271,20 @@ fn operands_with(
     }
 }
 
-/// The entry that a relocation of a symbol requires, by the byte of its code. Only the contract uses
+/// The entry that a relocation of a symbol requires, by the number of its code. Only the contract uses
 /// `_info`.
 #[inline(always)]
 fn required(
-    byte: u8,
+    number: u16,
     _info: &RelocationKindInfo,
     relocation: &Rela,
     symbol: &Symbol,
 ) -> Option<Entry>
-    requires { SaysNeeds byte _info.now }
+    requires { SaysNeeds number _info.now }
     ensures { result
         ≡ entry_of _info.now relocation.now.addend symbol.now.is_thread_local }
 {
-    entry_by(byte, relocation.addend, symbol.is_thread_local)
+    entry_by(number, relocation.addend, symbol.is_thread_local)
 }
 
 /// The same, where there may be no such entry.
@@ -288,13 +292,13 @@ fn required(
 fn operands_by(
     architecture: Architecture,
     addresses: &Addresses,
-    byte: u8,
+    number: u16,
     info: &RelocationKindInfo,
     relocation: &Rela,
     symbol: &Symbol,
     entry: Option<u64>,
 ) -> Result<Operands, ValueError>
-    requires { SaysNeeds byte info.now }
+    requires { SaysNeeds number info.now }
     ensures { result
         ≡ operands_by architecture addresses.now info.now relocation.now symbol.now entry }
 {
@@ -302,7 +306,7 @@ fn operands_by(
         Some(entry) => Ok(operands_with(
             architecture,
             addresses,
-            byte,
+            number,
             info,
             symbol,
             relocation,
@@ -318,22 +322,26 @@ fn operands_of(
     architecture: Architecture,
     addresses: &Addresses,
     symbols: &[Symbol],
-    byte: u8,
+    number: u16,
     info: &RelocationKindInfo,
     relocation: &Rela,
 ) -> Result<Operands, ValueError>
-    requires { SaysNeeds byte info.now }
+    requires { SaysNeeds number info.now }
     ensures { result
         ≡ operands_of architecture addresses.now symbols.now info.now relocation.now }
 {
     let Some(symbol) = symbols.get(relocation.symbol as usize) else {
         return Err(ValueError::NoSymbol);
     };
-    let entry = entry_address(addresses, symbol, required(byte, info, relocation, symbol));
+    let entry = entry_address(
+        addresses,
+        symbol,
+        required(number, info, relocation, symbol),
+    );
     operands_by(
         architecture,
         addresses,
-        byte,
+        number,
         info,
         relocation,
         symbol,
@@ -358,17 +366,17 @@ fn own_value(
     architecture: Architecture,
     addresses: &Addresses,
     symbols: &[Symbol],
-    byte: u8,
+    number: u16,
     info: &RelocationKindInfo,
     relocation: &Rela,
 ) -> Result<Option<i64>, ValueError>
-    requires { SaysNeeds byte info.now }
+    requires { SaysNeeds number info.now }
     ensures { result ≡ own_value architecture addresses.now symbols.now info.now relocation.now }
 {
     if !has_value(info.kind) {
         return Ok(None);
     }
-    match operands_of(architecture, addresses, symbols, byte, info, relocation) {
+    match operands_of(architecture, addresses, symbols, number, info, relocation) {
         Ok(operands) => Ok(info.value(&operands)),
         Err(error) => Err(error),
     }
@@ -519,8 +527,8 @@ fn low_value(
     let Some((relocation, high)) = high else {
         return Err(ValueError::NoHighPart);
     };
-    let byte = byte_of(architecture, relocation.code);
-    match operands_of(architecture, addresses, symbols, byte, &high, &relocation) {
+    let number = number_of(architecture, relocation.code);
+    match operands_of(architecture, addresses, symbols, number, &high, &relocation) {
         Ok(operands) => Ok(info.value(&low_operands(&high, operands))),
         Err(error) => Err(error),
     }
@@ -533,16 +541,16 @@ pub(crate) fn value_of(
     addresses: &Addresses,
     relocations: &[u8],
     symbols: &[Symbol],
-    byte: u8,
+    number: u16,
     info: &RelocationKindInfo,
     relocation: &Rela,
 ) -> Result<Option<i64>, ValueError>
-    requires { SaysNeeds byte info.now }
+    requires { SaysNeeds number info.now }
     ensures { IsValueBy (names_label info.now.size info.now.kind) architecture addresses.now
         relocations.now symbols.now info.now relocation.now result }
 {
     if !names_label(info.size, info.kind) {
-        return own_value(architecture, addresses, symbols, byte, info, relocation);
+        return own_value(architecture, addresses, symbols, number, info, relocation);
     }
     let Some(label) = symbols.get(relocation.symbol as usize) else {
         return Err(ValueError::NoSymbol);
@@ -602,7 +610,7 @@ pub fn value(
             addresses,
             relocations,
             symbols,
-            byte_of(architecture, relocation.code),
+            number_of(architecture, relocation.code),
             &row.info(),
             relocation,
         ),

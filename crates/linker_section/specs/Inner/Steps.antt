@@ -8,12 +8,15 @@ use Rattle.linker_section.specs.Inner.Claims.{AreClaimed, is_clear_of}
 use Rattle.linker_section.specs.Inner.Saved.{Restores}
 use Rattle.linker_section.specs.Relocations.{relocation_in}
 use Rattle.linker_section.specs.Sections.{IsFirstRejected, IsPairWritten, IsPairRejected}
+use Rattle.linker_section.specs.Sections.{AreRelocated}
 use Rattle.linker_section.specs.Values.{IsAscending, IsValue, offset_at}
 use Rattle.linker_section.specs.declared.facts.Addresses.{Addresses}
 use Rattle.linker_section.specs.declared.facts.Symbol.{Symbol}
 use Rattle.linker_section.specs.declared.fields.Field.{Field}
 use Rattle.linker_section.specs.declared.sections.RelocationError.TheVariants.{Value, Uleb128}
+use Rattle.linker_section.specs.declared.quick.HighPart.{HighPart}
 use Rattle.linker_section.specs.declared.sections.SectionError.{SectionError}
+use Rattle.linker_section.specs.declared.sections.Step.{Step}
 use Rattle.linker_section.specs.declared.sections.Stopped.{Stopped}
 use Rattle.linker_section.specs.declared.values.ValueError.{ValueError}
 use Rattle.linker_utils.specs.Architectures.{IsRow}
@@ -86,3 +89,34 @@ pub record IsStopped (architecture : Architecture) (addresses : Addresses) (byte
   pub within : stopped.count ≤ length bytes / 24
   pub restores : Restores architecture bytes memory stopped.count now before
   pub rejected : IsFirstRejected architecture addresses bytes symbols before stopped.error
+
+-- ---- one step
+
+-- the values of relocations below an index are written, and the bytes before can be put back
+pub record Reached (architecture : Architecture) (addresses : Addresses) (bytes : List ℕ)
+    (symbols : List Symbol) (limit : Option ℕ) (before now memory : List ℕ) (i : ℕ) (last : Field)
+    : Type 0 where
+  pub is_limit : IsLimit architecture bytes before limit
+  pub within : i ≤ length bytes / 24
+  pub relocated : AreRelocated architecture addresses bytes symbols before i now
+  pub restores : Restores architecture bytes memory i now before
+  pub order : IsInOrder limit architecture bytes before now i last
+  pub same_length : length now ≡ length before
+
+-- more values are written, or there is one that can't be
+abbrev pub IsStep : Architecture → Addresses → List ℕ → List Symbol → Option ℕ → List ℕ → ℕ
+    → List ℕ → List ℕ → Result Step SectionError → Type 0
+IsStep architecture addresses bytes symbols limit before i now memory (Ok step) =
+    (i < step.index)
+    × Reached architecture addresses bytes symbols limit before now memory step.index step.last
+IsStep architecture addresses bytes symbols limit before i now memory (Err error) =
+    IsStopped architecture addresses bytes symbols before now memory
+    (record { count = i; error = error })
+
+-- one more value is written, or nothing is changed
+abbrev pub IsQuickStep : Architecture → Addresses → List ℕ → List Symbol → List ℕ → ℕ → Field
+    → List ℕ → List ℕ → Option (Field × Option HighPart) → Type 0
+IsQuickStep architecture addresses bytes symbols before i last now memory None =
+    Reached architecture addresses bytes symbols None before now memory i last
+IsQuickStep architecture addresses bytes symbols before i last now memory (Some next) =
+    Reached architecture addresses bytes symbols None before now memory (i + 1) (next.0)

@@ -5,7 +5,7 @@ use Rattle.linker_section.specs.Relocations.{relocation_in}
 use Rattle.std.specs.Int.{w64}
 use Rattle.std.proofs.lemmas.Int.{to_z-of_z}
 use Rattle.linker_base.specs.Uleb.{IsUlebWritten, IsUlebCause}
-use Rattle.linker_section.specs.Sections.{IsRowValue, IsPair, IsPairNumber, IsNumberWrittenAt, HasValue, BeginsPair}
+use Rattle.linker_section.specs.Sections.{IsRowValue, IsPair, IsNumberOfPair, IsNumberWrittenAt, HasValue, BeginsPair}
 use Rattle.linker_section.specs.declared.facts.Addresses.{Addresses}
 use Rattle.linker_section.specs.declared.facts.Symbol.{Symbol}
 use Rattle.linker_section.specs.declared.relocations.Rela.{Rela}
@@ -31,7 +31,7 @@ pub pair_is : (architecture : Architecture) (addresses : Addresses) (bytes : Lis
     → second ≡ relocation_in bytes (i + 1)
     → (row : RelocationKindInfo) × HasValue architecture addresses bytes symbols (relocation_in bytes i) row value
     → HasValue architecture addresses bytes symbols second other subtracted
-    → IsPairNumber other.kind there value subtracted number
+    → IsNumberOfPair other.kind there value subtracted number
     → IsPair architecture addresses bytes symbols (relocation_in bytes i) (relocation_in bytes (i + 1)) there number
 pair_is architecture addresses bytes symbols i second there value subtracted other number pair is first has_other numbered =
     let has_subtracted = subst (λ r. HasValue architecture addresses bytes symbols r other subtracted) is has_other in
@@ -60,16 +60,16 @@ returns-in-Ok c =
     let written = subst (IsNumberWrittenAt n a.second.now.offset a.section.now c.write_number_at.new.section) c.in-Ok.is c.write_number_at.ensures in
     let offset : a.second.now.offset ≡ first.offset = ap (λ r. r.offset) c.requires.second ∙ c.requires.pair.same_offset in
     let has_other = subst (IsRowValue a.architecture a.addresses.now a.relocations.now a.symbols.now a.second.now) (c.in-Ok-Some.is ∙ ap Ok c.in-Ok-Some.field-0-is) c.row_value.ensures in
-    let kind : IsPairNumber found.0.kind (drop a.second.now.offset a.section.now) (to_z w64 (of_z w64 a.value)) (to_z w64 (of_z w64 (found.1))) n =
-    subst (λ k. IsPairNumber k (drop a.second.now.offset a.section.now) (to_z w64 (of_z w64 a.value)) (to_z w64 (of_z w64 (found.1))) n) c.kind.ensures c.number_of_pair-number.ensures in
+    let kind : IsNumberOfPair found.0.kind (drop a.second.now.offset a.section.now) (to_z w64 (of_z w64 a.value)) (to_z w64 (of_z w64 (found.1))) n =
+    subst (λ k. IsNumberOfPair k (drop a.second.now.offset a.section.now) (to_z w64 (of_z w64 a.value)) (to_z w64 (of_z w64 (found.1))) n) c.kind.ensures c.number_of_pair-number.ensures in
     let fits : FitsSigned w64 (found.1) = search rules in
-    let numbered = subst (λ v. IsPairNumber found.0.kind (drop a.second.now.offset a.section.now) v (found.1) n) (to_z-of_z w64 a.value c.ranges.value)
-    (subst (λ w. IsPairNumber found.0.kind (drop a.second.now.offset a.section.now) (to_z w64 (of_z w64 a.value)) w n) (to_z-of_z w64 (found.1) fits) kind) in
+    let numbered = subst (λ v. IsNumberOfPair found.0.kind (drop a.second.now.offset a.section.now) v (found.1) n) (to_z-of_z w64 a.value c.ranges.value)
+    (subst (λ w. IsNumberOfPair found.0.kind (drop a.second.now.offset a.section.now) (to_z w64 (of_z w64 a.value)) w n) (to_z-of_z w64 (found.1) fits) kind) in
     record {
       inside = subst (λ o. o ≤ length a.section.now) offset (written.0);
       number = n;
       pair = pair_is a.architecture a.addresses.now a.relocations.now a.symbols.now a.index a.second.now _ a.value _ _ n c.requires.pair c.requires.second c.requires.value has_other
-          (subst (λ o. IsPairNumber found.0.kind (drop o a.section.now) a.value (found.1) n) offset numbered);
+          (subst (λ o. IsNumberOfPair found.0.kind (drop o a.section.now) a.value (found.1) n) offset numbered);
       rest = written.1;
       around = written.2 ∙ ap (λ o. take o a.section.now ++ written.1) offset;
       written = subst (λ o. IsUlebWritten (drop o a.section.now) n (written.1)) offset (written.3);
@@ -85,11 +85,11 @@ returns-in-Err-write_number_at c =
     let written = subst (IsNumberWrittenAt n a.second.now.offset a.section.now c.write_number_at.new.section) c.in-Err-write_number_at.is c.write_number_at.ensures in
     let offset : a.second.now.offset ≡ first.offset = ap (λ r. r.offset) c.requires.second ∙ c.requires.pair.same_offset in
     let has_other = subst (IsRowValue a.architecture a.addresses.now a.relocations.now a.symbols.now a.second.now) (c.in-Ok-Some.is ∙ ap Ok c.in-Ok-Some.field-0-is) c.row_value.ensures in
-    let kind : IsPairNumber found.0.kind (drop a.second.now.offset a.section.now) (to_z w64 (of_z w64 a.value)) (to_z w64 (of_z w64 (found.1))) n =
-    subst (λ k. IsPairNumber k (drop a.second.now.offset a.section.now) (to_z w64 (of_z w64 a.value)) (to_z w64 (of_z w64 (found.1))) n) c.kind.ensures c.number_of_pair-number.ensures in
+    let kind : IsNumberOfPair found.0.kind (drop a.second.now.offset a.section.now) (to_z w64 (of_z w64 a.value)) (to_z w64 (of_z w64 (found.1))) n =
+    subst (λ k. IsNumberOfPair k (drop a.second.now.offset a.section.now) (to_z w64 (of_z w64 a.value)) (to_z w64 (of_z w64 (found.1))) n) c.kind.ensures c.number_of_pair-number.ensures in
     let fits : FitsSigned w64 (found.1) = search rules in
-    let numbered = subst (λ v. IsPairNumber found.0.kind (drop a.second.now.offset a.section.now) v (found.1) n) (to_z-of_z w64 a.value c.ranges.value)
-    (subst (λ w. IsPairNumber found.0.kind (drop a.second.now.offset a.section.now) (to_z w64 (of_z w64 a.value)) w n) (to_z-of_z w64 (found.1) fits) kind) in (
+    let numbered = subst (λ v. IsNumberOfPair found.0.kind (drop a.second.now.offset a.section.now) v (found.1) n) (to_z-of_z w64 a.value c.ranges.value)
+    (subst (λ w. IsNumberOfPair found.0.kind (drop a.second.now.offset a.section.now) (to_z w64 (of_z w64 a.value)) w n) (to_z-of_z w64 (found.1) fits) kind) in (
       written.1,
       inr (
         why,
@@ -97,7 +97,7 @@ returns-in-Err-write_number_at c =
         record {
           number = n;
           pair = pair_is a.architecture a.addresses.now a.relocations.now a.symbols.now a.index a.second.now _ a.value _ _ n c.requires.pair c.requires.second c.requires.value has_other
-              (subst (λ o. IsPairNumber found.0.kind (drop o a.section.now) a.value (found.1) n) offset numbered);
+              (subst (λ o. IsNumberOfPair found.0.kind (drop o a.section.now) a.value (found.1) n) offset numbered);
           cause = subst (λ o. IsUlebCause (drop o a.section.now) n why) offset (written.0);
         },
       ),

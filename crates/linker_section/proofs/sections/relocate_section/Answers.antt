@@ -1,32 +1,19 @@
-use Rattle.std.proofs.Common.{ℕ, ◌<◌, refl, sym, subst, rules, true≢false}
+use Rattle.std.proofs.Common.{ℕ, ◌<◌, refl, sym, rules, true≢false}
 use Rattle.std.specs.Prelude.{slice_index}
 use Rattle.linker_section.proofs.Exact.{no_fault}
 use Rattle.linker_section.proofs.Faults.{first_fault}
 use Rattle.linker_section.proofs.Fielded.{are_written}
-use Rattle.linker_section.specs.Inner.Steps.{IsLimit}
 use Rattle.linker_section.proofs.sections.relocate_section.Goals as goal
-use Rattle.linker_section.proofs.sections.relocate_section.Goals.{then-is_ascending, else-is_ascending}
-
-pub write_values_of-requires-clause-limit : goal.write_values_of-requires-clause-limit
-write_values_of-requires-clause-limit c =
-    elim c.if-is_ascending.branch [
-      | then-is_ascending w ↦
-          subst (IsLimit c.args.architecture c.args.relocations.now c.args.section.now) (sym w.limit-is)
-          (c.is_ascending.ensures.0 w.if-is_ascending.true)
-      | else-is_ascending w ↦
-          subst (IsLimit c.args.architecture c.args.relocations.now c.args.section.now) (sym w.limit-is)
-          w.first_overlap.ensures
-    ]
 
 pub returns-in-Ok-clause-fields : goal.returns-in-Ok-clause-fields
 returns-in-Ok-clause-fields c =
     let small : (j : ℕ) → slice_index c.args.section.now j < 256 = λ j. search rules in
-    are_written c.args.architecture c.args.addresses.now c.args.relocations.now c.args.symbols.now c.args.section.now c.write_values_of.new.section small c.in-Ok.ensures.ok
+    are_written c.args.architecture c.args.addresses.now c.args.relocations.now c.args.symbols.now c.args.section.now c.write_values.new.section small c.in-Ok.ensures.ok
 
 pub returns-in-Ok-clause-exact : goal.returns-in-Ok-clause-exact
 returns-in-Ok-clause-exact c =
     let small : (j : ℕ) → slice_index c.args.section.now j < 256 = λ j. search rules in
-    let all = are_written c.args.architecture c.args.addresses.now c.args.relocations.now c.args.symbols.now c.args.section.now c.write_values_of.new.section small c.in-Ok.ensures.ok in
+    let all = are_written c.args.architecture c.args.addresses.now c.args.relocations.now c.args.symbols.now c.args.section.now c.write_values.new.section small c.in-Ok.ensures.ok in
     λ ascending. ((λ _. all.can), (λ _. refl))
 
 pub returns-in-Err-clause-fault : goal.returns-in-Err-clause-fault

@@ -1,5 +1,5 @@
 use Rattle.std.proofs.Common.{sym, subst}
-use Rattle.linker_section.proofs.Bytes.{says}
+use Rattle.linker_section.proofs.CodeNumbers.{says}
 use Rattle.linker_section.specs.Inner.Codes.{SaysNeeds}
 use Rattle.linker_utils.specs.Architectures.{IsRow}
 use Rattle.linker_section.proofs.values.value.Goals as goal
@@ -7,6 +7,6 @@ use Rattle.linker_section.proofs.values.value.Goals as goal
 pub value_of-requires : goal.value_of-requires
 value_of-requires c =
     let a = c.args in
-    subst (SaysNeeds c.byte_of.result) (sym c.info.ensures.row)
-    (says a.architecture a.relocation.now.code c.byte_of.result c.in-Some.row c.byte_of.ensures
+    subst (SaysNeeds c.number_of.result) (sym c.info.ensures.row)
+    (says a.architecture a.relocation.now.code c.number_of.result c.in-Some.row c.number_of.ensures
     (subst (IsRow a.architecture a.relocation.now.code) c.in-Some.is c.row.ensures))

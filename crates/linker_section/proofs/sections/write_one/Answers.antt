@@ -1,15 +1,12 @@
-use Rattle.std.proofs.Common.{◌≡◌, ◌+◌, ◌<◌, ◌≤◌, ◌/◌, ◌∙◌, refl, sym, ap, subst, arith, length, rules, FitsSigned, to_z, of_z, inl, inr, true, false, Ok, Err, None}
-use Rattle.std.proofs.lemmas.List.{length-set}
-use Rattle.linker_section.proofs.Stepping.{first_order, mark_order, mark_restores, one_order, one_restores, pair_order, pair_restores, apart_now, apart_next, overlap_now, after_last, stop, set_above}
+use Rattle.std.proofs.Common.{◌≡◌, ◌+◌, ◌<◌, ◌≤◌, ◌∙◌, refl, sym, ap, subst, arith, length, rules, FitsSigned, to_z, of_z, inl, inr, true, false, Ok, Err, None}
+use Rattle.linker_section.proofs.Stepping.{mark_order, mark_restores, one_order, one_restores, pair_order, pair_restores, apart_now, apart_next, overlap_now, stop, set_above}
 use Rattle.std.specs.Int.{w64}
 use Rattle.std.proofs.lemmas.Int.{to_z-of_z}
 use Rattle.std.proofs.Common.{◌^◌, set}
 use Rattle.std.specs.Prelude.{IfNone, IfSome}
 use Rattle.linker_elf.specs.Value.{sum_64}
 use Rattle.linker_section.proofs.Local.{pair_local}
-use Rattle.linker_section.proofs.All.{all_relocated}
 use Rattle.linker_section.proofs.Valued.{some_value}
-use Rattle.linker_section.specs.Fields.{AreApart}
 use Rattle.linker_section.specs.Inner.Saved.{IsSavedAt}
 use Rattle.linker_section.specs.Inner.Steps.{clear_in, field_of_row, IsInOrder, IsPairOutcome, IsStopped}
 use Rattle.linker_section.specs.Inner.Claims.{next_field}
@@ -18,54 +15,40 @@ use Rattle.linker_section.specs.declared.sections.RelocationError.TheVariants.{W
 use Rattle.linker_section.specs.Relocations.{relocation_in}
 use Rattle.linker_section.specs.Sections.{IsRowValue, HasValue, AreRelocated, IsWrittenAt, IsFirstRejected, BeginsPair}
 use Rattle.linker_section.specs.Values.{offset_at}
-use Rattle.linker_section.proofs.sections.write_values.Goals as goal
+use Rattle.linker_section.proofs.sections.write_one.Goals as goal
 
-pub loop-index-init : goal.loop-index-init
-loop-index-init c =
-    record {
-      within = omega arith;
-      relocated = AreRelocated.none;
-      restores = refl;
-      order = first_order c.args.limit c.args.architecture c.args.relocations.now c.args.section.now;
-      same_length = refl;
-      room = refl;
-    }
-
-pub loop-index-preserved-in-Ok-None : goal.loop-index-preserved-in-Ok-None
-loop-index-preserved-in-Ok-None c =
+pub returns-in-Ok-None-clause-step : goal.returns-in-Ok-None-clause-step
+returns-in-Ok-None-clause-step c before inv =
     let a = c.args in
-    let i = c.loop-index.index in
-    let inv = c.loop-index.invariant in
+    let i = a.index in
     let bytes = a.relocations.now in
-    let t = c.loop-index-test.true in let e = c.relocations_len-len.ensures in
-    let there : i < length bytes / 24 = omega (arith, t, e) in
-    let room = inv.room in let enough = c.requires.memory in
+    let there = c.requires.within in
+    let room = c.requires.room in
     let same = c.relocation_in-relocation.ensures in
     let value = subst (λ r. IsRowValue a.architecture a.addresses.now bytes a.symbols.now r (Ok None)) same
     (subst (IsRowValue a.architecture a.addresses.now bytes a.symbols.now c.relocation_in-relocation.result) (c.in-Ok-None.is ∙ ap Ok c.in-Ok-None.field-0-is) c.row_value.ensures) in
-    let saved = subst (λ r. IsSavedAt r.offset c.loop-index.section c.word_at.result) same c.word_at.ensures in
-    record {
-      within = omega (arith, there);
-      relocated = AreRelocated.mark inv.relocated value;
-      restores = mark_restores a.architecture a.addresses.now bytes c.loop-index.memory a.section.now c.loop-index.section a.symbols.now i c.word_at.result (omega (arith, there, room, enough)) value saved inv.restores;
-      order = mark_order a.limit a.architecture a.addresses.now bytes a.section.now c.loop-index.section a.symbols.now i c.loop-index.last c.requires.limit inv.order there value;
-      same_length = inv.same_length;
-      room = length-set c.loop-index.memory i c.word_at.result ∙ inv.room;
-    }
+    let saved = subst (λ r. IsSavedAt r.offset a.section.now c.word_at.result) same c.word_at.ensures in (
+      (omega arith),
+      record {
+        is_limit = inv.is_limit;
+        within = omega (arith, there);
+        relocated = AreRelocated.mark inv.relocated value;
+        restores = mark_restores a.architecture a.addresses.now bytes a.memory.now before a.section.now a.symbols.now i c.word_at.result (omega (arith, there, room)) value saved inv.restores;
+        order = mark_order a.limit a.architecture a.addresses.now bytes before a.section.now a.symbols.now i a.last inv.is_limit inv.order there value;
+        same_length = inv.same_length;
+      },
+    )
 
 pub is_clear-requires : goal.is_clear-requires
 is_clear-requires c =
     let a = c.args in
-    let i = c.loop-index.index in
-    let inv = c.loop-index.invariant in
+    let i = a.index in
     let bytes = a.relocations.now in
-    let section = c.loop-index.section in
-    let last = c.loop-index.last in
-    let memory = c.loop-index.memory in
-    let before = a.section.now in
-    let t = c.loop-index-test.true in let e = c.relocations_len-len.ensures in
-    let there : i < length bytes / 24 = omega (arith, t, e) in
-    let room = inv.room in let enough = c.requires.memory in
+    let section = a.section.now in
+    let last = a.last in
+    let memory = a.memory.now in
+    let there = c.requires.within in
+    let room = c.requires.room in
     let same = c.relocation_in-relocation.ensures in
     let saved = subst (λ r. IsSavedAt r.offset section c.word_at.result) same c.word_at.ensures in
     let found = c.in-Ok-Some.found in
@@ -78,21 +61,18 @@ is_clear-requires c =
     let field = field_of_row row (offset_at bytes i) section in
     let field_is : c.field_at-field.result ≡ field = c.field_at-field.ensures ∙ ap (λ r. field_of_row row r.offset section) same in
     subst (λ f. IfNone a.limit (last.offset ≤ f.offset)) (sym field_is)
-    (after_last a.limit a.architecture bytes before section i last inv.order there)
+    c.requires.after
 
-pub loop-index-preserved : goal.loop-index-preserved
-loop-index-preserved c =
+pub returns-clause-step : goal.returns-clause-step
+returns-clause-step c before inv =
     let a = c.args in
-    let i = c.loop-index.index in
-    let inv = c.loop-index.invariant in
+    let i = a.index in
     let bytes = a.relocations.now in
-    let section = c.loop-index.section in
-    let last = c.loop-index.last in
-    let memory = c.loop-index.memory in
-    let before = a.section.now in
-    let t = c.loop-index-test.true in let e = c.relocations_len-len.ensures in
-    let there : i < length bytes / 24 = omega (arith, t, e) in
-    let room = inv.room in let enough = c.requires.memory in
+    let section = a.section.now in
+    let last = a.last in
+    let memory = a.memory.now in
+    let there = c.requires.within in
+    let room = c.requires.room in
     let same = c.relocation_in-relocation.ensures in
     let saved = subst (λ r. IsSavedAt r.offset section c.word_at.result) same c.word_at.ensures in
     let found = c.in-Ok-Some.found in
@@ -109,30 +89,29 @@ loop-index-preserved c =
     let written = subst (λ v. IsWrittenAt row v (offset_at bytes i) section c.write_at.new.section (Ok tt)) (to_z-of_z w64 (found.1) fits)
     (subst (λ r. IsWrittenAt row (to_z w64 (of_z w64 (found.1))) r.offset section c.write_at.new.section (Ok tt)) same
     (subst (IsWrittenAt row (to_z w64 (of_z w64 (found.1))) c.relocation_in-relocation.result.offset section c.write_at.new.section) c.in_default-write_at.is c.write_at.ensures)) in
-    let local = written.same_length in
-    record {
-      within = omega (arith, there);
-      relocated = AreRelocated.one inv.relocated has written;
-      restores = one_restores a.architecture bytes memory before section c.write_at.new.section i c.word_at.result row (found.1) (omega (arith, there, room, enough)) has.is_row written saved inv.restores;
-      order = subst (IsInOrder a.limit a.architecture bytes before c.write_at.new.section (i + 1)) (sym (c.or-last.ensures ∙ ap (λ f. next_field f last) field_is))
-          (one_order a.limit a.architecture bytes before section c.write_at.new.section i last row (found.1) c.requires.limit inv.order there inv.same_length has.is_row some clear written);
-      same_length = local ∙ inv.same_length;
-      room = length-set memory i c.word_at.result ∙ inv.room;
-    }
+    let local = written.same_length in (
+      (omega arith),
+      record {
+        is_limit = inv.is_limit;
+        within = omega (arith, there);
+        relocated = AreRelocated.one inv.relocated has written;
+        restores = one_restores a.architecture bytes memory before section c.write_at.new.section i c.word_at.result row (found.1) (omega (arith, there, room)) has.is_row written saved inv.restores;
+        order = subst (IsInOrder a.limit a.architecture bytes before c.write_at.new.section (i + 1)) (sym (c.or-last.ensures ∙ ap (λ f. next_field f last) field_is))
+            (one_order a.limit a.architecture bytes before section c.write_at.new.section i last row (found.1) inv.is_limit inv.order there inv.same_length has.is_row some clear written);
+        same_length = local ∙ inv.same_length;
+      },
+    )
 
-pub returns-in-Err-clause-err : goal.returns-in-Err-clause-err
-returns-in-Err-clause-err c =
+pub returns-in-Err-clause-step : goal.returns-in-Err-clause-step
+returns-in-Err-clause-step c before inv =
     let a = c.args in
-    let i = c.loop-index.index in
-    let inv = c.loop-index.invariant in
+    let i = a.index in
     let bytes = a.relocations.now in
-    let section = c.loop-index.section in
-    let last = c.loop-index.last in
-    let memory = c.loop-index.memory in
-    let before = a.section.now in
-    let t = c.loop-index-test.true in let e = c.relocations_len-len.ensures in
-    let there : i < length bytes / 24 = omega (arith, t, e) in
-    let room = inv.room in let enough = c.requires.memory in
+    let section = a.section.now in
+    let last = a.last in
+    let memory = a.memory.now in
+    let there = c.requires.within in
+    let room = c.requires.room in
     let same = c.relocation_in-relocation.ensures in
     let saved = subst (λ r. IsSavedAt r.offset section c.word_at.result) same c.word_at.ensures in
     let value = subst (λ r. IsRowValue a.architecture a.addresses.now bytes a.symbols.now r (Err c.in-Err.error)) same
@@ -141,7 +120,7 @@ returns-in-Err-clause-err c =
     (set_above memory i i c.word_at.result (omega arith)) inv.restores
     (record {
       within = there;
-      apart = apart_now a.limit a.architecture bytes before section i last c.requires.limit inv.order;
+      apart = apart_now a.limit a.architecture bytes before section i last inv.is_limit inv.order;
       written = i;
       is_next = inl refl;
       now = section;
@@ -149,19 +128,16 @@ returns-in-Err-clause-err c =
       cause = value;
     })
 
-pub returns-then-not-is_clear-clause-err : goal.returns-then-not-is_clear-clause-err
-returns-then-not-is_clear-clause-err c =
+pub returns-then-not-is_clear-clause-step : goal.returns-then-not-is_clear-clause-step
+returns-then-not-is_clear-clause-step c before inv =
     let a = c.args in
-    let i = c.loop-index.index in
-    let inv = c.loop-index.invariant in
+    let i = a.index in
     let bytes = a.relocations.now in
-    let section = c.loop-index.section in
-    let last = c.loop-index.last in
-    let memory = c.loop-index.memory in
-    let before = a.section.now in
-    let t = c.loop-index-test.true in let e = c.relocations_len-len.ensures in
-    let there : i < length bytes / 24 = omega (arith, t, e) in
-    let room = inv.room in let enough = c.requires.memory in
+    let section = a.section.now in
+    let last = a.last in
+    let memory = a.memory.now in
+    let there = c.requires.within in
+    let room = c.requires.room in
     let same = c.relocation_in-relocation.ensures in
     let saved = subst (λ r. IsSavedAt r.offset section c.word_at.result) same c.word_at.ensures in
     let found = c.in-Ok-Some.found in
@@ -179,27 +155,24 @@ returns-then-not-is_clear-clause-err c =
     (set_above memory i i c.word_at.result (omega arith)) inv.restores
     (record {
       within = there;
-      apart = apart_now a.limit a.architecture bytes before section i last c.requires.limit inv.order;
+      apart = apart_now a.limit a.architecture bytes before section i last inv.is_limit inv.order;
       written = i;
       is_next = inl refl;
       now = section;
       relocated = inv.relocated;
-      cause = overlap_now a.limit a.architecture bytes before section i last row c.requires.limit inv.order there inv.same_length has.is_row some unclear;
+      cause = overlap_now a.limit a.architecture bytes before section i last row inv.is_limit inv.order there inv.same_length has.is_row some unclear;
     })
 
 pub relocate_pair-requires-clause-value : goal.relocate_pair-requires-clause-value
 relocate_pair-requires-clause-value c =
     let a = c.args in
-    let i = c.loop-index.index in
-    let inv = c.loop-index.invariant in
+    let i = a.index in
     let bytes = a.relocations.now in
-    let section = c.loop-index.section in
-    let last = c.loop-index.last in
-    let memory = c.loop-index.memory in
-    let before = a.section.now in
-    let t = c.loop-index-test.true in let e = c.relocations_len-len.ensures in
-    let there : i < length bytes / 24 = omega (arith, t, e) in
-    let room = inv.room in let enough = c.requires.memory in
+    let section = a.section.now in
+    let last = a.last in
+    let memory = a.memory.now in
+    let there = c.requires.within in
+    let room = c.requires.room in
     let same = c.relocation_in-relocation.ensures in
     let saved = subst (λ r. IsSavedAt r.offset section c.word_at.result) same c.word_at.ensures in
     let found = c.in-Ok-Some.found in
@@ -211,19 +184,16 @@ relocate_pair-requires-clause-value c =
     let fits : FitsSigned w64 (found.1) = search rules in
     (row, subst (HasValue a.architecture a.addresses.now bytes a.symbols.now (relocation_in bytes i) row) (sym (to_z-of_z w64 (found.1) fits)) has)
 
-pub returns-in-Err-write_at-clause-err : goal.returns-in-Err-write_at-clause-err
-returns-in-Err-write_at-clause-err c =
+pub returns-in-Err-write_at-clause-step : goal.returns-in-Err-write_at-clause-step
+returns-in-Err-write_at-clause-step c before inv =
     let a = c.args in
-    let i = c.loop-index.index in
-    let inv = c.loop-index.invariant in
+    let i = a.index in
     let bytes = a.relocations.now in
-    let section = c.loop-index.section in
-    let last = c.loop-index.last in
-    let memory = c.loop-index.memory in
-    let before = a.section.now in
-    let t = c.loop-index-test.true in let e = c.relocations_len-len.ensures in
-    let there : i < length bytes / 24 = omega (arith, t, e) in
-    let room = inv.room in let enough = c.requires.memory in
+    let section = a.section.now in
+    let last = a.last in
+    let memory = a.memory.now in
+    let there = c.requires.within in
+    let room = c.requires.room in
     let same = c.relocation_in-relocation.ensures in
     let saved = subst (λ r. IsSavedAt r.offset section c.word_at.result) same c.word_at.ensures in
     let found = c.in-Ok-Some.found in
@@ -248,30 +218,27 @@ returns-in-Err-write_at-clause-err c =
     (set_above memory i i c.word_at.result (omega arith)) inv.restores
     (record {
       within = there;
-      apart = apart_now a.limit a.architecture bytes before section i last c.requires.limit inv.order;
+      apart = apart_now a.limit a.architecture bytes before section i last inv.is_limit inv.order;
       written = i;
       is_next = inl refl;
       now = section;
       relocated = inv.relocated;
       cause = (
-        apart_next a.limit a.architecture bytes before section i last row c.requires.limit inv.order there inv.same_length has.is_row some clear,
+        apart_next a.limit a.architecture bytes before section i last row inv.is_limit inv.order there inv.same_length has.is_row some clear,
         record { row = row; value = found.1; has_value = has; rejected = rejected.0; alone = alone },
       );
     }))
 
-pub loop-index-preserved-in-Some : goal.loop-index-preserved-in-Some
-loop-index-preserved-in-Some c =
+pub returns-in-Some-clause-step : goal.returns-in-Some-clause-step
+returns-in-Some-clause-step c before inv =
     let a = c.args in
-    let i = c.loop-index.index in
-    let inv = c.loop-index.invariant in
+    let i = a.index in
     let bytes = a.relocations.now in
-    let section = c.loop-index.section in
-    let last = c.loop-index.last in
-    let memory = c.loop-index.memory in
-    let before = a.section.now in
-    let t = c.loop-index-test.true in let e = c.relocations_len-len.ensures in
-    let there : i < length bytes / 24 = omega (arith, t, e) in
-    let room = inv.room in let enough = c.requires.memory in
+    let section = a.section.now in
+    let last = a.last in
+    let memory = a.memory.now in
+    let there = c.requires.within in
+    let room = c.requires.room in
     let same = c.relocation_in-relocation.ensures in
     let saved = subst (λ r. IsSavedAt r.offset section c.word_at.result) same c.word_at.ensures in
     let found = c.in-Ok-Some.found in
@@ -291,30 +258,29 @@ loop-index-preserved-in-Some c =
     let local = pair_local a.architecture a.addresses.now bytes a.symbols.now (relocation_in bytes i) (relocation_in bytes (i + 1)) section c.relocate_pair.new.section written in
     let saved_next = subst (λ r. IsSavedAt (sum_64 r.offset 8) section c.word_at-in-Some.result) same c.word_at-in-Some.ensures in
     let long : length section < 2 ^ 63 = search rules in
-    let under = pair.within in
-    record {
-      within = omega (arith, under);
-      relocated = AreRelocated.pair inv.relocated written;
-      restores = pair_restores a.architecture a.addresses.now bytes memory before section c.relocate_pair.new.section a.symbols.now i c.word_at.result c.word_at-in-Some.result row (omega (arith, under, room, enough)) long has.is_row pair written saved saved_next inv.restores;
-      order = subst (IsInOrder a.limit a.architecture bytes before c.relocate_pair.new.section (i + 2)) (sym (c.or-last.ensures ∙ ap (λ f. next_field f last) field_is))
-          (pair_order a.limit a.architecture a.addresses.now bytes before section c.relocate_pair.new.section a.symbols.now i last row c.requires.limit inv.order there inv.same_length has.is_row some clear pair written);
-      same_length = local.same_length ∙ inv.same_length;
-      room = length-set (set memory i c.word_at.result) (i + 1) c.word_at-in-Some.result ∙ (length-set memory i c.word_at.result ∙ inv.room);
-    }
+    let under = pair.within in (
+      (omega arith),
+      record {
+        is_limit = inv.is_limit;
+        within = omega (arith, under);
+        relocated = AreRelocated.pair inv.relocated written;
+        restores = pair_restores a.architecture a.addresses.now bytes memory before section c.relocate_pair.new.section a.symbols.now i c.word_at.result c.word_at-in-Some.result row (omega (arith, under, room)) long has.is_row pair written saved saved_next inv.restores;
+        order = subst (IsInOrder a.limit a.architecture bytes before c.relocate_pair.new.section (i + 2)) (sym (c.or-last.ensures ∙ ap (λ f. next_field f last) field_is))
+            (pair_order a.limit a.architecture a.addresses.now bytes before section c.relocate_pair.new.section a.symbols.now i last row inv.is_limit inv.order there inv.same_length has.is_row some clear pair written);
+        same_length = local.same_length ∙ inv.same_length;
+      },
+    )
 
-pub returns-in-Err-relocate_pair-clause-err : goal.returns-in-Err-relocate_pair-clause-err
-returns-in-Err-relocate_pair-clause-err c =
+pub returns-in-Err-relocate_pair-clause-step : goal.returns-in-Err-relocate_pair-clause-step
+returns-in-Err-relocate_pair-clause-step c before inv =
     let a = c.args in
-    let i = c.loop-index.index in
-    let inv = c.loop-index.invariant in
+    let i = a.index in
     let bytes = a.relocations.now in
-    let section = c.loop-index.section in
-    let last = c.loop-index.last in
-    let memory = c.loop-index.memory in
-    let before = a.section.now in
-    let t = c.loop-index-test.true in let e = c.relocations_len-len.ensures in
-    let there : i < length bytes / 24 = omega (arith, t, e) in
-    let room = inv.room in let enough = c.requires.memory in
+    let section = a.section.now in
+    let last = a.last in
+    let memory = a.memory.now in
+    let there = c.requires.within in
+    let room = c.requires.room in
     let same = c.relocation_in-relocation.ensures in
     let saved = subst (λ r. IsSavedAt r.offset section c.word_at.result) same c.word_at.ensures in
     let found = c.in-Ok-Some.found in
@@ -333,7 +299,7 @@ returns-in-Err-relocate_pair-clause-err c =
     let under = pair.within in
     let outcome = subst (IsPairOutcome a.architecture a.addresses.now bytes a.symbols.now i section c.relocate_pair.new.section) c.in-Err-relocate_pair.is c.relocate_pair.ensures in
     let stopped : Stopped = record { count = i; error = c.in-Err-relocate_pair.error } in
-    let next = apart_next a.limit a.architecture bytes before section i last row c.requires.limit inv.order there inv.same_length has.is_row some clear in
+    let next = apart_next a.limit a.architecture bytes before section i last row inv.is_limit inv.order there inv.same_length has.is_row some clear in
     subst (λ now. IsStopped a.architecture a.addresses.now bytes a.symbols.now before now (set (set memory i c.word_at.result) (i + 1) c.word_at-in-Some.result) stopped) (sym (outcome.0))
     (stop a.architecture a.addresses.now bytes before section memory _ a.symbols.now i _ inv.within
     (λ j below. set_above (set memory i c.word_at.result) i (i + 1) c.word_at-in-Some.result (omega arith) j below ∙ set_above memory i i c.word_at.result (omega arith) j below) inv.restores
@@ -351,7 +317,7 @@ returns-in-Err-relocate_pair-clause-err c =
       | inr number ↦ subst (IsFirstRejected a.architecture a.addresses.now bytes a.symbols.now before) (sym (number.1))
           (record {
             within = there;
-            apart = apart_now a.limit a.architecture bytes before section i last c.requires.limit inv.order;
+            apart = apart_now a.limit a.architecture bytes before section i last inv.is_limit inv.order;
             written = i;
             is_next = inl refl;
             now = section;
@@ -359,16 +325,3 @@ returns-in-Err-relocate_pair-clause-err c =
             cause = (next, number.2);
           })
     ]))
-
-pub returns-clause-ok : goal.returns-clause-ok
-returns-clause-ok c =
-    let a = c.args in
-    let inv = c.loop-index.invariant in
-    let bytes = a.relocations.now in
-    let f = c.loop-index-test.false in let e = c.relocations_len-len.ensures in
-    let within = inv.within in
-    let all : c.loop-index.index ≡ length bytes / 24 = omega (arith, f, e, within) in
-    all_relocated a.architecture a.addresses.now bytes a.section.now c.loop-index.section a.symbols.now
-    (subst (AreApart a.architecture bytes a.section.now) all
-    (apart_now a.limit a.architecture bytes a.section.now c.loop-index.section c.loop-index.index c.loop-index.last c.requires.limit inv.order))
-    (subst (λ n. AreRelocated a.architecture a.addresses.now bytes a.symbols.now a.section.now n c.loop-index.section) all inv.relocated)

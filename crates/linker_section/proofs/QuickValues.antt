@@ -1,0 +1,143 @@
+-- Values that are found by the numbers of codes.
+use Rattle.std.proofs.Common.{◌≡◌, ℕ, ℤ, ◌<◌, ◌/◌, Bool, true, false, eqb, List, length, Option, Some, None, Result, Ok, Err, refl, sym, ap, subst, ◌∙◌}
+use Rattle.std.specs.Prelude.{IfSome}
+use Rattle.std.proofs.lemmas.Bool.{cond-true, ltb-true, lt-ltb, or_left, or_right}
+use Rattle.linker_elf.specs.Relocate.{window_len}
+use Rattle.linker_elf.specs.Value.{difference_64, value_of}
+use Rattle.linker_elf.specs.declared.elf.RelocationKind.TheVariants as kinds
+use Rattle.linker_elf.specs.declared.elf.RelocationKindInfo.{RelocationKindInfo}
+use Rattle.linker_elf.specs.declared.elf.value.Operands.{Operands}
+use Rattle.linker_section.specs.Fields.{is_of_pair}
+use Rattle.linker_section.specs.Inner.Codes.{When, SaysWay, is_plain, is_high, is_low, is_quick}
+use Rattle.linker_section.specs.Inner.Quick.{IsPlainValue, IsQuickValue, IsHighValue, HasHighValue}
+use Rattle.linker_section.specs.Relocations.{relocation_in}
+use Rattle.linker_section.specs.Values.{has_value, names_label, is_high_part, operands_of, value_by, own_value, low_by, low_value, low_operands, offset_at, IsHighPart, IsHighPartAt, IsValueBy, IsLowValue}
+use Rattle.linker_section.specs.declared.facts.Addresses.{Addresses}
+use Rattle.linker_section.specs.declared.facts.Symbol.{Symbol}
+use Rattle.linker_section.specs.declared.quick.HighPart.{HighPart}
+use Rattle.linker_section.specs.declared.relocations.Rela.{Rela}
+use Rattle.linker_section.specs.declared.values.ValueError.{ValueError}
+use Rattle.linker_utils.specs.Architectures.{IsRow}
+use Rattle.linker_utils.specs.declared.elf.Architecture.{Architecture}
+
+pub when_true : {A : Type 0} (test : Bool) (x y : A) → When test x y → test ≡ true → x ≡ y
+when_true test x y is holds = sym (cond-true test x y holds) ∙ is
+
+-- ---- a plain relocation
+
+pub plain_some : (architecture : Architecture) (addresses : Addresses) (symbols : List Symbol)
+    (row : RelocationKindInfo) (r : Rela) (operands : Operands) (value : Option ℤ)
+    → operands_of architecture addresses symbols row r ≡ Ok operands
+    → value_of row operands ≡ value
+    → IfSome value (IsPlainValue architecture addresses symbols row r)
+plain_some architecture addresses symbols row r operands None found is = tt
+plain_some architecture addresses symbols row r operands (Some v) found is =
+    record { operands = operands; found = found; value_is = is }
+
+pub plain_quick : (architecture : Architecture) (addresses : Addresses) (bytes : List ℕ)
+    (symbols : List Symbol) (r : Rela) (row : RelocationKindInfo) (number : ℕ) (v : ℤ)
+    → IsRow architecture r.code (Some row) → SaysWay architecture r.code number row
+    → is_plain number ≡ true → IsPlainValue architecture addresses symbols row r v
+    → IsQuickValue architecture addresses bytes symbols r row v
+plain_quick architecture addresses bytes symbols r row number v is_row way plain value =
+    let quick : is_quick number ≡ true = or_left (is_plain number) (is_low number) plain in
+    let valued = when_true (is_quick number) (has_value row.kind) true way.has_value quick in
+    let label = when_true (is_plain number) (names_label row.size row.kind) false way.unlabelled plain in
+    let own : Ok (Some v) ≡ own_value architecture addresses symbols row r =
+    sym (cond-true (has_value row.kind) _ (Ok None) valued ∙ (ap (value_by row) value.found ∙ ap Ok value.value_is)) in
+    record {
+      has = record {
+        is_row = is_row;
+        is_value = subst (λ b. IsValueBy b architecture addresses bytes symbols row r (Ok (Some v))) (sym label) own;
+      };
+      valued = valued;
+      single = when_true (is_quick number) (is_of_pair row) false way.single quick;
+      some = ltb-true 0 (window_len row) (when_true (is_quick number) _ true way.some quick);
+    }
+
+-- ---- a low part of RISC-V
+
+pub low_quick : (architecture : Architecture) (addresses : Addresses) (bytes : List ℕ)
+    (symbols : List Symbol) (r : Rela) (row : RelocationKindInfo) (number : ℕ) (v : ℤ)
+    (high : Option HighPart) → IsRow architecture r.code (Some row)
+    → SaysWay architecture r.code number row → is_low number ≡ true
+    → IfSome high (IsHighValue architecture addresses bytes symbols)
+    → HasHighValue addresses symbols r high v
+    → IsQuickValue architecture addresses bytes symbols r row v
+low_quick architecture addresses bytes symbols r row number v high is_row way low highs value =
+    let quick : is_quick number ≡ true = or_right (is_plain number) (is_low number) low in
+    let part = subst (λ x. IfSome x (IsHighValue architecture addresses bytes symbols)) value.is_part highs in
+    let kind = when_true (is_low number) row.kind kinds.RelativeRiscVLow12 way.labelled low in
+    let label : names_label row.size row.kind ≡ true = ap (names_label row.size) kind in
+    let found : Option (Rela × RelocationKindInfo) = Some (part.r, part.row) in
+    let distance = difference_64 value.label.address addresses.section in
+    let at : IsHighPartAt architecture bytes row.kind distance found =
+    subst (λ k. IsHighPartAt architecture bytes k distance found) (sym kind)
+    (subst (λ o. IsHighPart architecture bytes kinds.RelativeRiscVLow12 o part.r part.row) (sym value.offset_is) part.part) in
+    let is : Ok (Some v) ≡ low_value architecture addresses symbols row found =
+    sym (ap (low_by row part.row) part.found
+    ∙ ap Ok (when_true (is_low number) _ _ (way.low_value (low_operands part.row part.operands)) low
+    ∙ (part.low ∙ ap Some (sym value.value_is)))) in
+    record {
+      has = record {
+        is_row = is_row;
+        is_value = subst (λ b. IsValueBy b architecture addresses bytes symbols row r (Ok (Some v))) (sym label)
+            (subst (λ l. IsLowValue architecture addresses bytes symbols row l (Ok (Some v))) (sym value.is_label) (found, at, is));
+      };
+      valued = when_true (is_quick number) (has_value row.kind) true way.has_value quick;
+      single = when_true (is_quick number) (is_of_pair row) false way.single quick;
+      some = ltb-true 0 (window_len row) (when_true (is_quick number) _ true way.some quick);
+    }
+
+-- ---- a high part of RISC-V
+
+value_or_none : Result (Option ℤ) ValueError → Option ℤ
+value_or_none (Ok value) = value
+value_or_none (Err error) = None
+
+abbrev IsSomeInt : Option ℤ → Type 0
+IsSomeInt None = ⊥
+IsSomeInt (Some v) = Unit
+
+operands_found : (row : RelocationKindInfo) (v : ℤ) (operands : Result Operands ValueError)
+    → value_by row operands ≡ Ok (Some v)
+    → (found : Operands) × (operands ≡ Ok found) × (value_of row found ≡ Some v)
+unfolding value_or_none
+operands_found row v (Ok found) is = (found, refl, ap value_or_none is)
+operands_found row v (Err error) is = absurd (subst (λ x. IsSomeInt x) (sym (ap value_or_none is)) tt)
+
+pub high_is : (architecture : Architecture) (addresses : Addresses) (bytes : List ℕ)
+    (symbols : List Symbol) (i : ℕ) (row : RelocationKindInfo) (number offset : ℕ) (v : ℤ)
+    → i < length bytes / 24 → offset ≡ offset_at bytes i
+    → SaysWay architecture (relocation_in bytes i).code number row → is_high number ≡ true
+    → IsQuickValue architecture addresses bytes symbols (relocation_in bytes i) row v
+    → IsHighValue architecture addresses bytes symbols (record { offset = offset; value = v })
+high_is architecture addresses bytes symbols i row number offset v there same way high value =
+    let r = relocation_in bytes i in
+    let plain : is_plain number ≡ true = or_right (eqb (number / 256) 1) (is_high number) high in
+    let label = when_true (is_plain number) (names_label row.size row.kind) false way.unlabelled plain in
+    let own : Ok (Some v) ≡ own_value architecture addresses symbols row r =
+    subst (λ b. IsValueBy b architecture addresses bytes symbols row r (Ok (Some v))) label value.has.is_value in
+    let found = operands_found row v (operands_of architecture addresses symbols row r)
+    (sym (own ∙ cond-true (has_value row.kind) _ (Ok None) value.valued)) in
+    record {
+      r = r;
+      row = row;
+      part = record {
+        index = i;
+        is_there = cond-true _ (Some r) None (lt-ltb i (length bytes / 24) there);
+        offset_is = sym same;
+        row_is = value.has.is_row;
+        is_high = when_true (is_high number) (is_high_part kinds.RelativeRiscVLow12 (Some row)) true way.high high;
+      };
+      operands = found.0;
+      found = found.1;
+      low = when_true (is_high number) _ _ (way.high_value (found.0)) high ∙ found.2;
+    }
+
+-- ---- where there is a value
+
+pub if_some : {A : Type 0} {P Q : A → Type 0} (x : Option A) → ((v : A) → P v → Q v) → IfSome x P
+    → IfSome x Q
+if_some None f is = tt
+if_some (Some v) f is = f v is

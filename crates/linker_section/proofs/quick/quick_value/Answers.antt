@@ -1,0 +1,34 @@
+use Rattle.std.proofs.Common.{◌≡◌, ◌∙◌, ◌/◌, rules, sym, true}
+use Rattle.std.proofs.lemmas.Bool.{eq-eqb}
+use Rattle.linker_section.proofs.CodeNumbers.{says, says_way}
+use Rattle.linker_section.proofs.QuickValues.{if_some, plain_quick, low_quick}
+use Rattle.linker_section.specs.Inner.Codes.{is_plain, is_low}
+use Rattle.linker_section.proofs.quick.quick_value.Goals as goal
+
+pub plain_value-requires-clause-needs : goal.plain_value-requires-clause-needs
+plain_value-requires-clause-needs c =
+    let a = c.args in
+    says a.architecture a.relocation.now.code a.number a.row.now c.requires.number c.requires.row
+
+pub plain_value-requires-clause-way : goal.plain_value-requires-clause-way
+plain_value-requires-clause-way c =
+    let a = c.args in
+    says_way a.architecture a.relocation.now.code a.number a.row.now c.requires.number c.requires.row
+
+pub returns-then-way-eq-HIGH : goal.returns-then-way-eq-HIGH
+returns-then-way-eq-HIGH c =
+    let a = c.args in
+    let way = says_way a.architecture a.relocation.now.code a.number a.row.now c.requires.number c.requires.row in
+    let plain : is_plain a.number ≡ true = search rules in
+    if_some c.plain_value.result
+    (λ v is. plain_quick a.architecture a.addresses.now a._relocations.now a.symbols.now a.relocation.now a.row.now a.number v c.requires.row way plain is)
+    c.plain_value.ensures
+
+pub returns-then-matches : goal.returns-then-matches
+returns-then-matches c =
+    let a = c.args in
+    let way = says_way a.architecture a.relocation.now.code a.number a.row.now c.requires.number c.requires.row in
+    let low : is_low a.number ≡ true = eq-eqb (a.number / 256) 3 (sym c.way_of-way.ensures ∙ c.if-way-eq-LOW.true) in
+    if_some c.value_of_high.result
+    (λ v is. low_quick a.architecture a.addresses.now a._relocations.now a.symbols.now a.relocation.now a.row.now a.number v a.high c.requires.row way low c.requires.high is)
+    c.value_of_high.ensures

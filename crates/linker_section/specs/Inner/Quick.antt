@@ -1,0 +1,62 @@
+-- Values that are found by the numbers of codes, with few tests.
+use Rattle.std.specs.Prelude.{◌≡◌, ℕ, ◌<◌, true, false, ℤ, List, slice_get, Option, Some, None, Ok, ⊤}
+use Rattle.linker_elf.specs.Relocate.{window_len}
+use Rattle.linker_elf.specs.Value.{difference_64, value_of}
+use Rattle.linker_elf.specs.declared.elf.RelocationKind.TheVariants.{RelativeRiscVLow12}
+use Rattle.linker_elf.specs.declared.elf.RelocationKindInfo.{RelocationKindInfo}
+use Rattle.linker_elf.specs.declared.elf.value.Operands.{Operands}
+use Rattle.linker_section.specs.Fields.{is_of_pair}
+use Rattle.linker_section.specs.Inner.Codes.{IsNumberOf, low_result}
+use Rattle.linker_section.specs.Sections.{HasValue}
+use Rattle.linker_section.specs.Values.{has_value, low_operands, operands_of, IsHighPart}
+use Rattle.linker_section.specs.declared.facts.Addresses.{Addresses}
+use Rattle.linker_section.specs.declared.facts.Symbol.{Symbol}
+use Rattle.linker_section.specs.declared.quick.HighPart.{HighPart}
+use Rattle.linker_section.specs.declared.relocations.Rela.{Rela}
+use Rattle.linker_utils.specs.Architectures.{IsRow}
+use Rattle.linker_utils.specs.declared.elf.Architecture.{Architecture}
+
+-- a row and a number are those of a code
+pub record AreOf (architecture : Architecture) (code : ℕ) (found : RelocationKindInfo × ℕ)
+    : Type 0 where
+  pub is_row : IsRow architecture code (Some (found.0))
+  pub is_number : IsNumberOf architecture code (found.1)
+
+abbrev pub IsLookedUp : Architecture → ℕ → Option (RelocationKindInfo × ℕ) → Type 0
+IsLookedUp architecture code None = ⊤
+IsLookedUp architecture code (Some found) = AreOf architecture code found
+
+-- the operands of a relocation give a value
+pub record IsPlainValue (architecture : Architecture) (addresses : Addresses)
+    (symbols : List Symbol) (row : RelocationKindInfo) (r : Rela) (v : ℤ) : Type 0 where
+  pub operands : Operands
+  pub found : operands_of architecture addresses symbols row r ≡ Ok operands
+  pub value_is : value_of row operands ≡ Some v
+
+-- the value of a relocation that has a field of its own
+pub record IsQuickValue (architecture : Architecture) (addresses : Addresses) (bytes : List ℕ)
+    (symbols : List Symbol) (r : Rela) (row : RelocationKindInfo) (v : ℤ) : Type 0 where
+  pub has : HasValue architecture addresses bytes symbols r row v
+  pub valued : has_value row.kind ≡ true
+  pub single : is_of_pair row ≡ false
+  pub some : 0 < window_len row
+
+-- the value that low parts take of a high part among a section's relocations
+pub record IsHighValue (architecture : Architecture) (addresses : Addresses) (bytes : List ℕ)
+    (symbols : List Symbol) (high : HighPart) : Type 0 where
+  pub r : Rela
+  pub row : RelocationKindInfo
+  pub part : IsHighPart architecture bytes RelativeRiscVLow12 high.offset r row
+  pub operands : Operands
+  pub found : operands_of architecture addresses symbols row r ≡ Ok operands
+  pub low : low_result (low_operands row operands) ≡ Some high.value
+
+-- a value is that of a high part which the symbol of a relocation labels
+pub record HasHighValue (addresses : Addresses) (symbols : List Symbol) (r : Rela)
+    (high : Option HighPart) (v : ℤ) : Type 0 where
+  pub label : Symbol
+  pub is_label : slice_get symbols r.symbol ≡ Some label
+  pub part : HighPart
+  pub is_part : high ≡ Some part
+  pub offset_is : difference_64 label.address addresses.section ≡ part.offset
+  pub value_is : v ≡ part.value

@@ -1,0 +1,294 @@
+//! The values of most relocations, by the numbers of their codes.
+//!
+//! Few tests find them, so that a section's values take little more time than the formulas. Where
+//! these return nothing, `value_of` says what the value is, and why there is none.
+
+ghost use Rattle.std.specs.Prelude.{◌≡◌, ◌&&◌, ◌==◌, ◌%◌, ◌/◌, ◌<◌, true, length, Some, IfSome};
+ghost use Rattle.linker_section.specs.Inner.Codes.{class_by, entry_by, is_plain, is_ppc64};
+ghost use Rattle.linker_section.specs.Inner.Codes.{IsNumberOf, SaysNeeds, SaysWay};
+ghost use Rattle.linker_section.specs.Inner.Quick.{IsLookedUp, IsHighValue, HasHighValue};
+ghost use Rattle.linker_section.specs.Inner.Quick.{IsPlainValue, IsQuickValue};
+ghost use Rattle.linker_section.specs.Needed.{entry_of};
+ghost use Rattle.linker_section.specs.Relocations.{relocation_in};
+ghost use Rattle.linker_section.specs.Values.{address_of, entry_address, is_ppc64_branch};
+ghost use Rattle.linker_section.specs.Values.{offset_at, operands_with, target_of};
+ghost use Rattle.linker_utils.specs.Architectures.{IsRow};
+
+use crate::codes::{HIGH, LOW, NO_ENTRY, PLAIN, number_of, way_of};
+use crate::facts::{Addresses, Symbol};
+use crate::needed::entry_by;
+use crate::relocations::{Rela, relocation_in, relocations_len};
+use crate::values::{entry_address, local_entry, target_of};
+use linker_utils::elf::{Architecture, Operands, Row};
+
+/// A high part of RISC-V, whose value low parts take.
+#[derive(Clone, Copy)]
+pub(crate) struct HighPart {
+    /// Its offset.
+    pub(crate) offset: u64,
+    /// Its value.
+    pub(crate) value: i64,
+}
+
+/// The row and the number of a code.
+#[inline(always)]
+fn look_up(architecture: Architecture, code: u32) -> Option<(Row, u16)>
+    ensures { IsLookedUp architecture code result }
+{
+    match architecture.row(code) {
+        Some(row) => Some((row, number_of(architecture, code))),
+        None => None,
+    }
+}
+
+/// Those of the relocation at an index; none behind the last one.
+#[inline(always)]
+pub(crate) fn look_up_at(
+    architecture: Architecture,
+    relocations: &[u8],
+    index: usize,
+) -> Option<(Row, u16)>
+    ensures { IsLookedUp architecture (relocation_in relocations.now index).code result }
+{
+    if index < relocations_len(relocations) {
+        look_up(architecture, relocation_in(relocations, index).code)
+    } else {
+        None
+    }
+}
+
+/// The address of a symbol's entry that the number of a code says. By itself, since most relocations
+/// have none.
+#[inline(never)]
+fn address_of_entry(addresses: &Addresses, symbol: &Symbol, number: u16, addend: i64) -> Option<u64>
+    ensures { result ≡ entry_address addresses.now symbol.now
+        (entry_by number addend (class_by (number % 8) symbol.now.is_thread_local)) }
+{
+    entry_address(
+        addresses,
+        symbol,
+        entry_by(number, addend, symbol.is_thread_local),
+    )
+}
+
+/// The address of the entry that a relocation requires; 0 where it requires none. Only the contract
+/// uses `_row`.
+#[inline(always)]
+fn required_address(
+    addresses: &Addresses,
+    symbol: &Symbol,
+    number: u16,
+    addend: i64,
+    _row: &Row,
+) -> Option<u64>
+    requires { SaysNeeds number _row.now }
+    ensures { result ≡ entry_address addresses.now symbol.now
+        (entry_of _row.now addend symbol.now.is_thread_local) }
+{
+    if number % 8 == NO_ENTRY {
+        Some(0)
+    } else {
+        address_of_entry(addresses, symbol, number, addend)
+    }
+}
+
+/// A symbol's address, or where PowerPC64's branches go. Only the contract uses `_row`.
+#[inline(always)]
+fn own_address(architecture: Architecture, number: u16, symbol: &Symbol, _row: &Row) -> u64
+    requires { is_ppc64_branch _row.now.size ≡ (is_ppc64 architecture && (number / 16 % 2 == 1)) }
+    ensures { result ≡ address_of _row.now symbol.now }
+{
+    if matches!(architecture, Architecture::Ppc64) && number / 16 % 2 == 1 {
+        symbol.address.wrapping_add(local_entry(symbol.other))
+    } else {
+        symbol.address
+    }
+}
+
+/// `target_of`, where a symbol has a stub or may be undefined. By itself, since most have none.
+#[inline(never)]
+fn other_target(
+    architecture: Architecture,
+    addresses: &Addresses,
+    number: u16,
+    row: &Row,
+    symbol: &Symbol,
+    place: u64,
+) -> u64
+    requires { SaysNeeds number row.now }
+    ensures { result ≡ target_of architecture addresses.now row.now symbol.now place }
+{
+    target_of(architecture, addresses, number, &row.info(), symbol, place)
+}
+
+/// The same of any symbol.
+#[inline(always)]
+fn quick_target(
+    architecture: Architecture,
+    addresses: &Addresses,
+    number: u16,
+    row: &Row,
+    symbol: &Symbol,
+    place: u64,
+) -> u64
+    requires needs { SaysNeeds number row.now }
+    requires branch { is_ppc64_branch row.now.size
+        ≡ (is_ppc64 architecture && (number / 16 % 2 == 1)) }
+    ensures { result ≡ target_of architecture addresses.now row.now symbol.now place }
+{
+    if symbol.stub != 0 || symbol.is_undefined_weak {
+        other_target(architecture, addresses, number, row, symbol, place)
+    } else {
+        own_address(architecture, number, symbol, row)
+    }
+}
+
+/// The operands of a plain relocation's formula, with the address of the entry that it requires.
+#[inline(always)]
+fn plain_operands(
+    architecture: Architecture,
+    addresses: &Addresses,
+    number: u16,
+    row: &Row,
+    symbol: &Symbol,
+    relocation: &Rela,
+    entry: u64,
+) -> Operands
+    requires needs { SaysNeeds number row.now }
+    requires way { SaysWay architecture relocation.now.code number row.now }
+    requires plain { is_plain number ≡ true }
+    ensures { result
+        ≡ operands_with architecture addresses.now row.now symbol.now relocation.now entry }
+{
+    let place = addresses.section.wrapping_add(relocation.offset);
+    let target = quick_target(architecture, addresses, number, row, symbol, place);
+    Operands {
+        symbol: target,
+        addend: relocation.addend,
+        place,
+        got_entry: entry,
+        got_base: addresses.got_base,
+        plt_entry: target,
+        symbol_size: symbol.size,
+        tls_base: addresses.module_origin,
+    }
+}
+
+/// The value of a plain relocation; none where its symbol or its entry isn't there.
+#[inline(always)]
+fn plain_value(
+    architecture: Architecture,
+    addresses: &Addresses,
+    symbols: &[Symbol],
+    number: u16,
+    row: &Row,
+    relocation: &Rela,
+) -> Option<i64>
+    requires needs { SaysNeeds number row.now }
+    requires way { SaysWay architecture relocation.now.code number row.now }
+    requires plain { is_plain number ≡ true }
+    ensures { IfSome result (IsPlainValue architecture addresses.now symbols.now row.now
+        relocation.now) }
+{
+    let Some(symbol) = symbols.get(relocation.symbol as usize) else {
+        return None;
+    };
+    let Some(entry) = required_address(addresses, symbol, number, relocation.addend, row) else {
+        return None;
+    };
+    let operands = plain_operands(
+        architecture,
+        addresses,
+        number,
+        row,
+        symbol,
+        relocation,
+        entry,
+    );
+    row.value(&operands)
+}
+
+/// The value of a low part, if it is that of a high part.
+#[inline(always)]
+fn value_of_high(
+    addresses: &Addresses,
+    symbols: &[Symbol],
+    relocation: &Rela,
+    high: Option<HighPart>,
+) -> Option<i64>
+    ensures { IfSome result (HasHighValue addresses.now symbols.now relocation.now high) }
+{
+    let Some(label) = symbols.get(relocation.symbol as usize) else {
+        return None;
+    };
+    let Some(high) = high else {
+        return None;
+    };
+    if label.address.wrapping_sub(addresses.section) == high.offset {
+        Some(high.value)
+    } else {
+        None
+    }
+}
+
+/// The value of a relocation; none where it isn't found so. Only the contract uses `_relocations`.
+#[inline(always)]
+pub(crate) fn quick_value(
+    architecture: Architecture,
+    addresses: &Addresses,
+    _relocations: &[u8],
+    symbols: &[Symbol],
+    number: u16,
+    row: &Row,
+    relocation: &Rela,
+    high: Option<HighPart>,
+) -> Option<i64>
+    requires row { IsRow architecture relocation.now.code (Some row.now) }
+    requires number { IsNumberOf architecture relocation.now.code number }
+    requires high { IfSome high
+        (IsHighValue architecture addresses.now _relocations.now symbols.now) }
+    ensures { IfSome result (IsQuickValue architecture addresses.now _relocations.now symbols.now
+        relocation.now row.now) }
+{
+    let way = way_of(number);
+    if way == PLAIN || way == HIGH {
+        plain_value(architecture, addresses, symbols, number, row, relocation)
+    } else if way == LOW && matches!(architecture, Architecture::RiscV) {
+        value_of_high(addresses, symbols, relocation, high)
+    } else {
+        None
+    }
+}
+
+/// The last high part behind a relocation among those of its section, with the value that
+/// `quick_value` returns. Only the contract uses `_relocations`, `_symbols`, `_addresses` and `_row`.
+#[inline(always)]
+pub(crate) fn high_behind(
+    architecture: Architecture,
+    _addresses: &Addresses,
+    _relocations: &[u8],
+    _symbols: &[Symbol],
+    number: u16,
+    _row: &Row,
+    _index: usize,
+    offset: u64,
+    value: i64,
+    high: Option<HighPart>,
+) -> Option<HighPart>
+    requires within { _index < length _relocations.now / 24 }
+    requires offset { offset ≡ offset_at _relocations.now _index }
+    requires row { IsRow architecture (relocation_in _relocations.now _index).code (Some _row.now) }
+    requires number { IsNumberOf architecture (relocation_in _relocations.now _index).code number }
+    requires value { IsQuickValue architecture _addresses.now _relocations.now _symbols.now
+        (relocation_in _relocations.now _index) _row.now value }
+    requires high { IfSome high
+        (IsHighValue architecture _addresses.now _relocations.now _symbols.now) }
+    ensures { IfSome result
+        (IsHighValue architecture _addresses.now _relocations.now _symbols.now) }
+{
+    if way_of(number) == HIGH && matches!(architecture, Architecture::RiscV) {
+        Some(HighPart { offset, value })
+    } else {
+        high
+    }
+}
