@@ -3,6 +3,8 @@ use Rattle.std.proofs.Common.{◌≡◌, ℕ, zero, suc, ◌+◌, ◌-◌, ◌�
 use Rattle.std.proofs.lemmas.List.{get_or-set_same, get_or-set_other}
 use Rattle.linker_rewriting.specs.Decisions.{CanBeMade, AllCanBeMade, AreApart, decision_at, is_taken, takes_next, start_by, end_by, start_at, end_at, IsDecidedAfter, IsDecidedAlone, IsDecisionAfter, IsNotSurveyed, IsOverlapping, AreDecidedIn, IsEndBehind}
 use Rattle.linker_rewriting.specs.Facts.{Setting}
+use Rattle.linker_rewriting.specs.Labels.{IsLabelNote}
+use Rattle.linker_rewriting.specs.Notes.{is_note, AreLabelsNoted}
 use Rattle.linker_rewriting.specs.declared.decisions.Decision.{Decision}
 use Rattle.linker_rewriting.specs.declared.decisions.Decision.TheVariants.{Kept, TakenAlong}
 use Rattle.linker_rewriting.specs.declared.groups.KeptGroups.{KeptGroups}
@@ -33,12 +35,14 @@ pub record AreDecidedTo (s : Setting) (kept : List KeptGroups) (bytes section : 
   pub apart : AreApart bytes decisions k
   pub taken_is : taken ≡ is_taken decisions k
   pub ends : EndsAt bytes decisions end k
+  pub notes : AreLabelsNoted s bytes section decisions k
 
 pub none_decided : (s : Setting) (kept : List KeptGroups) (bytes section : List ℕ)
-    (decisions : List Decision)
+    (decisions : List Decision) → AreLabelsNoted s bytes section decisions 0
     → AreDecidedTo s kept bytes section decisions 0 false 0
-none_decided s kept bytes section decisions =
+none_decided s kept bytes section decisions notes =
     record {
+      notes = notes;
       decided = λ n less. absurd (omega arith);
       made = λ n less. absurd (omega arith);
       apart = λ i j ij less. absurd (omega arith);
@@ -166,6 +170,9 @@ more_decided s kept bytes section old end grown taken k d before within is can g
       apart = apart_more bytes old new k end grown d same here before.ends before.apart grow;
       taken_is = ap takes_next (sym here) ∙ sym (taken_next new k);
       ends = ends_more bytes old new k end grown d same here before.ends grow;
+      notes = λ n from less in_label. subst (λ x. IsLabelNote s bytes section (relocation_in bytes n) (is_note x))
+          (sym (get_or-set_other old k n d Kept (λ e. absurd (omega (arith, e, from)))))
+          (before.notes n (omega (arith, from)) less in_label);
     }
 
 -- ---- one more decision, and errors

@@ -1,6 +1,8 @@
 pub mod Deciding
 pub mod Keeping
+pub mod LabelGroups
 pub mod Listing
+pub mod Loads
 pub mod Making
 pub mod Noted
 pub mod Order

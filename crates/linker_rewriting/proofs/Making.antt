@@ -7,7 +7,7 @@ use Rattle.linker_rewriting.specs.Candidates.{deletes_within}
 use Rattle.linker_rewriting.specs.Decisions.{window_of, CanBeMade, AllCanBeMade, AreApart, decision_at, start_at, written_end_at, end_at}
 use Rattle.linker_rewriting.specs.Rewritten.{section_after, relocation_after, IsMade, IsDone, AreDone, AreRelocationsAfter, OthersStay}
 use Rattle.linker_rewriting.specs.declared.decisions.Decision.{Decision}
-use Rattle.linker_rewriting.specs.declared.decisions.Decision.TheVariants.{Kept, Rewritten, TakenAlong}
+use Rattle.linker_rewriting.specs.declared.decisions.Decision.TheVariants.{Kept, Rewritten, Redirected, TakenAlong}
 use Rattle.linker_rewriting.proofs.Windows.{IsReplaced, in_window, IsStep, step_of, step_below, step_above, step_outside, zero_or_more}
 use Rattle.linker_section.specs.Relocations.{relocation_in}
 use Rattle.linker_section.specs.declared.relocations.Rela.{Rela}
@@ -94,6 +94,8 @@ can_make Kept o first before can len ahead = tt
 can_make TakenAlong o first before can len ahead = tt
 can_make (Rewritten chosen) o first before can len ahead =
     (can_by (relaxation_rewrite chosen.kind) o first before (can.0) len ahead, same_deletes (relaxation_deleted chosen.kind) o first before len (can.1))
+can_make (Redirected chosen subject) o first before can len ahead =
+    (can_by (relaxation_rewrite chosen.kind) o first before (can.0) len ahead, same_deletes (relaxation_deleted chosen.kind) o first before len (can.1))
 
 step_made : (d : Decision) (o : ℕ) (first before after : List ℕ) → CanBeMade d first o
     → length before ≡ length first → length after ≡ length before
@@ -102,6 +104,8 @@ step_made : (d : Decision) (o : ℕ) (first before after : List ℕ) → CanBeMa
 step_made Kept o first before after can len same made = inl made
 step_made TakenAlong o first before after can len same made = inl made
 step_made (Rewritten chosen) o first before after can len same made =
+    step_by (relaxation_rewrite chosen.kind) o first before after (can.0) len same made
+step_made (Redirected chosen subject) o first before after can len same made =
     step_by (relaxation_rewrite chosen.kind) o first before after (can.0) len same made
 
 done_made : (d : Decision) (o : ℕ) (first before after : List ℕ) → CanBeMade d first o
@@ -113,6 +117,8 @@ done_made Kept o first before after can len same made ahead = tt
 done_made TakenAlong o first before after can len same made ahead = tt
 done_made (Rewritten chosen) o first before after can len same made ahead =
     made_by (relaxation_rewrite chosen.kind) o first before after (can.0) len same made ahead
+done_made (Redirected chosen subject) o first before after can len same made ahead =
+    made_by (relaxation_rewrite chosen.kind) o first before after (can.0) len same made ahead
 
 done_stays : (d : Decision) (o : ℕ) (first before after : List ℕ) → IsDone d o first before
     → take (window_of d).len (drop (start_in d o) after)
@@ -121,6 +127,8 @@ done_stays : (d : Decision) (o : ℕ) (first before after : List ℕ) → IsDone
 done_stays Kept o first before after done same = tt
 done_stays TakenAlong o first before after done same = tt
 done_stays (Rewritten chosen) o first before after done same =
+    stays_by (relaxation_rewrite chosen.kind) o first before after done same
+done_stays (Redirected chosen subject) o first before after done same =
     stays_by (relaxation_rewrite chosen.kind) o first before after done same
 
 -- ---- windows

@@ -1,5 +1,6 @@
 -- The order of surveys doesn't matter, and decisions follow from which groups stay.
 use Rattle.std.proofs.Common.{◌≡◌, ℕ, zero, suc, ◌+◌, is_some, ◌<◌, ◌∙◌, ◌||◌, ◌↔◌, List, ap, sym, subst, arith, refl, IsTrue, Option, Some, None, Bool, true, false, inl, inr}
+use Rattle.linker_rewriting.proofs.LabelGroups.{one_label_decision}
 use Rattle.linker_rewriting.proofs.Noted.{one_group}
 use Rattle.linker_rewriting.proofs.Unique.{one_scope, no_other, one_candidate, one_matched, one_unmarked}
 use Rattle.linker_rewriting.specs.Decisions.{decision_of, decision_ahead, decision_at, is_taken, takes_next, IsGroupDecision, IsMatchedDecision, IsScopeDecision, IsDecidedAfter, IsRewrittenAlone, IsRewrittenAt, DecisionsFollow}
@@ -10,7 +11,7 @@ use Rattle.linker_rewriting.specs.declared.decisions.Decision.{Decision}
 use Rattle.linker_rewriting.specs.declared.groups.Group.{Group}
 use Rattle.linker_rewriting.specs.declared.groups.KeptGroups.{KeptGroups}
 use Rattle.linker_rewriting.specs.declared.groups.Scope.{Scope}
-use Rattle.linker_rewriting.specs.declared.groups.Scope.TheVariants.{Unlisted, Alone, Grouped, Ahead, Matched}
+use Rattle.linker_rewriting.specs.declared.groups.Scope.TheVariants.{Unlisted, Alone, Grouped, Ahead, Matched, Labelled}
 use Rattle.linker_section.specs.Relocations.{relocation_in, relocation_at}
 use Rattle.linker_section.specs.declared.relocations.Rela.{Rela}
 
@@ -133,6 +134,7 @@ one_alone s bytes section n r Alone x y a b =
 one_alone s bytes section n r Unlisted x y a b = a ∙ sym b
 one_alone s bytes section n r (Grouped group) x y a b = a ∙ sym b
 one_alone s bytes section n r (Matched group) x y a b = a ∙ sym b
+one_alone s bytes section n r Labelled x y a b = a ∙ sym b
 one_alone s bytes section n r Ahead x y a b = a ∙ sym b
 
 one_rewritten : (s : Setting) (bytes section : List ℕ) (n : ℕ) (r : Option Rela) (x y : Bool)
@@ -157,6 +159,8 @@ one_of_scope s kept kept_too bytes section n r (Grouped group) x y same a b =
 one_of_scope s kept kept_too bytes section n r (Matched group) x y same a b =
     one_of_matched s bytes section n r (group_stays kept group r.symbol) x y a
     (subst (λ stays. IsMatchedDecision s bytes section n r stays y) (same_stays kept kept_too group r.symbol same) b)
+one_of_scope s kept kept_too bytes section n r Labelled x y same a b =
+    one_label_decision s bytes section n r x y a b
 one_of_scope s kept kept_too bytes section n r Ahead x y same a b =
     a.2 ∙ (ap decision_ahead (one_rewritten s bytes section (n + 1) (relocation_at bytes (n + 1)) (a.0) (b.0) (a.1) (b.1)) ∙ sym (b.2))
 

@@ -264,7 +264,7 @@ loadless : (name : LoongArch64Relocation) → (IsNamed (loongarch_name name) →
 loadless (loongarch64_names.Other code) isnt = refl
 loadless _ isnt = absurd (isnt tt)
 
-one_whole : (architecture : Architecture) (bytes : List ℕ) (n : ℕ) (r : Rela) (x y : Bool)
+pub one_whole : (architecture : Architecture) (bytes : List ℕ) (n : ℕ) (r : Rela) (x y : Bool)
     → IsWhole architecture bytes n r x → IsWhole architecture bytes n r y → x ≡ y
 one_whole AArch64 bytes n r x y a b =
     a.2 ∙ (ap (is_whole_at bytes n r) (of_one aarch64_name place_in None r.code (a.0) (b.0) placeless (a.1) (b.1)) ∙ sym (b.2))
@@ -274,7 +274,7 @@ one_whole RiscV bytes n r x y a b = a ∙ sym b
 one_whole Ppc64 bytes n r x y a b = a ∙ sym b
 one_whole X86_64 bytes n r x y a b = a ∙ sym b
 
-true_or_false : true ≡ false → ⊥
+pub true_or_false : true ≡ false → ⊥
 true_or_false e = cc
 
 -- one that can be rewritten doesn't lack what another one lacks

@@ -1,16 +1,22 @@
 -- Of a group all relocations are rewritten, or none is.
-use Rattle.std.proofs.Common.{◌≡◌, ℕ, ◌∙◌, ◌||◌, List, ap, sym, subst, refl, Bool, true, false}
+use Rattle.std.proofs.Common.{◌≡◌, ℕ, ◌∙◌, ◌||◌, inl, inr, Some, List, ap, sym, subst, refl, Bool, true, false}
+use Rattle.linker_rewriting.proofs.LabelGroups.{labelled, one_index, stays_or_fits}
 use Rattle.linker_rewriting.proofs.Unique.{one_scope}
-use Rattle.linker_rewriting.specs.Decisions.{AreDecidedIn, IsDecidedAfter, IsDecidedAlone, IsScopeDecision, IsGroupDecision, decision_at}
+use Rattle.linker_rewriting.specs.Decisions.{AreDecidedIn, IsDecidedAfter, IsDecidedAlone, IsScopeDecision, IsGroupDecision, IsLabelDecision, label_decision, decision_at}
 use Rattle.linker_rewriting.specs.Facts.{Setting}
 use Rattle.linker_rewriting.specs.Groups.{IsInGroupIn, group_stays, stays_at}
-use Rattle.linker_rewriting.specs.Rewritten.{GroupsAreWholeIn, GroupsAreWholeAcross, IsRewritten}
+use Rattle.linker_rewriting.specs.Labels.{IsInLabel, IsHighIn, LabelFits}
+use Rattle.linker_rewriting.specs.Rewritten.{GroupsAreWholeIn, GroupsAreWholeAcross, LabelsAreWhole, IsRewritten}
 use Rattle.linker_rewriting.specs.declared.decisions.Decision.{Decision}
 use Rattle.linker_rewriting.specs.declared.groups.Group.{Group}
 use Rattle.linker_rewriting.specs.declared.groups.KeptGroups.{KeptGroups}
 use Rattle.linker_rewriting.specs.declared.groups.Scope.TheVariants.{Grouped}
+use Rattle.linker_rewriting.specs.declared.phases.Phase.{Phase}
+use Rattle.linker_rewriting.specs.declared.phases.Phase.TheVariants.{Early, ThreadOffsets, GotLoads, Distances}
 use Rattle.linker_section.specs.Relocations.{relocation_in}
 use Rattle.linker_section.specs.declared.relocations.Rela.{Rela}
+use Rattle.linker_elf.specs.declared.elf.choice.Choice.{Choice}
+use Rattle.linker_utils.specs.declared.architecture.Relaxation.{Relaxation}
 
 -- what a relocation of a group becomes
 of_group : (s : Setting) (kept : List KeptGroups) (bytes section : List ℕ) (n : ℕ) (r : Rela)
@@ -57,3 +63,47 @@ pub whole : (s : Setting) (kept : List KeptGroups) (bytes section : List ℕ)
     → GroupsAreWholeIn s.architecture s.phase bytes decisions limit
 whole s kept bytes section decisions limit decided =
     whole_across s s kept bytes section bytes section decisions decisions limit limit decided decided
+
+-- ---- labels
+
+of_label : (s : Setting) (kept : List KeptGroups) (bytes section : List ℕ) (n : ℕ) (r : Rela)
+    (decision : Decision) → IsDecidedAlone s kept bytes section n r decision
+    → IsInLabel s.architecture s.phase r.code true
+    → IsLabelDecision s bytes section n r decision
+of_label s kept bytes section n r decision decided in_label =
+    subst (λ scope. IsScopeDecision s kept bytes section n r scope decision)
+    (one_scope s.architecture s.phase r.code (decided.0) (in_label.0) (decided.1) (in_label.1)
+    ∙ labelled (in_label.0) (in_label.2))
+    (decided.2)
+
+is_rewritten : (phase : Phase) (chosen : Choice Relaxation ℕ) (high : Rela)
+    → IsRewritten (label_decision phase chosen high)
+is_rewritten Early chosen high = tt
+is_rewritten ThreadOffsets chosen high = tt
+is_rewritten GotLoads chosen high = tt
+is_rewritten Distances chosen high = tt
+
+both_rewritten : (s : Setting) (bytes section : List ℕ) (i j : ℕ) (r other : Rela) (high : ℕ)
+    (x y : Decision) → IsLabelDecision s bytes section i r x → IsLabelDecision s bytes section j other y
+    → IsHighIn s bytes r (Some high) → IsHighIn s bytes other (Some high) → IsRewritten x
+    → IsRewritten y
+both_rewritten s bytes section i j r other high x y a b is too rewritten =
+    elim a [
+      | inl stays ↦ absurd (subst IsRewritten (stays.1) rewritten)
+      | inr fits ↦ elim b [
+        | inl stays ↦ absurd (stays_or_fits s bytes section other high (stays.0) too
+            (subst (LabelFits s bytes section) (one_index s bytes r (fits.0) high (fits.1) is) (fits.2)))
+        | inr more ↦ subst IsRewritten (sym (more.5)) (is_rewritten s.phase (more.3) (relocation_in bytes (more.0)))
+      ]
+    ]
+
+pub labels_whole : (s : Setting) (kept : List KeptGroups) (bytes section : List ℕ)
+    (decisions : List Decision) (limit : ℕ)
+    → AreDecidedIn s kept bytes section decisions limit → LabelsAreWhole s bytes decisions limit
+labels_whole s kept bytes section decisions limit decided i j high li lj mi mj hi hj ti tj =
+    let alone_i = subst (λ t. IsDecidedAfter s kept bytes section i t (decision_at decisions i)) ti (decided i li) in
+    let alone_j = subst (λ t. IsDecidedAfter s kept bytes section j t (decision_at decisions j)) tj (decided j lj) in
+    both_rewritten s bytes section i j (relocation_in bytes i) (relocation_in bytes j) high
+    (decision_at decisions i) (decision_at decisions j)
+    (of_label s kept bytes section i (relocation_in bytes i) (decision_at decisions i) alone_i mi)
+    (of_label s kept bytes section j (relocation_in bytes j) (decision_at decisions j) alone_j mj) hi hj

@@ -9,8 +9,10 @@ use Rattle.linker_elf.specs.declared.elf.choice.Choice.{Choice}
 use Rattle.linker_rewriting.specs.Candidates.{IsCandidate, deletes_within}
 use Rattle.linker_rewriting.specs.Facts.{Setting, early}
 use Rattle.linker_rewriting.specs.Groups.{IsScopeIn, group_stays, stays_at}
+use Rattle.linker_rewriting.specs.Labels.{IsHighIn, IsLabelCandidate, LabelStays, LabelFits}
 use Rattle.linker_rewriting.specs.declared.decisions.Decision.{Decision}
 use Rattle.linker_rewriting.specs.declared.decisions.Decision.TheVariants.{Kept, Rewritten, TakenAlong}
+use Rattle.linker_rewriting.specs.declared.decisions.Decision.TheVariants.{Redirected}
 use Rattle.linker_rewriting.specs.declared.decisions.RewritingError.{RewritingError}
 use Rattle.linker_rewriting.specs.declared.decisions.RewritingError.TheVariants.{TooShort, NotSurveyed, Overlaps}
 use Rattle.linker_rewriting.specs.declared.facts.OutputFacts.{OutputFacts}
@@ -19,7 +21,9 @@ use Rattle.linker_rewriting.specs.declared.groups.Group.{Group}
 use Rattle.linker_rewriting.specs.declared.groups.KeptGroups.{KeptGroups}
 use Rattle.linker_rewriting.specs.declared.groups.Scope.{Scope}
 use Rattle.linker_rewriting.specs.declared.groups.Scope.TheVariants.{Unlisted, Alone, Grouped}
-use Rattle.linker_rewriting.specs.declared.groups.Scope.TheVariants.{Ahead, Matched}
+use Rattle.linker_rewriting.specs.declared.groups.Scope.TheVariants.{Ahead, Matched, Labelled}
+use Rattle.linker_rewriting.specs.declared.phases.Phase.{Phase}
+use Rattle.linker_rewriting.specs.declared.phases.Phase.TheVariants.{ThreadOffsets}
 use Rattle.linker_section.specs.Relocations.{relocation_in, relocation_at}
 use Rattle.linker_section.specs.declared.relocations.Rela.{Rela}
 use Rattle.linker_utils.specs.Architectures.{relaxation_rewrite, relaxation_skipped}
@@ -32,21 +36,27 @@ use Rattle.linker_utils.specs.declared.elf.Architecture.{Architecture}
 -- the next relocation goes
 abbrev pub takes_next : Decision → Bool
 takes_next (Rewritten chosen) = is_some (relaxation_skipped chosen.kind)
+takes_next (Redirected chosen subject) = is_some (relaxation_skipped chosen.kind)
 takes_next decision = false
 
 -- the bytes that are rewritten, beside the relocation's offset
 abbrev pub window_of : Decision → RewriteWindow
 window_of (Rewritten chosen) = window_of_rewrite (relaxation_rewrite chosen.kind)
+window_of (Redirected chosen subject) = window_of_rewrite (relaxation_rewrite chosen.kind)
 window_of decision = record { back = 0; len = 0 }
 
 -- those that are deleted after it
 abbrev pub deleted_of : Decision → Option DeletedBytes
 deleted_of (Rewritten chosen) = relaxation_deleted chosen.kind
+deleted_of (Redirected chosen subject) = relaxation_deleted chosen.kind
 deleted_of decision = None
 
 -- they are in the section, and the window is one that the rewrite takes
 abbrev pub CanBeMade : Decision → List ℕ → ℕ → Type 0
 CanBeMade (Rewritten chosen) section offset =
+    CanRewrite (relaxation_rewrite chosen.kind) section offset
+    × (deletes_within section offset (relaxation_deleted chosen.kind) ≡ true)
+CanBeMade (Redirected chosen subject) section offset =
     CanRewrite (relaxation_rewrite chosen.kind) section offset
     × (deletes_within section offset (relaxation_deleted chosen.kind) ≡ true)
 CanBeMade decision section offset = Unit {0}
@@ -90,6 +100,21 @@ abbrev pub decision_ahead : Bool → Decision
 decision_ahead true = TakenAlong
 decision_ahead false = Kept
 
+-- all of a TLS descriptor become of the symbol and the addend of the high part
+abbrev pub label_decision : Phase → Choice Relaxation ℕ → Rela → Decision
+label_decision ThreadOffsets chosen high =
+    Redirected chosen (record { symbol = high.symbol; addend = high.addend })
+label_decision phase chosen high = Rewritten chosen
+
+-- a relocation of a label
+abbrev pub IsLabelDecision : Setting → List ℕ → List ℕ → ℕ → Rela → Decision → Type 0
+IsLabelDecision s bytes section n r decision =
+    (LabelStays s bytes section r × (decision ≡ Kept))
+    ⊎ ((high : ℕ) × IsHighIn s bytes r (Some high) × LabelFits s bytes section high
+    × (chosen : Choice Relaxation ℕ)
+    × IsLabelCandidate s bytes section n r high (Some chosen)
+    × (decision ≡ label_decision s.phase chosen (relocation_in bytes high)))
+
 -- by its scope
 abbrev pub IsScopeDecision : Setting → List KeptGroups → List ℕ → List ℕ → ℕ → Rela → Scope
     → Decision → Type 0
@@ -104,6 +129,8 @@ IsScopeDecision s kept bytes section n r (Grouped group) decision =
     decision
 IsScopeDecision s kept bytes section n r (Matched group) decision =
     IsMatchedDecision s bytes section n r (group_stays kept group r.symbol) decision
+IsScopeDecision s kept bytes section n r Labelled decision =
+    IsLabelDecision s bytes section n r decision
 IsScopeDecision s kept bytes section n r Ahead decision =
     (is_rewritten : Bool)
     × IsRewrittenAt s bytes section (n + 1) (relocation_at bytes (n + 1)) is_rewritten

@@ -24,7 +24,7 @@ use Rattle.linker_rewriting.specs.declared.groups.Group.TheVariants.{GotLoad}
 use Rattle.linker_rewriting.specs.declared.groups.KeptGroups.{KeptGroups}
 use Rattle.linker_rewriting.specs.declared.groups.Scope.{Scope}
 use Rattle.linker_rewriting.specs.declared.groups.Scope.TheVariants.{Unlisted, Alone, Grouped}
-use Rattle.linker_rewriting.specs.declared.groups.Scope.TheVariants.{Ahead, Matched}
+use Rattle.linker_rewriting.specs.declared.groups.Scope.TheVariants.{Ahead, Matched, Labelled}
 use Rattle.linker_rewriting.specs.declared.phases.Phase.{Phase}
 use Rattle.linker_rewriting.specs.declared.phases.Phase.TheVariants.{Early, ThreadOffsets}
 use Rattle.linker_rewriting.specs.declared.phases.Phase.TheVariants.{GotLoads, Distances}
@@ -47,8 +47,9 @@ aarch64_scope aarch64.R_AARCH64_TLSDESC_CALL = Grouped Descriptor
 aarch64_scope name = Unlisted
 
 abbrev pub loongarch_scope : LoongArch64Relocation → Scope
-loongarch_scope loongarch64.R_LARCH_GOT_PC_HI20 = Grouped GotLoad
-loongarch_scope loongarch64.R_LARCH_GOT_PC_LO12 = Grouped GotLoad
+-- each where all of its pair is next to it (`IsWhole`), so that the pair is the group
+loongarch_scope loongarch64.R_LARCH_GOT_PC_HI20 = Alone
+loongarch_scope loongarch64.R_LARCH_GOT_PC_LO12 = Alone
 loongarch_scope loongarch64.R_LARCH_TLS_IE_PC_HI20 = Grouped InitialExec
 loongarch_scope loongarch64.R_LARCH_TLS_IE_PC_LO12 = Grouped InitialExec
 loongarch_scope loongarch64.R_LARCH_TLS_IE64_PC_LO20 = Grouped InitialExec
@@ -122,12 +123,19 @@ aarch64_scope_in Distances aarch64.R_AARCH64_ADR_PREL_PG_HI21 = Ahead
 aarch64_scope_in Distances aarch64.R_AARCH64_ADD_ABS_LO12_NC = Alone
 aarch64_scope_in phase name = Unlisted
 
--- all of RISC-V's wait for addresses
+-- All of RISC-V's wait for addresses.
 abbrev pub riscv_scope_in : Phase → RiscVRelocation → Scope
 riscv_scope_in ThreadOffsets riscv64.R_RISCV_TPREL_HI20 = Grouped InitialExec
 riscv_scope_in ThreadOffsets riscv64.R_RISCV_TPREL_ADD = Grouped InitialExec
 riscv_scope_in ThreadOffsets riscv64.R_RISCV_TPREL_LO12_I = Grouped InitialExec
 riscv_scope_in ThreadOffsets riscv64.R_RISCV_TPREL_LO12_S = Grouped InitialExec
+riscv_scope_in ThreadOffsets riscv64.R_RISCV_TLSDESC_HI20 = Labelled
+riscv_scope_in ThreadOffsets riscv64.R_RISCV_TLSDESC_LOAD_LO12 = Labelled
+riscv_scope_in ThreadOffsets riscv64.R_RISCV_TLSDESC_ADD_LO12 = Labelled
+riscv_scope_in ThreadOffsets riscv64.R_RISCV_TLSDESC_CALL = Labelled
+riscv_scope_in GotLoads riscv64.R_RISCV_GOT_HI20 = Labelled
+riscv_scope_in GotLoads riscv64.R_RISCV_PCREL_LO12_I = Labelled
+riscv_scope_in GotLoads riscv64.R_RISCV_PCREL_LO12_S = Labelled
 riscv_scope_in phase name = Unlisted
 
 abbrev pub loongarch_scope_in : Phase → LoongArch64Relocation → Scope
@@ -164,6 +172,7 @@ abbrev pub has_rewrites : Architecture → Phase → Bool
 has_rewrites AArch64 ThreadOffsets = false
 has_rewrites AArch64 phase = true
 has_rewrites RiscV ThreadOffsets = true
+has_rewrites RiscV GotLoads = true
 has_rewrites RiscV phase = false
 has_rewrites LoongArch64 Early = true
 has_rewrites LoongArch64 ThreadOffsets = true

@@ -1,14 +1,19 @@
 -- A section and its relocations after their rewrites.
-use Rattle.std.specs.Prelude.{◌≡◌, ℕ, ◌<◌, ◌≤◌, ◌⊎◌, List, get_or}
-use Rattle.std.specs.Prelude.{Option, None, Some, false}
+use Rattle.std.specs.Prelude.{◌≡◌, ℕ, ◌+◌, ◌<◌, ◌≤◌, ◌/◌, ◌⊎◌, ◌↔◌, List, length, get_or}
+use Rattle.std.specs.Prelude.{Option, None, Some, true, false}
 use Rattle.linker_base.specs.Rewrite.{Rewrite, rewrite_window, rewritten}
 use Rattle.linker_base.specs.Rewrite.{offset_after, addend_after}
 use Rattle.linker_rewriting.specs.Decisions.{decision_at, is_taken, start_at, written_end_at}
-use Rattle.linker_rewriting.specs.Decisions.{AreDecidedIn}
+use Rattle.linker_rewriting.specs.Decisions.{AreDecided, AreDecidedIn}
 use Rattle.linker_rewriting.specs.Facts.{Setting}
 use Rattle.linker_rewriting.specs.Groups.{IsInGroupIn, symbol_of_group}
+use Rattle.linker_rewriting.specs.Labels.{IsInLabel, IsHighIn}
+use Rattle.linker_rewriting.specs.Sequences.{is_marked_load}
 use Rattle.linker_rewriting.specs.declared.decisions.Decision.{Decision}
 use Rattle.linker_rewriting.specs.declared.decisions.Decision.TheVariants.{Kept, Rewritten, TakenAlong}
+use Rattle.linker_rewriting.specs.declared.decisions.Decision.TheVariants.{Redirected}
+use Rattle.linker_rewriting.specs.declared.facts.OutputFacts.{OutputFacts}
+use Rattle.linker_rewriting.specs.declared.facts.SymbolFacts.{SymbolFacts}
 use Rattle.linker_rewriting.specs.declared.groups.Group.{Group}
 use Rattle.linker_rewriting.specs.declared.groups.KeptGroups.{KeptGroups}
 use Rattle.linker_rewriting.specs.declared.phases.Phase.{Phase}
@@ -17,6 +22,7 @@ use Rattle.linker_section.specs.Relocations.{relocation_in}
 use Rattle.linker_section.specs.declared.relocations.Rela.{Rela}
 use Rattle.linker_utils.specs.Architectures.{relaxation_rewrite}
 use Rattle.linker_utils.specs.declared.elf.Architecture.{Architecture}
+use Rattle.linker_utils.specs.declared.elf.Architecture.TheVariants.{LoongArch64}
 
 -- ---- relocations
 
@@ -31,6 +37,13 @@ relocation_after (Rewritten chosen) r =
       symbol = r.symbol;
       addend = addend_after (relaxation_rewrite chosen.kind) r.addend;
     }
+relocation_after (Redirected chosen subject) r =
+    record {
+      offset = offset_after (relaxation_rewrite chosen.kind) r.offset;
+      code = chosen.relocation;
+      symbol = subject.symbol;
+      addend = addend_after (relaxation_rewrite chosen.kind) subject.addend;
+    }
 
 abbrev pub AreRelocationsAfter : List Decision → List ℕ → List ℕ → ℕ → Type 0
 AreRelocationsAfter decisions before after limit =
@@ -43,6 +56,8 @@ AreRelocationsAfter decisions before after limit =
 abbrev pub section_after : Decision → ℕ → List ℕ → List ℕ
 section_after (Rewritten chosen) offset section =
     rewritten (relaxation_rewrite chosen.kind) section offset
+section_after (Redirected chosen subject) offset section =
+    rewritten (relaxation_rewrite chosen.kind) section offset
 section_after decision offset section = section
 
 -- the window has the bytes that the rewrite makes of those before it
@@ -53,6 +68,8 @@ IsMade (Some r) offset before after =
 
 abbrev pub IsDone : Decision → ℕ → List ℕ → List ℕ → Type 0
 IsDone (Rewritten chosen) offset before after =
+    IsMade (relaxation_rewrite chosen.kind) offset before after
+IsDone (Redirected chosen subject) offset before after =
     IsMade (relaxation_rewrite chosen.kind) offset before after
 IsDone decision offset before after = Unit {0}
 
@@ -73,6 +90,7 @@ OthersStay bytes decisions before after limit =
 
 abbrev pub IsRewritten : Decision → Type 0
 IsRewritten (Rewritten chosen) = Unit {0}
+IsRewritten (Redirected chosen subject) = Unit {0}
 IsRewritten decision = ⊥
 
 -- of a group the relocations that no other takes along are all rewritten, or none is
@@ -105,3 +123,34 @@ GroupsAreWholeAcross =
     ≡ symbol_of_group group (relocation_in others_bytes j).symbol
     → is_taken decisions i ≡ false → is_taken others j ≡ false
     → IsRewritten (decision_at decisions i) → IsRewritten (decision_at others j)
+
+-- ---- labels
+
+-- of one label the relocations that no other takes along are all rewritten, or none is
+abbrev pub LabelsAreWhole : Setting → List ℕ → List Decision → ℕ → Type 0
+LabelsAreWhole s bytes decisions limit =
+    (i j high : ℕ) → i < limit → j < limit
+    → IsInLabel s.architecture s.phase (relocation_in bytes i).code true
+    → IsInLabel s.architecture s.phase (relocation_in bytes j).code true
+    → IsHighIn s bytes (relocation_in bytes i) (Some high)
+    → IsHighIn s bytes (relocation_in bytes j) (Some high)
+    → is_taken decisions i ≡ false → is_taken decisions j ≡ false
+    → IsRewritten (decision_at decisions i) → IsRewritten (decision_at decisions j)
+
+-- ---- pairs
+
+-- the relocations from an index on are those of a marked load from LoongArch's GOT
+abbrev pub IsLoadAt : List ℕ → ℕ → Type 0
+IsLoadAt bytes n =
+    is_marked_load bytes n (relocation_in bytes n).offset (relocation_in bytes n) ≡ true
+
+-- Both instructions of such a load are rewritten, or neither is. The second one's relocation is the
+-- next but one, behind the first one's mark.
+abbrev pub LoadsAreWhole : Type 0
+LoadsAreWhole =
+    (output : OutputFacts) (symbols : List SymbolFacts) (kept : List KeptGroups)
+    (bytes section : List ℕ) (decisions : List Decision) (limit n : ℕ)
+    → AreDecided LoongArch64 output symbols kept bytes section decisions limit
+    → n + 2 < limit → limit ≤ length bytes / 24 → IsLoadAt bytes n
+    → is_taken decisions n ≡ false → is_taken decisions (n + 2) ≡ false
+    → (IsRewritten (decision_at decisions n) ↔ IsRewritten (decision_at decisions (n + 2)))

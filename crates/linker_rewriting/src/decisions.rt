@@ -1,17 +1,21 @@
 //! What becomes of each relocation of a section and of its instruction.
 
-ghost use Rattle.std.specs.Prelude.{◌≡◌, ◌<◌, ◌≤◌, ◌+◌, ◌-◌, ◌/◌, length, IfSome, IfErr, OnOk};
+ghost use Rattle.std.specs.Prelude.{◌≡◌, ◌<◌, ◌≤◌, ◌+◌, ◌-◌, ◌/◌, length, map, IfSome, IfErr};
+ghost use Rattle.std.specs.Prelude.{OnOk, All, take, drop, true};
+ghost use Rattle.linker_rewriting.specs.declared.decisions.Decision.{Decision as decisions};
 ghost use Rattle.linker_section.specs.Relocations.{relocation_in, relocation_at};
 ghost use Rattle.linker_rewriting.specs.Decisions.{takes_next, window_of, IsDecision, CanBeMade};
 ghost use Rattle.linker_rewriting.specs.Decisions.{deleted_of, deleted_end, start_by, end_by};
 ghost use Rattle.linker_rewriting.specs.Decisions.{AreDecidedIn, AreApart, AllCanBeMade};
 ghost use Rattle.linker_rewriting.specs.Decisions.{IsDecisionAfter, IsEndBehind, IsRejectedIn};
-ghost use Rattle.linker_rewriting.specs.Decisions.{IsRewrittenAt};
+ghost use Rattle.linker_rewriting.specs.Decisions.{IsRewrittenAt, label_decision, IsLabelDecision};
 ghost use Rattle.linker_rewriting.specs.Facts.{setting};
+ghost use Rattle.linker_rewriting.specs.Labels.{IsInLabel, IsLabelNote};
 
 use crate::candidates::candidate;
 use crate::facts::{OutputFacts, SymbolFacts};
 use crate::groups::{KeptGroups, Scope, group_stays, scope_in};
+use crate::labels::{high_of, is_note, label_candidate, note_labels};
 use crate::phases::Phase;
 use crate::relocations::relocation_in;
 use linker_base::rewrite::DeletedBytes;
@@ -19,6 +23,16 @@ use linker_section::facts::{Addresses, Symbol};
 use linker_section::relocations::{Rela, relocation_at, relocations_len};
 use linker_utils::architecture::Relaxation;
 use linker_utils::elf::{Architecture, Choice, InstructionRewrite, RewriteWindow};
+use linker_utils::relaxation::AsDeletion;
+
+/// What a relocation is of once its instruction is rewritten.
+#[derive(Debug, Clone, Copy, PartialEq, Eq)]
+pub struct Subject {
+    /// The index of its symbol.
+    pub symbol: u32,
+    /// Its addend, before what the rewrite makes of it.
+    pub addend: i64,
+}
 
 /// What becomes of a relocation and of its instruction.
 #[derive(Debug, Clone, Copy, PartialEq, Eq)]
@@ -27,8 +41,62 @@ pub enum Decision {
     Kept,
     /// The instruction is rewritten by this, and the relocation becomes the one after it.
     Rewritten(Choice<Relaxation, u32>),
+    /// The same, but the relocation after it is of another symbol and addend: of a TLS descriptor of
+    /// RISC-V all get those of the high part, whose label was their symbol.
+    Redirected(Choice<Relaxation, u32>, Subject),
     /// The relocation goes, since the rewrite at the one before or at the next one takes it along.
     TakenAlong,
+}
+
+/// What becomes of a relocation: a `Decision`, or an element of the caller's own array that says as
+/// much.
+pub trait AsDecision: Copy {
+    /// The decision, in a contract.
+    ghost decision: { Self → decisions };
+
+    /// Whether it is one of the forms that are written, in a contract.
+    ghost is_written: { Self → Type 0 };
+
+    /// The decision.
+    fn as_decision(self) -> Decision
+        ensures { result ≡ decision self };
+
+    /// The form that a decision is written in.
+    fn from_decision(made: Decision) -> Self
+        ensures decision { decision result ≡ made }
+        ensures form { is_written result };
+}
+
+impl AsDecision for Decision {
+    ghost use Rattle.std.specs.Prelude.{⊤};
+
+    ghost decision = { λ d. d };
+
+    ghost is_written = { λ _. ⊤ };
+
+    #[inline(always)]
+    fn as_decision(self) -> Decision {
+        self
+    }
+
+    #[inline(always)]
+    fn from_decision(made: Decision) -> Decision {
+        made
+    }
+}
+
+/// What deletions are listed in: pairs of an offset and how many bytes, or the caller's own structs.
+pub trait FromDeletion: AsDeletion {
+    /// The element that records a deletion by the offset of its first byte and how many it has.
+    fn from_deletion(offset: u64, bytes: u32) -> Self
+        ensures { Self.deletion result ≡ (offset, bytes) };
+}
+
+impl FromDeletion for (u64, u32) {
+    #[inline(always)]
+    fn from_deletion(offset: u64, bytes: u32) -> (u64, u32) {
+        (offset, bytes)
+    }
 }
 
 /// Why a section isn't rewritten.
@@ -52,6 +120,7 @@ impl Decision {
     {
         match self {
             Decision::Rewritten(choice) => choice.kind.skipped_offset().is_some(),
+            Decision::Redirected(choice, _) => choice.kind.skipped_offset().is_some(),
             _ => false,
         }
     }
@@ -64,6 +133,7 @@ impl Decision {
     {
         match self {
             Decision::Rewritten(choice) => choice.kind.window(),
+            Decision::Redirected(choice, _) => choice.kind.window(),
             _ => RewriteWindow { back: 0, len: 0 },
         }
     }
@@ -75,6 +145,7 @@ impl Decision {
     {
         match self {
             Decision::Rewritten(choice) => choice.kind.deleted(),
+            Decision::Redirected(choice, _) => choice.kind.deleted(),
             _ => None,
         }
     }
@@ -117,9 +188,75 @@ fn is_rewritten_at(
     }
 }
 
-/// What becomes of a relocation that no other takes along. None if its group doesn't stay, but it
-/// can't be rewritten.
+/// What rewrites the instruction of a relocation of a label with a high part.
+#[inline(always)]
+fn label_decision(phase: Phase, chosen: Choice<Relaxation, u32>, high: &Rela) -> Decision
+    ensures { result ≡ label_decision phase chosen high.now }
+{
+    match phase {
+        Phase::ThreadOffsets => Decision::Redirected(
+            chosen,
+            Subject {
+                symbol: high.symbol,
+                addend: high.addend,
+            },
+        ),
+        _ => Decision::Rewritten(chosen),
+    }
+}
+
+/// What becomes of a relocation of a label whose group stays or doesn't.
+fn decide_label(
+    stays: bool,
+    architecture: Architecture,
+    phase: Phase,
+    output: &OutputFacts,
+    symbols: &[SymbolFacts],
+    addresses: &Addresses,
+    values: &[Symbol],
+    relocations: &[u8],
+    section: &[u8],
+    index: usize,
+    relocation: &Rela,
+) -> Decision
+    requires index { index + 3 ≤ usize.MAX }
+    requires within { index < length relocations.now / 24 }
+    requires there { relocation.now ≡ relocation_in relocations.now index }
+    requires in_label { IsInLabel architecture phase relocation.now.code true }
+    requires noted { IsLabelNote (setting architecture phase output.now symbols.now addresses.now
+        values.now) relocations.now section.now relocation.now stays }
+    ensures decision { IsLabelDecision (setting architecture phase output.now symbols.now
+        addresses.now values.now) relocations.now section.now index relocation.now result }
+    ensures made { CanBeMade result section.now relocation.now.offset }
+{
+    if stays {
+        return Decision::Kept;
+    }
+    let Some(high) = high_of(phase, addresses, values, relocations, relocation) else {
+        return Decision::Kept;
+    };
+    match label_candidate(
+        architecture,
+        phase,
+        output,
+        symbols,
+        addresses,
+        values,
+        relocations,
+        section,
+        index,
+        relocation,
+        high,
+    ) {
+        Some(chosen) => label_decision(phase, chosen, &relocation_in(relocations, high)),
+        None => Decision::Kept,
+    }
+}
+
+/// What becomes of a relocation that no other takes along. `stays` is what was noted of its label. None
+/// if its group doesn't stay, but it can't be rewritten.
 fn decide(
+    stays: bool,
     architecture: Architecture,
     phase: Phase,
     output: &OutputFacts,
@@ -132,7 +269,12 @@ fn decide(
     index: usize,
     relocation: &Rela,
 ) -> Option<Decision>
-    requires { index + 4 ≤ usize.MAX }
+    requires index { index + 4 ≤ usize.MAX }
+    requires within { index < length relocations.now / 24 }
+    requires there { relocation.now ≡ relocation_in relocations.now index }
+    requires noted { IsInLabel architecture phase relocation.now.code true
+        → IsLabelNote (setting architecture phase output.now symbols.now addresses.now values.now)
+        relocations.now section.now relocation.now stays }
     ensures decision { IsDecision (setting architecture phase output.now symbols.now addresses.now
         values.now) kept.now relocations.now section.now index relocation.now result }
     ensures made { IfSome result (λ d. CanBeMade d section.now relocation.now.offset) }
@@ -196,6 +338,19 @@ fn decide(
                 None => Some(Decision::Kept),
             }
         }
+        Scope::Labelled => Some(decide_label(
+            stays,
+            architecture,
+            phase,
+            output,
+            symbols,
+            addresses,
+            values,
+            relocations,
+            section,
+            index,
+            relocation,
+        )),
         Scope::Ahead => {
             if is_rewritten_at(
                 architecture,
@@ -220,6 +375,7 @@ fn decide(
 #[inline(always)]
 fn decide_after(
     is_taken: bool,
+    stays: bool,
     architecture: Architecture,
     phase: Phase,
     output: &OutputFacts,
@@ -232,7 +388,12 @@ fn decide_after(
     index: usize,
     relocation: &Rela,
 ) -> Option<Decision>
-    requires { index + 4 ≤ usize.MAX }
+    requires index { index + 4 ≤ usize.MAX }
+    requires within { index < length relocations.now / 24 }
+    requires there { relocation.now ≡ relocation_in relocations.now index }
+    requires noted { IsInLabel architecture phase relocation.now.code true
+        → IsLabelNote (setting architecture phase output.now symbols.now addresses.now values.now)
+        relocations.now section.now relocation.now stays }
     ensures decision { IsDecisionAfter (setting architecture phase output.now symbols.now
         addresses.now values.now) kept.now relocations.now section.now index relocation.now is_taken
         result }
@@ -242,6 +403,7 @@ fn decide_after(
         return Some(Decision::TakenAlong);
     }
     decide(
+        stays,
         architecture,
         phase,
         output,
@@ -304,7 +466,7 @@ fn end_behind(start: u64, own: u64, end: u64) -> Option<u64>
 
 /// Decides what becomes of each relocation of a section and of its instruction, in the caller's
 /// memory. Nothing is rewritten.
-pub(crate) fn decide_section(
+pub(crate) fn decide_section<D: AsDecision>(
     architecture: Architecture,
     phase: Phase,
     output: &OutputFacts,
@@ -314,29 +476,47 @@ pub(crate) fn decide_section(
     kept: &[KeptGroups],
     relocations: &[u8],
     section: &[u8],
-    decisions: &mut [Decision],
+    decisions: &mut [D],
 ) -> Result<(), RewritingError>
     ensures enough { OnOk result (length relocations.now / 24 ≤ length decisions.old) }
     ensures decided { OnOk result (AreDecidedIn (setting architecture phase output.now symbols.now
-        addresses.now values.now) kept.now relocations.now section.now decisions.new
+        addresses.now values.now) kept.now relocations.now section.now
+        (map D.decision decisions.new) (length relocations.now / 24)) }
+    ensures made { OnOk result (AllCanBeMade relocations.now section.now
+        (map D.decision decisions.new) (length relocations.now / 24)) }
+    ensures apart { OnOk result (AreApart relocations.now (map D.decision decisions.new)
         (length relocations.now / 24)) }
-    ensures made { OnOk result (AllCanBeMade relocations.now section.now decisions.new
-        (length relocations.now / 24)) }
-    ensures apart { OnOk result (AreApart relocations.now decisions.new
-        (length relocations.now / 24)) }
+    ensures form { OnOk result
+        (All D.is_written (take (length relocations.now / 24) decisions.new)) }
+    ensures others_stay { drop (length relocations.now / 24) decisions.new
+        ≡ drop (length relocations.now / 24) decisions.old }
     ensures rejected { IfErr result (IsRejectedIn (setting architecture phase output.now symbols.now
-        addresses.now values.now) kept.now relocations.now section.now decisions.new) }
+        addresses.now values.now) kept.now relocations.now section.now
+        (map D.decision decisions.new)) }
 {
     let len = relocations_len(relocations);
     if decisions.len() < len {
         return Err(RewritingError::TooShort);
     }
+    note_labels(
+        architecture,
+        phase,
+        output,
+        symbols,
+        addresses,
+        values,
+        relocations,
+        section,
+        decisions,
+    );
     let mut end = 0;
     let mut is_taken = false;
     for index in 0..len {
         let relocation = relocation_in(relocations, index);
+        let stays = is_note(&decisions[index].as_decision());
         let Some(decision) = decide_after(
             is_taken,
+            stays,
             architecture,
             phase,
             output,
@@ -358,7 +538,7 @@ pub(crate) fn decide_section(
         };
         end = new_end;
         is_taken = decision.takes_next();
-        decisions[index] = decision;
+        decisions[index] = D::from_decision(decision);
     }
     Ok(())
 }

@@ -1,7 +1,7 @@
 //! Laws of surveys and of sections that are rewritten by them. The functions do nothing.
 
 ghost use Rattle.linker_rewriting.specs.Decisions.{DecisionsFollow};
-ghost use Rattle.linker_rewriting.specs.Rewritten.{GroupsAreWholeAcross};
+ghost use Rattle.linker_rewriting.specs.Rewritten.{GroupsAreWholeAcross, LoadsAreWhole};
 ghost use Rattle.linker_rewriting.specs.Surveys.{NotesStay, SurveysCommute};
 
 /// What is noted of one section of an object is still noted when the others have been surveyed, so that
@@ -24,4 +24,10 @@ pub fn decisions_follow()
 /// whichever of its sections they are: these are decided by one table.
 pub fn groups_are_whole_across()
     ensures { GroupsAreWholeAcross }
+{}
+
+/// Of a marked load from LoongArch's GOT both instructions are rewritten, or neither is, whatever other
+/// loads of its symbol are.
+pub fn loads_are_whole()
+    ensures { LoadsAreWhole }
 {}

@@ -1,7 +1,7 @@
 //! The rewrites of a section, made in one call for each phase.
 
 ghost use Rattle.std.specs.Prelude.{◌≡◌, ◌<◌, ◌≤◌, ◌/◌, ℕ, length, take, IfErr, IfOk, IfSome};
-ghost use Rattle.std.specs.Prelude.{IfNone, OnOk, OnErr};
+ghost use Rattle.std.specs.Prelude.{IfNone, OnOk, OnErr, All, map, drop};
 ghost use Rattle.linker_section.specs.Relocations.{relocation_in};
 ghost use Rattle.linker_rewriting.specs.Decisions.{CanBeMade, AllCanBeMade, AreDecided, AreApart};
 ghost use Rattle.linker_rewriting.specs.Decisions.{AreDecidedIn, IsRejected, IsRejectedPlaced};
@@ -9,10 +9,10 @@ ghost use Rattle.linker_rewriting.specs.Decisions.{decision_at, deleted_of, dele
 ghost use Rattle.linker_rewriting.specs.Facts.{early, setting};
 ghost use Rattle.linker_rewriting.specs.Rewritten.{section_after, relocation_after, AreDone};
 ghost use Rattle.linker_rewriting.specs.Rewritten.{AreRelocationsAfter, OthersStay, GroupsAreWhole};
-ghost use Rattle.linker_rewriting.specs.Rewritten.{GroupsAreWholeIn};
+ghost use Rattle.linker_rewriting.specs.Rewritten.{GroupsAreWholeIn, LabelsAreWhole};
 ghost use Rattle.linker_rewriting.specs.Surveys.{MeansUnsurveyed};
 
-use crate::decisions::{Decision, RewritingError, decide_section};
+use crate::decisions::{AsDecision, Decision, FromDeletion, RewritingError, decide_section};
 use crate::facts::{NO_ADDRESSES, OutputFacts, SymbolFacts};
 use crate::groups::KeptGroups;
 use crate::phases::Phase;
@@ -37,24 +37,32 @@ fn make(decision: Decision, relocation: &mut Rela, section: &mut [u8])
                 .apply(section, &mut relocation.offset, &mut relocation.addend);
             relocation.code = choice.relocation;
         }
+        Decision::Redirected(choice, subject) => {
+            relocation.symbol = subject.symbol;
+            relocation.addend = subject.addend;
+            let kind = choice.kind;
+            kind.apply(section, &mut relocation.offset, &mut relocation.addend);
+            relocation.code = choice.relocation;
+        }
     }
 }
 
 /// Makes what was decided.
-fn make_all(decisions: &[Decision], relocations: &mut [u8], section: &mut [u8])
-    requires made { AllCanBeMade relocations.old section.old decisions.now
+fn make_all<D: AsDecision>(decisions: &[D], relocations: &mut [u8], section: &mut [u8])
+    requires made { AllCanBeMade relocations.old section.old (map D.decision decisions.now)
         (length relocations.old / 24) }
-    requires apart { AreApart relocations.old decisions.now (length relocations.old / 24) }
+    requires apart { AreApart relocations.old (map D.decision decisions.now)
+        (length relocations.old / 24) }
     requires enough { length relocations.old / 24 ≤ length decisions.now }
-    ensures relocations { AreRelocationsAfter decisions.now relocations.old relocations.new
+    ensures relocations { AreRelocationsAfter (map D.decision decisions.now) relocations.old
+        relocations.new (length relocations.old / 24) }
+    ensures done { AreDone relocations.old (map D.decision decisions.now) section.old section.new
         (length relocations.old / 24) }
-    ensures done { AreDone relocations.old decisions.now section.old section.new
-        (length relocations.old / 24) }
-    ensures others { OthersStay relocations.old decisions.now section.old section.new
-        (length relocations.old / 24) }
+    ensures others { OthersStay relocations.old (map D.decision decisions.now) section.old
+        section.new (length relocations.old / 24) }
 {
     for index in 0..relocations_len(relocations) {
-        let decision = decisions[index];
+        let decision = decisions[index].as_decision();
         if let Decision::Kept = decision {
             continue;
         }
@@ -114,29 +122,33 @@ fn make_all(decisions: &[Decision], relocations: &mut [u8], section: &mut [u8])
 /// // R_X86_64_PC32
 /// assert_eq!(relocations[8], 2);
 /// ```
-pub fn rewrite_section(
+pub fn rewrite_section<D: AsDecision>(
     architecture: Architecture,
     output: &OutputFacts,
     symbols: &[SymbolFacts],
     kept: &[KeptGroups],
     relocations: &mut [u8],
     section: &mut [u8],
-    decisions: &mut [Decision],
+    decisions: &mut [D],
 ) -> Result<(), RewritingError>
     ensures decided { OnOk result (AreDecided architecture output.now symbols.now kept.now
-        relocations.old section.old decisions.new (length relocations.old / 24)) }
-    ensures groups { OnOk result (GroupsAreWhole architecture relocations.old decisions.new
+        relocations.old section.old (map D.decision decisions.new) (length relocations.old / 24)) }
+    ensures groups { OnOk result (GroupsAreWhole architecture relocations.old
+        (map D.decision decisions.new) (length relocations.old / 24)) }
+    ensures apart { OnOk result (AreApart relocations.old (map D.decision decisions.new)
         (length relocations.old / 24)) }
-    ensures apart { OnOk result (AreApart relocations.old decisions.new
-        (length relocations.old / 24)) }
-    ensures relocations { OnOk result (AreRelocationsAfter decisions.new relocations.old
-        relocations.new (length relocations.old / 24)) }
-    ensures done { OnOk result (AreDone relocations.old decisions.new section.old section.new
-        (length relocations.old / 24)) }
-    ensures others { OnOk result (OthersStay relocations.old decisions.new section.old section.new
-        (length relocations.old / 24)) }
+    ensures relocations { OnOk result (AreRelocationsAfter (map D.decision decisions.new)
+        relocations.old relocations.new (length relocations.old / 24)) }
+    ensures done { OnOk result (AreDone relocations.old (map D.decision decisions.new) section.old
+        section.new (length relocations.old / 24)) }
+    ensures others { OnOk result (OthersStay relocations.old (map D.decision decisions.new)
+        section.old section.new (length relocations.old / 24)) }
+    ensures form { OnOk result
+        (All D.is_written (take (length relocations.old / 24) decisions.new)) }
+    ensures others_stay { drop (length relocations.old / 24) decisions.new
+        ≡ drop (length relocations.old / 24) decisions.old }
     ensures rejected { IfErr result (IsRejected architecture output.now symbols.now kept.now
-        relocations.old section.old decisions.new) }
+        relocations.old section.old (map D.decision decisions.new)) }
     ensures surveyed { IfErr result (MeansUnsurveyed (early architecture output.now symbols.now)
         relocations.old section.old kept.now) }
     ensures section { OnErr result (section.new ≡ section.old) }
@@ -164,30 +176,33 @@ pub fn rewrite_section(
 
 /// Lists what decisions delete, in the caller's memory. Returns how many there are; none where there
 /// is less room.
-fn list_deletions(
+fn list_deletions<D: AsDecision, L: FromDeletion>(
     relocations: &[u8],
-    decisions: &[Decision],
-    deleted: &mut [(u64, u32)],
+    decisions: &[D],
+    deleted: &mut [L],
 ) -> Option<usize>
     requires enough { length relocations.now / 24 ≤ length decisions.now }
     requires fit { (n : ℕ) → n < length relocations.now / 24
-        → deleted_end (relocation_in relocations.now n).offset (deleted_of (decision_at decisions.now n))
-        ≤ u64.MAX }
-    ensures listed { IfSome result (λ len. take len deleted.new ≡ deletions_by relocations.now
-        decisions.now (length relocations.now / 24)) }
-    ensures short { IfNone result (length deleted.old < length (deletions_by relocations.now
-        decisions.now (length relocations.now / 24))) }
+        → deleted_end (relocation_in relocations.now n).offset
+        (deleted_of (decision_at (map D.decision decisions.now) n)) ≤ u64.MAX }
+    ensures listed { IfSome result (λ len. take len (map L.deletion deleted.new)
+        ≡ deletions_by relocations.now (map D.decision decisions.now)
+        (length relocations.now / 24)) }
+    ensures others_stay { IfSome result (λ len. drop len deleted.new ≡ drop len deleted.old) }
+    ensures short { IfNone result (length deleted.old
+        < length (deletions_by relocations.now (map D.decision decisions.now)
+        (length relocations.now / 24))) }
 {
     let mut len = 0;
     for index in 0..relocations_len(relocations) {
-        let Some(bytes) = decisions[index].deleted() else {
+        let Some(bytes) = decisions[index].as_decision().deleted() else {
             continue;
         };
         if deleted.len() <= len {
             return None;
         }
         let relocation = relocation_in(relocations, index);
-        deleted[len] = (relocation.offset + bytes.start, bytes.count);
+        deleted[len] = L::from_deletion(relocation.offset + bytes.start, bytes.count);
         len += 1;
     }
     Some(len)
@@ -212,9 +227,12 @@ fn list_deletions(
 /// - `ThreadOffsets`: where an offset from the thread pointer has 12 bits, RISC-V's and LoongArch's
 ///   `lui` and `add` of it are deleted, and loads and stores are over the thread pointer; where it has
 ///   16 bits, PowerPC64's `addis` becomes a `nop`. An instruction of RISC-V and LoongArch has to be
-///   marked for that.
+///   marked for that. RISC-V's TLS descriptors become such offsets too, all of a label or none: what is
+///   left out is deleted where the high part is marked, and a `nop` elsewhere. Their relocations are then
+///   of the symbol and the addend of the high part (`Decision::Redirected`).
 /// - `GotLoads`: AArch64's loads of an address from the GOT become `adrp` and `add`, where both
-///   relocations are next to each other and have no addend.
+///   relocations are next to each other and have no addend. RISC-V's become `auipc` and `addi`, where all
+///   of a label are marked.
 /// - `Distances`: AArch64's `adrp` and `add` next to each other become `nop` and `adr`. Where a distance
 ///   from the TOC pointer has 16 bits, PowerPC64's `addis` becomes a `nop`, and what reads it is over the
 ///   TOC pointer.
@@ -253,7 +271,7 @@ fn list_deletions(
 ///     &mut relocations,
 ///     &mut section,
 ///     &mut [Decision::Kept; 2],
-///     &mut [],
+///     &mut [(0, 0); 0],
 /// );
 /// assert_eq!(rewritten, Ok(0));
 /// assert_eq!(section, [0x1f, 0x20, 0x03, 0xd5, 0, 0, 0, 0x10]);
@@ -261,7 +279,7 @@ fn list_deletions(
 /// assert_eq!((relocations[8], relocations[9]), (0, 0));
 /// assert_eq!((relocations[32], relocations[33]), (0x12, 1));
 /// ```
-pub fn rewrite_placed_section(
+pub fn rewrite_placed_section<D: AsDecision, L: FromDeletion>(
     architecture: Architecture,
     phase: Phase,
     output: &OutputFacts,
@@ -271,29 +289,38 @@ pub fn rewrite_placed_section(
     kept: &[KeptGroups],
     relocations: &mut [u8],
     section: &mut [u8],
-    decisions: &mut [Decision],
-    deleted: &mut [(u64, u32)],
+    decisions: &mut [D],
+    deleted: &mut [L],
 ) -> Result<usize, RewritingError>
     ensures decided { OnOk result (AreDecidedIn (setting architecture phase output.now symbols.now
-        addresses.now values.now) kept.now relocations.old section.old decisions.new
+        addresses.now values.now) kept.now relocations.old section.old
+        (map D.decision decisions.new) (length relocations.old / 24)) }
+    ensures groups { OnOk result (GroupsAreWholeIn architecture phase relocations.old
+        (map D.decision decisions.new) (length relocations.old / 24)) }
+    ensures apart { OnOk result (AreApart relocations.old (map D.decision decisions.new)
         (length relocations.old / 24)) }
-    ensures groups { OnOk result (GroupsAreWholeIn architecture phase relocations.old decisions.new
+    ensures within { OnOk result (AllCanBeMade relocations.old section.old
+        (map D.decision decisions.new) (length relocations.old / 24)) }
+    ensures relocations { OnOk result (AreRelocationsAfter (map D.decision decisions.new)
+        relocations.old relocations.new (length relocations.old / 24)) }
+    ensures done { OnOk result (AreDone relocations.old (map D.decision decisions.new) section.old
+        section.new (length relocations.old / 24)) }
+    ensures others { OnOk result (OthersStay relocations.old (map D.decision decisions.new)
+        section.old section.new (length relocations.old / 24)) }
+    ensures listed { IfOk result (λ len. take len (map L.deletion deleted.new)
+        ≡ deletions_by relocations.old (map D.decision decisions.new)
         (length relocations.old / 24)) }
-    ensures apart { OnOk result (AreApart relocations.old decisions.new
+    ensures labels { OnOk result (LabelsAreWhole (setting architecture phase output.now symbols.now
+        addresses.now values.now) relocations.old (map D.decision decisions.new)
         (length relocations.old / 24)) }
-    ensures within { OnOk result (AllCanBeMade relocations.old section.old decisions.new
-        (length relocations.old / 24)) }
-    ensures relocations { OnOk result (AreRelocationsAfter decisions.new relocations.old
-        relocations.new (length relocations.old / 24)) }
-    ensures done { OnOk result (AreDone relocations.old decisions.new section.old section.new
-        (length relocations.old / 24)) }
-    ensures others { OnOk result (OthersStay relocations.old decisions.new section.old section.new
-        (length relocations.old / 24)) }
-    ensures listed { IfOk result (λ len. take len deleted.new ≡ deletions_by relocations.old
-        decisions.new (length relocations.old / 24)) }
+    ensures form { OnOk result
+        (All D.is_written (take (length relocations.old / 24) decisions.new)) }
+    ensures others_stay { drop (length relocations.old / 24) decisions.new
+        ≡ drop (length relocations.old / 24) decisions.old }
+    ensures deletions_stay { IfOk result (λ len. drop len deleted.new ≡ drop len deleted.old) }
     ensures rejected { IfErr result (IsRejectedPlaced (setting architecture phase output.now
-        symbols.now addresses.now values.now) kept.now relocations.old section.old decisions.new
-        (length deleted.old)) }
+        symbols.now addresses.now values.now) kept.now relocations.old section.old
+        (map D.decision decisions.new) (length deleted.old)) }
     ensures surveyed { IfErr result (MeansUnsurveyed (setting architecture phase output.now
         symbols.now addresses.now values.now) relocations.old section.old kept.now) }
     ensures section { OnErr result (section.new ≡ section.old) }

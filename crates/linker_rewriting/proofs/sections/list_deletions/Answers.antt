@@ -1,13 +1,89 @@
-use Rattle.std.proofs.Common.{◌<◌, ◌/◌, ◌∙◌, length, sym, arith}
-use Rattle.linker_rewriting.proofs.Listing.{no_room}
+use Rattle.std.proofs.Common.{◌≡◌, ◌<◌, ◌≤◌, ◌/◌, ◌∙◌, ◌+◌, length, map, slice_set, ap, sym, subst, arith, Some}
+use Rattle.std.proofs.lemmas.Grind.{drop_more_same}
+use Rattle.std.proofs.lemmas.List.{length-map, map-set, get_or-map, drop-set-lt}
+use Rattle.linker_rewriting.specs.declared.decisions.Decision.TheVariants.{Kept}
+use Rattle.linker_rewriting.specs.Decisions.{decision_at, deleted_of, deleted_end}
+use Rattle.linker_rewriting.proofs.Listing.{AreListed, nothing_more, one_more, no_room}
+use Rattle.linker_section.specs.Relocations.{relocation_in}
 use Rattle.linker_rewriting.proofs.sections.list_deletions.Goals as goal
 
 pub returns-then-deleted-len-clause-short : goal.returns-then-deleted-len-clause-short
-returns-then-deleted-len-clause-short c =
+returns-then-deleted-len-clause-short g c =
     let a = c.args in
+    let f = g.D.AsDecision.decision in
+    let h = g.L.AsDeletion.deletion in
     let k = c.loop-index.index in
     let less : k < length a.relocations.now / 24 =
     (let t = c.loop-index-test.true in let e = c.relocations_len-index-end.ensures in omega arith) in
-    no_room a.relocations.now a.decisions.now a.deleted.now c.loop-index.deleted c.loop-index.len k
-    (length a.relocations.now / 24) c.in-Some.bytes _ c.loop-index.invariant c.if-deleted-len.true less
-    c.requires.enough (sym c.in-Some.is ∙ c.deleted.ensures)
+    let within : k < length a.decisions.now = (let n = c.requires.enough in omega (arith, n, less)) in
+    let at : decision_at (map f a.decisions.now) k ≡ c.as_decision.result =
+    get_or-map f a.decisions.now k c.index-decisions-index.result Kept within ∙ rw (← c.index-decisions-index.is) (sym c.as_decision.ensures) in
+    let enough : length a.relocations.now / 24 ≤ length (map f a.decisions.now) =
+    (let e = length-map a.decisions.now f in let n = c.requires.enough in omega (arith, e, n)) in
+    let full : length (map h c.loop-index.deleted) ≤ c.loop-index.len =
+    (let e = length-map c.loop-index.deleted h in let n = c.if-deleted-len.true in omega (arith, e, n)) in
+    let same = length-map a.deleted.now h in
+    let short = no_room a.relocations.now (map f a.decisions.now) (map h a.deleted.now) (map h c.loop-index.deleted) c.loop-index.len k
+    (length a.relocations.now / 24) c.in-Some.bytes Kept c.loop-index.invariant.listed full less
+    enough (sym c.in-Some.is ∙ c.deleted.ensures ∙ ap deleted_of (sym at)) in
+    omega (arith, same, short)
+
+pub loop-index-preserved-in_default : goal.loop-index-preserved-in_default
+loop-index-preserved-in_default g c =
+    let a = c.args in
+    let f = g.D.AsDecision.decision in
+    let h = g.L.AsDeletion.deletion in
+    let k = c.loop-index.index in
+    let less : k < length a.relocations.now / 24 =
+    (let t = c.loop-index-test.true in let e = c.relocations_len-index-end.ensures in omega arith) in
+    let within : k < length a.decisions.now = (let n = c.requires.enough in omega (arith, n, less)) in
+    let at : decision_at (map f a.decisions.now) k ≡ c.as_decision.result =
+    get_or-map f a.decisions.now k c.index-decisions-index.result Kept within ∙ rw (← c.index-decisions-index.is) (sym c.as_decision.ensures) in
+    record {
+      listed = nothing_more a.relocations.now (map f a.decisions.now) (map h a.deleted.now) (map h c.loop-index.deleted) c.loop-index.len k
+          c.loop-index.invariant.listed (ap deleted_of at ∙ sym c.deleted.ensures ∙ c.in_default.is);
+      left = c.loop-index.invariant.left;
+    }
+
+pub overflow_add-relocation : goal.overflow_add-relocation
+overflow_add-relocation g c =
+    let a = c.args in
+    let f = g.D.AsDecision.decision in
+    let k = c.loop-index.index in
+    let less : k < length a.relocations.now / 24 =
+    (let t = c.loop-index-test.true in let e = c.relocations_len-index-end.ensures in omega arith) in
+    let within : k < length a.decisions.now = (let n = c.requires.enough in omega (arith, n, less)) in
+    let at : decision_at (map f a.decisions.now) k ≡ c.as_decision.result =
+    get_or-map f a.decisions.now k c.index-decisions-index.result Kept within ∙ rw (← c.index-decisions-index.is) (sym c.as_decision.ensures) in
+    let is : deleted_of (decision_at (map f a.decisions.now) k) ≡ Some c.in-Some.bytes =
+    ap deleted_of at ∙ sym c.deleted.ensures ∙ c.in-Some.is in
+    let fit = c.requires.fit k less in
+    let same = ap (deleted_end (relocation_in a.relocations.now k).offset) is in
+    let e = ap (λ r. r.offset) c.relocation_in-relocation.ensures in
+    omega (arith, fit, same, e)
+
+pub loop-index-preserved : goal.loop-index-preserved
+loop-index-preserved g c =
+    let a = c.args in
+    let f = g.D.AsDecision.decision in
+    let h = g.L.AsDeletion.deletion in
+    let k = c.loop-index.index in
+    let len = c.loop-index.len in
+    let now = c.loop-index.deleted in
+    let less : k < length a.relocations.now / 24 =
+    (let t = c.loop-index-test.true in let e = c.relocations_len-index-end.ensures in omega arith) in
+    let within : k < length a.decisions.now = (let n = c.requires.enough in omega (arith, n, less)) in
+    let at : decision_at (map f a.decisions.now) k ≡ c.as_decision.result =
+    get_or-map f a.decisions.now k c.index-decisions-index.result Kept within ∙ rw (← c.index-decisions-index.is) (sym c.as_decision.ensures) in
+    let is : deleted_of (decision_at (map f a.decisions.now) k) ≡ Some c.in-Some.bytes =
+    ap deleted_of at ∙ sym c.deleted.ensures ∙ c.in-Some.is in
+    let room : len < length (map h now) = (let e = length-map now h in let n = c.if-deleted-len.false in omega (arith, e, n)) in
+    let y = c.from_deletion.result in
+    record {
+      listed = subst (λ l. AreListed a.relocations.now (map f a.decisions.now) (map h a.deleted.now) l (len + 1) (k + 1))
+          (sym (map-set h now len y ∙ ap (slice_set (map h now) len) c.from_deletion.ensures))
+          (one_more a.relocations.now (map f a.decisions.now) (map h a.deleted.now) (map h now) len k c.in-Some.bytes
+          c.relocation_in-relocation.result.offset c.loop-index.invariant.listed is room
+          (ap (λ r. r.offset) c.relocation_in-relocation.ensures));
+      left = drop-set-lt (len + 1) now len y (omega arith) ∙ drop_more_same now a.deleted.now len c.loop-index.invariant.left;
+    }

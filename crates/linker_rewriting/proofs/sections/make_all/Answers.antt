@@ -1,48 +1,74 @@
-use Rattle.std.proofs.Common.{◌≡◌, ◌<◌, ◌/◌, length, sym, subst, arith, rules}
+use Rattle.std.proofs.Common.{◌≡◌, ◌<◌, ◌≤◌, ◌/◌, ◌∙◌, List, length, map, sym, subst, arith, rules}
+use Rattle.std.proofs.lemmas.List.{length-map, get_or-map}
+use Rattle.linker_rewriting.specs.Decisions.{CanBeMade, decision_at}
+use Rattle.linker_rewriting.specs.Rewritten.{section_after, relocation_after}
+use Rattle.linker_rewriting.specs.declared.decisions.Decision.{Decision}
+use Rattle.linker_rewriting.specs.declared.decisions.Decision.TheVariants.{Kept}
 use Rattle.linker_rewriting.proofs.Making.{made_next, kept_next, can_next, windows_apart}
 use Rattle.linker_rewriting.proofs.sections.make_all.Goals as goal
 
 pub loop-index-preserved : goal.loop-index-preserved
-loop-index-preserved c =
+loop-index-preserved g c =
     let a = c.args in
+    let f = g.D.AsDecision.decision in
+    let ds : List Decision = map f a.decisions.now in
     let k = c.loop-index.index in
+    let d = c.as_decision-decision.result in
+    let r = c.relocation_in-relocation.result in
     let limit = length a.relocations.now / 24 in
     let less : k < limit =
     (let t = c.loop-index-test.true in let e = c.relocations_len-index-end.ensures in omega arith) in
+    let enough : limit ≤ length ds = (let e = length-map a.decisions.now f in let n = c.requires.enough in omega (arith, e, n)) in
+    let is : d ≡ decision_at ds k =
+    sym (get_or-map f a.decisions.now k c.index-decisions-index.result Kept (let n = c.requires.enough in omega (arith, n, less)) ∙ rw (← c.index-decisions-index.is) (sym c.as_decision-decision.ensures)) in
     let same_len : length c.loop-index.relocations ≡ length a.relocations.now =
     c.loop-index.invariant.same_entries_len in
-    made_next a.decisions.now a.relocations.now c.loop-index.relocations
-    c.set_relocation.new.relocations a.section.now c.loop-index.section c.make.new.section limit k _
-    c.relocation_in-relocation.result c.make.new.relocation c.loop-index.invariant less
-    c.requires.enough c.requires.made (windows_apart _ _ _ c.requires.apart) c.relocation_in-relocation.ensures
-    c.make.ensures.section (search rules) c.set_relocation.ensures.set c.make.ensures.relocation
+    made_next ds a.relocations.now c.loop-index.relocations
+    c.set_relocation.new.relocations a.section.now c.loop-index.section c.make.new.section limit k Kept
+    r c.make.new.relocation c.loop-index.invariant less
+    enough c.requires.made (windows_apart _ _ _ c.requires.apart) c.relocation_in-relocation.ensures
+    (subst (λ y. c.make.new.section ≡ section_after y r.offset c.loop-index.section) is c.make.ensures.section)
+    (search rules) c.set_relocation.ensures.set
+    (subst (λ y. c.make.new.relocation ≡ relocation_after y r) is c.make.ensures.relocation)
     (λ n below ne. c.set_relocation.ensures.others n (subst (λ l. n < l / 24) (sym same_len) below) ne)
     (search rules)
 
 pub loop-index-preserved-in-Kept : goal.loop-index-preserved-in-Kept
-loop-index-preserved-in-Kept c =
+loop-index-preserved-in-Kept g c =
     let a = c.args in
+    let f = g.D.AsDecision.decision in
+    let ds : List Decision = map f a.decisions.now in
     let k = c.loop-index.index in
     let limit = length a.relocations.now / 24 in
     let less : k < limit =
     (let t = c.loop-index-test.true in let e = c.relocations_len-index-end.ensures in omega arith) in
-    kept_next a.decisions.now a.relocations.now c.loop-index.relocations a.section.now
-    c.loop-index.section limit k _ c.loop-index.invariant less c.requires.enough c.requires.made
-    (windows_apart _ _ _ c.requires.apart) c.in-Kept.is
+    let enough : limit ≤ length ds = (let e = length-map a.decisions.now f in let n = c.requires.enough in omega (arith, e, n)) in
+    let is : c.as_decision-decision.result ≡ decision_at ds k =
+    sym (get_or-map f a.decisions.now k c.index-decisions-index.result Kept (let n = c.requires.enough in omega (arith, n, less)) ∙ rw (← c.index-decisions-index.is) (sym c.as_decision-decision.ensures)) in
+    kept_next ds a.relocations.now c.loop-index.relocations a.section.now
+    c.loop-index.section limit k Kept c.loop-index.invariant less enough c.requires.made
+    (windows_apart _ _ _ c.requires.apart) (sym is ∙ c.in-Kept.is)
 
 pub make-requires : goal.make-requires
-make-requires c =
+make-requires g c =
     let a = c.args in
+    let f = g.D.AsDecision.decision in
+    let ds : List Decision = map f a.decisions.now in
     let k = c.loop-index.index in
+    let r = c.relocation_in-relocation.result in
     let limit = length a.relocations.now / 24 in
     let less : k < limit =
     (let t = c.loop-index-test.true in let e = c.relocations_len-index-end.ensures in omega arith) in
-    can_next a.decisions.now a.relocations.now c.loop-index.relocations a.section.now
-    c.loop-index.section limit k _ c.relocation_in-relocation.result c.loop-index.invariant less
-    c.requires.enough c.requires.made c.relocation_in-relocation.ensures
+    let enough : limit ≤ length ds = (let e = length-map a.decisions.now f in let n = c.requires.enough in omega (arith, e, n)) in
+    let is : c.as_decision-decision.result ≡ decision_at ds k =
+    sym (get_or-map f a.decisions.now k c.index-decisions-index.result Kept (let n = c.requires.enough in omega (arith, n, less)) ∙ rw (← c.index-decisions-index.is) (sym c.as_decision-decision.ensures)) in
+    subst (λ y. CanBeMade y c.loop-index.section r.offset) (sym is)
+    (can_next ds a.relocations.now c.loop-index.relocations a.section.now
+    c.loop-index.section limit k Kept r c.loop-index.invariant less
+    enough c.requires.made c.relocation_in-relocation.ensures)
 
 pub returns-clause-others : goal.returns-clause-others
-returns-clause-others c =
+returns-clause-others g c =
     let t = c.loop-index-test.false in
     let e = c.relocations_len-index-end.ensures in
     λ at outside. c.loop-index.invariant.others at (λ n less. outside n (omega arith))

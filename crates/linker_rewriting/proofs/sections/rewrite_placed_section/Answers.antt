@@ -1,25 +1,32 @@
-use Rattle.std.proofs.Common.{◌/◌, length, rules}
+use Rattle.std.proofs.Common.{◌/◌, length, map, rules}
 use Rattle.linker_rewriting.specs.Facts.{setting}
 use Rattle.linker_rewriting.proofs.Listing.{all_fit}
 use Rattle.linker_rewriting.proofs.Noted.{means_unsurveyed}
-use Rattle.linker_rewriting.proofs.Whole.{whole}
+use Rattle.linker_rewriting.proofs.Whole.{whole, labels_whole}
 use Rattle.linker_rewriting.proofs.sections.rewrite_placed_section.Goals as goal
 
 pub returns-in-Err-clause-surveyed : goal.returns-in-Err-clause-surveyed
-returns-in-Err-clause-surveyed c =
+returns-in-Err-clause-surveyed g c =
     let a = c.args in
     means_unsurveyed (setting a.architecture a.phase a.output.now a.symbols.now a.addresses.now a.values.now)
-    a.kept.now a.relocations.now a.section.now c.decide_section.new.decisions _ c.in-Err.ensures.rejected
+    a.kept.now a.relocations.now a.section.now (map g.D.AsDecision.decision c.decide_section.new.decisions) _ c.in-Err.ensures.rejected
 
 pub returns-in-Some-clause-groups : goal.returns-in-Some-clause-groups
-returns-in-Some-clause-groups c =
+returns-in-Some-clause-groups g c =
     let a = c.args in
     whole (setting a.architecture a.phase a.output.now a.symbols.now a.addresses.now a.values.now)
-    a.kept.now a.relocations.now a.section.now c.decide_section.new.decisions
+    a.kept.now a.relocations.now a.section.now (map g.D.AsDecision.decision c.decide_section.new.decisions)
     (length a.relocations.now / 24) c.in_default.ensures.decided
 
 pub list_deletions-requires-clause-fit : goal.list_deletions-requires-clause-fit
-list_deletions-requires-clause-fit c =
+list_deletions-requires-clause-fit g c =
     let a = c.args in
-    all_fit a.relocations.now a.section.now c.decide_section.new.decisions
+    all_fit a.relocations.now a.section.now (map g.D.AsDecision.decision c.decide_section.new.decisions)
     (length a.relocations.now / 24) _ c.in_default.ensures.made (search rules)
+
+pub returns-in-Some-clause-labels : goal.returns-in-Some-clause-labels
+returns-in-Some-clause-labels g c =
+    let a = c.args in
+    labels_whole (setting a.architecture a.phase a.output.now a.symbols.now a.addresses.now a.values.now)
+    a.kept.now a.relocations.now a.section.now (map g.D.AsDecision.decision c.decide_section.new.decisions)
+    (length a.relocations.now / 24) c.in_default.ensures.decided

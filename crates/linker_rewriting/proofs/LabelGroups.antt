@@ -1,0 +1,516 @@
+-- Groups of one label: each relocation has one high part, and what is noted is right.
+use Rattle.std.proofs.Common.{◌≡◌, ◌≢◌, ℕ, zero, suc, ◌∙◌, ◌+◌, ◌≤◌, ◌<◌, ◌/◌, inl, inr, List, [], ◌∷◌, length, ap, sym, subst, arith, refl, Bool, true, false, true≢false, Option, Some, None, slice_get, slice_set, eq-eqb}
+use Rattle.std.specs.Prelude.{◌&&◌, ◌==◌}
+use Rattle.std.proofs.Math.Bool.{and-false}
+use Rattle.std.proofs.lemmas.Bool.{eqb-true, cases_eq, cases_lt, cases_Bool, and_parts, cond-true}
+use Rattle.std.proofs.lemmas.List.{get_or-set_same, get_or-set_other}
+use Rattle.linker_elf.specs.declared.aarch64.relocations.AArch64Relocation.{AArch64Relocation}
+use Rattle.linker_elf.specs.declared.aarch64.relocations.AArch64Relocation.TheVariants as aarch64
+use Rattle.linker_elf.specs.declared.loongarch64.relocations.LoongArch64Relocation.{LoongArch64Relocation}
+use Rattle.linker_elf.specs.declared.loongarch64.relocations.LoongArch64Relocation.TheVariants as loongarch64
+use Rattle.linker_elf.specs.declared.ppc64.relocations.Ppc64Relocation.{Ppc64Relocation}
+use Rattle.linker_elf.specs.declared.ppc64.relocations.Ppc64Relocation.TheVariants as ppc64
+use Rattle.linker_elf.specs.declared.x86_64.relocations.X86_64Relocation.{X86_64Relocation}
+use Rattle.linker_elf.specs.declared.x86_64.relocations.X86_64Relocation.TheVariants as x86_64
+use Rattle.linker_elf.specs.declared.elf.choice.Choice.{Choice}
+use Rattle.linker_rewriting.proofs.Unique.{one_scope, one_candidate_with}
+use Rattle.linker_rewriting.specs.Decisions.{decision_at, label_decision, IsLabelDecision, CanBeMade}
+use Rattle.linker_rewriting.specs.Facts.{Setting}
+use Rattle.linker_rewriting.specs.Groups.{aarch64_scope_in, loongarch_scope_in, ppc64_scope_in, x86_64_scope_in}
+use Rattle.linker_rewriting.specs.Labels.{high_code, is_high, IsHighAt, offset_of_label, label_offset, IsHighFrom, IsHighIn, is_labelled, has_labels, IsInLabel, label_facts, IsLabelCandidate, Lacks, IsLacking, HasLacking, LabelFits, LabelStays, IsLabelNote}
+use Rattle.linker_rewriting.specs.Notes.{is_note, AreHighsNoted, IsNoteAt, IsNoteOf, AreLabelsNoted}
+use Rattle.linker_rewriting.specs.declared.decisions.Decision.{Decision}
+use Rattle.linker_rewriting.specs.declared.decisions.Decision.TheVariants.{Kept, Rewritten, TakenAlong}
+use Rattle.linker_rewriting.specs.declared.groups.Scope.{Scope}
+use Rattle.linker_rewriting.specs.declared.groups.Scope.TheVariants.{Unlisted, Alone, Grouped, Ahead, Matched, Labelled}
+use Rattle.linker_rewriting.specs.declared.phases.Phase.{Phase}
+use Rattle.linker_rewriting.specs.declared.phases.Phase.TheVariants.{Early, ThreadOffsets, GotLoads, Distances}
+use Rattle.linker_section.specs.Relocations.{relocation_in}
+use Rattle.linker_section.specs.Values.{IsAscending, offset_at}
+use Rattle.linker_section.specs.declared.relocations.Rela.{Rela}
+use Rattle.linker_utils.specs.declared.architecture.Relaxation.{Relaxation}
+use Rattle.linker_utils.specs.declared.elf.Architecture.{Architecture}
+use Rattle.linker_utils.specs.declared.elf.Architecture.TheVariants.{AArch64, RiscV, LoongArch64, Ppc64, X86_64}
+
+-- ---- one high part
+
+isnt : {A : Type 0} → true ≡ false → A
+isnt is = absurd (true≢false is)
+
+one_high_at : (bytes : List ℕ) (code at : ℕ) (x y : Option ℕ) → IsHighAt bytes code at x
+    → IsHighAt bytes code at y → x ≡ y
+one_high_at bytes code at None None a b = refl
+one_high_at bytes code at None (Some h) a b = isnt (sym (b.1) ∙ a h (b.0))
+one_high_at bytes code at (Some g) None a b = isnt (sym (a.1) ∙ b g (a.0))
+one_high_at bytes code at (Some g) (Some h) a b =
+    elim (cases_lt g h) [
+      | inl less ↦ isnt (sym (a.1) ∙ b.2 g less)
+      | inr le ↦ elim (cases_lt h g) [
+        | inl less ↦ isnt (sym (b.1) ∙ a.2 h less)
+        | inr ge ↦ ap Some (omega (arith, le, ge))
+      ]
+    ]
+
+one_high_from : (bytes : List ℕ) (code : ℕ) (at x y : Option ℕ) → IsHighFrom bytes code at x
+    → IsHighFrom bytes code at y → x ≡ y
+one_high_from bytes code None x y a b = a ∙ sym b
+one_high_from bytes code (Some at) x y a b = one_high_at bytes code at x y a b
+
+pub one_high : (s : Setting) (bytes : List ℕ) (r : Rela) (x y : Option ℕ) → IsHighIn s bytes r x
+    → IsHighIn s bytes r y → x ≡ y
+one_high s bytes r x y =
+    one_high_from bytes (high_code s.phase) (label_offset s.phase s.addresses s.values r) x y
+
+some_one : (g h : ℕ) → Some g ≡ Some h → g ≡ h
+some_one g h is = cc
+
+pub one_index : (s : Setting) (bytes : List ℕ) (r : Rela) (g h : ℕ) → IsHighIn s bytes r (Some g)
+    → IsHighIn s bytes r (Some h) → g ≡ h
+one_index s bytes r g h a b = some_one g h (one_high s bytes r (Some g) (Some h) a b)
+
+pub not_none : (s : Setting) (bytes : List ℕ) (r : Rela) (h : ℕ) → IsHighIn s bytes r (Some h)
+    → IsHighIn s bytes r None → ⊥
+not_none s bytes r h a b =
+    let e : Some h ≡ None = one_high s bytes r (Some h) None a b in cc
+
+-- a high part is its own
+own_from : (bytes : List ℕ) (code h : ℕ) (at : Option ℕ) → IsHighFrom bytes code at (Some h)
+    → (((relocation_in bytes h).code == code) ≡ true)
+    × IsHighAt bytes code (relocation_in bytes h).offset (Some h)
+own_from bytes code h None is = absurd (let e : Some h ≡ None = is in cc)
+own_from bytes code h (Some at) is =
+    let parts = and_parts ((relocation_in bytes h).offset == at) ((relocation_in bytes h).code == code) (is.1) in (
+      parts.1,
+      subst (λ a. IsHighAt bytes code a (Some h))
+          (sym (eqb-true (relocation_in bytes h).offset at (parts.0))) is,
+    )
+
+own_high : (s : Setting) (bytes : List ℕ) (r : Rela) (h : ℕ) → IsHighIn s bytes r (Some h)
+    → IsHighIn s bytes (relocation_in bytes h) (Some h)
+own_high s bytes r h is =
+    let own = own_from bytes (high_code s.phase) h (label_offset s.phase s.addresses s.values r) is in
+    subst (λ at. IsHighFrom bytes (high_code s.phase) at (Some h))
+    (sym (cond-true ((relocation_in bytes h).code == high_code s.phase) (Some (relocation_in bytes h).offset)
+    (offset_of_label s.addresses (slice_get s.values (relocation_in bytes h).symbol)) (own.0)))
+    (own.1)
+
+high_within_from : (bytes : List ℕ) (code h : ℕ) (at : Option ℕ) → IsHighFrom bytes code at (Some h)
+    → h < length bytes / 24
+high_within_from bytes code h None is = absurd (let e : Some h ≡ None = is in cc)
+high_within_from bytes code h (Some at) is = is.0
+
+pub high_within : (s : Setting) (bytes : List ℕ) (r : Rela) (h : ℕ) → IsHighIn s bytes r (Some h)
+    → h < length bytes / 24
+high_within s bytes r h =
+    high_within_from bytes (high_code s.phase) h (label_offset s.phase s.addresses s.values r)
+
+-- ---- the search
+
+pub isnt_code : (code at : ℕ) (r : Rela) → (r.code ≡ code → ⊥) → is_high code at r ≡ false
+isnt_code code at r ne =
+    elim (cases_Bool (r.code == code)) [
+      | inl same ↦ absurd (ne (eqb-true r.code code same))
+      | inr differs ↦ ap (λ b. (r.offset == at) && b) differs ∙ and-false (r.offset == at)
+    ]
+
+pub isnt_there : (code at : ℕ) (r : Rela) → (r.offset ≡ at → ⊥) → is_high code at r ≡ false
+isnt_there code at r ne =
+    elim (cases_Bool (r.offset == at)) [
+      | inl same ↦ absurd (ne (eqb-true r.offset at same))
+      | inr differs ↦ ap (λ b. b && (r.code == code)) differs
+    ]
+
+is_there : (code at : ℕ) (r : Rela) → r.offset ≡ at → r.code ≡ code → is_high code at r ≡ true
+is_there code at r offset_is code_is =
+    ap (λ b. b && (r.code == code)) (eq-eqb r.offset at offset_is) ∙ eq-eqb r.code code code_is
+
+-- none so far
+abbrev pub NoneIn : List ℕ → ℕ → ℕ → ℕ → ℕ → Type 0
+NoneIn bytes code at first limit =
+    (n : ℕ) → first ≤ n → n < limit → is_high code at (relocation_in bytes n) ≡ false
+
+pub none_below : (bytes : List ℕ) (code at first limit : ℕ)
+    → ((n : ℕ) → n < first → offset_at bytes n < at) → NoneIn bytes code at first limit
+    → (n : ℕ) → n < limit → is_high code at (relocation_in bytes n) ≡ false
+none_below bytes code at first limit before none n less =
+    elim (cases_lt n first) [
+      | inl below ↦ isnt_there code at (relocation_in bytes n) (λ e. let b = before n below in absurd (omega (arith, b, e)))
+      | inr from ↦ none n from less
+    ]
+
+pub found : (bytes : List ℕ) (code at first index : ℕ) (r : Rela)
+    → ((n : ℕ) → n < first → offset_at bytes n < at) → NoneIn bytes code at first index
+    → index < length bytes / 24 → r ≡ relocation_in bytes index → r.offset ≡ at → r.code ≡ code
+    → IsHighAt bytes code at (Some index)
+found bytes code at first index r before none within same offset_is code_is = (
+  within,
+  subst (λ x. is_high code at x ≡ true) same (is_there code at r offset_is code_is),
+  none_below bytes code at first index before none,
+)
+
+pub none_at : (bytes : List ℕ) (code at first index : ℕ) → IsAscending bytes
+    → ((n : ℕ) → n < first → offset_at bytes n < at)
+    → ((n : ℕ) → first ≤ n → n < length bytes / 24 → at ≤ offset_at bytes n)
+    → NoneIn bytes code at first index → first ≤ index → index < length bytes / 24
+    → ((relocation_in bytes index).offset ≡ at → ⊥)
+    → IsHighAt bytes code at None
+none_at bytes code at first index ascending before behind none from within other n less =
+    elim (cases_lt n index) [
+      | inl below ↦ none_below bytes code at first index before none n below
+      | inr on ↦ isnt_there code at (relocation_in bytes n)
+          (λ e. let b = behind index from within in
+          let up = ascending index n on less in
+          other (omega (arith, b, up, e)))
+    ]
+
+-- ---- one candidate
+
+pub one_in_label : (architecture : Architecture) (phase : Phase) (code : ℕ) (x y : Bool)
+    → IsInLabel architecture phase code x → IsInLabel architecture phase code y → x ≡ y
+one_in_label architecture phase code x y a b =
+    a.2 ∙ (ap is_labelled (one_scope architecture phase code (a.0) (b.0) (a.1) (b.1)) ∙ sym (b.2))
+
+pub labelled : (scope : Scope) → true ≡ is_labelled scope → scope ≡ Labelled
+labelled Labelled is = refl
+labelled Unlisted is = isnt is
+labelled Alone is = isnt is
+labelled (Grouped group) is = isnt is
+labelled (Matched group) is = isnt is
+labelled Ahead is = isnt is
+
+pub one_label_candidate : (s : Setting) (bytes section : List ℕ) (n : ℕ) (r : Rela) (high : ℕ)
+    (x y : Option (Choice Relaxation ℕ)) → IsLabelCandidate s bytes section n r high x
+    → IsLabelCandidate s bytes section n r high y → x ≡ y
+one_label_candidate s bytes section n r high x y =
+    one_candidate_with s bytes section n r (label_facts s bytes n r high) x y
+
+pub some_or_none : (s : Setting) (bytes section : List ℕ) (n : ℕ) (r : Rela) (high : ℕ)
+    (x : Choice Relaxation ℕ) → IsLabelCandidate s bytes section n r high (Some x)
+    → IsLabelCandidate s bytes section n r high None → ⊥
+some_or_none s bytes section n r high x a b =
+    let e : Some x ≡ None = one_label_candidate s bytes section n r high (Some x) None a b in cc
+
+-- ---- what one relocation lacks
+
+pub unlabelled_lacks : (s : Setting) (bytes section : List ℕ) (n : ℕ) (r : Rela)
+    → IsInLabel s.architecture s.phase r.code false → IsLacking s bytes section n r None
+unlabelled_lacks s bytes section n r isnt_in high lacks =
+    isnt (one_in_label s.architecture s.phase r.code true false (lacks.0) isnt_in)
+
+pub lone_lacks : (s : Setting) (bytes section : List ℕ) (n : ℕ) (r : Rela)
+    → IsHighIn s bytes r None → IsLacking s bytes section n r None
+lone_lacks s bytes section n r none high lacks = not_none s bytes r high (lacks.1) none
+
+pub rewritten_lacks : (s : Setting) (bytes section : List ℕ) (n : ℕ) (r : Rela) (high : ℕ)
+    (x : Choice Relaxation ℕ) → IsHighIn s bytes r (Some high)
+    → IsLabelCandidate s bytes section n r high (Some x) → IsLacking s bytes section n r None
+rewritten_lacks s bytes section n r high x is some other lacks =
+    let same : other ≡ high = one_index s bytes r other high (lacks.1) is in
+    some_or_none s bytes section n r high x some
+    (subst (λ h. IsLabelCandidate s bytes section n r h None) same (lacks.2))
+
+-- ---- notes at high parts
+
+pub none_noted : (s : Setting) (bytes section : List ℕ) (decisions : List Decision)
+    → ((n : ℕ) → n < length bytes / 24 → decision_at decisions n ≡ Kept)
+    → AreHighsNoted s bytes section decisions 0
+none_noted s bytes section decisions clear =
+    record {
+      sound = λ high less is. isnt (sym is ∙ ap is_note (clear high less));
+      complete = λ high has. let less = has.1 in absurd (omega (arith, less));
+    }
+
+pub same_noted : (s : Setting) (bytes section : List ℕ) (decisions : List Decision) (k : ℕ)
+    → AreHighsNoted s bytes section decisions k
+    → IsLacking s bytes section k (relocation_in bytes k) None
+    → AreHighsNoted s bytes section decisions (k + 1)
+same_noted s bytes section decisions k noted lacks =
+    record {
+      sound = λ high less is. let was = noted.sound high less is in (was.0, omega (arith, was.1), was.2);
+      complete = λ high has. elim (cases_lt (has.0) k) [
+        | inl below ↦ noted.complete high (has.0, below, has.2)
+        | inr from ↦
+            let less = has.1 in
+            let here : has.0 ≡ k = omega (arith, from, less) in
+            absurd (lacks high (subst (λ n. Lacks s bytes section n (relocation_in bytes n) high) here (has.2)))
+      ];
+    }
+
+pub more_noted : (s : Setting) (bytes section : List ℕ) (old : List Decision) (k high : ℕ)
+    → AreHighsNoted s bytes section old k
+    → Lacks s bytes section k (relocation_in bytes k) high → high < length old
+    → AreHighsNoted s bytes section (slice_set old high TakenAlong) (k + 1)
+more_noted s bytes section old k high noted lacks within =
+    let new : List Decision = slice_set old high TakenAlong in
+    let here : is_note (decision_at new high) ≡ true = ap is_note (get_or-set_same old high TakenAlong Kept within) in
+    let other : (h : ℕ) → (h ≡ high → ⊥) → decision_at new h ≡ decision_at old h =
+    λ h ne. get_or-set_other old high h TakenAlong Kept ne in
+    record {
+      sound = λ h less is. elim (cases_eq h high) [
+        | inl same ↦ (
+          k,
+          omega arith,
+          subst (λ x. Lacks s bytes section k (relocation_in bytes k) x) (sym same) lacks,
+        )
+        | inr ne ↦ let was = noted.sound h less (sym (ap is_note (other h ne)) ∙ is) in (was.0, omega (arith, was.1), was.2)
+      ];
+      complete = λ h has. elim (cases_eq h high) [
+        | inl same ↦ subst (λ x. is_note (decision_at new x) ≡ true) (sym same) here
+        | inr ne ↦ elim (cases_lt (has.0) k) [
+          | inl below ↦ ap is_note (other h ne) ∙ noted.complete h (has.0, below, has.2)
+          | inr from ↦
+              let less = has.1 in
+              let at : has.0 ≡ k = omega (arith, from, less) in
+              let too = subst (λ n. Lacks s bytes section n (relocation_in bytes n) h) at (has.2) in
+              absurd (ne (one_index s bytes (relocation_in bytes k) h high (too.1) (lacks.1)))
+        ]
+      ];
+    }
+
+-- ---- notes at all of a label
+
+pub record AreCopied (s : Setting) (bytes section : List ℕ) (first now : List Decision) (k : ℕ)
+    : Type 0 where
+  pub same_len : length now ≡ length first
+  pub done : (n : ℕ) → n < k → IsInLabel s.architecture s.phase (relocation_in bytes n).code true
+      → IsLabelNote s bytes section (relocation_in bytes n) (is_note (decision_at now n))
+  pub highs : (n high : ℕ) → IsHighIn s bytes (relocation_in bytes n) (Some high)
+      → decision_at now high ≡ decision_at first high
+
+pub none_copied : (s : Setting) (bytes section : List ℕ) (first : List Decision)
+    → AreCopied s bytes section first first 0
+none_copied s bytes section first =
+    record {
+      same_len = refl;
+      done = λ n less. absurd (omega (arith, less));
+      highs = λ n high is. refl;
+    }
+
+pub same_copied : (s : Setting) (bytes section : List ℕ) (first now : List Decision) (k : ℕ)
+    → AreCopied s bytes section first now k
+    → IsInLabel s.architecture s.phase (relocation_in bytes k).code false
+    → AreCopied s bytes section first now (k + 1)
+same_copied s bytes section first now k copied outside =
+    record {
+      same_len = copied.same_len;
+      done = λ n less in_label. elim (cases_lt n k) [
+        | inl below ↦ copied.done n below in_label
+        | inr from ↦
+            let here : n ≡ k = omega (arith, from, less) in
+            isnt (one_in_label s.architecture s.phase (relocation_in bytes k).code true false
+            (subst (λ m. IsInLabel s.architecture s.phase (relocation_in bytes m).code true) here in_label) outside)
+      ];
+      highs = copied.highs;
+    }
+
+note_by : (s : Setting) (bytes section : List ℕ) (first : List Decision) (r : Rela) (high : ℕ)
+    (note : Bool) → IsAscending bytes → AreHighsNoted s bytes section first (length bytes / 24)
+    → IsHighIn s bytes r (Some high) → is_note (decision_at first high) ≡ note
+    → IsLabelNote s bytes section r note
+note_by s bytes section first r high true ascending noted is reads =
+    inr (inr (high, is, noted.sound high (high_within s bytes r high is) reads))
+note_by s bytes section first r high false ascending noted is reads = (
+  high,
+  is,
+  (ascending, λ has. isnt (sym (noted.complete high has) ∙ reads)),
+)
+
+note_right : (s : Setting) (bytes section : List ℕ) (first now : List Decision) (r : Rela)
+    (note : Decision) (high : Option ℕ) → IsAscending bytes
+    → AreHighsNoted s bytes section first (length bytes / 24)
+    → ((h : ℕ) → IsHighIn s bytes r (Some h) → decision_at now h ≡ decision_at first h)
+    → IsHighIn s bytes r high → IsNoteAt now high note
+    → IsLabelNote s bytes section r (is_note note)
+note_right s bytes section first now r note None ascending noted same none is =
+    subst (λ d. IsLabelNote s bytes section r (is_note d)) (sym is) (inr (inl none))
+note_right s bytes section first now r note (Some h) ascending noted same high is =
+    note_by s bytes section first r h (is_note note) ascending noted high
+    (ap is_note (sym (is ∙ same h high)))
+
+pub more_copied : (s : Setting) (bytes section : List ℕ) (first now : List Decision) (k : ℕ)
+    (note : Decision) → AreCopied s bytes section first now k → k < length now → IsAscending bytes
+    → AreHighsNoted s bytes section first (length bytes / 24)
+    → IsNoteOf s.phase s.addresses s.values bytes now (relocation_in bytes k) note
+    → AreCopied s bytes section first (slice_set now k note) (k + 1)
+more_copied s bytes section first now k note copied within ascending noted is =
+    let new : List Decision = slice_set now k note in
+    let here : decision_at new k ≡ note = get_or-set_same now k note Kept within in
+    let other : (n : ℕ) → (n ≡ k → ⊥) → decision_at new n ≡ decision_at now n =
+    λ n ne. get_or-set_other now k n note Kept ne in
+    record {
+      same_len = length_set now k note ∙ copied.same_len;
+      done = λ n less in_label. elim (cases_lt n k) [
+        | inl below ↦
+            subst (λ d. IsLabelNote s bytes section (relocation_in bytes n) (is_note d))
+            (sym (other n (λ e. absurd (omega (arith, e, below))))) (copied.done n below in_label)
+        | inr from ↦
+            let at : k ≡ n = omega (arith, from, less) in
+            subst (λ m. IsLabelNote s bytes section (relocation_in bytes m) (is_note (decision_at new m))) at
+            (subst (λ d. IsLabelNote s bytes section (relocation_in bytes k) (is_note d)) (sym here)
+            (note_right s bytes section first now (relocation_in bytes k) note (is.0) ascending noted
+            (λ h high. copied.highs k h high) (is.1) (is.2)))
+      ];
+      highs = λ n high of. elim (cases_eq high k) [
+        | inl same ↦
+            let own : IsHighIn s bytes (relocation_in bytes k) (Some k) =
+            subst (λ h. IsHighIn s bytes (relocation_in bytes h) (Some h)) same
+            (own_high s bytes (relocation_in bytes n) high of) in
+            let read : note ≡ decision_at now k =
+            subst (λ x. IsNoteAt now x note) (one_high s bytes (relocation_in bytes k) (is.0) (Some k) (is.1) own) (is.2) in
+            subst (λ h. decision_at new h ≡ decision_at first h) (sym same)
+            (here ∙ (read ∙ copied.highs k k own))
+        | inr ne ↦ other high ne ∙ copied.highs n high of
+      ];
+    }
+  where
+    length_set : (xs : List Decision) (n : ℕ) (x : Decision) → length (slice_set xs n x) ≡ length xs
+    length_set [] n x = refl
+    length_set (y ∷ ys) zero x = refl
+    length_set (y ∷ ys) (suc n) x = ap suc (length_set ys n x)
+
+pub all_copied : (s : Setting) (bytes section : List ℕ) (first now : List Decision) (k : ℕ)
+    → AreCopied s bytes section first now k → length bytes / 24 ≤ k
+    → AreLabelsNoted s bytes section now 0
+all_copied s bytes section first now k copied all n from less in_label =
+    copied.done n (omega (arith, less, all)) in_label
+
+-- in a section whose relocations don't ascend all stay
+pub none_ascend : (s : Setting) (bytes section : List ℕ) (decisions : List Decision)
+    → (IsAscending bytes → ⊥)
+    → ((n : ℕ) → n < length bytes / 24 → decision_at decisions n ≡ TakenAlong)
+    → AreLabelsNoted s bytes section decisions 0
+none_ascend s bytes section decisions unsorted all n from less in_label =
+    subst (λ d. IsLabelNote s bytes section (relocation_in bytes n) (is_note d)) (sym (all n less))
+    (inl unsorted)
+
+-- ---- architectures without labels
+
+aarch64_none : (phase : Phase) (name : AArch64Relocation) → is_labelled (aarch64_scope_in phase name) ≡ false
+aarch64_none Early aarch64.R_AARCH64_CALL26 = refl
+aarch64_none Early name = refl
+aarch64_none ThreadOffsets name = refl
+aarch64_none GotLoads aarch64.R_AARCH64_ADR_GOT_PAGE = refl
+aarch64_none GotLoads name = refl
+aarch64_none Distances aarch64.R_AARCH64_ADR_PREL_PG_HI21 = refl
+aarch64_none Distances name = refl
+
+loongarch_none : (phase : Phase) (name : LoongArch64Relocation) → is_labelled (loongarch_scope_in phase name) ≡ false
+loongarch_none Early loongarch64.R_LARCH_GOT_PC_HI20 = refl
+loongarch_none Early name = refl
+loongarch_none ThreadOffsets loongarch64.R_LARCH_TLS_LE_HI20_R = refl
+loongarch_none ThreadOffsets name = refl
+loongarch_none GotLoads name = refl
+loongarch_none Distances name = refl
+
+ppc64_none : (phase : Phase) (name : Ppc64Relocation) → is_labelled (ppc64_scope_in phase name) ≡ false
+ppc64_none Early ppc64.R_PPC64_REL24 = refl
+ppc64_none Early name = refl
+ppc64_none ThreadOffsets ppc64.R_PPC64_TPREL16_HA = refl
+ppc64_none ThreadOffsets name = refl
+ppc64_none GotLoads name = refl
+ppc64_none Distances ppc64.R_PPC64_TOC16_HA = refl
+ppc64_none Distances name = refl
+
+x86_64_none : (phase : Phase) (name : X86_64Relocation) → is_labelled (x86_64_scope_in phase name) ≡ false
+x86_64_none Early x86_64.R_X86_64_GOTPCREL = refl
+x86_64_none Early name = refl
+x86_64_none ThreadOffsets name = refl
+x86_64_none GotLoads name = refl
+x86_64_none Distances name = refl
+
+no_label : (architecture : Architecture) (phase : Phase) (code : ℕ) → has_labels architecture ≡ false
+    → IsInLabel architecture phase code true → ⊥
+no_label RiscV phase code is in_label = isnt is
+no_label AArch64 phase code is in_label =
+    isnt (in_label.2 ∙ (ap is_labelled (in_label.1).value_is ∙ aarch64_none phase (in_label.1).name))
+no_label LoongArch64 phase code is in_label =
+    isnt (in_label.2 ∙ (ap is_labelled (in_label.1).value_is ∙ loongarch_none phase (in_label.1).name))
+no_label Ppc64 phase code is in_label =
+    isnt (in_label.2 ∙ (ap is_labelled (in_label.1).value_is ∙ ppc64_none phase (in_label.1).name))
+no_label X86_64 phase code is in_label =
+    isnt (in_label.2 ∙ (ap is_labelled (in_label.1).value_is ∙ x86_64_none phase (in_label.1).name))
+
+pub no_labels : (s : Setting) (bytes section : List ℕ) (decisions : List Decision)
+    → has_labels s.architecture ≡ false → AreLabelsNoted s bytes section decisions 0
+no_labels s bytes section decisions is n from less in_label =
+    absurd (no_label s.architecture s.phase (relocation_in bytes n).code is in_label)
+
+-- ---- decisions
+
+pub stays_or_fits : (s : Setting) (bytes section : List ℕ) (r : Rela) (high : ℕ)
+    → LabelStays s bytes section r → IsHighIn s bytes r (Some high)
+    → LabelFits s bytes section high → ⊥
+stays_or_fits s bytes section r high stays is fits =
+    elim stays [
+      | inl unsorted ↦ unsorted (fits.0)
+      | inr other ↦ elim other [
+        | inl none ↦ not_none s bytes r high is none
+        | inr has ↦ fits.1 (subst (HasLacking s bytes section (length bytes / 24))
+            (one_index s bytes r (has.0) high (has.1) is) (has.2))
+      ]
+    ]
+
+pub one_label_decision : (s : Setting) (bytes section : List ℕ) (n : ℕ) (r : Rela) (x y : Decision)
+    → IsLabelDecision s bytes section n r x → IsLabelDecision s bytes section n r y → x ≡ y
+one_label_decision s bytes section n r x y a b =
+    elim a [
+      | inl stays ↦ elim b [
+        | inl too ↦ stays.1 ∙ sym (too.1)
+        | inr fits ↦ absurd (stays_or_fits s bytes section r (fits.0) (stays.0) (fits.1) (fits.2))
+      ]
+      | inr fits ↦ elim b [
+        | inl stays ↦ absurd (stays_or_fits s bytes section r (fits.0) (stays.0) (fits.1) (fits.2))
+        | inr too ↦
+            let same : too.0 ≡ fits.0 = one_index s bytes r (too.0) (fits.0) (too.1) (fits.1) in
+            let one : Some (fits.3) ≡ Some (too.3) =
+            one_label_candidate s bytes section n r (fits.0) (Some (fits.3)) (Some (too.3)) (fits.4)
+            (subst (λ h. IsLabelCandidate s bytes section n r h (Some (too.3))) same (too.4)) in
+            let chosen : fits.3 ≡ too.3 = cc in
+            fits.5 ∙ (ap (λ c. label_decision s.phase c (relocation_in bytes (fits.0))) chosen
+            ∙ (ap (λ h. label_decision s.phase (too.3) (relocation_in bytes h)) (sym same) ∙ sym (too.5)))
+      ]
+    ]
+
+-- all of a label can be rewritten: this one too
+pub fits_here : (s : Setting) (bytes section : List ℕ) (n : ℕ) (r : Rela) (high : ℕ)
+    → r ≡ relocation_in bytes n → n < length bytes / 24
+    → IsInLabel s.architecture s.phase r.code true → IsHighIn s bytes r (Some high)
+    → LabelFits s bytes section high → IsLabelCandidate s bytes section n r high None → ⊥
+fits_here s bytes section n r high same within in_label is fits none =
+    fits.1 (n, within, subst (λ x. Lacks s bytes section n x high) same (in_label, is, none))
+
+-- as noted, and as the search finds
+pub rewritten_label : (s : Setting) (bytes section : List ℕ) (n : ℕ) (r : Rela) (high : ℕ)
+    (chosen : Choice Relaxation ℕ) (part : Rela) (d : Decision)
+    → IsLabelNote s bytes section r false
+    → (IsAscending bytes → IsHighIn s bytes r (Some high))
+    → IsLabelCandidate s bytes section n r high (Some chosen) → part ≡ relocation_in bytes high
+    → d ≡ label_decision s.phase chosen part → IsLabelDecision s bytes section n r d
+rewritten_label s bytes section n r high chosen part d noted is candidate same decided =
+    let here = is (noted.2.0) in
+    inr (
+      high,
+      here,
+      subst (LabelFits s bytes section) (one_index s bytes r (noted.0) high (noted.1) here) (noted.2),
+      chosen,
+      candidate,
+      decided ∙ ap (label_decision s.phase chosen) same,
+    )
+
+pub never_kept : (s : Setting) (bytes section : List ℕ) (n : ℕ) (r : Rela) (high : ℕ)
+    → IsLabelNote s bytes section r false
+    → (IsAscending bytes → IsHighIn s bytes r (Some high))
+    → IsLabelCandidate s bytes section n r high None → r ≡ relocation_in bytes n
+    → n < length bytes / 24 → IsInLabel s.architecture s.phase r.code true → ⊥
+never_kept s bytes section n r high noted is none same within in_label =
+    let here = is (noted.2.0) in
+    fits_here s bytes section n r high same within in_label here
+    (subst (LabelFits s bytes section) (one_index s bytes r (noted.0) high (noted.1) here) (noted.2)) none
+
+pub can_make_label : (phase : Phase) (chosen : Choice Relaxation ℕ) (high : Rela) (section : List ℕ)
+    (offset : ℕ) → CanBeMade (Rewritten chosen) section offset
+    → CanBeMade (label_decision phase chosen high) section offset
+can_make_label Early chosen high section offset can = can
+can_make_label ThreadOffsets chosen high section offset can = can
+can_make_label GotLoads chosen high section offset can = can
+can_make_label Distances chosen high section offset can = can

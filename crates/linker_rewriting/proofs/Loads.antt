@@ -1,0 +1,389 @@
+-- Of a marked load from LoongArch's GOT both instructions are rewritten, or neither is.
+use Rattle.std.proofs.Common.{◌≡◌, ℕ, ℤ, ◌∙◌, ◌+◌, ◌-◌, ◌*◌, ◌/◌, ◌<◌, ◌≤◌, ◌⊎◌, ◌↔◌, ltb, inl, inr, List, [], length, ap, sym, subst, arith, refl, Bool, true, false, Option, Some, None, slice_get}
+use Rattle.std.specs.Prelude.{◌&&◌, ◌==◌, nat_le}
+use Rattle.std.specs.Ordering.{int_eq}
+use Rattle.std.proofs.lemmas.Bool.{eqb-true, le-leb, lt-ltb, cond-true, and_parts}
+use Rattle.std.proofs.lemmas.Bool.Decides.{Decides-int_eq}
+use Rattle.linker_elf.specs.Choices.{choice}
+use Rattle.linker_elf.specs.ElfNames.{code_of, IsNamed, IsNameOf}
+use Rattle.linker_elf.specs.LoongArchRelocations.{loongarch_name}
+use Rattle.linker_elf.specs.declared.elf.choice.Choice.{Choice}
+use Rattle.linker_elf.specs.declared.elf.choice.LinkFacts.{LinkFacts}
+use Rattle.linker_elf.specs.declared.loongarch64.relocations.LoongArch64Relocation.{LoongArch64Relocation}
+use Rattle.linker_elf.specs.declared.loongarch64.relocations.LoongArch64Relocation.TheVariants as r
+use Rattle.linker_loongarch64.specs.LoongArchRewrites.{IsLoongArchChoice, IsPair, IsLd, LoongArchChoice, loongarch_deleted}
+use Rattle.linker_loongarch64.specs.declared.rewrites.RelaxationKind.{RelaxationKind as LoongArchKind}
+use Rattle.linker_loongarch64.specs.declared.rewrites.RelaxationKind.TheVariants as kinds
+use Rattle.linker_rewriting.proofs.Unique.{one_whole, true_or_false}
+use Rattle.linker_rewriting.specs.Candidates.{IsCandidate, IsCandidateWith, IsCandidateBy, IsTaken, deletes_within}
+use Rattle.linker_rewriting.specs.Decisions.{IsDecidedAfter, IsDecidedAlone, IsScopeDecision, decision_at, decision_of}
+use Rattle.linker_rewriting.specs.Facts.{Setting, early, facts_of, facts_by, no_addresses}
+use Rattle.linker_rewriting.specs.Groups.{loongarch_scope_in}
+use Rattle.linker_rewriting.specs.Rewritten.{IsLoadAt, IsRewritten, LoadsAreWhole}
+use Rattle.linker_rewriting.specs.Sequences.{IsWhole, is_marked_load, is_marked_at, is_load_at, is_loongarch_part, is_part, is_mark_of, mark_code}
+use Rattle.linker_rewriting.specs.declared.decisions.Decision.{Decision}
+use Rattle.linker_rewriting.specs.declared.facts.OutputFacts.{OutputFacts}
+use Rattle.linker_rewriting.specs.declared.facts.SymbolFacts.{SymbolFacts}
+use Rattle.linker_rewriting.specs.declared.groups.KeptGroups.{KeptGroups}
+use Rattle.linker_rewriting.specs.declared.groups.Scope.TheVariants.{Alone}
+use Rattle.linker_rewriting.specs.declared.phases.Phase.TheVariants.{Early}
+use Rattle.linker_section.specs.Relocations.{relocation_in, relocation_at}
+use Rattle.linker_section.specs.declared.relocations.Rela.{Rela}
+use Rattle.linker_utils.specs.Architectures.{IsArchitectureChoice, IsUnchanged, relaxation_skipped, relaxation_deleted, relaxation_no_op}
+use Rattle.linker_utils.specs.declared.architecture.Relaxation.{Relaxation}
+use Rattle.linker_utils.specs.declared.architecture.Relaxation.TheVariants as relaxations
+use Rattle.linker_utils.specs.declared.elf.Architecture.TheVariants.{LoongArch64}
+
+-- ---- the choices of both
+
+-- what both become, and what they are
+abbrev AreChanged : LoongArchChoice → LoongArchChoice → Type 0
+AreChanged a b =
+    (a ≡ choice kinds.NoOp r.R_LARCH_PCALA_HI20) × (b ≡ choice kinds.LdToAddi r.R_LARCH_PCALA_LO12)
+
+abbrev AreLeft : LoongArchChoice → LoongArchChoice → Type 0
+AreLeft a b =
+    (a ≡ choice kinds.NoOp r.R_LARCH_GOT_PC_HI20) × (b ≡ choice kinds.NoOp r.R_LARCH_GOT_PC_LO12)
+
+isnt : {A : Type 0} → false ≡ true → A
+isnt is = absurd (let e : false ≡ true = is in cc)
+
+low_asked : (section : List ℕ) (o : ℕ) → IsPair IsLd section o
+    → (4 ≤ o + 4) × IsPair IsLd section (o + 4 - 4)
+low_asked section o pair =
+    let e : o ≡ o + 4 - 4 = omega arith in (omega arith, subst (IsPair IsLd section) e pair)
+
+high_asked : (section : List ℕ) (o : ℕ) → (4 ≤ o + 4) × IsPair IsLd section (o + 4 - 4)
+    → IsPair IsLd section o
+high_asked section o low =
+    let e : o + 4 - 4 ≡ o = omega arith in subst (IsPair IsLd section) e (low.1)
+
+-- without marks and addresses both are chosen by the same facts
+alike : (section : List ℕ) (o : ℕ) (output : OutputFacts) (symbol : SymbolFacts) (addend : ℤ)
+    (a b : LoongArchChoice)
+    → IsLoongArchChoice r.R_LARCH_GOT_PC_HI20 section o (facts_of output symbol addend) a
+    → IsLoongArchChoice r.R_LARCH_GOT_PC_LO12 section (o + 4) (facts_of output symbol addend) b
+    → AreChanged a b ⊎ AreLeft a b
+alike section o output symbol addend a b high low =
+    elim high [
+      | inl by_pcaddi ↦ isnt (by_pcaddi.0.1.1.1.0)
+      | inr high_on ↦ elim low [
+        | inl by_pcaddi ↦ isnt (by_pcaddi.0.1.1.1.0)
+        | inr low_on ↦ elim (high_on.1) [
+          | inl high_is ↦ elim (low_on.1) [
+            | inl low_is ↦ inl (high_is.1, low_is.1)
+            | inr low_isnt ↦
+                let h = high_is.0.1 in
+                absurd (low_isnt.0 (low_asked section o (high_is.0.0), (h.0, (h.1.0, (h.1.1.0, (λ has. isnt has, tt))))))
+          ]
+          | inr high_isnt ↦ elim (low_on.1) [
+            | inl low_is ↦
+                let h = low_is.0.1 in
+                absurd (high_isnt.0 (high_asked section o (low_is.0.0), (h.0, (h.1.0, (h.1.1.0, (λ has. isnt has, tt))))))
+            | inr low_isnt ↦ elim (low_isnt.1) [
+              | inl of_entry ↦ isnt (of_entry.0.1.0)
+              | inr nothing ↦ inr (high_isnt.1, nothing.1)
+            ]
+          ]
+        ]
+      ]
+    ]
+
+-- ---- their relocations
+
+pub record IsPart (code offset : ℕ) (one part : Rela) : Type 0 where
+  pub offset_is : part.offset ≡ offset
+  pub code_is : part.code ≡ code
+  pub symbol_is : part.symbol ≡ one.symbol
+  pub addend_is : part.addend ≡ one.addend
+
+part_is : (code offset distance : ℕ) (one part : Rela)
+    → is_part code offset distance one (Some part) ≡ true → IsPart code (offset + distance) one part
+part_is code offset distance one part is =
+    let a = and_parts (part.offset == offset + distance) ((part.code == code) && ((part.symbol == one.symbol) && int_eq part.addend one.addend)) is in
+    let b = and_parts (part.code == code) ((part.symbol == one.symbol) && int_eq part.addend one.addend) (a.1) in
+    let c = and_parts (part.symbol == one.symbol) (int_eq part.addend one.addend) (b.1) in
+    record {
+      offset_is = eqb-true part.offset (offset + distance) (a.0);
+      code_is = eqb-true part.code code (b.0);
+      symbol_is = eqb-true part.symbol one.symbol (c.0);
+      addend_is = (Decides-int_eq part.addend one.addend).0 (c.1);
+    }
+
+there : (bytes : List ℕ) (n : ℕ) → n < length bytes / 24
+    → relocation_at bytes n ≡ Some (relocation_in bytes n)
+there bytes n within =
+    cond-true (ltb n (length bytes / 24)) (Some (relocation_in bytes n)) None
+    (lt-ltb n (length bytes / 24) within)
+
+pub record IsLoad (bytes : List ℕ) (n : ℕ) : Type 0 where
+  pub all : IsLoadAt bytes n
+  pub high : IsPart (code_of (loongarch_name r.R_LARCH_GOT_PC_HI20)) ((relocation_in bytes n).offset + 0)
+      (relocation_in bytes n) (relocation_in bytes n)
+  pub low : IsPart (code_of (loongarch_name r.R_LARCH_GOT_PC_LO12)) ((relocation_in bytes n).offset + 4)
+      (relocation_in bytes n) (relocation_in bytes (n + 2))
+
+load_is : (bytes : List ℕ) (n : ℕ) → n + 2 < length bytes / 24 → IsLoadAt bytes n → IsLoad bytes n
+load_is bytes n within is =
+    let one = relocation_in bytes n in
+    let first : Bool = is_loongarch_part r.R_LARCH_GOT_PC_HI20 one.offset 0 one (relocation_at bytes n) in
+    let mark : Bool = is_mark_of (mark_code LoongArch64) one.offset 0 (relocation_at bytes (n + 1)) in
+    let second : Bool = is_loongarch_part r.R_LARCH_GOT_PC_LO12 one.offset 4 one (relocation_at bytes (n + 2)) in
+    let last : Bool = is_mark_of (mark_code LoongArch64) one.offset 4 (relocation_at bytes (n + 3)) in
+    let a = and_parts first (mark && (second && last)) is in
+    let b = and_parts mark (second && last) (a.1) in
+    let c = and_parts second last (b.1) in
+    record {
+      all = is;
+      high = part_is (code_of (loongarch_name r.R_LARCH_GOT_PC_HI20)) one.offset 0 one one
+          (subst (λ x. is_part (code_of (loongarch_name r.R_LARCH_GOT_PC_HI20)) one.offset 0 one x ≡ true)
+          (there bytes n (omega (arith, within))) (a.0));
+      low = part_is (code_of (loongarch_name r.R_LARCH_GOT_PC_LO12)) one.offset 4 one (relocation_in bytes (n + 2))
+          (subst (λ x. is_part (code_of (loongarch_name r.R_LARCH_GOT_PC_LO12)) one.offset 4 one x ≡ true)
+          (there bytes (n + 2) within) (c.0));
+    }
+
+-- of a relocation it reads the symbol and the addend alone
+abbrev load_of : List ℕ → ℕ → ℕ → ℕ → ℤ → Bool
+load_of bytes n offset symbol addend =
+    is_marked_load bytes n offset (record { offset = 0; code = 0; symbol = symbol; addend = addend })
+
+same_load : (bytes : List ℕ) (n offset : ℕ) (one part : Rela) → part.symbol ≡ one.symbol
+    → part.addend ≡ one.addend
+    → is_marked_load bytes n offset part ≡ is_marked_load bytes n offset one
+same_load bytes n offset one part symbol addend =
+    ap (λ x. load_of bytes n offset x part.addend) symbol
+    ∙ ap (load_of bytes n offset one.symbol) addend
+
+le_is : (a b : ℕ) → a ≤ b → nat_le a b ≡ true
+le_is a b le = le-leb a b le
+
+at_place : (bytes : List ℕ) (n : ℕ) (one : Rela) (place first offset : ℕ) → 2 * place ≤ n
+    → 4 * place ≤ one.offset → n - 2 * place ≡ first → one.offset - 4 * place ≡ offset
+    → is_marked_load bytes first offset one ≡ true → is_load_at bytes n one (Some place) ≡ true
+at_place bytes n one place first offset le low is_first is_offset is =
+    ap (λ b. b && (nat_le (4 * place) one.offset && is_marked_load bytes (n - 2 * place) (one.offset - 4 * place) one)) (le_is (2 * place) n le)
+    ∙ (ap (λ b. b && is_marked_load bytes (n - 2 * place) (one.offset - 4 * place) one) (le_is (4 * place) one.offset low)
+    ∙ (ap (λ k. is_marked_load bytes k (one.offset - 4 * place) one) is_first
+    ∙ (ap (λ k. is_marked_load bytes first k one) is_offset ∙ is)))
+
+high_place : (bytes : List ℕ) (n : ℕ) → IsLoad bytes n
+    → is_load_at bytes n (relocation_in bytes n) (Some 0) ≡ true
+high_place bytes n load =
+    at_place bytes n (relocation_in bytes n) 0 n (relocation_in bytes n).offset (omega arith)
+    (omega arith) (omega arith) (omega arith) load.all
+
+low_place : (bytes : List ℕ) (n : ℕ) → IsLoad bytes n
+    → is_load_at bytes (n + 2) (relocation_in bytes (n + 2)) (Some 1) ≡ true
+low_place bytes n load =
+    let at = load.low.offset_is in
+    at_place bytes (n + 2) (relocation_in bytes (n + 2)) 1 n (relocation_in bytes n).offset (omega arith)
+    (omega (arith, at)) (omega arith) (omega (arith, at))
+    (same_load bytes n (relocation_in bytes n).offset (relocation_in bytes n) (relocation_in bytes (n + 2))
+    load.low.symbol_is load.low.addend_is ∙ load.all)
+
+-- ---- candidates
+
+-- a choice of a relocation with a name
+record IsOfName (name : LoongArch64Relocation) (section : List ℕ) (o : ℕ) (facts : LinkFacts)
+    (chosen : Choice Relaxation ℕ) : Type 0 where
+  pub named : LoongArchChoice
+  pub is_choice : IsLoongArchChoice name section o facts named
+  pub kind_is : chosen.kind ≡ relaxations.LoongArch64 named.kind
+  pub code_is : chosen.relocation ≡ code_of (loongarch_name named.relocation)
+
+of_name : (code : ℕ) (name : LoongArch64Relocation) (section : List ℕ) (o : ℕ) (facts : LinkFacts)
+    (chosen : Choice Relaxation ℕ) → IsNamed (loongarch_name name)
+    → code_of (loongarch_name name) ≡ code
+    → IsArchitectureChoice LoongArch64 code section o facts chosen
+    → IsOfName name section o facts chosen
+of_name code name section o facts chosen has_text code_is by =
+    let same : by.name ≡ name = by.is_name.named name has_text code_is in
+    record {
+      named = by.named;
+      is_choice = subst (λ z. IsLoongArchChoice z section o facts by.named) same by.is_choice;
+      kind_is = by.kind_is;
+      code_is = by.code_is;
+    }
+
+-- what keeps one from being rewritten
+abbrev Lacks : List SymbolFacts → List ℕ → List ℕ → ℕ → Rela → Choice Relaxation ℕ → Type 0
+Lacks symbols bytes section n one chosen =
+    IsUnchanged one.code chosen
+    ⊎ (IsTaken LoongArch64 symbols bytes n one.offset (relaxation_skipped chosen.kind) false
+    ⊎ (IsWhole LoongArch64 bytes n one false
+    ⊎ (deletes_within section one.offset (relaxation_deleted chosen.kind) ≡ false)))
+
+lacks_nothing : (symbols : List SymbolFacts) (bytes section : List ℕ) (n : ℕ) (one : Rela)
+    (chosen : Choice Relaxation ℕ) (kind : LoongArchKind)
+    → chosen.kind ≡ relaxations.LoongArch64 kind → loongarch_deleted kind ≡ None
+    → (IsUnchanged one.code chosen → ⊥) → IsWhole LoongArch64 bytes n one true
+    → Lacks symbols bytes section n one chosen → ⊥
+lacks_nothing symbols bytes section n one chosen kind is none changes whole lacks =
+    elim lacks [
+      | inl unchanged ↦ changes unchanged
+      | inr other ↦ elim other [
+        | inl taken ↦ isnt (subst (λ k. IsTaken LoongArch64 symbols bytes n one.offset (relaxation_skipped k) false) is taken)
+        | inr less ↦ elim less [
+          | inl lone ↦ true_or_false (one_whole LoongArch64 bytes n one true false whole lone)
+          | inr deletes ↦ true_or_false
+              (sym (ap (λ k. deletes_within section one.offset (relaxation_deleted k)) is
+              ∙ ap (deletes_within section one.offset) none) ∙ deletes)
+        ]
+      ]
+    ]
+
+unchanged_high : (code : ℕ) (chosen : Choice Relaxation ℕ) (named : LoongArchChoice)
+    (name : LoongArch64Relocation) → chosen.kind ≡ relaxations.LoongArch64 named.kind
+    → chosen.relocation ≡ code_of (loongarch_name named.relocation)
+    → code_of (loongarch_name name) ≡ code → named ≡ choice kinds.NoOp name
+    → IsUnchanged code chosen
+unchanged_high code chosen named name kind_is code_is is left = (
+  subst relaxation_no_op (sym (kind_is ∙ ap (λ c. relaxations.LoongArch64 c.kind) left)) refl,
+  code_is ∙ (ap (λ c. code_of (loongarch_name c.relocation)) left ∙ is),
+)
+
+-- both halves, and what is known of them
+record AreHalves (bytes : List ℕ) (n : ℕ) (high low : Rela) : Type 0 where
+  pub high_code : code_of (loongarch_name r.R_LARCH_GOT_PC_HI20) ≡ high.code
+  pub low_code : code_of (loongarch_name r.R_LARCH_GOT_PC_LO12) ≡ low.code
+  pub low_offset : low.offset ≡ high.offset + 4
+  pub high_whole : IsWhole LoongArch64 bytes n high true
+  pub low_whole : IsWhole LoongArch64 bytes (n + 2) low true
+
+high_alone : (symbols : List SymbolFacts) (bytes section : List ℕ) (n : ℕ) (high low : Rela)
+    (output : OutputFacts) (symbol : SymbolFacts) (addend : ℤ) (x : Choice Relaxation ℕ)
+    → AreHalves bytes n high low
+    → IsCandidateBy LoongArch64 symbols bytes section n high (facts_of output symbol addend) (Some x)
+    → IsCandidateBy LoongArch64 symbols bytes section (n + 2) low (facts_of output symbol addend) None
+    → ⊥
+high_alone symbols bytes section n high low output symbol addend x are a b =
+    let facts : LinkFacts = facts_of output symbol addend in
+    let p = of_name high.code r.R_LARCH_GOT_PC_HI20 section high.offset facts x tt are.high_code (a.0) in
+    let q = of_name low.code r.R_LARCH_GOT_PC_LO12 section low.offset facts (b.0) tt are.low_code (b.1) in
+    elim (alike section high.offset output symbol addend p.named q.named p.is_choice
+    (subst (λ o. IsLoongArchChoice r.R_LARCH_GOT_PC_LO12 section o facts q.named) are.low_offset q.is_choice)) [
+      | inl changed ↦
+          let is : (b.0).kind ≡ relaxations.LoongArch64 kinds.LdToAddi =
+          q.kind_is ∙ ap (λ c. relaxations.LoongArch64 c.kind) (changed.1) in
+          lacks_nothing symbols bytes section (n + 2) low (b.0) kinds.LdToAddi is refl
+          (λ u. let e : kinds.LdToAddi ≡ kinds.NoOp = subst relaxation_no_op is (u.0) in cc)
+          are.low_whole (b.2)
+      | inr left ↦ a.1 (unchanged_high high.code x p.named r.R_LARCH_GOT_PC_HI20 p.kind_is p.code_is are.high_code (left.0))
+    ]
+
+low_alone : (symbols : List SymbolFacts) (bytes section : List ℕ) (n : ℕ) (high low : Rela)
+    (output : OutputFacts) (symbol : SymbolFacts) (addend : ℤ) (y : Choice Relaxation ℕ)
+    → AreHalves bytes n high low
+    → IsCandidateBy LoongArch64 symbols bytes section n high (facts_of output symbol addend) None
+    → IsCandidateBy LoongArch64 symbols bytes section (n + 2) low (facts_of output symbol addend) (Some y)
+    → ⊥
+low_alone symbols bytes section n high low output symbol addend y are a b =
+    let facts : LinkFacts = facts_of output symbol addend in
+    let p = of_name high.code r.R_LARCH_GOT_PC_HI20 section high.offset facts (a.0) tt are.high_code (a.1) in
+    let q = of_name low.code r.R_LARCH_GOT_PC_LO12 section low.offset facts y tt are.low_code (b.0) in
+    elim (alike section high.offset output symbol addend p.named q.named p.is_choice
+    (subst (λ o. IsLoongArchChoice r.R_LARCH_GOT_PC_LO12 section o facts q.named) are.low_offset q.is_choice)) [
+      | inl changed ↦
+          let is : (a.0).kind ≡ relaxations.LoongArch64 kinds.NoOp =
+          p.kind_is ∙ ap (λ c. relaxations.LoongArch64 c.kind) (changed.0) in
+          lacks_nothing symbols bytes section n high (a.0) kinds.NoOp is refl
+          (λ u. let e : code_of (loongarch_name r.R_LARCH_PCALA_HI20) ≡ code_of (loongarch_name r.R_LARCH_GOT_PC_HI20) =
+          sym (p.code_is ∙ ap (λ c. code_of (loongarch_name c.relocation)) (changed.0)) ∙ (u.1 ∙ sym are.high_code) in
+          omega (arith, e))
+          are.high_whole (a.2)
+      | inr left ↦ b.1 (unchanged_high low.code y q.named r.R_LARCH_GOT_PC_LO12 q.kind_is q.code_is are.low_code (left.1))
+    ]
+
+abbrev AreAlike : Option (Choice Relaxation ℕ) → Option (Choice Relaxation ℕ) → Type 0
+AreAlike x y = IsRewritten (decision_of x) ↔ IsRewritten (decision_of y)
+
+by_facts : (symbols : List SymbolFacts) (bytes section : List ℕ) (n : ℕ) (high low : Rela)
+    (output : OutputFacts) (symbol : SymbolFacts) (addend : ℤ) (x y : Option (Choice Relaxation ℕ))
+    → AreHalves bytes n high low
+    → IsCandidateBy LoongArch64 symbols bytes section n high (facts_of output symbol addend) x
+    → IsCandidateBy LoongArch64 symbols bytes section (n + 2) low (facts_of output symbol addend) y
+    → AreAlike x y
+by_facts symbols bytes section n high low output symbol addend None None are a b = (λ h. h, λ h. h)
+by_facts symbols bytes section n high low output symbol addend (Some x) (Some y) are a b = (λ h. tt, λ h. tt)
+by_facts symbols bytes section n high low output symbol addend (Some x) None are a b =
+    absurd (high_alone symbols bytes section n high low output symbol addend x are a b)
+by_facts symbols bytes section n high low output symbol addend None (Some y) are a b =
+    absurd (low_alone symbols bytes section n high low output symbol addend y are a b)
+
+by_symbol : (output : OutputFacts) (symbols : List SymbolFacts) (bytes section : List ℕ) (n : ℕ)
+    (high low : Rela) (marked too : Bool) (entry : Option SymbolFacts)
+    (x y : Option (Choice Relaxation ℕ)) → AreHalves bytes n high low → low.addend ≡ high.addend
+    → IsCandidateWith (early LoongArch64 output symbols) bytes section n high
+    (facts_by Early output no_addresses [] high high marked entry) x
+    → IsCandidateWith (early LoongArch64 output symbols) bytes section (n + 2) low
+    (facts_by Early output no_addresses [] low low too entry) y
+    → AreAlike x y
+by_symbol output symbols bytes section n high low marked too None x y are addend a b =
+    let is : x ≡ None = a in
+    let is_too : y ≡ None = b in
+    subst (λ z. AreAlike z y) (sym is) (subst (AreAlike None) (sym is_too) (λ h. h, λ h. h))
+by_symbol output symbols bytes section n high low marked too (Some symbol) x y are addend a b =
+    by_facts symbols bytes section n high low output symbol high.addend x y are a
+    (subst (λ z. IsCandidateBy LoongArch64 symbols bytes section (n + 2) low (facts_of output symbol z) y) addend b)
+
+-- ---- decisions
+
+record IsAlone (s : Setting) (bytes section : List ℕ) (n : ℕ) (one : Rela)
+    (name : LoongArch64Relocation) (decision : Decision) : Type 0 where
+  pub is_name : IsNameOf loongarch_name one.code name
+  pub candidate : Option (Choice Relaxation ℕ)
+  pub is_candidate : IsCandidate s bytes section n one candidate
+  pub decided : decision ≡ decision_of candidate
+
+alone : (output : OutputFacts) (symbols : List SymbolFacts) (kept : List KeptGroups)
+    (bytes section : List ℕ) (n : ℕ) (one : Rela) (name : LoongArch64Relocation) (decision : Decision)
+    → IsNamed (loongarch_name name) → code_of (loongarch_name name) ≡ one.code
+    → loongarch_scope_in Early name ≡ Alone
+    → IsDecidedAlone (early LoongArch64 output symbols) kept bytes section n one decision
+    → IsAlone (early LoongArch64 output symbols) bytes section n one name decision
+alone output symbols kept bytes section n one name decision has_text code_is scope_is decided =
+    let same : (decided.1).name ≡ name = (decided.1).is_name.named name has_text code_is in
+    let is : decided.0 ≡ Alone = (decided.1).value_is ∙ (ap (loongarch_scope_in Early) same ∙ scope_is) in
+    let by = subst (λ z. IsScopeDecision (early LoongArch64 output symbols) kept bytes section n one z decision) is (decided.2) in
+    record {
+      is_name = subst (IsNameOf loongarch_name one.code) same (decided.1).is_name;
+      candidate = by.0;
+      is_candidate = by.1;
+      decided = by.2;
+    }
+
+pub loads_are_whole : LoadsAreWhole
+loads_are_whole output symbols kept bytes section decisions limit n decided within all is taken taken_too =
+    let s : Setting = early LoongArch64 output symbols in
+    let high = relocation_in bytes n in
+    let low = relocation_in bytes (n + 2) in
+    let load = load_is bytes n (omega (arith, within, all)) is in
+    let high_code : code_of (loongarch_name r.R_LARCH_GOT_PC_HI20) ≡ high.code = sym load.high.code_is in
+    let low_code : code_of (loongarch_name r.R_LARCH_GOT_PC_LO12) ≡ low.code = sym load.low.code_is in
+    let a = alone output symbols kept bytes section n high r.R_LARCH_GOT_PC_HI20 (decision_at decisions n) tt high_code refl
+    (subst (λ t. IsDecidedAfter s kept bytes section n t (decision_at decisions n)) taken (decided n (omega (arith, within)))) in
+    let b = alone output symbols kept bytes section (n + 2) low r.R_LARCH_GOT_PC_LO12 (decision_at decisions (n + 2)) tt low_code refl
+    (subst (λ t. IsDecidedAfter s kept bytes section (n + 2) t (decision_at decisions (n + 2))) taken_too (decided (n + 2) within)) in
+    let are : AreHalves bytes n high low = record {
+      high_code = high_code;
+      low_code = low_code;
+      low_offset = load.low.offset_is;
+      high_whole = (
+        Some 0,
+        record { name = r.R_LARCH_GOT_PC_HI20; is_name = a.is_name; value_is = refl },
+        sym (high_place bytes n load),
+      );
+      low_whole = (
+        Some 1,
+        record { name = r.R_LARCH_GOT_PC_LO12; is_name = b.is_name; value_is = refl },
+        sym (low_place bytes n load),
+      );
+    } in
+    let both = by_symbol output symbols bytes section n high low (is_marked_at LoongArch64 bytes n high)
+    (is_marked_at LoongArch64 bytes (n + 2) low) (slice_get symbols high.symbol) a.candidate b.candidate are
+    load.low.addend_is a.is_candidate
+    (subst (λ z. IsCandidateWith s bytes section (n + 2) low (facts_by Early output no_addresses [] low low (is_marked_at LoongArch64 bytes (n + 2) low) (slice_get symbols z)) b.candidate)
+    load.low.symbol_is b.is_candidate) in
+    subst (λ d. IsRewritten d ↔ IsRewritten (decision_at decisions (n + 2))) (sym a.decided)
+    (subst (λ d. IsRewritten (decision_of a.candidate) ↔ IsRewritten d) (sym b.decided) both)
