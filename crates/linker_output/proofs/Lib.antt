@@ -11,7 +11,9 @@ pub mod Passed
 pub mod Ppc64StubLaws
 pub mod Products
 pub mod RiscVStubLaws
+pub mod RouteCases
 pub mod StubFields
 pub mod StubWords
 pub mod Stuck
+pub mod Writable
 pub mod X86StubLaws

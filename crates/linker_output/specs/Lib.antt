@@ -12,6 +12,7 @@ pub mod Ppc64Output
 pub mod Ppc64Stubs
 pub mod RiscVOutput
 pub mod RiscVStubs
+pub mod Routes
 pub mod Stubs
 pub mod Tables
 pub mod Targets

@@ -1,4 +1,4 @@
-//! Laws of stubs: they go to their targets.
+//! Laws of stubs: they go to their targets, and branches to them go directly.
 //!
 //! The functions do nothing, and the contract of each has the laws of one architecture, over the
 //! machine that `linker_laws` has of it. From the address at which a stub of `Target::of` stands, with
@@ -9,6 +9,7 @@ ghost use Rattle.linker_output.specs.AArch64Stubs as aarch64_stubs;
 ghost use Rattle.linker_output.specs.LoongArchStubs as loongarch_stubs;
 ghost use Rattle.linker_output.specs.Ppc64Stubs as ppc64_stubs;
 ghost use Rattle.linker_output.specs.RiscVStubs as riscv_stubs;
+ghost use Rattle.linker_output.specs.Routes.{StubsServe};
 ghost use Rattle.linker_output.specs.X86Stubs as x86_stubs;
 
 /// AArch64: x16 and x17 change. BR, which the machine of `linker_laws` has not, is defined with the laws.
@@ -47,4 +48,9 @@ pub fn riscv64()
 /// x86-64: nothing changes.
 pub fn x86_64()
     ensures { x86_stubs.Loads }
+{}
+
+/// A branch to the entry of a stub is `Direct` exactly where it can be written.
+pub fn routes()
+    ensures { StubsServe }
 {}

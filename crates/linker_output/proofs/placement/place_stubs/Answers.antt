@@ -7,6 +7,7 @@ use Rattle.linker_output.specs.declared.placement.State.{State}
 use Rattle.linker_output.specs.Placement.{IsLaidOut, IsLayout}
 use Rattle.linker_output.specs.Inner.Placement.{IsCode, IsState, ArePlaces, AreServed, AreStubsOf, IsStuckIn}
 use Rattle.linker_output.proofs.Apart.{layout_is}
+use Rattle.linker_output.proofs.Bounds.{few_stubs}
 use Rattle.linker_output.proofs.Going.{goes_all}
 use Rattle.linker_output.proofs.Stuck.{stuck}
 use Rattle.linker_output.proofs.placement.place_stubs.Goals as goal
@@ -60,3 +61,6 @@ returns-clause-ok c =
           (subst (λ b. AreServed c.args.code.now b layout.places.items c.settle.new.self.ways.items) (sym e) served) of;
       stubs_reach = c.in-None-first_short.ensures.none;
     }
+
+pub returns-clause-few : goal.returns-clause-few
+returns-clause-few c = few_stubs c.args.code.now c.settle.new.self c.in_ok-stuck.ensures.state

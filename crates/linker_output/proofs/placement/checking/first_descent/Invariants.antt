@@ -1,5 +1,5 @@
 use Rattle.std.proofs.Common.{◌<◌, ◌≤◌, ℕ, get_or}
-use Rattle.linker_output.proofs.placement.first_descent.Given as goal
+use Rattle.linker_output.proofs.placement.checking.first_descent.Given as goal
 
 abbrev pub invariant-loop-index : goal.invariant-loop-index
 invariant-loop-index l = (i j : ℕ) → i ≤ j → j < l.index → get_or l.boundaries i 0 ≤ get_or l.boundaries j 0

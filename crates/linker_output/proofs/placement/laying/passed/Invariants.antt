@@ -1,5 +1,5 @@
 use Rattle.std.proofs.Common.{ℕ, ◌≤◌, ◌<◌, ◌-◌, length, get_or}
-use Rattle.linker_output.proofs.placement.passed.Given as goal
+use Rattle.linker_output.proofs.placement.laying.passed.Given as goal
 
 abbrev pub invariant-loop-low : goal.invariant-loop-low
 invariant-loop-low l = record {

@@ -1,5 +1,5 @@
 use Rattle.std.proofs.Common.{◌<◌, ◌^◌, ℕ, get_or}
-use Rattle.linker_output.proofs.placement.are_low.Given as goal
+use Rattle.linker_output.proofs.placement.checking.are_low.Given as goal
 
 abbrev pub invariant-loop-number : goal.invariant-loop-number
 invariant-loop-number l = (k : ℕ) → k < l.number-index → get_or l.numbers k 0 < 2 ^ 62

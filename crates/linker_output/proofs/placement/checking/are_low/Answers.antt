@@ -1,7 +1,7 @@
 use Rattle.std.proofs.Common.{◌≤◌, ◌<◌, length, ⊎_elim, arith}
 use Rattle.std.proofs.lemmas.Bool.{cases_lt}
 use Rattle.std.proofs.lemmas.List.{get_or_past}
-use Rattle.linker_output.proofs.placement.are_low.Goals as goal
+use Rattle.linker_output.proofs.placement.checking.are_low.Goals as goal
 
 pub returns-clause-low : goal.returns-clause-low
 returns-clause-low c = λ _ k. ⊎_elim

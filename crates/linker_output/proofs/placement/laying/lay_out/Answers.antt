@@ -4,7 +4,7 @@ use Rattle.std.proofs.lemmas.List.Sums.{get_or-le-sum_by}
 use Rattle.linker_output.specs.Placement.{stubs_in}
 use Rattle.linker_output.specs.Inner.Placement.{bytes_before}
 use Rattle.linker_output.proofs.Groups.{bytes_next, bytes_none, bytes_bound, bytes_laid_out, bytes_fit}
-use Rattle.linker_output.proofs.placement.lay_out.Goals as goal
+use Rattle.linker_output.proofs.placement.laying.lay_out.Goals as goal
 
 pub loop-index-init : goal.loop-index-init
 loop-index-init c = record { bytes = sym (bytes_none c.args.shape.now c.args.groups.now); written = λ k h. absurd (omega arith) }

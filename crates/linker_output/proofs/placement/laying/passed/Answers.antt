@@ -2,7 +2,7 @@ use Rattle.std.proofs.Common.{arith, sym}
 use Rattle.std.proofs.lemmas.List.Sums.{prefix_len_is}
 use Rattle.std.specs.Prelude.{nat_le}
 use Rattle.linker_output.proofs.Passed.{le_true, le_false}
-use Rattle.linker_output.proofs.placement.passed.Goals as goal
+use Rattle.linker_output.proofs.placement.laying.passed.Goals as goal
 
 pub returns-clause-passed : goal.returns-clause-passed
 returns-clause-passed c = sym (prefix_len_is (λ b. nat_le b c.args.offset) c.args.boundaries.now c.loop-low.low 0 (omega arith)

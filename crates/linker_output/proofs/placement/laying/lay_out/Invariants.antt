@@ -1,6 +1,6 @@
 use Rattle.std.proofs.Common.{◌≡◌, ◌<◌, ℕ, get_or}
 use Rattle.linker_output.specs.Inner.Placement.{bytes_before}
-use Rattle.linker_output.proofs.placement.lay_out.Given as goal
+use Rattle.linker_output.proofs.placement.laying.lay_out.Given as goal
 
 abbrev pub invariant-loop-index : goal.invariant-loop-index
 invariant-loop-index l = record {

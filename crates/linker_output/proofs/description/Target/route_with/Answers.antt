@@ -1,0 +1,15 @@
+use Rattle.std.proofs.Common.{rules, ◌≡◌, subst}
+use Rattle.std.specs.Int.{w64, cast_signed, cast_unsigned}
+use Rattle.linker_output.specs.Routes.{IsObstacle}
+use Rattle.linker_output.proofs.description.Target.route_with.Goals as goal
+
+pub returns : goal.returns
+returns c =
+    let v = cast_signed w64 (cast_unsigned w64 c.args.value) in
+    let same : v ≡ c.args.value = search rules in (
+      c.has_room-is_room.result,
+      c.has_room-is_room.ensures,
+      c.obstacle-cause.result,
+      subst (λ x. IsObstacle c.args.row.now x c.args.relocation.now.offset c.args.section.now c.obstacle-cause.result) same c.obstacle-cause.ensures,
+      c.route_by.ensures,
+    )

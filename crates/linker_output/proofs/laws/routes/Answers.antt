@@ -1,0 +1,27 @@
+use Rattle.std.proofs.Common.{◌≡◌, ◌≢◌, ℕ, Bool, true, false, refl, sym, subst}
+use Rattle.std.proofs.lemmas.Bool.{ne_eqb}
+use Rattle.std.specs.Prelude.{◌==◌, ◌&&◌, ◌||◌, ◌/◌, not, nat_lt, if◌then◌else◌}
+use Rattle.linker_output.specs.Routes.{has_toc, has_no_toc, by_jump, by_reach, loses_toc, stub_target}
+use Rattle.linker_output.proofs.laws.routes.Goals as goal
+
+never : (a : Bool) → a && false ≡ false
+never true = refl
+never false = refl
+
+neither : {A : Type 0} (x y : Bool) (a b : A) → x ≡ false → y ≡ false → (if x || y then a else b) ≡ b
+neither x y a b p q =
+    subst (λ x. (if x || y then a else b) ≡ b) (sym p)
+    (subst (λ y. (if y then a else b) ≡ b) (sym q) refl)
+
+-- what counts only where a function is entered
+unentered : (a b c : Bool) (stub : ℕ) → stub ≢ 0 → a && (((stub == 0) && b) && c) ≡ false
+unentered a b c stub some =
+    subst (λ x. a && ((x && b) && c) ≡ false) (sym (ne_eqb stub 0 some)) (never a)
+
+pub returns : goal.returns
+returns c target symbol r stub some has_room obstacle =
+    let to = record symbol { stub = stub } in
+    neither _ _ (by_jump target.jump_stub (loses_toc target.instructions r.code to) has_room (stub_target target.instructions to r))
+    (by_reach target to r obstacle)
+    (unentered (has_toc target.instructions r.code) (not symbol.is_undefined_weak) (symbol.other / 32 == 1) stub some)
+    (unentered (has_no_toc target.instructions r.code) (not symbol.is_undefined_weak) (nat_lt 1 (symbol.other / 32)) stub some)

@@ -1,0 +1,28 @@
+use Rattle.std.proofs.Common.{rules, ◌≡◌, ◌≤◌, ℕ, ℤ, List, length, drop, subst, arith, IfNone, IfSome, Option, Some, None}
+use Rattle.std.proofs.lemmas.List.{take_rest}
+use Rattle.std.specs.Int.{w64, cast_signed, cast_unsigned}
+use Rattle.linker_elf.specs.Relocate.{IsAccepted, IsCause}
+use Rattle.linker_elf.specs.declared.elf.RelocationKindInfo.{RelocationKindInfo}
+use Rattle.linker_elf.specs.declared.elf.relocate.RelocateError.{RelocateError}
+use Rattle.linker_output.specs.Routes.{IsObstacle}
+use Rattle.linker_output.proofs.routes.obstacle.Goals as goal
+
+obstacle_is : (row : RelocationKindInfo) (v : ℤ) (offset : ℕ) (section : List ℕ)
+    (found : Option RelocateError) → offset ≤ length section
+    → IfNone found (IsAccepted row v (drop offset section))
+    → IfSome found (IsCause row v (drop offset section)) → IsObstacle row v offset section found
+obstacle_is row v offset section None inside none some = (inside, none)
+obstacle_is row v offset section (Some error) inside none some =
+    record { outside = λ past. absurd (omega (arith, past, inside)); inside = λ _. some }
+
+pub returns : goal.returns
+returns c =
+    let v = cast_signed w64 (cast_unsigned w64 c.args.value) in
+    let same : v ≡ c.args.value = search rules in
+    let row = c.args.row.now in
+    let section = c.args.section.now in
+    let inside : c.args.offset ≤ length section = omega arith in
+    subst (λ x. IsObstacle row x c.args.offset section c.obstacle_in.result) same
+    (obstacle_is row v c.args.offset section c.obstacle_in.result inside
+    (rw (take_rest section c.args.offset) at c.obstacle_in.ensures.none)
+    (rw (take_rest section c.args.offset) at c.obstacle_in.ensures.some))

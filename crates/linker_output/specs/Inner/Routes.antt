@@ -1,0 +1,18 @@
+-- What parts of `route` return.
+use Rattle.std.specs.Prelude.{◌≡◌, ℕ, Option, Some, None, true, false, ⊤}
+use Rattle.linker_elf.specs.declared.elf.RelocationKindInfo.{RelocationKindInfo}
+use Rattle.linker_section.specs.Needed.{may_use_stub}
+use Rattle.linker_utils.specs.Architectures.{IsRow}
+use Rattle.linker_utils.specs.declared.elf.Architecture.{Architecture}
+
+-- no stub may serve it
+abbrev pub IsUnserved : Option RelocationKindInfo → Type 0
+IsUnserved None = ⊤
+IsUnserved (Some row) = may_use_stub row.size row.kind ≡ false
+
+-- the row of a code, if a stub may serve its relocations
+abbrev pub IsServedRow : Architecture → ℕ → Option RelocationKindInfo → Type 0
+IsServedRow architecture code None =
+    (row : Option RelocationKindInfo) × IsRow architecture code row × IsUnserved row
+IsServedRow architecture code (Some row) =
+    IsRow architecture code (Some row) × (may_use_stub row.size row.kind ≡ true)

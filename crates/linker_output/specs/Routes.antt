@@ -1,0 +1,205 @@
+-- How branches go to their targets: directly, or by a stub.
+use Rattle.std.specs.Prelude.{◌≡◌, ◌≢◌, ◌↔◌, ◌==◌, ◌&&◌, ◌||◌, ◌/◌, ◌%◌, ◌^◌, ◌≤◌, ℕ, ℤ, List, [], ◌∷◌, Bool}
+use Rattle.std.specs.Prelude.{true, false, not, nat_lt, length, drop, if◌then◌else◌, IsTrue}
+use Rattle.std.specs.Prelude.{Option, Some, None, Result, Ok, Err}
+use Rattle.std.specs.Int.{w64, cast_unsigned}
+use Rattle.linker_elf.specs.Relocate.{IsAccepted}
+use Rattle.linker_elf.specs.Value.{sum_64}
+use Rattle.linker_elf.specs.declared.elf.RelocationKindInfo.{RelocationKindInfo}
+use Rattle.linker_elf.specs.declared.elf.relocate.RelocateError.{RelocateError}
+use Rattle.linker_elf.specs.declared.elf.relocate.RelocateError.TheVariants.{OutOfReach}
+use Rattle.linker_output.specs.Stubs.{StubCode}
+use Rattle.linker_output.specs.View.{Description}
+use Rattle.linker_output.specs.declared.routes.Route.{Route}
+use Rattle.linker_output.specs.declared.routes.Route.TheVariants.{Direct, Stub as ByStub}
+use Rattle.linker_output.specs.declared.routes.RouteError.{RouteError}
+use Rattle.linker_output.specs.declared.routes.RouteError.TheVariants as errors
+use Rattle.linker_output.specs.declared.stubs.StubKind.{StubKind}
+use Rattle.linker_output.specs.declared.stubs.StubKind.TheVariants.{Load, Jump}
+use Rattle.linker_ppc64.specs.Ppc64Rewrites.{HasTwo}
+use Rattle.linker_section.specs.Needed.{may_use_stub}
+use Rattle.linker_section.specs.Sections.{IsRejected}
+use Rattle.linker_section.specs.Values.{IsValue, local_entry}
+use Rattle.linker_section.specs.declared.facts.Addresses.{Addresses}
+use Rattle.linker_section.specs.declared.facts.Symbol.{Symbol}
+use Rattle.linker_section.specs.declared.relocations.Rela.{Rela}
+use Rattle.linker_section.specs.declared.values.ValueError.{ValueError}
+use Rattle.linker_utils.specs.Architectures.{IsRow}
+use Rattle.linker_utils.specs.declared.elf.Architecture.{Architecture}
+use Rattle.linker_utils.specs.declared.elf.Architecture.TheVariants as architectures
+
+-- ---- branches
+
+-- Branches that may go by a stub to a target that they don't reach: `R_AARCH64_JUMP26` and `CALL26`,
+-- `R_LARCH_B26`, and PowerPC64's `R_PPC64_REL24` and `R_PPC64_REL24_NOTOC`. At others a register that a
+-- stub changes may be in use, or they reach as far as a stub.
+abbrev pub may_go_by_stub : Architecture → ℕ → Bool
+may_go_by_stub architectures.AArch64 code = code == 282 || code == 283
+may_go_by_stub architectures.LoongArch64 code = code == 66
+may_go_by_stub architectures.Ppc64 code = code == 10 || code == 116
+may_go_by_stub architecture code = false
+
+-- PowerPC64's `R_PPC64_REL24` and `R_PPC64_REL14`, of code that has a TOC pointer, and
+-- `R_PPC64_REL24_NOTOC`, of code that has none (64-Bit ELF V2 ABI, "Relocation Types")
+abbrev pub has_toc : Architecture → ℕ → Bool
+has_toc architectures.Ppc64 code = code == 10 || code == 11
+has_toc architecture code = false
+
+abbrev pub has_no_toc : Architecture → ℕ → Bool
+has_no_toc architectures.Ppc64 code = code == 116
+has_no_toc architecture code = false
+
+-- ---- the function that a branch goes to (64-Bit ELF V2 ABI, "Symbol Values")
+
+-- the branch enters a function of the output itself: not a stub of it, and not one that nothing defines
+abbrev pub is_entered : Symbol → Bool
+is_entered symbol = symbol.stub == 0 && not symbol.is_undefined_weak
+
+-- The function may leave another TOC pointer, which `st_other` says, and the caller needs its own.
+abbrev pub loses_toc : Architecture → ℕ → Symbol → Bool
+loses_toc architecture code symbol =
+    has_toc architecture code && (is_entered symbol && symbol.other / 32 == 1)
+
+-- The function has a local entry point, where it takes the TOC pointer of its caller, which has none: it
+-- has to be entered at the global one, with its address in r12.
+abbrev pub lacks_toc : Architecture → ℕ → Symbol → Bool
+lacks_toc architecture code symbol =
+    has_no_toc architecture code && (is_entered symbol && nat_lt 1 (symbol.other / 32))
+
+-- where a stub goes for a branch: to the local entry point for code with the same TOC pointer
+abbrev pub behind_global : Architecture → ℕ → Symbol → ℕ
+behind_global architecture code symbol =
+    if has_toc architecture code then local_entry symbol.other else 0
+
+abbrev pub callee_of : Architecture → ℕ → Symbol → ℕ
+callee_of architecture code symbol =
+    if symbol.stub == 0 then sum_64 symbol.address (behind_global architecture code symbol)
+    else symbol.stub
+
+-- with the addend
+abbrev pub stub_target : Architecture → Symbol → Rela → ℕ
+stub_target architecture symbol r =
+    sum_64 (callee_of architecture r.code symbol) (cast_unsigned w64 r.addend)
+
+-- ---- room to restore the TOC pointer
+
+-- `bl`, and behind it `nop` or `ld 2,24(1)`, which such a `nop` becomes
+abbrev pub can_restore : ℕ → ℕ → Bool
+can_restore call next =
+    call / 2 ^ 26 == 18 && call % 4 == 1 && (next == 0x60000000 || next == 0xe8410018)
+
+abbrev pub HasRoom : List ℕ → ℕ → Type 0
+HasRoom section offset = HasTwo can_restore section offset
+
+-- ---- routes
+
+-- By a stub: at its entry, and where the caller's TOC pointer is to be kept, at its first instruction,
+-- if the caller can restore it.
+abbrev pub by_stub : StubKind → ℕ → Bool → Bool → ℕ → Result Route RouteError
+by_stub kind entry false has_room target = Ok (ByStub kind entry target)
+by_stub kind entry true true target = Ok (ByStub kind 0 target)
+by_stub kind entry true false target = Err errors.NoRoom
+
+abbrev pub by_jump : Option StubCode → Bool → Bool → ℕ → Result Route RouteError
+by_jump None loses has_room target = Err errors.NoStub
+by_jump (Some stub) loses has_room target = by_stub Jump stub.entry loses has_room target
+
+-- why a branch can't be written directly; none if it can
+abbrev pub IsObstacle : RelocationKindInfo → ℤ → ℕ → List ℕ → Option RelocateError → Type 0
+IsObstacle row v offset section None =
+    (offset ≤ length section) × IsAccepted row v (drop offset section)
+IsObstacle row v offset section (Some error) = IsRejected row v offset section error
+
+-- Directly where the branch can be written. By a stub where it doesn't reach its target, and may go by
+-- one. Nothing leads to what nothing defines.
+abbrev pub is_served : Architecture → ℕ → Symbol → Bool
+is_served architecture code symbol =
+    may_go_by_stub architecture code
+    && (not (symbol.stub == 0) || not symbol.is_undefined_weak)
+
+abbrev pub by_reach : Description → Symbol → Rela → Option RelocateError → Result Route RouteError
+by_reach target symbol r None = Ok Direct
+by_reach target symbol r (Some OutOfReach) =
+    if is_served target.instructions r.code symbol then
+    by_jump target.jump_stub false false (stub_target target.instructions symbol r)
+    else Err (errors.Write OutOfReach)
+by_reach target symbol r (Some error) = Err (errors.Write error)
+
+-- by a stub also where the callee wouldn't get, or the caller wouldn't keep, the TOC pointer
+abbrev pub route_by : Description → Symbol → Rela → Bool → Option RelocateError → Result Route RouteError
+route_by target symbol r has_room obstacle =
+    if loses_toc target.instructions r.code symbol || lacks_toc target.instructions r.code symbol then
+    by_jump target.jump_stub (loses_toc target.instructions r.code symbol) has_room
+    (stub_target target.instructions symbol r)
+    else by_reach target symbol r obstacle
+
+-- ---- routes of relocations
+
+-- the value of a relocation of a symbol
+abbrev pub IsValueOf : Architecture → Addresses → Symbol → Rela → Result (Option ℤ) ValueError → Type 0
+IsValueOf architecture addresses symbol r result =
+    IsValue architecture addresses [] (symbol ∷ []) (record r { symbol = 0 }) result
+
+abbrev pub IsRouteOf : Description → Symbol → Rela → List ℕ → RelocationKindInfo
+    → Result (Option ℤ) ValueError → Result Route RouteError → Type 0
+IsRouteOf target symbol r section row (Err error) result = result ≡ Err (errors.Value error)
+IsRouteOf target symbol r section row (Ok None) result = result ≡ Err errors.NotABranch
+IsRouteOf target symbol r section row (Ok (Some v)) result =
+    (has_room : Bool) × (IsTrue has_room ↔ HasRoom section r.offset)
+    × (obstacle : Option RelocateError) × IsObstacle row v r.offset section obstacle
+    × (result ≡ route_by target symbol r has_room obstacle)
+
+-- of a relocation with a row, for whose target a stub may serve or not
+abbrev pub IsRouteBy : Bool → Description → Addresses → Symbol → Rela → List ℕ → RelocationKindInfo
+    → Result Route RouteError → Type 0
+IsRouteBy false target addresses symbol r section row result = result ≡ Err errors.NotABranch
+IsRouteBy true target addresses symbol r section row result =
+    (value : Result (Option ℤ) ValueError)
+    × IsValueOf target.instructions addresses symbol r value
+    × IsRouteOf target symbol r section row value result
+
+abbrev pub IsRouteIn : Description → Addresses → Symbol → Rela → List ℕ → Option RelocationKindInfo
+    → Result Route RouteError → Type 0
+IsRouteIn target addresses symbol r section None result = result ≡ Err errors.NotABranch
+IsRouteIn target addresses symbol r section (Some row) result =
+    IsRouteBy (may_use_stub row.size row.kind) target addresses symbol r section row result
+
+abbrev pub IsRoute : Description → Addresses → Symbol → Rela → List ℕ → Result Route RouteError → Type 0
+IsRoute target addresses symbol r section result =
+    (row : Option RelocationKindInfo) × IsRow target.instructions r.code row
+    × IsRouteIn target addresses symbol r section row result
+
+-- ---- routes to the address in a word
+
+-- by a stub, which keeps the caller's TOC pointer
+abbrev pub by_word : Description → Rela → ℕ → Bool → Result Route RouteError
+by_word target r word has_room =
+    by_stub Load target.load_stub.entry (has_toc target.instructions r.code) has_room word
+
+abbrev pub IsWordRouteBy : Bool → Description → Rela → ℕ → List ℕ → Result Route RouteError → Type 0
+IsWordRouteBy false target r word section result = result ≡ Err errors.NotABranch
+IsWordRouteBy true target r word section result =
+    (has_room : Bool) × (IsTrue has_room ↔ HasRoom section r.offset)
+    × (result ≡ by_word target r word has_room)
+
+abbrev pub IsWordRouteIn : Description → Rela → ℕ → List ℕ → Option RelocationKindInfo
+    → Result Route RouteError → Type 0
+IsWordRouteIn target r word section None result = result ≡ Err errors.NotABranch
+IsWordRouteIn target r word section (Some row) result =
+    IsWordRouteBy (may_use_stub row.size row.kind) target r word section result
+
+abbrev pub IsWordRoute : Description → Rela → ℕ → List ℕ → Result Route RouteError → Type 0
+IsWordRoute target r word section result =
+    (row : Option RelocationKindInfo) × IsRow target.instructions r.code row
+    × IsWordRouteIn target r word section row result
+
+-- ---- the law of stubs
+
+-- A branch to the entry of a stub is direct exactly where it can be written, whatever function the stub
+-- leads to.
+abbrev pub StubsServe : Type 0
+StubsServe =
+    (target : Description) (symbol : Symbol) (r : Rela) (stub : ℕ) → stub ≢ 0
+    → (has_room : Bool) (obstacle : Option RelocateError)
+    → route_by target (record symbol { stub = stub }) r has_room obstacle
+    ≡ by_reach target (record symbol { stub = stub }) r obstacle

@@ -1,0 +1,318 @@
+//! Stubs that are added for branches, and those that branches share.
+
+ghost use Rattle.std.specs.Prelude.{◌≡◌, ◌≢◌, ◌+◌, ◌<◌, ◌^◌, ℕ, length, true, false, IfOk, IfSome};
+ghost use Rattle.std.specs.Prelude.{IfNone};
+ghost use Rattle.std.specs.List.{sum_by};
+ghost use Rattle.linker_output.specs.Placement.{passed, branch_at, at, part_of};
+ghost use Rattle.linker_output.specs.Inner.Placement.{IsCode, IsState, level, way_at, level_of};
+ghost use Rattle.linker_output.specs.Inner.Placement.{IsNewNear, IsWay, HasNoNear, with_one};
+ghost use Rattle.linker_output.specs.Inner.Placement.{new_way, IsUnreached, SameStubs};
+ghost use Rattle.linker_output.specs.declared.placement.Way.TheVariants.{Near, Far};
+
+use super::laying::passed;
+use super::{Branch, Code, Group, Part, State, StubAt, Way};
+use linker_base::relaxation::OutOfMemory;
+
+impl Group {
+    /// How many stubs of a part there are.
+    #[inline(always)]
+    fn stubs_of(self, part: Part) -> u64
+        ensures { result ≡ part_of part self }
+    {
+        match part {
+            Part::Front => self.front,
+            Part::Middle => self.middle,
+            Part::Back => self.back,
+        }
+    }
+
+    /// The same with one more.
+    #[inline(always)]
+    fn with_one(mut self, part: Part) -> Group
+        requires { part_of part self + 1 < 2 ^ 64 }
+        ensures { result ≡ with_one part self }
+    {
+        match part {
+            Part::Front => self.front += 1,
+            Part::Middle => self.middle += 1,
+            Part::Back => self.back += 1,
+        }
+        self
+    }
+}
+
+impl Part {
+    /// By what a branch goes for which there is a new stub of the part.
+    #[inline(always)]
+    fn way(self, stub: usize) -> Way
+        ensures { result ≡ new_way self stub }
+    {
+        match self {
+            Part::Middle => Way::Far(stub),
+            Part::Front | Part::Back => Way::Near(stub),
+        }
+    }
+}
+
+impl State {
+    /// Adds a stub for a branch, and has the branch go by it.
+    fn add(
+        &mut self,
+        code: &Code<'_>,
+        index: usize,
+        boundary: usize,
+        part: Part,
+    ) -> Result<(), OutOfMemory>
+        requires code { IsCode code.now }
+        requires state { IsState code.now self.old }
+        requires within { index < length code.now.branches.now }
+        requires boundary { boundary < length code.now.boundaries.now }
+        requires higher { level (way_at self.old.ways.items index) < level_of part }
+        requires near { IsNewNear code.now self.old index boundary part }
+        ensures state { IfOk result (λ _. IsState code.now self.new) }
+        ensures higher { IfOk result
+            (λ _. sum_by level self.old.ways.items < sum_by level self.new.ways.items) }
+        ensures others { IfOk result
+            (λ _. (k : ℕ) → k ≢ index → way_at self.new.ways.items k ≡ way_at self.old.ways.items k) }
+    {
+        let target = code.branches[index].target;
+        let stub = self.stubs.len();
+        let group = self.groups[boundary];
+        self.stubs.push(StubAt {
+            boundary,
+            part,
+            index: group.stubs_of(part),
+            target,
+        })?;
+        self.groups[boundary] = group.with_one(part);
+        self.ways[index] = part.way(stub);
+        self.last[target] = stub;
+        Ok(())
+    }
+
+    /// Has a branch go by a stub that there is.
+    fn take(&mut self, code: &Code<'_>, index: usize, way: Way)
+        requires state { IsState code.now self.old }
+        requires within { index < length code.now.branches.now }
+        requires way { IsWay code.now self.old.stubs.items (branch_at code.now.branches.now index) way }
+        requires higher { level (way_at self.old.ways.items index) < level way }
+        ensures state { IsState code.now self.new }
+        ensures higher { sum_by level self.old.ways.items < sum_by level self.new.ways.items }
+        ensures others { (k : ℕ) → k ≢ index
+            → way_at self.new.ways.items k ≡ way_at self.old.ways.items k }
+    {
+        self.ways[index] = way;
+    }
+
+    /// A stub at the boundary next to a branch, of its target and in its reach.
+    fn near_stub(&self, code: &Code<'_>, branch: &Branch) -> Option<usize>
+        requires code { IsCode code.now }
+        requires state { IsState code.now self.now }
+        requires offset { branch.now.offset < 2 ^ 62 }
+        ensures some { IfSome result
+            (λ s. IsWay code.now self.now.stubs.items branch.now (Near s)) }
+        ensures none { IfNone result (HasNoNear code.now self.now branch.now) }
+    {
+        for (index, stub) in self.stubs.iter().enumerate() {
+            if stub.target == branch.target && code.is_near(branch, stub) {
+                return Some(index);
+            }
+        }
+        None
+    }
+}
+
+impl State {
+    /// The stub of a branch's target that was used last, if the branch reaches it by a layout.
+    fn shared(
+        &self,
+        code: &Code<'_>,
+        before: &[u64],
+        places: &[u64],
+        branch: &Branch,
+    ) -> Option<usize>
+        requires code { IsCode code.now }
+        requires state { IsState code.now self.now }
+        requires one_more { length before.now ≡ length code.now.boundaries.now + 1 }
+        requires fits { (k : ℕ) → at before.now k < 2 ^ 62 }
+        requires offset { branch.now.offset < 2 ^ 62 }
+        requires target { branch.now.target < length code.now.targets.now }
+        ensures { IfSome result
+            (λ s. IsWay code.now self.now.stubs.items branch.now (Far s)) }
+    {
+        let index = self.last[branch.target];
+        if index >= self.stubs.len() {
+            return None;
+        }
+        let stub = self.stubs[index];
+        // one that this sweep added has no place yet
+        let place = if index < places.len() {
+            places[index]
+        } else {
+            code.start_of(before, stub.boundary)
+        };
+        if stub.target == branch.target && code.reaches_at(before, branch, place) {
+            Some(index)
+        } else {
+            None
+        }
+    }
+
+    /// A boundary ahead of a branch within half of its reach, beyond the next one.
+    fn far_boundary(&self, code: &Code<'_>, branch: &Branch) -> Option<usize>
+        requires code { IsCode code.now }
+        requires offset { branch.now.offset < 2 ^ 62 }
+        ensures { IfSome result (λ b. b < length code.now.boundaries.now) }
+    {
+        let half = branch.max_forward / 2;
+        let behind = passed(code.boundaries, branch.offset.saturating_add(half));
+        let ahead = passed(code.boundaries, branch.offset);
+        if behind > ahead && behind - ahead > 1 {
+            Some(behind - 1)
+        } else {
+            None
+        }
+    }
+
+    /// Adds a stub at a boundary next to a branch, if it is in reach there.
+    fn add_near(&mut self, code: &Code<'_>, index: usize) -> Result<bool, OutOfMemory>
+        requires code { IsCode code.now }
+        requires state { IsState code.now self.old }
+        requires within { index < length code.now.branches.now }
+        requires higher { level (way_at self.old.ways.items index) < 2 }
+        ensures state { IfOk result (λ _. IsState code.now self.new) }
+        ensures higher { IfOk result (λ added. added ≡ true
+            → sum_by level self.old.ways.items < sum_by level self.new.ways.items) }
+        ensures same { IfOk result (λ added. added ≡ false → self.new ≡ self.old) }
+        ensures unreached { IfOk result (λ added. added ≡ false
+            → IsUnreached code.now self.old (branch_at code.now.branches.now index)) }
+    {
+        let branch = code.branches[index];
+        let ahead = passed(code.boundaries, branch.offset);
+        if ahead < code.boundaries.len() {
+            let stub = StubAt {
+                boundary: ahead,
+                part: Part::Front,
+                index: self.groups[ahead].front,
+                target: branch.target,
+            };
+            if code.is_near(&branch, &stub) {
+                self.add(code, index, ahead, Part::Front)?;
+                return Ok(true);
+            }
+        }
+        if ahead > 0 {
+            let stub = StubAt {
+                boundary: ahead - 1,
+                part: Part::Back,
+                index: self.groups[ahead - 1].back,
+                target: branch.target,
+            };
+            if code.is_near(&branch, &stub) {
+                self.add(code, index, ahead - 1, Part::Back)?;
+                return Ok(true);
+            }
+        }
+        Ok(false)
+    }
+
+    /// Has a branch go by a stub at a boundary next to it, the last one of its target or a new one.
+    pub(super) fn go_near(&mut self, code: &Code<'_>, index: usize) -> Result<bool, OutOfMemory>
+        requires code { IsCode code.now }
+        requires state { IsState code.now self.old }
+        requires within { index < length code.now.branches.now }
+        requires higher { level (way_at self.old.ways.items index) < 2 }
+        ensures state { IfOk result (λ _. IsState code.now self.new) }
+        ensures higher { IfOk result (λ went. went ≡ true
+            → sum_by level self.old.ways.items < sum_by level self.new.ways.items) }
+        ensures same { IfOk result (λ went. went ≡ false → self.new ≡ self.old) }
+        ensures unreached { IfOk result (λ went. went ≡ false
+            → IsUnreached code.now self.old (branch_at code.now.branches.now index)) }
+    {
+        if let Some(stub) = self.recent(code, &code.branches[index]) {
+            self.take(code, index, Way::Near(stub));
+            return Ok(true);
+        }
+        self.add_near(code, index)
+    }
+
+    /// Has a branch that is lost go by another stub, if one can be in its reach.
+    pub(super) fn raise(
+        &mut self,
+        code: &Code<'_>,
+        before: &[u64],
+        places: &[u64],
+        index: usize,
+    ) -> Result<bool, OutOfMemory>
+        requires code { IsCode code.now }
+        requires state { IsState code.now self.old }
+        requires within { index < length code.now.branches.now }
+        requires one_more { length before.now ≡ length code.now.boundaries.now + 1 }
+        requires fits { (k : ℕ) → at before.now k < 2 ^ 62 }
+        requires higher { level (way_at self.old.ways.items index) < 2 }
+        ensures state { IfOk result (λ _. IsState code.now self.new) }
+        ensures higher { IfOk result (λ raised. raised ≡ true
+            → sum_by level self.old.ways.items < sum_by level self.new.ways.items) }
+        ensures same { IfOk result (λ raised. raised ≡ false → self.new ≡ self.old) }
+        ensures unreached { IfOk result (λ raised. raised ≡ false
+            → IsUnreached code.now self.old (branch_at code.now.branches.now index)) }
+        ensures none { IfOk result (λ raised. raised ≡ false
+            → HasNoNear code.now self.old (branch_at code.now.branches.now index)) }
+    {
+        let branch = code.branches[index];
+        if let Way::Direct = self.ways[index] {
+            if let Some(stub) = self.shared(code, before, places, &branch) {
+                self.take(code, index, Way::Far(stub));
+                return Ok(true);
+            }
+            if let Some(boundary) = self.far_boundary(code, &branch) {
+                self.add(code, index, boundary, Part::Middle)?;
+                return Ok(true);
+            }
+        }
+        if self.go_near(code, index)? {
+            return Ok(true);
+        }
+        if let Some(stub) = self.near_stub(code, &branch) {
+            self.take(code, index, Way::Near(stub));
+            return Ok(true);
+        }
+        Ok(false)
+    }
+
+    /// The stub of a branch's target that was used last, if it is near.
+    fn recent(&self, code: &Code<'_>, branch: &Branch) -> Option<usize>
+        requires code { IsCode code.now }
+        requires state { IsState code.now self.now }
+        requires offset { branch.now.offset < 2 ^ 62 }
+        requires target { branch.now.target < length code.now.targets.now }
+        ensures { IfSome result
+            (λ s. IsWay code.now self.now.stubs.items branch.now (Near s)) }
+    {
+        let stub = self.last[branch.target];
+        if stub < self.stubs.len()
+            && self.stubs[stub].target == branch.target
+            && code.is_near(branch, &self.stubs[stub])
+        {
+            Some(stub)
+        } else {
+            None
+        }
+    }
+
+    /// Notes the stub by which a branch goes as the last one of its target.
+    pub(super) fn note(&mut self, code: &Code<'_>, index: usize)
+        requires code { IsCode code.now }
+        requires state { IsState code.now self.old }
+        requires within { index < length code.now.branches.now }
+        ensures state { IsState code.now self.new }
+        ensures stubs { SameStubs self.old self.new }
+    {
+        match self.ways[index] {
+            Way::Direct => {}
+            Way::Far(stub) | Way::Near(stub) => {
+                self.last[code.branches[index].target] = stub;
+            }
+        }
+    }
+}
