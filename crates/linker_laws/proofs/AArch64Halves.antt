@@ -29,8 +29,8 @@ use Rattle.linker_laws.specs.AArch64RelocationLaws.{movk, movn_or_movz}
 use Rattle.linker_laws.specs.Schemes.{AreAddresses, symbol_address, tls_base}
 use Rattle.linker_laws.proofs.Instructions.{reads_bits, field_sum, relative}
 use Rattle.linker_laws.proofs.Instructions.{symbol_from_tls, unbiased}
-use Rattle.linker_laws.proofs.Moves.{movn_first}
-use Rattle.linker_laws.proofs.Pages.{offset_reads, IsUnsigned}
+use Rattle.linker_laws.proofs.AArch64WideMoves.{movn_first}
+use Rattle.linker_laws.proofs.AArch64Pages.{offset_reads, IsUnsigned}
 use Rattle.linker_laws.proofs.Sums.{sum_below, difference_below, page_halves_sum, taken_off}
 use Rattle.linker_laws.proofs.Sums.{cast_is, euclid, lift, lifted_is}
 use Rattle.linker_laws.specs.AArch64RewriteLaws.{word_of, thread_offset, IsRelocated, AgreeBut, Changes}

@@ -32,7 +32,7 @@ use Rattle.linker_elf.specs.Applied.{IsApplied}
 use Rattle.linker_laws.specs.Schemes.{IsAddress, AreAddresses, symbol_address, entry_and_addend, tls_base}
 use Rattle.linker_laws.proofs.Applied.{value_is, taken_bits}
 use Rattle.linker_laws.proofs.Instructions.{row_of, reads_bits, relative, unbiased}
-use Rattle.linker_laws.proofs.PartsOfAddresses.{page_distance}
+use Rattle.linker_laws.proofs.LoongArchAddresses.{page_distance}
 use Rattle.linker_laws.proofs.Sums.{sum_below, difference_below, page_halves_sum, taken_off, plus, cast_is, cast_low, euclid, lifted_is, signed_12}
 use Rattle.linker_laws.specs.LoongArchRewriteLaws.{word_of, thread_offset, high_offset, near_page, Has, AgreeBut, Changes, StepSo, IsRelocated, behind_call, with_entry}
 use Rattle.linker_laws.specs.LoongArchRewriteLaws as laws

@@ -1,3 +1,4 @@
+pub mod Decisions
 pub mod DeltaLists
 pub mod Found
 pub mod Provided

@@ -8,20 +8,23 @@ use Rattle.linker_elf.specs.declared.elf.RelocationKindInfo.{RelocationKindInfo}
 use Rattle.linker_reading.specs.declared.fields.FieldValue.{FieldValue}
 use Rattle.linker_reading.specs.FieldsOfBytes.{is_field_bit, AreSameButFor}
 use Rattle.linker_reading.specs.FoundByCode.{AreFound, IsFoundChosen}
-use Rattle.linker_reading.specs.Windows.{IsWindowOf}
+use Rattle.linker_reading.specs.Windows.{IsWindowOf, IsDestination, symbol_of}
+use Rattle.linker_reading.specs.declared.windows.Destination.{Destination}
 use Rattle.linker_reading.specs.declared.recognise.engine.Recognised.{Recognised}
 use Rattle.linker_reading.specs.declared.recognise.fields.FieldBits.{FieldBits}
-use Rattle.linker_utils.specs.Architectures.{relaxation_architecture}
+use Rattle.linker_elf.specs.declared.elf.value.Operands.{Operands}
+use Rattle.linker_utils.specs.Architectures.{relaxation_architecture, rewrite_of_number, IsRow}
 use Rattle.linker_utils.specs.declared.architecture.Relaxation.{Relaxation}
 use Rattle.linker_utils.specs.declared.elf.Architecture.{Architecture}
 use Rattle.linker_elf.specs.declared.elf.choice.LinkFacts.{LinkFacts}
 use Rattle.linker_utils_c.specs.Choices.{IsChoiceInNumbers}
-use Rattle.linker_utils_c.specs.Reading.{field_of}
+use Rattle.linker_utils_c.specs.Reading.{field_of, reference_number}
 use Rattle.linker_utils_c.specs.Status.{code}
+use Rattle.linker_utils_c.specs.declared.recognising.DestinationNumbers.{DestinationNumbers}
 use Rattle.linker_utils_c.specs.declared.recognising.RecognisedNumbers.{RecognisedNumbers}
 use Rattle.linker_utils_c.specs.declared.status.Status.TheVariants.{Success, UnknownRelocation}
 use Rattle.linker_utils_c.specs.declared.status.Status.TheVariants.{TooShort, DifferentLengths}
-use Rattle.linker_utils_c.specs.declared.status.Status.TheVariants.{WindowTooLong}
+use Rattle.linker_utils_c.specs.declared.status.Status.TheVariants.{WindowTooLong, NoAddress, UnknownRewrite}
 use Rattle.linker_utils_c.specs.declared.status.Status.TheVariants.{LeavesOtherBytes}
 
 -- ---- the bits of a field
@@ -108,3 +111,41 @@ pub record IsRecognised (architecture : Architecture) (r_type : ℕ) (original :
   pub found : length original ≤ 64 → (made : Option (Recognised Relaxation ℕ))
       × IsFoundChosen architecture r_type original o others linked facts made
       × IsChosenInNumbers made old new status
+
+-- ---- where one leads
+
+-- S or L, if it is known
+abbrev pub IsSymbol : Option ℕ → DestinationNumbers → Type 0
+IsSymbol None numbers = (numbers.has_symbol ≡ 0) × (numbers.symbol ≡ 0)
+IsSymbol (Some symbol) numbers = (numbers.has_symbol ≡ 1) × (numbers.symbol ≡ symbol)
+
+pub record IsDestinationInNumbers (d : Destination) (numbers : DestinationNumbers) : Type 0 where
+  pub address : field_of numbers.address ≡ d.address
+  pub addend : numbers.addend ≡ d.addend
+  pub reference : numbers.reference ≡ reference_number d.reference
+  pub symbol : IsSymbol (symbol_of d) numbers
+
+abbrev pub IsDestinationPut : Option Destination → DestinationNumbers → DestinationNumbers → ℕ
+    → Type 0
+IsDestinationPut None old new status = (status ≡ code NoAddress) × (new ≡ old)
+IsDestinationPut (Some d) old new status = (status ≡ code Success) × IsDestinationInNumbers d new
+
+-- after a rewrite, or no rewrite has the numbers
+abbrev pub IsDestinationOf : Architecture → Option Relaxation → RecognisedNumbers → List ℕ → ℕ
+    → Operands → DestinationNumbers → DestinationNumbers → ℕ → Type 0
+IsDestinationOf architecture None made original o operands old new status =
+    (status ≡ code UnknownRewrite) × (new ≡ old)
+IsDestinationOf architecture (Some kind) made original o operands old new status =
+    (row : Option RelocationKindInfo) × IsRow architecture made.choice.relocation row
+    × (d : Option Destination)
+    × IsDestination row (Some (field_of made.value)) kind original o operands d
+    × IsDestinationPut d old new status
+
+-- of a relocation in at most 64 bytes
+pub record IsDestinationReturned (architecture : Architecture) (made : RecognisedNumbers)
+    (original : List ℕ) (o : ℕ) (operands : Operands) (old new : DestinationNumbers) (status : ℕ)
+    : Type 0 where
+  pub long : 64 < length original → (status ≡ code WindowTooLong) × (new ≡ old)
+  pub short : length original ≤ 64 → IsDestinationOf architecture
+      (rewrite_of_number architecture made.choice.rewrite made.choice.opcode_len) made original o
+      operands old new status

@@ -1,23 +1,51 @@
 -- A section rewritten in one call, in the numbers that C sees.
-use Rattle.std.specs.Prelude.{◌≡◌, ◌⊎◌, ℕ, ◌<◌, ◌≤◌, ◌/◌, List, length, get_or, Some}
-use Rattle.linker_rewriting.specs.Decisions.{decision_at, AreDecided, AreApart, IsRejected}
+use Rattle.std.specs.Prelude.{◌≡◌, ◌⊎◌, ℕ, ◌/◌, ◌==◌, if◌then◌else◌, List, length, map}
+use Rattle.std.specs.Prelude.{take, drop, pos}
+use Rattle.std.specs.Prelude.{All, Option, Some, None}
+use Rattle.linker_elf.specs.declared.elf.choice.Choice.{Choice}
+use Rattle.linker_rewriting.specs.Decisions.{AreDecidedIn, AreApart, AllCanBeMade, deletions_by}
+use Rattle.linker_rewriting.specs.Decisions.{IsRejectedIn, IsRejectedPlaced}
+use Rattle.linker_rewriting.specs.Facts.{Setting}
 use Rattle.linker_rewriting.specs.Rewritten.{AreRelocationsAfter, AreDone, OthersStay}
-use Rattle.linker_rewriting.specs.Rewritten.{GroupsAreWhole}
+use Rattle.linker_rewriting.specs.Rewritten.{GroupsAreWholeIn}
 use Rattle.linker_rewriting.specs.declared.decisions.Decision.{Decision}
 use Rattle.linker_rewriting.specs.declared.decisions.Decision.TheVariants.{Kept, Rewritten}
-use Rattle.linker_rewriting.specs.declared.decisions.Decision.TheVariants.{TakenAlong}
+use Rattle.linker_rewriting.specs.declared.decisions.Decision.TheVariants.{TakenAlong, Redirected}
+use Rattle.linker_rewriting.specs.declared.decisions.Subject.{Subject}
 use Rattle.linker_rewriting.specs.declared.decisions.RewritingError.{RewritingError}
 use Rattle.linker_rewriting.specs.declared.decisions.RewritingError.TheVariants as errors
-use Rattle.linker_rewriting.specs.declared.facts.OutputFacts.{OutputFacts}
-use Rattle.linker_rewriting.specs.declared.facts.SymbolFacts.{SymbolFacts}
 use Rattle.linker_rewriting.specs.declared.groups.KeptGroups.{KeptGroups}
-use Rattle.linker_utils.specs.Architectures.{rewrite_of_number, relaxation_architecture}
+use Rattle.linker_rewriting.specs.declared.phases.Phase.{Phase}
+use Rattle.linker_rewriting.specs.declared.phases.Phase.TheVariants.{Early, ThreadOffsets}
+use Rattle.linker_rewriting.specs.declared.phases.Phase.TheVariants.{GotLoads, Distances}
+use Rattle.linker_utils.specs.Architectures.{rewrite_of_number}
+use Rattle.linker_utils.specs.Machines.{architecture_of}
+use Rattle.linker_utils.specs.declared.architecture.Relaxation.{Relaxation}
 use Rattle.linker_utils.specs.declared.elf.Architecture.{Architecture}
+use Rattle.linker_utils_c.specs.Deltas.{pairs_in}
 use Rattle.linker_utils_c.specs.Status.{code}
+use Rattle.linker_utils_c.specs.declared.deltas.Deletion.{Deletion}
 use Rattle.linker_utils_c.specs.declared.rewriting.DecisionNumbers.{DecisionNumbers}
+use Rattle.linker_utils_c.specs.declared.status.Status.{Status}
 use Rattle.linker_utils_c.specs.declared.status.Status.TheVariants.{Success, ShortMemory}
-use Rattle.linker_utils_c.specs.declared.status.Status.TheVariants.{OutOfMemory, NotSurveyed}
-use Rattle.linker_utils_c.specs.declared.status.Status.TheVariants.{Overlaps}
+use Rattle.linker_utils_c.specs.declared.status.Status.TheVariants.{NotSurveyed, Overlaps}
+
+-- ---- phases
+
+abbrev pub phase_number : Phase → ℕ
+phase_number Early = 0
+phase_number ThreadOffsets = 1
+phase_number GotLoads = 2
+phase_number Distances = 3
+
+-- that with a number
+abbrev pub phase_of : ℕ → Option Phase
+phase_of number =
+    if number == phase_number Early then Some Early
+    else (if number == phase_number ThreadOffsets then Some ThreadOffsets
+    else (if number == phase_number GotLoads then Some GotLoads
+    else (if number == phase_number Distances then Some Distances
+    else None)))
 
 -- ---- decisions
 
@@ -25,76 +53,126 @@ abbrev pub fate_number : Decision → ℕ
 fate_number Kept = 0
 fate_number (Rewritten chosen) = 1
 fate_number TakenAlong = 2
+fate_number (Redirected chosen subject) = 3
 
 -- one that rewrites nothing
 abbrev pub of_fate : ℕ → DecisionNumbers
-of_fate fate = record { rewrite = 0; relocation = 0; fate = fate; opcode_len = 0 }
+of_fate fate = record {
+  addend = pos 0;
+  symbol = 0;
+  rewrite = 0;
+  relocation = 0;
+  machine = 0;
+  fate = fate;
+  opcode_len = 0;
+}
 
-abbrev pub IsDecisionInNumbers : Decision → DecisionNumbers → Type 0
-IsDecisionInNumbers Kept numbers = numbers ≡ of_fate (fate_number Kept)
-IsDecisionInNumbers TakenAlong numbers = numbers ≡ of_fate (fate_number TakenAlong)
-IsDecisionInNumbers (Rewritten chosen) numbers =
-    (numbers.fate ≡ fate_number (Rewritten chosen)) × (numbers.relocation ≡ chosen.relocation)
-    × (rewrite_of_number (relaxation_architecture chosen.kind) numbers.rewrite numbers.opcode_len
-    ≡ Some chosen.kind)
+abbrev pub rewrite_in : DecisionNumbers → Option Architecture → Option Relaxation
+rewrite_in numbers None = None
+rewrite_in numbers (Some architecture) =
+    rewrite_of_number architecture numbers.rewrite numbers.opcode_len
 
--- each of them, and what was behind them is left
-pub record AreDecisionsInNumbers (decisions : List Decision) (old new : List DecisionNumbers)
-    : Type 0 where
-  pub written : (n : ℕ) → n < length decisions
-      → IsDecisionInNumbers (decision_at decisions n) (get_or new n (of_fate 0))
-  pub others_stay : (n : ℕ) → length decisions ≤ n
-      → get_or new n (of_fate 0) ≡ get_or old n (of_fate 0)
+abbrev pub choice_of : DecisionNumbers → Option Relaxation → Option (Choice Relaxation ℕ)
+choice_of numbers None = None
+choice_of numbers (Some kind) = Some (record { kind = kind; relocation = numbers.relocation })
+
+-- the rewrite and the relocation after it; none where the machine has no rewrite of these numbers
+abbrev pub choice_in : DecisionNumbers → Option (Choice Relaxation ℕ)
+choice_in numbers = choice_of numbers (rewrite_in numbers (architecture_of numbers.machine))
+
+abbrev pub subject_in : DecisionNumbers → Subject
+subject_in numbers = record { symbol = numbers.symbol; addend = numbers.addend }
+
+abbrev pub rewritten_by : ℕ → Subject → Option (Choice Relaxation ℕ) → Decision
+rewritten_by fate subject None = Kept
+rewritten_by fate subject (Some chosen) =
+    if fate == 1 then Rewritten chosen else Redirected chosen subject
+
+abbrev pub decision_by : ℕ → Subject → Option (Choice Relaxation ℕ) → Decision
+decision_by fate subject choice =
+    if fate == 0 then Kept
+    else (if fate == 2 then TakenAlong else rewritten_by fate subject choice)
+
+-- the decision that C's struct is
+abbrev pub decision_in : DecisionNumbers → Decision
+decision_in numbers = decision_by numbers.fate (subject_in numbers) (choice_in numbers)
+
+abbrev pub decisions_in : List DecisionNumbers → List Decision
+decisions_in decisions = map decision_in decisions
+
+-- how one is written: one that rewrites nothing has no other number than its fate
+abbrev pub IsWrittenAs : Decision → DecisionNumbers → Type 0
+IsWrittenAs (Rewritten chosen) numbers =
+    (numbers.fate ≡ 1) × (subject_in numbers ≡ record { symbol = 0; addend = pos 0 })
+IsWrittenAs (Redirected chosen subject) numbers = numbers.fate ≡ 3
+IsWrittenAs Kept numbers = numbers ≡ of_fate 0
+IsWrittenAs TakenAlong numbers = numbers ≡ of_fate 2
+
+abbrev pub IsWrittenDecision : DecisionNumbers → Type 0
+IsWrittenDecision numbers = IsWrittenAs (decision_in numbers) numbers
 
 -- ---- a section
 
 -- it is rewritten as decided, all of a group or none
-pub record IsRewrittenAs (architecture : Architecture) (output : OutputFacts)
-    (symbols : List SymbolFacts) (kept : List KeptGroups) (bytes bytes_after : List ℕ)
+pub record IsRewrittenAs (s : Setting) (kept : List KeptGroups) (bytes bytes_after : List ℕ)
     (section section_after : List ℕ) (decisions : List Decision) : Type 0 where
-  pub decided : AreDecided architecture output symbols kept bytes section decisions
-      (length bytes / 24)
-  pub groups : GroupsAreWhole architecture bytes decisions (length bytes / 24)
+  pub decided : AreDecidedIn s kept bytes section decisions (length bytes / 24)
+  pub groups : GroupsAreWholeIn s.architecture s.phase bytes decisions (length bytes / 24)
   pub apart : AreApart bytes decisions (length bytes / 24)
   pub relocations : AreRelocationsAfter decisions bytes bytes_after (length bytes / 24)
   pub done : AreDone bytes decisions section section_after (length bytes / 24)
   pub others : OthersStay bytes decisions section section_after (length bytes / 24)
 
--- why it isn't: the status, and the relocation at fault
-abbrev pub IsWhyNot : RewritingError → ℕ → ℕ → Type 0
-IsWhyNot errors.TooShort status faulty = ⊥
-IsWhyNot (errors.NotSurveyed n) status faulty = (status ≡ code NotSurveyed) × (faulty ≡ n)
-IsWhyNot (errors.Overlaps n) status faulty = (status ≡ code Overlaps) × (faulty ≡ n)
+-- the status of an error, and the index of the relocation at fault, if one is
+abbrev pub rewriting_status : RewritingError → Status
+rewriting_status errors.TooShort = ShortMemory
+rewriting_status (errors.NotSurveyed n) = NotSurveyed
+rewriting_status (errors.Overlaps n) = Overlaps
 
--- relocations, section and decisions
-abbrev pub AreLeft : List ℕ → List ℕ → List ℕ → List ℕ → List DecisionNumbers
-    → List DecisionNumbers → Type 0
-AreLeft bytes bytes_after section section_after old new =
-    (bytes_after ≡ bytes) × (section_after ≡ section) × (new ≡ old)
+abbrev pub faulty_after : RewritingError → ℕ → ℕ
+faulty_after errors.TooShort old = old
+faulty_after (errors.NotSurveyed n) old = n
+faulty_after (errors.Overlaps n) old = n
 
--- the section is rewritten as decided, or the status says why not
-abbrev pub IsRewriteOutcome : Architecture → OutputFacts → List SymbolFacts → List KeptGroups
-    → List ℕ → List ℕ → List ℕ → List ℕ → List DecisionNumbers → List DecisionNumbers → ℕ → ℕ → ℕ
-    → Type 0
-IsRewriteOutcome architecture output symbols kept bytes bytes_after section section_after old new
-    old_faulty faulty status =
-    ((status ≡ code Success) × (faulty ≡ old_faulty) × (decisions : List Decision)
-    × (length decisions ≡ length bytes / 24)
-    × IsRewrittenAs architecture output symbols kept bytes bytes_after section section_after
-    decisions
-    × AreDecisionsInNumbers decisions old new)
-    ⊎ ((error : RewritingError) × (decisions : List Decision)
-    × IsRejected architecture output symbols kept bytes section decisions error
-    × IsWhyNot error status faulty × AreLeft bytes bytes_after section section_after old new)
+-- an error of some kind, with which the section and its relocations are unchanged
+pub record IsErrorReturned (IsError : RewritingError → Type 0) (bytes bytes_after : List ℕ)
+    (section section_after : List ℕ) (old_faulty faulty status : ℕ) : Type 0 where
+  pub error : RewritingError
+  pub is : IsError error
+  pub status_is : status ≡ code (rewriting_status error)
+  pub faulty_is : faulty ≡ faulty_after error old_faulty
+  pub entries : bytes_after ≡ bytes
+  pub section_stays : section_after ≡ section
 
-pub record IsRewriteReturned (architecture : Architecture) (output : OutputFacts)
-    (symbols : List SymbolFacts) (kept : List KeptGroups) (bytes bytes_after : List ℕ)
-    (section section_after : List ℕ) (old new : List DecisionNumbers)
-    (old_faulty faulty status : ℕ) : Type 0 where
-  pub short : length old < length bytes / 24 → (status ≡ code ShortMemory)
-      × AreLeft bytes bytes_after section section_after old new × (faulty ≡ old_faulty)
-  pub long : length bytes / 24 ≤ length old
-      → ((status ≡ code OutOfMemory) × AreLeft bytes bytes_after section section_after old new
-      × (faulty ≡ old_faulty))
-      ⊎ IsRewriteOutcome architecture output symbols kept bytes bytes_after section section_after
-      old new old_faulty faulty status
+-- before addresses are known
+abbrev pub IsRewriteReturned : Setting → List KeptGroups → List ℕ → List ℕ → List ℕ → List ℕ
+    → List DecisionNumbers → List DecisionNumbers → ℕ → ℕ → ℕ → Type 0
+IsRewriteReturned s kept bytes bytes_after section section_after old new old_faulty faulty status =
+    (drop (length bytes / 24) new ≡ drop (length bytes / 24) old)
+    × (((status ≡ code Success) × (faulty ≡ old_faulty)
+    × IsRewrittenAs s kept bytes bytes_after section section_after (decisions_in new)
+    × All IsWrittenDecision (take (length bytes / 24) new))
+    ⊎ IsErrorReturned (IsRejectedIn s kept bytes section (decisions_in new)) bytes bytes_after
+    section section_after old_faulty faulty status)
+
+-- what is to be deleted is written first, is in the section, and is listed as it ascends
+pub record AreDeletionsTo (bytes section : List ℕ) (decisions : List Decision)
+    (old new : List Deletion) (len : ℕ) : Type 0 where
+  pub within : AllCanBeMade bytes section decisions (length bytes / 24)
+  pub listed : take len (pairs_in new) ≡ deletions_by bytes decisions (length bytes / 24)
+  pub others_stay : drop len new ≡ drop len old
+
+-- once they are
+abbrev pub IsPlacedReturned : Setting → List KeptGroups → List ℕ → List ℕ → List ℕ → List ℕ
+    → List DecisionNumbers → List DecisionNumbers → List Deletion → List Deletion → ℕ → ℕ → ℕ → ℕ
+    → ℕ → Type 0
+IsPlacedReturned s kept bytes bytes_after section section_after old new deleted deleted_after old_len
+    len old_faulty faulty status =
+    (drop (length bytes / 24) new ≡ drop (length bytes / 24) old)
+    × (((status ≡ code Success) × (faulty ≡ old_faulty)
+    × IsRewrittenAs s kept bytes bytes_after section section_after (decisions_in new)
+    × All IsWrittenDecision (take (length bytes / 24) new)
+    × AreDeletionsTo bytes section (decisions_in new) deleted deleted_after len)
+    ⊎ (IsErrorReturned (λ error. IsRejectedPlaced s kept bytes section (decisions_in new)
+    (length deleted) error) bytes bytes_after section section_after old_faulty faulty status
+    × (len ≡ old_len)))

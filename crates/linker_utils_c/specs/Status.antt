@@ -40,7 +40,7 @@ use Rattle.linker_utils_c.specs.declared.status.Status.TheVariants.{NoSymbol, No
 use Rattle.linker_utils_c.specs.declared.status.Status.TheVariants.{Overlaps, ShortMemory}
 use Rattle.linker_utils_c.specs.declared.status.Status.TheVariants.{NotSurveyed, UnknownEntryClass}
 use Rattle.linker_utils_c.specs.declared.status.Status.TheVariants.{DifferentFlags, NotProvided}
-use Rattle.linker_utils_c.specs.declared.status.Status.TheVariants.{UnknownStub}
+use Rattle.linker_utils_c.specs.declared.status.Status.TheVariants.{UnknownStub, UnknownPhase}
 
 abbrev pub code : Status → ℕ
 code Success = 0
@@ -112,6 +112,7 @@ code UnknownEntryClass = 67
 code DifferentFlags = 68
 code NotProvided = 69
 code UnknownStub = 70
+code UnknownPhase = 71
 
 -- the status is one of these
 abbrev pub IsOneOf : List Status → ℕ → Type 0

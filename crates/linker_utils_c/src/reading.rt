@@ -82,7 +82,7 @@ impl FieldValueNumbers {
     }
 
     #[inline(always)]
-    fn field(&self) -> FieldValue
+    pub(crate) fn field(&self) -> FieldValue
         ensures { result ≡ field_of self.now }
     {
         FieldValue {
@@ -141,7 +141,7 @@ fn read_row(row: &Row, bytes: &[u8], value: &mut FieldValueNumbers) -> u32
 }
 
 #[inline(always)]
-fn number_of(reference: Reference) -> u32
+pub(crate) fn reference_number(reference: Reference) -> u32
     ensures { result ≡ reference_number reference }
 {
     match reference {
@@ -166,7 +166,7 @@ fn put_address(
         Some(terms) => match solution {
             None => Status::NoAddress.number(),
             Some(solution) => {
-                *reference = number_of(terms.reference);
+                *reference = reference_number(terms.reference);
                 *address = FieldValueNumbers::of(solution);
                 Status::Success.number()
             }

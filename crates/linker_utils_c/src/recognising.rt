@@ -3,24 +3,28 @@
 ghost use Rattle.std.specs.Prelude.{◌≡◌, ◌≤◌, IfSome, IfNone, Option, Some, false, length};
 ghost use Rattle.linker_elf.specs.Entries.{IsAnswerOf};
 ghost use Rattle.linker_elf.specs.declared.elf.RelocationKindInfo.{RelocationKindInfo};
-ghost use Rattle.linker_utils.specs.Architectures.{IsRow};
+ghost use Rattle.linker_utils.specs.Architectures.{IsRow, rewrite_of_number};
 ghost use Rattle.linker_utils.specs.Machines.{architecture_of};
 ghost use Rattle.linker_utils_c.specs.Choices.{facts_of};
-ghost use Rattle.linker_utils_c.specs.Reading.{field_of};
+ghost use Rattle.linker_utils_c.specs.Reading.{field_of, reference_number};
 ghost use Rattle.linker_utils_c.specs.Recognising.{AreBitsOf, IsSameAnswer, field_or_none};
 ghost use Rattle.linker_utils_c.specs.Recognising.{IsMadeInNumbers, AreWritten, AreRecognised};
 ghost use Rattle.linker_utils_c.specs.Recognising.{IsChosenInNumbers, IsRecognised, IsWindowGiven};
+ghost use Rattle.linker_utils_c.specs.Recognising.{IsDestinationInNumbers, IsDestinationPut};
+ghost use Rattle.linker_utils_c.specs.Recognising.{IsDestinationOf, IsDestinationReturned};
 ghost use Rattle.linker_utils_c.specs.Status.{code};
 
 use crate::choices::{ChoiceNumbers, LinkFactNumbers, in_numbers};
-use crate::reading::FieldValueNumbers;
+use crate::reading::{FieldValueNumbers, reference_number};
 use crate::status::Status;
 use linker_reading::fields::FieldValue;
-use linker_reading::recognise::architecture::{recognise, recognise_chosen, window_of};
+use linker_reading::recognise::architecture::{
+    Destination, destination_of, recognise, recognise_chosen, window_of,
+};
 use linker_reading::recognise::fields::{FieldBits, field_bits, same_but_for};
 use linker_reading::recognise::{CANDIDATES, MAX_WINDOW, Recognised};
 use linker_utils::architecture::Relaxation;
-use linker_utils::elf::{Architecture, RewriteWindow, Row};
+use linker_utils::elf::{Architecture, Choice, Operands, RewriteWindow, Row};
 
 /// Which bits of the bytes that `bytes` begins with a write of the relocation with `r_type` may
 /// change, bit 0 the lowest of the first byte, as `field_bits` of `linker_reading` returns them.
@@ -277,4 +281,111 @@ fn put_chosen(made: Option<Recognised<Relaxation, u32>>, found: &mut RecognisedN
         }
         None => Status::LeavesOtherBytes.number(),
     }
+}
+
+/// Where a recognised relocation leads, in numbers.
+#[repr(C)]
+#[derive(Clone, Copy)]
+pub struct DestinationNumbers {
+    /// What is known of the address: of S + A, L + A, or the GOT entry's.
+    pub address: FieldValueNumbers,
+    /// A, the addend of the relocation after the rewrite.
+    pub addend: i64,
+    /// S, or L of a relocation that goes by a PLT entry; 0 where `has_symbol` is.
+    pub symbol: u64,
+    /// Which address it is: 0 S + A, 1 the GOT entry's, 2 L + A.
+    pub reference: u32,
+    /// 1 where `symbol` is known; 0 of a GOT entry's address, and where not all bits are known.
+    pub has_symbol: u8,
+}
+
+/// A destination in numbers.
+#[inline(always)]
+fn destination_in(destination: &Destination) -> DestinationNumbers
+    ensures { IsDestinationInNumbers destination.now result }
+{
+    let (has_symbol, symbol) = match destination.symbol() {
+        Some(symbol) => (1, symbol),
+        None => (0, 0),
+    };
+    DestinationNumbers {
+        address: FieldValueNumbers::of(destination.address),
+        addend: destination.addend,
+        symbol,
+        reference: reference_number(destination.reference),
+        has_symbol,
+    }
+}
+
+/// Writes where a relocation leads, if it leads anywhere.
+#[inline(always)]
+fn put_destination(found: Option<Destination>, destination: &mut DestinationNumbers) -> u32
+    ensures { IsDestinationPut found destination.old destination.new result }
+{
+    match found {
+        Some(found) => {
+            *destination = destination_in(&found);
+            Status::Success.number()
+        }
+        None => Status::NoAddress.number(),
+    }
+}
+
+/// Where a relocation leads after a rewrite of the architecture that has these numbers.
+fn put_destination_of(
+    architecture: Architecture,
+    made: &RecognisedNumbers,
+    original: &[u8],
+    offset: u64,
+    operands: &Operands,
+    destination: &mut DestinationNumbers,
+) -> u32
+    requires { length original.now ≤ 64 }
+    ensures { IsDestinationOf architecture (rewrite_of_number architecture made.now.choice.rewrite
+        made.now.choice.opcode_len) made.now original.now offset operands.now destination.old
+        destination.new result }
+{
+    let choice = &made.choice;
+    let Some(kind) = architecture.rewrite(choice.rewrite, choice.opcode_len) else {
+        return Status::UnknownRewrite.number();
+    };
+    let made = Recognised {
+        choice: Choice {
+            kind,
+            relocation: choice.relocation,
+        },
+        offset: made.offset,
+        value: Some(made.value.field()),
+    };
+    put_destination(
+        destination_of(architecture, &made, original, offset, operands),
+        destination,
+    )
+}
+
+/// Where a relocation leads that `linker_utils_recognise` or `linker_utils_recognise_chosen` found,
+/// with the same original bytes and offset, as `destination_of` of `linker_reading`. The first that
+/// applies of `UnknownArchitecture`; `WindowTooLong`; `UnknownRewrite`; `NoAddress`.
+#[unsafe(no_mangle)]
+pub extern "C" fn linker_utils_destination_nonnull(
+    machine: u16,
+    made: &RecognisedNumbers,
+    original: &[u8],
+    offset: u64,
+    operands: &Operands,
+    destination: &mut DestinationNumbers,
+) -> u32
+    ensures known { IfSome (architecture_of machine) (λ architecture.
+        IsDestinationReturned architecture made.now original.now offset operands.now
+        destination.old destination.new result) }
+    ensures unknown { IfNone (architecture_of machine) ((result ≡ code Status.UnknownArchitecture)
+        × (destination.new ≡ destination.old)) }
+{
+    let Some(architecture) = Architecture::from_machine(machine) else {
+        return Status::UnknownArchitecture.number();
+    };
+    if original.len() > MAX_WINDOW {
+        return Status::WindowTooLong.number();
+    }
+    put_destination_of(architecture, made, original, offset, operands, destination)
 }

@@ -15,9 +15,9 @@ use Rattle.linker_laws.proofs.Instructions.{adds, symbol_from_place, plt_from_pl
 use Rattle.linker_laws.proofs.Instructions.{entry_from_place, entry_from_got, entry_from}
 use Rattle.linker_laws.proofs.Instructions.{symbol_from_tls, symbol_itself, symbol_small}
 use Rattle.linker_laws.proofs.Instructions.{entry_sum_small, entry_is, relative, same_distance}
-use Rattle.linker_laws.proofs.Moves.{moves1, moves2, moves3, moves4, movz_first, movn_first}
-use Rattle.linker_laws.proofs.Moves.{movn_highest, movz_highest}
-use Rattle.linker_laws.proofs.Pages.{pages, high_and_low_parts, IsUnsigned, got_page_small}
+use Rattle.linker_laws.proofs.AArch64WideMoves.{moves1, moves2, moves3, moves4, movz_first, movn_first}
+use Rattle.linker_laws.proofs.AArch64WideMoves.{movn_highest, movz_highest}
+use Rattle.linker_laws.proofs.AArch64Pages.{pages, high_and_low_parts, IsUnsigned, got_page_small}
 use Rattle.linker_laws.proofs.Sums.{difference_below}
 use Rattle.linker_laws.specs.AArch64RelocationLaws.{got_page, movz, movn_or_movz, has_shift}
 use Rattle.linker_laws.proofs.relocations.aarch64.Goals as goal

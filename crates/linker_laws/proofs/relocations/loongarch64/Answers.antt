@@ -14,7 +14,7 @@ use Rattle.linker_laws.specs.Schemes.{AreAddresses, none, of_words}
 use Rattle.linker_elf.specs.Relocate.{is_jirl}
 use Rattle.linker_laws.proofs.Applied.{reads, value_is, aligned_low}
 use Rattle.linker_laws.proofs.Differences.{adds_distance, adds_distance_6}
-use Rattle.linker_laws.proofs.Halves.{relative_rounds, unrounded}
+use Rattle.linker_laws.proofs.Rounded.{relative_rounds, unrounded}
 use Rattle.linker_laws.proofs.Fields.{holds_distance}
 use Rattle.linker_laws.proofs.Instructions.{adds, symbol_from_place, plt_from_place}
 use Rattle.linker_laws.proofs.Instructions.{entry_and_addend_from_place}
@@ -22,9 +22,9 @@ use Rattle.linker_laws.proofs.Instructions.{symbol_itself, symbol_from_tls, symb
 use Rattle.linker_laws.proofs.Instructions.{entry_and_addend_small, entry_and_addend_itself}
 use Rattle.linker_laws.proofs.Instructions.{tls_small, place_small, zero_small, relative}
 use Rattle.linker_laws.proofs.Instructions.{absolute}
-use Rattle.linker_laws.proofs.PartsOfAddresses.{page_pairs, page_jumps, two_parts, rounded_parts}
-use Rattle.linker_laws.proofs.PartsOfAddresses.{four_parts}
-use Rattle.linker_laws.proofs.PartsOfAddresses.{five_parts, calls_far, high_parts}
+use Rattle.linker_laws.proofs.LoongArchAddresses.{page_pairs, page_jumps, two_parts, rounded_parts}
+use Rattle.linker_laws.proofs.LoongArchAddresses.{four_parts}
+use Rattle.linker_laws.proofs.LoongArchAddresses.{five_parts, calls_far, high_parts}
 use Rattle.linker_laws.proofs.Sums.{difference_below, sum_below, multiple_part}
 use Rattle.linker_laws.proofs.relocations.loongarch64.Goals as goal
 

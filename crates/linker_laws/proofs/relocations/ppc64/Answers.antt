@@ -12,10 +12,10 @@ use Rattle.linker_laws.proofs.Instructions.{symbol_from_tls, symbol_itself, entr
 use Rattle.linker_laws.proofs.Instructions.{entry_from_got, entry_sum, place_small, got_small, plt_from_got}
 use Rattle.linker_laws.proofs.Instructions.{plt_from_place}
 use Rattle.linker_laws.proofs.Instructions.{tls_small, same_distance, relative, entry_is}
-use Rattle.linker_laws.proofs.Halves.{adjusted_halves, high_half, unadjusted_halves, d_reads}
-use Rattle.linker_laws.proofs.Halves.{ds_reads}
-use Rattle.linker_laws.proofs.Halves.{relative_rounds, absolute_rounds, unrounded}
-use Rattle.linker_laws.proofs.Quarters.{quarters, quarters_adjusted}
+use Rattle.linker_laws.proofs.Ppc64Halves.{adjusted_halves, high_half, unadjusted_halves, d_reads}
+use Rattle.linker_laws.proofs.Ppc64Halves.{ds_reads}
+use Rattle.linker_laws.proofs.Rounded.{relative_rounds, absolute_rounds, unrounded}
+use Rattle.linker_laws.proofs.Ppc64Quarters.{quarters, quarters_adjusted}
 use Rattle.linker_laws.proofs.Sums.{difference_below, sum_below}
 use Rattle.linker_laws.proofs.relocations.ppc64.Goals as goal
 

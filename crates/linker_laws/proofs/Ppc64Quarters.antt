@@ -20,7 +20,8 @@ use Rattle.linker_elf.specs.declared.elf.value.Operands.{Operands}
 use Rattle.linker_laws.specs.Ppc64RelocationLaws.{upper_parts}
 use Rattle.linker_elf.specs.Applied.{IsApplied}
 use Rattle.linker_laws.specs.Schemes.{IsAddress, AreAddresses}
-use Rattle.linker_laws.proofs.Halves.{ReadsLow, IsRounded, adjusted_low, d_field}
+use Rattle.linker_laws.proofs.Ppc64Halves.{ReadsLow, adjusted_low, d_field}
+use Rattle.linker_laws.proofs.Rounded.{IsRounded}
 use Rattle.linker_laws.proofs.Instructions.{IsNumber, row_of, field_sum}
 use Rattle.linker_laws.proofs.Sums.{Leads, low_part, sum_below}
 use Rattle.linker_elf.specs.Value.{sum_64}

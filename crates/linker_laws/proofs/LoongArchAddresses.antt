@@ -36,7 +36,7 @@ use Rattle.linker_elf.proofs.Relocated.{plain_written}
 use Rattle.linker_elf.specs.Agrees.{AgreesInReach}
 use Rattle.linker_elf.specs.Relocate.{is_jirl, is_low_jump}
 use Rattle.linker_elf.proofs.Taken.{taken_below}
-use Rattle.linker_laws.proofs.Halves.{IsRounded}
+use Rattle.linker_laws.proofs.Rounded.{IsRounded}
 use Rattle.linker_laws.proofs.Instructions.{IsNumber, IsSmall, absolute, row_of}
 use Rattle.linker_laws.proofs.Instructions.{reads_bits, field_sum, unbiased}
 use Rattle.linker_laws.proofs.Sums.{halves_sum, page_halves_sum, signed_12, sum_below, goes}

@@ -1,0 +1,26 @@
+use Rattle.std.proofs.Common.{◌∙◌, sym, subst, pos, Some}
+use Rattle.linker_utils_c.specs.Rewriting.{IsWrittenAs}
+use Rattle.linker_utils_c.proofs.Decisions.{decided_in}
+use Rattle.linker_utils_c.proofs.rewriting.DecisionNumbersAsDecision.from_decision.Goals as goal
+
+pub returns-in-Rewritten-clause-decision : goal.returns-in-Rewritten-clause-decision
+returns-in-Rewritten-clause-decision c =
+    decided_in c.of_choice.result 1 (record { symbol = 0; addend = pos 0 }) (Some c.in-Rewritten.choice) c.of_choice.ensures.fate c.of_choice.ensures.subject c.of_choice.ensures.choice
+    ∙ sym c.in-Rewritten.is
+
+pub returns-in-Rewritten-clause-form : goal.returns-in-Rewritten-clause-form
+returns-in-Rewritten-clause-form c =
+    let is = decided_in c.of_choice.result 1 (record { symbol = 0; addend = pos 0 }) (Some c.in-Rewritten.choice) c.of_choice.ensures.fate c.of_choice.ensures.subject c.of_choice.ensures.choice in
+    subst (λ d. IsWrittenAs d c.of_choice.result) (sym is) (c.of_choice.ensures.fate, c.of_choice.ensures.subject)
+
+pub returns-in-Redirected-clause-decision : goal.returns-in-Redirected-clause-decision
+returns-in-Redirected-clause-decision c =
+    let made = c.of_choice-in-Redirected in
+    decided_in made.result 3 c.in-Redirected.subject (Some c.in-Redirected.choice) made.ensures.fate made.ensures.subject made.ensures.choice
+    ∙ sym c.in-Redirected.is
+
+pub returns-in-Redirected-clause-form : goal.returns-in-Redirected-clause-form
+returns-in-Redirected-clause-form c =
+    let made = c.of_choice-in-Redirected in
+    let is = decided_in made.result 3 c.in-Redirected.subject (Some c.in-Redirected.choice) made.ensures.fate made.ensures.subject made.ensures.choice in
+    subst (λ d. IsWrittenAs d made.result) (sym is) made.ensures.fate

@@ -1,0 +1,17 @@
+use Rattle.std.proofs.Common.{refl}
+use Rattle.linker_utils_c.proofs.Decisions.{chosen_in}
+use Rattle.linker_utils_c.specs.declared.rewriting.DecisionNumbers.{DecisionNumbers}
+use Rattle.linker_utils_c.proofs.rewriting.of_choice.Goals as goal
+
+pub returns-clause-choice : goal.returns-clause-choice
+returns-clause-choice c =
+    let numbers : DecisionNumbers = record {
+      addend = c.args.subject.addend;
+      symbol = c.args.subject.symbol;
+      rewrite = c.number-rewrite.result.0;
+      relocation = c.args.choice.relocation;
+      machine = c.machine_of.result;
+      fate = c.args.fate;
+      opcode_len = c.number-rewrite.result.1;
+    } in
+    chosen_in numbers c.args.choice c.machine_of.ensures c.number-rewrite.ensures refl
