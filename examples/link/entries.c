@@ -16,7 +16,7 @@ struct stub {
 
 static struct stub *added;
 static size_t added_len, added_room;
-static struct linker_utils_dynamic_types types;
+struct linker_utils_dynamic_types types;
 
 /* Adds a relocation that no object has. */
 static struct relocation *add_own(struct output *o, uint64_t offset, uint32_t type,
@@ -27,7 +27,7 @@ static struct relocation *add_own(struct output *o, uint64_t offset, uint32_t ty
 }
 
 /* Adds a stub to a section, and returns the offset of its entry. */
-static uint64_t add_stub(struct output *o, uint32_t kind, const struct symbol *s, int64_t addend) {
+uint64_t add_stub(struct output *o, uint32_t kind, const struct symbol *s, int64_t addend) {
     struct linker_utils_stub stub;
     if (linker_utils_stub(machine, kind, &stub)) fail("there is no stub to '%s'", s->name);
     added = grow(added, added_len + 1, &added_room, sizeof *added);
@@ -78,7 +78,7 @@ void rewrite(const struct relocation *r, uint8_t *bytes, uint64_t len, uint64_t 
     change_other(r, &choice);
 }
 
-static bool is_defined(const struct symbol *s) { return s->elf.st_shndx != SHN_UNDEF; }
+bool is_defined(const struct symbol *s) { return s->elf.st_shndx != SHN_UNDEF; }
 
 static bool is_ifunc(const struct symbol *s) {
     return ELF64_ST_TYPE(s->elf.st_info) == STT_GNU_IFUNC && is_defined(s);
@@ -86,9 +86,9 @@ static bool is_ifunc(const struct symbol *s) {
 
 /* Whether a rewrite may take where a symbol is: in the linked file, or, of a weak thread-local
  * variable that nothing defines, at the thread pointer. */
-static bool is_here(const struct symbol *s) {
+bool is_here(const struct symbol *s) {
     bool is_thread_local = ELF64_ST_TYPE(s->elf.st_info) == STT_TLS;
-    if (!is_defined(s)) return is_thread_local && rank(s) == 0;
+    if (!is_defined(s)) return is_thread_local && rank(s) == 0 && !s->is_imported;
     return s->output || s == module_base || s->elf.st_shndx != SHN_ABS;
 }
 
@@ -102,7 +102,8 @@ static struct entry *entry_of(const struct relocation *r,
                               const struct linker_utils_requirements *needs) {
     bool is_module = needs->entry_class == LINKER_UTILS_ENTRY_MODULE;
     struct entry **at = is_module ? &module_entry : &r->symbol->entries;
-    if (needs->entry_class == LINKER_UTILS_ENTRY_DESCRIPTOR || (is_module && machine == EM_X86_64))
+    if (!is_dynamic && (needs->entry_class == LINKER_UTILS_ENTRY_DESCRIPTOR ||
+                        (is_module && machine == EM_X86_64)))
         fail("%s is not supported", place_of(r));
     while (*at && ((*at)->class != needs->entry_class || (*at)->addend != needs->entry_addend))
         at = &(*at)->next;
@@ -123,16 +124,12 @@ struct section *toc_section(const struct relocation *r, uint64_t *offset) {
     return !strcmp(toc->name, ".toc") && toc->output && *offset < toc->head->sh_size ? toc : NULL;
 }
 
-/* PowerPC64: notes an instruction with the low half of an address that can't be over the TOC
- * pointer, and one that isn't an `ld` of a doubleword of the TOC: then others of the same address
- * stay. */
+/* PowerPC64: notes an instruction with the low half of an address in the TOC that isn't an `ld` of a
+ * doubleword: then others of the same address stay. */
 static void note_low_half(const struct relocation *r, const uint8_t *bytes, uint64_t len) {
-    const uint32_t near = LINKER_UTILS_PPC64_REWRITE_BASE_TO_TOC;
     const uint32_t load = LINKER_UTILS_PPC64_REWRITE_LD_TO_ADDI;
     uint64_t offset, at = r->offset - r->section->offset;
     if (r->type != R_PPC64_TOC16_LO && r->type != R_PPC64_TOC16_LO_DS) return;
-    if (linker_utils_matches(machine, near, 0, bytes, len, at))
-        r->section->object->has_other_low_halves = true;
     struct section *toc = toc_section(r, &offset);
     if (!toc) return;
     if (!toc->words_kept) toc->words_kept = take(toc->head->sh_size / 8 + 1, 1);
@@ -140,33 +137,23 @@ static void note_low_half(const struct relocation *r, const uint8_t *bytes, uint
         toc->words_kept[offset / 8] = 1;
 }
 
-/* PowerPC64: notes a low half of an offset that can't be over the thread pointer: then all stay. */
-static void note_offset(const struct relocation *r, const uint8_t *bytes, uint64_t len) {
-    const uint32_t near = LINKER_UTILS_PPC64_REWRITE_BASE_TO_THREAD;
-    uint64_t at = r->offset - r->section->offset;
-    if ((r->type == R_PPC64_TPREL16_LO || r->type == R_PPC64_TPREL16_LO_DS) &&
-        linker_utils_matches(machine, near, 0, bytes, len, at))
-        r->section->object->has_other_offsets = true;
-}
-
 /* A relocation as its object has it. */
 static struct relocation relocation_of(struct section *s, const Elf64_Rela *elf) {
     const struct object *o = s->object;
     if (elf->r_offset > s->head->sh_size || ELF64_R_SYM(elf->r_info) >= o->symbols_len)
         fail("%s: %s: a relocation is of no byte or no symbol", o->path, s->name);
-    return (struct relocation){.section = s, .symbol = o->symbols[ELF64_R_SYM(elf->r_info)],
+    struct symbol *symbol = o->symbols[ELF64_R_SYM(elf->r_info)];
+    return (struct relocation){.section = s, .symbol = symbol->import ? symbol->import : symbol,
                                .offset = s->offset + elf->r_offset, .addend = elf->r_addend,
-                               .type = ELF64_R_TYPE(elf->r_info)};
+                               .type = ELF64_R_TYPE(elf->r_info),
+                               .index = (uint32_t)ELF64_R_SYM(elf->r_info)};
 }
 
-/* What is known of the linked file: all addresses will be. */
-static const struct linker_utils_output_facts linked = {.is_executable = true, .is_fixed = true};
-
-/* Whether the library is not shown a relocation before addresses are known: nothing here has its
- * symbol, or it would be relaxed where nothing is to be. */
-static bool is_hidden(const struct relocation *r) {
+/* Whether the library is not shown a relocation: nothing here has its symbol, or it would be relaxed
+ * where nothing is to be. A mark has no symbol. */
+bool is_hidden(const struct relocation *r) {
     const struct symbol *s = r->symbol;
-    if (!strcmp(s->name, "__tls_get_addr")) return false;
+    if (!r->index || s->is_imported || !strcmp(s->name, "__tls_get_addr")) return false;
     return !is_here(s) ||
            (!relaxes && needs_of(r).entry_class == LINKER_UTILS_ENTRY_ADDRESS);
 }
@@ -181,8 +168,19 @@ static Elf64_Rela *shown(struct section *s, size_t *len) {
     return elf;
 }
 
-static bool is_code(const struct section *s) {
+bool is_code(const struct section *s) {
     return s->output && s->relocations && s->head->sh_flags & SHF_EXECINSTR;
+}
+
+/* What is known of an object's symbols. An indirect function's address is known once it has a stub. */
+void note_facts(struct object *o) {
+    for (size_t i = 1; i < o->symbols_len; i++) {
+        const struct symbol *s = o->symbols[i];
+        o->facts[i] = (struct linker_utils_symbol_facts){
+            .is_local = !s->is_imported && !s->import, .is_ifunc = is_ifunc(s) && s->output != stubs,
+            .other = s->elf.st_other,
+            .is_tls_get_addr = !strcmp(s->name, "__tls_get_addr")};
+    }
 }
 
 /* Notes which groups of instructions of an object stay, since one of them can't be rewritten. */
@@ -190,12 +188,7 @@ void survey(struct object *o) {
     size_t len;
     o->facts = take(o->symbols_len, sizeof *o->facts);
     o->kept = take(o->symbols_len, sizeof *o->kept);
-    for (size_t i = 1; i < o->symbols_len; i++) {
-        const struct symbol *s = o->symbols[i];
-        o->facts[i] = (struct linker_utils_symbol_facts){
-            .is_local = true, .is_ifunc = is_ifunc(s), .other = s->elf.st_other,
-            .is_tls_get_addr = !strcmp(s->name, "__tls_get_addr")};
-    }
+    note_facts(o);
     if (o->symbols_len) o->kept[0].got_load = true; /* as in ld.lld */
     for (struct section *s = o->sections; s < o->sections + o->sections_len; s++) {
         if (!is_code(s)) continue;
@@ -226,22 +219,6 @@ static void rewrite_early(struct section *s, struct relocation *r, size_t len) {
     }
 }
 
-/* LoongArch: what R_LARCH_RELAX marks of loads from the GOT becomes an address, each by itself as in
- * ld.lld. By `linker_utils_rewrite_section` the loads of a symbol stay where one of them isn't marked. */
-static void rewrite_marked_loads(struct section *s, struct relocation *r, size_t len) {
-    uint8_t *bytes = s->output->bytes + s->offset;
-    for (size_t i = 0; i + 1 < len && relaxes && machine == EM_LOONGARCH; i++) {
-        uint64_t offset = r[i].offset - s->offset;
-        if (r[i + 1].type != LARCH_RELAX || r[i + 1].offset != r[i].offset || !is_here(r[i].symbol) ||
-            needs_of(&r[i]).entry_class != LINKER_UTILS_ENTRY_ADDRESS)
-            continue;
-        struct linker_utils_link_facts facts = {
-            .is_local = 1, .has_fixed_address = 1, .has_fixed_distance = 1,
-            .is_executable = 1, .operands.addend = r[i].addend};
-        rewrite(&r[i], bytes, s->head->sh_size, &offset, &r[i].addend, &r[i].type, &facts);
-    }
-}
-
 /* Reads the relocations of a section, and rewrites instructions where that needs no address. */
 void read_relocations(struct section *s) {
     const struct object *o = s->object;
@@ -250,27 +227,26 @@ void read_relocations(struct section *s) {
     uint8_t *bytes = s->output->bytes + s->offset;
     const Elf64_Rela *elf = copy_table(o, s->relocations, sizeof *elf, &len);
     struct relocation *first = add_relocations(s->output, len), *r = first;
+    s->first = (size_t)(first - s->output->relocations);
+    s->relocations_len = len;
     for (size_t i = 0; i < len; i++) first[i] = relocation_of(s, &elf[i]);
-    if (is_code(s)) {
-        rewrite_early(s, first, len);
-        rewrite_marked_loads(s, first, len);
-    }
+    if (is_code(s)) rewrite_early(s, first, len);
     for (size_t i = 0; i < len; i++, r++) {
         if (machine == EM_PPC64) note_low_half(r, bytes, size);
-        if (machine == EM_PPC64) note_offset(r, bytes, size);
         const struct row *row = row_of(r);
-        if (r->symbol != *o->symbols && row->info.kind && rank(r->symbol) == 1)
+        if (r->symbol != *o->symbols && row->info.kind && rank(r->symbol) == 1 &&
+            !r->symbol->is_imported)
             fail("%s: undefined symbol '%s'", place_of(r), r->symbol->name);
         if (row->info.kind == LINKER_UTILS_KIND_ALIGNMENT && !s->output->shrinks)
             fail("%s is not supported", place_of(r));
         struct linker_utils_requirements needs = needs_of(r);
-        bool is_direct = machine == EM_RISCV && needs.entry_class == LINKER_UTILS_ENTRY_DESCRIPTOR;
+        bool is_direct = machine == EM_RISCV && needs.entry_class == LINKER_UTILS_ENTRY_DESCRIPTOR &&
+                         linked.is_executable && !r->symbol->is_imported;
         if (needs.entry_class && !is_direct) r->entry = entry_of(r, &needs);
         if (row->info.kind && is_ifunc(r->symbol)) r->symbol->needs_stub = true;
-        if (r->restores_toc && is_ifunc(r->symbol))
+        import(r, &needs);
+        if (r->restores_toc && (is_ifunc(r->symbol) || r->symbol->is_imported))
             r->addend -= entry_of_stub(LINKER_UTILS_STUB_LOAD);
-        bool is_page = i && r[-1].type == R_AARCH64_ADR_GOT_PAGE;
-        if (is_page != (r->type == R_AARCH64_LD64_GOT_LO12_NC)) s->has_lone_got_halves = true;
     }
 }
 
@@ -278,7 +254,7 @@ void read_relocations(struct section *s) {
  * program starts, the C library calls the function that says which address that is. */
 static void make_stub(struct symbol *s) {
     struct symbol *resolver = take(2, sizeof *resolver), *slot = resolver + 1;
-    uint64_t irelative = types.irelative, at = make_room(irelatives, 8, sizeof(Elf64_Rela));
+    uint64_t irelative = types.irelative, at;
     *resolver = *s;
     *slot = (struct symbol){.name = s->name, .output = slots, .offset = make_room(slots, 8, 8),
                             .elf.st_shndx = SHN_ABS};
@@ -286,6 +262,11 @@ static void make_stub(struct symbol *s) {
     s->offset = add_stub(stubs, LINKER_UTILS_STUB_LOAD, slot, 0);
     s->elf.st_shndx = SHN_ABS;
     s->elf.st_other = 0;
+    if (is_dynamic) {
+        add_row(slots, slot->offset, types.irelative, resolver, 0);
+        return;
+    }
+    at = make_room(irelatives, 8, sizeof(Elf64_Rela));
     memcpy(irelatives->bytes + at + 8, &irelative, sizeof irelative);
     add_own(irelatives, at, types.word, slot, 0);
     add_own(irelatives, at + 16, types.word, resolver, 0);
@@ -294,26 +275,26 @@ static void make_stub(struct symbol *s) {
 /* What the library says of the GOT, by its address. */
 struct linker_utils_got known_got(void) {
     struct linker_utils_got known = {.base = 0};
-    linker_utils_got(machine, got->address, 0, &known);
+    linker_utils_got(machine, got->address, dynamic ? dynamic->address : 0, &known);
     return known;
 }
 
-static void make_entry(struct entry *e) {
+static void make_entry(struct symbol *s, struct entry *e) {
     e->offset = make_room(got, 8, 8 * linker_utils_entry_words(e->class));
+    fill_entry(s, e);
 }
 
 /* Makes the stubs and the GOT. The local symbols' entries are the last. */
 void make_entries(void) {
-    linker_utils_dynamic_types(machine, &types);
     if (got->has_bytes && known_got().has_header) make_room(got, 8, 8);
     for (int locals = 0; locals < 2; locals++) {
         for (struct symbol *s = symbols; s; s = s->later) {
             if (locals != (ELF64_ST_BIND(s->elf.st_info) == STB_LOCAL)) continue;
             if (s->needs_stub) make_stub(s);
-            for (struct entry *e = s->entries; e; e = e->next) make_entry(e);
+            for (struct entry *e = s->entries; e; e = e->next) make_entry(s, e);
         }
     }
-    if (module_entry) make_entry(module_entry);
+    if (module_entry) make_entry(NULL, module_entry);
 }
 
 /* Writes the words of an entry of the GOT. */

@@ -30,8 +30,8 @@ static unsigned rank_of(const struct output *o) {
         unsigned rank;
     } ranks[] = {{".preinit_array", RANK_ARRAYS}, {".init_array", RANK_ARRAYS + 1},
                  {".fini_array", RANK_ARRAYS + 2}, {".data.rel.ro", RANK_RELOCATED},
-                 {".got", RANK_GOT}, {".toc", RANK_TOC}, {".sdata", RANK_SMALL_DATA},
-                 {".sbss", RANK_BSS}, {".bss", RANK_BSS}};
+                 {".dynamic", RANK_RELOCATED}, {".got", RANK_GOT}, {".toc", RANK_TOC},
+                 {".sdata", RANK_SMALL_DATA}, {".sbss", RANK_BSS}, {".bss", RANK_BSS}};
     if (o == headers) return RANK_HEADERS;
     if (o->flags & SHF_EXECINSTR) return RANK_CODE;
     if (o->flags & SHF_TLS) return o->has_bytes ? RANK_TLS : RANK_TLS_BSS;
@@ -182,7 +182,7 @@ void place_outputs(void) {
     uint64_t page = linker_utils_page(machine), align = 1, kinds = 0, now, end = 0;
     struct place p = {.run = NULL};
     const struct output *first = NULL; /* of thread-local storage */
-    bool is_behind_placed = false;
+    bool is_behind_placed = false, has_data = false;
     for (size_t i = 0; i < outputs_len; i++)
         if (outputs[i]->flags & SHF_TLS && outputs[i]->align > align) align = outputs[i]->align;
     qsort(outputs, outputs_len, sizeof *outputs, by_place);
@@ -206,12 +206,15 @@ void place_outputs(void) {
             place_next(&p, o);
             is_behind_placed = true;
         } else {
-            if (!p.run) begin_run(&p, BASE);
+            if (!p.run) begin_run(&p, linked.is_fixed ? BASE : 0);
             if (o->len && (now = o->flags & (SHF_WRITE | SHF_EXECINSTR)) != kinds) {
                 skip(&p, page);
                 kinds = now;
             }
-            align_next(&p, o, is_behind_placed ? MOST_ALIGN : is_tls ? align : o->align);
+            uint64_t own = is_behind_placed ? MOST_ALIGN : is_tls ? align : o->align;
+            bool is_first_data = is_dynamic && !has_data && o->len && o->rank >= RANK_DATA;
+            has_data |= is_first_data; /* what is before it is protected */
+            align_next(&p, o, is_first_data && page > own ? page : own);
             is_behind_placed = false;
         }
         o->run = p.run;
@@ -251,9 +254,10 @@ void set_addresses(void) {
     linker_utils_origins(machine, tls.image - past, tls.len, align, &tls.origins);
     tls.origins.thread_pointer += past;
     tls.origins.module_block += past;
+    bool is_at_pointer = tls.has_base && linked.is_executable;
     if (module_base)
         module_base->offset =
-            tls.has_base ? tls.origins.thread_pointer : tls.origins.module_block;
+            is_at_pointer ? tls.origins.thread_pointer : tls.origins.module_block;
 }
 
 uint64_t address_of(const struct output *o, uint64_t offset) {

@@ -1,11 +1,14 @@
-/* A small static linker over the library, for RISC-V, AArch64, LoongArch, PowerPC64 (ELFv2,
- * little-endian) and x86-64. It reads relocatable ELF64 objects and archives of them, and writes a
- * static executable that begins at `_start`. main.c has the steps; each other file is one part:
+/* A small linker over the library, for RISC-V, AArch64, LoongArch, PowerPC64 (ELFv2,
+ * little-endian) and x86-64. It reads relocatable ELF64 objects, archives of them and shared
+ * libraries, and writes an executable that begins at `_start`, static or for a dynamic linker, or a
+ * shared library. main.c has the steps; each other file is one part:
  *
  * - objects.c: objects, archives and groups
  * - symbols.c: which definition a name has, and what the linker itself defines
+ * - libraries.c: what shared libraries define
  * - layout.c: which sections the linked file has, and where they are
  * - entries.c: rewrites, the GOT, thread-local storage, indirect functions and thunks
+ * - dynamic.c: what the dynamic linker reads and fills
  * - relax.c: what is deleted of RISC-V and LoongArch code
  * - relocate.c: rewrites that depend on addresses, and all values
  * - output.c: the table of unwind information, and the file with its symbols
@@ -27,6 +30,7 @@
 #define BASE UINT64_C(0x400000)         /* where the file's header is, if no section is placed */
 #define HEADERS UINT64_C(0x400)         /* room for the headers there */
 #define MOST_BYTES UINT64_C(0x40000000) /* of a file and of a section */
+#define MOST_VERSIONS 0x7fff            /* of a library: above is the mark of hidden ones */
 #define NO_ENTRY (UINT64_C(1) << 63)    /* the address of a GOT entry that nothing reaches */
 #define END UINT64_MAX                  /* the offset of a section's end, wherever that will be */
 
@@ -64,6 +68,9 @@ struct output {
     bool has_bytes, is_placed, shrinks; /* in the file; by the command line; code that relaxes */
     unsigned rank, priority;            /* its place among the others */
     uint16_t index;                     /* of its header; 0 where it has none */
+    uint32_t type, info;                /* in its header, as these two; of ordinary bytes if 0 */
+    const struct output *link;
+    uint64_t element;                   /* how many bytes an element has; 0 where it has none */
     struct relocation *relocations;
     size_t relocations_len, relocations_room;
 };
@@ -78,9 +85,7 @@ struct object {
     struct object *below;               /* in the stack of those that are being read */
     size_t len, sections_len, symbols_len, resolved_len;
     uint32_t flags; /* `e_flags` */
-    bool has_other_low_halves; /* PowerPC64: not all can be over the TOC pointer */
-    bool has_other_offsets; /* and of local-exec, not all can be over the thread pointer */
-    struct linker_utils_symbol_facts *facts; /* of each symbol, before addresses are known */
+    struct linker_utils_symbol_facts *facts; /* of each symbol */
     struct linker_utils_kept_groups *kept;   /* by symbol, which groups of instructions stay */
 };
 
@@ -90,8 +95,8 @@ struct section {
     const Elf64_Shdr *head, *relocations; /* null where it has none */
     struct output *output;                /* null where it is left out */
     uint64_t offset, end;                 /* in the output */
+    size_t first, relocations_len;        /* of its relocations, in those of the output */
     bool is_discarded; /* SHF_EXCLUDE, or of a group that an earlier object has too */
-    bool has_lone_got_halves; /* AArch64: not all `adrp` and `ldr` of GOT entries are pairs */
     uint8_t *words_kept; /* PowerPC64, `.toc`: 1 for a doubleword that not only `ld`s refer to */
 };
 
@@ -100,6 +105,18 @@ struct archive {
     const char *names; /* the long names of members */
     size_t names_len;
     bool *is_loaded; /* by half of a member's offset */
+};
+
+/* A shared library. */
+struct library {
+    struct library *next;
+    struct object file;
+    const char *name, **versions; /* as programs name it; its versions, by number */
+    uint16_t *numbers;            /* of these in the linked file; 0 where it asks for none */
+    const Elf64_Sym *elf;
+    struct symbol **symbols; /* null where nothing can refer to one */
+    size_t len;
+    uint32_t name_at; /* of its name in the linked file */
 };
 
 struct symbol {
@@ -114,6 +131,14 @@ struct symbol {
     struct symbol *thunks; /* to it */
     int64_t thunk_addend;
     bool is_listed, needs_stub, is_thunk; /* (an indirect function that is used needs one) */
+    struct library *library; /* the first that defines it; null where none does */
+    Elf64_Sym there;         /* as that has it */
+    struct symbol *definition, *import; /* of what another file may replace, the other of both */
+    uint64_t stub;              /* to a function of another file, where `has_stub` */
+    uint32_t dynamic;           /* in the table of dynamic symbols */
+    uint16_t version;           /* in its library */
+    bool is_imported, is_exported; /* other files define it; or may see it */
+    bool is_copied, has_stub, is_canonical; /* its stub is its address in all files */
     uint32_t number; /* in the table that the library reads; 0 where it isn't there yet */
 };
 
@@ -132,7 +157,7 @@ struct relocation {
     struct entry *entry;
     uint64_t offset; /* in the output */
     int64_t addend;
-    uint32_t type;
+    uint32_t type, index, deleted; /* index: of its symbol in the object; deleted: bytes there */
     bool restores_toc; /* PowerPC64: by its `nop` */
     bool keeps_entry; /* RISC-V: an `auipc` whose loads from the GOT stay */
 };
@@ -152,12 +177,18 @@ struct tls {
 
 extern uint16_t machine;
 extern uint32_t machine_flags; /* `e_flags` of all objects */
+extern bool is_dynamic;       /* whether a dynamic linker loads the linked file */
+extern struct linker_utils_output_facts linked;
+extern const char *own_name; /* of a shared library, by `-soname`; null where it has none */
 extern bool relaxes; /* whether instructions are rewritten that need not be */
 extern bool has_short_offsets; /* and PowerPC64's local-exec, which ld.lld leaves */
 extern struct object *objects; /* in the order in which they are read */
 extern struct symbol *symbols; /* all that objects mention, in their order */
 extern struct symbol *module_base; /* `_TLS_MODULE_BASE_`; null where no object requires it */
+extern struct library *libraries; /* in their order */
+extern struct linker_utils_dynamic_types types;
 extern struct output *outputs[256], *headers, *got, *stubs, *slots, *irelatives, *frames, *index_of;
+extern struct output *interpreter, *dynamic; /* null where there is none */
 extern size_t outputs_len;
 extern struct tls tls;
 extern struct entry *module_entry; /* of the GOT; null where no relocation requires it */
@@ -169,24 +200,40 @@ void check(const struct relocation *r, uint32_t status);
 const struct row *row_of(const struct relocation *r);
 struct linker_utils_requirements needs_of(const struct relocation *r);
 
+void demand(const struct object *o, bool holds, const char *otherwise);
+void read_heads(struct object *o, uint16_t type, const char *otherwise);
 void *copy_table(const struct object *o, const Elf64_Shdr *head, size_t size, size_t *len);
 void read_file(const char *path), load_member(struct archive *a, uint64_t offset);
+void read_library(struct object file);
+uint64_t import_align(const struct symbol *s);
 
 struct symbol **global(const char *name), *resolve(struct symbol *s);
 int rank(const struct symbol *s);
 void offer(const char *name, struct archive *a, uint64_t member);
+struct symbol *offer_import(const char *name, struct library *l, const Elf64_Sym *elf,
+                            uint16_t version);
 bool is_first_group(const char *name);
-void list_symbols(void), define_symbols(void), place_symbol(struct symbol *s);
+void list_symbol(struct symbol *s), list_symbols(void), define_symbols(void), place_symbol(struct symbol *s);
 
 struct output *output_of(const char *name);
+struct output *own_section(const char *name, uint64_t flags, bool has_bytes);
 struct relocation *add_relocations(struct output *o, size_t len);
 uint64_t code_unit(void), make_room(struct output *o, uint64_t align, uint64_t len);
 uint64_t address_of(const struct output *o, uint64_t offset);
 void place_outputs(void), set_addresses(void);
 void add_section(struct section *s), copy_section(struct section *s), sort_outputs(void);
 
-void survey(struct object *o), read_relocations(struct section *s), make_entries(void);
+void survey(struct object *o), note_facts(struct object *o), make_entries(void);
+void read_relocations(struct section *s), rewrite_phase(uint32_t phase), rewrite_placed(void);
+bool is_hidden(const struct relocation *r), is_code(const struct section *s);
 void write_entries(void), write_stubs(void);
+bool is_defined(const struct symbol *s), is_here(const struct symbol *s);
+uint64_t add_stub(struct output *o, uint32_t kind, const struct symbol *s, int64_t addend);
+void make_tables(void), bind_symbols(void), make_imports(void), make_dynamic(void);
+void import(struct relocation *r, const struct linker_utils_requirements *needs);
+void add_row(struct output *o, uint64_t offset, uint32_t type, struct symbol *s, int64_t addend);
+void fill_entry(struct symbol *s, const struct entry *e);
+bool write_dynamic(void);
 struct linker_utils_got known_got(void);
 struct section *toc_section(const struct relocation *r, uint64_t *offset);
 bool add_thunks(void);
@@ -198,6 +245,7 @@ struct relocation *high_part(const struct output *o, const struct relocation *lo
 int64_t value_of(const struct output *o, const struct relocation *r);
 bool is_left_out(const struct relocation *r), is_undefined_weak(const struct symbol *s);
 bool is_thread_local(const struct symbol *s);
+Elf64_Sym symbol_of(const struct symbol *s);
 uint64_t read_frames(const struct section *s, const uint8_t *bytes, uint8_t *rows);
 void index_frames(void), write_file(const char *path, uint64_t entry, bool has_symbols);
 

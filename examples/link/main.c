@@ -1,8 +1,11 @@
-/* usage: link [-s] [--no-relax | --short-offsets] -o OUTPUT [--section-start=NAME=ADDRESS]... FILE...
- * A file is an object or an archive. A member of an archive is linked if it defines a symbol that
- * is referred to and that no object defines; archives search each other. The output has all symbols,
- * and section headers, but with `-s`. With `--no-relax` only instructions of thread-local storage
- * are rewritten. */
+/* usage: link [-s] [--no-relax | --short-offsets] [-pie | -shared [-soname NAME]] [-z now | -z relro]...
+ *             -o OUTPUT [--section-start=NAME=ADDRESS]... FILE...
+ * A file is an object, an archive or a shared library. The output is a static executable; with
+ * shared libraries an executable that they are loaded for, with `-pie` at any address; and with
+ * `-shared` a shared library. A member of an archive is linked if it defines a symbol that is
+ * referred to and that no object defines; archives search each other. The output has all symbols,
+ * and section headers, but with `-s`, with which only a static executable lacks the latter. With
+ * `--no-relax` only instructions of thread-local storage are rewritten. */
 #include "link.h"
 
 uint16_t machine;
@@ -46,24 +49,31 @@ void check(const struct relocation *r, uint32_t status) {
 }
 
 /* A section that the linker itself fills. */
-static struct output *own_section(const char *name, uint64_t flags, bool has_bytes) {
+struct output *own_section(const char *name, uint64_t flags, bool has_bytes) {
     struct output *o = output_of(name);
     o->flags = flags;
     o->has_bytes = has_bytes;
     return o;
 }
 
+/* The sections that the linker itself fills. */
+static void make_sections(void) {
+    got = own_section(".got", SHF_ALLOC | SHF_WRITE, false);
+    stubs = own_section(is_dynamic ? ".plt" : ".iplt", SHF_ALLOC | SHF_EXECINSTR, true);
+    slots = own_section(is_dynamic ? ".got.plt" : ".igot.plt", SHF_ALLOC | SHF_WRITE, true);
+    irelatives = own_section(".rela_iplt", SHF_ALLOC, true);
+    irelatives->type = SHT_RELA;
+    irelatives->element = sizeof(Elf64_Rela);
+    index_of = own_section(".eh_frame_hdr", SHF_ALLOC, true);
+    headers = own_section("the headers", SHF_ALLOC, true);
+    frames = output_of(".eh_frame");
+    if (is_dynamic) make_tables();
+}
+
 int main(int argc, char **argv) {
     const char *path = NULL;
     uint64_t address;
     bool is_placed = false, has_symbols = true;
-    got = own_section(".got", SHF_ALLOC | SHF_WRITE, false);
-    stubs = own_section(".iplt", SHF_ALLOC | SHF_EXECINSTR, true);
-    slots = own_section(".igot.plt", SHF_ALLOC | SHF_WRITE, true);
-    irelatives = own_section(".rela_iplt", SHF_ALLOC, true);
-    index_of = own_section(".eh_frame_hdr", SHF_ALLOC, true);
-    headers = own_section("the headers", SHF_ALLOC, true);
-    frames = output_of(".eh_frame");
     for (int i = 1, end = 0; i < argc; i++) {
         if (sscanf(argv[i], "--section-start=%*[^=]%n=%" SCNx64, &end, &address) == 1) {
             argv[i][end] = 0;
@@ -76,16 +86,29 @@ int main(int argc, char **argv) {
             relaxes = false;
         } else if (!strcmp(argv[i], "--short-offsets")) {
             has_short_offsets = true;
+        } else if (!strcmp(argv[i], "-pie")) {
+            linked.is_fixed = false;
+        } else if (!strcmp(argv[i], "-shared")) {
+            linked.is_fixed = linked.is_executable = false;
+        } else if (!strcmp(argv[i], "-soname") && argv[i + 1]) {
+            own_name = argv[++i];
+        } else if (!strcmp(argv[i], "-z") && argv[i + 1] &&
+                   (!strcmp(argv[i + 1], "now") || !strcmp(argv[i + 1], "relro"))) {
+            i++; /* all outputs are so */
         } else if (!strcmp(argv[i], "-o") && argv[i + 1]) {
             path = argv[++i];
         } else {
             read_file(argv[i]);
         }
     }
+    is_dynamic = libraries || !linked.is_fixed;
+    if (is_dynamic && is_placed) fail("--section-start is for static executables");
+    make_sections();
     if (!path || !objects)
-        fail("usage: link [-s] [--no-relax | --short-offsets] -o OUTPUT "
-             "[--section-start=NAME=ADDRESS]... FILE...");
+        fail("usage: link [-s] [--no-relax | --short-offsets] [-pie | -shared [-soname NAME]] "
+             "-o OUTPUT [--section-start=NAME=ADDRESS]... FILE...");
     if (!is_placed) make_room(headers, 8, HEADERS);
+    linker_utils_dynamic_types(machine, &types);
     list_symbols();
     for (struct object *o = objects; o; o = o->next)
         for (size_t i = 0; i < o->sections_len; i++) add_section(&o->sections[i]);
@@ -93,6 +116,7 @@ int main(int argc, char **argv) {
     index_of->len = 0;
     make_room(index_of, 4, index_len);
     define_symbols();
+    if (is_dynamic) bind_symbols();
     for (struct symbol *s = symbols; s; s = s->later) {
         if (s->elf.st_shndx != SHN_COMMON) continue; /* these are first in `.bss`, as in ld.lld */
         s->output = output_of(".bss");
@@ -104,7 +128,9 @@ int main(int argc, char **argv) {
         for (size_t i = 0; i < o->sections_len; i++) copy_section(&o->sections[i]);
     }
     for (struct symbol *s = symbols; s; s = s->later) place_symbol(s);
+    make_imports();
     make_entries();
+    if (is_dynamic) make_dynamic();
     do place_outputs();
     while (add_thunks());
     relax();
@@ -113,7 +139,8 @@ int main(int argc, char **argv) {
     write_stubs();
     index_frames();
     struct symbol *start = *global("_start");
-    if (!start || !start->output) fail("undefined symbol '_start'");
-    write_file(path, address_of(start->output, start->offset), has_symbols);
+    bool has_start = start && start->output;
+    if (!has_start && linked.is_executable) fail("undefined symbol '_start'");
+    write_file(path, has_start ? address_of(start->output, start->offset) : 0, has_symbols);
     return 0;
 }

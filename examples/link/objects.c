@@ -6,7 +6,7 @@ static struct object **objects_end = &objects;
 static struct object *reading; /* a stack of those whose undefined symbols are to be looked up */
 
 /* Ends with an error of an object, where something does not hold of it. */
-static void demand(const struct object *o, bool holds, const char *otherwise) {
+void demand(const struct object *o, bool holds, const char *otherwise) {
     if (!holds) fail("%s: %s", o->path, otherwise);
 }
 
@@ -94,23 +94,16 @@ static void resolve_all(void) {
     }
 }
 
-/* Reads an object, and puts it behind the others. */
-static void read_object(const char *path, const uint8_t *bytes, size_t len) {
+/* Reads the header and the sections of a file. */
+void read_heads(struct object *o, uint16_t type, const char *otherwise) {
     Elf64_Ehdr head;
-    struct object *o = take(1, sizeof *o);
-    *o = (struct object){.path = path, .bytes = bytes, .len = len};
-    *objects_end = o;
-    objects_end = &o->next;
     memcpy(&head, bytes_at(o, 0, sizeof head), sizeof head);
-    demand(o, !memcmp(head.e_ident, ELFMAG "\2\1", 6) && head.e_type == ET_REL && head.e_shnum,
-           "not a relocatable object of little-endian ELF64");
+    demand(o, !memcmp(head.e_ident, ELFMAG "\2\1", 6) && head.e_type == type && head.e_shnum,
+           otherwise);
     if (!machine) machine = head.e_machine;
     demand(o, machine == head.e_machine && !linker_utils_relocate(machine, 0, 0, NULL, 0),
            "of another architecture");
     o->flags = head.e_flags;
-    if (o == objects) machine_flags = o->flags;
-    demand(o, !linker_utils_join_flags(machine, machine_flags, o->flags, &machine_flags),
-           "of another ABI than those before it");
     Elf64_Shdr table = {.sh_offset = head.e_shoff, .sh_entsize = head.e_shentsize};
     table.sh_size = head.e_shnum * sizeof table;
     o->heads = copy_table(o, &table, sizeof table, &o->sections_len);
@@ -119,9 +112,21 @@ static void read_object(const char *path, const uint8_t *bytes, size_t len) {
         const Elf64_Shdr *s = &o->heads[i];
         o->sections[i] = (struct section){o, text_at(o, head.e_shstrndx, s->sh_name), .head = s,
                                           .is_discarded = s->sh_flags & SHF_EXCLUDE};
-        if (s->sh_type != SHT_NOBITS && (s->sh_offset > len || s->sh_size > len - s->sh_offset))
-            fail("%s: %s: it ends too early", path, o->sections[i].name);
+        if (s->sh_type != SHT_NOBITS && (s->sh_offset > o->len || s->sh_size > o->len - s->sh_offset))
+            fail("%s: %s: it ends too early", o->path, o->sections[i].name);
     }
+}
+
+/* Reads an object, and puts it behind the others. */
+static void read_object(const char *path, const uint8_t *bytes, size_t len) {
+    struct object *o = take(1, sizeof *o);
+    *o = (struct object){.path = path, .bytes = bytes, .len = len};
+    *objects_end = o;
+    objects_end = &o->next;
+    read_heads(o, ET_REL, "not a relocatable object of little-endian ELF64");
+    if (o == objects) machine_flags = o->flags;
+    demand(o, !linker_utils_join_flags(machine, machine_flags, o->flags, &machine_flags),
+           "of another ABI than those before it");
     for (size_t i = 0; i < o->sections_len; i++)
         if (o->heads[i].sh_type == SHT_GROUP) read_group(o, &o->heads[i], o->sections[i].name);
     for (const Elf64_Shdr *s = o->heads; s < o->heads + o->sections_len; s++) {
@@ -219,6 +224,8 @@ void read_file(const char *path) {
     demand(&o, memcmp(bytes, "!<thin>\n", o.len < 8 ? o.len : 8) || o.len < 8, "a thin archive");
     if (o.len >= 8 && !memcmp(bytes, "!<arch>\n", 8))
         read_archive(o);
+    else if (o.len >= 18 && !memcmp(bytes, ELFMAG, 4) && bytes[16] == ET_DYN)
+        read_library(o);
     else
         read_object(path, bytes, o.len);
     resolve_all();

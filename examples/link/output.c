@@ -151,9 +151,9 @@ static void add_head(struct output *o, uint64_t offset) {
         .sh_name = add_name(o->name), .sh_type = o->has_bytes ? SHT_PROGBITS : SHT_NOBITS,
         .sh_flags = o->flags & flags, .sh_addr = o->address, .sh_offset = offset,
         .sh_size = o->len, .sh_addralign = o->align};
-    if (o != irelatives) return;
-    section_heads[o->index].sh_type = SHT_RELA;
-    section_heads[o->index].sh_entsize = sizeof(Elf64_Rela);
+    if (o->type) section_heads[o->index].sh_type = o->type;
+    section_heads[o->index].sh_info = o->info;
+    section_heads[o->index].sh_entsize = o->element;
 }
 
 /* Whether a symbol is local in the linked file: so are those that other files may not see. */
@@ -164,11 +164,10 @@ static bool is_local(const struct symbol *s) {
 }
 
 /* What the table of symbols says of one. */
-static Elf64_Sym symbol_of(const struct symbol *s) {
+Elf64_Sym symbol_of(const struct symbol *s) {
     Elf64_Sym elf = s->elf;
     const struct output *o = s->output;
     unsigned type = ELF64_ST_TYPE(elf.st_info);
-    elf.st_name = add_name(s->name);
     elf.st_value = address_of(o, s->offset);
     if (is_local(s)) elf.st_info = ELF64_ST_INFO(STB_LOCAL, type);
     if (s == module_base) elf.st_value -= tls.image;
@@ -184,20 +183,22 @@ static Elf64_Sym symbol_of(const struct symbol *s) {
     return elf;
 }
 
-/* Puts the objects' symbols, local ones first, and the section headers behind the segments. */
-static void put_symbols(uint64_t offset, Elf64_Ehdr *head) {
-    size_t len = 1, room = 0, locals = 0, table = section_heads_len;
+/* Puts the objects' symbols, if wanted, local ones first, and the section headers behind the
+ * segments. */
+static void put_symbols(uint64_t offset, Elf64_Ehdr *head, bool has_symbols) {
+    size_t len = 1, room = 0, locals = 1, table = section_heads_len;
     Elf64_Sym *all = grow(NULL, 1, &room, sizeof *all);
     memset(all, 0, sizeof *all);
-    for (int is_global = 0; is_global < 2; is_global++) {
+    for (int is_global = 0; has_symbols && is_global < 2; is_global++) {
         for (const struct symbol *s = symbols; s; s = s->later) {
             uint16_t at = s->elf.st_shndx;
-            if (is_global == is_local(s) || !*s->name ||
+            if (is_global == is_local(s) || !*s->name || s->definition ||
                 (at && at < SHN_LORESERVE && !s->output) ||
                 ELF64_ST_TYPE(s->elf.st_info) == STT_SECTION)
                 continue;
             all = grow(all, len + 1, &room, sizeof *all);
-            all[len++] = symbol_of(s);
+            all[len] = symbol_of(s);
+            all[len++].st_name = add_name(s->name);
         }
         if (!is_global) locals = len;
     }
@@ -236,8 +237,38 @@ static void write_parts(const char *path) {
     if (fclose(file) || !holds) fail("%s: can't be written", path);
 }
 
+/* Adds the headers of what the dynamic linker reads. Those of the program's headers and of its
+ * interpreter are the first. */
+static void add_dynamic_parts(void) {
+    const struct output *first = NULL;
+    uint64_t end = 0, len = dynamic->len;
+    for (size_t i = 0; i < outputs_len; i++) {
+        const struct output *o = outputs[i];
+        if (o->len && o->link) section_heads[o->index].sh_link = o->link->index;
+        if (!o->len || o->rank < RANK_TLS || o->rank == RANK_TLS_BSS) continue;
+        uint64_t page = o->address & -linker_utils_page(machine);
+        if (o->rank >= RANK_DATA && page > end) end = page;
+        if (o->rank >= RANK_DATA) break;
+        if (!first) first = o;
+        end = o->address + o->len;
+    }
+    add_part(PT_DYNAMIC, dynamic->address, len, len, 8);
+    load->p_flags |= PF_W;
+    add_part(PT_GNU_RELRO, first->address, end - first->address, end - first->address, 1);
+    if (interpreter) {
+        Elf64_Phdr *last = load;
+        add_part(PT_INTERP, interpreter->address, interpreter->len, interpreter->len, 1);
+        loads[1] = *load;
+        uint64_t size = (uint64_t)(last + 2 - loads) * sizeof *loads;
+        add_part(PT_PHDR, headers->address + sizeof(Elf64_Ehdr), size, size, 8);
+        loads[0] = *load;
+        load = last;
+    }
+}
+
 void write_file(const char *path, uint64_t entry, bool has_symbols) {
-    Elf64_Ehdr head = {.e_type = ET_EXEC, .e_machine = machine, .e_version = EV_CURRENT};
+    Elf64_Ehdr head = {.e_type = linked.is_fixed ? ET_EXEC : ET_DYN, .e_machine = machine,
+                       .e_version = EV_CURRENT};
     memcpy(head.e_ident, ELFMAG "\2\1\1", 7); /* ELFCLASS64, ELFDATA2LSB, EV_CURRENT */
     head.e_entry = entry;
     head.e_flags = linker_utils_output_flags(machine, machine_flags);
@@ -248,6 +279,7 @@ void write_file(const char *path, uint64_t entry, bool has_symbols) {
     qsort(outputs, outputs_len, sizeof *outputs, by_address);
     put(0, &head, sizeof head);
     put(sizeof head, loads, 0); /* (how many there are is said below) */
+    if (interpreter) load += 2;
     for (size_t i = 0; i < outputs_len; i++) {
         struct output *o = outputs[i];
         uint64_t bytes = o->has_bytes ? o->len : 0;
@@ -257,7 +289,7 @@ void write_file(const char *path, uint64_t entry, bool has_symbols) {
         if (o->address < end) fail("section %s overlaps the one before it", o->name);
         uint32_t flags = PF_R | (o->flags & SHF_WRITE ? PF_W : 0u);
         flags |= o->flags & SHF_EXECINSTR ? PF_X : 0u;
-        if (load < loads || o->is_placed || flags != load->p_flags ||
+        if (load < loads || load->p_type != PT_LOAD || o->is_placed || flags != load->p_flags ||
             (bytes && load->p_memsz != load->p_filesz)) {
             offset += (o->address - offset) % align;
             *++load = (Elf64_Phdr){PT_LOAD, flags, offset, o->address, o->address, 0, 0, align};
@@ -273,12 +305,14 @@ void write_file(const char *path, uint64_t entry, bool has_symbols) {
     if (tls.len) add_part(PT_TLS, tls.image, image, tls.len, tls.align);
     len = index_of->len;
     if (len) add_part(PT_GNU_EH_FRAME, index_of->address, len, len, 4);
+    if (is_dynamic) add_dynamic_parts();
+    if (is_dynamic && write_dynamic()) head.e_ident[EI_OSABI] = ELFOSABI_GNU;
     add_part(PT_GNU_STACK, 0, 0, 0, 16);
     load->p_flags |= PF_W;
     head.e_phnum = (uint16_t)(load + 1 - loads);
     if (headers->len && sizeof head + head.e_phnum * sizeof *loads > headers->len)
         fail("too many segments");
-    if (has_symbols) put_symbols(offset, &head);
+    if (has_symbols || is_dynamic) put_symbols(offset, &head, has_symbols);
     parts[1].len = head.e_phnum * sizeof *loads;
     write_parts(path);
 }

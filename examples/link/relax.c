@@ -29,24 +29,24 @@ static struct linker_utils_rela seen(const struct output *o,
     return seen;
 }
 
-/* The rewrite of an instruction with a thread-local offset, which relaxation doesn't change. */
-static struct linker_utils_choice choose_offset(const struct output *o, struct relocation *r) {
+/* RISC-V: the rewrite of an instruction of a TLS descriptor, which relaxation doesn't change. */
+static struct linker_utils_choice choose_descriptor(const struct output *o, struct relocation *r) {
     struct linker_utils_choice choice = {.rewrite = 0, .relocation = r->type};
-    bool is_descriptor = machine == EM_RISCV && r->type >= RISCV_TLSDESC_HI20 &&
-                         r->type <= RISCV_TLSDESC_CALL;
-    const struct relocation *high = r;
-    if (is_descriptor && r->type != RISCV_TLSDESC_HI20) high = high_part(o, r);
+    if (machine != EM_RISCV || r->type < RISCV_TLSDESC_HI20 || r->type > RISCV_TLSDESC_CALL)
+        return choice;
+    const struct relocation *high = r->type == RISCV_TLSDESC_HI20 ? r : high_part(o, r);
     const struct symbol *s = high->symbol;
-    if (!s || !s->output || !(s->output->flags & SHF_TLS) || !is_relaxable(o, high)) return choice;
+    if (!s->output || !(s->output->flags & SHF_TLS) || !is_relaxable(o, high)) return choice;
     struct linker_utils_link_facts facts = {
-        .is_local = 1, .is_executable = is_descriptor, .is_relaxable = 1, .has_addresses = 1,
+        .is_local = 1, .is_executable = linked.is_executable, .is_relaxable = 1, .has_addresses = 1,
         .operands = {.symbol = address_of(s->output, s->offset), .addend = high->addend,
                      .tls_base = tls.origins.thread_pointer, .got_entry = NO_ENTRY}};
     check(r, linker_utils_choose(machine, r->type, o->bytes, r->section->end, r->offset, &facts,
                                  &choice));
-    if (!is_descriptor || !choice.rewrite) return choice;
+    if (!choice.rewrite) return choice;
     r->symbol = high->symbol;
     r->addend = high->addend;
+    r->deleted = choice.deleted_len;
     return choice;
 }
 
@@ -57,7 +57,7 @@ static size_t add_items(struct output *o, struct linker_utils_item *items, struc
     struct linker_utils_rela *relocations = take(all, sizeof *relocations);
     struct linker_utils_item *found = take(all, sizeof *found);
     size_t *makers = take(all, sizeof *makers);
-    for (size_t i = 0; i < all; i++) choices[i] = choose_offset(o, &o->relocations[i]);
+    for (size_t i = 0; i < all; i++) choices[i] = choose_descriptor(o, &o->relocations[i]);
     for (size_t i = 0; i < all; i++) {
         struct relocation *r = &o->relocations[i];
         uint64_t offset = r->offset;
@@ -73,11 +73,11 @@ static size_t add_items(struct output *o, struct linker_utils_item *items, struc
     if (status) fail("section %s: %s", o->name, linker_utils_status_text(status));
     for (size_t i = 0; i < all; i++) {
         struct relocation *r = &o->relocations[i];
-        uint64_t offset = o->base + r->offset + choices[i].deleted_start;
+        uint64_t offset = o->base + r->offset;
         of[len] = r;
-        if (choices[i].deleted_len)
+        if (r->deleted)
             items[len++] = (struct linker_utils_item){
-                .offset = offset, .target = offset, .len = choices[i].deleted_len,
+                .offset = offset, .target = offset, .len = r->deleted,
                 .kind = LINKER_UTILS_ITEM_SITE};
         else if (k < found_len && makers[k] == i)
             items[len++] = found[k++];
@@ -166,9 +166,13 @@ static void relax_run(struct run *run) {
 
 /* Relaxes all code. */
 void relax(void) {
+    bool shrinks = has_short_offsets;
+    for (size_t i = 0; i < outputs_len; i++) shrinks |= outputs[i]->shrinks;
+    if (relaxes && shrinks) rewrite_phase(LINKER_UTILS_PHASE_THREAD_OFFSETS);
     for (size_t i = 0; i < outputs_len; i++)
         if (!outputs[i]->run->deltas) relax_run(outputs[i]->run);
     set_addresses();
+    rewrite_placed();
     for (size_t i = 0; i < outputs_len; i++) {
         const struct output *o = outputs[i];
         uint64_t align = o->flags & SHF_TLS && o->address == tls.image ? tls.align : o->align;

@@ -32,30 +32,9 @@ bool is_left_out(const struct relocation *r) {
             !strcmp(name, ".toc"));
 }
 
-/* AArch64: `adrp` and `ldr` of a GOT entry become `adrp` and `add`, and `adrp` and `add` become
- * `nop` and `adr` where that reaches. */
-static void rewrite_aarch64(struct output *o, struct relocation *page, struct relocation *low) {
-    const struct section *s = page->section;
-    bool is_of_got = page->type == R_AARCH64_ADR_GOT_PAGE;
-    if (!s || low->section != s || low->offset != page->offset + 4 || page->addend ||
-        low->symbol != page->symbol || low->addend || !page->symbol->output ||
-        (is_of_got ? low->type != R_AARCH64_LD64_GOT_LO12_NC || s->has_lone_got_halves
-                   : page->type != R_AARCH64_ADR_PREL_PG_HI21))
-        return;
-    uint8_t *bytes = o->bytes + s->offset;
-    uint64_t len = s->head->sh_size, at = page->offset - s->offset, next = at + 4;
-    struct linker_utils_link_facts facts = {.is_local = 1, .has_fixed_distance = 1,
-                                            .has_addresses = 1};
-    facts.operands.symbol = address_of(low->symbol->output, low->symbol->offset);
-    facts.operands.place = address_of(o, page->offset);
-    rewrite(page, bytes, len, &at, &page->addend, &page->type, &facts);
-    facts.operands.place += 4;
-    if (is_of_got) rewrite(low, bytes, len, &next, &low->addend, &low->type, &facts);
-    rewrite(low, bytes, len, &next, &low->addend, &low->type, &facts);
-}
-
 bool is_undefined_weak(const struct symbol *s) {
-    return s->elf.st_shndx == SHN_UNDEF && ELF64_ST_BIND(s->elf.st_info) == STB_WEAK;
+    return s->elf.st_shndx == SHN_UNDEF && ELF64_ST_BIND(s->elf.st_info) == STB_WEAK &&
+           !s->is_imported;
 }
 
 static int by_offset(const void *left, const void *right) {
@@ -75,53 +54,29 @@ static const struct relocation *toc_word(const struct relocation *r) {
     return word && word->type == R_PPC64_ADDR64 && !is_left_out(word) ? word : NULL;
 }
 
-/* PowerPC64: a load of an address from the TOC becomes a sum of the TOC pointer and a distance, and
- * distances of 16 bits need no high half. */
-static void rewrite_ppc64(struct output *o, struct relocation *r) {
+/* PowerPC64: a load of an address from the TOC becomes a sum of the TOC pointer and a distance. */
+static void rewrite_toc_load(struct output *o, struct relocation *r) {
     const struct section *s = r->section;
     bool is_high = r->type == R_PPC64_TOC16_HA;
-    if (!s || !(s->head->sh_flags & SHF_EXECINSTR) ||
+    if (!s || !is_code(s) ||
         (!is_high && r->type != R_PPC64_TOC16_LO && r->type != R_PPC64_TOC16_LO_DS))
         return;
-    uint8_t *bytes = o->bytes + s->offset;
-    uint64_t len = s->head->sh_size, at = r->offset - s->offset;
-    struct linker_utils_link_facts facts = {.has_fixed_distance = 1, .has_addresses = 1,
-                                            .operands.got_base = known_got().base};
     const struct relocation *word = toc_word(r);
-    if (word) {
-        uint32_t entry = is_high ? R_PPC64_GOT16_HA : R_PPC64_GOT16_LO_DS, type = entry;
-        struct relocation direct = *word;
-        facts.is_local = direct.symbol->elf.st_shndx != SHN_UNDEF;
-        facts.operands.symbol = address_of(direct.symbol->output, direct.symbol->offset);
-        facts.operands.addend = direct.addend;
-        rewrite(r, bytes, len, &at, &direct.addend, &type, &facts);
-        if (type != entry) {
-            r->symbol = direct.symbol;
-            r->addend = direct.addend;
-            r->type = type;
-        }
-    }
-    facts.toc_base_is_exclusive = !s->object->has_other_low_halves;
-    facts.operands.symbol = address_of(r->symbol->output, r->symbol->offset);
-    facts.operands.addend = r->addend;
-    rewrite(r, bytes, len, &at, &r->addend, &r->type, &facts);
-}
-
-/* PowerPC64: offsets of 16 bits from the thread pointer need no high half. */
-static void shorten_offset(struct output *o, struct relocation *r) {
-    const struct section *s = r->section;
-    if (!s || !(s->head->sh_flags & SHF_EXECINSTR) ||
-        (r->type != R_PPC64_TPREL16_HA && r->type != R_PPC64_TPREL16_LO &&
-         r->type != R_PPC64_TPREL16_LO_DS))
-        return;
-    bool fits = !s->object->has_other_offsets;
+    if (!word) return;
+    uint32_t entry = is_high ? R_PPC64_GOT16_HA : R_PPC64_GOT16_LO_DS, type = entry;
     uint64_t at = r->offset - s->offset;
+    struct relocation direct = *word;
     struct linker_utils_link_facts facts = {
-        .is_local = r->symbol->elf.st_shndx != SHN_UNDEF, .is_executable = 1, .has_addresses = 1,
-        .group_fits = fits, .toc_base_is_exclusive = fits, .operands.addend = r->addend,
-        .operands.symbol = address_of(r->symbol->output, r->symbol->offset),
-        .operands.tls_base = tls.origins.thread_pointer};
-    rewrite(r, o->bytes + s->offset, s->head->sh_size, &at, &r->addend, &r->type, &facts);
+        .is_local = direct.symbol->elf.st_shndx != SHN_UNDEF, .has_fixed_distance = 1,
+        .has_addresses = 1,
+        .operands = {.got_base = known_got().base, .addend = direct.addend,
+                     .symbol = address_of(direct.symbol->output, direct.symbol->offset)}};
+    rewrite(r, o->bytes + s->offset, s->head->sh_size, &at, &direct.addend, &type, &facts);
+    if (type == entry) return;
+    r->symbol = direct.symbol;
+    r->index = direct.index;
+    r->addend = direct.addend;
+    r->type = type;
 }
 
 /* The high part that a low one of RISC-V means by its label. */
@@ -154,7 +109,8 @@ static struct linker_utils_link_facts facts_of(const struct output *o,
     const struct symbol *s = high->symbol;
     bool is_load = high->type == R_RISCV_GOT_HI20, is_nowhere = !is_load && is_undefined_weak(s);
     return (struct linker_utils_link_facts){
-        .is_local = s->output != NULL || is_nowhere, .has_fixed_distance = 1, .is_executable = 1,
+        .is_local = s->output != NULL || is_nowhere, .has_fixed_distance = 1,
+        .is_executable = linked.is_executable,
         .has_got_high_part = is_load, .has_addresses = 1,
         .is_label_relaxable = is_load && !high->keeps_entry,
         .operands = {.symbol = is_nowhere ? tls.origins.thread_pointer : address_of(s->output, s->offset),
@@ -177,7 +133,7 @@ static void rewrite_riscv(struct output *o) {
         facts = facts_of(o, high);
         check(r, linker_utils_choose(machine, r->type, o->bytes, o->len, at, &facts, &choice));
         if (!linker_utils_is_unchanged(machine, r->type, &choice)) continue;
-        if (high->type == RISCV_TLSDESC_HI20) fail("%s is not supported", place_of(r));
+        if (high->type == RISCV_TLSDESC_HI20 && !high->entry) fail("%s is not supported", place_of(r));
         high->keeps_entry = true;
     }
     for (int step = 0; step < 2; step++) { /* the low parts first, while the high ones are there */
@@ -194,20 +150,27 @@ static void rewrite_riscv(struct output *o) {
     }
 }
 
+/* What is known of a symbol. */
+static struct linker_utils_symbol known_symbol(const struct symbol *s) {
+    return (struct linker_utils_symbol){
+        .address = address_of(s->output, s->offset),
+        .stub = s->has_stub ? address_of(stubs, s->stub) : 0, .size = s->elf.st_size,
+        .other = s->elf.st_other, .is_thread_local = is_thread_local(s),
+        .is_undefined_weak = is_undefined_weak(s)};
+}
+
 /* What is known of a relocation's symbol, and of the entry of the GOT that it requires. */
 static struct linker_utils_symbol known_of(const struct relocation *r) {
     const struct symbol *s = r->symbol;
     if (!s->output && s->elf.st_shndx && s->elf.st_shndx < SHN_LORESERVE)
         fail("%s: '%s' is in a section that is left out", place_of(r), s->name);
-    struct linker_utils_symbol known = {
-        .address = address_of(s->output, s->offset), .size = s->elf.st_size,
-        .other = s->elf.st_other, .is_thread_local = is_thread_local(s),
-        .is_undefined_weak = is_undefined_weak(s)};
+    struct linker_utils_symbol known = known_symbol(s);
     if (!r->entry) return known;
     uint64_t at = address_of(got, r->entry->offset);
     if (r->entry->class == LINKER_UTILS_ENTRY_ADDRESS) known.address_entry = at;
     if (r->entry->class == LINKER_UTILS_ENTRY_THREAD_OFFSET) known.thread_entry = at;
     if (r->entry->class == LINKER_UTILS_ENTRY_MODULE_OFFSET) known.module_entry = at;
+    if (r->entry->class == LINKER_UTILS_ENTRY_DESCRIPTOR) known.descriptor = at;
     known.entry_addend = r->entry->addend;
     return known;
 }
@@ -310,16 +273,105 @@ static void relocate_some(struct output *o, const struct relocation *r, size_t l
     check(&r[at], status);
 }
 
-/* Rewrites what waits for addresses, and writes all values. */
+/* A section's relocations as they are now, by the symbols of their object and by offsets in the linked
+ * section. Those that are hidden have no type. */
+static Elf64_Rela *present(const struct section *s, uint64_t start) {
+    const struct relocation *r = s->output->relocations + s->first;
+    Elf64_Rela *elf = take(s->relocations_len, sizeof *elf);
+    for (size_t i = 0; i < s->relocations_len; i++, r++)
+        elf[i] = (Elf64_Rela){address_of(s->output, r->offset) - start,
+                              ELF64_R_INFO((uint64_t)r->index, is_hidden(r) ? 0 : r->type), r->addend};
+    return elf;
+}
+
+/* Notes what a phase deletes of a section, each at the relocation there. */
+static void note_deleted(const Elf64_Rela *elf, const struct linker_utils_decision *decisions,
+                         struct relocation *r, size_t len, const struct linker_utils_deletion *deleted,
+                         size_t deleted_len) {
+    size_t found = 0;
+    for (size_t i = 0; i < len && found < deleted_len; i++)
+        if (decisions[i].fate != LINKER_UTILS_FATE_KEPT && elf[i].r_offset == deleted[found].offset)
+            r[i].deleted = deleted[found++].bytes;
+    if (found < deleted_len) fail("%s deletes other bytes", place_of(r));
+}
+
+/* Rewrites a section of an object in a phase, or notes which groups of it stay. */
+static void rewrite_in(uint32_t phase, struct section *s, const struct linker_utils_symbol *values,
+                       bool is_survey) {
+    const struct object *o = s->object;
+    size_t count = o->symbols_len, len = s->relocations_len, used = 0, at = 0;
+    uint64_t start = address_of(s->output, s->offset), size = address_of(s->output, s->end) - start;
+    uint8_t *bytes = s->output->bytes + (start - s->output->address);
+    struct relocation *r = s->output->relocations + s->first;
+    struct linker_utils_addresses addresses = addresses_of(start);
+    Elf64_Rela *elf = present(s, start);
+    if (is_survey) {
+        linker_utils_survey_placed_section(machine, phase, &linked, o->facts, count, &addresses, values,
+                                           count, (uint8_t *)elf, len * sizeof *elf, bytes, size,
+                                           o->kept, count);
+        return;
+    }
+    struct linker_utils_decision *decisions = take(len, sizeof *decisions);
+    struct linker_utils_deletion *deleted = take(len, sizeof *deleted);
+    uint32_t status = linker_utils_rewrite_placed_section(
+        machine, phase, &linked, o->facts, count, &addresses, values, count, o->kept, count,
+        (uint8_t *)elf, len * sizeof *elf, bytes, size, decisions, len, deleted, len, &used, &at);
+    check(&r[at < len ? at : 0], status);
+    note_deleted(elf, decisions, r, len, deleted, used);
+    for (size_t i = 0; i < len; i++) {
+        if (decisions[i].fate == LINKER_UTILS_FATE_KEPT) continue;
+        r[i].type = ELF64_R_TYPE(elf[i].r_info);
+        r[i].addend = elf[i].r_addend;
+        if (decisions[i].fate != LINKER_UTILS_FATE_REDIRECTED) continue;
+        r[i].index = decisions[i].symbol;
+        r[i].symbol = o->symbols[r[i].index];
+    }
+}
+
+/* Whether a load from the GOT stays. */
+static bool keeps_load(const struct object *o) {
+    for (size_t i = 0; i < o->symbols_len; i++)
+        if (o->kept[i].got_load) return true;
+    return false;
+}
+
+/* Rewrites the instructions of all code in a phase, once addresses are known. Of a section all loads
+ * from the GOT are rewritten or none is, as in ld.lld. */
+void rewrite_phase(uint32_t phase) {
+    bool is_of_got = phase == LINKER_UTILS_PHASE_GOT_LOADS;
+    for (struct object *o = objects; o && linker_utils_has_rewrites(machine, phase); o = o->next) {
+        struct linker_utils_symbol *values = take(o->symbols_len, sizeof *values);
+        for (size_t i = 1; i < o->symbols_len; i++) values[i] = known_symbol(o->symbols[i]);
+        note_facts(o);
+        memset(o->kept, 0, o->symbols_len * sizeof *o->kept);
+        for (struct section *s = o->sections; s < o->sections + o->sections_len; s++)
+            if (is_code(s) && !is_of_got) rewrite_in(phase, s, values, true);
+        for (struct section *s = o->sections; s < o->sections + o->sections_len; s++) {
+            if (!is_code(s)) continue;
+            if (is_of_got) memset(o->kept, 0, o->symbols_len * sizeof *o->kept);
+            if (is_of_got) rewrite_in(phase, s, values, true);
+            if (!is_of_got || !keeps_load(o)) rewrite_in(phase, s, values, false);
+        }
+    }
+}
+
+/* Rewrites what waits for all addresses. */
+void rewrite_placed(void) {
+    for (size_t i = 0; i < outputs_len; i++) {
+        struct output *o = outputs[i];
+        if (machine == EM_RISCV) rewrite_riscv(o);
+        for (size_t j = 0; j < o->relocations_len && relaxes && machine == EM_PPC64; j++)
+            rewrite_toc_load(o, &o->relocations[j]);
+    }
+    if (!relaxes) return;
+    rewrite_phase(LINKER_UTILS_PHASE_GOT_LOADS);
+    rewrite_phase(LINKER_UTILS_PHASE_DISTANCES);
+}
+
+/* Writes all values. */
 void relocate(struct output *o) {
     struct relocation *r = o->relocations, *end = r + o->relocations_len, *first;
-    if (machine == EM_RISCV) rewrite_riscv(o);
-    for (; r < end; r++) {
-        if (relaxes && machine == EM_AARCH64 && r + 1 < end) rewrite_aarch64(o, r, r + 1);
-        if (relaxes && machine == EM_PPC64) rewrite_ppc64(o, r);
-        if (has_short_offsets && machine == EM_PPC64) shorten_offset(o, r);
-    }
-    for (first = r = o->relocations; first < end; first = r) {
+    for (first = r; first < end; first = r) {
         while (r < end && r->section == first->section) r++;
         relocate_some(o, first, (size_t)(r - first));
     }

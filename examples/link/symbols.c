@@ -58,10 +58,14 @@ struct symbol *resolve(struct symbol *s) {
         old->elf.st_value = s->elf.st_value = a > b ? a : b;
         after += s->elf.st_size > old->elf.st_size;
     }
-    if (after <= before) return old;
-    old->elf = s->elf;
-    old->object = s->object;
-    want(old);
+    unsigned seen = ELF64_ST_VISIBILITY(old->elf.st_other), own = ELF64_ST_VISIBILITY(s->elf.st_other);
+    if (after > before) {
+        old->elf = s->elf;
+        old->object = s->object;
+    }
+    old->elf.st_other &= (uint8_t)~3; /* of visibilities the stricter one counts: 0 is the least */
+    old->elf.st_other |= (uint8_t)(seen && (!own || seen < own) ? seen : own);
+    if (after > before) want(old);
     return old;
 }
 
@@ -69,24 +73,43 @@ struct symbol *resolve(struct symbol *s) {
 void offer(const char *name, struct archive *a, uint64_t member) {
     struct symbol **at = global(name);
     if (!*at) *at = take(1, sizeof **at);
-    if ((*at)->archive) return;
+    if ((*at)->archive || (*at)->library) return;
     if (!(*at)->name) (*at)->name = name;
     (*at)->archive = a;
     (*at)->member = member;
     want(*at);
 }
 
+/* A symbol of a shared library, or where that is null one that a library refers to. The first library
+ * that defines it counts, and then no archive. */
+struct symbol *offer_import(const char *name, struct library *l, const Elf64_Sym *elf,
+                            uint16_t version) {
+    struct symbol **at = global(name), *s = *at;
+    if (!s) s = *at = take(1, sizeof *s);
+    if (!s->name) s->name = name;
+    s->is_exported = true;
+    if (!l || s->library) return s;
+    s->library = l;
+    s->there = *elf;
+    if (ELF64_ST_TYPE(elf->st_info) == STT_GNU_IFUNC) /* it is called there as any function */
+        s->there.st_info = ELF64_ST_INFO(ELF64_ST_BIND(elf->st_info), STT_FUNC);
+    s->version = version;
+    s->archive = NULL;
+    return s;
+}
+
+/* Puts a symbol behind the others, once. */
+void list_symbol(struct symbol *s) {
+    static struct symbol **end = &symbols;
+    if (s->is_listed) return;
+    s->is_listed = true;
+    *end = s;
+    end = &s->later;
+}
+
 void list_symbols(void) {
-    struct symbol **last = &symbols;
-    for (struct object *o = objects; o; o = o->next) {
-        for (size_t i = 0; i < o->symbols_len; i++) {
-            struct symbol *s = o->symbols[i];
-            if (s->is_listed) continue;
-            s->is_listed = true;
-            *last = s;
-            last = &s->later;
-        }
-    }
+    for (struct object *o = objects; o; o = o->next)
+        for (size_t i = 0; i < o->symbols_len; i++) list_symbol(o->symbols[i]);
 }
 
 /* A symbol at an offset of a section, if an object refers to it; whether one does. */
@@ -94,6 +117,7 @@ static bool define(const char *name, struct output *output, uint64_t offset) {
     struct symbol *s = *global(name);
     if (!s || !s->object || s->elf.st_shndx != SHN_UNDEF) return false;
     s->elf.st_shndx = SHN_ABS;
+    if (is_dynamic) s->elf.st_other = STV_HIDDEN;
     s->output = output;
     s->offset = offset;
     got->has_bytes |= output == got;
@@ -192,6 +216,7 @@ void define_symbols(void) {
     define("end", last(RANK_BSS), END);
     if (headers->len) define("__ehdr_start", headers, 0);
     if (headers->len) define("__executable_start", headers, 0);
+    if (headers->len) define("__dso_handle", headers, 0); /* of each module another one */
 }
 
 /* Where a symbol is that an object defines. */

@@ -1,7 +1,8 @@
-/* Links objects and archives, one of them damaged, and fails where the linker then does anything
- * but write a file or end with an error.
+/* Links objects, archives and shared libraries, one of them damaged, and fails where the linker then
+ * does anything but write a file or end with an error and leave none behind.
  *
- * usage: damaged CASES SEED OUTPUT FILE...
+ * usage: damaged CASES SEED OUTPUT FILE... [-- ARGUMENT...]
+ * The arguments behind `--` are given to the linker as they are.
  * Half of the cases set a field of the header, of a section's header, or of an entry of a section
  * (a symbol, a relocation, a group) to an extreme number, the others change some random bytes. In
  * an archive both do so to a member, or to the index and the members' headers. With -DGUARDED each
@@ -47,8 +48,10 @@ static void *guarded_realloc(void *old, size_t size) {
 #define calloc guarded_calloc
 #define realloc guarded_realloc
 #endif
+#include "../link/dynamic.c"
 #include "../link/entries.c"
 #include "../link/layout.c"
+#include "../link/libraries.c"
 #include "../link/main.c"
 #include "../link/objects.c"
 #include "../link/output.c"
@@ -115,11 +118,13 @@ int main(int argc, char **argv) {
     static uint8_t bytes[MOST];
     static char damaged[4096];
     if (argc < 5) return 2;
+    int files = 4;
+    while (files < argc && strcmp(argv[files], "--")) files++;
     state = strtoull(argv[2], NULL, 0) * 2654435761 + 88172645463325252;
     snprintf(damaged, sizeof damaged, "%s.damaged", argv[3]);
     unsigned long linked = 0, cases = strtoul(argv[1], NULL, 0);
     for (unsigned long i = 0; i < cases; i++) {
-        char **object = &argv[4 + below((uint64_t)argc - 4)], *path = *object;
+        char **object = &argv[4 + below((uint64_t)files - 4)], *path = *object;
         FILE *file = fopen(path, "rb");
         size_t len = file ? fread(bytes, 1, MOST, file) : 0;
         if (!len || fclose(file)) return 2;
@@ -127,12 +132,13 @@ int main(int argc, char **argv) {
         if (!below(16)) len = below(len);
         file = fopen(damaged, "wb");
         if (!file || fwrite(bytes, 1, len, file) != len || fclose(file)) return 2;
+        unlink(argv[3]);
         pid_t child = fork();
         if (!child) {
             char *arguments[64] = {argv[0], (char[]){"-o"}, argv[3]};
             int count = 3;
             for (int j = 4; j < argc && count < 63; j++)
-                arguments[count++] = &argv[j] == object ? damaged : argv[j];
+                if (j != files) arguments[count++] = &argv[j] == object ? damaged : argv[j];
             alarm(20);
             if (!freopen("/dev/null", "w", stderr)) exit(2);
             exit(link_main(count, arguments));
@@ -144,6 +150,10 @@ int main(int argc, char **argv) {
             return 1;
         }
         linked += !WEXITSTATUS(status);
+        if (!access(argv[3], F_OK) != !WEXITSTATUS(status)) {
+            printf("%s, damaged as %s: status %d\n", path, damaged, WEXITSTATUS(status));
+            return 1;
+        }
     }
     printf("%lu damaged, %lu of them linked all the same\n", cases, linked);
     return 0;

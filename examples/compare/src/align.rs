@@ -48,9 +48,9 @@ fn unlike(linked: &Linked, it: &Section, offset: u64, address: u64) -> (usize, u
     let mut compare = |from: u64, to: u64| {
         let Some(original) = it.bytes.get(from as usize..to as usize) else { return };
         let there = linked.bytes_at(address.wrapping_add(from).wrapping_sub(offset));
-        let there = there.unwrap_or(&[]).iter().map(Some).chain(std::iter::repeat(None));
+        let same = original.iter().zip(there.unwrap_or(&[])).filter(|(a, b)| a == b).count();
         all += original.len();
-        others += original.iter().zip(there).filter(|(a, b)| Some(*a) != *b).count();
+        others += original.len() - same;
     };
     for one in near.iter().filter(|one| one.offset >= start && one.offset < end) {
         compare(at, one.offset.saturating_sub(4).max(at));

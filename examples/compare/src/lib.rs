@@ -16,11 +16,44 @@ mod targets;
 mod threads;
 mod walk;
 
+use elf::{Object, Relocation};
 use linker_utils::elf::Architecture;
+use map::Anchors;
 use side::{Made, Side};
 use std::panic::resume_unwind;
 use std::sync::atomic::{AtomicU64, Ordering};
 use std::time::Duration;
+
+/// A relocation that was compared. Most are the same in both files, and nobody reads their text.
+pub struct Compared<'m, 'a> {
+    pub object: &'a Object<'a>,
+    /// The symbol before it, or the section, and the distance.
+    pub function: &'a str,
+    distance: u64,
+    relocation: &'a Relocation,
+    maps: [&'m Anchors; 2],
+    made: [Made; 2],
+}
+
+impl Compared<'_, '_> {
+    pub fn is_same(&self) -> bool {
+        self.made[0] == self.made[1]
+    }
+
+    /// The same with its text.
+    pub fn line(&self) -> Line {
+        let (object, one) = (self.object, self.relocation);
+        Line {
+            object: object.path.clone(),
+            place: format!("{}+{:#x}", self.function, self.distance),
+            architecture: object.architecture,
+            relocation: one.code,
+            addresses: self.maps.map(|map| map::address_in(map, one.offset)),
+            symbol: report::symbol(object, one),
+            made: self.made.clone(),
+        }
+    }
+}
 
 /// A relocation, and what each linker made of it.
 pub struct Line {
@@ -57,7 +90,7 @@ pub fn compare<'a>(
     objects: &'a [elf::Object<'a>],
     files: [&'a elf::Linked<'a>; 2],
     step: &dyn Fn(u64, u64),
-    mut each: impl FnMut(Line),
+    mut each: impl FnMut(Compared<'_, 'a>),
 ) -> Result<Counts, (usize, elf::Reason)> {
     let sections: usize = objects.iter().map(|object| object.sections.len()).sum();
     let (total, done) = (4 * sections as u64, AtomicU64::new(0));
@@ -91,28 +124,22 @@ pub fn compare<'a>(
             }
             let [a, b] = &mut sides;
             let both = a.take_made(at, index).into_iter().zip(b.take_made(at, index));
-            let addresses = |offset| {
-                [&*a, &*b].map(|side| side.address_in(at, index, offset))
-            };
-            for (one, (a, b)) in section.relocations.iter().zip(both) {
-                if made::is_mark(object.architecture, one.code) {
+            let maps = [&a.maps[at][index], &b.maps[at][index]];
+            for (relocation, (a, b)) in section.relocations.iter().zip(both) {
+                if made::is_mark(object.architecture, relocation.code) {
                     continue;
                 }
                 if a == Made::Nowhere && b == Made::Nowhere {
                     counts.nowhere += 1;
                     continue;
                 }
+                let names = &names[index];
+                let (function, distance) = report::place(names, &section.name, relocation.offset);
+                let made = [a, b];
+                let one = Compared { object, function, distance, relocation, maps, made };
                 counts.relocations += 1;
-                counts.different += usize::from(a != b);
-                each(Line {
-                    object: object.path.clone(),
-                    place: report::place(&names[index], &section.name, one.offset),
-                    architecture: object.architecture,
-                    relocation: one.code,
-                    addresses: addresses(one.offset),
-                    symbol: report::symbol(object, one),
-                    made: [a, b],
-                });
+                counts.different += usize::from(!one.is_same());
+                each(one);
             }
         }
     }

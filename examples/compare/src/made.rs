@@ -218,12 +218,11 @@ impl Before {
         recognise::architecture::recognise(
             self.architecture, self.code, bytes, offset, others, linked,
         )
+        // without the values, which are large
+        .map(|made| made.map(|made| made.choice))
         .into_iter()
         .flatten()
-        .map(|made| {
-            let kind = Kind::Library(made.choice.kind);
-            Chosen { kind, relocation: made.choice.relocation }
-        })
+        .map(|choice| Chosen { kind: Kind::Library(choice.kind), relocation: choice.relocation })
     }
 
     /// A rewrite that the library doesn't list.

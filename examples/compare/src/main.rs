@@ -8,6 +8,7 @@ use indicatif::{ProgressBar, ProgressDrawTarget, ProgressStyle};
 use std::cell::{Cell, OnceCell};
 use std::ffi::OsString;
 use std::io::{self, BufWriter, Write};
+use std::mem::ManuallyDrop;
 use std::panic::resume_unwind;
 use std::process::ExitCode;
 use std::thread::ScopedJoinHandle;
@@ -139,9 +140,11 @@ fn run() -> Result<ExitCode, Failure> {
     let objects = inputs.iter().zip(objects);
     let objects = objects.map(|((name, _), all)| all.map_err(|reason| because(name, reason)));
     let objects: Vec<_> = objects.collect::<Result<Vec<_>, _>>()?.into_iter().flatten().collect();
+    // what is known of the files is large, and stays until the program ends
+    let objects = ManuallyDrop::new(objects);
     let both = linked.iter().zip(both);
     let both = both.map(|((name, _), file)| file.map_err(|reason| because(name, reason)));
-    let both = both.collect::<Result<Vec<_>, _>>()?;
+    let both = ManuallyDrop::new(both.collect::<Result<Vec<_>, _>>()?);
     for (name, architecture) in (objects.iter().map(|one| (&one.path, one.architecture)))
         .chain(linked.iter().map(|(name, _)| name).zip(both.iter().map(|one| one.architecture)))
     {
@@ -154,7 +157,7 @@ fn run() -> Result<ExitCode, Failure> {
     let (place, choice) = (Style::new().bold(), Style::new().cyan());
     let progress =
         Progress { since: Instant::now(), shown: Cell::new(0), bar: OnceCell::new() };
-    let (mut written, mut functions) = (Ok(()), Functions::default());
+    let (mut written, mut functions) = (Ok(()), ManuallyDrop::new(Functions::default()));
     let write = |line: &Line, out: &mut BufWriter<_>| -> io::Result<()> {
         if arguments.is_json {
             return writeln!(out, "{}", report::line_as_json(line));
@@ -168,13 +171,14 @@ fn run() -> Result<ExitCode, Failure> {
         writeln!(out, "    B: {}", choice.apply_to(report::words(line, b)))
     };
     let step = |done, total| progress.step(done, total);
-    let counts = compare(&objects, [&both[0], &both[1]], &step, |line| {
-        // JSON and all relocations are written as they come
-        if (arguments.is_all || arguments.is_json && !line.is_same()) && written.is_ok() {
-            written = write(&line, &mut out);
-        }
+    let counts = compare(&objects, [&both[0], &both[1]], &step, |one| {
+        let is_written = arguments.is_all || arguments.is_json && !one.is_same();
         if !arguments.is_json {
-            functions.add(line);
+            functions.add(&one);
+        }
+        // JSON and all relocations are written as they come
+        if is_written && written.is_ok() {
+            written = write(&one.line(), &mut out);
         }
     });
     if let Some(bar) = progress.bar.get() {
@@ -199,8 +203,6 @@ fn run() -> Result<ExitCode, Failure> {
         }
     }
     out.flush()?;
-    // the program ends, and what it knows of the files is large
-    std::mem::forget((objects, both, functions));
     Ok(if counts.different > 0 { ExitCode::from(1) } else { ExitCode::SUCCESS })
 }
 

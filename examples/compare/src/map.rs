@@ -10,7 +10,11 @@ pub const NOWHERE: u64 = 1 << 62;
 
 /// The address of an offset, by what is at or before it.
 pub fn address_in(map: &Anchors, offset: u64) -> Option<u64> {
-    let after = map.partition_point(|(start, _)| *start <= offset);
+    address_at(map, map.partition_point(|(start, _)| *start <= offset), offset)
+}
+
+/// The same, where the index of what is behind the offset is known.
+fn address_at(map: &Anchors, after: usize, offset: u64) -> Option<u64> {
     let (start, address) = map.get(after.saturating_sub(1))?;
     (*address != NOWHERE).then(|| address.wrapping_add(offset).wrapping_sub(*start))
 }
@@ -73,7 +77,15 @@ pub fn window(
     own: (u64, u64),
 ) -> Option<Window> {
     let after = map.partition_point(|(offset, _)| *offset <= start);
-    let (mut at, mut address) = (start, address_in(map, start)?);
+    let (mut at, mut address) = (start, address_at(map, after, start)?);
+    // mostly nothing is deleted up to the next offset that is known
+    let is_whole = map.get(after).is_none_or(|(offset, there)| {
+        *offset >= end && there.wrapping_sub(address) == offset - start
+    });
+    if is_whole && own.0 >= start && own.0 < end {
+        let bytes = linked.bytes_at(address)?.get(..(end - start) as usize)?;
+        return Some(Window { bytes: Bytes::of(bytes)?, deleted: 0, address });
+    }
     let before = own.0.wrapping_sub(start);
     let place = address_in(map, own.0)?;
     let address_of_start = place.wrapping_sub(before);

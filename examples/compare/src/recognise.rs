@@ -110,12 +110,13 @@ impl Side<'_> {
             Architecture::X86_64 => &[(6, 12), (4, 12), (6, len), (3, len), (0, len)],
             _ => &[(4, 8), (0, 8), (4, 4), (0, 4), (0, len)],
         };
-        let try_windows = |windows: &[(u64, u64)], pass| {
+        let mut others = Vec::new();
+        let mut try_windows = |windows: &[(u64, u64)], pass| {
             let mut best = None;
             for (back, forward) in windows {
                 let start = one.offset.saturating_sub(*back);
                 let end = (one.offset + forward.max(&len)).min(at.it.bytes.len() as u64);
-                self.recognise_in(at, one, (start, end), pass, &mut best);
+                self.recognise_in(at, one, (start, end), pass, &mut others, &mut best);
                 if best.is_some() {
                     break;
                 }
@@ -139,10 +140,11 @@ impl Side<'_> {
         one: &Relocation,
         (start, end): (u64, u64),
         pass: Pass,
+        others: &mut Vec<FieldBits>,
         best: &mut Option<Found>,
     ) {
         let (architecture, linked) = (self.linked.architecture, self.linked);
-        let Some((start, end, others)) = fields(architecture, at.it, at.index, start, end) else {
+        let Some((start, end)) = fields(architecture, at.it, at.index, (start, end), others) else {
             return;
         };
         let own = (one.offset, one.offset + made::len(architecture, one.code));
@@ -173,7 +175,7 @@ impl Side<'_> {
         match pass {
             Pass::Library => {
                 // a high part alone may lead to its symbol by either relocation: its low half tells
-                let found = before.choices(&others, &window.bytes);
+                let found = before.choices(others, &window.bytes);
                 let is_same = |chosen: &Chosen| chosen.relocation == one.code;
                 found.clone().filter(is_same).for_each(|chosen| take(&before, chosen, None));
                 found.filter(|one| !is_same(one)).for_each(|chosen| take(&before, chosen, None));
@@ -183,7 +185,7 @@ impl Side<'_> {
                 found.into_iter().for_each(|chosen| take(&before, chosen, None));
             }
             Pass::Twice => {
-                let mut found = before.choices_after(&others, &window.bytes);
+                let mut found = before.choices_after(others, &window.bytes);
                 found.sort_by_key(|(_, chosen, _)| chosen.relocation != one.code);
                 for (before, chosen, first) in found {
                     take(&before, chosen, first);
@@ -234,7 +236,8 @@ impl<'a> Deletable<'a> {
         let past = one.offset + len;
         let ends = [one.offset + 8, past].map(|end| end.max(past).min(it.bytes.len() as u64));
         let window = |end: u64| {
-            let (start, end, others) = fields(architecture, it, index, one.offset, end)?;
+            let mut others = Vec::new();
+            let (start, end) = fields(architecture, it, index, (one.offset, end), &mut others)?;
             if start != one.offset {
                 return None;
             }
@@ -308,38 +311,48 @@ impl<'a> Deletable<'a> {
     }
 }
 
-/// A window that cuts no field, and the fields of the other relocations in it.
+/// A window that cuts no field. The fields of the other relocations in it go into `others`.
 fn fields(
     architecture: Architecture,
     it: &Section,
     index: usize,
-    mut start: u64,
-    mut end: u64,
-) -> Option<(u64, u64, Vec<FieldBits>)> {
+    (mut start, mut end): (u64, u64),
+    others: &mut Vec<FieldBits>,
+) -> Option<(u64, u64)> {
     let one = &it.relocations[index];
-    let is_near = |other: &Relocation| other.offset + 16 >= start && other.offset <= end + 16;
-    let count = |near: &mut dyn Iterator<Item = &Relocation>| near.take_while(|one| is_near(one)).count();
-    let before = index - count(&mut it.relocations[..index].iter().rev());
-    let after = index + 1 + count(&mut it.relocations[index + 1..].iter());
-    let near = (before..index).rev().chain(index + 1..after).map(|other| &it.relocations[other]);
-    let near = near.filter_map(|other| Some((made::row(architecture, other.code)?, other.offset)));
-    for (row, offset) in near.clone() {
-        let past = offset + row.window() as u64;
+    let (first, last) = (start, end + 16);
+    let is_near = |other: &Relocation| other.offset + 16 >= first && other.offset <= last;
+    let row = |other: &Relocation| made::row(architecture, other.code);
+    let mut widen = |other: &Relocation| {
+        let Some(row) = row(other) else { return };
+        let (offset, past) = (other.offset, other.offset + row.window() as u64);
         if offset < start && past > start {
             start = offset;
         }
         if offset < end && past > end {
             end = past;
         }
-    }
+    };
+    let before = it.relocations[..index].iter().rev().take_while(|other| is_near(other));
+    let after = it.relocations[index + 1..].iter().take_while(|other| is_near(other));
+    before.clone().for_each(&mut widen);
+    after.clone().for_each(&mut widen);
     if end > it.bytes.len() as u64 || end - start > 64 || one.offset > end {
         return None;
     }
     let window = &it.bytes[start as usize..end as usize];
-    let others = near.filter(|(_, offset)| start <= *offset && *offset < end);
-    let others = others.filter_map(|(row, offset)| {
-        let (offset, bytes) = (offset - start, window.get((offset - start) as usize..)?);
-        (bytes.len() >= row.window()).then(|| FieldBits { offset, bits: field_bits(&row, bytes) })
-    });
-    Some((start, end, others.collect()))
+    others.clear();
+    let mut add = |other: &Relocation| {
+        let Some(row) = row(other).filter(|_| start <= other.offset && other.offset < end) else {
+            return;
+        };
+        let offset = other.offset - start;
+        let bytes = &window[offset as usize..];
+        if bytes.len() >= row.window() {
+            others.push(FieldBits { offset, bits: field_bits(&row, bytes) });
+        }
+    };
+    before.for_each(&mut add);
+    after.for_each(&mut add);
+    Some((start, end))
 }

@@ -21,12 +21,10 @@ pub fn names_of<'a>(object: &'a Object<'a>) -> Vec<Vec<(u64, &'a str)>> {
     names
 }
 
-pub fn place(names: &[(u64, &str)], section: &str, offset: u64) -> String {
+/// The last symbol up to an offset of a section, or the section, and how far it is behind it.
+pub fn place<'a>(names: &[(u64, &'a str)], section: &'a str, offset: u64) -> (&'a str, u64) {
     let after = names.partition_point(|(start, _)| *start <= offset);
-    match names[..after].last() {
-        Some((start, name)) => format!("{name}+{:#x}", offset - start),
-        None => format!("{section}+{offset:#x}"),
-    }
+    names[..after].last().map_or((section, offset), |(start, name)| (name, offset - start))
 }
 
 pub fn symbol(object: &Object, one: &Relocation) -> String {

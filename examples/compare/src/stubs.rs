@@ -29,13 +29,8 @@ impl Stubs {
         if resolvers.is_empty() {
             return Stubs::default();
         }
-        let step = match architecture {
-            Architecture::X86_64 => 1,
-            Architecture::RiscV => 2,
-            _ => 4,
-        };
         for (start, bytes) in code {
-            for offset in (0..bytes.len()).step_by(step) {
+            for offset in starts(architecture, bytes) {
                 let place = start.wrapping_add(offset as u64);
                 let word = word_of(architecture, &bytes[offset..], place, toc);
                 let Some(resolver) = word.and_then(|word| resolvers.get(&word)) else { continue };
@@ -64,6 +59,25 @@ impl Stubs {
     /// The function that tells the address of an indirect one, by its stub.
     pub fn resolver(&self, address: u64) -> u64 {
         self.same(&address)[0]
+    }
+}
+
+/// Where the load of a stub may begin in code.
+fn starts(architecture: Architecture, code: &[u8]) -> Box<dyn Iterator<Item = usize> + '_> {
+    let len = code.len();
+    match architecture {
+        // its jump
+        Architecture::X86_64 => {
+            let mut all = Vec::new();
+            for (offset, two) in code.windows(2).enumerate() {
+                if two == [0xff, 0x25] {
+                    all.push(offset);
+                }
+            }
+            Box::new(all.into_iter())
+        }
+        Architecture::RiscV => Box::new((0..len).step_by(2)),
+        _ => Box::new((0..len).step_by(4)),
     }
 }
 

@@ -1,6 +1,6 @@
 //! What differs by function, and a summary that fits a screen of 24 lines and 80 columns.
 
-use compare::{Counts, Line, report};
+use compare::{Compared, Counts, Line, report};
 use std::cmp::Reverse;
 use std::collections::HashMap;
 
@@ -17,32 +17,28 @@ struct Function {
 
 /// The relocations that were compared, by object and function.
 #[derive(Default)]
-pub struct Functions {
-    places: HashMap<(String, String), usize>,
-    functions: Vec<((String, String), Function)>,
+pub struct Functions<'a> {
+    places: HashMap<(&'a str, &'a str), usize>,
+    functions: Vec<((&'a str, &'a str), Function)>,
     /// Where the last one is that a relocation was of.
     last: usize,
 }
 
-impl Functions {
+impl<'a> Functions<'a> {
     /// Counts a relocation, and keeps it if it differs.
-    pub fn add(&mut self, line: Line) {
-        let name = line.place.rsplit_once('+').map_or(&line.place[..], |(name, _)| name);
-        let is_last = |((object, last), _): &((String, String), Function)| {
-            *object == line.object && last == name
-        };
+    pub fn add(&mut self, one: &Compared<'_, 'a>) {
+        let key = (&one.object.path[..], one.function);
         // most are of the same function as the one before
-        if !self.functions.get(self.last).is_some_and(is_last) {
-            let key = (line.object.clone(), name.to_string());
-            self.last = *self.places.entry(key).or_insert_with_key(|key| {
-                self.functions.push((key.clone(), Function::default()));
+        if self.functions.get(self.last).is_none_or(|(last, _)| *last != key) {
+            self.last = *self.places.entry(key).or_insert_with(|| {
+                self.functions.push((key, Function::default()));
                 self.functions.len() - 1
             });
         }
         let function = &mut self.functions[self.last].1;
         function.relocations += 1;
-        if !line.is_same() {
-            function.different.push(line);
+        if !one.is_same() {
+            function.different.push(one.line());
         }
     }
 

@@ -49,9 +49,9 @@ fn differences(inputs: &[(String, Vec<u8>)], a: &[u8], b: &[u8]) -> (Vec<Line>, 
         inputs.iter().flat_map(|(name, bytes)| elf::read_objects(name, bytes).unwrap()).collect();
     let (a, b) = (elf::read_linked(a).unwrap(), elf::read_linked(b).unwrap());
     let mut lines = Vec::new();
-    let counts = compare(&objects, [&a, &b], &|_, _| (), |line| {
-        if !line.is_same() {
-            lines.push(line);
+    let counts = compare(&objects, [&a, &b], &|_, _| (), |one| {
+        if !one.is_same() {
+            lines.push(one.line());
         }
     });
     let counts = counts.unwrap();
@@ -333,7 +333,8 @@ fn mutated_files_are_read_without_a_panic() {
         };
         let objects: Vec<_> = objects.into_iter().flatten().collect();
         read += 1;
-        let counts = compare(&objects, [&a, &b], &|_, _| (), |line| {
+        let counts = compare(&objects, [&a, &b], &|_, _| (), |one| {
+            let line = one.line();
             text(&line);
             report::line_as_json(&line).to_string();
         });

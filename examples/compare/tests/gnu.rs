@@ -40,7 +40,7 @@ fn rows(inputs: &[(&str, Vec<u8>)], a: &[u8], b: &[u8]) -> (Vec<Line>, Counts) {
         inputs.iter().flat_map(|(name, bytes)| elf::read_objects(name, bytes).unwrap()).collect();
     let (a, b) = (elf::read_linked(a).unwrap(), elf::read_linked(b).unwrap());
     let mut lines = Vec::new();
-    let counts = compare(&objects, [&a, &b], &|_, _| (), |line| lines.push(line)).unwrap();
+    let counts = compare(&objects, [&a, &b], &|_, _| (), |one| lines.push(one.line())).unwrap();
     (lines, counts)
 }
 
@@ -376,8 +376,8 @@ fn mutated_files_are_read_without_a_panic() {
         let both = (elf::read_linked(&linked[0]), elf::read_linked(&linked[1]));
         let (Ok(objects), (Ok(a), Ok(b))) = (objects, both) else { continue };
         read += 1;
-        let _ = compare(&objects, [&a, &b], &|_, _| (), |line| {
-            report::line_as_json(&line).to_string();
+        let _ = compare(&objects, [&a, &b], &|_, _| (), |one| {
+            report::line_as_json(&one.line()).to_string();
         });
     }
     assert!(read > 500, "{read}");

@@ -1,0 +1,434 @@
+/* What a dynamic linker reads and fills: symbols of other files and those that they may see, the
+ * relocations that are left to it, and the tables that say so. */
+#include "link.h"
+
+struct linker_utils_output_facts linked = {.is_executable = true, .is_fixed = true};
+bool is_dynamic;
+const char *own_name;
+
+/* A word that the dynamic linker fills. */
+struct dynamic_row {
+    const struct output *output;
+    uint64_t offset;
+    uint32_t type;
+    const struct symbol *symbol; /* null where it is the output itself */
+    int64_t addend;
+};
+
+struct output *interpreter, *dynamic;
+static struct output *dynsym, *dynstr, *hash_table, *versym, *verneed, *rela_dyn;
+static struct dynamic_row *rows;
+static size_t rows_len, rows_room, listed_len = 1, imports_len = 1, listed_room;
+static const struct symbol **listed; /* by their numbers in the table */
+
+void add_row(struct output *o, uint64_t offset, uint32_t type, struct symbol *s, int64_t addend) {
+    rows = grow(rows, rows_len + 1, &rows_room, sizeof *rows);
+    rows[rows_len++] = (struct dynamic_row){o, offset, type, s, addend};
+}
+
+/* A table of the linked file, whose elements have so many bytes. */
+static struct output *own_table(const char *name, uint32_t type, uint64_t element,
+                                const struct output *link) {
+    struct output *o = own_section(name, SHF_ALLOC, true);
+    o->type = type;
+    o->element = element;
+    o->link = link;
+    return o;
+}
+
+/* The sections that dynamic outputs have. */
+void make_tables(void) {
+    if (linked.is_executable) interpreter = own_section(".interp", SHF_ALLOC, true);
+    dynstr = own_table(".dynstr", SHT_STRTAB, 0, NULL);
+    dynsym = own_table(".dynsym", SHT_DYNSYM, sizeof(Elf64_Sym), dynstr);
+    dynsym->info = 1;
+    hash_table = own_table(".gnu.hash", SHT_GNU_HASH, 0, dynsym);
+    versym = own_table(".gnu.version", SHT_GNU_versym, 2, dynsym);
+    verneed = own_table(".gnu.version_r", SHT_GNU_verneed, 0, dynstr);
+    rela_dyn = own_table(".rela.dyn", SHT_RELA, sizeof(Elf64_Rela), dynsym);
+    dynamic = own_table(".dynamic", SHT_DYNAMIC, sizeof(Elf64_Dyn), dynstr);
+    dynamic->flags |= SHF_WRITE;
+}
+
+/* Whether nothing defines a weak symbol so far. Where code doesn't load its address that is 0. */
+static bool may_be_absent(const struct symbol *s) {
+    return !s->library && ELF64_ST_BIND(s->elf.st_info) == STB_WEAK;
+}
+
+/* Says which symbols other files define, and which they may see. What another file may replace is
+ * referred to as if that defined it, by a symbol of its own. */
+void bind_symbols(void) {
+    for (struct symbol *s = symbols; s; s = s->later) {
+        unsigned visibility = ELF64_ST_VISIBILITY(s->elf.st_other);
+        bool is_default = visibility == STV_DEFAULT, is_shared = !linked.is_executable;
+        if (s->library && is_thread_local(s) != (ELF64_ST_TYPE(s->there.st_info) == STT_TLS))
+            fail("%s: '%s' is thread-local in only one of it and %s", s->object->path, s->name,
+                 s->library->file.path);
+        s->is_exported |= is_shared;
+        if (ELF64_ST_BIND(s->elf.st_info) == STB_LOCAL || rank(s) == 2 ||
+            (!is_default && visibility != STV_PROTECTED)) {
+            s->is_exported = false;
+        } else if (!is_defined(s)) {
+            s->is_imported = is_default && (s->library || is_shared || may_be_absent(s));
+            s->is_exported = false;
+        } else if (is_shared && is_default) {
+            struct symbol *import = s->import = take(1, sizeof *import);
+            *import = (struct symbol){.object = s->object, .name = s->name, .elf = s->elf,
+                                      .later = s->later, .definition = s, .is_imported = true};
+            import->elf.st_shndx = SHN_UNDEF;
+            s = s->later = import;
+        }
+    }
+}
+
+/* How a relocation reaches a symbol of another file, or one of this file wherever it is loaded. */
+void import(struct relocation *r, const struct linker_utils_requirements *needs) {
+    struct symbol *s = r->symbol;
+    uint32_t kind = row_of(r)->info.kind, type = ELF64_ST_TYPE(s->there.st_info);
+    bool is_in_module = kind == LINKER_UTILS_KIND_DTP_OFF;
+    bool is_difference = kind >= LINKER_UTILS_KIND_ABSOLUTE_SET && kind < LINKER_UTILS_KIND_RELATIVE;
+    bool is_word = needs->is_word && r->section->output->flags & SHF_WRITE;
+    if (!is_dynamic || needs->entry_class || is_left_out(r) || kind == LINKER_UTILS_KIND_NONE ||
+        kind == LINKER_UTILS_KIND_ALIGNMENT || kind == LINKER_UTILS_KIND_TLS_DESC_CALL)
+        return;
+    if ((is_in_module || is_difference) && s->definition) s = r->symbol = s->definition;
+    if (kind == LINKER_UTILS_KIND_TP_OFF ? s->is_imported || !linked.is_executable
+                                         : is_in_module && s->is_imported)
+        fail("%s can't reach '%s' from such an output", place_of(r), s->name);
+    if (!s->is_imported) {
+        if (linked.is_fixed || !needs->depends_on_load || !is_here(s)) return;
+        if (!is_word)
+            fail("%s depends on where the output is loaded, to '%s'", place_of(r), s->name);
+        add_row(r->section->output, r->offset, types.relative, s, r->addend);
+    } else if (needs->may_use_stub) {
+        s->has_stub = true;
+    } else if (is_word) {
+        add_row(r->section->output, r->offset, types.word, s, r->addend);
+    } else if (!linked.is_executable) {
+        fail("%s can't reach '%s', which another file may replace", place_of(r), s->name);
+    } else if (!may_be_absent(s)) {
+        if (ELF64_ST_VISIBILITY(s->there.st_other) == STV_PROTECTED)
+            fail("%s can't replace the protected '%s' of %s", place_of(r), s->name,
+                 s->library->file.path);
+        if (type == STT_FUNC) s->has_stub = s->is_canonical = true;
+        else s->is_copied = true;
+    }
+}
+
+/* Makes room for a variable of a library in the program, and moves all its names there. */
+static void make_copy(struct symbol *s) {
+    const struct library *l = s->library;
+    struct output *bss = output_of(".bss");
+    if (!s->there.st_size || s->there.st_size > MOST_BYTES)
+        fail("%s: .dynsym: '%s' can't be copied", l->file.path, s->name);
+    bss->flags |= SHF_WRITE | SHF_ALLOC;
+    uint64_t at = make_room(bss, import_align(s), s->there.st_size);
+    add_row(bss, at, types.copy, s, 0);
+    for (size_t i = 0; i < l->len; i++) {
+        struct symbol *alias = l->symbols[i];
+        if (!alias || alias->library != l || alias->there.st_value != s->there.st_value ||
+            alias->there.st_shndx != s->there.st_shndx || (alias->object && is_defined(alias)))
+            continue;
+        list_symbol(alias);
+        unsigned bind = ELF64_ST_BIND((alias->object ? alias->elf : alias->there).st_info);
+        alias->elf = alias->there;
+        alias->elf.st_info = ELF64_ST_INFO(bind, ELF64_ST_TYPE(alias->there.st_info));
+        alias->elf.st_other = 0;
+        alias->elf.st_shndx = SHN_ABS;
+        alias->output = bss;
+        alias->offset = at;
+        alias->is_imported = false;
+        alias->is_exported = alias->is_copied = true;
+    }
+}
+
+/* Makes the stub to a function of another file, which goes to the address in a slot. What the library
+ * doesn't say is the type of the slot. If the stub is the function's address other look-ups than of
+ * a jump slot find the stub itself; and else in a jump slot a dynamic linker may put the entry for
+ * calls within a file, as PowerPC64's. */
+static void make_import(struct symbol *s) {
+    struct symbol *slot = take(1, sizeof *slot);
+    *slot = (struct symbol){.name = s->name, .output = slots, .offset = make_room(slots, 8, 8),
+                            .elf.st_shndx = SHN_ABS};
+    s->stub = add_stub(stubs, LINKER_UTILS_STUB_LOAD, slot, 0);
+    add_row(slots, slot->offset, s->is_canonical ? types.jump_slot : types.glob_dat, s, 0);
+    if (!s->is_canonical) return;
+    s->output = stubs;
+    s->offset = s->stub;
+}
+
+void make_imports(void) {
+    for (struct symbol *s = symbols; s; s = s->later) {
+        if (s->is_copied && !s->output) make_copy(s);
+        if (s->has_stub) make_import(s);
+    }
+}
+
+/* Leaves an entry of the GOT to the dynamic linker, or what of it is not known here. */
+void fill_entry(struct symbol *s, const struct entry *e) {
+    struct linker_utils_word_types words;
+    bool is_bound = !s || !s->is_imported;
+    if (!is_dynamic || (is_bound && s && !is_here(s)) ||
+        linker_utils_dynamic_words(machine, e->class, is_bound, linked.is_executable, &words) ||
+        (linked.is_fixed && words.first == types.relative))
+        return;
+    if (words.first) add_row(got, e->offset, words.first, s, e->addend);
+    if (words.second) add_row(got, e->offset + 8, words.second, s, e->addend);
+}
+
+/* Adds a name, and returns its offset among them. The first is empty. */
+static uint32_t name_of(const char *text) {
+    uint64_t at = make_room(dynstr, 1, strlen(text) + 1);
+    memcpy(dynstr->bytes + at, text, strlen(text) + 1);
+    return (uint32_t)at;
+}
+
+static uint32_t gnu_hash(const char *name) {
+    uint32_t hash = 5381;
+    for (; *name; name++) hash = hash * 33 + (unsigned char)*name;
+    return hash;
+}
+
+static uint32_t elf_hash(const char *name) {
+    uint32_t hash = 0;
+    for (; *name; name++) {
+        hash = (hash << 4) + (unsigned char)*name;
+        hash = (hash ^ (hash >> 28 << 4)) & 0xfffffff;
+    }
+    return hash;
+}
+
+/* How many buckets the table of hashes has, and how many words of bits. */
+static uint32_t buckets_len(void) { return (uint32_t)(listed_len - imports_len) / 4 + 1; }
+
+static uint32_t bits_len(void) {
+    uint32_t len = 1;
+    while (len < (listed_len - imports_len) / 8) len *= 2;
+    return len;
+}
+
+static int by_bucket(const void *left, const void *right) {
+    const struct symbol *a = *(struct symbol *const *)left, *b = *(struct symbol *const *)right;
+    uint32_t first = gnu_hash(a->name) % buckets_len(), second = gnu_hash(b->name) % buckets_len();
+    return first != second ? (first < second ? -1 : 1) : strcmp(a->name, b->name);
+}
+
+/* Writes the hashes of the symbols that others may see. A bit of each of two numbers in a word, and
+ * the first of each bucket; of the last one of a bucket the hash is odd. */
+static void write_hashes(void) {
+    uint32_t *head = (uint32_t *)hash_table->bytes, count = buckets_len(), words = bits_len();
+    uint32_t *buckets = head + 4 + 2 * words, *chain = buckets + count;
+    uint64_t *bits = (uint64_t *)(head + 4);
+    head[0] = count;
+    head[1] = (uint32_t)imports_len;
+    head[2] = words;
+    head[3] = 26;
+    for (size_t i = imports_len; i < listed_len; i++) {
+        uint32_t hash = gnu_hash(listed[i]->name), at = hash % count;
+        bits[hash / 64 % words] |= UINT64_C(1) << hash % 64 | UINT64_C(1) << (hash >> 26) % 64;
+        if (!buckets[at]) buckets[at] = (uint32_t)i;
+        bool is_last = i + 1 == listed_len || gnu_hash(listed[i + 1]->name) % count != at;
+        chain[i - imports_len] = (hash & ~1u) | is_last;
+    }
+}
+
+/* Writes the versions that are asked for of each library, and numbers them. */
+static void write_needed(uint16_t number) {
+    uint64_t last = 0;
+    for (struct library *l = libraries; l; l = l->next) {
+        Elf64_Verneed head = {.vn_version = VER_NEED_CURRENT, .vn_file = l->name_at,
+                              .vn_aux = sizeof head};
+        uint64_t at = verneed->len, next = at;
+        for (size_t i = 0; i <= MOST_VERSIONS; i++) {
+            if (!l->numbers[i]) continue;
+            if (!head.vn_cnt) next = make_room(verneed, 4, sizeof head) + sizeof head;
+            head.vn_cnt++;
+            Elf64_Vernaux aux = {.vna_hash = elf_hash(l->versions[i]), .vna_other = number++,
+                                 .vna_name = name_of(l->versions[i]), .vna_next = sizeof aux};
+            l->numbers[i] = aux.vna_other;
+            next = make_room(verneed, 4, sizeof aux);
+            memcpy(verneed->bytes + next, &aux, sizeof aux);
+        }
+        if (!head.vn_cnt) continue;
+        verneed->info++;
+        memset(verneed->bytes + next + offsetof(Elf64_Vernaux, vna_next), 0, 4);
+        memcpy(verneed->bytes + at, &head, sizeof head);
+        uint32_t distance = (uint32_t)(at - last);
+        if (at) memcpy(verneed->bytes + last + offsetof(Elf64_Verneed, vn_next), &distance, 4);
+        last = at;
+    }
+}
+
+/* Whether a symbol is in the table: of another file, or one that other files find here. */
+static bool is_in_table(const struct symbol *s, bool is_import) {
+    if (is_import) return s->is_imported && !s->definition && !s->is_canonical;
+    return s->is_canonical || (s->is_exported && (s->output || s->elf.st_shndx == SHN_ABS));
+}
+
+/* Whether a symbol is looked up with the version that its library has. */
+static bool has_version(const struct symbol *s) {
+    return s->library && (s->is_imported || s->is_copied) && s->version > VER_NDX_GLOBAL;
+}
+
+/* Lists the dynamic symbols, numbers them, and says which versions they require. */
+static void list_dynamic(void) {
+    for (int is_import = 1; is_import >= 0; is_import--) {
+        imports_len = is_import ? 1 : listed_len;
+        for (struct symbol *s = symbols; s; s = s->later) {
+            if (!is_in_table(s, is_import)) continue;
+            listed = grow(listed, listed_len + 1, &listed_room, sizeof *listed);
+            listed[listed_len++] = s;
+            if (has_version(s)) s->library->numbers[s->version] = 1;
+        }
+    }
+    if (listed_len > imports_len)
+        qsort(listed + imports_len, listed_len - imports_len, sizeof *listed, by_bucket);
+    write_needed(2);
+    make_room(dynsym, 8, sizeof(Elf64_Sym));
+    for (size_t i = 1; i < listed_len; i++) {
+        Elf64_Sym elf = {.st_name = name_of(listed[i]->name)};
+        uint64_t at = make_room(dynsym, 8, sizeof elf);
+        memcpy(dynsym->bytes + at, &elf, sizeof elf);
+        ((struct symbol *)listed[i])->dynamic = (uint32_t)i;
+    }
+    make_room(hash_table, 8, 16 + 8 * bits_len() + 4 * (buckets_len() + listed_len - imports_len));
+    if (verneed->len) make_room(versym, 2, 2 * listed_len);
+}
+
+/* An entry of `.dynamic`, at the place that is next. */
+static uint64_t entries_len;
+
+static void put_entry(int64_t tag, uint64_t value) {
+    Elf64_Dyn entry = {.d_tag = tag, .d_un.d_val = value};
+    uint64_t at = entries_len++ * sizeof entry;
+    if (at == dynamic->len) make_room(dynamic, 8, sizeof entry);
+    memcpy(dynamic->bytes + at, &entry, sizeof entry);
+}
+
+/* An array of functions: with priorities it is several sections, one behind the other. */
+static void put_array(int64_t tag, int64_t size, const char *name) {
+    uint64_t start = UINT64_MAX, end = 0;
+    for (size_t i = 0; i < outputs_len; i++) {
+        const struct output *o = outputs[i];
+        if (!o->len || strncmp(o->name, name, strlen(name))) continue;
+        if (o->address < start) start = o->address;
+        if (o->address + o->len > end) end = o->address + o->len;
+    }
+    if (end) put_entry(tag, start), put_entry(size, end - start);
+}
+
+static void put_function(int64_t tag, const char *name) {
+    const struct symbol *s = *global(name);
+    if (s && s->output) put_entry(tag, address_of(s->output, s->offset));
+}
+
+/* Makes the entries, or writes them once addresses are known. */
+static void put_entries(void) {
+    static uint32_t name;
+    uint64_t relative = 0, flags = DF_BIND_NOW;
+    if (own_name && !name) name = name_of(own_name);
+    entries_len = 0;
+    for (const struct library *l = libraries; l; l = l->next) put_entry(DT_NEEDED, l->name_at);
+    if (name) put_entry(DT_SONAME, name);
+    put_function(DT_INIT, "_init");
+    put_function(DT_FINI, "_fini");
+    if (linked.is_executable) put_array(DT_PREINIT_ARRAY, DT_PREINIT_ARRAYSZ, ".preinit_array");
+    put_array(DT_INIT_ARRAY, DT_INIT_ARRAYSZ, ".init_array");
+    put_array(DT_FINI_ARRAY, DT_FINI_ARRAYSZ, ".fini_array");
+    put_entry(DT_GNU_HASH, hash_table->address);
+    put_entry(DT_STRTAB, dynstr->address);
+    put_entry(DT_STRSZ, dynstr->len);
+    put_entry(DT_SYMTAB, dynsym->address);
+    put_entry(DT_SYMENT, sizeof(Elf64_Sym));
+    for (const struct dynamic_row *row = rows; row < rows + rows_len; row++) {
+        relative += row->type == types.relative;
+        if (!linked.is_executable && row->type == types.thread_offset) flags |= DF_STATIC_TLS;
+    }
+    if (rows_len) {
+        put_entry(DT_RELA, rela_dyn->address);
+        put_entry(DT_RELASZ, rela_dyn->len);
+        put_entry(DT_RELAENT, sizeof(Elf64_Rela));
+        put_entry(DT_RELACOUNT, relative);
+    }
+    if (verneed->len) {
+        put_entry(DT_VERSYM, versym->address);
+        put_entry(DT_VERNEED, verneed->address);
+        put_entry(DT_VERNEEDNUM, verneed->info);
+    }
+    if (linked.is_executable) put_entry(DT_DEBUG, 0);
+    put_entry(DT_FLAGS, flags);
+    put_entry(DT_FLAGS_1, DF_1_NOW | (linked.is_executable && !linked.is_fixed ? DF_1_PIE : 0));
+    put_entry(DT_NULL, 0);
+}
+
+/* Makes all that is in the tables but for addresses. */
+void make_dynamic(void) {
+    uint8_t path[LINKER_UTILS_NAME_SIZE + 1] = {0};
+    size_t used = 0;
+    if (interpreter) {
+        if (linker_utils_interpreter(machine, machine_flags, path, sizeof path - 1, &used))
+            fail("no dynamic linker is known for such objects");
+        make_room(interpreter, 1, used + 1);
+        memcpy(interpreter->bytes, path, used);
+    }
+    name_of("");
+    for (struct library *l = libraries; l; l = l->next) l->name_at = name_of(l->name);
+    list_dynamic();
+    make_room(rela_dyn, 8, rows_len * sizeof(Elf64_Rela));
+    put_entries();
+}
+
+/* Those without a symbol first, and at last those that call functions. */
+static int by_symbol(const void *left, const void *right) {
+    const Elf64_Rela *a = left, *b = right;
+    uint32_t first = ELF64_R_TYPE(a->r_info), second = ELF64_R_TYPE(b->r_info);
+    int order = (first == types.irelative) - (second == types.irelative);
+    if (!order) order = (second == types.relative) - (first == types.relative);
+    if (order) return order;
+    if (first != types.relative && a->r_info != b->r_info) return a->r_info < b->r_info ? -1 : 1;
+    return a->r_offset < b->r_offset ? -1 : a->r_offset > b->r_offset;
+}
+
+/* What a word is relative to: the symbol, the image of thread-local storage, or nothing. */
+static uint64_t addend_of(const struct dynamic_row *row) {
+    const struct symbol *s = row->symbol;
+    if (row->type == types.module_number) return 0;
+    if (s && (s->is_imported || row->type == types.copy)) return (uint64_t)row->addend;
+    uint64_t at = (s ? address_of(s->output, s->offset) : 0) + (uint64_t)row->addend;
+    bool is_offset = row->type == types.thread_offset || row->type == types.module_offset;
+    return is_offset || row->type == types.descriptor ? at - tls.image : at;
+}
+
+/* Writes the tables, once all addresses are known. Whether a symbol is of a kind that only GNU's
+ * systems know. */
+bool write_dynamic(void) {
+    bool is_of_gnu = false;
+    Elf64_Rela *to = (Elf64_Rela *)rela_dyn->bytes;
+    for (const struct dynamic_row *row = rows; row < rows + rows_len; row++, to++) {
+        const struct symbol *s = row->symbol, *seen = s && s->definition ? s->definition : s;
+        bool has_symbol = s && (s->is_imported || row->type == types.copy);
+        to->r_offset = address_of(row->output, row->offset);
+        to->r_info = ELF64_R_INFO((uint64_t)(has_symbol ? seen->dynamic : 0), row->type);
+        to->r_addend = (int64_t)addend_of(row);
+    }
+    if (rows_len) qsort(rela_dyn->bytes, rows_len, sizeof(Elf64_Rela), by_symbol);
+    Elf64_Sym *elf = (Elf64_Sym *)dynsym->bytes + 1;
+    for (size_t i = 1; i < listed_len; i++, elf++) {
+        const struct symbol *s = listed[i];
+        uint32_t name = elf->st_name;
+        *elf = symbol_of(s);
+        elf->st_name = name;
+        if (s->is_imported) elf->st_shndx = SHN_UNDEF;
+        if (s->is_imported && s->library)
+            elf->st_info =
+                ELF64_ST_INFO(ELF64_ST_BIND(elf->st_info), ELF64_ST_TYPE(s->there.st_info));
+        is_of_gnu |= ELF64_ST_TYPE(elf->st_info) == STT_GNU_IFUNC ||
+                     ELF64_ST_BIND(elf->st_info) == STB_GNU_UNIQUE;
+        if (!verneed->len) continue;
+        uint16_t number = has_version(s) ? s->library->numbers[s->version] : VER_NDX_GLOBAL;
+        memcpy(versym->bytes + 2 * i, &number, sizeof number);
+    }
+    write_hashes();
+    put_entries();
+    return is_of_gnu;
+}

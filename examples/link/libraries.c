@@ -1,0 +1,95 @@
+/* Shared libraries: what they define, of which versions, and what they refer to. */
+#include "link.h"
+
+struct library *libraries;
+static struct library **libraries_end = &libraries;
+
+/* Bytes of a section, which have to be in it. */
+static const uint8_t *bytes_in(const struct library *l, const Elf64_Shdr *head, uint64_t at,
+                               uint64_t len) {
+    if (at > head->sh_size || len > head->sh_size - at)
+        fail("%s: %s: it ends too early", l->file.path,
+             l->file.sections[head - l->file.heads].name);
+    return l->file.bytes + head->sh_offset + at;
+}
+
+/* A name in the section of names of another section. */
+static const char *name_in(const struct library *l, const Elf64_Shdr *head, uint64_t at) {
+    const struct object *o = &l->file;
+    const Elf64_Shdr *names = &o->heads[head->sh_link < o->sections_len ? head->sh_link : 0];
+    uint64_t len = names->sh_type == SHT_STRTAB && at < names->sh_size ? names->sh_size - at : 0;
+    if (!len || !memchr(o->bytes + names->sh_offset + at, 0, len))
+        fail("%s: %s: a name that is not there", o->path, o->sections[head - o->heads].name);
+    return (const char *)o->bytes + names->sh_offset + at;
+}
+
+/* The names of the versions that a library defines, by their numbers. The first is its own name. */
+static void read_versions(struct library *l, const Elf64_Shdr *head) {
+    Elf64_Verdef version = {.vd_next = 0};
+    Elf64_Verdaux name;
+    uint64_t at = 0;
+    for (uint32_t left = head->sh_info; left; left = version.vd_next ? left - 1 : 0) {
+        memcpy(&version, bytes_in(l, head, at, sizeof version), sizeof version);
+        memcpy(&name, bytes_in(l, head, at + version.vd_aux, sizeof name), sizeof name);
+        l->versions[version.vd_ndx & MOST_VERSIONS] = name_in(l, head, name.vda_name);
+        at += version.vd_next;
+    }
+    l->versions[VER_NDX_LOCAL] = l->versions[VER_NDX_GLOBAL] = NULL;
+}
+
+/* Offers what a library defines, but for versions that only old programs ask for. */
+static void read_dynamic_symbols(struct library *l, const Elf64_Shdr *head,
+                                 const Elf64_Shdr *versions) {
+    const Elf64_Sym *elf = l->elf = copy_table(&l->file, head, sizeof *elf, &l->len);
+    l->symbols = take(l->len, sizeof *l->symbols);
+    for (size_t i = 0; i < l->len; i++, elf++) {
+        uint16_t version = VER_NDX_GLOBAL;
+        if (versions) memcpy(&version, bytes_in(l, versions, 2 * i, 2), 2);
+        const char *name = name_in(l, head, elf->st_name);
+        bool is_hidden = version & ~MOST_VERSIONS || version == VER_NDX_LOCAL;
+        if (ELF64_ST_BIND(elf->st_info) == STB_LOCAL || (elf->st_shndx && is_hidden)) continue;
+        if (version > VER_NDX_GLOBAL && elf->st_shndx && !l->versions[version])
+            fail("%s: %s: '%s' is of a version that is not there", l->file.path,
+                 l->file.sections[head - l->file.heads].name, name);
+        l->symbols[i] = offer_import(name, elf->st_shndx ? l : NULL, elf, version);
+    }
+}
+
+void read_library(struct object file) {
+    struct library *l = take(1, sizeof *l);
+    const Elf64_Shdr *symbols = NULL, *versions = NULL;
+    uint32_t joined;
+    *l = (struct library){.file = file, .versions = take(MOST_VERSIONS + 1, sizeof *l->versions),
+                          .numbers = take(MOST_VERSIONS + 1, sizeof *l->numbers)};
+    l->name = strrchr(file.path, '/') ? strrchr(file.path, '/') + 1 : file.path;
+    *libraries_end = l;
+    libraries_end = &l->next;
+    read_heads(&l->file, ET_DYN, "not a shared library of little-endian ELF64");
+    demand(&l->file,
+           !objects || !linker_utils_join_flags(machine, machine_flags, l->file.flags, &joined),
+           "of another ABI than those before it");
+    for (size_t i = 0; i < l->file.sections_len; i++) {
+        const Elf64_Shdr *head = &l->file.heads[i];
+        if (head->sh_type == SHT_DYNSYM) symbols = head;
+        if (head->sh_type == SHT_GNU_versym) versions = head;
+        if (head->sh_type == SHT_GNU_verdef) read_versions(l, head);
+        for (uint64_t at = 0; head->sh_type == SHT_DYNAMIC && at < head->sh_size; at += 16) {
+            Elf64_Dyn entry;
+            memcpy(&entry, bytes_in(l, head, at, sizeof entry), sizeof entry);
+            if (entry.d_tag == DT_NULL) break;
+            if (entry.d_tag == DT_SONAME) l->name = name_in(l, head, entry.d_un.d_val);
+        }
+    }
+    demand(&l->file, symbols, "a shared library without dynamic symbols");
+    read_dynamic_symbols(l, symbols, versions);
+}
+
+/* The alignment of a variable of a library, by its address and its section. */
+uint64_t import_align(const struct symbol *s) {
+    uint64_t align = s->there.st_value & -s->there.st_value, most = 64;
+    const struct object *o = &s->library->file;
+    if (s->there.st_shndx < o->sections_len) most = o->heads[s->there.st_shndx].sh_addralign;
+    if (!most || most & (most - 1) || most > MOST_ALIGN)
+        fail("%s: .dynsym: '%s' can't be aligned so", o->path, s->name);
+    return align && align < most ? align : most;
+}

@@ -1,0 +1,21 @@
+CREATE TABLE words (id INTEGER PRIMARY KEY, word TEXT, length INT, weight REAL);
+CREATE INDEX by_length ON words (length, word);
+BEGIN;
+WITH RECURSIVE numbers(n) AS (SELECT 1 UNION ALL SELECT n + 1 FROM numbers WHERE n < 2000)
+INSERT INTO words SELECT n, printf('w%04d', n * 7919 % 2003), n % 13, n / 3.0 FROM numbers;
+COMMIT;
+SELECT count(*), sum(length), round(avg(weight), 6), min(word), max(word) FROM words;
+SELECT length, count(*), group_concat(id, '+') FROM words WHERE id < 60 GROUP BY length HAVING count(*) > 4;
+SELECT a.word, b.id FROM words a JOIN words b ON a.length = b.length AND b.id = a.id * 14 LIMIT 5;
+SELECT id, sum(weight) OVER (ORDER BY id ROWS 3 PRECEDING) FROM words WHERE id % 500 = 0;
+CREATE TRIGGER gone AFTER DELETE ON words BEGIN INSERT INTO words VALUES (-old.id, 'gone', 0, 0); END;
+DELETE FROM words WHERE id IN (3, 5);
+SELECT id, word FROM words WHERE id < 5;
+SELECT json_extract('{"a":[1,{"b":"two"}]}', '$.a[1].b'), json_array(1, 2.5, 'x');
+SELECT date('2020-02-28', '+2 days'), strftime('%j', '2021-12-31'), hex(zeroblob(3)), abs(-7.5), 1e15 / 7;
+SELECT quote(x'00ff'), like('A%', 'abc'), unicode('ä'), replace('aXbX', 'X', '--'), instr('abc', 'c');
+SAVEPOINT one; UPDATE words SET weight = 0; ROLLBACK TO one;
+SELECT total(weight) > 0 FROM words;
+SELECT nothing FROM words;
+PRAGMA integrity_check;
+EXPLAIN QUERY PLAN SELECT * FROM words WHERE length = 3 AND word > 'w1';
