@@ -31,10 +31,11 @@
  *   parts of one section at once, each through a slice that no other overlaps.
  * - With such pointers and counts each call is defined, whatever the numbers and bytes.
  * - A call that returns `uint32_t` returns a status of `enum linker_utils_status`. With any except
- *   `LINKER_UTILS_OK` it has written nothing, except for `faulty` and `memory`, and for what
- *   `linker_utils_relocate_all` and `linker_utils_deltas_create_in_one_pass` write before the entry
- *   that they reject. Where several statuses apply, the first in the order that the call names is
- *   returned. A call that returns anything else can't fail.
+ *   `LINKER_UTILS_OK` it has written nothing, except for `faulty`, `memory`, `decisions` and
+ *   `deleted`, and for what `linker_utils_relocate_all` and
+ *   `linker_utils_deltas_create_in_one_pass` write before the entry that they reject. Where several
+ *   statuses apply, the first in the order that the call names is returned. A call that returns
+ *   anything else can't fail.
  * - `faulty` may be null. If the status is about one entry of an array, the index of that entry is
  *   written there; with any other status nothing is.
  * - Only a call that may return `LINKER_UTILS_OUT_OF_MEMORY` allocates, and for their speed
@@ -399,15 +400,6 @@ static inline uint32_t linker_utils_deltas_create(
     const struct linker_utils_deletion *deletions, size_t deletions_len,
     struct linker_utils_delta *deltas, size_t deltas_len, size_t *faulty);
 
-/* Whether the deltas are valid: they list deletions that `linker_utils_deltas_create` accepts, each
- * with the sum of the bytes up to it. O(n). */
-static inline bool linker_utils_has_valid_deltas(const struct linker_utils_delta *deltas,
-                                                 size_t deltas_len);
-
-/* The sum of the bytes of all deletions. */
-static inline uint64_t linker_utils_deltas_total_deleted(const struct linker_utils_delta *deltas,
-                                                         size_t deltas_len);
-
 /* The offset in the output section of what is at an input offset: how many kept bytes are below it.
  * For an offset inside a deletion it is that of what follows the deletion. The search takes O(log
  * n). */
@@ -530,14 +522,21 @@ static inline uint32_t linker_utils_relocate_section(
     size_t relocations_len, const struct linker_utils_symbol *symbols, size_t symbols_len,
     uint8_t *section, size_t section_len, uint64_t *memory, size_t memory_len, size_t *faulty);
 
-/* ---- Rewriting: the instructions of a section in one call, before addresses are known.
+/* ---- Rewriting: the instructions of a section in one call, in each of four phases.
  *
  * Relocations and symbols are as in the calls for sections. A linker says what it knows of symbols
  * and of the output, and the library which instructions are rewritten: all of a group or none. The
  * relocations of a group are those of one kind and one symbol in an object, whatever their addends;
- * of local-dynamic TLS all of an object. First `linker_utils_survey` of each section of code of an
- * object notes which groups stay, then `linker_utils_rewrite_section` rewrites each of them. What
- * these calls leave, a linker may rewrite by `linker_utils_choose`. */
+ * of local-dynamic TLS all of an object. Those of one label of RISC-V in a section are a group too,
+ * which needs no survey. First a survey of each section of code notes which groups stay, then each of
+ * them is rewritten. Before addresses are known the calls are `linker_utils_survey` and
+ * `linker_utils_rewrite_section`. Once they are, `linker_utils_survey_placed_section` and
+ * `linker_utils_rewrite_placed_section` do so for each later phase, in the order of
+ * `enum linker_utils_phase`. What is left a linker may rewrite by `linker_utils_choose`. */
+
+/* Whether an architecture has rewrites in a phase. In one without them a linker surveys and
+ * rewrites nothing: each relocation would stay. False of a machine or a phase that isn't known. */
+bool linker_utils_has_rewrites(uint16_t machine, uint32_t phase);
 
 /* What a linker knows of a symbol once names are resolved. All are false at index 0, which is no
  * symbol. */
@@ -567,10 +566,15 @@ struct linker_utils_kept_groups {
     bool got_load; /* PowerPC64's loads of an address from the GOT by its two halves */
 };
 
-/* All except `fate` is 0 where that isn't LINKER_UTILS_FATE_REWRITTEN. */
+/* What becomes of a relocation and of its instruction. All except `fate` is 0 where the instruction
+ * isn't rewritten. */
 struct linker_utils_decision {
+    /* What the relocation gets before the rewrite with LINKER_UTILS_FATE_REDIRECTED; else 0. */
+    int64_t addend;
+    uint32_t symbol;
     uint32_t rewrite; /* by the machine's enum of rewrites */
     uint32_t relocation; /* the relocation's type after it */
+    uint16_t machine; /* whose rewrite it is */
     uint8_t fate; /* `enum linker_utils_fate` */
     uint8_t opcode_len; /* as in `struct linker_utils_choice` */
 };
@@ -591,22 +595,62 @@ static inline uint32_t linker_utils_survey(
  * known, and turns its relocations into those after it. Of one that goes the type becomes 0, so
  * that indexes stay. No byte is deleted. `kept` is what `linker_utils_survey` noted of all sections
  * of code of the object, with the same facts. What became of each relocation is in `decisions`,
- * whose elements from the number of relocations on are unchanged. A relocation of a symbol that
- * isn't in the array isn't rewritten. O(n) for n relocations. It allocates memory for its own copy
- * of the decisions.
+ * which has an element for each relocation, and need not be initialised; further elements are
+ * unchanged. A relocation of a symbol that isn't in the array isn't rewritten. O(n) for n
+ * relocations. It doesn't allocate.
  *
  * LINKER_UTILS_UNKNOWN_ARCHITECTURE; LINKER_UTILS_SHORT_MEMORY where there are fewer decisions than
- * relocations; LINKER_UTILS_OUT_OF_MEMORY. Else the status is that of the first relocation that it
- * doesn't accept, `faulty`: LINKER_UTILS_NOT_SURVEYED; LINKER_UTILS_OVERLAPS where the bytes of its
- * rewrite overlap those of one before it, or lie below them. So the relocations of instructions that
- * can be rewritten have to ascend by offset. With any status except LINKER_UTILS_OK all is
- * unchanged. */
+ * relocations. Else the status is that of the first relocation that it doesn't accept, `faulty`:
+ * LINKER_UTILS_NOT_SURVEYED; LINKER_UTILS_OVERLAPS where the bytes of its rewrite overlap those of
+ * one before it, or lie below them. So the relocations of instructions that can be rewritten have to
+ * ascend by offset. With any status except LINKER_UTILS_OK the section and its relocations are
+ * unchanged. Then the decisions before `faulty` are made, and those from there on aren't specified. */
 static inline uint32_t linker_utils_rewrite_section(
     uint16_t machine, const struct linker_utils_output_facts *output,
     const struct linker_utils_symbol_facts *symbols, size_t symbols_len,
     const struct linker_utils_kept_groups *kept, size_t kept_len, uint8_t *relocations,
     size_t relocations_len, uint8_t *section, size_t section_len,
     struct linker_utils_decision *decisions, size_t decisions_len, size_t *faulty);
+
+/* Notes in `kept` which groups of an object stay in a phase once addresses are known, as
+ * `linker_utils_survey` does before. So do those with a distance out of reach or an instruction
+ * without a mark. Each phase has an array of its own, which begins with all false. `symbols` and
+ * `values` both have the object's symbols at the indexes that its relocations name.
+ * LINKER_UTILS_UNKNOWN_ARCHITECTURE; LINKER_UTILS_UNKNOWN_PHASE. */
+static inline uint32_t linker_utils_survey_placed_section(
+    uint16_t machine, uint32_t phase, const struct linker_utils_output_facts *output,
+    const struct linker_utils_symbol_facts *symbols, size_t symbols_len,
+    const struct linker_utils_addresses *addresses, const struct linker_utils_symbol *values,
+    size_t values_len, const uint8_t *relocations, size_t relocations_len, const uint8_t *section,
+    size_t section_len, struct linker_utils_kept_groups *kept, size_t kept_len);
+
+/* Rewrites the instructions of a section of code in a phase once addresses are known, and turns its
+ * relocations into those after it, as `linker_utils_rewrite_section` does before. `kept` is what
+ * `linker_utils_survey_placed_section` noted of all sections of code of the object in the phase, with
+ * the same facts and addresses. Each address has to be that by which values are written later, or
+ * differ from it by less than the reach that is left. A linker that deletes bytes afterwards makes
+ * distances shorter, never longer.
+ *
+ * What is to be deleted is in the first `deleted_used` elements of `deleted`, ascending, as
+ * `linker_utils_deltas_create` takes it. They are bytes of the section, apart from each other and
+ * from all that is rewritten, and still there. Only LINKER_UTILS_PHASE_THREAD_OFFSETS has any, at most one for
+ * each relocation. Further elements of `deleted` are unchanged, and it need not be initialised. It
+ * may be null where there are none.
+ *
+ * LINKER_UTILS_UNKNOWN_ARCHITECTURE; LINKER_UTILS_UNKNOWN_PHASE; LINKER_UTILS_SHORT_MEMORY where
+ * there are fewer decisions than relocations; LINKER_UTILS_NOT_SURVEYED and LINKER_UTILS_OVERLAPS as
+ * above, of the relocation `faulty`; and LINKER_UTILS_SHORT_MEMORY where `deleted` has fewer elements
+ * than there are deletions. With any status except LINKER_UTILS_OK the section, its relocations and
+ * `deleted_used` are unchanged. */
+static inline uint32_t linker_utils_rewrite_placed_section(
+    uint16_t machine, uint32_t phase, const struct linker_utils_output_facts *output,
+    const struct linker_utils_symbol_facts *symbols, size_t symbols_len,
+    const struct linker_utils_addresses *addresses, const struct linker_utils_symbol *values,
+    size_t values_len, const struct linker_utils_kept_groups *kept, size_t kept_len,
+    uint8_t *relocations, size_t relocations_len, uint8_t *section, size_t section_len,
+    struct linker_utils_decision *decisions, size_t decisions_len,
+    struct linker_utils_deletion *deleted, size_t deleted_len, size_t *deleted_used,
+    size_t *faulty);
 
 /* ---- Reading back: what a linker wrote, from the linked bytes.
  *
@@ -645,27 +689,6 @@ struct linker_utils_field_value {
 static inline uint32_t linker_utils_read_value(uint16_t machine, uint32_t r_type,
                                                const uint8_t *bytes, size_t bytes_len,
                                                struct linker_utils_field_value *value);
-
-/* What is known of the address that a value comes from, into `address`, and which address it is, by
- * `enum linker_utils_reference`, into `reference`: the inverse of `linker_utils_value`. `value` is
- * what is known of the value, as `linker_utils_read_value` returns it. Of the operands only
- * `place`, `got_base` and `tls_base` are read, whichever the formula takes off. Of
- * R_RISCV_PCREL_LO12_* the place is that of the high part.
- *
- * With these operands an address has the bits of `address` exactly where its value has those of
- * `value`, and the same bits are known. The bias of the relocation is taken off. Where bit 0 is
- * known the rounding is 0. Where the formula takes the page of the address, bits 12 and up are
- * known. The rounding then is the bias less the page of the place or of the GOT.
- *
- * LINKER_UTILS_BAD_FIELD_VALUE where `value` isn't one that the library returns: no bits are known,
- * or some above bit 63, or `bits` has others. LINKER_UTILS_NO_ADDRESS of a relocation without a
- * value or without bytes, and of one that is computed from a size, adds or subtracts, or is at a
- * ULEB128 number. LINKER_UTILS_NO_ADDRESS too of LoongArch's upper halves of 64-bit addresses, and
- * where the formula takes the page of the address and `value` is known from below bit 12. */
-uint32_t linker_utils_solve(uint16_t machine, uint32_t r_type,
-                            const struct linker_utils_field_value *value,
-                            const struct linker_utils_operands *operands, uint32_t *reference,
-                            struct linker_utils_field_value *address);
 
 #include "linker_utils_further.h"
 #include "linker_utils_inline.h"

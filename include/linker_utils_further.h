@@ -435,6 +435,15 @@ static inline uint32_t linker_utils_read_uleb128(const uint8_t *bytes, size_t by
 
 /* ---- Deletions, further calls. */
 
+/* Whether the deltas are valid: they list deletions that `linker_utils_deltas_create` accepts, each
+ * with the sum of the bytes up to it. O(n). */
+static inline bool linker_utils_has_valid_deltas(const struct linker_utils_delta *deltas,
+                                                 size_t deltas_len);
+
+/* The sum of the bytes of all deletions. */
+static inline uint64_t linker_utils_deltas_total_deleted(const struct linker_utils_delta *deltas,
+                                                         size_t deltas_len);
+
 /* LINKER_UTILS_OK where `linker_utils_deltas_create` takes the deletions: their offsets strictly
  * ascend, none reaches past the offset of the next, and each ends at 2^64 - 1 or below. Otherwise
  * LINKER_UTILS_INVALID_DELETIONS, and `faulty` is the first that ends past that or is not past the
@@ -829,7 +838,29 @@ static inline uint32_t linker_utils_pack_run(
     const struct linker_utils_delta *deltas, size_t deltas_len, uint64_t start, uint8_t *packed,
     size_t packed_len, size_t *faulty);
 
-/* ---- Reading back: halves of an address, and which rewrite was made. */
+/* ---- Reading back: the address that a value comes from, halves of one, and which rewrite was
+ * made. */
+
+/* What is known of the address that a value comes from, into `address`, and which address it is, by
+ * `enum linker_utils_reference`, into `reference`: the inverse of `linker_utils_value`. `value` is
+ * what is known of the value, as `linker_utils_read_value` returns it. Of the operands only
+ * `place`, `got_base` and `tls_base` are read, whichever the formula takes off. Of
+ * R_RISCV_PCREL_LO12_* the place is that of the high part.
+ *
+ * With these operands an address has the bits of `address` exactly where its value has those of
+ * `value`, and the same bits are known. The bias of the relocation is taken off. Where bit 0 is
+ * known the rounding is 0. Where the formula takes the page of the address, bits 12 and up are
+ * known. The rounding then is the bias less the page of the place or of the GOT.
+ *
+ * LINKER_UTILS_BAD_FIELD_VALUE where `value` isn't one that the library returns: no bits are known,
+ * or some above bit 63, or `bits` has others. LINKER_UTILS_NO_ADDRESS of a relocation without a
+ * value or without bytes, and of one that is computed from a size, adds or subtracts, or is at a
+ * ULEB128 number. LINKER_UTILS_NO_ADDRESS too of LoongArch's upper halves of 64-bit addresses, and
+ * where the formula takes the page of the address and `value` is known from below bit 12. */
+uint32_t linker_utils_solve(uint16_t machine, uint32_t r_type,
+                            const struct linker_utils_field_value *value,
+                            const struct linker_utils_operands *operands, uint32_t *reference,
+                            struct linker_utils_field_value *address);
 
 /* What is known of an address from both halves of a pair, as `linker_utils_solve` returns them:
  * adrp and add, auipc and addi, addis and addi, pcalau12i and addi.d. A number has the bits of
@@ -880,8 +911,9 @@ struct linker_utils_recognised {
  * relocation at an offset of them, into `window`. It is the least one with the bytes of each choice
  * of its table that is meant for what is there. They are those that the rewrite writes and deletes,
  * and the field of the relocation after it. A choice whose bytes aren't all given isn't counted:
- * give 16 before the offset and 48 from there on, or those that there are. It is empty where no
- * choice has its bytes there. LINKER_UTILS_UNKNOWN_ARCHITECTURE. LINKER_UTILS_WINDOW_TOO_LONG. */
+ * give 16 before the offset and 48 from there on, or those that there are. Where no choice has its
+ * bytes there the status is LINKER_UTILS_OK, and `back` and `len` are 0.
+ * LINKER_UTILS_UNKNOWN_ARCHITECTURE. LINKER_UTILS_WINDOW_TOO_LONG. */
 static inline uint32_t linker_utils_recognise_window(uint16_t machine, uint32_t r_type,
                                                      const uint8_t *original, size_t original_len,
                                                      uint64_t offset,
@@ -905,8 +937,8 @@ static inline uint32_t linker_utils_recognise_window(uint16_t machine, uint32_t 
  *   where it leaves the linked bytes so.
  *
  * LINKER_UTILS_UNKNOWN_ARCHITECTURE. LINKER_UTILS_DIFFERENT_LENGTHS where `found_len` is not
- * LINKER_UTILS_CANDIDATES. LINKER_UTILS_WINDOW_TOO_LONG. A type that the library doesn't know has
- * NO_OP only. */
+ * LINKER_UTILS_CANDIDATES. LINKER_UTILS_WINDOW_TOO_LONG. Where nothing is found the status is
+ * LINKER_UTILS_OK, and `count` is 0. A type that the library doesn't know has NO_OP only. */
 static inline uint32_t linker_utils_recognise(
     uint16_t machine, uint32_t r_type, const uint8_t *original, size_t original_len,
     uint64_t offset, const struct linker_utils_window_bits *others, size_t others_len,
@@ -921,5 +953,29 @@ static inline uint32_t linker_utils_recognise_chosen(
     uint64_t offset, const struct linker_utils_window_bits *others, size_t others_len,
     const uint8_t *linked, size_t linked_len, const struct linker_utils_link_facts *facts,
     struct linker_utils_recognised *found);
+
+/* Where a recognised relocation leads. */
+struct linker_utils_destination {
+    struct linker_utils_field_value address; /* of S + A, L + A, or the GOT entry's */
+    int64_t addend; /* A, of the relocation after the rewrite */
+    uint64_t symbol; /* S, or L of a relocation that goes by an entry of the PLT; or 0 */
+    uint32_t reference; /* which address it is: `enum linker_utils_reference` */
+    /* 1 where `symbol` is known. It isn't of an entry of the GOT, nor where not all bits of the
+     * address are, as of a half of it. */
+    uint8_t has_symbol;
+};
+
+/* Where a relocation leads that `linker_utils_recognise` or `linker_utils_recognise_chosen` found
+ * with the same original bytes and offset, into `destination`. Of the operands the addend is that
+ * before the rewrite, and the place is the address of the field in the linked file; which others are
+ * read `linker_utils_solve` says. LINKER_UTILS_UNKNOWN_ARCHITECTURE; LINKER_UTILS_WINDOW_TOO_LONG;
+ * LINKER_UTILS_UNKNOWN_REWRITE; LINKER_UTILS_NO_ADDRESS of a relocation without a value, of one that
+ * `linker_utils_solve` has no address for, and of a rewrite that isn't meant for what is there. */
+static inline uint32_t linker_utils_destination(uint16_t machine,
+                                                const struct linker_utils_recognised *made,
+                                                const uint8_t *original, size_t original_len,
+                                                uint64_t offset,
+                                                const struct linker_utils_operands *operands,
+                                                struct linker_utils_destination *destination);
 
 #endif

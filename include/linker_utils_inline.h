@@ -213,6 +213,56 @@ static inline uint32_t linker_utils_rewrite_section(
         faulty ? faulty : &ignored);
 }
 
+uint32_t linker_utils_survey_placed_section_nonnull(
+    uint16_t machine, uint32_t phase, const struct linker_utils_output_facts *output,
+    const struct linker_utils_symbol_facts *symbols, size_t symbols_len,
+    const struct linker_utils_addresses *addresses, const struct linker_utils_symbol *values,
+    size_t values_len, const uint8_t *relocations, size_t relocations_len, const uint8_t *section,
+    size_t section_len, struct linker_utils_kept_groups *kept, size_t kept_len);
+static inline uint32_t linker_utils_survey_placed_section(
+    uint16_t machine, uint32_t phase, const struct linker_utils_output_facts *output,
+    const struct linker_utils_symbol_facts *symbols, size_t symbols_len,
+    const struct linker_utils_addresses *addresses, const struct linker_utils_symbol *values,
+    size_t values_len, const uint8_t *relocations, size_t relocations_len, const uint8_t *section,
+    size_t section_len, struct linker_utils_kept_groups *kept, size_t kept_len) {
+    return linker_utils_survey_placed_section_nonnull(
+        machine, phase, output, LINKER_UTILS_SLICE(const struct linker_utils_symbol_facts, symbols),
+        symbols_len, addresses, LINKER_UTILS_SLICE(const struct linker_utils_symbol, values),
+        values_len, LINKER_UTILS_SLICE(const uint8_t, relocations), relocations_len,
+        LINKER_UTILS_SLICE(const uint8_t, section), section_len,
+        LINKER_UTILS_SLICE(struct linker_utils_kept_groups, kept), kept_len);
+}
+
+uint32_t linker_utils_rewrite_placed_section_nonnull(
+    uint16_t machine, uint32_t phase, const struct linker_utils_output_facts *output,
+    const struct linker_utils_symbol_facts *symbols, size_t symbols_len,
+    const struct linker_utils_addresses *addresses, const struct linker_utils_symbol *values,
+    size_t values_len, const struct linker_utils_kept_groups *kept, size_t kept_len,
+    uint8_t *relocations, size_t relocations_len, uint8_t *section, size_t section_len,
+    struct linker_utils_decision *decisions, size_t decisions_len,
+    struct linker_utils_deletion *deleted, size_t deleted_len, size_t *deleted_used,
+    size_t *faulty);
+static inline uint32_t linker_utils_rewrite_placed_section(
+    uint16_t machine, uint32_t phase, const struct linker_utils_output_facts *output,
+    const struct linker_utils_symbol_facts *symbols, size_t symbols_len,
+    const struct linker_utils_addresses *addresses, const struct linker_utils_symbol *values,
+    size_t values_len, const struct linker_utils_kept_groups *kept, size_t kept_len,
+    uint8_t *relocations, size_t relocations_len, uint8_t *section, size_t section_len,
+    struct linker_utils_decision *decisions, size_t decisions_len,
+    struct linker_utils_deletion *deleted, size_t deleted_len, size_t *deleted_used,
+    size_t *faulty) {
+    size_t ignored;
+    return linker_utils_rewrite_placed_section_nonnull(
+        machine, phase, output, LINKER_UTILS_SLICE(const struct linker_utils_symbol_facts, symbols),
+        symbols_len, addresses, LINKER_UTILS_SLICE(const struct linker_utils_symbol, values),
+        values_len, LINKER_UTILS_SLICE(const struct linker_utils_kept_groups, kept), kept_len,
+        LINKER_UTILS_SLICE(uint8_t, relocations), relocations_len,
+        LINKER_UTILS_SLICE(uint8_t, section), section_len,
+        LINKER_UTILS_SLICE(struct linker_utils_decision, decisions), decisions_len,
+        LINKER_UTILS_SLICE(struct linker_utils_deletion, deleted), deleted_len, deleted_used,
+        faulty ? faulty : &ignored);
+}
+
 uint32_t linker_utils_dynamic_name_nonnull(
     uint16_t machine, uint32_t r_type, uint8_t *name, size_t name_len, size_t *name_used);
 static inline uint32_t linker_utils_dynamic_name(
@@ -755,6 +805,23 @@ static inline uint32_t linker_utils_recognise_chosen(
         LINKER_UTILS_SLICE(const struct linker_utils_window_bits, others), others_len,
         LINKER_UTILS_SLICE(const uint8_t, linked), linked_len,
         facts, found);
+}
+
+uint32_t linker_utils_destination_nonnull(uint16_t machine,
+                                          const struct linker_utils_recognised *made,
+                                          const uint8_t *original, size_t original_len,
+                                          uint64_t offset,
+                                          const struct linker_utils_operands *operands,
+                                          struct linker_utils_destination *destination);
+static inline uint32_t linker_utils_destination(uint16_t machine,
+                                                const struct linker_utils_recognised *made,
+                                                const uint8_t *original, size_t original_len,
+                                                uint64_t offset,
+                                                const struct linker_utils_operands *operands,
+                                                struct linker_utils_destination *destination) {
+    return linker_utils_destination_nonnull(machine, made,
+                                            LINKER_UTILS_SLICE(const uint8_t, original),
+                                            original_len, offset, operands, destination);
 }
 
 #undef LINKER_UTILS_SLICE

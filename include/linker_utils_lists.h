@@ -126,7 +126,8 @@
     STATUS(NOT_PROVIDED, 69, \
            "The architecture has none with this index, or glibc has none for these `e_flags`.") \
     STATUS(UNKNOWN_STUB, 70, \
-           "No kind of stubs has this number, or the architecture has no stub of the kind.")
+           "No kind of stubs has this number, or the architecture has no stub of the kind.") \
+    STATUS(UNKNOWN_PHASE, 71, "No phase of rewrites has this number.")
 
 enum linker_utils_status {
 #define LINKER_UTILS_STATUS(name, number, text) LINKER_UTILS_##name = number,
@@ -767,12 +768,30 @@ enum linker_utils_entry_class {
     LINKER_UTILS_ENTRY_DESCRIPTOR = 5 /* two words: a TLS descriptor */
 };
 
+/* When rewrites are made: what a linker has to know before. */
+enum linker_utils_phase {
+    LINKER_UTILS_PHASE_EARLY = 0, /* before addresses are known */
+    /* once offsets from the thread pointer are known: RISC-V's and LoongArch's `lui` and `add` of one
+     * of 12 bits are to be deleted, and PowerPC64's `addis` of one of 16 bits becomes a `nop`. RISC-V's
+     * TLS descriptors become offsets. */
+    LINKER_UTILS_PHASE_THREAD_OFFSETS = 1,
+    /* once addresses are known: AArch64's and RISC-V's loads of an address from the GOT become its
+     * computation */
+    LINKER_UTILS_PHASE_GOT_LOADS = 2,
+    /* after these: AArch64's `adrp` and `add` become `nop` and `adr`, and PowerPC64's `addis` of a
+     * distance from the TOC pointer becomes a `nop` */
+    LINKER_UTILS_PHASE_DISTANCES = 3
+};
+
 /* What becomes of a relocation and of its instruction. */
 enum linker_utils_fate {
     LINKER_UTILS_FATE_KEPT = 0, /* both stay as they are */
     LINKER_UTILS_FATE_REWRITTEN = 1,
-    /* the relocation goes: the rewrite at the one before takes it along */
-    LINKER_UTILS_FATE_TAKEN_ALONG = 2
+    /* the relocation goes: the rewrite at the one before or at the next one takes it along */
+    LINKER_UTILS_FATE_TAKEN_ALONG = 2,
+    /* the instruction is rewritten, and the relocation gets another symbol and addend: those of the high
+     * part whose label was its symbol */
+    LINKER_UTILS_FATE_REDIRECTED = 3
 };
 
 /* Where a symbol is that linkers define. */

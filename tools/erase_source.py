@@ -1,6 +1,7 @@
 """A file of Rust or of the proved source: its tokens and items, and edits of its text."""
 import re
 import sys
+from bisect import bisect_left
 from types import SimpleNamespace
 
 TOKEN = re.compile(r"""\s+|//[^\n]*|(?P<text>b?r(\#*)".*?"\2|b?"(?:\\.|[^"\\])*"
@@ -13,14 +14,15 @@ class Source:
 
     def __init__(self, path, text):
         self.path, self.text, self.tokens, self.spans, opened = path, text, [], [], []
-        # each bracket's partner, the edits, and the tokens that they replace
-        self.close, self.edits, self.gone = {}, [], set()
+        # each bracket's partner, the edits, the tokens that they replace, and where each token stands
+        self.close, self.edits, self.gone, self.found = {}, [], set(), {}
         for found in TOKEN.finditer(text):
             token, at = '"' if found["text"] else found["token"], len(self.tokens)
             if not token:
                 continue
             self.tokens.append(token)
             self.spans.append(found.span())
+            self.found.setdefault(token, []).append(at)
             if token in CLOSES:
                 opened.append(at)
             elif token in CLOSES.values():
@@ -44,9 +46,8 @@ class Source:
 
     def places(self, tokens):
         """Where tokens stand that no edit has replaced."""
-        first = tokens.split()[0]
-        return [at for at, token in enumerate(self.tokens)
-                if token == first and at not in self.gone and self.is_at(at, tokens)]
+        return [at for at in self.found.get(tokens.split()[0], ())
+                if at not in self.gone and self.is_at(at, tokens)]
 
     def start(self, at):
         return self.spans[at][0]
@@ -197,7 +198,7 @@ class Source:
 
     def replace(self, start, end, new):
         self.edits.append((start, end, new))
-        self.gone |= {at for at, span in enumerate(self.spans) if start <= span[0] < end}
+        self.gone.update(range(*(bisect_left(self.spans, (place, 0)) for place in (start, end))))
 
     def replace_tokens(self, first, past, new):
         self.replace(self.start(first), self.end(past - 1), new)

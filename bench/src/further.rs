@@ -475,6 +475,55 @@ fn reading(report: &mut Report) {
             },
         );
 
+        let led: Vec<_> = compared
+            .iter()
+            .filter_map(|(site, facts, original, others, linked)| {
+                let (at, mut made) = (site.offset % STRIDE as u64, Recognised::default());
+                let mut destination = Destination::default();
+                // SAFETY: a slice's pointer and length are its own, and a reference is of one value.
+                let statuses = unsafe {
+                    [
+                        linker_utils_recognise_chosen_nonnull(
+                            machine,
+                            site.r_type,
+                            original.as_ptr(),
+                            original.len(),
+                            at,
+                            others.as_ptr(),
+                            others.len(),
+                            linked.as_ptr(),
+                            linked.len(),
+                            *facts,
+                            &mut made,
+                        ),
+                        linker_utils_destination_nonnull(
+                            machine,
+                            &made,
+                            original.as_ptr(),
+                            original.len(),
+                            at,
+                            &site.operands(),
+                            &mut destination,
+                        ),
+                    ]
+                };
+                (statuses == [0, 0]).then_some((made, *original, at, site.operands()))
+            })
+            .collect();
+        let mut destination = Destination::default();
+        let what = format!("`linker_utils_destination`, {name}");
+        line(report, &what, &led, |(made, original, at, operands)| unsafe {
+            linker_utils_destination_nonnull(
+                machine,
+                made,
+                original.as_ptr(),
+                original.len(),
+                *at,
+                operands,
+                &mut destination,
+            )
+        });
+
         let fields: Vec<_> = sites
             .iter()
             .map(|site| {

@@ -226,6 +226,112 @@ fn rewrites(report: &mut Report, input: &Input) {
     report.line(&name, input.count(), true, [Some(exports), None, Some(erased), None]);
 }
 
+/// Two pairs of a page and an offset in it, and a call.
+const PLACED_OF_AARCH64: [Sequence; 2] = [
+    (&[0, 0, 0, 0x90, 0, 0, 0, 0x91], &[(0, 275), (4, 277)]),
+    (&[0, 0, 0, 0x94], &[(0, 283)]),
+];
+
+/// An address by its distance from the TOC pointer, an offset from the thread pointer, and a call.
+const PLACED_OF_PPC64: [Sequence; 3] = [
+    (&[0, 0, 0x62, 0x3c, 0, 0, 0x63, 0x38], &[(0, 50), (4, 48)]),
+    (&[0, 0, 0x6d, 0x3c, 0, 0, 0x63, 0x38], &[(0, 72), (4, 70)]),
+    (&[1, 0, 0, 0x48, 0, 0, 0, 0x60], &[(0, 10)]),
+];
+
+/// Where the section, the GOT and all symbols are.
+const PLACED: Addresses = Addresses {
+    section: 0x10_0000,
+    got_base: 0x60_0000,
+    thread_origin: 0x60_0000,
+    module_origin: 0,
+    module_entry: 0,
+};
+
+const LAST_PHASE: u32 = 3;
+
+fn surveys_of_placed(report: &mut Report, input: &Input) {
+    let (section, relocations) = input.bytes.split_at(LEN);
+    let (is_executable, is_fixed) = EXECUTABLE;
+    let output = sathunne::OutputFacts {
+        is_executable,
+        is_fixed,
+    };
+    let values = vec![Symbol { address: 0x60_0010, ..Symbol::default() }; SYMBOLS];
+    let exports = Side::over(
+        vec![sathunne::KeptGroups::default(); SYMBOLS],
+        |kept: &mut Vec<_>| kept.fill(sathunne::KeptGroups::default()),
+        move |kept: &mut Vec<_>| {
+            // SAFETY: a slice's pointer and length are its own, and a reference is of one value.
+            let status = unsafe {
+                linker_utils_survey_placed_section_nonnull(
+                    input.machine,
+                    LAST_PHASE,
+                    &output,
+                    input.symbols.as_ptr(),
+                    input.symbols.len(),
+                    &PLACED,
+                    values.as_ptr(),
+                    values.len(),
+                    relocations.as_ptr(),
+                    relocations.len(),
+                    section.as_ptr(),
+                    section.len(),
+                    kept.as_mut_ptr(),
+                    kept.len(),
+                )
+            };
+            assert_eq!(status, 0);
+        },
+        |kept: &Vec<sathunne::KeptGroups>| kept.iter().filter(|it| it.got_load).count(),
+    );
+    let name = format!("`linker_utils_survey_placed_section`, {}", name_of(input.machine));
+    report.line(&name, input.count(), true, [Some(exports), None, None, None]);
+}
+
+fn rewrites_of_placed(report: &mut Report, input: &Input) {
+    let (is_executable, is_fixed) = EXECUTABLE;
+    let output = sathunne::OutputFacts {
+        is_executable,
+        is_fixed,
+    };
+    let values = vec![Symbol { address: 0x60_0010, ..Symbol::default() }; SYMBOLS];
+    let kept = vec![sathunne::KeptGroups::default(); SYMBOLS];
+    let mut decisions = vec![sathunne::raw::Decision::default(); input.count()];
+    let mut used = 0;
+    let exports = anew(input, move |bytes| {
+        let (section, relocations) = bytes.split_at_mut(LEN);
+        // SAFETY: a slice's pointer and length are its own, and a reference is of one value.
+        let status = unsafe {
+            linker_utils_rewrite_placed_section_nonnull(
+                input.machine,
+                LAST_PHASE,
+                &output,
+                input.symbols.as_ptr(),
+                input.symbols.len(),
+                &PLACED,
+                values.as_ptr(),
+                values.len(),
+                kept.as_ptr(),
+                kept.len(),
+                relocations.as_mut_ptr(),
+                relocations.len(),
+                section.as_mut_ptr(),
+                section.len(),
+                decisions.as_mut_ptr(),
+                decisions.len(),
+                std::ptr::NonNull::dangling().as_ptr(),
+                0,
+                &mut used,
+                &mut 0,
+            )
+        };
+        assert_eq!(status, 0);
+    });
+    let name = format!("`linker_utils_rewrite_placed_section`, {}", name_of(input.machine));
+    report.line(&name, input.count(), true, [Some(exports), None, None, None]);
+}
+
 /// Stubs that go to words in reach.
 fn stubs(report: &mut Report, machine: u16) {
     const COUNT: u64 = 1000;
@@ -267,6 +373,16 @@ pub fn rewriting(report: &mut Report) {
     for input in &inputs {
         surveys(report, input);
         rewrites(report, input);
+    }
+    let placed = [
+        input(random, X86_64, &OF_X86_64),
+        input(random, AARCH64, &PLACED_OF_AARCH64),
+        input(random, PPC64, &PLACED_OF_PPC64),
+    ];
+    report.heading("The same in the last phase", Beside::Nothing);
+    for input in &placed {
+        surveys_of_placed(report, input);
+        rewrites_of_placed(report, input);
     }
     report.heading("Stubs", Beside::Nothing);
     for input in &inputs {

@@ -69,7 +69,9 @@ pub mod section {
 
 pub mod rewriting {
     #![doc = include_str!("../doc/rewriting.md")]
-    pub use crate::linker_rewriting::decisions::{Decision, RewritingError};
+    pub use crate::linker_rewriting::decisions::{
+        AsDecision, Decision, FromDeletion, RewritingError, Subject,
+    };
     pub use crate::linker_rewriting::facts::{OutputFacts, SymbolFacts};
     pub use crate::linker_rewriting::groups::{
         Group, KeptGroups, Scope, has_rewrites, scope_in, scope_of,
@@ -89,6 +91,7 @@ pub mod output {
     pub use crate::linker_output::layout::{
         CodeUnit, Interpreter, ProvidedRun, ProvidedSymbol, SymbolPlace,
     };
+    pub use crate::linker_output::routes::{Route, RouteError};
     pub use crate::linker_output::stubs::{Stub, StubError, StubField, StubKind};
     pub use crate::linker_output::description::Target;
 }

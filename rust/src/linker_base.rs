@@ -2,6 +2,7 @@
 //! The base of the linker core: bits of numbers, readers of bytes, and the deletions of relaxation.
 
 pub mod bit_misc;
+pub mod packing;
 pub mod relaxation;
 pub mod rewrite;
 pub mod utils;

@@ -12,5 +12,6 @@ mod loongarch64;
 pub mod placement;
 mod ppc64;
 mod riscv64;
+pub mod routes;
 pub mod stubs;
 mod x86_64;

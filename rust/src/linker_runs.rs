@@ -7,5 +7,4 @@ mod loongarch64;
 pub mod packing;
 pub mod relaxation;
 mod riscv64;
-mod search;
 pub mod shapes;

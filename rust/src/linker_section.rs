@@ -7,6 +7,7 @@ pub mod facts;
 mod fields;
 pub mod needed;
 mod order;
+mod quick;
 pub mod relocations;
 mod saved;
 pub mod sections;

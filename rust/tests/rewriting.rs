@@ -2,10 +2,11 @@
 //! of "ELF Handling For Thread-Local Storage".
 
 use linker_utils::elf::Architecture::{self, AArch64, LoongArch64, Ppc64, RiscV, X86_64};
+use linker_utils::relaxation::AsDeletion;
 use linker_utils::rewriting::{
     has_rewrites, rewrite_placed_section, rewrite_section, scope_in, scope_of, survey,
-    survey_placed_section, Decision, Group, KeptGroups, OutputFacts, Phase, RewritingError, Scope,
-    SymbolFacts,
+    survey_placed_section, AsDecision, Decision, FromDeletion, Group, KeptGroups, OutputFacts,
+    Phase, RewritingError, Scope, SymbolFacts,
 };
 use linker_utils::section::{relocate_section, relocation_at, Addresses, Rela, Symbol};
 
@@ -553,12 +554,14 @@ fn marked_loads_of_loongarch_are_rewritten() {
     let mut other = section(1);
     other.relocations[2].symbol = 3;
     expect_unchanged(LoongArch64, &other);
-    // one that isn't whole keeps all of its symbol
-    let mut two = section(1);
-    two.bytes.extend(section(1).bytes);
-    two.relocations
-        .extend([rela(8, 75, 1, 0), rela(12, 76, 1, 0)]);
-    expect_unchanged(LoongArch64, &two);
+    // one without marks stays, and keeps no other load of its symbol
+    let unmarked = [rela(8, 75, 1, 0), rela(12, 76, 1, 0)];
+    let (mut two, mut one_after) = (section(1), after);
+    for it in [&mut two, &mut one_after] {
+        it.bytes.extend(section(1).bytes);
+        it.relocations.extend(unmarked);
+    }
+    expect(LoongArch64, &two, &one_after);
 }
 
 /// Where symbols 1 and 3 are.
@@ -888,6 +891,92 @@ fn deletions_need_room() {
     }
 }
 
+/// What a caller keeps of a decision and of a deletion.
+#[derive(Debug, Clone, Copy, PartialEq, Eq)]
+struct Made(Option<Decision>);
+
+impl AsDecision for Made {
+    fn as_decision(self) -> Decision {
+        self.0.unwrap_or(Decision::Kept)
+    }
+
+    fn from_decision(made: Decision) -> Made {
+        Made((made != Decision::Kept).then_some(made))
+    }
+}
+
+#[derive(Debug, Clone, Copy, PartialEq, Eq)]
+struct Deleted {
+    bytes: u32,
+    offset: u64,
+}
+
+impl AsDeletion for Deleted {
+    fn as_deletion(self) -> (u64, u32) {
+        (self.offset, self.bytes)
+    }
+}
+
+impl FromDeletion for Deleted {
+    fn from_deletion(offset: u64, bytes: u32) -> Deleted {
+        Deleted { bytes, offset }
+    }
+}
+
+#[test]
+fn decisions_and_deletions_may_be_the_callers_own() {
+    let section = thread_offset(1);
+    let addresses = Addresses {
+        thread_origin: 0x1000,
+        ..Addresses::default()
+    };
+    let mut entries = bytes_of(&section.relocations);
+    let mut bytes = section.bytes.clone();
+    let mut made = [Made(None); 8];
+    let mut deleted = [Deleted {
+        bytes: 0,
+        offset: 0,
+    }; 3];
+    let rewritten = rewrite_placed_section(
+        RiscV,
+        Phase::ThreadOffsets,
+        &EXECUTABLE,
+        &symbols(),
+        &addresses,
+        &values(0x1008, 0),
+        &[KeptGroups::default(); 5],
+        &mut entries,
+        &mut bytes,
+        &mut made,
+        &mut deleted,
+    );
+    assert_eq!(rewritten, Ok(2));
+    let four = |offset| Deleted { bytes: 4, offset };
+    assert_eq!(
+        deleted,
+        [
+            four(0),
+            four(4),
+            Deleted {
+                bytes: 0,
+                offset: 0
+            }
+        ]
+    );
+    let (expected, _) = &placed(
+        RiscV,
+        Phase::ThreadOffsets,
+        &addresses,
+        &values(0x1008, 0),
+        &[&section],
+    )[0];
+    assert_eq!(
+        (&bytes, entries),
+        (&expected.bytes, bytes_of(&expected.relocations))
+    );
+    assert_eq!(made.iter().filter(|it| it.0.is_some()).count(), 4);
+}
+
 #[test]
 fn short_distances_of_ppc64_lose_their_high_part() {
     // addis 3,2,x@toc@ha; addi 3,3,x@toc@l; addis 4,2,x@toc@ha; lwz 5,x@toc@l(4);
@@ -961,4 +1050,129 @@ fn phases_without_rewrites_list_no_relocation() {
             assert_eq!(has_rewrites(architecture, phase), (0..2048).any(is_listed));
         }
     }
+}
+
+/// auipc a0, %got_pcrel_hi(x); ld a0, %pcrel_lo(label)(a0), with R_RISCV_RELAX behind both, of symbol 1 and
+/// of the label that is symbol 3.
+fn load_by_label() -> Section {
+    Section {
+        bytes: words(&[0x0000_0517, 0x0005_3503]),
+        relocations: vec![
+            rela(0, 20, 1, 0),
+            rela(0, 51, 0, 0),
+            rela(4, 24, 3, 0),
+            rela(4, 51, 0, 0),
+        ],
+    }
+}
+
+#[test]
+fn loads_of_one_label_become_sums() {
+    let addresses = Addresses::default();
+    let values = values(0x1008, 0);
+    let phase = Phase::GotLoads;
+    let made = placed(RiscV, phase, &addresses, &values, &[&load_by_label()]);
+    assert_eq!(made[0].1, []);
+    // auipc a0, 1; addi a0, a0, 8
+    assert_eq!(
+        linked(RiscV, &addresses, &values, &made[0].0, &[]),
+        [0x0000_1517, 0x0085_0513]
+    );
+    let codes: Vec<_> = made[0].0.relocations.iter().map(|it| it.code).collect();
+    assert_eq!(codes, [23, 51, 24, 51]);
+    let unchanged = |values: &[Symbol], section: &Section| {
+        let made = placed(RiscV, phase, &addresses, values, &[section]);
+        assert_eq!(made[0].0.bytes, section.bytes);
+        assert_eq!(made[0].0.relocations, section.relocations);
+    };
+    // a half without a mark, another instruction, a store, another label, and relocations that descend
+    for index in [1, 3] {
+        let mut unmarked = load_by_label();
+        unmarked.relocations.remove(index);
+        unchanged(&values, &unmarked);
+    }
+    let mut word = load_by_label();
+    word.bytes[4..].copy_from_slice(&0x0005_2503_u32.to_le_bytes());
+    unchanged(&values, &word);
+    let mut store = load_by_label();
+    store.relocations.extend([rela(4, 25, 3, 0), rela(4, 51, 0, 0)]);
+    unchanged(&values, &store);
+    let mut elsewhere = values;
+    elsewhere[3].address = 4;
+    let made = placed(RiscV, phase, &addresses, &elsewhere, &[&load_by_label()]);
+    assert_eq!(made[0].0.relocations[2].code, 24);
+    assert_eq!(made[0].0.bytes[4..], load_by_label().bytes[4..]);
+    let mut descending = load_by_label();
+    descending.relocations.push(rela(0, 51, 0, 0));
+    unchanged(&values, &descending);
+}
+
+#[test]
+fn labels_of_one_symbol_are_apart() {
+    // the second load of symbol 1 has no marks, and its label is symbol 4
+    let mut two = load_by_label();
+    two.bytes.extend(load_by_label().bytes);
+    two.relocations.extend([rela(8, 20, 1, 0), rela(12, 24, 4, 0)]);
+    let mut values = values(0x1008, 0);
+    values[4].address = 8;
+    let made = placed(
+        RiscV,
+        Phase::GotLoads,
+        &Addresses::default(),
+        &values,
+        &[&two],
+    );
+    let codes: Vec<_> = made[0].0.relocations.iter().map(|it| it.code).collect();
+    assert_eq!(codes, [23, 51, 24, 51, 20, 24]);
+    assert_eq!(made[0].0.bytes[8..], two.bytes[8..]);
+}
+
+#[test]
+fn descriptors_of_riscv_become_offsets() {
+    // auipc a0, %tlsdesc_hi(x); ld a1, %tlsdesc_load_lo(label)(a0);
+    // addi a0, a0, %tlsdesc_add_lo(label); jalr t0, 0(a1), %tlsdesc_call(label)
+    let section = |marks: &[Rela]| {
+        let mut relocations = vec![rela(0, 62, 1, 0)];
+        relocations.extend(marks);
+        relocations.extend([rela(4, 63, 3, 0), rela(8, 64, 3, 0), rela(12, 65, 3, 0)]);
+        Section {
+            bytes: words(&[0x0000_0517, 0x0005_3583, 0x0005_0513, 0x0005_82e7]),
+            relocations,
+        }
+    };
+    let addresses = Addresses {
+        thread_origin: 0x1000,
+        ..Addresses::default()
+    };
+    let mark = [rela(0, 51, 0, 0)];
+    let phase = Phase::ThreadOffsets;
+    // addi a0, zero, 8, and without a mark three nops before it
+    let near = values(0x1008, 0);
+    let made = placed(RiscV, phase, &addresses, &near, &[&section(&mark)]);
+    assert_eq!(made[0].1, [(0, 4), (4, 4), (8, 4)]);
+    assert_eq!(
+        linked(RiscV, &addresses, &near, &made[0].0, &made[0].1),
+        [0x0080_0513]
+    );
+    assert!(made[0].0.relocations.iter().all(|it| it.symbol != 3));
+    let made = placed(RiscV, phase, &addresses, &near, &[&section(&[])]);
+    assert_eq!(made[0].1, []);
+    assert_eq!(
+        linked(RiscV, &addresses, &near, &made[0].0, &[]),
+        [0x13, 0x13, 0x13, 0x0080_0513]
+    );
+    // lui a0, 2; addi a0, a0, 8
+    let far = values(0x3008, 0);
+    let made = placed(RiscV, phase, &addresses, &far, &[&section(&mark)]);
+    assert_eq!(made[0].1, [(0, 4), (4, 4)]);
+    assert_eq!(
+        linked(RiscV, &addresses, &far, &made[0].0, &made[0].1),
+        [0x0000_2537, 0x0085_0513]
+    );
+    // one of another instruction keeps all
+    let mut other = section(&mark);
+    other.bytes[12..].copy_from_slice(&0x0005_80e7_u32.to_le_bytes());
+    let made = placed(RiscV, phase, &addresses, &near, &[&other]);
+    assert_eq!(made[0].0.bytes, other.bytes);
+    assert_eq!(made[0].0.relocations, other.relocations);
 }

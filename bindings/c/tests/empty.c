@@ -41,6 +41,11 @@ int main(void) {
     struct linker_utils_output_facts output = {true, true};
     EXPECT(OK, survey(machine, &output, NULL, 0, NULL, 0, NULL, 0, NULL, 0));
     EXPECT(OK, rewrite_section(machine, &output, NULL, 0, NULL, 0, NULL, 0, NULL, 0, NULL, 0, NULL));
+    uint32_t phase = LINKER_UTILS_PHASE_DISTANCES;
+    EXPECT(OK, survey_placed_section(machine, phase, &output, NULL, 0, &addresses, NULL, 0, NULL, 0,
+                                     NULL, 0, NULL, 0));
+    EXPECT(OK, rewrite_placed_section(machine, phase, &output, NULL, 0, &addresses, NULL, 0, NULL, 0,
+                                      NULL, 0, NULL, 0, NULL, 0, NULL, 0, &count, NULL));
     struct linker_utils_provided_symbol symbol;
     struct linker_utils_provided_run run;
     EXPECT(TOO_SHORT, dynamic_name(LINKER_UTILS_X86_64, 8, NULL, 0, &count));

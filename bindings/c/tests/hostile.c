@@ -204,7 +204,7 @@ void *__wrap_aligned_alloc(size_t alignment, size_t size) {
 
 /* ---- The buffers of a call. */
 
-#define BUFFERS 8
+#define BUFFERS 16
 #define BUFFER_LEN ((size_t)1 << 17)
 
 /* Of SCRATCH nothing is known after a call. */
@@ -892,6 +892,36 @@ static void call_survey(void) {
     finish_with(status, 0 OR(UNKNOWN_ARCHITECTURE));
 }
 
+/* Room for as many elements as are needed, and sometimes for more or fewer. */
+static size_t any_room(size_t needed, bool *is_short) {
+    *is_short = needed > 0 && once_in(16);
+    return *is_short ? below(needed) : needed + (once_in(4) ? below(4) : 0);
+}
+
+/* Of the bytes that a call may write with an error too, what it has written is kept. */
+static void keep_written(struct buffer *buffer, size_t len) {
+    memcpy(buffer->was, filled(buffer), len < buffer->len ? len : buffer->len);
+}
+
+static void expect_decisions(const struct linker_utils_decision *made, size_t count,
+                             uint16_t machine) {
+    for (size_t i = 0; i < count; i++) {
+        bool is_redirected = made[i].fate == LINKER_UTILS_FATE_REDIRECTED;
+        bool is_made = is_redirected || made[i].fate == LINKER_UTILS_FATE_REWRITTEN;
+        expect(made[i].fate <= LINKER_UTILS_FATE_REDIRECTED, "no fate");
+        expect(is_redirected || (made[i].symbol == 0 && made[i].addend == 0), "another symbol");
+        expect(is_made ? made[i].machine == machine
+                       : made[i].rewrite == 0 && made[i].relocation == 0 &&
+                             made[i].opcode_len == 0 && made[i].machine == 0,
+               "no decision");
+    }
+}
+
+/* The decisions before the relocation at fault are made, and nothing is said of those of others. */
+static void keep_decisions(struct buffer *decisions, size_t needed) {
+    keep_written(decisions, needed * sizeof(struct linker_utils_decision));
+}
+
 static void call_rewrite_section(void) {
     uint16_t machine = any_machine();
     struct buffer *section = bytes(WRITTEN, any_section_len());
@@ -900,9 +930,8 @@ static void call_rewrite_section(void) {
     size_t symbols_len = LEN(known, struct linker_utils_symbol_facts);
     struct buffer *given = relocations(WRITTEN, machine, section->len, symbols_len);
     size_t needed = given->len / 24;
-    size_t count = needed + (once_in(4) ? below(4) : 0);
-    bool is_short = needed > 0 && once_in(16);
-    if (is_short) count = below(needed);
+    bool is_short;
+    size_t count = any_room(needed, &is_short);
     struct buffer *decisions = place(WRITTEN, count, sizeof(struct linker_utils_decision));
     changes(given, 0, 24 * needed);
     changes(decisions, 0, needed * sizeof(struct linker_utils_decision));
@@ -910,22 +939,87 @@ static void call_rewrite_section(void) {
     uint32_t status = CALL(rewrite_section, machine, facts->given, FACTS(known), KEPT(kept),
                            given->given, given->len, section->given, section->len, decisions->given,
                            count, faulty);
-    expect_status(status, 0 OR(UNKNOWN_ARCHITECTURE) OR(SHORT_MEMORY) OR(OUT_OF_MEMORY)
-                              OR(NOT_SURVEYED) OR(OVERLAPS));
+    expect_status(status,
+                  0 OR(UNKNOWN_ARCHITECTURE) OR(SHORT_MEMORY) OR(NOT_SURVEYED) OR(OVERLAPS));
     expect((status == LINKER_UTILS_SHORT_MEMORY) <= is_short, "the memory is long enough");
-    expect(was_refused == (status == LINKER_UTILS_OUT_OF_MEMORY), "tells nothing of memory");
-    expect(allocations <= (needed > 0), "allocates more than a block");
-    allocations = 0;
+    if (status == LINKER_UTILS_OK) expect_decisions(filled(decisions), needed, machine);
+    bool is_of_entry = status == LINKER_UTILS_NOT_SURVEYED || status == LINKER_UTILS_OVERLAPS;
+    finish_faulty(faulty, is_of_entry, needed);
+    if (is_of_entry) keep_decisions(decisions, needed);
+    finish(status == LINKER_UTILS_OK);
+}
+
+/* A phase, or another number. */
+static uint32_t any_phase(void) {
+    return once_in(16) ? (uint32_t)any_number() : (uint32_t)below(5);
+}
+
+static void call_has_rewrites(void) {
+    uint16_t machine = any_machine();
+    uint32_t phase = any_phase();
+    bool has_rewrites = CALL(has_rewrites, machine, phase);
+    expect(!has_rewrites || phase <= LINKER_UTILS_PHASE_DISTANCES, "there is no such phase");
+    finish(true);
+}
+
+static void call_survey_placed_section(void) {
+    uint16_t machine = any_machine();
+    struct buffer *section = bytes(READ, any_section_len());
+    struct buffer *facts = output_facts(), *known = symbol_facts(any_len(8));
+    struct buffer *values = symbols(any_len(8)), *where = addresses();
+    struct buffer *kept = kept_groups(WRITTEN, any_len(8));
+    size_t symbols_len = LEN(known, struct linker_utils_symbol_facts);
+    struct buffer *given = relocations(READ, machine, section->len, symbols_len);
+    uint32_t status = CALL(survey_placed_section, machine, any_phase(), facts->given, FACTS(known),
+                           where->given, SYMBOLS(values), given->given, given->len, section->given,
+                           section->len, KEPT(kept));
+    const uint8_t *now = filled(kept);
+    for (size_t i = 0; i < kept->len; i++) expect(now[i] <= 1 && now[i] >= kept->was[i], "no flags");
+    finish_with(status, 0 OR(UNKNOWN_ARCHITECTURE) OR(UNKNOWN_PHASE));
+}
+
+static void call_rewrite_placed_section(void) {
+    uint16_t machine = any_machine();
+    struct buffer *section = bytes(WRITTEN, any_section_len());
+    struct buffer *facts = output_facts(), *known = symbol_facts(any_len(8));
+    struct buffer *values = symbols(any_len(8)), *where = addresses();
+    struct buffer *kept = kept_groups(READ, any_len(8));
+    size_t symbols_len = LEN(known, struct linker_utils_symbol_facts);
+    struct buffer *given = relocations(WRITTEN, machine, section->len, symbols_len);
+    size_t needed = given->len / 24;
+    bool is_short, has_little_room;
+    size_t count = any_room(needed, &is_short), room = any_room(needed, &has_little_room);
+    struct buffer *decisions = place(WRITTEN, count, sizeof(struct linker_utils_decision));
+    struct buffer *deleted = place(WRITTEN, room, sizeof(struct linker_utils_deletion));
+    size_t *deleted_used = output(sizeof *deleted_used);
+    changes(given, 0, 24 * needed);
+    changes(decisions, 0, needed * sizeof(struct linker_utils_decision));
+    size_t *faulty = any_faulty();
+    uint32_t status = CALL(rewrite_placed_section, machine, any_phase(), facts->given, FACTS(known),
+                           where->given, SYMBOLS(values), KEPT(kept), given->given, given->len,
+                           section->given, section->len, decisions->given, count, deleted->given,
+                           room, deleted_used, faulty);
+    expect_status(status, 0 OR(UNKNOWN_ARCHITECTURE) OR(UNKNOWN_PHASE) OR(SHORT_MEMORY)
+                              OR(NOT_SURVEYED) OR(OVERLAPS));
+    expect((status == LINKER_UTILS_SHORT_MEMORY) <= (is_short || has_little_room),
+           "the memory is long enough");
     if (status == LINKER_UTILS_OK) {
-        const struct linker_utils_decision *made = filled(decisions);
-        for (size_t i = 0; i < needed; i++)
-            expect(made[i].fate == LINKER_UTILS_FATE_REWRITTEN ||
-                       (made[i].fate <= LINKER_UTILS_FATE_TAKEN_ALONG && made[i].rewrite == 0 &&
-                        made[i].relocation == 0 && made[i].opcode_len == 0),
-                   "no decision");
+        const struct linker_utils_deletion *at = filled(deleted);
+        expect_decisions(filled(decisions), needed, machine);
+        expect(*deleted_used <= room && *deleted_used <= needed, "more than there is room for");
+        for (size_t i = 0; i < *deleted_used && i < room; i++)
+            expect(at[i].offset + at[i].bytes <= section->len &&
+                       (i == 0 || at[i - 1].offset + at[i - 1].bytes <= at[i].offset),
+                   "deletes what isn't there, or twice");
+        changes(deleted, 0, *deleted_used * sizeof *at);
     }
     bool is_of_entry = status == LINKER_UTILS_NOT_SURVEYED || status == LINKER_UTILS_OVERLAPS;
     finish_faulty(faulty, is_of_entry, needed);
+    if (is_of_entry) keep_decisions(decisions, needed);
+    if (status == LINKER_UTILS_SHORT_MEMORY && !is_short) {
+        keep_decisions(decisions, needed);
+        keep_written(deleted, deleted->len);
+    }
     finish(status == LINKER_UTILS_OK);
 }
 
@@ -1871,6 +1965,36 @@ static void call_recognised(bool is_chosen) {
     finish_with(status, 0 OR(UNKNOWN_ARCHITECTURE) OR(DIFFERENT_LENGTHS) OR(WINDOW_TOO_LONG));
 }
 
+static void call_destination(void) {
+    uint16_t machine = any_machine();
+    struct buffer *original = bytes(READ, once_in(16) ? 60 + below(10) : any_len(24));
+    uint64_t offset = any_offset(original->len);
+    struct buffer *made = place(READ, 1, sizeof(struct linker_utils_recognised));
+    struct linker_utils_recognised *at = filled(made);
+    *at = (struct linker_utils_recognised){
+        .choice = {.rewrite = once_in(4) ? any_of_enum() : 0, .relocation = any_relocation_type(),
+                   .opcode_len = (uint8_t)below(4)},
+        .offset = offset,
+        .value = {.bits = any_number(), .rounding = once_in(2) ? 0 : any_number(),
+                  .first_bit = (uint8_t)below(66), .end_bit = (uint8_t)below(66)}};
+    struct buffer *given = place(READ, 1, sizeof(struct linker_utils_operands));
+    struct linker_utils_operands *operands = filled(given);
+    *operands = (struct linker_utils_operands){
+        .addend = (int64_t)any_number(), .place = any_number(), .got_base = any_number(),
+        .tls_base = any_number()};
+    struct linker_utils_destination *found = output(sizeof *found);
+    uint32_t status = CALL(destination, machine, made->given, original->given, original->len, offset,
+                           given->given, found);
+    if (status == LINKER_UTILS_OK) {
+        expect_field_value(&found->address);
+        expect(found->reference <= LINKER_UTILS_REFERENCE_PLT_ENTRY && found->has_symbol <= 1 &&
+                   (found->has_symbol || found->symbol == 0),
+               "no destination's numbers");
+    }
+    finish_with(status, 0 OR(UNKNOWN_ARCHITECTURE) OR(WINDOW_TOO_LONG) OR(UNKNOWN_REWRITE)
+                            OR(NO_ADDRESS));
+}
+
 static void call_recognise(void) {
     call_recognised(false);
 }
@@ -1884,7 +2008,8 @@ static void (*const all[])(void) = {
     call_choose, call_relocation_fits, call_is_unchanged, call_rewrite_window,
     call_next_modifier, call_relocation, call_relocation_name, call_value, call_reach, call_relocate,
     call_relocate_all, call_needs, call_value_at, call_relocate_section, call_survey,
-    call_rewrite_section, call_dynamic_types, call_dynamic_name, call_dynamic_words,
+    call_rewrite_section, call_has_rewrites, call_survey_placed_section,
+    call_rewrite_placed_section, call_dynamic_types, call_dynamic_name, call_dynamic_words,
     call_entry_words, call_origins, call_static_words, call_got, call_join_flags,
     call_output_facts, call_interpreter, call_provided_symbol, call_provided_run,
     call_provided_word, call_stub, call_write_stub, call_clui_rel_info, call_jal_site, call_jal_site_with, call_relax_call,
@@ -1897,7 +2022,7 @@ static void (*const all[])(void) = {
     call_deltas_heads, call_pack, call_shrink_calls, call_standard_shapes, call_relax, call_run_deltas,
     call_section_items, call_has_its_instructions, call_pack_run,
     call_operand, call_read_value, call_solve, call_join, call_field_bits, call_same_but_for,
-    call_recognise_window, call_recognise, call_recognise_chosen,
+    call_recognise_window, call_recognise, call_recognise_chosen, call_destination,
 };
 
 int main(int count, char **arguments) {

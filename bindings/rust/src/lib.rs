@@ -126,7 +126,13 @@ pub struct Operands {
 impl Operands {
     /// Those for a symbol without a PLT entry, for which L is S.
     pub fn new(symbol: u64, addend: i64, place: u64) -> Operands {
-        Operands { symbol, addend, place, plt_entry: symbol, ..Operands::default() }
+        Operands {
+            symbol,
+            addend,
+            place,
+            plt_entry: symbol,
+            ..Operands::default()
+        }
     }
 }
 
@@ -439,8 +445,18 @@ pub struct KeptGroups {
 pub enum Decision {
     Kept,
     /// The instruction is rewritten, and the relocation gets this type.
-    Rewritten { rewrite: Rewrite, relocation: u32 },
+    Rewritten {
+        rewrite: Rewrite,
+        relocation: u32,
+    },
     TakenAlong,
+    /// The same, and it gets another symbol and addend.
+    Redirected {
+        rewrite: Rewrite,
+        relocation: u32,
+        symbol: u32,
+        addend: i64,
+    },
 }
 
 /// The types of the dynamic relocations that a linker emits. Each field is explained at
@@ -575,6 +591,20 @@ pub struct Recognised {
     pub value: Option<FieldValue>,
 }
 
+/// Where a recognised relocation leads.
+#[derive(Debug, Clone, Copy, PartialEq, Eq)]
+pub struct Destination {
+    /// Which address it is.
+    pub reference: Reference,
+    /// What is known of it.
+    pub address: FieldValue,
+    /// The addend of the relocation after the rewrite.
+    pub addend: i64,
+    /// The symbol's address, or that of its entry of the PLT; `None` of an entry of the GOT, and where
+    /// not all bits of the address are known.
+    pub symbol: Option<u64>,
+}
+
 fn result_of<T>(status: u32, value: T) -> Result<T, Status> {
     match status {
         0 => Ok(value),
@@ -692,8 +722,9 @@ pub fn read(form: impl Into<Form>, bytes: &[u8]) -> Result<(u64, bool), Status> 
 pub fn can_apply(rewrite: impl Into<Rewrite>, section: &[u8], offset: u64) -> Result<(), Status> {
     let (machine, rewrite, opcode_len) = rewrite.into().numbers();
     let (at, len) = (section.as_ptr(), section.len());
-    let status =
-        unsafe { raw::linker_utils_can_apply_nonnull(machine, rewrite, opcode_len, at, len, offset) };
+    let status = unsafe {
+        raw::linker_utils_can_apply_nonnull(machine, rewrite, opcode_len, at, len, offset)
+    };
     result_of(status, ())
 }
 
@@ -702,7 +733,8 @@ pub fn can_apply(rewrite: impl Into<Rewrite>, section: &[u8], offset: u64) -> Re
 pub fn matches(rewrite: impl Into<Rewrite>, section: &[u8], offset: u64) -> Result<(), Status> {
     let (machine, rewrite, opcode_len) = rewrite.into().numbers();
     let (at, len) = (section.as_ptr(), section.len());
-    let status = unsafe { raw::linker_utils_matches_nonnull(machine, rewrite, opcode_len, at, len, offset) };
+    let status =
+        unsafe { raw::linker_utils_matches_nonnull(machine, rewrite, opcode_len, at, len, offset) };
     result_of(status, ())
 }
 
@@ -715,8 +747,9 @@ pub fn apply(
 ) -> Result<(), Status> {
     let (machine, rewrite, opcode_len) = rewrite.into().numbers();
     let (at, len) = (section.as_mut_ptr(), section.len());
-    let status =
-        unsafe { raw::linker_utils_apply_nonnull(machine, rewrite, opcode_len, at, len, offset, addend) };
+    let status = unsafe {
+        raw::linker_utils_apply_nonnull(machine, rewrite, opcode_len, at, len, offset, addend)
+    };
     result_of(status, ())
 }
 
@@ -724,7 +757,8 @@ pub fn apply(
 pub fn rewrite_window(rewrite: impl Into<Rewrite>) -> Result<RewriteWindow, Status> {
     let (machine, rewrite, opcode_len) = rewrite.into().numbers();
     let mut window = RewriteWindow::default();
-    let status = unsafe { raw::linker_utils_rewrite_window(machine, rewrite, opcode_len, &mut window) };
+    let status =
+        unsafe { raw::linker_utils_rewrite_window(machine, rewrite, opcode_len, &mut window) };
     result_of(status, window)
 }
 
@@ -732,7 +766,8 @@ pub fn rewrite_window(rewrite: impl Into<Rewrite>) -> Result<RewriteWindow, Stat
 pub fn next_modifier(rewrite: impl Into<Rewrite>) -> Result<Modifier, Status> {
     let (machine, rewrite, opcode_len) = rewrite.into().numbers();
     let mut modifier = 0;
-    let status = unsafe { raw::linker_utils_next_modifier(machine, rewrite, opcode_len, &mut modifier) };
+    let status =
+        unsafe { raw::linker_utils_next_modifier(machine, rewrite, opcode_len, &mut modifier) };
     let modifier = Modifier::from_number(modifier).expect("a modifier of the library's");
     result_of(status, modifier)
 }
@@ -851,9 +886,8 @@ pub fn needs(
     is_thread_local: bool,
 ) -> Result<Requirements, Status> {
     let (machine, mut required) = (architecture.machine(), raw::Requirements::default());
-    let status = unsafe {
-        raw::linker_utils_needs(machine, r_type, addend, is_thread_local, &mut required)
-    };
+    let status =
+        unsafe { raw::linker_utils_needs(machine, r_type, addend, is_thread_local, &mut required) };
     result_of(status, required.into())
 }
 
@@ -946,6 +980,39 @@ pub fn survey(
     debug_assert_eq!(status, 0);
 }
 
+/// As many decisions as there are relocations.
+fn decisions_of(relocations: &[u8]) -> Result<Vec<raw::Decision>, ArrayError> {
+    let (mut decisions, len) = (Vec::new(), relocations.len() / 24);
+    let refused = |_| ArrayError::from(Status::OutOfMemory);
+    decisions.try_reserve_exact(len).map_err(refused)?;
+    decisions.resize(len, raw::Decision::default());
+    Ok(decisions)
+}
+
+fn decided(architecture: Architecture, made: &raw::Decision) -> Decision {
+    let rewrite = || {
+        Rewrite::from_numbers(architecture, made.rewrite, made.opcode_len)
+            .expect("a rewrite of the architecture")
+    };
+    match Fate::from_number(made.fate.into()) {
+        Some(Fate::Rewritten) => {
+            let relocation = made.relocation;
+            Decision::Rewritten {
+                rewrite: rewrite(),
+                relocation,
+            }
+        }
+        Some(Fate::Redirected) => Decision::Redirected {
+            rewrite: rewrite(),
+            relocation: made.relocation,
+            symbol: made.symbol,
+            addend: made.addend,
+        },
+        Some(Fate::TakenAlong) => Decision::TakenAlong,
+        _ => Decision::Kept,
+    }
+}
+
 /// Rewrites the instructions of a section of code before addresses are known, and turns its
 /// relocations into those after it. `kept` is what `survey` noted. What became of each relocation is
 /// returned. The entry at fault is the first relocation that isn't accepted.
@@ -957,11 +1024,7 @@ pub fn rewrite_section(
     relocations: &mut [u8],
     section: &mut [u8],
 ) -> Result<Vec<Decision>, ArrayError> {
-    let mut decisions = Vec::new();
-    let len = relocations.len() / 24;
-    let refused = |_| ArrayError::from(Status::OutOfMemory);
-    decisions.try_reserve_exact(len).map_err(refused)?;
-    decisions.resize(len, raw::Decision::default());
+    let mut decisions = decisions_of(relocations)?;
     result_over(|faulty| unsafe {
         raw::linker_utils_rewrite_section_nonnull(
             architecture.machine(),
@@ -979,16 +1042,108 @@ pub fn rewrite_section(
             faulty,
         )
     })?;
-    let decision = |made: &raw::Decision| match Fate::from_number(made.fate.into()) {
-        Some(Fate::Rewritten) => Decision::Rewritten {
-            rewrite: Rewrite::from_numbers(architecture, made.rewrite, made.opcode_len)
-                .expect("a rewrite of the architecture"),
-            relocation: made.relocation,
-        },
-        Some(Fate::TakenAlong) => Decision::TakenAlong,
-        _ => Decision::Kept,
+    Ok(decisions
+        .iter()
+        .map(|made| decided(architecture, made))
+        .collect())
+}
+
+/// Whether an architecture has rewrites in a phase. In one without them surveys note nothing, and each
+/// relocation stays.
+pub fn has_rewrites(architecture: Architecture, phase: Phase) -> bool {
+    unsafe { raw::linker_utils_has_rewrites(architecture.machine(), phase.number()) }
+}
+
+/// What a linker knows of an object's section once addresses are known. Both arrays of symbols have
+/// those of the object at the indexes that its relocations name.
+#[derive(Debug, Clone, Copy, PartialEq, Eq)]
+pub struct Placed<'a> {
+    pub output: &'a OutputFacts,
+    pub symbols: &'a [SymbolFacts],
+    pub addresses: &'a Addresses,
+    pub values: &'a [Symbol],
+}
+
+/// Notes in `kept` which groups of an object stay in a phase once addresses are known, by one of its
+/// sections of code, as `survey` does before.
+pub fn survey_placed_section(
+    architecture: Architecture,
+    phase: Phase,
+    placed: Placed<'_>,
+    relocations: &[u8],
+    section: &[u8],
+    kept: &mut [KeptGroups],
+) {
+    let status = unsafe {
+        raw::linker_utils_survey_placed_section_nonnull(
+            architecture.machine(),
+            phase.number(),
+            placed.output,
+            placed.symbols.as_ptr(),
+            placed.symbols.len(),
+            placed.addresses,
+            placed.values.as_ptr(),
+            placed.values.len(),
+            relocations.as_ptr(),
+            relocations.len(),
+            section.as_ptr(),
+            section.len(),
+            kept.as_mut_ptr(),
+            kept.len(),
+        )
     };
-    Ok(decisions.iter().map(decision).collect())
+    debug_assert_eq!(status, 0);
+}
+
+/// Rewrites the instructions of a section of code in a phase once addresses are known, as
+/// `rewrite_section` does before. What became of each relocation is returned, and what is to be deleted.
+pub fn rewrite_placed_section(
+    architecture: Architecture,
+    phase: Phase,
+    placed: Placed<'_>,
+    kept: &[KeptGroups],
+    relocations: &mut [u8],
+    section: &mut [u8],
+) -> Result<(Vec<Decision>, Vec<Deletion>), ArrayError> {
+    let mut decisions = decisions_of(relocations)?;
+    let (mut deleted, mut used) = (Vec::new(), 0);
+    let refused = |_| ArrayError::from(Status::OutOfMemory);
+    deleted
+        .try_reserve_exact(decisions.len())
+        .map_err(refused)?;
+    deleted.resize(decisions.len(), Deletion::default());
+    result_over(|faulty| unsafe {
+        raw::linker_utils_rewrite_placed_section_nonnull(
+            architecture.machine(),
+            phase.number(),
+            placed.output,
+            placed.symbols.as_ptr(),
+            placed.symbols.len(),
+            placed.addresses,
+            placed.values.as_ptr(),
+            placed.values.len(),
+            kept.as_ptr(),
+            kept.len(),
+            relocations.as_mut_ptr(),
+            relocations.len(),
+            section.as_mut_ptr(),
+            section.len(),
+            decisions.as_mut_ptr(),
+            decisions.len(),
+            deleted.as_mut_ptr(),
+            deleted.len(),
+            &mut used,
+            faulty,
+        )
+    })?;
+    deleted.truncate(used);
+    Ok((
+        decisions
+            .iter()
+            .map(|made| decided(architecture, made))
+            .collect(),
+        deleted,
+    ))
 }
 
 /// The types of the dynamic relocations of an architecture.
@@ -1039,18 +1194,20 @@ pub fn entry_words(class: EntryClass) -> u64 {
 /// What offsets of thread-local storage count from, by the TLS image.
 pub fn origins(architecture: Architecture, image: u64, len: u64, alignment: u64) -> Origins {
     let (machine, mut origins) = (architecture.machine(), Origins::default());
-    let status =
-        unsafe { raw::linker_utils_origins(machine, image, len, alignment, &mut origins) };
+    let status = unsafe { raw::linker_utils_origins(machine, image, len, alignment, &mut origins) };
     debug_assert_eq!(status, 0);
     origins
 }
 
 /// What the words of an entry hold in a static executable, which has no TLS descriptors.
-pub fn static_words(class: EntryClass, address: u64, origins: &Origins) -> Result<[u64; 2], Status> {
+pub fn static_words(
+    class: EntryClass,
+    address: u64,
+    origins: &Origins,
+) -> Result<[u64; 2], Status> {
     let mut words = raw::EntryWords::default();
-    let status = unsafe {
-        raw::linker_utils_static_words(class.number(), address, origins, &mut words)
-    };
+    let status =
+        unsafe { raw::linker_utils_static_words(class.number(), address, origins, &mut words) };
     result_of(status, [words.first, words.second])
 }
 
@@ -1129,8 +1286,7 @@ pub fn provided_runs(architecture: Architecture) -> Vec<ProvidedRun> {
         });
         let word = |at| {
             let mut word = 0;
-            let status =
-                unsafe { raw::linker_utils_provided_word(machine, index, at, &mut word) };
+            let status = unsafe { raw::linker_utils_provided_word(machine, index, at, &mut word) };
             debug_assert_eq!(status, 0);
             word
         };
@@ -1767,8 +1923,7 @@ pub fn operand(form: impl Into<Form>, bytes: &[u8]) -> Result<i64, Status> {
     let (machine, form) = form.into().numbers();
     let mut number = 0;
     let (at, len) = (bytes.as_ptr(), bytes.len());
-    let status =
-        unsafe { raw::linker_utils_operand_nonnull(machine, form, at, len, &mut number) };
+    let status = unsafe { raw::linker_utils_operand_nonnull(machine, form, at, len, &mut number) };
     result_of(status, number)
 }
 
@@ -1924,4 +2079,45 @@ pub fn recognise_chosen(
     };
     result_of(status, ())?;
     Ok(recognised(architecture, &found))
+}
+
+/// Where a relocation leads that `recognise` or `recognise_chosen` found in these original bytes, whose
+/// offset in them is given. Of the operands the addend is that before the rewrite, and the place the
+/// address of the field in the linked file.
+pub fn destination(
+    made: &Recognised,
+    original: &[u8],
+    offset: u64,
+    operands: &Operands,
+) -> Result<Destination, Status> {
+    let (machine, rewrite, opcode_len) = made.choice.rewrite.numbers();
+    let made = raw::Recognised {
+        choice: raw::Choice {
+            rewrite,
+            relocation: made.choice.relocation,
+            opcode_len,
+            ..raw::Choice::default()
+        },
+        offset: made.offset,
+        value: made.value.unwrap_or_default(),
+    };
+    let mut found = raw::Destination::default();
+    let status = unsafe {
+        raw::linker_utils_destination_nonnull(
+            machine,
+            &made,
+            original.as_ptr(),
+            original.len(),
+            offset,
+            operands,
+            &mut found,
+        )
+    };
+    result_of(status, ())?;
+    Ok(Destination {
+        reference: Reference::from_number(found.reference).expect("a reference of the library's"),
+        address: found.address,
+        addend: found.addend,
+        symbol: (found.has_symbol != 0).then_some(found.symbol),
+    })
 }

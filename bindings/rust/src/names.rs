@@ -215,6 +215,11 @@ linker_utils_stub_kind! { numbered
     StubKind: u32
 }
 
+linker_utils_phase! { numbered
+    /// When rewrites are made: what a linker has to know before.
+    Phase: u32
+}
+
 linker_utils_fate! { numbered
     /// What becomes of a relocation and of its instruction.
     Fate: u32

@@ -74,8 +74,11 @@ pub struct Requirements {
 #[repr(C)]
 #[derive(Debug, Clone, Copy, Default, PartialEq, Eq)]
 pub struct Decision {
+    pub addend: i64,
+    pub symbol: u32,
     pub rewrite: u32,
     pub relocation: u32,
+    pub machine: u16,
     pub fate: u8,
     pub opcode_len: u8,
 }
@@ -145,6 +148,17 @@ pub struct Recognised {
     pub choice: Choice,
     pub offset: u64,
     pub value: FieldValue,
+}
+
+/// `struct linker_utils_destination`.
+#[repr(C)]
+#[derive(Debug, Clone, Copy, Default, PartialEq, Eq)]
+pub struct Destination {
+    pub address: FieldValue,
+    pub addend: i64,
+    pub symbol: u64,
+    pub reference: u32,
+    pub has_symbol: u8,
 }
 
 extern "C" {
@@ -315,6 +329,45 @@ extern "C" {
         section_len: usize,
         decisions: *mut Decision,
         decisions_len: usize,
+        faulty: *mut usize,
+    ) -> u32;
+    pub fn linker_utils_has_rewrites(machine: u16, phase: u32) -> bool;
+    pub fn linker_utils_survey_placed_section_nonnull(
+        machine: u16,
+        phase: u32,
+        output: *const OutputFacts,
+        symbols: *const SymbolFacts,
+        symbols_len: usize,
+        addresses: *const Addresses,
+        values: *const Symbol,
+        values_len: usize,
+        relocations: *const u8,
+        relocations_len: usize,
+        section: *const u8,
+        section_len: usize,
+        kept: *mut KeptGroups,
+        kept_len: usize,
+    ) -> u32;
+    pub fn linker_utils_rewrite_placed_section_nonnull(
+        machine: u16,
+        phase: u32,
+        output: *const OutputFacts,
+        symbols: *const SymbolFacts,
+        symbols_len: usize,
+        addresses: *const Addresses,
+        values: *const Symbol,
+        values_len: usize,
+        kept: *const KeptGroups,
+        kept_len: usize,
+        relocations: *mut u8,
+        relocations_len: usize,
+        section: *mut u8,
+        section_len: usize,
+        decisions: *mut Decision,
+        decisions_len: usize,
+        deleted: *mut Deletion,
+        deleted_len: usize,
+        deleted_used: *mut usize,
         faulty: *mut usize,
     ) -> u32;
     pub fn linker_utils_dynamic_types(machine: u16, types: *mut DynamicTypes) -> u32;
@@ -745,5 +798,14 @@ extern "C" {
         linked_len: usize,
         facts: *const LinkFacts,
         found: *mut Recognised,
+    ) -> u32;
+    pub fn linker_utils_destination_nonnull(
+        machine: u16,
+        made: *const Recognised,
+        original: *const u8,
+        original_len: usize,
+        offset: u64,
+        operands: *const Operands,
+        destination: *mut Destination,
     ) -> u32;
 }

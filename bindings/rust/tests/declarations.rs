@@ -135,6 +135,7 @@ fn type_of_c(text: &str) -> String {
         "struct linker_utils_field_value" => "FieldValue",
         "struct linker_utils_window_bits" => "FieldBits",
         "struct linker_utils_recognised" => "Recognised",
+        "struct linker_utils_destination" => "Destination",
         other => panic!("the header has a type {other}"),
     };
     format!("{}{name}", if pointer { kind } else { "" })
@@ -249,6 +250,7 @@ fn element(kind: &str) -> String {
         "ItemNumbers" => "Item".to_string(),
         "FieldValueNumbers" => "FieldValue".to_string(),
         "RecognisedNumbers" => "Recognised".to_string(),
+        "DestinationNumbers" => "Destination".to_string(),
         "RequirementNumbers" => "Requirements".to_string(),
         "DecisionNumbers" => "Decision".to_string(),
         "DynamicCodes" => "DynamicTypes".to_string(),
@@ -656,6 +658,10 @@ fn the_numbers_are_those_of_the_library() {
         equations("linker_utils_c/specs/Rewriting", "fate_number")
     );
     assert_eq!(
+        numbers(Phase::ALL, Phase::number),
+        equations("linker_utils_c/specs/Rewriting", "phase_number")
+    );
+    assert_eq!(
         numbers(SymbolPlace::ALL, SymbolPlace::number),
         equations("linker_utils_c/specs/Output", "place_number")
     );
@@ -816,7 +822,9 @@ fn the_structs_are_those_of_the_library() {
         "linker_utils_kept_groups": KeptGroups {
             initial_exec, general_dynamic, local_dynamic, descriptor, got_load,
         }
-        "linker_utils_decision": raw::Decision { rewrite, relocation, fate, opcode_len, }
+        "linker_utils_decision": raw::Decision {
+            addend, symbol, rewrite, relocation, machine, fate, opcode_len,
+        }
         "linker_utils_dynamic_types": DynamicTypes {
             word, relative, glob_dat, jump_slot, copy, irelative, module_number, module_offset,
             thread_offset, descriptor,
@@ -831,6 +839,9 @@ fn the_structs_are_those_of_the_library() {
         "linker_utils_field_value": FieldValue { bits, rounding, first_bit, end_bit, }
         "linker_utils_window_bits": FieldBits { offset, bits, }
         "linker_utils_recognised": raw::Recognised { choice, offset, value, }
+        "linker_utils_destination": raw::Destination {
+            address, addend, symbol, reference, has_symbol,
+        }
     };
     assert_eq!(of_header.collect::<Layout>(), of_crate);
 
@@ -882,6 +893,7 @@ fn the_structs_are_those_of_the_library() {
         ("linker_utils_field_value", "FieldValueNumbers"),
         ("linker_utils_window_bits", "FieldBits"),
         ("linker_utils_recognised", "RecognisedNumbers"),
+        ("linker_utils_destination", "DestinationNumbers"),
     ] {
         let (before, rest) = library
             .split_once(&format!("\npub struct {of_library} {{"))

@@ -136,3 +136,87 @@ fn decisions_are_as_many_as_relocations() {
     assert_eq!(with(&mut []), (Status::ShortMemory.number(), 7));
     assert_eq!(with(&mut [raw::Decision::default()]), (Status::NotSurveyed.number(), 0));
 }
+
+fn words(bytes: &[u8]) -> Vec<u32> {
+    bytes.chunks(4).map(|word| u32::from_le_bytes(word.try_into().unwrap())).collect()
+}
+
+/// RISC-V ELF psABI, "Thread Pointer Relaxation"
+#[test]
+fn a_short_offset_from_the_thread_pointer_needs_one_instruction() {
+    // lui a0, %tprel_hi(x); add a0, a0, tp, %tprel_add(x); lw a1, %tprel_lo(x)(a0)
+    let code = [0x0000_0537u32, 0x0045_0533, 0x0005_2583].map(u32::to_le_bytes).concat();
+    let listed = [(0, 29), (0, 51), (4, 32), (4, 51), (8, 30), (8, 51)];
+    let listed = listed.map(|(offset, r_type)| (offset, r_type, u32::from(r_type != 51), 0));
+    let (riscv, phase) = (Architecture::RiscV, Phase::ThreadOffsets);
+    assert!(has_rewrites(riscv, phase) && !has_rewrites(X86_64, phase));
+    let symbols = symbols();
+    for (address, is_short) in [(0x1008, true), (0x1800, false)] {
+        let mut values = [Symbol::default(); 4];
+        values[1] = Symbol { address, is_thread_local: true, ..Symbol::default() };
+        let addresses = Addresses { thread_origin: 0x1000, ..Addresses::default() };
+        let placed = Placed {
+            output: &EXECUTABLE,
+            symbols: &symbols,
+            addresses: &addresses,
+            values: &values,
+        };
+        let (mut section, mut relocations) = (code.clone(), relas(&listed));
+        let mut kept = [KeptGroups::default(); 4];
+        survey_placed_section(riscv, phase, placed, &relocations, &section, &mut kept);
+        assert_eq!(kept[1].initial_exec, !is_short);
+        let (given, bytes) = (&mut relocations, &mut section);
+        let made = rewrite_placed_section(riscv, phase, placed, &kept, given, bytes).unwrap();
+        if is_short {
+            let bytes = 4;
+            assert_eq!(made.1, [0, 4].map(|offset| Deletion { offset, bytes }));
+            // lw a1, %tprel_lo(x)(tp)
+            assert_eq!(words(&section)[2], 0x0002_2583);
+        } else {
+            assert_eq!((made.0, made.1, section), (vec![Decision::Kept; 6], vec![], code.clone()));
+        }
+    }
+}
+
+/// ELF for the Arm 64-bit Architecture, "Relocation optimization"
+#[test]
+fn a_near_address_needs_one_instruction() {
+    // adrp x0, x; add x0, x0, :lo12:x, with R_AARCH64_ADR_PREL_PG_HI21 and _ADD_ABS_LO12_NC
+    let mut section = [0x9000_0000u32, 0x9100_0000].map(u32::to_le_bytes).concat();
+    let mut relocations = relas(&[(0, 275, 1, 0), (4, 277, 1, 0)]);
+    let (symbols, kept) = (symbols(), [KeptGroups::default(); 4]);
+    let mut values = [Symbol::default(); 4];
+    values[1].address = 0x2004;
+    let addresses = Addresses { section: 0x1000, ..Addresses::default() };
+    let placed = Placed {
+        output: &EXECUTABLE,
+        symbols: &symbols,
+        addresses: &addresses,
+        values: &values,
+    };
+    let (given, code) = (&mut relocations, &mut section);
+    let made = rewrite_placed_section(AARCH64, Phase::Distances, placed, &kept, given, code);
+    let (decisions, deleted) = made.unwrap();
+    // nop; adr x0, x, with R_AARCH64_ADR_PREL_LO21
+    assert_eq!(words(&section), [0xd503_201f, 0x1000_0000]);
+    assert_eq!(relocations, relas(&[(0, 0, 1, 0), (4, 274, 1, 0)]));
+    assert_eq!((decisions[0], deleted), (Decision::TakenAlong, vec![]));
+    assert!(matches!(decisions[1], Decision::Rewritten { relocation: 274, .. }));
+}
+
+#[test]
+fn a_rewritten_load_leads_to_its_symbol() {
+    // mov x@GOTPCREL(%rip), %rdi became lea x(%rip), %rdi, whose field is at 0x401003
+    let (original, linked) = ([0x48, 0x8b, 0x3d, 0, 0, 0, 0], [0x48, 0x8d, 0x3d, 0x10, 0x20, 0, 0]);
+    let windows = Windows { original: &original, offset: 3, others: &[], linked: &linked };
+    let found = recognise(X86_64, 42, windows).unwrap();
+    let operands = Operands { addend: -4, place: 0x401003, ..Operands::default() };
+    let led = destination(&found[0], &original, 3, &operands).unwrap();
+    // the next instruction is at 0x401007
+    assert_eq!((led.reference, led.symbol, led.addend), (Reference::Symbol, Some(0x403017), -4));
+    assert_eq!(led.address.number(), Some(0x403013));
+    // without a value
+    let none = Recognised { value: None, ..found[0].clone() };
+    assert_eq!(destination(&none, &original, 3, &operands), Err(Status::NoAddress));
+    assert_eq!(destination(&found[0], &[0; 65], 3, &operands), Err(Status::WindowTooLong));
+}

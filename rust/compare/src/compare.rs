@@ -25,8 +25,10 @@ fn allocations_are_counted() {
     assert_eq!(counted(|| Vec::<u64>::with_capacity(8)).1, 1);
 }
 
-/// How often each export is called.
-const CALLS: usize = 100_000;
+/// How often each export is called: `COMPARED_CALLS` times, or 100,000.
+fn calls() -> usize {
+    std::env::var("COMPARED_CALLS").map_or(100_000, |number| number.parse().expect("a number"))
+}
 
 thread_local! {
     /// How many calls of `malloc` and `realloc` this thread has made.
@@ -392,7 +394,7 @@ macro_rules! compare {
                 window: Vec::new(),
             };
             let mut returned = Vec::new();
-            for _ in 0..CALLS {
+            for _ in 0..calls() {
                 $($made)*
                 #[allow(clippy::unit_arg)]
                 let (ours, taken): ($result, u64) = counted(|| $module::$name($($ours)*));

@@ -13,6 +13,7 @@ use crate::output::StubNumbers;
 use crate::output::SymbolNumbers;
 use crate::output::WordCodes;
 use crate::reading::FieldValueNumbers;
+use crate::recognising::DestinationNumbers;
 use crate::recognising::RecognisedNumbers;
 use crate::relaxing::ItemNumbers;
 use crate::relocate::Reach;
@@ -1176,6 +1177,29 @@ unsafe extern "C" fn linker_utils_recognise_chosen_nonnull(
 }
 
 #[unsafe(no_mangle)]
+unsafe extern "C" fn linker_utils_destination_nonnull(
+    machine: u16,
+    made: *const RecognisedNumbers,
+    original: *const u8,
+    original_len: usize,
+    offset: u64,
+    operands: *const Operands,
+    destination: *mut DestinationNumbers,
+) -> u32 {
+    // SAFETY: the arguments are as the head of the header says.
+    unsafe {
+        crate::recognising::linker_utils_destination_nonnull(
+            machine,
+            &*made,
+            from_raw_parts(original, original_len),
+            offset,
+            &*operands,
+            &mut *destination,
+        )
+    }
+}
+
+#[unsafe(no_mangle)]
 unsafe extern "C" fn linker_utils_standard_shapes(
     number: u32,
     shapes: *mut Shapes,
@@ -1558,6 +1582,17 @@ unsafe extern "C" fn linker_utils_next_modifier(
 }
 
 #[unsafe(no_mangle)]
+extern "C" fn linker_utils_has_rewrites(
+    machine: u16,
+    phase: u32,
+) -> bool {
+    crate::rewriting::linker_utils_has_rewrites(
+        machine,
+        phase,
+    )
+}
+
+#[unsafe(no_mangle)]
 unsafe extern "C" fn linker_utils_survey_nonnull(
     machine: u16,
     output: *const OutputFacts,
@@ -1576,6 +1611,39 @@ unsafe extern "C" fn linker_utils_survey_nonnull(
             machine,
             &*output,
             from_raw_parts(symbols, symbols_len),
+            from_raw_parts(relocations, relocations_len),
+            from_raw_parts(section, section_len),
+            from_raw_parts_mut(kept, kept_len),
+        )
+    }
+}
+
+#[unsafe(no_mangle)]
+unsafe extern "C" fn linker_utils_survey_placed_section_nonnull(
+    machine: u16,
+    phase: u32,
+    output: *const OutputFacts,
+    symbols: *const SymbolFacts,
+    symbols_len: usize,
+    addresses: *const Addresses,
+    values: *const Symbol,
+    values_len: usize,
+    relocations: *const u8,
+    relocations_len: usize,
+    section: *const u8,
+    section_len: usize,
+    kept: *mut KeptGroups,
+    kept_len: usize,
+) -> u32 {
+    // SAFETY: the arguments are as the head of the header says.
+    unsafe {
+        crate::rewriting::linker_utils_survey_placed_section_nonnull(
+            machine,
+            phase,
+            &*output,
+            from_raw_parts(symbols, symbols_len),
+            &*addresses,
+            from_raw_parts(values, values_len),
             from_raw_parts(relocations, relocations_len),
             from_raw_parts(section, section_len),
             from_raw_parts_mut(kept, kept_len),
@@ -1609,6 +1677,49 @@ unsafe extern "C" fn linker_utils_rewrite_section_nonnull(
             from_raw_parts_mut(relocations, relocations_len),
             from_raw_parts_mut(section, section_len),
             from_raw_parts_mut(decisions, decisions_len),
+            &mut *faulty,
+        )
+    }
+}
+
+#[unsafe(no_mangle)]
+unsafe extern "C" fn linker_utils_rewrite_placed_section_nonnull(
+    machine: u16,
+    phase: u32,
+    output: *const OutputFacts,
+    symbols: *const SymbolFacts,
+    symbols_len: usize,
+    addresses: *const Addresses,
+    values: *const Symbol,
+    values_len: usize,
+    kept: *const KeptGroups,
+    kept_len: usize,
+    relocations: *mut u8,
+    relocations_len: usize,
+    section: *mut u8,
+    section_len: usize,
+    decisions: *mut DecisionNumbers,
+    decisions_len: usize,
+    deleted: *mut Deletion,
+    deleted_len: usize,
+    deleted_used: *mut usize,
+    faulty: *mut usize,
+) -> u32 {
+    // SAFETY: the arguments are as the head of the header says.
+    unsafe {
+        crate::rewriting::linker_utils_rewrite_placed_section_nonnull(
+            machine,
+            phase,
+            &*output,
+            from_raw_parts(symbols, symbols_len),
+            &*addresses,
+            from_raw_parts(values, values_len),
+            from_raw_parts(kept, kept_len),
+            from_raw_parts_mut(relocations, relocations_len),
+            from_raw_parts_mut(section, section_len),
+            from_raw_parts_mut(decisions, decisions_len),
+            from_raw_parts_mut(deleted, deleted_len),
+            &mut *deleted_used,
             &mut *faulty,
         )
     }

@@ -63,7 +63,7 @@ impl FieldValueNumbers {
     }
 
     #[inline(always)]
-    fn field(&self) -> FieldValue {
+    pub(crate) fn field(&self) -> FieldValue {
         FieldValue {
             known: BitRange {
                 start: self.first_bit,
@@ -111,7 +111,7 @@ fn read_row(row: &Row, bytes: &[u8], value: &mut FieldValueNumbers) -> u32 {
 }
 
 #[inline(always)]
-fn number_of(reference: Reference) -> u32 {
+pub(crate) fn reference_number(reference: Reference) -> u32 {
     match reference {
         Reference::Symbol => 0,
         Reference::GotEntry => 1,
@@ -132,7 +132,7 @@ fn put_address(
         Some(terms) => match solution {
             None => Status::NoAddress.number(),
             Some(solution) => {
-                *reference = number_of(terms.reference);
+                *reference = reference_number(terms.reference);
                 *address = FieldValueNumbers::of(solution);
                 Status::Success.number()
             }

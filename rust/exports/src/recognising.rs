@@ -2,14 +2,16 @@
 //! What a linker made of a relocation, by the bytes before and after, and the bits of its field.
 
 use crate::choices::{ChoiceNumbers, LinkFactNumbers, in_numbers};
-use crate::reading::FieldValueNumbers;
+use crate::reading::{FieldValueNumbers, reference_number};
 use crate::status::Status;
 use linker_utils::reading::FieldValue;
-use linker_utils::recognise::architecture::{recognise, recognise_chosen, window_of};
+use linker_utils::recognise::architecture::{
+    Destination, destination_of, recognise, recognise_chosen, window_of,
+};
 use linker_utils::recognise::{FieldBits, field_bits, same_but_for};
 use linker_utils::recognise::{CANDIDATES, MAX_WINDOW, Recognised};
 use linker_utils::architecture::Relaxation;
-use linker_utils::elf::{Architecture, RewriteWindow, Row};
+use linker_utils::elf::{Architecture, Choice, Operands, RewriteWindow, Row};
 
 /// Which bits of the bytes that `bytes` begins with a write of the relocation with `r_type` may
 /// change, bit 0 the lowest of the first byte, as `field_bits` of `linker_reading` returns them.
@@ -219,4 +221,95 @@ fn put_chosen(made: Option<Recognised<Relaxation, u32>>, found: &mut RecognisedN
         }
         None => Status::LeavesOtherBytes.number(),
     }
+}
+
+/// Where a recognised relocation leads, in numbers.
+#[repr(C)]
+#[derive(Clone, Copy)]
+pub struct DestinationNumbers {
+    /// What is known of the address: of S + A, L + A, or the GOT entry's.
+    pub address: FieldValueNumbers,
+    /// A, the addend of the relocation after the rewrite.
+    pub addend: i64,
+    /// S, or L of a relocation that goes by a PLT entry; 0 where `has_symbol` is.
+    pub symbol: u64,
+    /// Which address it is: 0 S + A, 1 the GOT entry's, 2 L + A.
+    pub reference: u32,
+    /// 1 where `symbol` is known; 0 of a GOT entry's address, and where not all bits are known.
+    pub has_symbol: u8,
+}
+
+/// A destination in numbers.
+#[inline(always)]
+fn destination_in(destination: &Destination) -> DestinationNumbers {
+    let (has_symbol, symbol) = match destination.symbol() {
+        Some(symbol) => (1, symbol),
+        None => (0, 0),
+    };
+    DestinationNumbers {
+        address: FieldValueNumbers::of(destination.address),
+        addend: destination.addend,
+        symbol,
+        reference: reference_number(destination.reference),
+        has_symbol,
+    }
+}
+
+/// Writes where a relocation leads, if it leads anywhere.
+#[inline(always)]
+fn put_destination(found: Option<Destination>, destination: &mut DestinationNumbers) -> u32 {
+    match found {
+        Some(found) => {
+            *destination = destination_in(&found);
+            Status::Success.number()
+        }
+        None => Status::NoAddress.number(),
+    }
+}
+
+/// Where a relocation leads after a rewrite of the architecture that has these numbers.
+fn put_destination_of(
+    architecture: Architecture,
+    made: &RecognisedNumbers,
+    original: &[u8],
+    offset: u64,
+    operands: &Operands,
+    destination: &mut DestinationNumbers,
+) -> u32 {
+    let choice = &made.choice;
+    let Some(kind) = architecture.rewrite(choice.rewrite, choice.opcode_len) else {
+        return Status::UnknownRewrite.number();
+    };
+    let made = Recognised {
+        choice: Choice {
+            kind,
+            relocation: choice.relocation,
+        },
+        offset: made.offset,
+        value: Some(made.value.field()),
+    };
+    put_destination(
+        destination_of(architecture, &made, original, offset, operands),
+        destination,
+    )
+}
+
+/// Where a relocation leads that `linker_utils_recognise` or `linker_utils_recognise_chosen` found,
+/// with the same original bytes and offset, as `destination_of` of `linker_reading`. The first that
+/// applies of `UnknownArchitecture`; `WindowTooLong`; `UnknownRewrite`; `NoAddress`.
+pub fn linker_utils_destination_nonnull(
+    machine: u16,
+    made: &RecognisedNumbers,
+    original: &[u8],
+    offset: u64,
+    operands: &Operands,
+    destination: &mut DestinationNumbers,
+) -> u32 {
+    let Some(architecture) = Architecture::from_machine(machine) else {
+        return Status::UnknownArchitecture.number();
+    };
+    if original.len() > MAX_WINDOW {
+        return Status::WindowTooLong.number();
+    }
+    put_destination_of(architecture, made, original, offset, operands, destination)
 }

@@ -1,29 +1,164 @@
 // Made by tools/erase of crates/linker_utils_c/src/rewriting.rt.
-//! The rewrites of a section in one call, made before addresses are known.
+//! The rewrites of a section in one call, before addresses are known and once they are.
 
+use crate::deltas::Deletion;
 use crate::status::Status;
-use linker_utils::rewriting::{Decision, RewritingError};
+use linker_utils::rewriting::{AsDecision, Decision, FromDeletion, RewritingError, Subject};
 use linker_utils::rewriting::{OutputFacts, SymbolFacts};
-use linker_utils::rewriting::KeptGroups;
-use linker_utils::rewriting::rewrite_section;
-use linker_utils::rewriting::survey;
-use linker_utils::section::relocations_len;
-use linker_utils::elf::Architecture;
+use linker_utils::rewriting::{KeptGroups, has_rewrites};
+use linker_utils::rewriting::Phase;
+use linker_utils::rewriting::{rewrite_placed_section, rewrite_section};
+use linker_utils::rewriting::{survey, survey_placed_section};
+use linker_utils::section::{Addresses, Symbol};
+use linker_utils::architecture::Relaxation;
+use linker_utils::elf::{Architecture, Choice};
 
 /// What becomes of a relocation and of its instruction, in numbers.
 #[repr(C)]
 #[derive(Clone, Copy)]
 pub struct DecisionNumbers {
+    /// The addend that the relocation gets before the rewrite, if its fate is 3; else 0.
+    pub addend: i64,
+    /// The index of the symbol that the relocation gets, if its fate is 3; else 0.
+    pub symbol: u32,
     /// The rewrite's number; 0 of a relocation whose instruction isn't rewritten, as the fields
     /// below but `fate`.
     pub rewrite: u32,
     /// The relocation's code after it.
     pub relocation: u32,
+    /// `e_machine` of the rewrite's architecture.
+    pub machine: u16,
     /// 0 where both stay as they are, 1 where the instruction is rewritten, 2 where the relocation
-    /// goes, since the rewrite at the one before takes it along.
+    /// goes, since the rewrite at another one takes it along, 3 where the instruction is rewritten and
+    /// the relocation gets another symbol and addend.
     pub fate: u8,
     /// The rewrite's count of bytes before the field; 0 if it has none.
     pub opcode_len: u8,
+}
+
+/// One that rewrites nothing.
+#[inline(always)]
+fn of_fate(fate: u8) -> DecisionNumbers {
+    DecisionNumbers {
+        addend: 0,
+        symbol: 0,
+        rewrite: 0,
+        relocation: 0,
+        machine: 0,
+        fate,
+        opcode_len: 0,
+    }
+}
+
+/// `e_machine` of a rewrite's architecture.
+#[inline(always)]
+fn machine_of(kind: Relaxation) -> u16 {
+    match kind {
+        Relaxation::AArch64(_) => Architecture::AArch64.machine(),
+        Relaxation::RiscV(_) => Architecture::RiscV.machine(),
+        Relaxation::LoongArch64(_) => Architecture::LoongArch64.machine(),
+        Relaxation::Ppc64(_) => Architecture::Ppc64.machine(),
+        Relaxation::X86_64(_) => Architecture::X86_64.machine(),
+    }
+}
+
+impl DecisionNumbers {
+    /// The rewrite and the relocation after it, if its machine has a rewrite of these numbers.
+    #[inline(always)]
+    fn choice(self) -> Option<Choice<Relaxation, u32>> {
+        let architecture = Architecture::from_machine(self.machine)?;
+        let kind = architecture.rewrite(self.rewrite, self.opcode_len)?;
+        Some(Choice {
+            kind,
+            relocation: self.relocation,
+        })
+    }
+}
+
+/// One that rewrites an instruction.
+#[inline(always)]
+fn of_choice(fate: u8, choice: Choice<Relaxation, u32>, subject: Subject) -> DecisionNumbers {
+    let (rewrite, opcode_len) = choice.kind.number();
+    DecisionNumbers {
+        addend: subject.addend,
+        symbol: subject.symbol,
+        rewrite,
+        relocation: choice.relocation,
+        machine: machine_of(choice.kind),
+        fate,
+        opcode_len,
+    }
+}
+
+impl AsDecision for DecisionNumbers {
+    #[inline(always)]
+    fn as_decision(self) -> Decision {
+        if self.fate == 0 {
+            return Decision::Kept;
+        }
+        if self.fate == 2 {
+            return Decision::TakenAlong;
+        }
+        let Some(choice) = self.choice() else {
+            return Decision::Kept;
+        };
+        if self.fate == 1 {
+            Decision::Rewritten(choice)
+        } else {
+            Decision::Redirected(
+                choice,
+                Subject {
+                    symbol: self.symbol,
+                    addend: self.addend,
+                },
+            )
+        }
+    }
+
+    #[inline(always)]
+    fn from_decision(made: Decision) -> DecisionNumbers {
+        match made {
+            Decision::Kept => of_fate(0),
+            Decision::TakenAlong => of_fate(2),
+            Decision::Rewritten(choice) => of_choice(
+                1,
+                choice,
+                Subject {
+                    symbol: 0,
+                    addend: 0,
+                },
+            ),
+            Decision::Redirected(choice, subject) => of_choice(3, choice, subject),
+        }
+    }
+}
+
+impl FromDeletion for Deletion {
+    #[inline(always)]
+    fn from_deletion(offset: u64, bytes: u32) -> Deletion {
+        Deletion { offset, bytes }
+    }
+}
+
+/// The phase with a number.
+#[inline(always)]
+fn phase_of(number: u32) -> Option<Phase> {
+    match number {
+        0 => Some(Phase::Early),
+        1 => Some(Phase::ThreadOffsets),
+        2 => Some(Phase::GotLoads),
+        3 => Some(Phase::Distances),
+        _ => None,
+    }
+}
+
+/// Whether an architecture has rewrites in a phase, as `has_rewrites` of `linker_rewriting`. False of
+/// a machine or a phase that isn't known.
+pub fn linker_utils_has_rewrites(machine: u16, phase: u32) -> bool {
+    match (Architecture::from_machine(machine), phase_of(phase)) {
+        (Some(architecture), Some(phase)) => has_rewrites(architecture, phase),
+        _ => false,
+    }
 }
 
 /// Notes which groups of an object stay as they are, by one of its sections, as `survey` of
@@ -43,29 +178,53 @@ pub fn linker_utils_survey_nonnull(
     Status::Success.number()
 }
 
-/// A decision in numbers.
-#[inline(always)]
-fn in_numbers(decision: Decision) -> DecisionNumbers {
-    let (fate, rewrite, opcode_len, relocation) = match decision {
-        Decision::Kept => (0, 0, 0, 0),
-        Decision::Rewritten(choice) => {
-            let (rewrite, opcode_len) = choice.kind.number();
-            (1, rewrite, opcode_len, choice.relocation)
-        }
-        Decision::TakenAlong => (2, 0, 0, 0),
+/// Notes which groups of an object stay in a phase once addresses are known, by one of its sections,
+/// as `survey_placed_section` of `linker_rewriting`. The first that applies of `UnknownArchitecture`;
+/// `UnknownPhase`.
+pub fn linker_utils_survey_placed_section_nonnull(
+    machine: u16,
+    phase: u32,
+    output: &OutputFacts,
+    symbols: &[SymbolFacts],
+    addresses: &Addresses,
+    values: &[Symbol],
+    relocations: &[u8],
+    section: &[u8],
+    kept: &mut [KeptGroups],
+) -> u32 {
+    let Some(architecture) = Architecture::from_machine(machine) else {
+        return Status::UnknownArchitecture.number();
     };
-    DecisionNumbers {
-        rewrite,
-        relocation,
-        fate,
-        opcode_len,
-    }
+    let Some(phase) = phase_of(phase) else {
+        return Status::UnknownPhase.number();
+    };
+    survey_placed_section(
+        architecture,
+        phase,
+        output,
+        symbols,
+        addresses,
+        values,
+        relocations,
+        section,
+        kept,
+    );
+    Status::Success.number()
 }
 
-/// Writes all decisions in numbers.
-fn write_decisions(decisions: &[Decision], numbers: &mut [DecisionNumbers]) {
-    for index in 0..decisions.len() {
-        numbers[index] = in_numbers(decisions[index]);
+/// The status of an error. The index of the relocation at fault is written, if one is.
+#[inline(always)]
+fn put_error(error: RewritingError, faulty: &mut usize) -> u32 {
+    match error {
+        RewritingError::TooShort => Status::ShortMemory.number(),
+        RewritingError::NotSurveyed(index) => {
+            *faulty = index;
+            Status::NotSurveyed.number()
+        }
+        RewritingError::Overlaps(index) => {
+            *faulty = index;
+            Status::Overlaps.number()
+        }
     }
 }
 
@@ -73,10 +232,9 @@ fn write_decisions(decisions: &[Decision], numbers: &mut [DecisionNumbers]) {
 /// relocations into those after it, as `rewrite_section` of `linker_rewriting`. What became of each
 /// relocation is in `decisions`, whose elements behind those of the relocations are unchanged.
 ///
-/// It allocates 24 bytes a relocation at most, and frees them. The first that applies of
-/// `UnknownArchitecture`; `ShortMemory`, where there are fewer decisions than relocations;
-/// `OutOfMemory`; and why it can't rewrite the relocation at `faulty`: `NotSurveyed` or `Overlaps`.
-/// Then all is unchanged but `faulty`.
+/// The first that applies of `UnknownArchitecture`; `ShortMemory`, where there are fewer decisions than
+/// relocations; and why it can't rewrite the relocation at `faulty`: `NotSurveyed` or `Overlaps`.
+/// Then the section and its relocations are unchanged, and the decisions below `faulty` are made.
 pub fn linker_utils_rewrite_section_nonnull(
     machine: u16,
     output: &OutputFacts,
@@ -90,59 +248,6 @@ pub fn linker_utils_rewrite_section_nonnull(
     let Some(architecture) = Architecture::from_machine(machine) else {
         return Status::UnknownArchitecture.number();
     };
-    rewrite_into(
-        architecture,
-        output,
-        symbols,
-        kept,
-        relocations,
-        section,
-        decisions,
-        faulty,
-    )
-}
-
-fn rewrite_into(
-    architecture: Architecture,
-    output: &OutputFacts,
-    symbols: &[SymbolFacts],
-    kept: &[KeptGroups],
-    relocations: &mut [u8],
-    section: &mut [u8],
-    decisions: &mut [DecisionNumbers],
-    faulty: &mut usize,
-) -> u32 {
-    let len = relocations_len(relocations);
-    if decisions.len() < len {
-        return Status::ShortMemory.number();
-    }
-    let Ok(mut made) = try_vec![Decision::Kept; len] else {
-        return Status::OutOfMemory.number();
-    };
-    rewrite_with(
-        architecture,
-        output,
-        symbols,
-        kept,
-        relocations,
-        section,
-        &mut made,
-        decisions,
-        faulty,
-    )
-}
-
-fn rewrite_with(
-    architecture: Architecture,
-    output: &OutputFacts,
-    symbols: &[SymbolFacts],
-    kept: &[KeptGroups],
-    relocations: &mut [u8],
-    section: &mut [u8],
-    made: &mut [Decision],
-    decisions: &mut [DecisionNumbers],
-    faulty: &mut usize,
-) -> u32 {
     match rewrite_section(
         architecture,
         output,
@@ -150,20 +255,60 @@ fn rewrite_with(
         kept,
         relocations,
         section,
-        made,
+        decisions,
     ) {
-        Ok(()) => {
-            write_decisions(made, decisions);
+        Ok(()) => Status::Success.number(),
+        Err(error) => put_error(error, faulty),
+    }
+}
+
+/// Rewrites the instructions of a section of code in a phase, once addresses are known, and turns its
+/// relocations into those after it, as `rewrite_placed_section` of `linker_rewriting`. What became of
+/// each relocation is in `decisions`, and what is to be deleted in the first `deleted_used` elements of
+/// `deleted`; the elements behind these are unchanged.
+///
+/// The first that applies of `UnknownArchitecture`; `UnknownPhase`; `ShortMemory`, where there are
+/// fewer decisions than relocations; why it can't rewrite the relocation at `faulty`, `NotSurveyed` or
+/// `Overlaps`; and `ShortMemory`, where there are fewer elements of `deleted` than deletions. Then the
+/// section, its relocations and `deleted_used` are unchanged.
+pub fn linker_utils_rewrite_placed_section_nonnull(
+    machine: u16,
+    phase: u32,
+    output: &OutputFacts,
+    symbols: &[SymbolFacts],
+    addresses: &Addresses,
+    values: &[Symbol],
+    kept: &[KeptGroups],
+    relocations: &mut [u8],
+    section: &mut [u8],
+    decisions: &mut [DecisionNumbers],
+    deleted: &mut [Deletion],
+    deleted_used: &mut usize,
+    faulty: &mut usize,
+) -> u32 {
+    let Some(architecture) = Architecture::from_machine(machine) else {
+        return Status::UnknownArchitecture.number();
+    };
+    let Some(phase) = phase_of(phase) else {
+        return Status::UnknownPhase.number();
+    };
+    match rewrite_placed_section(
+        architecture,
+        phase,
+        output,
+        symbols,
+        addresses,
+        values,
+        kept,
+        relocations,
+        section,
+        decisions,
+        deleted,
+    ) {
+        Ok(len) => {
+            *deleted_used = len;
             Status::Success.number()
         }
-        Err(RewritingError::TooShort) => Status::ShortMemory.number(),
-        Err(RewritingError::NotSurveyed(index)) => {
-            *faulty = index;
-            Status::NotSurveyed.number()
-        }
-        Err(RewritingError::Overlaps(index)) => {
-            *faulty = index;
-            Status::Overlaps.number()
-        }
+        Err(error) => put_error(error, faulty),
     }
 }

@@ -149,6 +149,8 @@ pub enum Status {
     NotProvided,
     /// No kind of stubs has this number, or the architecture has no stub of the kind.
     UnknownStub,
+    /// No phase of rewrites has this number.
+    UnknownPhase,
 }
 
 impl Status {

@@ -71,7 +71,7 @@ fn deletes_within(section: &[u8], offset: u64, deleted: Option<DeletedBytes>) ->
 
 /// The rewrite of the instruction of the relocation with an index by facts, and the code of the
 /// relocation after it, as `candidate` says.
-fn candidate_by(
+pub(crate) fn candidate_by(
     architecture: Architecture,
     symbols: &[SymbolFacts],
     relocations: &[u8],

@@ -4,6 +4,7 @@
 use crate::linker_rewriting::candidates::candidate;
 use crate::linker_rewriting::facts::{OutputFacts, SymbolFacts};
 use crate::linker_rewriting::groups::{KeptGroups, Scope, group_stays, scope_in};
+use crate::linker_rewriting::labels::{high_of, is_note, label_candidate, note_labels};
 use crate::linker_rewriting::phases::Phase;
 use crate::linker_rewriting::relocations::relocation_in;
 use crate::linker_base::rewrite::DeletedBytes;
@@ -11,6 +12,16 @@ use crate::linker_section::facts::{Addresses, Symbol};
 use crate::linker_section::relocations::{Rela, relocation_at, relocations_len};
 use crate::architecture::Relaxation;
 use crate::elf::{Architecture, Choice, InstructionRewrite, RewriteWindow};
+use crate::relaxation::AsDeletion;
+
+/// What a relocation is of once its instruction is rewritten.
+#[derive(Debug, Clone, Copy, PartialEq, Eq)]
+pub struct Subject {
+    /// The index of its symbol.
+    pub symbol: u32,
+    /// Its addend, before what the rewrite makes of it.
+    pub addend: i64,
+}
 
 /// What becomes of a relocation and of its instruction.
 #[derive(Debug, Clone, Copy, PartialEq, Eq)]
@@ -19,8 +30,49 @@ pub enum Decision {
     Kept,
     /// The instruction is rewritten by this, and the relocation becomes the one after it.
     Rewritten(Choice<Relaxation, u32>),
+    /// The same, but the relocation after it is of another symbol and addend: of a TLS descriptor of
+    /// RISC-V all get those of the high part, whose label was their symbol.
+    Redirected(Choice<Relaxation, u32>, Subject),
     /// The relocation goes, since the rewrite at the one before or at the next one takes it along.
     TakenAlong,
+}
+
+/// What becomes of a relocation: a `Decision`, or an element of the caller's own array that says as
+/// much.
+pub trait AsDecision: Copy {
+    /// The decision.
+    #[must_use]
+    fn as_decision(self) -> Decision;
+
+    /// The form that a decision is written in.
+    #[must_use]
+    fn from_decision(made: Decision) -> Self;
+}
+
+impl AsDecision for Decision {
+    #[inline(always)]
+    fn as_decision(self) -> Decision {
+        self
+    }
+
+    #[inline(always)]
+    fn from_decision(made: Decision) -> Decision {
+        made
+    }
+}
+
+/// What deletions are listed in: pairs of an offset and how many bytes, or the caller's own structs.
+pub trait FromDeletion: AsDeletion {
+    /// The element that records a deletion by the offset of its first byte and how many it has.
+    #[must_use]
+    fn from_deletion(offset: u64, bytes: u32) -> Self;
+}
+
+impl FromDeletion for (u64, u32) {
+    #[inline(always)]
+    fn from_deletion(offset: u64, bytes: u32) -> (u64, u32) {
+        (offset, bytes)
+    }
 }
 
 /// Why a section isn't rewritten.
@@ -43,6 +95,7 @@ impl Decision {
     pub fn takes_next(&self) -> bool {
         match self {
             Decision::Rewritten(choice) => choice.kind.skipped_offset().is_some(),
+            Decision::Redirected(choice, _) => choice.kind.skipped_offset().is_some(),
             _ => false,
         }
     }
@@ -54,6 +107,7 @@ impl Decision {
     pub fn window(&self) -> RewriteWindow {
         match self {
             Decision::Rewritten(choice) => choice.kind.window(),
+            Decision::Redirected(choice, _) => choice.kind.window(),
             _ => RewriteWindow { back: 0, len: 0 },
         }
     }
@@ -64,6 +118,7 @@ impl Decision {
     pub fn deleted(&self) -> Option<DeletedBytes> {
         match self {
             Decision::Rewritten(choice) => choice.kind.deleted(),
+            Decision::Redirected(choice, _) => choice.kind.deleted(),
             _ => None,
         }
     }
@@ -102,9 +157,63 @@ fn is_rewritten_at(
     }
 }
 
-/// What becomes of a relocation that no other takes along. None if its group doesn't stay, but it
-/// can't be rewritten.
+/// What rewrites the instruction of a relocation of a label with a high part.
+#[inline(always)]
+fn label_decision(phase: Phase, chosen: Choice<Relaxation, u32>, high: &Rela) -> Decision {
+    match phase {
+        Phase::ThreadOffsets => Decision::Redirected(
+            chosen,
+            Subject {
+                symbol: high.symbol,
+                addend: high.addend,
+            },
+        ),
+        _ => Decision::Rewritten(chosen),
+    }
+}
+
+/// What becomes of a relocation of a label whose group stays or doesn't.
+fn decide_label(
+    stays: bool,
+    architecture: Architecture,
+    phase: Phase,
+    output: &OutputFacts,
+    symbols: &[SymbolFacts],
+    addresses: &Addresses,
+    values: &[Symbol],
+    relocations: &[u8],
+    section: &[u8],
+    index: usize,
+    relocation: &Rela,
+) -> Decision {
+    if stays {
+        return Decision::Kept;
+    }
+    let Some(high) = high_of(phase, addresses, values, relocations, relocation) else {
+        return Decision::Kept;
+    };
+    match label_candidate(
+        architecture,
+        phase,
+        output,
+        symbols,
+        addresses,
+        values,
+        relocations,
+        section,
+        index,
+        relocation,
+        high,
+    ) {
+        Some(chosen) => label_decision(phase, chosen, &relocation_in(relocations, high)),
+        None => Decision::Kept,
+    }
+}
+
+/// What becomes of a relocation that no other takes along. `stays` is what was noted of its label. None
+/// if its group doesn't stay, but it can't be rewritten.
 fn decide(
+    stays: bool,
     architecture: Architecture,
     phase: Phase,
     output: &OutputFacts,
@@ -176,6 +285,19 @@ fn decide(
                 None => Some(Decision::Kept),
             }
         }
+        Scope::Labelled => Some(decide_label(
+            stays,
+            architecture,
+            phase,
+            output,
+            symbols,
+            addresses,
+            values,
+            relocations,
+            section,
+            index,
+            relocation,
+        )),
         Scope::Ahead => {
             if is_rewritten_at(
                 architecture,
@@ -200,6 +322,7 @@ fn decide(
 #[inline(always)]
 fn decide_after(
     is_taken: bool,
+    stays: bool,
     architecture: Architecture,
     phase: Phase,
     output: &OutputFacts,
@@ -216,6 +339,7 @@ fn decide_after(
         return Some(Decision::TakenAlong);
     }
     decide(
+        stays,
         architecture,
         phase,
         output,
@@ -268,7 +392,7 @@ fn end_behind(start: u64, own: u64, end: u64) -> Option<u64> {
 
 /// Decides what becomes of each relocation of a section and of its instruction, in the caller's
 /// memory. Nothing is rewritten.
-pub(crate) fn decide_section(
+pub(crate) fn decide_section<D: AsDecision>(
     architecture: Architecture,
     phase: Phase,
     output: &OutputFacts,
@@ -278,18 +402,31 @@ pub(crate) fn decide_section(
     kept: &[KeptGroups],
     relocations: &[u8],
     section: &[u8],
-    decisions: &mut [Decision],
+    decisions: &mut [D],
 ) -> Result<(), RewritingError> {
     let len = relocations_len(relocations);
     if decisions.len() < len {
         return Err(RewritingError::TooShort);
     }
+    note_labels(
+        architecture,
+        phase,
+        output,
+        symbols,
+        addresses,
+        values,
+        relocations,
+        section,
+        decisions,
+    );
     let mut end = 0;
     let mut is_taken = false;
     for index in 0..len {
         let relocation = relocation_in(relocations, index);
+        let stays = is_note(&decisions[index].as_decision());
         let Some(decision) = decide_after(
             is_taken,
+            stays,
             architecture,
             phase,
             output,
@@ -311,7 +448,7 @@ pub(crate) fn decide_section(
         };
         end = new_end;
         is_taken = decision.takes_next();
-        decisions[index] = decision;
+        decisions[index] = D::from_decision(decision);
     }
     Ok(())
 }

@@ -33,7 +33,8 @@ pub enum Group {
 pub enum Scope {
     /// It isn't rewritten.
     Unlisted,
-    /// It alone, and what its rewrite takes along.
+    /// It alone, and what its rewrite takes along. Of two that are a load from LoongArch's GOT both
+    /// are rewritten, or neither is.
     Alone,
     /// All of its group.
     Grouped(Group),
@@ -43,6 +44,8 @@ pub enum Scope {
     /// It alone, by its own value, where each instruction of its group is one that the rewrite is
     /// meant for.
     Matched(Group),
+    /// All of one label of RISC-V: a high part, and the low parts whose symbol is the label at it.
+    Labelled,
 }
 
 /// The groups of a symbol that stay as they are, since one of their instructions can't be rewritten.
@@ -128,7 +131,7 @@ fn aarch64_scope(name: AArch64Relocation) -> Scope {
 fn loongarch_scope(name: LoongArch64Relocation) -> Scope {
     match name {
         LoongArch64Relocation::R_LARCH_GOT_PC_HI20 | LoongArch64Relocation::R_LARCH_GOT_PC_LO12 =>
-            Scope::Grouped(Group::GotLoad),
+            Scope::Alone,
         LoongArch64Relocation::R_LARCH_TLS_IE_PC_HI20
         | LoongArch64Relocation::R_LARCH_TLS_IE_PC_LO12
         | LoongArch64Relocation::R_LARCH_TLS_IE64_PC_LO20
@@ -231,9 +234,19 @@ fn riscv_scope_in(phase: Phase, name: RiscVRelocation) -> Scope {
             | RiscVRelocation::R_RISCV_TPREL_ADD
             | RiscVRelocation::R_RISCV_TPREL_LO12_I
             | RiscVRelocation::R_RISCV_TPREL_LO12_S => Scope::Grouped(Group::InitialExec),
+            RiscVRelocation::R_RISCV_TLSDESC_HI20
+            | RiscVRelocation::R_RISCV_TLSDESC_LOAD_LO12
+            | RiscVRelocation::R_RISCV_TLSDESC_ADD_LO12
+            | RiscVRelocation::R_RISCV_TLSDESC_CALL => Scope::Labelled,
             _ => Scope::Unlisted,
         },
-        Phase::Early | Phase::GotLoads | Phase::Distances => Scope::Unlisted,
+        Phase::GotLoads => match name {
+            RiscVRelocation::R_RISCV_GOT_HI20
+            | RiscVRelocation::R_RISCV_PCREL_LO12_I
+            | RiscVRelocation::R_RISCV_PCREL_LO12_S => Scope::Labelled,
+            _ => Scope::Unlisted,
+        },
+        Phase::Early | Phase::Distances => Scope::Unlisted,
     }
 }
 
@@ -313,7 +326,7 @@ pub fn scope_in(architecture: Architecture, phase: Phase, code: u32) -> Scope {
 fn is_listed(architecture: Architecture, phase: Phase) -> bool {
     match architecture {
         Architecture::AArch64 => !matches!(phase, Phase::ThreadOffsets),
-        Architecture::RiscV => matches!(phase, Phase::ThreadOffsets),
+        Architecture::RiscV => matches!(phase, Phase::ThreadOffsets | Phase::GotLoads),
         Architecture::LoongArch64 => matches!(phase, Phase::Early | Phase::ThreadOffsets),
         Architecture::Ppc64 => !matches!(phase, Phase::GotLoads),
         Architecture::X86_64 => matches!(phase, Phase::Early),

@@ -1,7 +1,7 @@
 // Made by tools/erase of crates/linker_rewriting/src/sections.rt.
 //! The rewrites of a section, made in one call for each phase.
 
-use crate::linker_rewriting::decisions::{Decision, RewritingError, decide_section};
+use crate::linker_rewriting::decisions::{AsDecision, Decision, FromDeletion, RewritingError, decide_section};
 use crate::linker_rewriting::facts::{NO_ADDRESSES, OutputFacts, SymbolFacts};
 use crate::linker_rewriting::groups::KeptGroups;
 use crate::linker_rewriting::phases::Phase;
@@ -22,13 +22,20 @@ fn make(decision: Decision, relocation: &mut Rela, section: &mut [u8]) {
                 .apply(section, &mut relocation.offset, &mut relocation.addend);
             relocation.code = choice.relocation;
         }
+        Decision::Redirected(choice, subject) => {
+            relocation.symbol = subject.symbol;
+            relocation.addend = subject.addend;
+            let kind = choice.kind;
+            kind.apply(section, &mut relocation.offset, &mut relocation.addend);
+            relocation.code = choice.relocation;
+        }
     }
 }
 
 /// Makes what was decided.
-fn make_all(decisions: &[Decision], relocations: &mut [u8], section: &mut [u8]) {
+fn make_all<D: AsDecision>(decisions: &[D], relocations: &mut [u8], section: &mut [u8]) {
     for index in 0..relocations_len(relocations) {
-        let decision = decisions[index];
+        let decision = decisions[index].as_decision();
         if let Decision::Kept = decision {
             continue;
         }
@@ -88,14 +95,14 @@ fn make_all(decisions: &[Decision], relocations: &mut [u8], section: &mut [u8]) 
 /// // R_X86_64_PC32
 /// assert_eq!(relocations[8], 2);
 /// ```
-pub fn rewrite_section(
+pub fn rewrite_section<D: AsDecision>(
     architecture: Architecture,
     output: &OutputFacts,
     symbols: &[SymbolFacts],
     kept: &[KeptGroups],
     relocations: &mut [u8],
     section: &mut [u8],
-    decisions: &mut [Decision],
+    decisions: &mut [D],
 ) -> Result<(), RewritingError> {
     match decide_section(
         architecture,
@@ -119,21 +126,21 @@ pub fn rewrite_section(
 
 /// Lists what decisions delete, in the caller's memory. Returns how many there are; none where there
 /// is less room.
-fn list_deletions(
+fn list_deletions<D: AsDecision, L: FromDeletion>(
     relocations: &[u8],
-    decisions: &[Decision],
-    deleted: &mut [(u64, u32)],
+    decisions: &[D],
+    deleted: &mut [L],
 ) -> Option<usize> {
     let mut len = 0;
     for index in 0..relocations_len(relocations) {
-        let Some(bytes) = decisions[index].deleted() else {
+        let Some(bytes) = decisions[index].as_decision().deleted() else {
             continue;
         };
         if deleted.len() <= len {
             return None;
         }
         let relocation = relocation_in(relocations, index);
-        deleted[len] = (relocation.offset + bytes.start, bytes.count);
+        deleted[len] = L::from_deletion(relocation.offset + bytes.start, bytes.count);
         len += 1;
     }
     Some(len)
@@ -158,9 +165,12 @@ fn list_deletions(
 /// - `ThreadOffsets`: where an offset from the thread pointer has 12 bits, RISC-V's and LoongArch's
 ///   `lui` and `add` of it are deleted, and loads and stores are over the thread pointer; where it has
 ///   16 bits, PowerPC64's `addis` becomes a `nop`. An instruction of RISC-V and LoongArch has to be
-///   marked for that.
+///   marked for that. RISC-V's TLS descriptors become such offsets too, all of a label or none: what is
+///   left out is deleted where the high part is marked, and a `nop` elsewhere. Their relocations are then
+///   of the symbol and the addend of the high part (`Decision::Redirected`).
 /// - `GotLoads`: AArch64's loads of an address from the GOT become `adrp` and `add`, where both
-///   relocations are next to each other and have no addend.
+///   relocations are next to each other and have no addend. RISC-V's become `auipc` and `addi`, where all
+///   of a label are marked.
 /// - `Distances`: AArch64's `adrp` and `add` next to each other become `nop` and `adr`. Where a distance
 ///   from the TOC pointer has 16 bits, PowerPC64's `addis` becomes a `nop`, and what reads it is over the
 ///   TOC pointer.
@@ -199,7 +209,7 @@ fn list_deletions(
 ///     &mut relocations,
 ///     &mut section,
 ///     &mut [Decision::Kept; 2],
-///     &mut [],
+///     &mut [(0, 0); 0],
 /// );
 /// assert_eq!(rewritten, Ok(0));
 /// assert_eq!(section, [0x1f, 0x20, 0x03, 0xd5, 0, 0, 0, 0x10]);
@@ -207,7 +217,7 @@ fn list_deletions(
 /// assert_eq!((relocations[8], relocations[9]), (0, 0));
 /// assert_eq!((relocations[32], relocations[33]), (0x12, 1));
 /// ```
-pub fn rewrite_placed_section(
+pub fn rewrite_placed_section<D: AsDecision, L: FromDeletion>(
     architecture: Architecture,
     phase: Phase,
     output: &OutputFacts,
@@ -217,8 +227,8 @@ pub fn rewrite_placed_section(
     kept: &[KeptGroups],
     relocations: &mut [u8],
     section: &mut [u8],
-    decisions: &mut [Decision],
-    deleted: &mut [(u64, u32)],
+    decisions: &mut [D],
+    deleted: &mut [L],
 ) -> Result<usize, RewritingError> {
     if let Err(error) = decide_section(
         architecture,

@@ -221,6 +221,7 @@ pub fn survey(
 /// `survey` does before. `rewrite_placed_section` rewrites all of a group or none by these notes, so
 /// survey each section of code of an object before one of them is rewritten in the phase, with one
 /// table for the object and the phase. A group stays too where a table has no entry for its symbol.
+/// Relocations of a label of RISC-V aren't surveyed: all of a label are in one section.
 ///
 /// `symbols` and `values` both have an object's symbols at the indexes that its relocations name.
 ///

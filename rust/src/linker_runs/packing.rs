@@ -2,14 +2,13 @@
 //! A section of a relaxed run, packed.
 
 mod code;
-mod copying;
 mod loongarch64;
 mod riscv64;
 
 use crate::linker_runs::items::{AsItem, ItemList};
 use crate::linker_runs::packing::code::Code;
-use crate::linker_runs::packing::copying::{begun_about, begun_at, copy_kept, to_output};
 use crate::linker_runs::relaxation::{Item, Site};
+use crate::linker_base::packing::{Position, copy_kept, position_from, position_near, position_of};
 use crate::linker_base::relaxation::{DeltaSlice, RelaxDelta};
 
 /// The architecture of a section's code.
@@ -63,14 +62,9 @@ pub(crate) enum Piece {
     Code(Code),
 }
 
-/// Whether the item at an index begins at or above the end of the one before it.
-fn is_apart<I: AsItem>(items: &ItemList<'_, I>, index: usize) -> bool {
-    if index == 0 {
-        return true;
-    }
-    let before = items.at(index - 1);
-    let offset = items.at(index).offset();
-    before.offset() <= offset && before.len() <= offset - before.offset()
+/// Whether the item at an index begins at or above a position behind the one before it.
+fn is_apart(index: usize, behind: &Position, item: &Item) -> bool {
+    index == 0 || behind.input_offset <= item.offset()
 }
 
 /// Whether an item lies in a section that begins at the input offset `base`.
@@ -83,19 +77,9 @@ fn is_inside(section: &[u8], base: u64, item: &Item) -> bool {
     at <= len && item.len() <= len - at
 }
 
-/// Where the bytes before the item at an index, which are of no item, begin.
-fn gap_start<I: AsItem>(base: u64, items: &ItemList<'_, I>, index: usize) -> u64 {
-    if index == 0 {
-        return base;
-    }
-    let before = items.at(index - 1);
-    before.offset() + before.len()
-}
-
-/// Whether all bytes from an input offset up to another stay.
-fn stay_whole(deltas: &[RelaxDelta], near: usize, from: u64, to: u64) -> bool {
-    let output = to_output(deltas, near, from);
-    to_output(deltas, near, to).saturating_sub(output) == to - from
+/// Whether all bytes between two positions stay.
+fn stay_whole(from: &Position, to: &Position) -> bool {
+    to.output_offset.saturating_sub(from.output_offset) == to.input_offset - from.input_offset
 }
 
 /// What the instructions of a site become of which so many bytes stay.
@@ -104,7 +88,7 @@ fn code_of_site(
     section: &[u8],
     base: u64,
     deltas: &[RelaxDelta],
-    near: usize,
+    at: &Position,
     start: u64,
     site: &Site,
     kept: u64,
@@ -112,9 +96,8 @@ fn code_of_site(
     if site.len != 8 {
         return Err(ItemError::NotItsInstructions);
     }
-    let place = start.wrapping_add(to_output(deltas, near, site.offset));
-    let there = begun_about(deltas, near, site.offset, site.target);
-    let target = start.wrapping_add(to_output(deltas, there, site.target));
+    let place = start.wrapping_add(at.output_offset);
+    let target = start.wrapping_add(position_near(deltas, at, site.target).output_offset);
     match machine {
         Machine::RiscV64 => riscv64::code_of(section, site.offset - base, kept, place, target),
         Machine::LoongArch64 => {
@@ -139,11 +122,15 @@ fn is_fixed(item: &Item) -> bool {
     }
 }
 
-/// How many bytes of an item stay, if they are its first ones.
-fn kept_of(deltas: &[RelaxDelta], near: usize, item: &Item) -> Option<u64> {
-    let from = to_output(deltas, near, item.offset());
-    let kept = to_output(deltas, near, item.offset() + item.len()).saturating_sub(from);
-    if kept <= item.len() && to_output(deltas, near, item.offset() + kept) == from + kept {
+/// How many bytes of an item at a position stay, if they are its first ones.
+fn kept_of(deltas: &[RelaxDelta], at: &Position, item: &Item) -> Option<u64> {
+    let end = position_from(deltas, at, at.input_offset + item.len());
+    let kept = end.output_offset.saturating_sub(at.output_offset);
+    if kept > item.len() {
+        return None;
+    }
+    let behind = position_from(deltas, at, at.input_offset + kept);
+    if behind.output_offset == at.output_offset + kept {
         Some(kept)
     } else {
         None
@@ -156,7 +143,7 @@ fn piece_for(
     section: &[u8],
     base: u64,
     deltas: &[RelaxDelta],
-    near: usize,
+    at: &Position,
     start: u64,
     item: &Item,
     kept: u64,
@@ -170,7 +157,7 @@ fn piece_for(
             }
         }
         Item::Site(site) => {
-            match code_of_site(machine, section, base, deltas, near, start, site, kept) {
+            match code_of_site(machine, section, base, deltas, at, start, site, kept) {
                 Ok(code) => Ok(Piece::Code(code)),
                 Err(error) => Err(error),
             }
@@ -184,15 +171,15 @@ fn piece_of(
     section: &[u8],
     base: u64,
     deltas: &[RelaxDelta],
-    near: usize,
+    at: &Position,
     start: u64,
     item: &Item,
 ) -> Result<Piece, ItemError> {
     if is_fixed(item) {
         return Ok(Piece::Nothing);
     }
-    match kept_of(deltas, near, item) {
-        Some(kept) => piece_for(machine, section, base, deltas, near, start, item, kept),
+    match kept_of(deltas, at, item) {
+        Some(kept) => piece_for(machine, section, base, deltas, at, start, item, kept),
         None => Err(ItemError::NotItsFirstBytes),
     }
 }
@@ -206,38 +193,40 @@ fn test_items<I: AsItem>(
     deltas: &[RelaxDelta],
     start: u64,
 ) -> Result<(), RejectedItem> {
-    let mut near = 0;
-    for index in 0..items.len() {
-        if !is_apart(items, index) {
+    let count = items.len();
+    let mut behind = position_of(deltas, base);
+    for index in 0..count {
+        let item = items.at(index);
+        if !is_apart(index, &behind, &item) {
             return Err(RejectedItem {
                 index,
                 error: ItemError::Overlaps,
             });
         }
-        let item = items.at(index);
         if !is_inside(section, base, &item) {
             return Err(RejectedItem {
                 index,
                 error: ItemError::OutOfSection,
             });
         }
-        if !stay_whole(deltas, near, gap_start(base, items, index), item.offset()) {
+        let at = position_from(deltas, &behind, item.offset());
+        if !stay_whole(&behind, &at) {
             return Err(RejectedItem {
                 index,
                 error: ItemError::DeletedOutside,
             });
         }
-        near = begun_at(deltas, near, item.offset());
-        if let Err(error) = piece_of(machine, section, base, deltas, near, start, &item) {
+        if let Err(error) = piece_of(machine, section, base, deltas, &at, start, &item) {
             return Err(RejectedItem { index, error });
         }
+        behind = position_from(deltas, &at, item.offset().saturating_add(item.len()));
     }
-    let end = base + section.len() as u64;
-    if stay_whole(deltas, near, gap_start(base, items, items.len()), end) {
+    let end = position_from(deltas, &behind, base + section.len() as u64);
+    if stay_whole(&behind, &end) {
         Ok(())
     } else {
         Err(RejectedItem {
-            index: items.len(),
+            index: count,
             error: ItemError::DeletedOutside,
         })
     }
@@ -301,19 +290,19 @@ fn put_items<I: AsItem>(
     start: u64,
     packed: &mut [u8],
 ) {
-    let mut near = begun_at(deltas, 0, base);
-    let before = to_output(deltas, near, base);
+    let mut at = position_of(deltas, base);
+    let before = at.output_offset;
     for index in 0..items.len() {
         let item = items.at(index);
         if !is_inside(section, base, &item) {
             return;
         }
-        near = begun_at(deltas, near, item.offset());
-        match piece_of(machine, section, base, deltas, near, start, &item) {
+        at = position_from(deltas, &at, item.offset());
+        match piece_of(machine, section, base, deltas, &at, start, &item) {
             Err(_error) => return,
             Ok(piece) => {
-                let at = to_output(deltas, near, item.offset()).saturating_sub(before);
-                put_piece(machine, packed, at, piece);
+                let place = at.output_offset.saturating_sub(before);
+                put_piece(machine, packed, place, piece);
             }
         }
     }

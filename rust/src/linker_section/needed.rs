@@ -1,7 +1,7 @@
 // Made by tools/erase of crates/linker_section/src/needed.rt.
 //! What a relocation requires of a linker before addresses are known.
 
-use crate::linker_section::codes::{NO_ROW, byte_of};
+use crate::linker_section::codes::{NO_ROW, number_of};
 use crate::elf::{Architecture, RelocationInstruction, RelocationKind, RelocationSize};
 
 /// What an entry of the GOT holds.
@@ -99,9 +99,9 @@ pub(crate) fn may_use_stub(size: RelocationSize, kind: RelocationKind) -> bool {
         ) && !loads_plt_word(size, kind))
 }
 
-/// The class with a number in the byte of a code.
+/// The class that the low three bits of a code's number are.
 #[inline(always)]
-fn class_by(number: u8, is_thread_local: bool) -> Option<EntryClass> {
+fn class_by(number: u16, is_thread_local: bool) -> Option<EntryClass> {
     match number {
         0 => Some(EntryClass::Address),
         1 => Some(EntryClass::ThreadOffset),
@@ -114,27 +114,27 @@ fn class_by(number: u8, is_thread_local: bool) -> Option<EntryClass> {
     }
 }
 
-/// The entry that the byte of a code says.
+/// The entry that the number of a code says.
 #[inline(always)]
-pub(crate) fn entry_by(byte: u8, addend: i64, is_thread_local: bool) -> Option<Entry> {
-    match class_by(byte % 8, is_thread_local) {
+pub(crate) fn entry_by(number: u16, addend: i64, is_thread_local: bool) -> Option<Entry> {
+    match class_by(number % 8, is_thread_local) {
         Some(class) => Some(Entry {
             class,
-            addend: if byte / 8 % 2 == 1 { addend } else { 0 },
+            addend: if number / 8 % 2 == 1 { addend } else { 0 },
         }),
         None => None,
     }
 }
 
-/// What the byte of a code says.
+/// What the number of a code says.
 #[inline(always)]
-fn requirements_by(byte: u8, addend: i64, is_thread_local: bool) -> Requirements {
+fn requirements_by(number: u16, addend: i64, is_thread_local: bool) -> Requirements {
     Requirements {
-        entry: entry_by(byte, addend, is_thread_local),
-        is_branch: byte / 16 % 2 == 1,
-        may_use_stub: byte / 32 % 2 == 1,
-        is_word: byte / 64 % 2 == 1,
-        depends_on_load: byte / 128 % 2 == 1,
+        entry: entry_by(number, addend, is_thread_local),
+        is_branch: number / 16 % 2 == 1,
+        may_use_stub: number / 32 % 2 == 1,
+        is_word: number / 64 % 2 == 1,
+        depends_on_load: number / 128 % 2 == 1,
     }
 }
 
@@ -164,10 +164,10 @@ pub fn needs(
     addend: i64,
     is_thread_local: bool,
 ) -> Option<Requirements> {
-    let byte = byte_of(architecture, code);
-    if byte == NO_ROW {
+    let number = number_of(architecture, code);
+    if number == NO_ROW {
         None
     } else {
-        Some(requirements_by(byte, addend, is_thread_local))
+        Some(requirements_by(number, addend, is_thread_local))
     }
 }

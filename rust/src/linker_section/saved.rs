@@ -10,7 +10,8 @@ use crate::elf::{Architecture, Row};
 #[inline(always)]
 pub(crate) fn word_at(section: &[u8], offset: u64) -> u64 {
     let len = section.len() as u64;
-    if offset < len && 8 <= len - offset {
+    // one comparison: the last offset with 8 bytes is found once for all relocations
+    if offset < len.saturating_sub(7) {
         u64_from_slice(&section[offset as usize..][..8])
     } else {
         last_word_at(section, offset)

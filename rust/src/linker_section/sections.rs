@@ -1,10 +1,11 @@
 // Made by tools/erase of crates/linker_section/src/sections.rt.
 //! The values of a section's relocations, written.
 
-use crate::linker_section::codes::byte_of;
+use crate::linker_section::codes::number_of;
 use crate::linker_section::facts::{Addresses, Symbol};
 use crate::linker_section::fields::{Field, begins_pair, ends_pair, is_of_pair, uleb_len};
 use crate::linker_section::order::{first_overlap, is_ascending};
+use crate::linker_section::quick::{HighPart, high_behind, look_up_at, quick_value};
 use crate::linker_section::relocations::{Rela, relocation_in, relocations_len};
 use crate::linker_section::saved::{restore, word_at};
 use crate::linker_section::values::{ValueError, value_of};
@@ -61,7 +62,7 @@ fn row_value(
         addresses,
         relocations,
         symbols,
-        byte_of(architecture, relocation.code),
+        number_of(architecture, relocation.code),
         &info,
         relocation,
     ) {
@@ -221,88 +222,238 @@ struct Stopped {
     error: SectionError,
 }
 
-/// Writes the values of a section's relocations in their order, and keeps the bytes that were there
-/// before.
-#[inline(always)]
-fn write_values(
+/// How far the values of a section's relocations are written.
+#[derive(Clone, Copy)]
+struct Step {
+    /// The index of the next relocation.
+    index: usize,
+    /// The last field.
+    last: Field,
+}
+
+/// Writes the value of the relocation at an index, and where it is the first of a pair the number of
+/// both, and keeps the bytes that were there before. By itself, since most values are written by
+/// `write_quickly`.
+#[inline(never)]
+fn write_one(
     architecture: Architecture,
     addresses: &Addresses,
     relocations: &[u8],
     symbols: &[Symbol],
     limit: Option<usize>,
+    index: usize,
+    last: Field,
     section: &mut [u8],
     memory: &mut [u64],
-) -> Result<(), Stopped> {
-    let len = relocations_len(relocations);
-    let mut last = Field {
-        offset: 0,
-        len: 0,
-        kind: RelocationKind::None,
+) -> Result<Step, SectionError> {
+    let relocation = relocation_in(relocations, index);
+    memory[index] = word_at(section, relocation.offset);
+    let (row, value) = match row_value(architecture, addresses, relocations, symbols, &relocation) {
+        Ok(Some(found)) => found,
+        Ok(None) => {
+            let index = index + 1;
+            return Ok(Step { index, last });
+        }
+        Err(error) => {
+            let error = RelocationError::Value(error);
+            return Err(SectionError { index, error });
+        }
     };
-    let mut index = 0;
-    while index < len {
-        let relocation = relocation_in(relocations, index);
-        memory[index] = word_at(section, relocation.offset);
-        let (row, value) = match row_value(
+    let field = field_at(&row, relocation.offset, section);
+    if !is_clear(limit, index, &field, &last) {
+        let error = RelocationError::Overlaps;
+        return Err(SectionError { index, error });
+    }
+    let last = field.or(last);
+    if let Some(second) = second_of_pair(architecture, relocations, index, &row) {
+        memory[index + 1] = word_at(section, relocation.offset.wrapping_add(8));
+        if let Err(error) = relocate_pair(
             architecture,
             addresses,
             relocations,
             symbols,
-            &relocation,
+            index,
+            value,
+            &second,
+            section,
         ) {
-            Ok(Some(found)) => found,
-            Ok(None) => {
-                index += 1;
-                continue;
+            return Err(error);
+        }
+        let index = index + 2;
+        return Ok(Step { index, last });
+    }
+    if let Err(error) = write_at(&row, value, relocation.offset, section) {
+        let error = RelocationError::Write(error);
+        return Err(SectionError { index, error });
+    }
+    let index = index + 1;
+    Ok(Step { index, last })
+}
+
+/// The field before the first.
+const NO_FIELD: Field = Field {
+    offset: 0,
+    len: 0,
+    kind: RelocationKind::None,
+};
+
+/// Writes the values of a section's relocations in their order, and keeps the bytes that were there
+/// before. `limit` is the least index of a relocation whose field overlaps that of an earlier one
+/// with which it doesn't compose.
+fn write_in_any_order(
+    architecture: Architecture,
+    addresses: &Addresses,
+    relocations: &[u8],
+    symbols: &[Symbol],
+    limit: usize,
+    section: &mut [u8],
+    memory: &mut [u64],
+) -> Result<(), Stopped> {
+    let len = relocations_len(relocations);
+    let mut last = NO_FIELD;
+    let mut index = 0;
+    while index < len {
+        match write_one(
+            architecture,
+            addresses,
+            relocations,
+            symbols,
+            Some(limit),
+            index,
+            last,
+            section,
+            memory,
+        ) {
+            Ok(step) => {
+                index = step.index;
+                last = step.last;
             }
             Err(error) => {
-                let error = RelocationError::Value(error);
-                let error = SectionError { index, error };
-                return Err(Stopped {
-                    count: index,
-                    error,
-                });
+                let count = index;
+                return Err(Stopped { count, error });
             }
-        };
-        let field = field_at(&row, relocation.offset, section);
-        if !is_clear(limit, index, &field, &last) {
-            let error = RelocationError::Overlaps;
-            let error = SectionError { index, error };
-            return Err(Stopped {
-                count: index,
-                error,
-            });
         }
-        last = field.or(last);
-        if let Some(second) = second_of_pair(architecture, relocations, index, &row) {
-            memory[index + 1] = word_at(section, relocation.offset.wrapping_add(8));
-            if let Err(error) = relocate_pair(
-                architecture,
-                addresses,
-                relocations,
-                symbols,
-                index,
-                value,
-                &second,
-                section,
-            ) {
-                return Err(Stopped {
-                    count: index,
-                    error,
-                });
-            }
-            index += 2;
+    }
+    Ok(())
+}
+
+/// Writes the value of the relocation at an index, if it is found and accepted with few tests, and
+/// keeps the bytes that were there before. Returns its field and the last high part, and else changes
+/// no byte of the section.
+#[inline(always)]
+fn write_quickly(
+    architecture: Architecture,
+    addresses: &Addresses,
+    relocations: &[u8],
+    symbols: &[Symbol],
+    found: Option<(Row, u16)>,
+    high: Option<HighPart>,
+    index: usize,
+    last: &Field,
+    section: &mut [u8],
+    memory: &mut [u64],
+) -> Option<(Field, Option<HighPart>)> {
+    let Some((row, number)) = found else {
+        return None;
+    };
+    let relocation = relocation_in(relocations, index);
+    let Some(value) = quick_value(
+        architecture,
+        addresses,
+        relocations,
+        symbols,
+        number,
+        &row,
+        &relocation,
+        high,
+    ) else {
+        return None;
+    };
+    let offset = relocation.offset;
+    let field = Field {
+        offset,
+        len: row.window(),
+        kind: row.kind(),
+    };
+    if !field.is_clear_of(last) {
+        return None;
+    }
+    memory[index] = word_at(section, offset);
+    if write_at(&row, value, offset, section).is_err() {
+        return None;
+    }
+    let high = high_behind(
+        architecture,
+        addresses,
+        relocations,
+        symbols,
+        number,
+        &row,
+        index,
+        offset,
+        value,
+        high,
+    );
+    Some((field, high))
+}
+
+/// The same as `write_in_any_order`, of relocations that ascend by offset. What the code of the next
+/// one means is looked up before a value is written: so a processor knows early which formula it has.
+#[inline(always)]
+fn write_ascending(
+    architecture: Architecture,
+    addresses: &Addresses,
+    relocations: &[u8],
+    symbols: &[Symbol],
+    section: &mut [u8],
+    memory: &mut [u64],
+) -> Result<(), Stopped> {
+    let len = relocations_len(relocations);
+    let mut last = NO_FIELD;
+    let mut high = None;
+    let mut index = 0;
+    let mut found = look_up_at(architecture, relocations, 0);
+    while index < len {
+        let next = look_up_at(architecture, relocations, index + 1);
+        if let Some((field, part)) = write_quickly(
+            architecture,
+            addresses,
+            relocations,
+            symbols,
+            found,
+            high,
+            index,
+            &last,
+            section,
+            memory,
+        ) {
+            last = field;
+            high = part;
+            index += 1;
+            found = next;
             continue;
         }
-        if let Err(error) = write_at(&row, value, relocation.offset, section) {
-            let error = RelocationError::Write(error);
-            let error = SectionError { index, error };
-            return Err(Stopped {
-                count: index,
-                error,
-            });
+        match write_one(
+            architecture,
+            addresses,
+            relocations,
+            symbols,
+            None,
+            index,
+            last,
+            section,
+            memory,
+        ) {
+            Ok(step) => {
+                index = step.index;
+                last = step.last;
+                found = look_up_at(architecture, relocations, index);
+            }
+            Err(error) => {
+                let count = index;
+                return Err(Stopped { count, error });
+            }
         }
-        index += 1;
     }
     Ok(())
 }
@@ -320,19 +471,51 @@ macro_rules! of_each {
     };
 }
 
-/// The same as `write_values`, by code of the architecture's own.
-fn write_values_of(
+/// The same as `write_ascending`, by code of the architecture's own.
+fn write_ascending_of(
     architecture: Architecture,
     addresses: &Addresses,
     relocations: &[u8],
     symbols: &[Symbol],
-    limit: Option<usize>,
     section: &mut [u8],
     memory: &mut [u64],
 ) -> Result<(), Stopped> {
     of_each!(
         architecture,
-        write_values(addresses, relocations, symbols, limit, section, memory)
+        write_ascending(addresses, relocations, symbols, section, memory)
+    )
+}
+
+/// Writes the values of a section's relocations, in whichever order these are, and keeps the bytes
+/// that were there before.
+fn write_values(
+    architecture: Architecture,
+    addresses: &Addresses,
+    relocations: &[u8],
+    symbols: &[Symbol],
+    section: &mut [u8],
+    memory: &mut [u64],
+) -> Result<(), Stopped> {
+    if is_ascending(relocations) {
+        return write_ascending_of(
+            architecture,
+            addresses,
+            relocations,
+            symbols,
+            section,
+            memory,
+        );
+    }
+    let order = &mut memory[..relocations_len(relocations)];
+    let limit = first_overlap(architecture, relocations, section, order);
+    write_in_any_order(
+        architecture,
+        addresses,
+        relocations,
+        symbols,
+        limit,
+        section,
+        memory,
     )
 }
 
@@ -397,18 +580,11 @@ pub fn relocate_section(
     memory: &mut [u64],
 ) -> Result<(), SectionError> {
     debug_assert!(memory_len(relocations) <= memory.len());
-    let limit = if is_ascending(relocations) {
-        None
-    } else {
-        let order = &mut memory[..relocations_len(relocations)];
-        Some(first_overlap(architecture, relocations, section, order))
-    };
-    match write_values_of(
+    match write_values(
         architecture,
         addresses,
         relocations,
         symbols,
-        limit,
         section,
         memory,
     ) {

@@ -1,7 +1,7 @@
 // Made by tools/erase of crates/linker_section/src/values.rt.
 //! The value of a relocation, by what a linker knows of symbols and of the output.
 
-use crate::linker_section::codes::byte_of;
+use crate::linker_section::codes::number_of;
 use crate::linker_section::facts::{Addresses, Symbol};
 use crate::linker_section::needed::{Entry, EntryClass, class_of_kind, entry_by, loads_plt_word, may_use_stub};
 use crate::linker_section::relocations::{Rela, relocation_in, relocations_len};
@@ -52,7 +52,11 @@ fn is_there(addresses: &Addresses, symbol: &Symbol, entry: Entry) -> bool {
 
 /// The address of the entry that is required; 0 where none is, and none where there isn't one.
 #[inline(always)]
-fn entry_address(addresses: &Addresses, symbol: &Symbol, entry: Option<Entry>) -> Option<u64> {
+pub(crate) fn entry_address(
+    addresses: &Addresses,
+    symbol: &Symbol,
+    entry: Option<Entry>,
+) -> Option<u64> {
     match entry {
         None => Some(0),
         Some(entry) => {
@@ -73,7 +77,7 @@ fn is_of_got(architecture: Architecture, code: u32) -> bool {
 
 /// How far behind a function's global entry point its local one is.
 #[inline(always)]
-fn local_entry(other: u8) -> u64 {
+pub(crate) fn local_entry(other: u8) -> u64 {
     let logarithm = other / 32;
     if logarithm < 2 { 0 } else { 1 << logarithm }
 }
@@ -164,24 +168,24 @@ fn defined_or_weak(
     }
 }
 
-/// Whether a stub may serve as the target of a relocation, by the byte of its code. Only the contract
+/// Whether a stub may serve as the target of a relocation, by the number of its code. Only the contract
 /// uses `_info`.
 #[inline(always)]
-fn serves_stub(byte: u8, _info: &RelocationKindInfo) -> bool {
-    byte / 32 % 2 == 1
+fn serves_stub(number: u16, _info: &RelocationKindInfo) -> bool {
+    number / 32 % 2 == 1
 }
 
 /// S, or the stub by which a branch goes.
 #[inline(always)]
-fn target_of(
+pub(crate) fn target_of(
     architecture: Architecture,
     addresses: &Addresses,
-    byte: u8,
+    number: u16,
     info: &RelocationKindInfo,
     symbol: &Symbol,
     place: u64,
 ) -> u64 {
-    if serves_stub(byte, info) && symbol.stub != 0 {
+    if serves_stub(number, info) && symbol.stub != 0 {
         symbol.stub
     } else {
         defined_or_weak(architecture, addresses, info, symbol, place)
@@ -193,14 +197,14 @@ fn target_of(
 fn operands_with(
     architecture: Architecture,
     addresses: &Addresses,
-    byte: u8,
+    number: u16,
     info: &RelocationKindInfo,
     symbol: &Symbol,
     relocation: &Rela,
     entry: u64,
 ) -> Operands {
     let place = addresses.section.wrapping_add(relocation.offset);
-    let target = target_of(architecture, addresses, byte, info, symbol, place);
+    let target = target_of(architecture, addresses, number, info, symbol, place);
     let loads = loads_plt_word(info.size, info.kind);
     Operands {
         symbol: if is_of_got(architecture, relocation.code) {
@@ -218,16 +222,16 @@ fn operands_with(
     }
 }
 
-/// The entry that a relocation of a symbol requires, by the byte of its code. Only the contract uses
+/// The entry that a relocation of a symbol requires, by the number of its code. Only the contract uses
 /// `_info`.
 #[inline(always)]
 fn required(
-    byte: u8,
+    number: u16,
     _info: &RelocationKindInfo,
     relocation: &Rela,
     symbol: &Symbol,
 ) -> Option<Entry> {
-    entry_by(byte, relocation.addend, symbol.is_thread_local)
+    entry_by(number, relocation.addend, symbol.is_thread_local)
 }
 
 /// The same, where there may be no such entry.
@@ -235,7 +239,7 @@ fn required(
 fn operands_by(
     architecture: Architecture,
     addresses: &Addresses,
-    byte: u8,
+    number: u16,
     info: &RelocationKindInfo,
     relocation: &Rela,
     symbol: &Symbol,
@@ -245,7 +249,7 @@ fn operands_by(
         Some(entry) => Ok(operands_with(
             architecture,
             addresses,
-            byte,
+            number,
             info,
             symbol,
             relocation,
@@ -261,18 +265,22 @@ fn operands_of(
     architecture: Architecture,
     addresses: &Addresses,
     symbols: &[Symbol],
-    byte: u8,
+    number: u16,
     info: &RelocationKindInfo,
     relocation: &Rela,
 ) -> Result<Operands, ValueError> {
     let Some(symbol) = symbols.get(relocation.symbol as usize) else {
         return Err(ValueError::NoSymbol);
     };
-    let entry = entry_address(addresses, symbol, required(byte, info, relocation, symbol));
+    let entry = entry_address(
+        addresses,
+        symbol,
+        required(number, info, relocation, symbol),
+    );
     operands_by(
         architecture,
         addresses,
-        byte,
+        number,
         info,
         relocation,
         symbol,
@@ -295,14 +303,14 @@ fn own_value(
     architecture: Architecture,
     addresses: &Addresses,
     symbols: &[Symbol],
-    byte: u8,
+    number: u16,
     info: &RelocationKindInfo,
     relocation: &Rela,
 ) -> Result<Option<i64>, ValueError> {
     if !has_value(info.kind) {
         return Ok(None);
     }
-    match operands_of(architecture, addresses, symbols, byte, info, relocation) {
+    match operands_of(architecture, addresses, symbols, number, info, relocation) {
         Ok(operands) => Ok(info.value(&operands)),
         Err(error) => Err(error),
     }
@@ -428,8 +436,8 @@ fn low_value(
     let Some((relocation, high)) = high else {
         return Err(ValueError::NoHighPart);
     };
-    let byte = byte_of(architecture, relocation.code);
-    match operands_of(architecture, addresses, symbols, byte, &high, &relocation) {
+    let number = number_of(architecture, relocation.code);
+    match operands_of(architecture, addresses, symbols, number, &high, &relocation) {
         Ok(operands) => Ok(info.value(&low_operands(&high, operands))),
         Err(error) => Err(error),
     }
@@ -442,12 +450,12 @@ pub(crate) fn value_of(
     addresses: &Addresses,
     relocations: &[u8],
     symbols: &[Symbol],
-    byte: u8,
+    number: u16,
     info: &RelocationKindInfo,
     relocation: &Rela,
 ) -> Result<Option<i64>, ValueError> {
     if !names_label(info.size, info.kind) {
-        return own_value(architecture, addresses, symbols, byte, info, relocation);
+        return own_value(architecture, addresses, symbols, number, info, relocation);
     }
     let Some(label) = symbols.get(relocation.symbol as usize) else {
         return Err(ValueError::NoSymbol);
@@ -505,7 +513,7 @@ pub fn value(
             addresses,
             relocations,
             symbols,
-            byte_of(architecture, relocation.code),
+            number_of(architecture, relocation.code),
             &row.info(),
             relocation,
         ),

@@ -6,6 +6,7 @@ use crate::support::*;
 use super::calls::{
     AsCall, CallError, JumpError, LinkRegister, distance_between, jal_site, test_distance,
 };
+use crate::linker_base::packing::{Position, copy_kept, position_from, position_near, position_of};
 use crate::linker_base::relaxation::{DeltaSlice, RelaxDelta, SectionRelaxDeltas};
 use crate::linker_base::rewrite::{has_window, overwrite};
 
@@ -54,10 +55,15 @@ pub(super) fn to_output_offset(deltas: &[RelaxDelta], input_offset: u64) -> u64 
     DeltaSlice::new(deltas).input_to_output_offset(input_offset)
 }
 
-/// The output offset of the four bytes at a site, or none where one of them is deleted.
+/// The output offset of the four bytes at a position, or none where one of them is deleted.
 #[inline(always)]
-fn site_output_offset(deltas: &[RelaxDelta], site: u64) -> Option<u64> {
-    DeltaSlice::new(deltas).kept_output_offset(site, 4)
+fn site_output_offset(deltas: &[RelaxDelta], at: &Position) -> Option<u64> {
+    let behind = position_from(deltas, at, at.input_offset + 4);
+    if behind.output_offset.wrapping_sub(at.output_offset) == 4 {
+        Some(at.output_offset)
+    } else {
+        None
+    }
 }
 
 /// The index of the first call whose site is less than 4 above the site before it. None where the
@@ -81,44 +87,6 @@ pub fn calls_apart(calls: &[(u64, u64)]) -> bool {
     first_not_apart(calls).is_none()
 }
 
-/// The bytes of a section from an offset up to another, as far as they lie in the section.
-#[inline(always)]
-fn between(section: &[u8], from: u64, to: u64) -> &[u8] {
-    let len = section.len();
-    let start = (from.min(len as u64)) as usize;
-    let end = (to.min(len as u64)) as usize;
-    if start < end {
-        &section[start..end]
-    } else {
-        &[]
-    }
-}
-
-/// Puts bytes at an output offset of the packed section, as far as they fit there, and returns the
-/// offset behind them.
-#[inline(always)]
-fn put(packed: &mut [u8], output_offset: usize, bytes: &[u8]) -> usize {
-    let len = bytes.len().min(packed.len() - output_offset);
-    let end = output_offset + len;
-    packed[output_offset..end].copy_from_slice(&bytes[..len]);
-    end
-}
-
-/// Copies the kept bytes of a section.
-fn copy_kept(section: &[u8], deltas: &[RelaxDelta], packed: &mut [u8]) {
-    let mut from = 0;
-    let mut output_offset = 0;
-    for delta in deltas {
-        let run = between(section, from, delta.input_offset);
-        output_offset = put(packed, output_offset, run);
-        from = delta
-            .input_offset
-            .saturating_add(u64::from(delta.bytes_deleted));
-    }
-    let run = between(section, from, section.len() as u64);
-    let _end = put(packed, output_offset, run);
-}
-
 /// Where the jump of a call goes in the packed section, and how far it jumps.
 #[derive(Clone, Copy)]
 struct Jump {
@@ -126,24 +94,26 @@ struct Jump {
     distance: i64,
 }
 
-/// The jump that a call becomes, or why it can't.
+/// The jump that a call at a position becomes, or why it can't.
 fn jump_of(
     section: &[u8],
     deltas: &[RelaxDelta],
-    site: u64,
+    at: &Position,
     target: u64,
     link: LinkRegister,
 ) -> Result<Jump, JumpError> {
+    let site = at.input_offset;
     if !has_window(section, site, 0, link.call_len()) || target > section.len() as u64 {
         return Err(JumpError::Call(CallError::OutOfSection));
     }
-    let Some(output_offset) = site_output_offset(deltas, site) else {
+    let Some(output_offset) = site_output_offset(deltas, at) else {
         return Err(JumpError::Call(CallError::SiteDeleted));
     };
     let Some(_register) = link.named_at(section, site) else {
         return Err(JumpError::NotACall);
     };
-    let distance = distance_between(output_offset, to_output_offset(deltas, target));
+    let to = position_near(deltas, at, target);
+    let distance = distance_between(output_offset, to.output_offset);
     test_distance(distance)?;
     Ok(Jump {
         output_offset,
@@ -158,9 +128,11 @@ fn test_calls<C: AsCall>(
     calls: &[C],
     link: LinkRegister,
 ) -> Result<(), RejectedCall> {
+    let mut at = position_of(deltas, 0);
     for index in 0..calls.len() {
         let (site, target) = calls[index].as_call();
-        if let Err(error) = jump_of(section, deltas, site, target, link) {
+        at = position_from(deltas, &at, site);
+        if let Err(error) = jump_of(section, deltas, &at, target, link) {
             return Err(RejectedCall { index, error });
         }
     }
@@ -178,17 +150,17 @@ fn put_jump(section: &[u8], site: u64, link: LinkRegister, jump: Jump, packed: &
     let _ = jal_site(packed, jump.output_offset, jump.distance);
 }
 
-/// Puts the jump of a call into the packed section, where it can become one.
+/// Puts the jump of a call at a position into the packed section, where it can become one.
 fn put_call(
     section: &[u8],
     deltas: &[RelaxDelta],
-    site: u64,
+    at: &Position,
     target: u64,
     link: LinkRegister,
     packed: &mut [u8],
 ) {
-    if let Ok(jump) = jump_of(section, deltas, site, target, link) {
-        put_jump(section, site, link, jump, packed);
+    if let Ok(jump) = jump_of(section, deltas, at, target, link) {
+        put_jump(section, at.input_offset, link, jump, packed);
     }
 }
 
@@ -200,9 +172,11 @@ fn put_calls<C: AsCall>(
     link: LinkRegister,
     packed: &mut [u8],
 ) {
+    let mut at = position_of(deltas, 0);
     for index in 0..calls.len() {
         let (site, target) = calls[index].as_call();
-        put_call(section, deltas, site, target, link, packed);
+        at = position_from(deltas, &at, site);
+        put_call(section, deltas, &at, target, link, packed);
     }
 }
 
@@ -238,7 +212,7 @@ pub fn pack_into<C: AsCall>(
     debug_assert!(first_not_apart(calls).is_none());
     debug_assert!(!DeltaSlice::new(deltas).has_valid_deltas() || packed_len(section, deltas) == out.len());
     test_calls(section, deltas, calls, link)?;
-    copy_kept(section, deltas, out);
+    copy_kept(section, 0, deltas, out);
     put_calls(section, deltas, calls, link, out);
     Ok(())
 }

@@ -1,6 +1,6 @@
 // Made by tools/erase of crates/vectors/src/lib.rt.
-//! `poke`, which uses only the interface of instruction forms, and tests of calls that take memory,
-//! which have to run as the prover's compiler built them.
+//! `poke`, which uses only the interface of instruction forms, what emulators made of instructions,
+//! and tests of calls that take memory, which have to run as the prover's compiler built them.
 
 #![allow(unused_imports, reason = "some are there for contracts alone")]
 #![allow(clippy::complexity, clippy::style, reason = "the text is that of the proved source")]

@@ -3,7 +3,7 @@
 
 use crate::linker_runs::items::AsItem;
 use crate::linker_runs::relaxation::Item;
-use crate::linker_runs::search::{Tested, passing_near};
+use crate::linker_base::packing::search::{Tested, passing_near};
 
 /// The items of a run.
 pub(crate) struct ItemList<'a, I: AsItem> {
@@ -52,8 +52,10 @@ impl<'a, I: AsItem> Tested for Ended<'a, I> {
         self.elements.len()
     }
 
+    #[cfg_attr(debug_assertions, track_caller)]
     #[inline(always)]
     fn passes(&self, index: usize) -> bool {
+        debug_assert!(index < Tested::len(self));
         self.elements[index].as_item().ends_by(self.offset)
     }
 }

@@ -1,15 +1,21 @@
-// Made by tools/erase of crates/linker_runs/src/search.rt.
+// Made by tools/erase of crates/linker_base/src/packing/search.rt.
 //! A search that looks near an index first.
 //!
 //! Most of what a run refers to is near. There the search reads neighbours of what was read before,
 //! and elsewhere as much of the list as any search by halves.
 
 /// Elements of a list and a test. In an ordered list the first elements pass it and the others don't.
-pub(crate) trait Tested {
+pub trait Tested {
     /// How many elements there are.
+    #[must_use]
     fn len(&self) -> usize;
 
     /// Whether the element at an index passes.
+    ///
+    /// # Requires
+    ///
+    /// - `index < Tested::len(self)`
+    #[must_use]
     fn passes(&self, index: usize) -> bool;
 }
 
@@ -40,7 +46,8 @@ fn bounds<T: Tested>(list: &T, near: usize) -> (usize, usize) {
 
 /// An index behind an element that passes, or 0, at which an element doesn't, or none is. In an
 /// ordered list it is how many elements pass. It is found faster where it is near `near`.
-pub(crate) fn passing_near<T: Tested>(list: &T, near: usize) -> usize {
+#[must_use]
+pub fn passing_near<T: Tested>(list: &T, near: usize) -> usize {
     let (mut low, mut high) = bounds(list, near);
     while low < high {
         let middle = low + (high - low) / 2;

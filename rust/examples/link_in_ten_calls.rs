@@ -1,0 +1,100 @@
+//! Links a section. No line of `link` names an architecture, and the same lines link any of the five.
+
+use linker_utils::elf::Architecture;
+use linker_utils::output::{Target, entry_words, static_words};
+use linker_utils::rewriting::{Decision, KeptGroups, OutputFacts, Phase, SymbolFacts};
+use linker_utils::rewriting::{rewrite_placed_section, rewrite_section, survey, survey_placed_section};
+use linker_utils::section::{Addresses, EntryClass, Symbol, memory_len, needs, relocate_section, relocation_at};
+
+/// Where the linker puts the code, the GOT and the TLS image.
+const PLACES: [u64; 3] = [0x401000, 0x403000, 0x403008];
+
+/// An object has code, its relocations as they stand in the file, and symbols, of which a linker knows
+/// facts when names are resolved, and addresses later. Returns the GOT's words.
+fn link(
+    architecture: Architecture,
+    code: &mut [u8],
+    rela: &mut [u8],
+    facts: &[SymbolFacts],
+    symbols: &mut [Symbol],
+) -> Vec<u64> {
+    let [section, got, image] = PLACES;
+    let output = OutputFacts { is_executable: true, is_fixed: true };
+    let count = rela.len() / 24;
+    let mut decisions = vec![Decision::Kept; count];
+    // 1 and 2: rewrites that need no address
+    let mut kept = vec![KeptGroups::default(); facts.len()];
+    survey(architecture, &output, facts, rela, code, &mut kept);
+    rewrite_section(architecture, &output, facts, &kept, rela, code, &mut decisions).unwrap();
+    // 3 to 6: which entries of the GOT are still needed, and what they hold
+    let target = Target::of(architecture);
+    let (origins, got_base) = (target.origins(image, 8, 1), target.got_base(got));
+    let mut words = Vec::new();
+    for relocation in (0..count).filter_map(|index| relocation_at(rela, index)) {
+        let symbol = &mut symbols[relocation.symbol as usize];
+        let needed = needs(architecture, relocation.code, relocation.addend, symbol.is_thread_local);
+        let Some(entry) = needed.and_then(|needed| needed.entry) else { continue };
+        let address = match entry.class {
+            EntryClass::Address => &mut symbol.address_entry,
+            EntryClass::ThreadOffset => &mut symbol.thread_entry,
+            _ => continue,
+        };
+        if *address == 0 {
+            *address = got + 8 * words.len() as u64;
+            let contents = static_words(entry.class, symbol.address, origins).unwrap();
+            words.extend(&contents[..entry_words(entry.class) as usize]);
+        }
+    }
+    // 7 and 8: rewrites by addresses
+    let addresses = Addresses {
+        section,
+        got_base,
+        thread_origin: origins.thread_pointer,
+        module_origin: origins.module_block,
+        module_entry: 0,
+    };
+    for phase in [Phase::ThreadOffsets, Phase::GotLoads, Phase::Distances] {
+        let mut kept = vec![KeptGroups::default(); facts.len()];
+        let (at, deleted) = (&addresses, &mut vec![(0, 0); count]);
+        survey_placed_section(architecture, phase, &output, facts, at, symbols, rela, code, &mut kept);
+        rewrite_placed_section(
+            architecture, phase, &output, facts, at, symbols, &kept, rela, code, &mut decisions, deleted,
+        )
+        .unwrap();
+    }
+    // 9 and 10: values
+    let mut memory = vec![0; memory_len(rela)];
+    relocate_section(architecture, &addresses, rela, symbols, code, &mut memory).unwrap();
+    words
+}
+
+fn main() {
+    // the symbols _start, x and t, which is thread-local
+    let facts = [SymbolFacts { is_local: true, ..SymbolFacts::default() }; 4];
+    let symbols = [(0, false), (0x401000, false), (0x402000, false), (0x403008, true)]
+        .map(|(address, is_thread_local)| Symbol { address, is_thread_local, ..Symbol::default() });
+    let rela = |rows: &[[u64; 4]]| -> Vec<u8> {
+        let words = rows.iter().flat_map(|&[at, symbol, code, addend]| [at, symbol << 32 | code, addend]);
+        words.flat_map(u64::to_le_bytes).collect()
+    };
+    // mov x@GOTPCREL(%rip), %rax; mov t@gottpoff(%rip), %rcx; cmp %rax, x@GOTPCREL(%rip); call _start
+    let mut code = *b"\x48\x8b\x05\0\0\0\0\x48\x8b\x0d\0\0\0\0\x48\x39\x05\0\0\0\0\xe8\0\0\0\0";
+    let back = -4i64 as u64;
+    let mut rows = rela(&[[3, 2, 42, back], [10, 3, 22, back], [17, 2, 9, back], [22, 1, 4, back]]);
+    let words = link(Architecture::X86_64, &mut code, &mut rows, &facts, &mut symbols.clone());
+    // as ld.lld: lea x(%rip), %rax; mov $-8, %rcx; cmp %rax, 0x403000(%rip); call _start
+    assert_eq!(words, [0x402000]);
+    assert_eq!(
+        code,
+        *b"\x48\x8d\x05\xf9\x0f\0\0\x48\xc7\xc1\xf8\xff\xff\xff\x48\x39\x05\xeb\x1f\0\0\xe8\xe6\xff\xff\xff"
+    );
+    // adrp x0, :got:x; ldr x0, [x0, :got_lo12:x]; adrp x1, :gottprel:t; ldr x1, [x1, :gottprel_lo12:t];
+    // bl _start
+    let mut code = *b"\0\0\0\x90\0\0\x40\xf9\x01\0\0\x90\x21\0\x40\xf9\0\0\0\x94";
+    let mut rows =
+        rela(&[[0, 2, 311, 0], [4, 2, 312, 0], [8, 3, 541, 0], [12, 3, 542, 0], [16, 1, 283, 0]]);
+    link(Architecture::AArch64, &mut code, &mut rows, &facts, &mut symbols.clone());
+    // as ld.lld: nop; adr x0, x; movz x1, #0, lsl #16; movk x1, #16; bl _start
+    assert_eq!(code, *b"\x1f\x20\x03\xd5\xe0\x7f\0\x10\x01\0\xa0\xd2\x01\x02\x80\xf2\xfc\xff\xff\x97");
+    println!("both are as ld.lld links them");
+}

@@ -1,0 +1,413 @@
+// Made by tools/erase of crates/linker_output/src/routes.rt.
+//! How branches go to their targets: directly, or by a stub.
+
+use crate::linker_output::description::Target;
+use crate::linker_output::stubs::{Stub, StubKind};
+use crate::linker_base::rewrite::has_window;
+use crate::linker_base::utils::u32_from_slice;
+use crate::linker_section::facts::{Addresses, Symbol};
+use crate::linker_section::needed::needs;
+use crate::linker_section::relocations::Rela;
+use crate::linker_section::values::{ValueError, value};
+use crate::elf::{Architecture, RelocateError, Row};
+
+/// How a branch goes.
+#[derive(Debug, Clone, Copy, PartialEq, Eq)]
+pub enum Route {
+    /// To its target: the value of its relocation can be written, and on PowerPC64 the function gets, and
+    /// the caller keeps, the TOC pointer.
+    Direct,
+    /// By a stub, which a linker has to place, or shares with other branches.
+    Stub {
+        /// The kind of the stub.
+        kind: StubKind,
+        /// At which offset the branch enters the stub. Where that is 0 and `Stub::entry` isn't, the stub
+        /// stores PowerPC64's TOC pointer, and `ld 2,24(1)` has to be in place of a `nop` behind the
+        /// branch.
+        entry: u64,
+        /// What `Target::write_stub` takes as the target.
+        target: u64,
+    },
+}
+
+/// Why a branch goes no way.
+#[derive(Debug, Clone, Copy, PartialEq, Eq)]
+pub enum RouteError {
+    /// No stub may serve the relocation: it isn't that of a branch, and its formula has no L. Or its
+    /// code has no row.
+    NotABranch,
+    /// The relocation has no value.
+    Value(ValueError),
+    /// A stub has to store PowerPC64's TOC pointer, and behind the branch is neither a `nop` nor
+    /// `ld 2,24(1)`, or it is no `bl`.
+    NoRoom,
+    /// It has to go by a stub of the kind `Jump`, of which the description has none.
+    NoStub,
+    /// Its value can't be written, for this reason, and no stub may serve it.
+    Write(RelocateError),
+}
+
+/// Whether a branch may go by a stub to a target that it doesn't reach.
+#[inline(always)]
+fn may_go_by_stub(architecture: Architecture, code: u32) -> bool {
+    match architecture {
+        // R_AARCH64_JUMP26, R_AARCH64_CALL26
+        Architecture::AArch64 => code == 282 || code == 283,
+        // R_LARCH_B26
+        Architecture::LoongArch64 => code == 66,
+        // R_PPC64_REL24, R_PPC64_REL24_NOTOC
+        Architecture::Ppc64 => code == 10 || code == 116,
+        Architecture::RiscV | Architecture::X86_64 => false,
+    }
+}
+
+/// Whether it is `R_PPC64_REL24` or `R_PPC64_REL14`.
+#[inline(always)]
+fn has_toc(architecture: Architecture, code: u32) -> bool {
+    match architecture {
+        Architecture::Ppc64 => code == 10 || code == 11,
+        _ => false,
+    }
+}
+
+/// Whether it is `R_PPC64_REL24_NOTOC`.
+#[inline(always)]
+fn has_no_toc(architecture: Architecture, code: u32) -> bool {
+    match architecture {
+        Architecture::Ppc64 => code == 116,
+        _ => false,
+    }
+}
+
+/// Whether a branch to a symbol enters a function of the output itself.
+#[inline(always)]
+fn is_entered(symbol: &Symbol) -> bool {
+    symbol.stub == 0 && !symbol.is_undefined_weak
+}
+
+/// Whether the function may leave another TOC pointer, and the caller needs its own.
+#[inline(always)]
+fn loses_toc(architecture: Architecture, code: u32, symbol: &Symbol) -> bool {
+    has_toc(architecture, code) && (is_entered(symbol) && symbol.other / 32 == 1)
+}
+
+/// Whether the function takes a TOC pointer that the caller hasn't.
+#[inline(always)]
+fn lacks_toc(architecture: Architecture, code: u32, symbol: &Symbol) -> bool {
+    has_no_toc(architecture, code) && (is_entered(symbol) && 1 < symbol.other / 32)
+}
+
+/// How far behind a function's global entry point its local one is.
+#[inline(always)]
+fn local_entry(other: u8) -> u64 {
+    let logarithm = other / 32;
+    if logarithm < 2 { 0 } else { 1 << logarithm }
+}
+
+/// How far behind a function's global entry point a stub goes.
+#[inline(always)]
+fn behind_global(architecture: Architecture, code: u32, symbol: &Symbol) -> u64 {
+    if has_toc(architecture, code) {
+        local_entry(symbol.other)
+    } else {
+        0
+    }
+}
+
+/// What a stub goes to in place of a symbol.
+#[inline(always)]
+fn callee_of(architecture: Architecture, code: u32, symbol: &Symbol) -> u64 {
+    if symbol.stub == 0 {
+        let behind = behind_global(architecture, code, symbol);
+        symbol.address.wrapping_add(behind)
+    } else {
+        symbol.stub
+    }
+}
+
+/// The same with the addend.
+#[inline(always)]
+fn stub_target(architecture: Architecture, symbol: &Symbol, relocation: &Rela) -> u64 {
+    let callee = callee_of(architecture, relocation.code, symbol);
+    callee.wrapping_add(relocation.addend.cast_unsigned())
+}
+
+/// Whether two words are `bl`, and `nop` or `ld 2,24(1)`.
+#[inline(always)]
+fn can_restore(call: u32, next: u32) -> bool {
+    call / 0x400_0000 == 18 && call % 4 == 1 && (next == 0x6000_0000 || next == 0xe841_0018)
+}
+
+/// The word at an offset.
+#[inline(always)]
+fn word_at(section: &[u8], offset: u64) -> u32 {
+    u32_from_slice(&section[offset as usize..])
+}
+
+/// Whether such words are at an offset.
+#[inline(always)]
+fn has_room(section: &[u8], offset: u64) -> bool {
+    has_window(section, offset, 0, 8)
+        && can_restore(word_at(section, offset), word_at(section, offset + 4))
+}
+
+/// By a stub of a kind with an entry.
+#[inline(always)]
+fn by_stub(
+    kind: StubKind,
+    entry: u64,
+    loses_toc: bool,
+    has_room: bool,
+    target: u64,
+) -> Result<Route, RouteError> {
+    if !loses_toc {
+        Ok(Route::Stub {
+            kind,
+            entry,
+            target,
+        })
+    } else if has_room {
+        Ok(Route::Stub {
+            kind,
+            entry: 0,
+            target,
+        })
+    } else {
+        Err(RouteError::NoRoom)
+    }
+}
+
+/// By a stub to a far target, if there is one.
+#[inline(always)]
+fn by_jump(
+    stub: &Option<Stub>,
+    loses_toc: bool,
+    has_room: bool,
+    target: u64,
+) -> Result<Route, RouteError> {
+    match stub {
+        None => Err(RouteError::NoStub),
+        Some(stub) => by_stub(StubKind::Jump, stub.entry, loses_toc, has_room, target),
+    }
+}
+
+/// Why a value can't be written to the bytes that others begin with. None if it can.
+fn obstacle_in(row: &Row, value: i64, there: &[u8]) -> Option<RelocateError> {
+    let mut buffer = [0u8; 8];
+    let len = there.len().min(8);
+    let field = &mut buffer[..len];
+    field.copy_from_slice(&there[..len]);
+    match row.write(value, field) {
+        Ok(()) => None,
+        Err(error) => Some(error),
+    }
+}
+
+/// Why a value can't be written at an offset. None if it can.
+fn obstacle(row: &Row, value: i64, offset: u64, section: &[u8]) -> Option<RelocateError> {
+    if (section.len() as u64) < offset {
+        return Some(RelocateError::TooShort);
+    }
+    obstacle_in(row, value, &section[offset as usize..])
+}
+
+/// Whether a stub may serve a branch that doesn't reach its target.
+#[inline(always)]
+fn is_served(architecture: Architecture, code: u32, symbol: &Symbol) -> bool {
+    may_go_by_stub(architecture, code) && (symbol.stub != 0 || !symbol.is_undefined_weak)
+}
+
+impl Target {
+    /// The route of a branch whose function gets the TOC pointer as it expects.
+    #[inline(always)]
+    fn by_reach(
+        &self,
+        symbol: &Symbol,
+        relocation: &Rela,
+        obstacle: Option<RelocateError>,
+    ) -> Result<Route, RouteError> {
+        match obstacle {
+            None => Ok(Route::Direct),
+            Some(RelocateError::OutOfReach) => {
+                if is_served(self.instructions, relocation.code, symbol) {
+                    let target = stub_target(self.instructions, symbol, relocation);
+                    by_jump(&self.jump_stub, false, false, target)
+                } else {
+                    Err(RouteError::Write(RelocateError::OutOfReach))
+                }
+            }
+            Some(error) => Err(RouteError::Write(error)),
+        }
+    }
+
+    /// The route of a branch, by whether there is room behind it, and why it can't be written.
+    #[inline(always)]
+    fn route_by(
+        &self,
+        symbol: &Symbol,
+        relocation: &Rela,
+        has_room: bool,
+        obstacle: Option<RelocateError>,
+    ) -> Result<Route, RouteError> {
+        let loses = loses_toc(self.instructions, relocation.code, symbol);
+        let lacks = lacks_toc(self.instructions, relocation.code, symbol);
+        if loses || lacks {
+            let target = stub_target(self.instructions, symbol, relocation);
+            by_jump(&self.jump_stub, loses, has_room, target)
+        } else {
+            self.by_reach(symbol, relocation, obstacle)
+        }
+    }
+
+    /// The route of a branch with a value.
+    fn route_with(
+        &self,
+        symbol: &Symbol,
+        relocation: &Rela,
+        section: &[u8],
+        row: &Row,
+        value: i64,
+    ) -> Result<Route, RouteError> {
+        let is_room = has_room(section, relocation.offset);
+        let cause = obstacle(row, value, relocation.offset, section);
+        self.route_by(symbol, relocation, is_room, cause)
+    }
+
+    /// The route of a relocation, by its value.
+    fn route_of(
+        &self,
+        symbol: &Symbol,
+        relocation: &Rela,
+        section: &[u8],
+        row: &Row,
+        value: Result<Option<i64>, ValueError>,
+    ) -> Result<Route, RouteError> {
+        match value {
+            Err(error) => Err(RouteError::Value(error)),
+            Ok(None) => Err(RouteError::NotABranch),
+            Ok(Some(value)) => self.route_with(symbol, relocation, section, row, value),
+        }
+    }
+}
+
+/// The value of a relocation of a symbol.
+#[inline]
+fn value_of(
+    architecture: Architecture,
+    addresses: &Addresses,
+    symbol: &Symbol,
+    relocation: &Rela,
+) -> Result<Option<i64>, ValueError> {
+    let alone = Rela {
+        symbol: 0,
+        ..*relocation
+    };
+    value(architecture, addresses, &[], &[*symbol], &alone)
+}
+
+/// The row of a relocation, if a stub may serve as its target.
+#[inline]
+fn served_row(architecture: Architecture, code: u32) -> Option<Row> {
+    let Some(row) = architecture.row(code) else {
+        return None;
+    };
+    let Some(needs) = needs(architecture, code, 0, false) else {
+        return None;
+    };
+    if needs.may_use_stub { Some(row) } else { None }
+}
+
+impl Target {
+    /// How the branch of a relocation to a symbol goes, by what `relocate_section` takes: `relocation`
+    /// is one of a section that is at `addresses.section`, and `symbol` is what is known of its symbol.
+    ///
+    /// - `Direct` where its value can be written, and on PowerPC64 the TOC pointer is as the function
+    ///   and the caller expect. It goes to `Symbol::stub`, if that isn't 0, else to the symbol, on
+    ///   PowerPC64 to its local entry point.
+    /// - A stub of the kind `Jump` where it doesn't reach, and may go by one: `R_AARCH64_CALL26` and
+    ///   `R_AARCH64_JUMP26`, `R_LARCH_B26`, `R_PPC64_REL24` and `R_PPC64_REL24_NOTOC`. RISC-V's and
+    ///   x86-64's calls reach as far as a stub would.
+    /// - On PowerPC64 such a stub also for `R_PPC64_REL24` to a function that may leave another TOC
+    ///   pointer (the high three bits of `st_other` are 1), and for `R_PPC64_REL24_NOTOC` to one that has
+    ///   a local entry point (they are above 1). `R_PPC64_REL14` to the former is `NoRoom`.
+    ///
+    /// With the address of its entry in the stub as `Symbol::stub`, and an addend of 0, the branch is
+    /// `Direct` if it reaches that. A branch to an undefined weak symbol goes as `linker_section::values`
+    /// says, and by no stub.
+    ///
+    /// A function of another output and an indirect function are entered by the address in a word, as
+    /// `route_by_word` says.
+    ///
+    /// # Errors
+    ///
+    /// `NotABranch`, `Value`, `NoRoom`, `NoStub` and `Write`, as `RouteError` says.
+    ///
+    /// ```
+    /// use linker_utils::output::Target;
+    /// use linker_utils::output::Route;
+    /// use linker_utils::output::StubKind;
+    /// use linker_utils::section::{Addresses, Symbol};
+    /// use linker_utils::section::Rela;
+    /// use linker_utils::elf::Architecture;
+    ///
+    /// // `bl`, of R_AARCH64_CALL26, over 128 MiB
+    /// let target = Target::of(Architecture::AArch64);
+    /// let addresses = Addresses { section: 0x40_0000, ..Addresses::default() };
+    /// let far = Symbol { address: 0x1000_0000, ..Symbol::default() };
+    /// let call = Rela { offset: 0, code: 283, symbol: 1, addend: 0 };
+    /// let route = target.route(&addresses, &far, &call, &[0, 0, 0, 0x94]);
+    /// let stub = Route::Stub { kind: StubKind::Jump, entry: 0, target: 0x1000_0000 };
+    /// assert_eq!(route, Ok(stub));
+    /// ```
+    pub fn route(
+        &self,
+        addresses: &Addresses,
+        symbol: &Symbol,
+        relocation: &Rela,
+        section: &[u8],
+    ) -> Result<Route, RouteError> {
+        let Some(row) = served_row(self.instructions, relocation.code) else {
+            return Err(RouteError::NotABranch);
+        };
+        let value = value_of(self.instructions, addresses, symbol, relocation);
+        self.route_of(symbol, relocation, section, &row, value)
+    }
+
+    /// How the branch of a relocation goes to the function whose address the word at an address has: a
+    /// function of another output, or an indirect one. It goes by a stub of the kind `Load`. Of
+    /// PowerPC64's `R_PPC64_REL24` that stores the TOC pointer.
+    ///
+    /// # Errors
+    ///
+    /// `NotABranch` and `NoRoom`, as `RouteError` says.
+    ///
+    /// ```
+    /// use linker_utils::output::Target;
+    /// use linker_utils::output::{Route, RouteError};
+    /// use linker_utils::output::StubKind;
+    /// use linker_utils::section::Rela;
+    /// use linker_utils::elf::Architecture;
+    ///
+    /// // R_PPC64_REL24: `bl` and `nop`
+    /// let target = Target::of(Architecture::Ppc64);
+    /// let call = Rela { offset: 0, code: 10, symbol: 1, addend: 0 };
+    /// let route = target.route_by_word(0x1002_0000, &call, &[1, 0, 0, 0x48, 0, 0, 0, 0x60]);
+    /// let stub = Route::Stub { kind: StubKind::Load, entry: 0, target: 0x1002_0000 };
+    /// assert_eq!(route, Ok(stub));
+    /// let alone = target.route_by_word(0x1002_0000, &call, &[1, 0, 0, 0x48]);
+    /// assert_eq!(alone, Err(RouteError::NoRoom));
+    /// ```
+    pub fn route_by_word(
+        &self,
+        word: u64,
+        relocation: &Rela,
+        section: &[u8],
+    ) -> Result<Route, RouteError> {
+        let Some(_) = served_row(self.instructions, relocation.code) else {
+            return Err(RouteError::NotABranch);
+        };
+        let is_room = has_room(section, relocation.offset);
+        let has_toc = has_toc(self.instructions, relocation.code);
+        by_stub(StubKind::Load, self.load_stub.entry, has_toc, is_room, word)
+    }
+}

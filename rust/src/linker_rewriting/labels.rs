@@ -1,0 +1,361 @@
+// Made by tools/erase of crates/linker_rewriting/src/labels.rt.
+//! Groups of one label of RISC-V: a high part, and the low parts whose symbol is the label at it.
+
+use crate::linker_rewriting::candidates::candidate_by;
+use crate::linker_rewriting::decisions::{AsDecision, Decision};
+use crate::linker_rewriting::facts::{OutputFacts, SymbolFacts, link_facts};
+use crate::linker_rewriting::groups::{Scope, scope_in};
+use crate::linker_rewriting::phases::Phase;
+use crate::linker_rewriting::relocations::relocation_in;
+use crate::linker_rewriting::sequences::is_marked_at;
+use crate::linker_section::facts::{Addresses, Symbol};
+use crate::linker_section::relocations::{Rela, relocations_len};
+use crate::architecture::Relaxation;
+use crate::elf::{Architecture, Choice, LinkFacts, Operands};
+use crate::riscv64::RiscVRelocation;
+
+/// The code of the high parts whose groups a phase rewrites.
+#[inline(always)]
+fn high_code(phase: Phase) -> u32 {
+    match phase {
+        Phase::ThreadOffsets => RiscVRelocation::R_RISCV_TLSDESC_HI20.elf_code(),
+        _ => RiscVRelocation::R_RISCV_GOT_HI20.elf_code(),
+    }
+}
+
+/// The offset of the relocation with an index.
+#[inline(always)]
+fn offset_at(relocations: &[u8], index: usize) -> u64 {
+    relocation_in(relocations, index).offset
+}
+
+/// Whether relocations ascend by offset.
+fn is_ascending(relocations: &[u8]) -> bool {
+    let mut least = 0;
+    for index in 0..relocations_len(relocations) {
+        let offset = offset_at(relocations, index);
+        if offset < least {
+            return false;
+        }
+        least = offset;
+    }
+    true
+}
+
+/// The index of the first relocation from an offset on, among relocations that ascend.
+fn first_from(relocations: &[u8], at: u64) -> usize {
+    let mut low = 0;
+    let mut high = relocations_len(relocations);
+    while low < high {
+        let middle = low + (high - low) / 2;
+        if offset_at(relocations, middle) < at {
+            low = middle + 1;
+        } else {
+            high = middle;
+        }
+    }
+    low
+}
+
+/// The index of the first relocation with a code at an offset, among relocations that ascend.
+fn high_at(relocations: &[u8], code: u32, at: u64) -> Option<usize> {
+    let first = first_from(relocations, at);
+    for index in first..relocations_len(relocations) {
+        let relocation = relocation_in(relocations, index);
+        if relocation.offset != at {
+            return None;
+        }
+        if relocation.code == code {
+            return Some(index);
+        }
+    }
+    None
+}
+
+/// Where the label of a relocation is in the section.
+#[inline(always)]
+fn label_offset(
+    phase: Phase,
+    addresses: &Addresses,
+    values: &[Symbol],
+    relocation: &Rela,
+) -> Option<u64> {
+    if relocation.code == high_code(phase) {
+        return Some(relocation.offset);
+    }
+    match values.get(relocation.symbol as usize) {
+        Some(label) => Some(label.address.wrapping_sub(addresses.section)),
+        None => None,
+    }
+}
+
+/// The index of the high part at the label of a relocation, among relocations that ascend.
+pub(crate) fn high_of(
+    phase: Phase,
+    addresses: &Addresses,
+    values: &[Symbol],
+    relocations: &[u8],
+    relocation: &Rela,
+) -> Option<usize> {
+    match label_offset(phase, addresses, values, relocation) {
+        Some(at) => high_at(relocations, high_code(phase), at),
+        None => None,
+    }
+}
+
+/// Whether a scope is that of one label.
+#[inline(always)]
+fn is_labelled(scope: Scope) -> bool {
+    matches!(scope, Scope::Labelled)
+}
+
+/// Whether a relocation with a code is rewritten with its label.
+#[inline(always)]
+pub(crate) fn is_in_label(architecture: Architecture, phase: Phase, code: u32) -> bool {
+    is_labelled(scope_in(architecture, phase, code))
+}
+
+/// Whether the mark is there that counts for a relocation with a high part.
+#[inline(always)]
+fn is_label_marked(
+    architecture: Architecture,
+    phase: Phase,
+    relocations: &[u8],
+    index: usize,
+    relocation: &Rela,
+    high: usize,
+) -> bool {
+    match phase {
+        Phase::ThreadOffsets => {
+            let part = relocation_in(relocations, high);
+            is_marked_at(architecture, relocations, high, &part)
+        }
+        _ => is_marked_at(architecture, relocations, index, relocation),
+    }
+}
+
+/// The same facts, where no entry of the GOT is in reach.
+#[inline(always)]
+fn without_entry(facts: Option<LinkFacts>) -> Option<LinkFacts> {
+    match facts {
+        Some(facts) => Some(LinkFacts {
+            operands: Operands {
+                got_entry: facts.operands.place.wrapping_add(0x8000_0000_0000_0000),
+                ..facts.operands
+            },
+            ..facts
+        }),
+        None => None,
+    }
+}
+
+/// The rewrite of the instruction of the relocation with an index, by the facts of its label's high
+/// part.
+pub(crate) fn label_candidate(
+    architecture: Architecture,
+    phase: Phase,
+    output: &OutputFacts,
+    symbols: &[SymbolFacts],
+    addresses: &Addresses,
+    values: &[Symbol],
+    relocations: &[u8],
+    section: &[u8],
+    index: usize,
+    relocation: &Rela,
+    high: usize,
+) -> Option<Choice<Relaxation, u32>> {
+    let part = relocation_in(relocations, high);
+    let marked = is_label_marked(architecture, phase, relocations, index, relocation, high);
+    let facts = without_entry(link_facts(
+        phase, output, symbols, addresses, values, &part, &part, marked,
+    ));
+    match facts {
+        Some(facts) => candidate_by(
+            architecture,
+            symbols,
+            relocations,
+            section,
+            index,
+            relocation,
+            &facts,
+        ),
+        None => None,
+    }
+}
+
+/// The index of the high part whose group stays, since this relocation is of it and has no rewrite.
+fn lacking(
+    architecture: Architecture,
+    phase: Phase,
+    output: &OutputFacts,
+    symbols: &[SymbolFacts],
+    addresses: &Addresses,
+    values: &[Symbol],
+    relocations: &[u8],
+    section: &[u8],
+    index: usize,
+    relocation: &Rela,
+) -> Option<usize> {
+    if !is_in_label(architecture, phase, relocation.code) {
+        return None;
+    }
+    let Some(high) = high_of(phase, addresses, values, relocations, relocation) else {
+        return None;
+    };
+    match label_candidate(
+        architecture,
+        phase,
+        output,
+        symbols,
+        addresses,
+        values,
+        relocations,
+        section,
+        index,
+        relocation,
+        high,
+    ) {
+        Some(_) => None,
+        None => Some(high),
+    }
+}
+
+/// Whether a decision is the note that a group stays.
+#[inline(always)]
+pub(crate) fn is_note(decision: &Decision) -> bool {
+    matches!(decision, Decision::TakenAlong)
+}
+
+/// Sets all decisions of a section to one.
+fn set_all<D: AsDecision>(relocations: &[u8], decision: Decision, decisions: &mut [D]) {
+    for index in 0..relocations_len(relocations) {
+        decisions[index] = D::from_decision(decision);
+    }
+}
+
+/// Notes at each high part of a section whether its group stays.
+fn note_highs<D: AsDecision>(
+    architecture: Architecture,
+    phase: Phase,
+    output: &OutputFacts,
+    symbols: &[SymbolFacts],
+    addresses: &Addresses,
+    values: &[Symbol],
+    relocations: &[u8],
+    section: &[u8],
+    decisions: &mut [D],
+) {
+    for index in 0..relocations_len(relocations) {
+        let relocation = relocation_in(relocations, index);
+        let Some(high) = lacking(
+            architecture,
+            phase,
+            output,
+            symbols,
+            addresses,
+            values,
+            relocations,
+            section,
+            index,
+            &relocation,
+        ) else {
+            continue;
+        };
+        decisions[high] = D::from_decision(Decision::TakenAlong);
+    }
+}
+
+/// What is noted of the group of a relocation: at its high part; it stays where there is none.
+#[inline(always)]
+fn note_of<D: AsDecision>(
+    phase: Phase,
+    addresses: &Addresses,
+    values: &[Symbol],
+    relocations: &[u8],
+    decisions: &[D],
+    relocation: &Rela,
+) -> Decision {
+    match high_of(phase, addresses, values, relocations, relocation) {
+        Some(high) => decisions[high].as_decision(),
+        None => Decision::TakenAlong,
+    }
+}
+
+/// Notes at each relocation of a label what is noted at its high part.
+fn copy_notes<D: AsDecision>(
+    architecture: Architecture,
+    phase: Phase,
+    output: &OutputFacts,
+    symbols: &[SymbolFacts],
+    addresses: &Addresses,
+    values: &[Symbol],
+    relocations: &[u8],
+    section: &[u8],
+    decisions: &mut [D],
+) {
+    for index in 0..relocations_len(relocations) {
+        let relocation = relocation_in(relocations, index);
+        if !is_in_label(architecture, phase, relocation.code) {
+            continue;
+        }
+        let note = note_of(
+            phase,
+            addresses,
+            values,
+            relocations,
+            decisions,
+            &relocation,
+        );
+        decisions[index] = D::from_decision(note);
+    }
+}
+
+/// Whether an architecture has groups of labels.
+#[inline(always)]
+fn has_labels(architecture: Architecture) -> bool {
+    matches!(architecture, Architecture::RiscV)
+}
+
+/// Notes at each relocation of a label of RISC-V whether its group stays, in place of its decision.
+pub(crate) fn note_labels<D: AsDecision>(
+    architecture: Architecture,
+    phase: Phase,
+    output: &OutputFacts,
+    symbols: &[SymbolFacts],
+    addresses: &Addresses,
+    values: &[Symbol],
+    relocations: &[u8],
+    section: &[u8],
+    decisions: &mut [D],
+) {
+    if !has_labels(architecture) {
+        return;
+    }
+    if !is_ascending(relocations) {
+        set_all(relocations, Decision::TakenAlong, decisions);
+        return;
+    }
+    set_all(relocations, Decision::Kept, decisions);
+    note_highs(
+        architecture,
+        phase,
+        output,
+        symbols,
+        addresses,
+        values,
+        relocations,
+        section,
+        decisions,
+    );
+    copy_notes(
+        architecture,
+        phase,
+        output,
+        symbols,
+        addresses,
+        values,
+        relocations,
+        section,
+        decisions,
+    );
+}

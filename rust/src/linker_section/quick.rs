@@ -1,0 +1,230 @@
+// Made by tools/erase of crates/linker_section/src/quick.rt.
+//! The values of most relocations, by the numbers of their codes.
+//!
+//! Few tests find them, so that a section's values take little more time than the formulas. Where
+//! these return nothing, `value_of` says what the value is, and why there is none.
+
+use crate::linker_section::codes::{HIGH, LOW, NO_ENTRY, PLAIN, number_of, way_of};
+use crate::linker_section::facts::{Addresses, Symbol};
+use crate::linker_section::needed::entry_by;
+use crate::linker_section::relocations::{Rela, relocation_in, relocations_len};
+use crate::linker_section::values::{entry_address, local_entry, target_of};
+use crate::elf::{Architecture, Operands, Row};
+
+/// A high part of RISC-V, whose value low parts take.
+#[derive(Clone, Copy)]
+pub(crate) struct HighPart {
+    /// Its offset.
+    pub(crate) offset: u64,
+    /// Its value.
+    pub(crate) value: i64,
+}
+
+/// The row and the number of a code.
+#[inline(always)]
+fn look_up(architecture: Architecture, code: u32) -> Option<(Row, u16)> {
+    match architecture.row(code) {
+        Some(row) => Some((row, number_of(architecture, code))),
+        None => None,
+    }
+}
+
+/// Those of the relocation at an index; none behind the last one.
+#[inline(always)]
+pub(crate) fn look_up_at(
+    architecture: Architecture,
+    relocations: &[u8],
+    index: usize,
+) -> Option<(Row, u16)> {
+    if index < relocations_len(relocations) {
+        look_up(architecture, relocation_in(relocations, index).code)
+    } else {
+        None
+    }
+}
+
+/// The address of a symbol's entry that the number of a code says. By itself, since most relocations
+/// have none.
+#[inline(never)]
+fn address_of_entry(addresses: &Addresses, symbol: &Symbol, number: u16, addend: i64) -> Option<u64> {
+    entry_address(
+        addresses,
+        symbol,
+        entry_by(number, addend, symbol.is_thread_local),
+    )
+}
+
+/// The address of the entry that a relocation requires; 0 where it requires none. Only the contract
+/// uses `_row`.
+#[inline(always)]
+fn required_address(
+    addresses: &Addresses,
+    symbol: &Symbol,
+    number: u16,
+    addend: i64,
+    _row: &Row,
+) -> Option<u64> {
+    if number % 8 == NO_ENTRY {
+        Some(0)
+    } else {
+        address_of_entry(addresses, symbol, number, addend)
+    }
+}
+
+/// A symbol's address, or where PowerPC64's branches go. Only the contract uses `_row`.
+#[inline(always)]
+fn own_address(architecture: Architecture, number: u16, symbol: &Symbol, _row: &Row) -> u64 {
+    if matches!(architecture, Architecture::Ppc64) && number / 16 % 2 == 1 {
+        symbol.address.wrapping_add(local_entry(symbol.other))
+    } else {
+        symbol.address
+    }
+}
+
+/// `target_of`, where a symbol has a stub or may be undefined. By itself, since most have none.
+#[inline(never)]
+fn other_target(
+    architecture: Architecture,
+    addresses: &Addresses,
+    number: u16,
+    row: &Row,
+    symbol: &Symbol,
+    place: u64,
+) -> u64 {
+    target_of(architecture, addresses, number, &row.info(), symbol, place)
+}
+
+/// The same of any symbol.
+#[inline(always)]
+fn quick_target(
+    architecture: Architecture,
+    addresses: &Addresses,
+    number: u16,
+    row: &Row,
+    symbol: &Symbol,
+    place: u64,
+) -> u64 {
+    if symbol.stub != 0 || symbol.is_undefined_weak {
+        other_target(architecture, addresses, number, row, symbol, place)
+    } else {
+        own_address(architecture, number, symbol, row)
+    }
+}
+
+/// The operands of a plain relocation's formula, with the address of the entry that it requires.
+#[inline(always)]
+fn plain_operands(
+    architecture: Architecture,
+    addresses: &Addresses,
+    number: u16,
+    row: &Row,
+    symbol: &Symbol,
+    relocation: &Rela,
+    entry: u64,
+) -> Operands {
+    let place = addresses.section.wrapping_add(relocation.offset);
+    let target = quick_target(architecture, addresses, number, row, symbol, place);
+    Operands {
+        symbol: target,
+        addend: relocation.addend,
+        place,
+        got_entry: entry,
+        got_base: addresses.got_base,
+        plt_entry: target,
+        symbol_size: symbol.size,
+        tls_base: addresses.module_origin,
+    }
+}
+
+/// The value of a plain relocation; none where its symbol or its entry isn't there.
+#[inline(always)]
+fn plain_value(
+    architecture: Architecture,
+    addresses: &Addresses,
+    symbols: &[Symbol],
+    number: u16,
+    row: &Row,
+    relocation: &Rela,
+) -> Option<i64> {
+    let Some(symbol) = symbols.get(relocation.symbol as usize) else {
+        return None;
+    };
+    let Some(entry) = required_address(addresses, symbol, number, relocation.addend, row) else {
+        return None;
+    };
+    let operands = plain_operands(
+        architecture,
+        addresses,
+        number,
+        row,
+        symbol,
+        relocation,
+        entry,
+    );
+    row.value(&operands)
+}
+
+/// The value of a low part, if it is that of a high part.
+#[inline(always)]
+fn value_of_high(
+    addresses: &Addresses,
+    symbols: &[Symbol],
+    relocation: &Rela,
+    high: Option<HighPart>,
+) -> Option<i64> {
+    let Some(label) = symbols.get(relocation.symbol as usize) else {
+        return None;
+    };
+    let Some(high) = high else {
+        return None;
+    };
+    if label.address.wrapping_sub(addresses.section) == high.offset {
+        Some(high.value)
+    } else {
+        None
+    }
+}
+
+/// The value of a relocation; none where it isn't found so. Only the contract uses `_relocations`.
+#[inline(always)]
+pub(crate) fn quick_value(
+    architecture: Architecture,
+    addresses: &Addresses,
+    _relocations: &[u8],
+    symbols: &[Symbol],
+    number: u16,
+    row: &Row,
+    relocation: &Rela,
+    high: Option<HighPart>,
+) -> Option<i64> {
+    let way = way_of(number);
+    if way == PLAIN || way == HIGH {
+        plain_value(architecture, addresses, symbols, number, row, relocation)
+    } else if way == LOW && matches!(architecture, Architecture::RiscV) {
+        value_of_high(addresses, symbols, relocation, high)
+    } else {
+        None
+    }
+}
+
+/// The last high part behind a relocation among those of its section, with the value that
+/// `quick_value` returns. Only the contract uses `_relocations`, `_symbols`, `_addresses` and `_row`.
+#[inline(always)]
+pub(crate) fn high_behind(
+    architecture: Architecture,
+    _addresses: &Addresses,
+    _relocations: &[u8],
+    _symbols: &[Symbol],
+    number: u16,
+    _row: &Row,
+    _index: usize,
+    offset: u64,
+    value: i64,
+    high: Option<HighPart>,
+) -> Option<HighPart> {
+    if way_of(number) == HIGH && matches!(architecture, Architecture::RiscV) {
+        Some(HighPart { offset, value })
+    } else {
+        high
+    }
+}
