@@ -261,6 +261,105 @@ uint32_t linker_utils_stub(uint16_t machine, uint32_t kind, struct linker_utils_
 static inline uint32_t linker_utils_write_stub(uint16_t machine, uint32_t kind, uint64_t place,
                                                uint64_t target, uint8_t *bytes, size_t bytes_len);
 
+/* How a branch goes to its target. */
+struct linker_utils_route {
+    uint64_t target; /* what the stub goes to, as `linker_utils_write_stub` takes it */
+    /* The offset at which the branch enters the stub. Where that is 0 and the stub's own `entry`
+     * isn't, the stub stores PowerPC64's TOC pointer, and `ld 2,24(1)` has to be in place of the
+     * `nop` behind the branch. */
+    uint64_t entry;
+    uint32_t kind;      /* the stub's, as `enum linker_utils_stub_kind` */
+    uint8_t is_by_stub; /* 0: it goes directly, and all others are 0 */
+};
+
+/* How the branch of the relocation at an index goes to its symbol, into `route`, by what
+ * `linker_utils_relocate_section` takes.
+ * - Directly, where its value can be written, and on PowerPC64 the TOC pointer is as the function
+ *   and the caller expect. It goes to the symbol's `stub`, if that isn't 0, else to the symbol, on
+ *   PowerPC64 to its local entry point.
+ * - By a stub of the kind LINKER_UTILS_STUB_JUMP where it doesn't reach, and may go by one:
+ *   R_AARCH64_CALL26 and R_AARCH64_JUMP26, R_LARCH_B26, R_PPC64_REL24 and R_PPC64_REL24_NOTOC.
+ *   RISC-V's and x86-64's calls reach as far as a stub would.
+ * - On PowerPC64 by such a stub also at R_PPC64_REL24 to a function whose bits 5 to 7 of `st_other`
+ *   are 1. At R_PPC64_REL24_NOTOC it is one where they are above 1.
+ *
+ * With the address at which the branch enters the stub as the symbol's `stub`, and an addend of 0,
+ * the branch goes directly if it reaches that. No stub leads to what nothing defines. A function of
+ * another output, and an indirect one, is for `linker_utils_route_by_word`.
+ *
+ * LINKER_UTILS_TOO_SHORT where there is no relocation at the index; LINKER_UTILS_NO_SYMBOL where its
+ * symbol isn't in the table; LINKER_UTILS_NOT_A_BRANCH; LINKER_UTILS_NO_ENTRY; LINKER_UTILS_NO_ROOM;
+ * and where it can't be written, and no stub may serve it, the status of `linker_utils_relocate`. */
+static inline uint32_t linker_utils_route_at(
+    uint16_t machine, const struct linker_utils_addresses *addresses, const uint8_t *relocations,
+    size_t relocations_len, const struct linker_utils_symbol *symbols, size_t symbols_len,
+    size_t index, const uint8_t *section, size_t section_len, struct linker_utils_route *route);
+
+/* How the branch of the relocation at an index goes to the function whose address the word at an
+ * address has. It goes by a stub of the kind LINKER_UTILS_STUB_LOAD, which at R_PPC64_REL24 stores
+ * the TOC pointer. LINKER_UTILS_TOO_SHORT where there is no relocation at the index;
+ * LINKER_UTILS_NOT_A_BRANCH; LINKER_UTILS_NO_ROOM. */
+static inline uint32_t linker_utils_route_by_word(uint16_t machine, uint64_t word,
+                                                  const uint8_t *relocations,
+                                                  size_t relocations_len, size_t index,
+                                                  const uint8_t *section, size_t section_len,
+                                                  struct linker_utils_route *route);
+
+/* ---- Places of stubs between sections, so that each branch reaches its target or a stub of it. */
+
+/* A branch that may need a stub. What it reaches may lie `max_backward` bytes below it, and less
+ * than `max_forward` bytes above it. */
+struct linker_utils_branch {
+    uint64_t offset;
+    size_t target; /* an index of the table of targets */
+    uint64_t max_backward;
+    uint64_t max_forward;
+};
+
+/* What each stub is like. */
+struct linker_utils_stub_shape {
+    uint64_t len;          /* in bytes */
+    uint64_t unit;         /* the stubs at a boundary take a multiple of so many bytes */
+    uint64_t max_backward; /* how far below the stub its target may lie */
+    uint64_t max_forward;  /* the target lies less than so many bytes above the stub */
+};
+
+/* A stub that is placed. */
+struct linker_utils_placed_stub {
+    uint64_t place;  /* where it is, with the stubs before it */
+    size_t boundary; /* the index of the boundary at which it stands */
+    size_t target;   /* the index of its target */
+};
+
+/* How many stubs there are at most for so many branches: two for each. */
+size_t linker_utils_most_stubs(size_t branches_len);
+
+/* Places stubs at boundaries between sections. Offsets are those of a run of sections, or their
+ * addresses before there are stubs. Boundaries ascend, and what has the offset of one is behind its
+ * stubs. Where the offsets of branches ascend, more of them share a stub. It writes
+ * - to the beginning of `stubs` the stubs, and to `stubs_used` how many there are;
+ * - to `ways` for each branch the index of the stub that it goes by, or SIZE_MAX if it reaches its
+ *   target;
+ * - to `before` for each boundary how many bytes of stubs are before those at it, and behind these
+ *   how many there are in all. What was at an offset is so much higher as `before` says for the
+ *   first boundary above it.
+ * With any status but LINKER_UTILS_OK only `faulty` is written, and only where it says so.
+ *
+ * LINKER_UTILS_DIFFERENT_LENGTHS where `ways_len` isn't `branches_len`, or `before_len` isn't
+ * `boundaries_len` + 1; LINKER_UTILS_SHORT_MEMORY where `stubs_len` is below
+ * `linker_utils_most_stubs(branches_len)`; LINKER_UTILS_STUB_WITHOUT_LENGTH;
+ * LINKER_UTILS_NOT_ASCENDING, where the boundary behind the one at the index `faulty` is below it;
+ * LINKER_UTILS_NO_TARGET, of the branch at `faulty`; LINKER_UTILS_CODE_TOO_LONG;
+ * LINKER_UTILS_OUT_OF_MEMORY; LINKER_UTILS_NO_BOUNDARY, of the branch at `faulty`;
+ * LINKER_UTILS_STUB_TOO_FAR, of the target at `faulty`. A few passes of O((n + s) log b) for n
+ * branches, s stubs and b boundaries. It allocates. */
+static inline uint32_t linker_utils_place_stubs(
+    const struct linker_utils_branch *branches, size_t branches_len, const uint64_t *targets,
+    size_t targets_len, const uint64_t *boundaries, size_t boundaries_len,
+    const struct linker_utils_stub_shape *shape, struct linker_utils_placed_stub *stubs,
+    size_t stubs_len, size_t *stubs_used, size_t *ways, size_t ways_len, uint64_t *before,
+    size_t before_len, size_t *faulty);
+
 /* ---- Calls on PowerPC64 (64-bit ELF V2 ABI for Power, "Function Call Linkage Protocols" and
  * "Symbol Values").
  *

@@ -309,6 +309,53 @@ static inline uint32_t linker_utils_write_stub(
         machine, kind, place, target, LINKER_UTILS_SLICE(uint8_t, bytes), bytes_len);
 }
 
+uint32_t linker_utils_route_at_nonnull(
+    uint16_t machine, const struct linker_utils_addresses *addresses, const uint8_t *relocations,
+    size_t relocations_len, const struct linker_utils_symbol *symbols, size_t symbols_len,
+    size_t index, const uint8_t *section, size_t section_len, struct linker_utils_route *route);
+static inline uint32_t linker_utils_route_at(
+    uint16_t machine, const struct linker_utils_addresses *addresses, const uint8_t *relocations,
+    size_t relocations_len, const struct linker_utils_symbol *symbols, size_t symbols_len,
+    size_t index, const uint8_t *section, size_t section_len, struct linker_utils_route *route) {
+    return linker_utils_route_at_nonnull(
+        machine, addresses, LINKER_UTILS_SLICE(const uint8_t, relocations), relocations_len,
+        LINKER_UTILS_SLICE(const struct linker_utils_symbol, symbols), symbols_len, index,
+        LINKER_UTILS_SLICE(const uint8_t, section), section_len, route);
+}
+
+uint32_t linker_utils_route_by_word_nonnull(
+    uint16_t machine, uint64_t word, const uint8_t *relocations, size_t relocations_len,
+    size_t index, const uint8_t *section, size_t section_len, struct linker_utils_route *route);
+static inline uint32_t linker_utils_route_by_word(
+    uint16_t machine, uint64_t word, const uint8_t *relocations, size_t relocations_len,
+    size_t index, const uint8_t *section, size_t section_len, struct linker_utils_route *route) {
+    return linker_utils_route_by_word_nonnull(
+        machine, word, LINKER_UTILS_SLICE(const uint8_t, relocations), relocations_len, index,
+        LINKER_UTILS_SLICE(const uint8_t, section), section_len, route);
+}
+
+uint32_t linker_utils_place_stubs_nonnull(
+    const struct linker_utils_branch *branches, size_t branches_len, const uint64_t *targets,
+    size_t targets_len, const uint64_t *boundaries, size_t boundaries_len,
+    const struct linker_utils_stub_shape *shape, struct linker_utils_placed_stub *stubs,
+    size_t stubs_len, size_t *stubs_used, size_t *ways, size_t ways_len, uint64_t *before,
+    size_t before_len, size_t *faulty);
+static inline uint32_t linker_utils_place_stubs(
+    const struct linker_utils_branch *branches, size_t branches_len, const uint64_t *targets,
+    size_t targets_len, const uint64_t *boundaries, size_t boundaries_len,
+    const struct linker_utils_stub_shape *shape, struct linker_utils_placed_stub *stubs,
+    size_t stubs_len, size_t *stubs_used, size_t *ways, size_t ways_len, uint64_t *before,
+    size_t before_len, size_t *faulty) {
+    size_t ignored;
+    return linker_utils_place_stubs_nonnull(
+        LINKER_UTILS_SLICE(const struct linker_utils_branch, branches), branches_len,
+        LINKER_UTILS_SLICE(const uint64_t, targets), targets_len,
+        LINKER_UTILS_SLICE(const uint64_t, boundaries), boundaries_len, shape,
+        LINKER_UTILS_SLICE(struct linker_utils_placed_stub, stubs), stubs_len, stubs_used,
+        LINKER_UTILS_SLICE(size_t, ways), ways_len, LINKER_UTILS_SLICE(uint64_t, before),
+        before_len, faulty ? faulty : &ignored);
+}
+
 uint32_t linker_utils_jal_site_nonnull(uint8_t *section, size_t section_len, uint64_t site,
                                        int64_t distance);
 static inline uint32_t linker_utils_jal_site(uint8_t *section, size_t section_len, uint64_t site,

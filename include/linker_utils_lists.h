@@ -127,7 +127,19 @@
            "The architecture has none with this index, or glibc has none for these `e_flags`.") \
     STATUS(UNKNOWN_STUB, 70, \
            "No kind of stubs has this number, or the architecture has no stub of the kind.") \
-    STATUS(UNKNOWN_PHASE, 71, "No phase of rewrites has this number.")
+    STATUS(UNKNOWN_PHASE, 71, "No phase of rewrites has this number.") \
+    STATUS(NOT_A_BRANCH, 72, \
+           "No stub may serve the relocation: it is not that of a branch, or has no known meaning.") \
+    STATUS(NO_ROOM, 73, \
+           "A stub has to store the TOC pointer, and nothing behind the branch restores it.") \
+    STATUS(STUB_WITHOUT_LENGTH, 74, "A stub has no bytes, or the unit of stubs is 0.") \
+    STATUS(NO_TARGET, 75, "The index of the branch's target is not in the table.") \
+    STATUS(CODE_TOO_LONG, 76, \
+           "An offset is not below 2^62, or the bytes of two stubs for each branch and one more, " \
+           "with a unit for each boundary, are not.") \
+    STATUS(NO_BOUNDARY, 77, \
+           "The branch reaches neither its target nor a boundary for a stub.") \
+    STATUS(STUB_TOO_FAR, 78, "A stub of the target does not reach it.")
 
 enum linker_utils_status {
 #define LINKER_UTILS_STATUS(name, number, text) LINKER_UTILS_##name = number,

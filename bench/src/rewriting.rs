@@ -1,12 +1,12 @@
 //! Sections rewritten in one call, and surveyed before: relocations of 4 MiB, of which some are of
-//! groups; and stubs.
+//! groups; stubs, routes of branches, and places of stubs.
 
 use crate::inputs::Random;
 use crate::library::added;
 use crate::measure::{Beside, Report, Side};
 use crate::table::{AARCH64, PPC64, X86_64, name_of};
 use erased_crate::elf::Architecture;
-use erased_crate::{output, rewriting};
+use erased_crate::{output, placement, rewriting, section};
 use sathunne::raw::*;
 
 const LEN: usize = 4 << 20;
@@ -362,6 +362,181 @@ fn stubs(report: &mut Report, machine: u16) {
     report.line(&name, COUNT as usize, true, [Some(exports), None, Some(erased), None]);
 }
 
+/// 1,000 calls, of which each second one doesn't reach. Calls of x86-64 reach 2 GiB.
+struct Calls {
+    machine: u16,
+    relocations: Vec<u8>,
+    section: Vec<u8>,
+}
+
+impl Calls {
+    const SECTION: u64 = 0x1000_0000;
+    const TARGETS: [u64; 2] = [0x1000_8000, 0x2000_0000];
+
+    fn of(machine: u16, (bytes, relocations): Sequence) -> Calls {
+        let (at, code) = relocations[0];
+        let relocation = |index: u64| {
+            let symbol = index % 2;
+            let offset = index * bytes.len() as u64 + at;
+            [offset, symbol << 32 | u64::from(code), 0].map(u64::to_le_bytes).concat()
+        };
+        Calls {
+            machine,
+            relocations: (0..1000).flat_map(relocation).collect(),
+            section: bytes.repeat(1000),
+        }
+    }
+}
+
+/// How calls go.
+fn routes(report: &mut Report, calls: &Calls) {
+    let addresses = sathunne::Addresses { section: Calls::SECTION, ..Default::default() };
+    let symbols = Calls::TARGETS.map(|address| sathunne::Symbol { address, ..Default::default() });
+    let exports = Side::number(move || {
+        (0..1000).fold(0, |sum, index| {
+            let mut route = Route::default();
+            // SAFETY: a slice's pointer and length are its own, and a reference is of one value.
+            let status = unsafe {
+                linker_utils_route_at_nonnull(
+                    calls.machine,
+                    &addresses,
+                    calls.relocations.as_ptr(),
+                    calls.relocations.len(),
+                    symbols.as_ptr(),
+                    symbols.len(),
+                    index,
+                    calls.section.as_ptr(),
+                    calls.section.len(),
+                    &mut route,
+                )
+            };
+            assert_eq!(status, 0);
+            added(sum, route.target)
+        })
+    });
+    let architecture = Architecture::from_machine(calls.machine).expect("an architecture");
+    let addresses = section::Addresses { section: Calls::SECTION, ..Default::default() };
+    let symbols = Calls::TARGETS.map(|address| section::Symbol { address, ..Default::default() });
+    let erased = Side::number(move || {
+        let description = output::Target::of(architecture);
+        (0..1000).fold(0, |sum, index| {
+            let relocation = section::relocation_at(&calls.relocations, index).expect("one");
+            let symbol = &symbols[relocation.symbol as usize];
+            let route = description.route(&addresses, symbol, &relocation, &calls.section);
+            let target = match route.expect("it goes") {
+                output::Route::Direct => 0,
+                output::Route::Stub { target, .. } => target,
+            };
+            added(sum, target)
+        })
+    });
+    let name = format!("`linker_utils_route_at`, {}", name_of(calls.machine));
+    report.line(&name, 1000, true, [Some(exports), None, Some(erased), None]);
+}
+
+/// How calls go by the address in a word.
+fn routes_by_word(report: &mut Report, calls: &Calls) {
+    let exports = Side::number(move || {
+        (0..1000).fold(0, |sum, index| {
+            let mut route = Route::default();
+            // SAFETY: a slice's pointer and length are its own, and a reference is of one value.
+            let status = unsafe {
+                linker_utils_route_by_word_nonnull(
+                    calls.machine,
+                    Calls::TARGETS[0],
+                    calls.relocations.as_ptr(),
+                    calls.relocations.len(),
+                    index,
+                    calls.section.as_ptr(),
+                    calls.section.len(),
+                    &mut route,
+                )
+            };
+            assert_eq!(status, 0);
+            added(sum, route.target)
+        })
+    });
+    let architecture = Architecture::from_machine(calls.machine).expect("an architecture");
+    let erased = Side::number(move || {
+        let description = output::Target::of(architecture);
+        (0..1000).fold(0, |sum, index| {
+            let relocation = section::relocation_at(&calls.relocations, index).expect("one");
+            let route = description.route_by_word(Calls::TARGETS[0], &relocation, &calls.section);
+            match route.expect("it goes") {
+                output::Route::Direct => sum,
+                output::Route::Stub { target, .. } => added(sum, target),
+            }
+        })
+    });
+    let name = format!("`linker_utils_route_by_word`, {}", name_of(calls.machine));
+    report.line(&name, 1000, true, [Some(exports), None, Some(erased), None]);
+}
+
+/// Stubs for 100,000 calls over 1 GiB of AArch64's code.
+fn places_of_stubs(report: &mut Report) {
+    const COUNT: u64 = 100_000;
+    const LEN: u64 = 1 << 30;
+    let reach = 128 << 20;
+    let shape = sathunne::StubShape { len: 12, unit: 16, max_backward: 1 << 32, max_forward: 1 << 32 };
+    let random = &mut Random::new(29);
+    let targets: Vec<u64> = (0..256).map(|_| 4 * random.below(u128::from(LEN / 4))).collect();
+    let mut branch = |index| sathunne::Branch {
+        offset: index * (LEN / COUNT / 4 * 4),
+        target: random.below(256) as usize,
+        max_backward: reach,
+        max_forward: reach,
+    };
+    let branches: Vec<_> = (0..COUNT).map(&mut branch).collect();
+    let boundaries: Vec<u64> = (0..=LEN >> 16).map(|index| index << 16).collect();
+    let calls = (branches.clone(), targets.clone(), boundaries.clone());
+    let mut stubs = vec![sathunne::PlacedStub::default(); 2 * branches.len()];
+    let (mut used, mut faulty) = (0, 0);
+    let mut ways = vec![0; branches.len()];
+    let mut before = vec![0; boundaries.len() + 1];
+    let exports = Side::number(move || {
+        // SAFETY: a slice's pointer and length are its own, and a reference is of one value.
+        let status = unsafe {
+            linker_utils_place_stubs_nonnull(
+                branches.as_ptr(),
+                branches.len(),
+                targets.as_ptr(),
+                targets.len(),
+                boundaries.as_ptr(),
+                boundaries.len(),
+                &shape,
+                stubs.as_mut_ptr(),
+                stubs.len(),
+                &mut used,
+                ways.as_mut_ptr(),
+                ways.len(),
+                before.as_mut_ptr(),
+                before.len(),
+                &mut faulty,
+            )
+        };
+        assert_eq!(status, 0);
+        added(used as u64, before[before.len() - 1])
+    });
+    let (branches, targets, boundaries) = calls;
+    let branch = |branch: &sathunne::Branch| placement::Branch {
+        offset: branch.offset,
+        target: branch.target,
+        max_backward: branch.max_backward,
+        max_forward: branch.max_forward,
+    };
+    let branches: Vec<_> = branches.iter().map(branch).collect();
+    let erased = Side::number(move || {
+        let shape = placement::StubShape { len: 12, unit: 16, max_backward: 1 << 32, max_forward: 1 << 32 };
+        let (branches, targets, boundaries) = (&branches[..], &targets[..], &boundaries[..]);
+        let code = placement::Code { branches, targets, boundaries, shape };
+        let placed = placement::place_stubs(&code).expect("each is placed");
+        let before = placed.layout.before.last().expect("one more");
+        added(placed.layout.stubs.len() as u64, *before)
+    });
+    let name = "`linker_utils_place_stubs`, 100,000 branches";
+    report.line(name, COUNT as usize, true, [Some(exports), None, Some(erased), None]);
+}
+
 pub fn rewriting(report: &mut Report) {
     let random = &mut Random::new(23);
     let inputs = [
@@ -388,4 +563,12 @@ pub fn rewriting(report: &mut Report) {
     for input in &inputs {
         stubs(report, input.machine);
     }
+    report.heading("Routes of branches", Beside::Nothing);
+    for (machine, call) in [(X86_64, OF_X86_64[3]), (AARCH64, OF_AARCH64[1]), (PPC64, OF_PPC64[0])] {
+        let calls = Calls::of(machine, call);
+        routes(report, &calls);
+        routes_by_word(report, &calls);
+    }
+    report.heading("Places of stubs, a branch", Beside::Nothing);
+    places_of_stubs(report);
 }

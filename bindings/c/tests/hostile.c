@@ -1164,6 +1164,104 @@ static void call_write_stub(void) {
     finish_with(status, 0 UNKNOWN OR(UNKNOWN_STUB) OR(TOO_SHORT) OR(OUT_OF_REACH) OR(MISALIGNED));
 }
 
+/* A route in numbers: a stub of the library's, or nothing. */
+static bool is_route(const struct linker_utils_route *route) {
+    return route->is_by_stub ? route->is_by_stub == 1 && route->kind < 2 && route->entry < 64
+                             : !route->target && !route->entry && !route->kind;
+}
+
+static void call_route_at(void) {
+    uint16_t machine = any_machine();
+    struct buffer *known = symbols(any_len(8)), *where = addresses();
+    struct buffer *given = relocations(READ, machine, 40, LEN(known, struct linker_utils_symbol));
+    struct buffer *section = bytes(READ, any_len(48));
+    size_t index = once_in(8) ? (size_t)any_number() : below(given->len / 24 + 1);
+    struct linker_utils_route *route = output(sizeof *route);
+    uint32_t status = CALL(route_at, machine, where->given, given->given, given->len, SYMBOLS(known),
+                           index, section->given, section->len, route);
+    expect(status || is_route(route), "no route");
+    finish_with(status, 0 UNKNOWN OR(TOO_SHORT) OR(NO_SYMBOL) OR(NO_ENTRY) OR(NOT_A_BRANCH)
+                OR(NO_ROOM) OR(UNSUPPORTED) OR(MISALIGNED) OR(OUT_OF_REACH));
+}
+
+static void call_route_by_word(void) {
+    uint16_t machine = any_machine();
+    struct buffer *given = relocations(READ, machine, 40, 8);
+    struct buffer *section = bytes(READ, any_len(48));
+    size_t index = once_in(8) ? (size_t)any_number() : below(given->len / 24 + 1);
+    uint64_t word = any_number();
+    struct linker_utils_route *route = output(sizeof *route);
+    uint32_t status = CALL(route_by_word, machine, word, given->given, given->len, index,
+                           section->given, section->len, route);
+    expect(status || (is_route(route) && route->is_by_stub && route->target == word), "no route");
+    finish_with(status, 0 UNKNOWN OR(TOO_SHORT) OR(NOT_A_BRANCH) OR(NO_ROOM));
+}
+
+static void call_most_stubs(void) {
+    size_t branches = (size_t)any_number();
+    size_t most = CALL(most_stubs, branches);
+    expect(most == (branches > SIZE_MAX / 2 ? SIZE_MAX : 2 * branches), "two for each");
+}
+
+/* Offsets, mostly in ascending order. */
+static struct buffer *offsets(size_t count) {
+    struct buffer *buffer = place(READ, count, sizeof(uint64_t));
+    uint64_t *at = filled(buffer), offset = 0;
+    for (size_t i = 0; i < count; i++) {
+        offset += below(256);
+        at[i] = once_in(200) ? any_number() : offset;
+    }
+    return buffer;
+}
+
+static struct buffer *branches(size_t count, size_t targets_len) {
+    struct buffer *buffer = place(READ, count, sizeof(struct linker_utils_branch));
+    struct linker_utils_branch *at = filled(buffer);
+    for (size_t i = 0; i < count; i++)
+        at[i] = (struct linker_utils_branch){
+            .offset = once_in(200) ? any_number() : below(4096),
+            .target = once_in(200) ? (size_t)any_number() : below(targets_len + 1),
+            .max_backward = 64 + below(1024), .max_forward = 64 + below(1024)};
+    return buffer;
+}
+
+static struct buffer *stub_shape(void) {
+    struct buffer *buffer = place(READ, 1, sizeof(struct linker_utils_stub_shape));
+    *(struct linker_utils_stub_shape *)filled(buffer) = (struct linker_utils_stub_shape){
+        .len = once_in(20) ? any_number() : 12, .unit = once_in(20) ? below(3) : 4,
+        .max_backward = 1 << 20, .max_forward = once_in(20) ? below(256) : 1 << 20};
+    return buffer;
+}
+
+#define ABOUT_ONE(status) \
+    (status == LINKER_UTILS_NOT_ASCENDING || status == LINKER_UTILS_NO_TARGET || \
+     status == LINKER_UTILS_NO_BOUNDARY || status == LINKER_UTILS_STUB_TOO_FAR)
+
+static void call_place_stubs(void) {
+    size_t len = below(24), targets_len = below(8), boundaries_len = below(16);
+    struct buffer *targets = offsets(targets_len), *boundaries = offsets(boundaries_len);
+    struct buffer *given = branches(len, targets_len), *shape = stub_shape();
+    size_t room = once_in(20) ? below(48) : 2 * len;
+    struct buffer *stubs = place(WRITTEN, room, sizeof(struct linker_utils_placed_stub));
+    struct buffer *ways = place(WRITTEN, once_in(20) ? below(24) : len, sizeof(size_t));
+    size_t before_len = once_in(20) ? below(16) : boundaries_len + 1;
+    struct buffer *before = place(WRITTEN, before_len, sizeof(uint64_t));
+    size_t *stubs_used = output(sizeof *stubs_used), *faulty = any_faulty();
+    uint32_t status = CALL(place_stubs, given->given, len, targets->given, targets_len,
+                           boundaries->given, boundaries_len, shape->given, stubs->given, room,
+                           stubs_used, ways->given, LEN(ways, size_t), before->given, before_len,
+                           faulty);
+    expect_status(status, 0 OR(DIFFERENT_LENGTHS) OR(SHORT_MEMORY) OR(STUB_WITHOUT_LENGTH)
+                  OR(NOT_ASCENDING) OR(NO_TARGET) OR(CODE_TOO_LONG) OR(OUT_OF_MEMORY) OR(NO_BOUNDARY)
+                  OR(STUB_TOO_FAR));
+    expect(was_refused == (status == LINKER_UTILS_OUT_OF_MEMORY), "tells nothing of memory");
+    expect(status || *stubs_used <= room, "more stubs than there is room for");
+    allocations = 0;
+    if (!status) changes(stubs, 0, *stubs_used * sizeof(struct linker_utils_placed_stub));
+    finish_faulty(faulty, ABOUT_ONE(status), 24);
+    finish(status == LINKER_UTILS_OK);
+}
+
 static void call_clui_rel_info(void) {
     struct linker_utils_relocation_info *info = output(sizeof *info);
     CALL(clui_rel_info, info);
@@ -2012,7 +2110,8 @@ static void (*const all[])(void) = {
     call_rewrite_placed_section, call_dynamic_types, call_dynamic_name, call_dynamic_words,
     call_entry_words, call_origins, call_static_words, call_got, call_join_flags,
     call_output_facts, call_interpreter, call_provided_symbol, call_provided_run,
-    call_provided_word, call_stub, call_write_stub, call_clui_rel_info, call_jal_site, call_jal_site_with, call_relax_call,
+    call_provided_word, call_stub, call_write_stub, call_route_at, call_route_by_word,
+    call_most_stubs, call_place_stubs, call_clui_rel_info, call_jal_site, call_jal_site_with, call_relax_call,
     call_tests, call_write_mov_sequence, call_write_address_sequence, call_write_ha_lo,
     call_u32_from_slice, call_u64_from_slice, call_read_u32, call_read_uleb128, call_write_uleb128,
     call_write_uleb128_pair,

@@ -529,6 +529,72 @@ pub struct Stub {
     pub entry: u64,
 }
 
+/// How a branch goes to its target.
+#[derive(Debug, Clone, Copy, PartialEq, Eq)]
+pub enum Route {
+    /// To the symbol, or to the stub that it has.
+    Direct,
+    /// By a stub.
+    Stub {
+        kind: StubKind,
+        /// The offset at which the branch enters the stub. Where that is 0 and `Stub::entry` isn't, the
+        /// stub stores PowerPC64's TOC pointer, and `ld 2,24(1)` has to be in place of the `nop` behind
+        /// the branch.
+        entry: u64,
+        /// What the stub goes to, as `write_stub` takes it.
+        target: u64,
+    },
+}
+
+/// A branch that may need a stub.
+#[repr(C)]
+#[derive(Debug, Clone, Copy, Default, PartialEq, Eq)]
+pub struct Branch {
+    pub offset: u64,
+    /// Its target, as an index of the targets.
+    pub target: usize,
+    /// How far below the branch what it reaches may lie.
+    pub max_backward: u64,
+    /// What it reaches has to lie less than so many bytes above the branch.
+    pub max_forward: u64,
+}
+
+/// What each stub is like.
+#[repr(C)]
+#[derive(Debug, Clone, Copy, Default, PartialEq, Eq)]
+pub struct StubShape {
+    /// In bytes.
+    pub len: u64,
+    /// The stubs at a boundary take a multiple of so many bytes.
+    pub unit: u64,
+    /// How far below the stub its target may lie.
+    pub max_backward: u64,
+    /// The target has to lie less than so many bytes above the stub.
+    pub max_forward: u64,
+}
+
+/// A stub that is placed.
+#[repr(C)]
+#[derive(Debug, Clone, Copy, Default, PartialEq, Eq)]
+pub struct PlacedStub {
+    /// Where it is.
+    pub place: u64,
+    /// The index of the boundary at which it stands.
+    pub boundary: usize,
+    /// The index of its target.
+    pub target: usize,
+}
+
+/// Stubs with which each branch reaches what it goes by.
+#[derive(Debug, Clone, Default, PartialEq, Eq)]
+pub struct Placement {
+    pub stubs: Vec<PlacedStub>,
+    /// For each branch the index of the stub that it goes by; `None` if it reaches its target.
+    pub ways: Vec<Option<usize>>,
+    /// How many bytes of stubs there are before those at each boundary, and in all.
+    pub before: Vec<u64>,
+}
+
 /// What is known of a number of 64 bits, a relocation's value or an address: bits `first_bit` and up,
 /// below `end_bit`, of the sum of the number and `rounding`, modulo 2^64. The first of them is bit 0
 /// of `bits`.
@@ -642,9 +708,11 @@ impl From<Status> for ArrayError {
 fn result_over(call: impl FnOnce(&mut usize) -> u32) -> Result<(), ArrayError> {
     let mut faulty = 0;
     result_of(call(&mut faulty), ()).map_err(|status| match status {
-        Status::DifferentLengths
+        Status::CodeTooLong
+        | Status::DifferentLengths
         | Status::OutOfMemory
         | Status::ShortMemory
+        | Status::StubWithoutLength
         | Status::UnknownArchitecture
         | Status::UnknownLinkRegister => status.into(),
         _ => ArrayError {
@@ -1322,6 +1390,109 @@ pub fn write_stub(
     let status =
         unsafe { raw::linker_utils_write_stub_nonnull(machine, kind, place, target, at, len) };
     result_of(status, ())
+}
+
+/// A route by its numbers.
+fn route_of(route: raw::Route) -> Route {
+    if route.is_by_stub == 0 {
+        return Route::Direct;
+    }
+    Route::Stub {
+        kind: StubKind::from_number(route.kind).expect("a kind of the library's"),
+        entry: route.entry,
+        target: route.target,
+    }
+}
+
+/// How the branch of the relocation at an index of a section's relocations, which are the bytes of
+/// `Elf64_Rela`s, goes to its symbol: directly where its value can be written, and on PowerPC64 the
+/// TOC pointer is as the function and the caller expect; else by a stub of the kind `Jump`, if it may
+/// go by one.
+pub fn route_at(
+    architecture: Architecture,
+    addresses: &Addresses,
+    relocations: &[u8],
+    symbols: &[Symbol],
+    index: usize,
+    section: &[u8],
+) -> Result<Route, Status> {
+    let mut route = raw::Route::default();
+    let status = unsafe {
+        raw::linker_utils_route_at_nonnull(
+            architecture.machine(),
+            addresses,
+            relocations.as_ptr(),
+            relocations.len(),
+            symbols.as_ptr(),
+            symbols.len(),
+            index,
+            section.as_ptr(),
+            section.len(),
+            &mut route,
+        )
+    };
+    result_of(status, route).map(route_of)
+}
+
+/// How the branch of the relocation at an index goes to the function whose address the word at an
+/// address has: by a stub of the kind `Load`.
+pub fn route_by_word(
+    architecture: Architecture,
+    word: u64,
+    relocations: &[u8],
+    index: usize,
+    section: &[u8],
+) -> Result<Route, Status> {
+    let mut route = raw::Route::default();
+    let status = unsafe {
+        raw::linker_utils_route_by_word_nonnull(
+            architecture.machine(),
+            word,
+            relocations.as_ptr(),
+            relocations.len(),
+            index,
+            section.as_ptr(),
+            section.len(),
+            &mut route,
+        )
+    };
+    result_of(status, route).map(route_of)
+}
+
+/// Places stubs at boundaries between sections, so that each branch reaches its target or a stub of
+/// it. The entry at fault is a boundary, a branch or a target, as the status says.
+pub fn place_stubs(
+    branches: &[Branch],
+    targets: &[u64],
+    boundaries: &[u64],
+    shape: &StubShape,
+) -> Result<Placement, ArrayError> {
+    let most = unsafe { raw::linker_utils_most_stubs(branches.len()) };
+    let (mut stubs, mut len) = (vec![PlacedStub::default(); most], 0);
+    let mut ways = vec![0; branches.len()];
+    let mut before = vec![0; boundaries.len() + 1];
+    result_over(|faulty| unsafe {
+        raw::linker_utils_place_stubs_nonnull(
+            branches.as_ptr(),
+            branches.len(),
+            targets.as_ptr(),
+            targets.len(),
+            boundaries.as_ptr(),
+            boundaries.len(),
+            shape,
+            stubs.as_mut_ptr(),
+            stubs.len(),
+            &mut len,
+            ways.as_mut_ptr(),
+            ways.len(),
+            before.as_mut_ptr(),
+            before.len(),
+            faulty,
+        )
+    })?;
+    stubs.truncate(len);
+    let way = |way: usize| (way != usize::MAX).then_some(way);
+    Ok(Placement { stubs, ways: ways.into_iter().map(way).collect(), before })
 }
 
 /// The name of the relocation of an ELF type, as `R_X86_64_PC32`.

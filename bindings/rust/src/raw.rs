@@ -3,7 +3,7 @@
 
 pub use crate::{Addresses, BlockHead, Call, Deletion, Delta, FieldBits, FieldValue, Item, Operands};
 pub use crate::{KeptGroups, OutputFacts, Relocation, RewriteWindow, Rela, Shape, Shapes, Symbol};
-pub use crate::{DynamicTypes, Origins, Stub, SymbolFacts};
+pub use crate::{Branch, DynamicTypes, Origins, PlacedStub, Stub, StubShape, SymbolFacts};
 use std::ffi::c_char;
 
 /// `struct linker_utils_relocation_info`.
@@ -106,6 +106,16 @@ pub struct Got {
     pub base: u64,
     pub header: u64,
     pub has_header: u8,
+}
+
+/// `struct linker_utils_route`.
+#[repr(C)]
+#[derive(Debug, Clone, Copy, Default, PartialEq, Eq)]
+pub struct Route {
+    pub target: u64,
+    pub entry: u64,
+    pub kind: u32,
+    pub is_by_stub: u8,
 }
 
 /// `struct linker_utils_provided_symbol`.
@@ -447,6 +457,46 @@ extern "C" {
         target: u64,
         bytes: *mut u8,
         bytes_len: usize,
+    ) -> u32;
+    pub fn linker_utils_route_at_nonnull(
+        machine: u16,
+        addresses: *const Addresses,
+        relocations: *const u8,
+        relocations_len: usize,
+        symbols: *const Symbol,
+        symbols_len: usize,
+        index: usize,
+        section: *const u8,
+        section_len: usize,
+        route: *mut Route,
+    ) -> u32;
+    pub fn linker_utils_route_by_word_nonnull(
+        machine: u16,
+        word: u64,
+        relocations: *const u8,
+        relocations_len: usize,
+        index: usize,
+        section: *const u8,
+        section_len: usize,
+        route: *mut Route,
+    ) -> u32;
+    pub fn linker_utils_most_stubs(branches_len: usize) -> usize;
+    pub fn linker_utils_place_stubs_nonnull(
+        branches: *const Branch,
+        branches_len: usize,
+        targets: *const u64,
+        targets_len: usize,
+        boundaries: *const u64,
+        boundaries_len: usize,
+        shape: *const StubShape,
+        stubs: *mut PlacedStub,
+        stubs_len: usize,
+        stubs_used: *mut usize,
+        ways: *mut usize,
+        ways_len: usize,
+        before: *mut u64,
+        before_len: usize,
+        faulty: *mut usize,
     ) -> u32;
     pub fn linker_utils_jal_site_nonnull(
         section: *mut u8,

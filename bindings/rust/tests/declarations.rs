@@ -132,6 +132,10 @@ fn type_of_c(text: &str) -> String {
         "struct linker_utils_provided_symbol" => "ProvidedSymbol",
         "struct linker_utils_provided_run" => "ProvidedRun",
         "struct linker_utils_stub" => "Stub",
+        "struct linker_utils_route" => "Route",
+        "struct linker_utils_branch" => "Branch",
+        "struct linker_utils_stub_shape" => "StubShape",
+        "struct linker_utils_placed_stub" => "PlacedStub",
         "struct linker_utils_field_value" => "FieldValue",
         "struct linker_utils_window_bits" => "FieldBits",
         "struct linker_utils_recognised" => "Recognised",
@@ -259,6 +263,7 @@ fn element(kind: &str) -> String {
         "SymbolNumbers" => "ProvidedSymbol".to_string(),
         "RunNumbers" => "ProvidedRun".to_string(),
         "StubNumbers" => "Stub".to_string(),
+        "RouteNumbers" => "Route".to_string(),
         other => other.to_string(),
     }
 }
@@ -418,6 +423,8 @@ fn c_element(kind: &str, element: &str) -> String {
         "Decision" => "struct linker_utils_decision".to_string(),
         "FieldBits" => "struct linker_utils_window_bits".to_string(),
         "Recognised" => "struct linker_utils_recognised".to_string(),
+        "Branch" => "struct linker_utils_branch".to_string(),
+        "PlacedStub" => "struct linker_utils_placed_stub".to_string(),
         "usize" => "size_t".to_string(),
         number => format!("{}_t", number.replace('u', "uint")),
     };
@@ -836,6 +843,10 @@ fn the_structs_are_those_of_the_library() {
         "linker_utils_provided_symbol": raw::ProvidedSymbol { offset, place, }
         "linker_utils_provided_run": raw::ProvidedRun { len, first, count, }
         "linker_utils_stub": Stub { len, entry, }
+        "linker_utils_route": raw::Route { target, entry, kind, is_by_stub, }
+        "linker_utils_branch": Branch { offset, target, max_backward, max_forward, }
+        "linker_utils_stub_shape": StubShape { len, unit, max_backward, max_forward, }
+        "linker_utils_placed_stub": PlacedStub { place, boundary, target, }
         "linker_utils_field_value": FieldValue { bits, rounding, first_bit, end_bit, }
         "linker_utils_window_bits": FieldBits { offset, bits, }
         "linker_utils_recognised": raw::Recognised { choice, offset, value, }
@@ -858,7 +869,8 @@ fn the_structs_are_those_of_the_library() {
         + &repository("crates/linker_section/src/facts.rt")
         + &repository("crates/linker_rewriting/src/facts.rt")
         + &repository("crates/linker_rewriting/src/groups.rt")
-        + &repository("crates/linker_output/src/got.rt");
+        + &repository("crates/linker_output/src/got.rt")
+        + &repository("crates/linker_output/src/placement.rt");
     for (name, of_library) in [
         ("linker_utils_deletion", "Deletion"),
         ("linker_utils_call", "Call"),
@@ -890,6 +902,10 @@ fn the_structs_are_those_of_the_library() {
         ("linker_utils_provided_symbol", "SymbolNumbers"),
         ("linker_utils_provided_run", "RunNumbers"),
         ("linker_utils_stub", "StubNumbers"),
+        ("linker_utils_route", "RouteNumbers"),
+        ("linker_utils_branch", "Branch"),
+        ("linker_utils_stub_shape", "StubShape"),
+        ("linker_utils_placed_stub", "PlacedStub"),
         ("linker_utils_field_value", "FieldValueNumbers"),
         ("linker_utils_window_bits", "FieldBits"),
         ("linker_utils_recognised", "RecognisedNumbers"),

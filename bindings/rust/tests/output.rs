@@ -111,3 +111,84 @@ fn stubs_go_to_their_targets() {
     let short = write_stub(X86_64, StubKind::Load, 0, 8, &mut code[..7]);
     assert_eq!((short, code), (Err(Status::TooShort), [7; 8]));
 }
+
+/// The bytes of an `Elf64_Rela`, of symbol 1.
+fn rela(offset: u64, code: u32, addend: i64) -> Vec<u8> {
+    let mut bytes = offset.to_le_bytes().to_vec();
+    bytes.extend((1 << 32 | u64::from(code)).to_le_bytes());
+    bytes.extend(addend.to_le_bytes());
+    bytes
+}
+
+/// The route of one branch at the address 0x10000000, to a function at an address.
+fn route(machine: Architecture, code: u32, address: u64, other: u8, words: &[u32]) -> Result<Route, Status> {
+    let section: Vec<u8> = words.iter().flat_map(|word| word.to_le_bytes()).collect();
+    let addresses = Addresses { section: 0x1000_0000, ..Addresses::default() };
+    let symbols = [Symbol::default(), Symbol { address, other, ..Symbol::default() }];
+    route_at(machine, &addresses, &rela(0, code, 0), &symbols, 0, &section)
+}
+
+/// As ld.lld makes them: ELF for the Arm 64-bit Architecture lets CALL26 go by a veneer beyond
+/// 128 MiB, and the 64-Bit ELF V2 ABI says what `st_other` means for calls.
+#[test]
+fn branches_go_directly_or_by_stubs() {
+    let jump = |entry, target| Ok(Route::Stub { kind: StubKind::Jump, entry, target });
+    let (bl, nop, restore) = (0x4800_0001, 0x6000_0000, 0xe841_0018);
+    // `bl` of AArch64 and of LoongArch, within 128 MiB and beyond
+    assert_eq!(route(AARCH64, 283, 0x17ff_fffc, 0, &[0x9400_0000]), Ok(Route::Direct));
+    assert_eq!(route(AARCH64, 283, 0x1800_0000, 0, &[0x9400_0000]), jump(0, 0x1800_0000));
+    assert_eq!(route(LOONGARCH, 66, 0x1800_0000, 0, &[0x5400_0000]), jump(0, 0x1800_0000));
+    // a conditional branch, `b.eq`, goes by none
+    let far = route(AARCH64, 280, 0x1800_0000, 0, &[0x5400_0000]);
+    assert_eq!(far, Err(Status::OutOfReach));
+    // `bl` of PowerPC64 to a local entry point 8 bytes behind, within 32 MiB and beyond
+    assert_eq!(route(PPC64, 10, 0x1100_0000, 0x60, &[bl, nop]), Ok(Route::Direct));
+    assert_eq!(route(PPC64, 10, 0x1200_0000, 0x60, &[bl, nop]), jump(4, 0x1200_0008));
+    // to a function that may leave another TOC pointer
+    for next in [nop, restore] {
+        assert_eq!(route(PPC64, 10, 0x1100_0000, 0x20, &[bl, next]), jump(0, 0x1100_0000));
+    }
+    assert_eq!(route(PPC64, 10, 0x1100_0000, 0x20, &[bl, bl]), Err(Status::NoRoom));
+    // of code without a TOC pointer
+    assert_eq!(route(PPC64, 116, 0x1100_0000, 0x20, &[bl]), Ok(Route::Direct));
+    assert_eq!(route(PPC64, 116, 0x1100_0000, 0x60, &[bl]), jump(4, 0x1100_0000));
+    // RISC-V's `auipc` and `jalr` reach 2 GiB, and a word is no branch
+    assert_eq!(route(RISCV, 19, 0x1800_0000, 0, &[0x97, 0x8_00e7]), Ok(Route::Direct));
+    assert_eq!(route(X86_64, 1, 0, 0, &[0, 0]), Err(Status::NotABranch));
+    // a function of another output
+    let call = [0x4800_0001u32.to_le_bytes(), nop.to_le_bytes()].concat();
+    let stub = Route::Stub { kind: StubKind::Load, entry: 0, target: 0x1002_0000 };
+    assert_eq!(route_by_word(PPC64, 0x1002_0000, &rela(0, 10, 0), 0, &call), Ok(stub));
+    assert_eq!(route_by_word(PPC64, 0x1002_0000, &rela(0, 10, 0), 1, &call), Err(Status::TooShort));
+}
+
+/// A branch that reaches 128 MiB, with a target by its index.
+fn branch(offset: u64, target: usize) -> Branch {
+    let reach = 128 << 20;
+    Branch { offset, target, max_backward: reach, max_forward: reach }
+}
+
+/// By hand: a target 200 MiB away, and a boundary in between.
+#[test]
+fn stubs_stand_where_branches_reach_them() {
+    const MIB: u64 = 1 << 20;
+    let shape = StubShape { len: 12, unit: 16, max_backward: 1 << 32, max_forward: 1 << 32 };
+    let placed = place_stubs(&[branch(4, 0), branch(8, 1)], &[200 * MIB, 12], &[64 * MIB], &shape);
+    let stub = PlacedStub { place: 64 * MIB, boundary: 0, target: 0 };
+    let (ways, before) = (vec![Some(0), None], vec![0, 16]);
+    assert_eq!(placed, Ok(Placement { stubs: vec![stub], ways, before }));
+    let error = |status, index| Err(ArrayError { status, index });
+    let far = place_stubs(&[branch(4, 0)], &[200 * MIB], &[], &shape);
+    assert_eq!(far, error(Status::NoBoundary, Some(0)));
+    let fallen = place_stubs(&[], &[], &[8, 4], &shape);
+    assert_eq!(fallen, error(Status::NotAscending, Some(0)));
+    let missing = place_stubs(&[branch(0, 0), branch(0, 2)], &[0, 0], &[], &shape);
+    assert_eq!(missing, error(Status::NoTarget, Some(1)));
+    let wide = place_stubs(&[branch(1 << 62, 0)], &[0], &[], &shape);
+    assert_eq!(wide, error(Status::CodeTooLong, None));
+    let short = StubShape { max_forward: MIB, ..shape };
+    let far = place_stubs(&[branch(4, 1)], &[0, 200 * MIB], &[64 * MIB], &short);
+    assert_eq!(far, error(Status::StubTooFar, Some(1)));
+    let empty = place_stubs(&[branch(4, 0)], &[0], &[], &StubShape { len: 0, ..shape });
+    assert_eq!(empty, error(Status::StubWithoutLength, None));
+}

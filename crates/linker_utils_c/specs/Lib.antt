@@ -4,6 +4,7 @@ pub mod Forms
 pub mod Output
 pub mod PackRuns
 pub mod Packing
+pub mod Placement
 pub mod Reading
 pub mod Recognising
 pub mod Relaxing
@@ -11,6 +12,7 @@ pub mod Relocate
 pub mod Relocations
 pub mod Rewrites
 pub mod Rewriting
+pub mod Routes
 pub mod SectionItems
 pub mod Sections
 pub mod Shrinking

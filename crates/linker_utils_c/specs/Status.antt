@@ -40,7 +40,10 @@ use Rattle.linker_utils_c.specs.declared.status.Status.TheVariants.{NoSymbol, No
 use Rattle.linker_utils_c.specs.declared.status.Status.TheVariants.{Overlaps, ShortMemory}
 use Rattle.linker_utils_c.specs.declared.status.Status.TheVariants.{NotSurveyed, UnknownEntryClass}
 use Rattle.linker_utils_c.specs.declared.status.Status.TheVariants.{DifferentFlags, NotProvided}
-use Rattle.linker_utils_c.specs.declared.status.Status.TheVariants.{UnknownStub, UnknownPhase}
+use Rattle.linker_utils_c.specs.declared.status.Status.TheVariants.{UnknownStub, UnknownPhase, NotABranch, NoRoom}
+use Rattle.linker_utils_c.specs.declared.status.Status.TheVariants.{StubWithoutLength, NoTarget}
+use Rattle.linker_utils_c.specs.declared.status.Status.TheVariants.{CodeTooLong, NoBoundary}
+use Rattle.linker_utils_c.specs.declared.status.Status.TheVariants.{StubTooFar}
 
 abbrev pub code : Status → ℕ
 code Success = 0
@@ -113,6 +116,13 @@ code DifferentFlags = 68
 code NotProvided = 69
 code UnknownStub = 70
 code UnknownPhase = 71
+code NotABranch = 72
+code NoRoom = 73
+code StubWithoutLength = 74
+code NoTarget = 75
+code CodeTooLong = 76
+code NoBoundary = 77
+code StubTooFar = 78
 
 -- the status is one of these
 abbrev pub IsOneOf : List Status → ℕ → Type 0

@@ -107,7 +107,7 @@ pub extern "C" fn linker_utils_needs(
 
 /// Why a relocation has no value.
 #[inline(always)]
-fn value_status_of(error: ValueError) -> Status
+pub(crate) fn value_status_of(error: ValueError) -> Status
     ensures { result ≡ value_status error }
 {
     match error {

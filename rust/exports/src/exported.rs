@@ -12,6 +12,7 @@ use crate::output::RunNumbers;
 use crate::output::StubNumbers;
 use crate::output::SymbolNumbers;
 use crate::output::WordCodes;
+use crate::placement::PlacedStub;
 use crate::reading::FieldValueNumbers;
 use crate::recognising::DestinationNumbers;
 use crate::recognising::RecognisedNumbers;
@@ -19,12 +20,15 @@ use crate::relaxing::ItemNumbers;
 use crate::relocate::Reach;
 use crate::relocate::Relocation;
 use crate::rewriting::DecisionNumbers;
+use crate::routes::RouteNumbers;
 use crate::section_items::Rela;
 use crate::sections::RequirementNumbers;
 use linker_utils::elf::Operands;
 use linker_utils::elf::RelocationNumbers;
 use linker_utils::elf::RewriteWindow;
 use linker_utils::output::Origins;
+use linker_utils::placement::Branch;
+use linker_utils::placement::StubShape;
 use linker_utils::recognise::FieldBits;
 use linker_utils::relaxation::BlockHead;
 use linker_utils::relaxation::RelaxDelta;
@@ -918,6 +922,49 @@ unsafe extern "C" fn linker_utils_pack_nonnull(
 }
 
 #[unsafe(no_mangle)]
+extern "C" fn linker_utils_most_stubs(
+    branches_len: usize,
+) -> usize {
+    crate::placement::linker_utils_most_stubs(
+        branches_len,
+    )
+}
+
+#[unsafe(no_mangle)]
+unsafe extern "C" fn linker_utils_place_stubs_nonnull(
+    branches: *const Branch,
+    branches_len: usize,
+    targets: *const u64,
+    targets_len: usize,
+    boundaries: *const u64,
+    boundaries_len: usize,
+    shape: *const StubShape,
+    stubs: *mut PlacedStub,
+    stubs_len: usize,
+    stubs_used: *mut usize,
+    ways: *mut usize,
+    ways_len: usize,
+    before: *mut u64,
+    before_len: usize,
+    faulty: *mut usize,
+) -> u32 {
+    // SAFETY: the arguments are as the head of the header says.
+    unsafe {
+        crate::placement::linker_utils_place_stubs_nonnull(
+            from_raw_parts(branches, branches_len),
+            from_raw_parts(targets, targets_len),
+            from_raw_parts(boundaries, boundaries_len),
+            &*shape,
+            from_raw_parts_mut(stubs, stubs_len),
+            &mut *stubs_used,
+            from_raw_parts_mut(ways, ways_len),
+            from_raw_parts_mut(before, before_len),
+            &mut *faulty,
+        )
+    }
+}
+
+#[unsafe(no_mangle)]
 unsafe extern "C" fn linker_utils_u32_from_slice_nonnull(
     bytes: *const u8,
     bytes_len: usize,
@@ -1721,6 +1768,57 @@ unsafe extern "C" fn linker_utils_rewrite_placed_section_nonnull(
             from_raw_parts_mut(deleted, deleted_len),
             &mut *deleted_used,
             &mut *faulty,
+        )
+    }
+}
+
+#[unsafe(no_mangle)]
+unsafe extern "C" fn linker_utils_route_at_nonnull(
+    machine: u16,
+    addresses: *const Addresses,
+    relocations: *const u8,
+    relocations_len: usize,
+    symbols: *const Symbol,
+    symbols_len: usize,
+    index: usize,
+    section: *const u8,
+    section_len: usize,
+    route: *mut RouteNumbers,
+) -> u32 {
+    // SAFETY: the arguments are as the head of the header says.
+    unsafe {
+        crate::routes::linker_utils_route_at_nonnull(
+            machine,
+            &*addresses,
+            from_raw_parts(relocations, relocations_len),
+            from_raw_parts(symbols, symbols_len),
+            index,
+            from_raw_parts(section, section_len),
+            &mut *route,
+        )
+    }
+}
+
+#[unsafe(no_mangle)]
+unsafe extern "C" fn linker_utils_route_by_word_nonnull(
+    machine: u16,
+    word: u64,
+    relocations: *const u8,
+    relocations_len: usize,
+    index: usize,
+    section: *const u8,
+    section_len: usize,
+    route: *mut RouteNumbers,
+) -> u32 {
+    // SAFETY: the arguments are as the head of the header says.
+    unsafe {
+        crate::routes::linker_utils_route_by_word_nonnull(
+            machine,
+            word,
+            from_raw_parts(relocations, relocations_len),
+            index,
+            from_raw_parts(section, section_len),
+            &mut *route,
         )
     }
 }

@@ -83,7 +83,7 @@ pub fn linker_utils_needs(
 
 /// Why a relocation has no value.
 #[inline(always)]
-fn value_status_of(error: ValueError) -> Status {
+pub(crate) fn value_status_of(error: ValueError) -> Status {
     match error {
         ValueError::UnknownType => Status::UnknownRelocation,
         ValueError::NoSymbol => Status::NoSymbol,

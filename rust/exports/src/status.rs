@@ -151,6 +151,21 @@ pub enum Status {
     UnknownStub,
     /// No phase of rewrites has this number.
     UnknownPhase,
+    /// No stub may serve the relocation: it is not that of a branch, or has no known meaning.
+    NotABranch,
+    /// A stub has to store the TOC pointer, and nothing behind the branch restores it.
+    NoRoom,
+    /// A stub has no bytes, or the unit of stubs is 0.
+    StubWithoutLength,
+    /// The index of the branch's target is not in the table.
+    NoTarget,
+    /// An offset is not below 2^62, or the bytes of two stubs for each branch and one more, with a unit
+    /// for each boundary, are not.
+    CodeTooLong,
+    /// The branch reaches neither its target nor a boundary for a stub.
+    NoBoundary,
+    /// A stub of the target does not reach it.
+    StubTooFar,
 }
 
 impl Status {

@@ -1,0 +1,188 @@
+//! Places of stubs, in arrays of the caller's.
+
+ghost use Rattle.std.specs.Prelude.{◌≡◌, ◌↔◌, ◌≤◌, ◌<◌, ◌+◌, ◌-◌, ◌*◌, ◌^◌, IsTrue, length, min};
+ghost use Rattle.std.specs.Prelude.{true, false};
+ghost use Rattle.linker_utils_c.specs.Placement.{AreStubs, AreWays, way_number, place_status, faulty_by};
+ghost use Rattle.linker_utils_c.specs.Placement.{NamesStub, IsPlacing, IsPlacingOf};
+
+use crate::status::Status;
+use linker_output::placement::{Branch, Code, Layout, PlaceError, StubShape, place_stubs};
+use std::alloc::Global;
+
+/// A stub that is placed.
+#[repr(C)]
+#[derive(Clone, Copy)]
+pub struct PlacedStub {
+    /// Where it is.
+    pub place: u64,
+    /// The index of the boundary at which it stands.
+    pub boundary: usize,
+    /// The index of its target.
+    pub target: usize,
+}
+
+/// How many stubs there are at most for so many branches: two for each, or the largest number if
+/// those are more.
+#[unsafe(no_mangle)]
+pub extern "C" fn linker_utils_most_stubs(branches_len: usize) -> usize
+    ensures { result ≡ min (2 * branches_len) (2 ^ 64 - 1) }
+{
+    branches_len.saturating_mul(2)
+}
+
+/// Writes the stubs of a layout to the beginning of an array.
+fn put_stubs(layout: &Layout, stubs: &mut [PlacedStub])
+    requires places { length layout.now.places.items ≡ length layout.now.stubs.items }
+    requires room { length layout.now.stubs.items ≤ length stubs.old }
+    ensures { AreStubs layout.now stubs.old stubs.new }
+{
+    for index in 0..layout.stubs.len() {
+        let stub = layout.stubs[index];
+        stubs[index] = PlacedStub {
+            place: layout.places[index],
+            boundary: stub.boundary,
+            target: stub.target,
+        };
+    }
+}
+
+/// The number of the stub that a branch goes by.
+#[inline(always)]
+fn way_number(stub: Option<usize>) -> usize
+    ensures { result ≡ way_number stub }
+{
+    match stub {
+        Some(stub) => stub,
+        None => usize::MAX,
+    }
+}
+
+/// Writes the stub that each branch goes by.
+fn put_ways(stubs: &[Option<usize>], ways: &mut [usize])
+    requires { length ways.old ≡ length stubs.now }
+    ensures { AreWays stubs.now ways.new }
+{
+    for index in 0..stubs.len() {
+        ways[index] = way_number(stubs[index]);
+    }
+}
+
+/// Why no stubs are placed.
+fn place_status(error: &PlaceError) -> Status
+    ensures { result ≡ place_status error.now }
+{
+    match error {
+        PlaceError::OutOfMemory => Status::OutOfMemory,
+        PlaceError::NoLength => Status::StubWithoutLength,
+        PlaceError::NotAscending(_) => Status::NotAscending,
+        PlaceError::NoTarget(_) => Status::NoTarget,
+        PlaceError::TooLong => Status::CodeTooLong,
+        PlaceError::NoBoundary(_, _) => Status::NoBoundary,
+        PlaceError::StubTooFar(_, _) => Status::StubTooFar,
+    }
+}
+
+/// Writes the index at fault, if there is one.
+fn put_faulty(error: &PlaceError, faulty: &mut usize)
+    requires { NamesStub error.now }
+    ensures { faulty.new ≡ faulty_by error.now faulty.old }
+{
+    match error {
+        PlaceError::NotAscending(index) => *faulty = *index,
+        PlaceError::NoTarget(index) => *faulty = *index,
+        PlaceError::NoBoundary(index, _) => *faulty = *index,
+        PlaceError::StubTooFar(index, layout) => *faulty = layout.stubs[*index].target,
+        PlaceError::OutOfMemory | PlaceError::NoLength | PlaceError::TooLong => {}
+    }
+}
+
+/// Places stubs in code, where the arrays have their lengths.
+fn place(
+    alloc: Global,
+    code: &Code<'_>,
+    stubs: &mut [PlacedStub],
+    stubs_used: &mut usize,
+    ways: &mut [usize],
+    before: &mut [u64],
+    faulty: &mut usize,
+) -> u32
+    requires room { 2 * length code.now.branches.now ≤ length stubs.old }
+    requires ways { length ways.old ≡ length code.now.branches.now }
+    requires before { length before.old ≡ length code.now.boundaries.now + 1 }
+    ensures { IsPlacing code.now
+        (record { stubs = stubs.old; stubs_used = stubs_used.old; ways = ways.old; before = before.old })
+        (record { stubs = stubs.new; stubs_used = stubs_used.new; ways = ways.new; before = before.new })
+        faulty.old faulty.new result }
+{
+    match place_stubs(alloc, code) {
+        Ok(placement) => {
+            put_stubs(&placement.layout, stubs);
+            put_ways(&placement.stubs, ways);
+            before.copy_from_slice(&placement.layout.before);
+            *stubs_used = placement.layout.stubs.len();
+            Status::Success.number()
+        }
+        Err(error) => {
+            put_faulty(&error, faulty);
+            place_status(&error).number()
+        }
+    }
+}
+
+/// Whether arrays have the lengths that a call takes.
+#[inline(always)]
+fn have_lengths(branches: usize, boundaries: usize, ways: usize, before: usize) -> bool
+    ensures { IsTrue result ↔ ((ways ≡ branches) × (before ≡ boundaries + 1)) }
+{
+    ways == branches && before > 0 && before - 1 == boundaries
+}
+
+/// Whether there are fewer elements than two for each branch.
+#[inline(always)]
+fn is_short(stubs: usize, branches: usize) -> bool
+    ensures short { result ≡ true → stubs < 2 * branches }
+    ensures long { result ≡ false → 2 * branches ≤ stubs }
+{
+    stubs / 2 < branches
+}
+
+/// Places stubs at boundaries, as `place_stubs`: writes them to the beginning of `stubs` and how many
+/// there are to `stubs_used`; for each branch the index of the stub that it goes by, or the largest
+/// number; and for each boundary, and the end, how many bytes of stubs there are before those at it.
+///
+/// The first that applies of `DifferentLengths`, where `ways` has not an element for each branch, or
+/// `before` not one more than there are boundaries; `ShortMemory`, where `stubs` has fewer elements than
+/// `linker_utils_most_stubs` says; and the errors of `place_stubs`, with the index at fault in `faulty`:
+/// of a boundary, a branch or, where a stub doesn't reach it, a target. Nothing else is written then.
+#[unsafe(no_mangle)]
+pub extern "C" fn linker_utils_place_stubs_nonnull(
+    alloc: Global,
+    branches: &[Branch],
+    targets: &[u64],
+    boundaries: &[u64],
+    shape: &StubShape,
+    stubs: &mut [PlacedStub],
+    stubs_used: &mut usize,
+    ways: &mut [usize],
+    before: &mut [u64],
+    faulty: &mut usize,
+) -> u32
+    ensures { IsPlacingOf branches.now targets.now boundaries.now shape.now
+        (record { stubs = stubs.old; stubs_used = stubs_used.old; ways = ways.old; before = before.old })
+        (record { stubs = stubs.new; stubs_used = stubs_used.new; ways = ways.new; before = before.new })
+        faulty.old faulty.new result }
+{
+    if !have_lengths(branches.len(), boundaries.len(), ways.len(), before.len()) {
+        return Status::DifferentLengths.number();
+    }
+    if is_short(stubs.len(), branches.len()) {
+        return Status::ShortMemory.number();
+    }
+    let code = Code {
+        branches,
+        targets,
+        boundaries,
+        shape: *shape,
+    };
+    place(alloc, &code, stubs, stubs_used, ways, before, faulty)
+}
