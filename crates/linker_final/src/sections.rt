@@ -1,6 +1,6 @@
 //! The calls that the laws are about, one after the other.
 
-ghost use Rattle.std.specs.Prelude.{◌≡◌, ◌≤◌, ◌/◌, ℕ, List, length, IfErr, OnOk};
+ghost use Rattle.std.specs.Prelude.{◌≤◌, ◌/◌, ℕ, List, length, IfErr, OnOk};
 ghost use Rattle.linker_final.specs.Final.{IsLinked, IsLinkCause, linked};
 ghost use Rattle.linker_rewriting.specs.Facts.{early};
 
