@@ -16,7 +16,8 @@ struct dynamic_row {
 };
 
 struct output *interpreter, *dynamic;
-static struct output *dynsym, *dynstr, *hash_table, *versym, *verneed, *rela_dyn;
+struct output *rela;
+static struct output *dynsym, *dynstr, *hash_table, *versym, *verneed;
 static struct dynamic_row *rows;
 static size_t rows_len, rows_room, listed_len = 1, imports_len = 1, listed_room;
 static const struct symbol **listed; /* by their numbers in the table */
@@ -36,8 +37,12 @@ static struct output *own_table(const char *name, uint32_t type, uint64_t elemen
     return o;
 }
 
-/* The sections that dynamic outputs have. */
+/* The sections that dynamic outputs have, and the only one of them that static ones have too. */
 void make_tables(void) {
+    if (!is_dynamic) {
+        rela = own_table(".rela_iplt", SHT_RELA, sizeof(Elf64_Rela), NULL);
+        return;
+    }
     if (linked.is_executable) interpreter = own_section(".interp", SHF_ALLOC, true);
     dynstr = own_table(".dynstr", SHT_STRTAB, 0, NULL);
     dynsym = own_table(".dynsym", SHT_DYNSYM, sizeof(Elf64_Sym), dynstr);
@@ -45,7 +50,7 @@ void make_tables(void) {
     hash_table = own_table(".gnu.hash", SHT_GNU_HASH, 0, dynsym);
     versym = own_table(".gnu.version", SHT_GNU_versym, 2, dynsym);
     verneed = own_table(".gnu.version_r", SHT_GNU_verneed, 0, dynstr);
-    rela_dyn = own_table(".rela.dyn", SHT_RELA, sizeof(Elf64_Rela), dynsym);
+    rela = own_table(".rela.dyn", SHT_RELA, sizeof(Elf64_Rela), dynsym);
     dynamic = own_table(".dynamic", SHT_DYNAMIC, sizeof(Elf64_Dyn), dynstr);
     dynamic->flags |= SHF_WRITE;
 }
@@ -142,16 +147,11 @@ static void make_copy(struct symbol *s) {
     }
 }
 
-/* Makes the stub to a function of another file, which goes to the address in a slot. What the library
- * doesn't say is the type of the slot. If the stub is the function's address other look-ups than of
- * a jump slot find the stub itself; and else in a jump slot a dynamic linker may put the entry for
- * calls within a file, as PowerPC64's. */
+/* Makes the stub to a function of another file, which goes to the address in a slot. If the stub is
+ * the function's address other look-ups than of a jump slot find the stub itself; and else in a jump
+ * slot a dynamic linker may put the entry for calls within a file. */
 static void make_import(struct symbol *s) {
-    struct symbol *slot = take(1, sizeof *slot);
-    *slot = (struct symbol){.name = s->name, .output = slots, .offset = make_room(slots, 8, 8),
-                            .elf.st_shndx = SHN_ABS};
-    s->stub = add_stub(stubs, LINKER_UTILS_STUB_LOAD, slot, 0);
-    add_row(slots, slot->offset, s->is_canonical ? types.jump_slot : types.glob_dat, s, 0);
+    s->stub = add_slot(s, s->is_canonical ? types.jump_slot : types.glob_dat);
     if (!s->is_canonical) return;
     s->output = stubs;
     s->offset = s->stub;
@@ -345,8 +345,8 @@ static void put_entries(void) {
         if (!linked.is_executable && row->type == types.thread_offset) flags |= DF_STATIC_TLS;
     }
     if (rows_len) {
-        put_entry(DT_RELA, rela_dyn->address);
-        put_entry(DT_RELASZ, rela_dyn->len);
+        put_entry(DT_RELA, rela->address);
+        put_entry(DT_RELASZ, rela->len);
         put_entry(DT_RELAENT, sizeof(Elf64_Rela));
         put_entry(DT_RELACOUNT, relative);
     }
@@ -365,6 +365,8 @@ static void put_entries(void) {
 void make_dynamic(void) {
     uint8_t path[LINKER_UTILS_NAME_SIZE + 1] = {0};
     size_t used = 0;
+    if (rows_len) make_room(rela, 8, rows_len * sizeof(Elf64_Rela));
+    if (!is_dynamic) return;
     if (interpreter) {
         if (linker_utils_interpreter(machine, machine_flags, path, sizeof path - 1, &used))
             fail("no dynamic linker is known for such objects");
@@ -374,7 +376,6 @@ void make_dynamic(void) {
     name_of("");
     for (struct library *l = libraries; l; l = l->next) l->name_at = name_of(l->name);
     list_dynamic();
-    make_room(rela_dyn, 8, rows_len * sizeof(Elf64_Rela));
     put_entries();
 }
 
@@ -403,7 +404,7 @@ static uint64_t addend_of(const struct dynamic_row *row) {
  * systems know. */
 bool write_dynamic(void) {
     bool is_of_gnu = false;
-    Elf64_Rela *to = (Elf64_Rela *)rela_dyn->bytes;
+    Elf64_Rela *to = (Elf64_Rela *)rela->bytes;
     for (const struct dynamic_row *row = rows; row < rows + rows_len; row++, to++) {
         const struct symbol *s = row->symbol, *seen = s && s->definition ? s->definition : s;
         bool has_symbol = s && (s->is_imported || row->type == types.copy);
@@ -411,7 +412,8 @@ bool write_dynamic(void) {
         to->r_info = ELF64_R_INFO((uint64_t)(has_symbol ? seen->dynamic : 0), row->type);
         to->r_addend = (int64_t)addend_of(row);
     }
-    if (rows_len) qsort(rela_dyn->bytes, rows_len, sizeof(Elf64_Rela), by_symbol);
+    if (rows_len) qsort(rela->bytes, rows_len, sizeof(Elf64_Rela), by_symbol);
+    if (!is_dynamic) return false;
     Elf64_Sym *elf = (Elf64_Sym *)dynsym->bytes + 1;
     for (size_t i = 1; i < listed_len; i++, elf++) {
         const struct symbol *s = listed[i];

@@ -34,14 +34,10 @@
 #define NO_ENTRY (UINT64_C(1) << 63)    /* the address of a GOT entry that nothing reaches */
 #define END UINT64_MAX                  /* the offset of a section's end, wherever that will be */
 
-/* relocation types that older versions of <elf.h> lack */
-enum { LARCH_PCALA_HI20 = 71, LARCH_PCALA_LO12 = 72, LARCH_RELAX = 100, LARCH_ALIGN = 102 };
-enum { LARCH_CALL36 = 110, PPC64_REL24_NOTOC = 116 };
-enum { RISCV_TLSDESC_HI20 = 62, RISCV_TLSDESC_CALL = 65 };
-
-/* the order of the sections of the linked file; there are three kinds of arrays */
+/* the order of the sections of the linked file; there are three kinds of arrays, and behind the GOT is
+ * what is of addresses as it */
 enum { RANK_HEADERS, RANK_FIXED, RANK_CODE, RANK_TLS, RANK_TLS_BSS, RANK_ARRAYS, RANK_RELOCATED = 8,
-       RANK_GOT, RANK_TOC, RANK_DATA, RANK_SMALL_DATA, RANK_BSS };
+       RANK_GOT, RANK_DATA = RANK_GOT + 2, RANK_SMALL_DATA, RANK_BSS };
 
 #define fail(...) (fprintf(stderr, __VA_ARGS__), fputc('\n', stderr), exit(1))
 
@@ -86,6 +82,7 @@ struct object {
     size_t len, sections_len, symbols_len, resolved_len;
     uint32_t flags; /* `e_flags` */
     struct linker_utils_symbol_facts *facts; /* of each symbol */
+    struct linker_utils_symbol *values;      /* likewise, once addresses are known */
     struct linker_utils_kept_groups *kept;   /* by symbol, which groups of instructions stay */
 };
 
@@ -97,7 +94,6 @@ struct section {
     uint64_t offset, end;                 /* in the output */
     size_t first, relocations_len;        /* of its relocations, in those of the output */
     bool is_discarded; /* SHF_EXCLUDE, or of a group that an earlier object has too */
-    uint8_t *words_kept; /* PowerPC64, `.toc`: 1 for a doubleword that not only `ld`s refer to */
 };
 
 struct archive {
@@ -129,7 +125,6 @@ struct symbol {
     struct output *output; /* null where the address is absolute, and where nothing defines it */
     struct entry *entries; /* in the GOT */
     struct symbol *thunks; /* to it */
-    int64_t thunk_addend;
     bool is_listed, needs_stub, is_thunk; /* (an indirect function that is used needs one) */
     struct library *library; /* the first that defines it; null where none does */
     Elf64_Sym there;         /* as that has it */
@@ -158,14 +153,20 @@ struct relocation {
     uint64_t offset; /* in the output */
     int64_t addend;
     uint32_t type, index, deleted; /* index: of its symbol in the object; deleted: bytes there */
-    bool restores_toc; /* PowerPC64: by its `nop` */
-    bool keeps_entry; /* RISC-V: an `auipc` whose loads from the GOT stay */
+    bool is_kept; /* of a word that instructions load: one of them can't compute what it has */
 };
 
 /* What the library says of a relocation type. */
 struct row {
     struct linker_utils_relocation_info info;
     bool is_known;
+};
+
+/* A relocation by itself, of the second of two symbols, and what is known of both. */
+struct alone {
+    Elf64_Rela elf;
+    struct linker_utils_symbol known[2];
+    struct linker_utils_addresses addresses;
 };
 
 /* The TLS segment: where its image is, its length and alignment, and what offsets count from. */
@@ -187,7 +188,7 @@ extern struct symbol *symbols; /* all that objects mention, in their order */
 extern struct symbol *module_base; /* `_TLS_MODULE_BASE_`; null where no object requires it */
 extern struct library *libraries; /* in their order */
 extern struct linker_utils_dynamic_types types;
-extern struct output *outputs[256], *headers, *got, *stubs, *slots, *irelatives, *frames, *index_of;
+extern struct output *outputs[256], *headers, *got, *stubs, *slots, *rela, *frames, *index_of;
 extern struct output *interpreter, *dynamic; /* null where there is none */
 extern size_t outputs_len;
 extern struct tls tls;
@@ -223,26 +224,20 @@ uint64_t address_of(const struct output *o, uint64_t offset);
 void place_outputs(void), set_addresses(void);
 void add_section(struct section *s), copy_section(struct section *s), sort_outputs(void);
 
-void survey(struct object *o), note_facts(struct object *o), make_entries(void);
-void read_relocations(struct section *s), rewrite_phase(uint32_t phase), rewrite_placed(void);
-bool is_hidden(const struct relocation *r), is_code(const struct section *s);
-void write_entries(void), write_stubs(void);
+void rewrite_phase(uint32_t phase), rewrite_placed(void), require_all(void), make_entries(void);
+void read_relocations(struct section *s), write_entries(void), write_stubs(void), relax(void), relocate(struct output *o);
+bool is_of_addresses(const char *name), is_ifunc(const struct symbol *s), add_thunks(void);
 bool is_defined(const struct symbol *s), is_here(const struct symbol *s);
-uint64_t add_stub(struct output *o, uint32_t kind, const struct symbol *s, int64_t addend);
+uint64_t add_slot(struct symbol *s, uint32_t type);
 void make_tables(void), bind_symbols(void), make_imports(void), make_dynamic(void);
 void import(struct relocation *r, const struct linker_utils_requirements *needs);
 void add_row(struct output *o, uint64_t offset, uint32_t type, struct symbol *s, int64_t addend);
 void fill_entry(struct symbol *s, const struct entry *e);
 bool write_dynamic(void);
 struct linker_utils_got known_got(void);
-struct section *toc_section(const struct relocation *r, uint64_t *offset);
-bool add_thunks(void);
-void rewrite(const struct relocation *r, uint8_t *bytes, uint64_t len, uint64_t *offset,
-             int64_t *addend, uint32_t *type, const struct linker_utils_link_facts *facts);
-bool is_relaxable(const struct output *o, const struct relocation *r);
-void relax(void), relocate(struct output *o);
-struct relocation *high_part(const struct output *o, const struct relocation *low);
-int64_t value_of(const struct output *o, const struct relocation *r);
+struct linker_utils_symbol known_symbol(const struct symbol *s);
+struct linker_utils_addresses addresses_of(uint64_t start);
+struct alone alone_of(const struct output *o, const struct relocation *r);
 bool is_left_out(const struct relocation *r), is_undefined_weak(const struct symbol *s);
 bool is_thread_local(const struct symbol *s);
 Elf64_Sym symbol_of(const struct symbol *s);

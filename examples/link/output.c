@@ -306,7 +306,7 @@ void write_file(const char *path, uint64_t entry, bool has_symbols) {
     len = index_of->len;
     if (len) add_part(PT_GNU_EH_FRAME, index_of->address, len, len, 4);
     if (is_dynamic) add_dynamic_parts();
-    if (is_dynamic && write_dynamic()) head.e_ident[EI_OSABI] = ELFOSABI_GNU;
+    if (write_dynamic()) head.e_ident[EI_OSABI] = ELFOSABI_GNU;
     add_part(PT_GNU_STACK, 0, 0, 0, 16);
     load->p_flags |= PF_W;
     head.e_phnum = (uint16_t)(load + 1 - loads);

@@ -57,6 +57,7 @@ static void *guarded_realloc(void *old, size_t size) {
 #include "../link/output.c"
 #include "../link/relax.c"
 #include "../link/relocate.c"
+#include "../link/rewrite.c"
 #include "../link/symbols.c"
 #undef main
 #undef calloc

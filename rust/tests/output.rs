@@ -452,6 +452,10 @@ fn a_further_architecture_is_a_value() {
             header: Some(GotHeader::Base),
             bias: 0x20,
         },
+        address_section: Some(AddressSection {
+            name: ".addresses",
+            loads: &[WordLoad { word: 7, entry: 9 }],
+        }),
         page: 0x4000,
         code_unit: CodeUnit {
             len: 8,

@@ -1,5 +1,6 @@
 pub mod AArch64Output
 pub mod AArch64Stubs
+pub mod Addresses
 pub mod Dynamic
 pub mod Flags
 pub mod Got
