@@ -176,11 +176,16 @@ void fill_entry(struct symbol *s, const struct entry *e) {
     if (words.second) add_row(got, e->offset + 8, words.second, s, e->addend);
 }
 
-/* Adds a name, and returns its offset among them. The first is empty. */
-static uint32_t name_of(const char *text) {
-    uint64_t at = make_room(dynstr, 1, strlen(text) + 1);
-    memcpy(dynstr->bytes + at, text, strlen(text) + 1);
-    return (uint32_t)at;
+/* Adds bytes at a section's end, and returns where they are. */
+uint64_t append(struct output *o, uint64_t align, const void *bytes, uint64_t len) {
+    uint64_t at = make_room(o, align, len);
+    memcpy(o->bytes + at, bytes, len);
+    return at;
+}
+
+uint32_t add_name(struct output *o, const char *text) {
+    if (!o->len) make_room(o, 1, 1); /* the first is empty */
+    return (uint32_t)append(o, 1, text, strlen(text) + 1);
 }
 
 static uint32_t gnu_hash(const char *name) {
@@ -189,46 +194,28 @@ static uint32_t gnu_hash(const char *name) {
     return hash;
 }
 
-static uint32_t elf_hash(const char *name) {
-    uint32_t hash = 0;
-    for (; *name; name++) {
-        hash = (hash << 4) + (unsigned char)*name;
-        hash = (hash ^ (hash >> 28 << 4)) & 0xfffffff;
-    }
-    return hash;
-}
-
-/* How many buckets the table of hashes has, and how many words of bits. */
+/* How many buckets the table of hashes has. */
 static uint32_t buckets_len(void) { return (uint32_t)(listed_len - imports_len) / 4 + 1; }
 
-static uint32_t bits_len(void) {
-    uint32_t len = 1;
-    while (len < (listed_len - imports_len) / 8) len *= 2;
-    return len;
-}
+static uint32_t bucket_of(const struct symbol *s) { return gnu_hash(s->name) % buckets_len(); }
 
 static int by_bucket(const void *left, const void *right) {
     const struct symbol *a = *(struct symbol *const *)left, *b = *(struct symbol *const *)right;
-    uint32_t first = gnu_hash(a->name) % buckets_len(), second = gnu_hash(b->name) % buckets_len();
+    uint32_t first = bucket_of(a), second = bucket_of(b);
     return first != second ? (first < second ? -1 : 1) : strcmp(a->name, b->name);
 }
 
-/* Writes the hashes of the symbols that others may see. A bit of each of two numbers in a word, and
- * the first of each bucket; of the last one of a bucket the hash is odd. */
+/* Writes the hashes of the symbols that others may see, behind a word of bits that excludes none, and
+ * the first of each bucket. Of the last one of a bucket the hash is odd. */
 static void write_hashes(void) {
-    uint32_t *head = (uint32_t *)hash_table->bytes, count = buckets_len(), words = bits_len();
-    uint32_t *buckets = head + 4 + 2 * words, *chain = buckets + count;
-    uint64_t *bits = (uint64_t *)(head + 4);
-    head[0] = count;
-    head[1] = (uint32_t)imports_len;
-    head[2] = words;
-    head[3] = 26;
+    uint32_t head[6] = {buckets_len(), (uint32_t)imports_len, 1, 0, UINT32_MAX, UINT32_MAX};
+    uint32_t *buckets = (uint32_t *)(hash_table->bytes + sizeof head), *chain = buckets + head[0];
+    memcpy(hash_table->bytes, head, sizeof head);
     for (size_t i = imports_len; i < listed_len; i++) {
-        uint32_t hash = gnu_hash(listed[i]->name), at = hash % count;
-        bits[hash / 64 % words] |= UINT64_C(1) << hash % 64 | UINT64_C(1) << (hash >> 26) % 64;
+        uint32_t at = bucket_of(listed[i]);
         if (!buckets[at]) buckets[at] = (uint32_t)i;
-        bool is_last = i + 1 == listed_len || gnu_hash(listed[i + 1]->name) % count != at;
-        chain[i - imports_len] = (hash & ~1u) | is_last;
+        bool is_last = i + 1 == listed_len || bucket_of(listed[i + 1]) != at;
+        *chain++ = (gnu_hash(listed[i]->name) & ~1u) | is_last;
     }
 }
 
@@ -238,25 +225,22 @@ static void write_needed(uint16_t number) {
     for (struct library *l = libraries; l; l = l->next) {
         Elf64_Verneed head = {.vn_version = VER_NEED_CURRENT, .vn_file = l->name_at,
                               .vn_aux = sizeof head};
-        uint64_t at = verneed->len, next = at;
-        for (size_t i = 0; i <= MOST_VERSIONS; i++) {
-            if (!l->numbers[i]) continue;
-            if (!head.vn_cnt) next = make_room(verneed, 4, sizeof head) + sizeof head;
-            head.vn_cnt++;
-            Elf64_Vernaux aux = {.vna_hash = elf_hash(l->versions[i]), .vna_other = number++,
-                                 .vna_name = name_of(l->versions[i]), .vna_next = sizeof aux};
-            l->numbers[i] = aux.vna_other;
-            next = make_room(verneed, 4, sizeof aux);
-            memcpy(verneed->bytes + next, &aux, sizeof aux);
-        }
-        if (!head.vn_cnt) continue;
+        for (size_t i = 0; i <= MOST_VERSIONS; i++) head.vn_cnt += l->versions[i].number;
+        uint16_t left = head.vn_cnt;
+        if (!left) continue;
+        head.vn_next = sizeof head + left * (uint32_t)sizeof(Elf64_Vernaux);
+        last = append(verneed, 4, &head, sizeof head);
         verneed->info++;
-        memset(verneed->bytes + next + offsetof(Elf64_Vernaux, vna_next), 0, 4);
-        memcpy(verneed->bytes + at, &head, sizeof head);
-        uint32_t distance = (uint32_t)(at - last);
-        if (at) memcpy(verneed->bytes + last + offsetof(Elf64_Verneed, vn_next), &distance, 4);
-        last = at;
+        for (struct version *v = l->versions; left; v++) {
+            if (!v->number) continue;
+            v->number = number++;
+            Elf64_Vernaux aux = {.vna_hash = v->hash, .vna_other = v->number,
+                                 .vna_name = add_name(dynstr, v->name),
+                                 .vna_next = --left ? sizeof aux : 0};
+            append(verneed, 4, &aux, sizeof aux);
+        }
     }
+    if (verneed->len) memset(verneed->bytes + last + offsetof(Elf64_Verneed, vn_next), 0, 4);
 }
 
 /* Whether a symbol is in the table: of another file, or one that other files find here. */
@@ -278,7 +262,7 @@ static void list_dynamic(void) {
             if (!is_in_table(s, is_import)) continue;
             listed = grow(listed, listed_len + 1, &listed_room, sizeof *listed);
             listed[listed_len++] = s;
-            if (has_version(s)) s->library->numbers[s->version] = 1;
+            if (has_version(s)) s->library->versions[s->version].number = 1;
         }
     }
     if (listed_len > imports_len)
@@ -286,12 +270,11 @@ static void list_dynamic(void) {
     write_needed(2);
     make_room(dynsym, 8, sizeof(Elf64_Sym));
     for (size_t i = 1; i < listed_len; i++) {
-        Elf64_Sym elf = {.st_name = name_of(listed[i]->name)};
-        uint64_t at = make_room(dynsym, 8, sizeof elf);
-        memcpy(dynsym->bytes + at, &elf, sizeof elf);
+        Elf64_Sym elf = {.st_name = add_name(dynstr, listed[i]->name)};
+        append(dynsym, 8, &elf, sizeof elf);
         ((struct symbol *)listed[i])->dynamic = (uint32_t)i;
     }
-    make_room(hash_table, 8, 16 + 8 * bits_len() + 4 * (buckets_len() + listed_len - imports_len));
+    make_room(hash_table, 8, 24 + 4 * (buckets_len() + listed_len - imports_len));
     if (verneed->len) make_room(versym, 2, 2 * listed_len);
 }
 
@@ -326,7 +309,7 @@ static void put_function(int64_t tag, const char *name) {
 static void put_entries(void) {
     static uint32_t name;
     uint64_t relative = 0, flags = DF_BIND_NOW;
-    if (own_name && !name) name = name_of(own_name);
+    if (own_name && !name) name = add_name(dynstr, own_name);
     entries_len = 0;
     for (const struct library *l = libraries; l; l = l->next) put_entry(DT_NEEDED, l->name_at);
     if (name) put_entry(DT_SONAME, name);
@@ -370,11 +353,9 @@ void make_dynamic(void) {
     if (interpreter) {
         if (linker_utils_interpreter(machine, machine_flags, path, sizeof path - 1, &used))
             fail("no dynamic linker is known for such objects");
-        make_room(interpreter, 1, used + 1);
-        memcpy(interpreter->bytes, path, used);
+        append(interpreter, 1, path, used + 1);
     }
-    name_of("");
-    for (struct library *l = libraries; l; l = l->next) l->name_at = name_of(l->name);
+    for (struct library *l = libraries; l; l = l->next) l->name_at = add_name(dynstr, l->name);
     list_dynamic();
     put_entries();
 }
@@ -427,7 +408,7 @@ bool write_dynamic(void) {
         is_of_gnu |= ELF64_ST_TYPE(elf->st_info) == STT_GNU_IFUNC ||
                      ELF64_ST_BIND(elf->st_info) == STB_GNU_UNIQUE;
         if (!verneed->len) continue;
-        uint16_t number = has_version(s) ? s->library->numbers[s->version] : VER_NDX_GLOBAL;
+        uint16_t number = has_version(s) ? s->library->versions[s->version].number : VER_NDX_GLOBAL;
         memcpy(versym->bytes + 2 * i, &number, sizeof number);
     }
     write_hashes();

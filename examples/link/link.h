@@ -103,12 +103,19 @@ struct archive {
     bool *is_loaded; /* by half of a member's offset */
 };
 
+/* A version of a library. */
+struct version {
+    const char *name;
+    uint32_t hash;
+    uint16_t number; /* in the linked file; 0 where it asks for none */
+};
+
 /* A shared library. */
 struct library {
     struct library *next;
     struct object file;
-    const char *name, **versions; /* as programs name it; its versions, by number */
-    uint16_t *numbers;            /* of these in the linked file; 0 where it asks for none */
+    const char *name;         /* as programs name it */
+    struct version *versions; /* by number */
     const Elf64_Sym *elf;
     struct symbol **symbols; /* null where nothing can refer to one */
     size_t len;
@@ -229,6 +236,8 @@ void read_relocations(struct section *s), write_entries(void), write_stubs(void)
 bool is_of_addresses(const char *name), is_ifunc(const struct symbol *s), add_thunks(void);
 bool is_defined(const struct symbol *s), is_here(const struct symbol *s);
 uint64_t add_slot(struct symbol *s, uint32_t type);
+uint64_t append(struct output *o, uint64_t align, const void *bytes, uint64_t len);
+uint32_t add_name(struct output *o, const char *text);
 void make_tables(void), bind_symbols(void), make_imports(void), make_dynamic(void);
 void import(struct relocation *r, const struct linker_utils_requirements *needs);
 void add_row(struct output *o, uint64_t offset, uint32_t type, struct symbol *s, int64_t addend);
