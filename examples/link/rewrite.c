@@ -76,13 +76,6 @@ static void rewrite_in(uint32_t phase, struct section *s, bool is_survey) {
     note_deleted(elf, r - len, len, deleted, used);
 }
 
-/* Whether a load from the GOT stays. */
-static bool keeps_load(const struct object *o) {
-    for (size_t i = 0; i < o->symbols_len; i++)
-        if (o->kept[i].got_load) return true;
-    return false;
-}
-
 /* Whether compilers keep addresses in a section, beside the GOT. */
 bool is_of_addresses(const char *name) {
     static char known[LINKER_UTILS_NAME_SIZE + 1];
@@ -141,25 +134,31 @@ static void rewrite_loads(struct section *s, bool is_survey) {
     }
 }
 
-/* Rewrites the instructions of all code in a phase, all of a group or none. Of a section all loads from
- * the GOT are rewritten or none is, as in ld.lld. */
+/* Rewrites some sections of an object in a phase, all of a group or none. */
+static void rewrite_some(uint32_t phase, struct object *o, struct section *first, struct section *end) {
+    bool stays = false; /* of the loads from the GOT one */
+    memset(o->kept, 0, o->symbols_len * sizeof *o->kept);
+    o->kept->got_load = phase == LINKER_UTILS_PHASE_EARLY; /* as in ld.lld */
+    for (int is_survey = 1; is_survey >= 0 && !stays; is_survey--) {
+        for (struct section *s = first; s < end; s++)
+            if (is_code(s)) rewrite_in(phase, s, is_survey);
+        for (size_t i = 0; i < o->symbols_len && phase == LINKER_UTILS_PHASE_GOT_LOADS; i++)
+            stays |= o->kept[i].got_load;
+    }
+}
+
+/* Rewrites the instructions of all code in a phase. Of a section all loads from the GOT are rewritten or
+ * none is, as in ld.lld. */
 void rewrite_phase(uint32_t phase) {
-    bool is_of_got = phase == LINKER_UTILS_PHASE_GOT_LOADS;
+    size_t step = phase == LINKER_UTILS_PHASE_GOT_LOADS ? 1 : SIZE_MAX;
     for (struct object *o = objects; o; o = o->next) {
-        struct section *end = o->sections + o->sections_len;
-        if (!o->facts) o->facts = take(o->symbols_len, sizeof *o->facts);
-        if (!o->values) o->values = take(o->symbols_len, sizeof *o->values);
-        o->kept = take(o->symbols_len, sizeof *o->kept);
+        o->facts = take(o->symbols_len, sizeof *o->facts);
+        o->values = take(o->symbols_len, sizeof *o->values);
+        o->kept = take(o->symbols_len + 1, sizeof *o->kept);
         if (!linker_utils_has_rewrites(machine, phase)) continue;
         note_facts(o);
-        if (phase == LINKER_UTILS_PHASE_EARLY && o->symbols_len) o->kept[0].got_load = true; /* as in ld.lld */
-        for (int is_survey = 1; is_survey >= 0; is_survey--)
-            for (struct section *s = o->sections; s < end; s++) {
-                if (!is_code(s) || (is_of_got && is_survey)) continue;
-                if (is_of_got) memset(o->kept, 0, o->symbols_len * sizeof *o->kept);
-                if (is_of_got) rewrite_in(phase, s, true);
-                if (!is_of_got || !keeps_load(o)) rewrite_in(phase, s, is_survey);
-            }
+        for (size_t i = 0, len = o->sections_len; i < len; i += step < len - i ? step : len - i)
+            rewrite_some(phase, o, o->sections + i, o->sections + (step < len - i ? i + step : len));
     }
 }
 
