@@ -20,7 +20,7 @@ struct output *rela;
 static struct output *dynsym, *dynstr, *hash_table, *versym, *verneed;
 static struct dynamic_row *rows;
 static size_t rows_len, rows_room, listed_len = 1, imports_len = 1, listed_room;
-static const struct symbol **listed; /* by their numbers in the table */
+static struct symbol **listed; /* by their numbers in the table */
 
 void add_row(struct output *o, uint64_t offset, uint32_t type, struct symbol *s, int64_t addend) {
     rows = grow(rows, rows_len + 1, &rows_room, sizeof *rows);
@@ -165,8 +165,9 @@ void make_imports(void) {
 }
 
 /* Leaves an entry of the GOT to the dynamic linker, or what of it is not known here. */
-void fill_entry(struct symbol *s, const struct entry *e) {
+void fill_entry(const struct entry *e) {
     struct linker_utils_word_types words;
+    struct symbol *s = e->symbol;
     bool is_bound = !s || !s->is_imported;
     if (!is_dynamic || (is_bound && s && !is_here(s)) ||
         linker_utils_dynamic_words(machine, e->class, is_bound, linked.is_executable, &words) ||
@@ -201,8 +202,8 @@ static uint32_t bucket_of(const struct symbol *s) { return gnu_hash(s->name) % b
 
 static int by_bucket(const void *left, const void *right) {
     const struct symbol *a = *(struct symbol *const *)left, *b = *(struct symbol *const *)right;
-    uint32_t first = bucket_of(a), second = bucket_of(b);
-    return first != second ? (first < second ? -1 : 1) : strcmp(a->name, b->name);
+    int by = order(bucket_of(a), bucket_of(b));
+    return by ? by : strcmp(a->name, b->name);
 }
 
 /* Writes the hashes of the symbols that others may see, behind a word of bits that excludes none, and
@@ -268,11 +269,10 @@ static void list_dynamic(void) {
     if (listed_len > imports_len)
         qsort(listed + imports_len, listed_len - imports_len, sizeof *listed, by_bucket);
     write_needed(2);
-    make_room(dynsym, 8, sizeof(Elf64_Sym));
+    make_room(dynsym, 8, listed_len * sizeof(Elf64_Sym));
     for (size_t i = 1; i < listed_len; i++) {
-        Elf64_Sym elf = {.st_name = add_name(dynstr, listed[i]->name)};
-        append(dynsym, 8, &elf, sizeof elf);
-        ((struct symbol *)listed[i])->dynamic = (uint32_t)i;
+        ((Elf64_Sym *)dynsym->bytes)[i].st_name = add_name(dynstr, listed[i]->name);
+        listed[i]->dynamic = (uint32_t)i;
     }
     make_room(hash_table, 8, 24 + 4 * (buckets_len() + listed_len - imports_len));
     if (verneed->len) make_room(versym, 2, 2 * listed_len);
@@ -364,11 +364,10 @@ void make_dynamic(void) {
 static int by_symbol(const void *left, const void *right) {
     const Elf64_Rela *a = left, *b = right;
     uint32_t first = ELF64_R_TYPE(a->r_info), second = ELF64_R_TYPE(b->r_info);
-    int order = (first == types.irelative) - (second == types.irelative);
-    if (!order) order = (second == types.relative) - (first == types.relative);
-    if (order) return order;
-    if (first != types.relative && a->r_info != b->r_info) return a->r_info < b->r_info ? -1 : 1;
-    return a->r_offset < b->r_offset ? -1 : a->r_offset > b->r_offset;
+    int by = order(first == types.irelative, second == types.irelative);
+    if (!by) by = order(second == types.relative, first == types.relative);
+    if (!by && first != types.relative) by = order(a->r_info, b->r_info);
+    return by ? by : order(a->r_offset, b->r_offset);
 }
 
 /* What a word is relative to: the symbol, the image of thread-local storage, or nothing. */

@@ -125,9 +125,14 @@ struct linker_utils_got known_got(void) {
     return known;
 }
 
+static struct entry *made, **made_end = &made; /* in the order of the GOT */
+
 static void make_entry(struct symbol *s, struct entry *e) {
+    e->symbol = s;
     e->offset = make_room(got, 8, 8 * linker_utils_entry_words(e->class));
-    fill_entry(s, e);
+    fill_entry(e);
+    *made_end = e;
+    made_end = &e->later;
 }
 
 /* Makes the stubs and the GOT. The local symbols' entries are the last. */
@@ -143,29 +148,23 @@ void make_entries(void) {
     if (module_entry) make_entry(NULL, module_entry);
 }
 
-/* Writes the words of an entry of the GOT. */
-static void write_entry(const struct entry *e, uint64_t address) {
-    struct linker_utils_entry_words words;
-    if (linker_utils_static_words(e->class, address, &tls.origins, &words)) return;
-    memcpy(got->bytes + e->offset, &words, 8 * linker_utils_entry_words(e->class));
+/* The address that an entry is of. That of a weak thread-local variable that nothing defines is as in
+ * ld.lld. */
+static uint64_t target_of(const struct entry *e) {
+    const struct symbol *s = e->symbol;
+    if (!s || !is_undefined_weak(s)) return s ? address_of(s->output, s->offset) : 0;
+    if (e->class == LINKER_UTILS_ENTRY_THREAD_OFFSET) return tls.origins.thread_pointer;
+    return e->class == LINKER_UTILS_ENTRY_MODULE_OFFSET ? tls.image : 0;
 }
 
-/* Writes the GOT. What it has of a weak thread-local variable that nothing defines is as in
- * ld.lld. */
+/* Writes the GOT. */
 void write_entries(void) {
     struct linker_utils_got known = known_got();
+    struct linker_utils_entry_words words;
     if (got->len && known.has_header) memcpy(got->bytes, &known.header, sizeof known.header);
-    for (const struct symbol *s = symbols; s; s = s->later) {
-        for (const struct entry *e = s->entries; e; e = e->next) {
-            uint64_t at = address_of(s->output, s->offset);
-            if (is_undefined_weak(s))
-                at = e->class == LINKER_UTILS_ENTRY_THREAD_OFFSET   ? tls.origins.thread_pointer
-                     : e->class == LINKER_UTILS_ENTRY_MODULE_OFFSET ? tls.image
-                                                                    : 0;
-            write_entry(e, at + (uint64_t)e->addend);
-        }
-    }
-    if (module_entry) write_entry(module_entry, 0);
+    for (const struct entry *e = made; e; e = e->later)
+        if (!linker_utils_static_words(e->class, target_of(e) + (uint64_t)e->addend, &tls.origins, &words))
+            memcpy(got->bytes + e->offset, &words, 8 * linker_utils_entry_words(e->class));
 }
 
 /* The symbol of a thunk in a section that goes to an address, which is so far above a symbol. */

@@ -1,5 +1,5 @@
 /* A small linker over the library, for RISC-V, AArch64, LoongArch, PowerPC64 (ELFv2,
- * little-endian) and x86-64. It reads relocatable ELF64 objects, archives of them and shared
+ * little-endian) and x86-64, none of which it knows. It reads relocatable ELF64 objects, archives of them and shared
  * libraries, and writes an executable that begins at `_start`, static or for a dynamic linker, or a
  * shared library. main.c has the steps; each other file is one part:
  *
@@ -7,11 +7,13 @@
  * - symbols.c: which definition a name has, and what the linker itself defines
  * - libraries.c: what shared libraries define
  * - layout.c: which sections the linked file has, and where they are
- * - entries.c: rewrites, the GOT, thread-local storage, indirect functions and thunks
+ * - rewrite.c: what the library chooses in each phase
+ * - entries.c: what relocations require: the GOT, stubs and thunks
  * - dynamic.c: what the dynamic linker reads and fills
- * - relax.c: what is deleted of RISC-V and LoongArch code
- * - relocate.c: rewrites that depend on addresses, and all values
- * - output.c: the table of unwind information, and the file with its symbols
+ * - relax.c: what is deleted of code
+ * - relocate.c: the values of all relocations
+ * - frames.c: the table of unwind information
+ * - output.c: the file with its symbols
  *
  * The first error ends it, and it never frees memory. */
 #ifndef LINK_H
@@ -31,7 +33,6 @@
 #define HEADERS UINT64_C(0x400)         /* room for the headers there */
 #define MOST_BYTES UINT64_C(0x40000000) /* of a file and of a section */
 #define MOST_VERSIONS 0x7fff            /* of a library: above is the mark of hidden ones */
-#define NO_ENTRY (UINT64_C(1) << 63)    /* the address of a GOT entry that nothing reaches */
 #define END UINT64_MAX                  /* the offset of a section's end, wherever that will be */
 
 /* the order of the sections of the linked file; there are three kinds of arrays, and behind the GOT is
@@ -146,10 +147,11 @@ struct symbol {
 
 /* An entry of the GOT. */
 struct entry {
-    struct entry *next;
-    uint32_t class; /* `enum linker_utils_entry_class` */
-    int64_t addend; /* on AArch64 and PowerPC64 the entry is of S + A */
+    struct entry *next, *later; /* of its symbol; in the GOT */
+    struct symbol *symbol;      /* null where it is that of the module */
+    int64_t addend;             /* on AArch64 and PowerPC64 the entry is of S + A */
     uint64_t offset;
+    uint32_t class;  /* `enum linker_utils_entry_class` */
     uint32_t number; /* of its symbol with this entry, in the table that the library reads */
 };
 
@@ -201,6 +203,8 @@ extern size_t outputs_len;
 extern struct tls tls;
 extern struct entry *module_entry; /* of the GOT; null where no relocation requires it */
 
+static inline int order(uint64_t a, uint64_t b) { return a < b ? -1 : a > b; }
+
 void *take(uint64_t count, size_t size), *grow(void *array, size_t need, size_t *room, size_t size);
 uint64_t round_up(uint64_t at, uint64_t align);
 const char *place_of(const struct relocation *r);
@@ -241,7 +245,7 @@ uint32_t add_name(struct output *o, const char *text);
 void make_tables(void), bind_symbols(void), make_imports(void), make_dynamic(void);
 void import(struct relocation *r, const struct linker_utils_requirements *needs);
 void add_row(struct output *o, uint64_t offset, uint32_t type, struct symbol *s, int64_t addend);
-void fill_entry(struct symbol *s, const struct entry *e);
+void fill_entry(const struct entry *e);
 bool write_dynamic(void);
 struct linker_utils_got known_got(void);
 struct linker_utils_symbol known_symbol(const struct symbol *s);

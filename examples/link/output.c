@@ -24,8 +24,8 @@ static void put(uint64_t offset, const void *bytes, uint64_t len) {
 
 static int by_address(const void *left, const void *right) {
     const struct output *a = *(struct output *const *)left, *b = *(struct output *const *)right;
-    if (a->address != b->address) return a->address < b->address ? -1 : 1;
-    return a->rank < b->rank ? -1 : a->rank > b->rank;
+    int by = order(a->address, b->address);
+    return by ? by : order(a->rank, b->rank);
 }
 
 /* Adds the header of a part of a segment that is loaded. */

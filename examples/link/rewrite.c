@@ -85,8 +85,7 @@ bool is_of_addresses(const char *name) {
 }
 
 static int by_offset(const void *left, const void *right) {
-    const struct relocation *a = left, *b = right;
-    return a->offset < b->offset ? -1 : a->offset > b->offset;
+    return order(((const struct relocation *)left)->offset, ((const struct relocation *)right)->offset);
 }
 
 /* The word of such a section that a relocation refers to, if it has an address; else null. */
