@@ -15,7 +15,7 @@ static Elf64_Shdr heads[MOST]; /* of sections; the first is empty */
 static size_t parts_len, heads_len = 1;
 
 static struct output strings = {.name = ".strtab", .align = 1, .has_bytes = true, .type = SHT_STRTAB};
-static struct output table = {.name = ".symtab", .align = 8, .has_bytes = true, .type = SHT_SYMTAB,
+static struct output symbol_table = {.name = ".symtab", .align = 8, .has_bytes = true, .type = SHT_SYMTAB,
                               .info = 1, .link = &strings, .element = sizeof(Elf64_Sym)};
 
 static void put(uint64_t offset, const void *bytes, uint64_t len) {
@@ -72,7 +72,7 @@ Elf64_Sym symbol_of(const struct symbol *s) {
 
 /* Puts the symbols, if wanted, local ones first, and the section headers behind the segments. */
 static void put_symbols(uint64_t offset, Elf64_Ehdr *head, bool has_symbols) {
-    make_room(&table, 8, sizeof(Elf64_Sym));
+    make_room(&symbol_table, 8, sizeof(Elf64_Sym));
     for (int is_global = 0; has_symbols && is_global < 2; is_global++) {
         for (const struct symbol *s = symbols; s; s = s->later) {
             uint16_t at = s->elf.st_shndx;
@@ -82,19 +82,19 @@ static void put_symbols(uint64_t offset, Elf64_Ehdr *head, bool has_symbols) {
                 continue;
             Elf64_Sym elf = symbol_of(s);
             elf.st_name = add_name(&strings, s->name);
-            append(&table, 8, &elf, sizeof elf);
-            table.info += !is_global;
+            append(&symbol_table, 8, &elf, sizeof elf);
+            symbol_table.info += !is_global;
         }
     }
     offset = round_up(offset, 8);
-    add_head(&table, offset);
-    add_head(&strings, offset + table.len);
-    put(offset, table.bytes, table.len);
-    put(offset + table.len, strings.bytes, strings.len);
-    heads[table.index].sh_link = strings.index;
+    add_head(&symbol_table, offset);
+    add_head(&strings, offset + symbol_table.len);
+    put(offset, symbol_table.bytes, symbol_table.len);
+    put(offset + symbol_table.len, strings.bytes, strings.len);
+    heads[symbol_table.index].sh_link = strings.index;
     for (size_t i = 0; i < outputs_len; i++)
         if (outputs[i]->link) heads[outputs[i]->index].sh_link = outputs[i]->link->index;
-    head->e_shoff = round_up(offset + table.len + strings.len, 8);
+    head->e_shoff = round_up(offset + symbol_table.len + strings.len, 8);
     head->e_shentsize = sizeof *heads;
     head->e_shnum = (uint16_t)heads_len;
     head->e_shstrndx = strings.index;
