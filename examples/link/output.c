@@ -3,15 +3,15 @@
 
 struct output *headers;
 
-#define MOST (sizeof outputs / sizeof *outputs + 5)
+#define MOST_PARTS (sizeof outputs / sizeof *outputs + 5)
 
 /* The parts of the file, by their offsets. Between them are zeros. */
 static struct part {
     uint64_t offset, len;
     const void *bytes;
-} parts[MOST];
-static Elf64_Phdr loads[MOST], *load = loads - 1;
-static Elf64_Shdr heads[MOST]; /* of sections; the first is empty */
+} parts[MOST_PARTS];
+static Elf64_Phdr loads[MOST_PARTS], *load = loads - 1;
+static Elf64_Shdr heads[MOST_PARTS]; /* of sections; the first is empty */
 static size_t parts_len, heads_len = 1;
 
 static struct output strings = {.name = ".strtab", .align = 1, .has_bytes = true, .type = SHT_STRTAB};
