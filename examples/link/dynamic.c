@@ -61,7 +61,7 @@ static bool may_be_absent(const struct symbol *s) {
 }
 
 /* Says which symbols other files define, and which they may see. What another file may replace is
- * referred to as if that defined it, by a symbol of its own. */
+ * referred to as if that defined it. */
 void bind_symbols(void) {
     for (struct symbol *s = symbols; s; s = s->later) {
         unsigned visibility = ELF64_ST_VISIBILITY(s->elf.st_other);
@@ -76,12 +76,8 @@ void bind_symbols(void) {
         } else if (!is_defined(s)) {
             s->is_imported = is_default && (s->library || is_shared || may_be_absent(s));
             s->is_exported = false;
-        } else if (is_shared && is_default) {
-            struct symbol *import = s->import = take(1, sizeof *import);
-            *import = (struct symbol){.object = s->object, .name = s->name, .elf = s->elf,
-                                      .later = s->later, .definition = s, .is_imported = true};
-            import->elf.st_shndx = SHN_UNDEF;
-            s = s->later = import;
+        } else {
+            s->is_imported = is_shared && is_default;
         }
     }
 }
@@ -89,18 +85,18 @@ void bind_symbols(void) {
 /* How a relocation reaches a symbol of another file, or one of this file wherever it is loaded. */
 void import(struct relocation *r, const struct linker_utils_requirements *needs) {
     struct symbol *s = r->symbol;
-    uint32_t kind = row_of(r)->info.kind, type = ELF64_ST_TYPE(s->there.st_info);
+    uint32_t kind = row_of(r)->kind, type = ELF64_ST_TYPE(s->there.st_info);
     bool is_in_module = kind == LINKER_UTILS_KIND_DTP_OFF;
     bool is_difference = kind >= LINKER_UTILS_KIND_ABSOLUTE_SET && kind < LINKER_UTILS_KIND_RELATIVE;
+    bool is_imported = s->is_imported && !((is_in_module || is_difference) && is_defined(s));
     bool is_word = needs->is_word && r->section->output->flags & SHF_WRITE;
     if (!is_dynamic || needs->entry_class || is_left_out(r) || kind == LINKER_UTILS_KIND_NONE ||
         kind == LINKER_UTILS_KIND_ALIGNMENT || kind == LINKER_UTILS_KIND_TLS_DESC_CALL)
         return;
-    if ((is_in_module || is_difference) && s->definition) s = r->symbol = s->definition;
-    if (kind == LINKER_UTILS_KIND_TP_OFF ? s->is_imported || !linked.is_executable
-                                         : is_in_module && s->is_imported)
+    if (kind == LINKER_UTILS_KIND_TP_OFF ? is_imported || !linked.is_executable
+                                         : is_in_module && is_imported)
         fail("%s can't reach '%s' from such an output", place_of(r), s->name);
-    if (!s->is_imported) {
+    if (!is_imported) {
         if (linked.is_fixed || !needs->depends_on_load || !is_here(s)) return;
         if (!is_word)
             fail("%s depends on where the output is loaded, to '%s'", place_of(r), s->name);
@@ -246,13 +242,14 @@ static void write_needed(uint16_t number) {
 
 /* Whether a symbol is in the table: of another file, or one that other files find here. */
 static bool is_in_table(const struct symbol *s, bool is_import) {
-    if (is_import) return s->is_imported && !s->definition && !s->is_canonical;
+    if (is_import) return s->is_imported && !is_defined(s) && !s->is_canonical;
     return s->is_canonical || (s->is_exported && (s->output || s->elf.st_shndx == SHN_ABS));
 }
 
 /* Whether a symbol is looked up with the version that its library has. */
 static bool has_version(const struct symbol *s) {
-    return s->library && (s->is_imported || s->is_copied) && s->version > VER_NDX_GLOBAL;
+    bool is_there = s->is_imported && !is_defined(s);
+    return s->library && (is_there || s->is_copied) && s->version > VER_NDX_GLOBAL;
 }
 
 /* Lists the dynamic symbols, numbers them, and says which versions they require. */
@@ -386,10 +383,10 @@ bool write_dynamic(void) {
     bool is_of_gnu = false;
     Elf64_Rela *to = (Elf64_Rela *)rela->bytes;
     for (const struct dynamic_row *row = rows; row < rows + rows_len; row++, to++) {
-        const struct symbol *s = row->symbol, *seen = s && s->definition ? s->definition : s;
+        const struct symbol *s = row->symbol;
         bool has_symbol = s && (s->is_imported || row->type == types.copy);
         to->r_offset = address_of(row->output, row->offset);
-        to->r_info = ELF64_R_INFO((uint64_t)(has_symbol ? seen->dynamic : 0), row->type);
+        to->r_info = ELF64_R_INFO((uint64_t)(has_symbol ? s->dynamic : 0), row->type);
         to->r_addend = (int64_t)addend_of(row);
     }
     if (rows_len) qsort(rela->bytes, rows_len, sizeof(Elf64_Rela), by_symbol);
@@ -400,8 +397,8 @@ bool write_dynamic(void) {
         uint32_t name = elf->st_name;
         *elf = symbol_of(s);
         elf->st_name = name;
-        if (s->is_imported) elf->st_shndx = SHN_UNDEF;
-        if (s->is_imported && s->library)
+        if (!is_defined(s)) elf->st_shndx = SHN_UNDEF;
+        if (!is_defined(s) && s->library)
             elf->st_info =
                 ELF64_ST_INFO(ELF64_ST_BIND(elf->st_info), ELF64_ST_TYPE(s->there.st_info));
         is_of_gnu |= ELF64_ST_TYPE(elf->st_info) == STT_GNU_IFUNC ||

@@ -86,7 +86,7 @@ static int64_t entered_at(const struct relocation *r) {
 static void require(struct relocation *r) {
     struct object *o = r->section->object;
     struct symbol *s = r->symbol;
-    uint32_t kind = row_of(r)->info.kind;
+    uint32_t kind = row_of(r)->kind;
     if (s != *o->symbols && kind && rank(s) == 1 && !s->is_imported)
         fail("%s: undefined symbol '%s'", place_of(r), s->name);
     if (kind == LINKER_UTILS_KIND_ALIGNMENT && !r->section->output->shrinks)

@@ -136,11 +136,10 @@ struct symbol {
     bool is_listed, needs_stub, is_thunk; /* (an indirect function that is used needs one) */
     struct library *library; /* the first that defines it; null where none does */
     Elf64_Sym there;         /* as that has it */
-    struct symbol *definition, *import; /* of what another file may replace, the other of both */
     uint64_t stub;              /* to a function of another file, where `has_stub` */
     uint32_t dynamic;           /* in the table of dynamic symbols */
     uint16_t version;           /* in its library */
-    bool is_imported, is_exported; /* other files define it; or may see it */
+    bool is_imported, is_exported; /* other files define it, or may replace it; or may see it */
     bool is_copied, has_stub, is_canonical; /* its stub is its address in all files */
     uint32_t number; /* in the table that the library reads; 0 where it isn't there yet */
 };
@@ -163,12 +162,6 @@ struct relocation {
     int64_t addend;
     uint32_t type, index, deleted; /* index: of its symbol in the object; deleted: bytes there */
     bool is_kept; /* of a word that instructions load: one of them can't compute what it has */
-};
-
-/* What the library says of a relocation type. */
-struct row {
-    struct linker_utils_relocation_info info;
-    bool is_known;
 };
 
 /* A relocation by itself, of the second of two symbols, and what is known of both. */
@@ -209,7 +202,7 @@ void *take(uint64_t count, size_t size), *grow(void *array, size_t need, size_t 
 uint64_t round_up(uint64_t at, uint64_t align);
 const char *place_of(const struct relocation *r);
 void check(const struct relocation *r, uint32_t status);
-const struct row *row_of(const struct relocation *r);
+const struct linker_utils_relocation_info *row_of(const struct relocation *r);
 struct linker_utils_requirements needs_of(const struct relocation *r);
 
 void demand(const struct object *o, bool holds, const char *otherwise);

@@ -76,7 +76,7 @@ static void put_symbols(uint64_t offset, Elf64_Ehdr *head, bool has_symbols) {
     for (int is_global = 0; has_symbols && is_global < 2; is_global++) {
         for (const struct symbol *s = symbols; s; s = s->later) {
             uint16_t at = s->elf.st_shndx;
-            if (is_global == is_local(s) || !*s->name || s->definition ||
+            if (is_global == is_local(s) || !*s->name ||
                 (at && at < SHN_LORESERVE && !s->output) ||
                 ELF64_ST_TYPE(s->elf.st_info) == STT_SECTION)
                 continue;

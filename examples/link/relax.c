@@ -14,7 +14,7 @@ static bool is_compressed(uint32_t flags) {
 static struct linker_utils_rela seen(const struct output *o,
                                                    const struct relocation *r) {
     const struct symbol *s = r->symbol; /* null where the linker aligns a section */
-    const struct output *to = s ? s->output : NULL;
+    const struct output *to = s && !(s->is_imported && is_defined(s)) ? s->output : NULL;
     struct linker_utils_rela seen = {
         .offset = r->offset, .addend = r->addend, .r_type = r->type,
         .has_symbol = r->section && s != *r->section->object->symbols,

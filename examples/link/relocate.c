@@ -13,20 +13,20 @@ void read_relocations(struct section *s) {
         uint64_t index = ELF64_R_SYM(elf->r_info);
         if (elf->r_offset > s->head->sh_size || index >= o->symbols_len)
             fail("%s: %s: a relocation is of no byte or no symbol", o->path, s->name);
-        struct symbol *symbol = o->symbols[index];
-        r[i] = (struct relocation){.section = s, .symbol = symbol->import ? symbol->import : symbol,
+        r[i] = (struct relocation){.section = s, .symbol = o->symbols[index],
                                    .offset = s->offset + elf->r_offset, .addend = elf->r_addend,
                                    .type = ELF64_R_TYPE(elf->r_info), .index = (uint32_t)index};
     }
 }
 
 /* What the library says of a relocation's type, asked once for each type. */
-const struct row *row_of(const struct relocation *r) {
-    static struct row rows[2048];
-    struct row *row = &rows[r->type < 2048 ? r->type : 2047];
-    if (!row->is_known) check(r, linker_utils_relocation(machine, r->type, &row->info));
-    row->is_known = true;
-    return row;
+const struct linker_utils_relocation_info *row_of(const struct relocation *r) {
+    static struct linker_utils_relocation_info rows[2048];
+    static bool is_known[2048];
+    uint32_t at = r->type < 2048 ? r->type : 2047;
+    if (!is_known[at]) check(r, linker_utils_relocation(machine, r->type, &rows[at]));
+    is_known[at] = true;
+    return &rows[at];
 }
 
 /* What a relocation requires. */
@@ -40,7 +40,7 @@ struct linker_utils_requirements needs_of(const struct relocation *r) {
 bool is_defined(const struct symbol *s) { return s->elf.st_shndx != SHN_UNDEF; }
 
 bool is_ifunc(const struct symbol *s) {
-    return ELF64_ST_TYPE(s->elf.st_info) == STT_GNU_IFUNC && is_defined(s);
+    return ELF64_ST_TYPE(s->elf.st_info) == STT_GNU_IFUNC && is_defined(s) && !s->is_imported;
 }
 
 bool is_undefined_weak(const struct symbol *s) {
@@ -155,7 +155,7 @@ static void relocate_some(struct output *o, const struct relocation *r, size_t l
     size_t size = len * sizeof(Elf64_Rela), at = 0;
     Elf64_Rela *elf = take(len, sizeof *elf);
     for (size_t i = 0; i < len; i++) {
-        bool has_value = row_of(&r[i])->info.kind && !is_left_out(&r[i]) && !change_number(o, &r[i]);
+        bool has_value = row_of(&r[i])->kind && !is_left_out(&r[i]) && !change_number(o, &r[i]);
         elf[i] = (Elf64_Rela){address_of(o, r[i].offset) - start,
                               has_value ? ELF64_R_INFO(number_of(&r[i]), r[i].type) : 0, r[i].addend};
     }

@@ -21,7 +21,7 @@ static void note_facts(struct object *o) {
         const struct symbol *s = o->symbols[i];
         o->values[i] = known_symbol(s);
         o->facts[i] = (struct linker_utils_symbol_facts){
-            .is_local = !s->is_imported && !s->import, .is_ifunc = is_ifunc(s) && s->output != stubs,
+            .is_local = !s->is_imported, .is_ifunc = is_ifunc(s) && s->output != stubs,
             .other = s->elf.st_other, .is_tls_get_addr = !strcmp(s->name, "__tls_get_addr")};
     }
 }
@@ -115,7 +115,7 @@ static void rewrite_loads(struct section *s, bool is_survey) {
         uint32_t type;
         struct linker_utils_choice choice;
         struct linker_utils_link_facts facts = {
-            .is_local = is_defined(word->symbol), .has_fixed_distance = 1, .has_addresses = 1,
+            .is_local = is_defined(word->symbol) && !word->symbol->is_imported, .has_fixed_distance = 1, .has_addresses = 1,
             .operands = {.got_base = known_got().base, .addend = addend,
                          .symbol = known_symbol(word->symbol).address}};
         linker_utils_entry_relocation(machine, r->type, &type);
