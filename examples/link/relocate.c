@@ -148,10 +148,11 @@ static bool change_number(struct output *o, const struct relocation *r) {
     return true;
 }
 
-/* Writes the values of relocations of one section. */
-static void relocate_some(struct output *o, const struct relocation *r, size_t len) {
-    const struct section *s = r->section;
-    uint64_t start = address_of(o, s->offset), end = address_of(o, s->end);
+/* Writes the values of a section's relocations. */
+static void relocate_section(const struct section *s) {
+    struct output *o = s->output;
+    const struct relocation *r = o->relocations + s->first;
+    uint64_t start = address_of(o, s->offset), end = address_of(o, s->end), len = s->relocations_len;
     size_t size = len * sizeof(Elf64_Rela), at = 0;
     Elf64_Rela *elf = take(len, sizeof *elf);
     for (size_t i = 0; i < len; i++) {
@@ -177,10 +178,8 @@ static void relocate_some(struct output *o, const struct relocation *r, size_t l
 }
 
 /* Writes all values. */
-void relocate(struct output *o) {
-    struct relocation *r = o->relocations, *end = r + o->relocations_len, *first;
-    for (first = r; first < end; first = r) {
-        while (r < end && r->section == first->section) r++;
-        if (first->section) relocate_some(o, first, (size_t)(r - first));
-    }
+void relocate(void) {
+    for (const struct object *o = objects; o; o = o->next)
+        for (const struct section *s = o->sections; s < o->sections + o->sections_len; s++)
+            if (s->relocations_len) relocate_section(s);
 }

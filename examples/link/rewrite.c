@@ -26,20 +26,10 @@ static void note_facts(struct object *o) {
     }
 }
 
-/* Notes what a phase deletes of a section, each at the relocation there. */
-static void note_deleted(const Elf64_Rela *elf, struct relocation *r, size_t len,
-                         const struct linker_utils_deletion *deleted, size_t deleted_len) {
-    size_t found = 0;
-    for (size_t i = 0; i < len && found < deleted_len; i++)
-        if (elf[i].r_info && elf[i].r_offset == deleted[found].offset)
-            r[i].deleted = deleted[found++].bytes;
-    if (found < deleted_len) fail("%s deletes other bytes", place_of(r));
-}
-
 /* Rewrites a section of an object in a phase, or notes which groups of it stay. */
 static void rewrite_in(uint32_t phase, struct section *s, bool is_survey) {
     const struct object *o = s->object;
-    size_t count = o->symbols_len, len = s->relocations_len, used = 0, at = 0;
+    size_t count = o->symbols_len, len = s->relocations_len, used = 0, at = 0, found = 0;
     uint64_t start = address_of(s->output, s->offset), size = address_of(s->output, s->end) - start;
     uint8_t *bytes = s->output->bytes + (start - s->output->address);
     struct relocation *r = s->output->relocations + s->first;
@@ -62,10 +52,9 @@ static void rewrite_in(uint32_t phase, struct section *s, bool is_survey) {
         (uint8_t *)elf, len * sizeof *elf, bytes, size, decisions, len, deleted, len, &used, &at);
     check(&r[at < len ? at : 0], status);
     for (size_t i = 0; i < len; i++, r++) {
-        if (decisions[i].fate == LINKER_UTILS_FATE_KEPT) {
-            elf[i].r_info = 0;
-            continue;
-        }
+        if (decisions[i].fate == LINKER_UTILS_FATE_KEPT) continue;
+        if (found < used && elf[i].r_offset == deleted[found].offset)
+            r->deleted = deleted[found++].bytes;
         r->offset += elf[i].r_offset - (address_of(s->output, r->offset) - start);
         r->type = ELF64_R_TYPE(elf[i].r_info);
         r->addend = elf[i].r_addend;
@@ -73,7 +62,7 @@ static void rewrite_in(uint32_t phase, struct section *s, bool is_survey) {
         r->index = decisions[i].symbol;
         r->symbol = o->symbols[r->index];
     }
-    note_deleted(elf, r - len, len, deleted, used);
+    if (found < used) fail("%s: %s: other bytes are to be deleted", o->path, s->name);
 }
 
 /* Whether compilers keep addresses in a section, beside the GOT. */
