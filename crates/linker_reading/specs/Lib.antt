@@ -1,11 +1,16 @@
+pub mod AArch64Encodings
 pub mod Encodings
 pub mod Fields
 pub mod FieldsOfBytes
 pub mod FoundByCode
 pub mod Inner
+pub mod LoongArchEncodings
+pub mod Opcodes
+pub mod Ppc64Encodings
 pub mod Reading
 pub mod Recognised
 pub mod Recognisers
+pub mod RiscVEncodings
 pub mod Solving
 pub mod Windows
 pub mod WrittenFields
