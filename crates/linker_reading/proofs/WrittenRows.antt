@@ -35,7 +35,11 @@ use Rattle.linker_reading.specs.FieldsOfBytes.{is_size_bit, is_instruction_bit, 
 use Rattle.linker_reading.specs.WrittenRows.{AreBytes, ChangesField}
 use Rattle.linker_reading.proofs.WindowBits.{window_bit}
 use Rattle.linker_reading.proofs.WrittenChoices.{IsWhole, whole_writes_field}
-use Rattle.linker_reading.proofs.WrittenBits.{aarch64_outside, riscv_outside, ppc64_outside, loongarch_outside, taken_small}
+use Rattle.linker_reading.proofs.AArch64Written.{aarch64_outside}
+use Rattle.linker_reading.proofs.LoongArchWritten.{loongarch_outside}
+use Rattle.linker_reading.proofs.Ppc64Written.{ppc64_outside}
+use Rattle.linker_reading.proofs.RiscVWritten.{riscv_outside}
+use Rattle.linker_reading.proofs.WrittenBits.{taken_small}
 
 -- ---- instructions
 
