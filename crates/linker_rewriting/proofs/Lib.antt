@@ -1,5 +1,6 @@
 pub mod Deciding
 pub mod Keeping
+pub mod KeptBits
 pub mod LabelGroups
 pub mod Listing
 pub mod Loads

@@ -6,6 +6,7 @@ pub mod candidates;
 pub mod decisions;
 pub mod facts;
 pub mod groups;
+pub mod kept;
 mod labels;
 pub mod laws;
 pub mod phases;
