@@ -782,7 +782,8 @@ struct linker_utils_rela {
      * or where the instructions are to stay as they are */
     uint8_t has_target;
     uint8_t may_compress; /* 1 where the code may use RISC-V's C extension: EF_RISCV_RVC is in the
-                             `e_flags` of its object */
+                             `e_flags` of its object, so that `linker_utils_code_unit` of them is 2.
+                             An output's `e_flags` say nothing of it */
 };
 
 /* Writes the items that the relocations of a section of RISC-V or LoongArch make, in their order,
@@ -824,6 +825,33 @@ struct linker_utils_rela {
 static inline uint32_t linker_utils_section_items(
     uint16_t machine, const uint8_t *section, size_t section_len, uint64_t base,
     const struct linker_utils_rela *relocations, size_t relocations_len,
+    struct linker_utils_item *items, size_t items_len, size_t *makers, size_t makers_len, size_t *len,
+    size_t *faulty);
+
+/* Writes the items of a section that `linker_utils_rewrite_section` and
+ * `linker_utils_rewrite_placed_section` rewrote. They are those that its relocations make, as
+ * `linker_utils_section_items` does, and what `deleted` lists, as the latter call wrote it. The
+ * section's bytes and relocations are as these left them: deleted bytes are still there, and a
+ * relocation of type 0 makes no item. A deletion is a site with one shape, of no bytes. So
+ * `linker_utils_relax` counts distances over it, `linker_utils_run_deltas` lists it, and
+ * `linker_utils_pack_run` leaves its bytes out.
+ *
+ * The items ascend, and none begins below the end of the one before it. `makers` has for each item
+ * the index of its relocation, or `relocations_len` and the index of its deletion. `items_len` and
+ * `makers_len` are `relocations_len` and `deleted_len` together. `len` is how many items there are;
+ * the elements from there on are unchanged.
+ *
+ * LINKER_UTILS_UNKNOWN_ARCHITECTURE, LINKER_UTILS_DIFFERENT_LENGTHS, LINKER_UTILS_ENDS_TOO_HIGH and
+ * LINKER_UTILS_MALFORMED_RELOCATION as above. LINKER_UTILS_INVALID_DELETIONS, and `faulty` is the
+ * first deletion that begins below the end of the one before it or ends past the section. Nothing is
+ * written then. Last LINKER_UTILS_ITEMS_OVERLAP, and `faulty` is a relocation whose item begins below
+ * the end of that of an earlier relocation, or has deleted bytes. What `items` and `makers` have then
+ * isn't specified. A target inside deleted bytes is no error here, but LINKER_UTILS_TARGET_INSIDE of
+ * `linker_utils_relax`. */
+static inline uint32_t linker_utils_rewritten_items(
+    uint16_t machine, const uint8_t *section, size_t section_len, uint64_t base,
+    const struct linker_utils_rela *relocations, size_t relocations_len,
+    const struct linker_utils_deletion *deleted, size_t deleted_len,
     struct linker_utils_item *items, size_t items_len, size_t *makers, size_t makers_len, size_t *len,
     size_t *faulty);
 

@@ -683,6 +683,27 @@ static inline uint32_t linker_utils_section_items(
         LINKER_UTILS_SLICE(size_t, makers), makers_len, len, faulty ? faulty : &ignored);
 }
 
+uint32_t linker_utils_rewritten_items_nonnull(
+    uint16_t machine, const uint8_t *section, size_t section_len, uint64_t base,
+    const struct linker_utils_rela *relocations, size_t relocations_len,
+    const struct linker_utils_deletion *deleted, size_t deleted_len,
+    struct linker_utils_item *items, size_t items_len, size_t *makers, size_t makers_len, size_t *len,
+    size_t *faulty);
+static inline uint32_t linker_utils_rewritten_items(
+    uint16_t machine, const uint8_t *section, size_t section_len, uint64_t base,
+    const struct linker_utils_rela *relocations, size_t relocations_len,
+    const struct linker_utils_deletion *deleted, size_t deleted_len,
+    struct linker_utils_item *items, size_t items_len, size_t *makers, size_t makers_len, size_t *len,
+    size_t *faulty) {
+    size_t ignored;
+    return linker_utils_rewritten_items_nonnull(
+        machine, LINKER_UTILS_SLICE(const uint8_t, section), section_len, base,
+        LINKER_UTILS_SLICE(const struct linker_utils_rela, relocations), relocations_len,
+        LINKER_UTILS_SLICE(const struct linker_utils_deletion, deleted), deleted_len,
+        LINKER_UTILS_SLICE(struct linker_utils_item, items), items_len,
+        LINKER_UTILS_SLICE(size_t, makers), makers_len, len, faulty ? faulty : &ignored);
+}
+
 uint32_t linker_utils_items_relaxable_nonnull(const struct linker_utils_item *items,
                                               size_t items_len, uint64_t start, size_t *faulty);
 static inline uint32_t linker_utils_items_relaxable(const struct linker_utils_item *items,

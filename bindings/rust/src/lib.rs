@@ -1974,6 +1974,42 @@ pub fn section_items(
     Ok(len)
 }
 
+/// Writes the items of a section that `rewrite_section` and `rewrite_placed_section` rewrote: those that
+/// its relocations make, and what is deleted. Returns how many there are. `items` and `makers` have as many
+/// elements as there are relocations and deletions; the maker of a deletion is its index and as many as
+/// there are relocations. The entry at fault is a relocation, and with `InvalidDeletions` a deletion.
+pub fn rewritten_items(
+    machine: u16,
+    section: &[u8],
+    base: u64,
+    relocations: &[Rela],
+    deleted: &[Deletion],
+    items: &mut [Item],
+    makers: &mut [usize],
+) -> Result<usize, ArrayError> {
+    let mut len = 0;
+    result_over(|faulty| unsafe {
+        raw::linker_utils_rewritten_items_nonnull(
+            machine,
+            section.as_ptr(),
+            section.len(),
+            base,
+            relocations.as_ptr(),
+            relocations.len(),
+            deleted.as_ptr(),
+            deleted.len(),
+            items.as_mut_ptr(),
+            items.len(),
+            makers.as_mut_ptr(),
+            makers.len(),
+            &mut len,
+            faulty,
+        )
+    })
+    .map_err(of_section)?;
+    Ok(len)
+}
+
 /// Whether `relax` accepts the items of a run whose address is `start`. The entry at fault is an item,
 /// and the status its first fault.
 pub fn items_relaxable(items: &[Item], start: u64) -> Result<(), ArrayError> {

@@ -716,6 +716,22 @@ extern "C" {
         len: *mut usize,
         faulty: *mut usize,
     ) -> u32;
+    pub fn linker_utils_rewritten_items_nonnull(
+        machine: u16,
+        section: *const u8,
+        section_len: usize,
+        base: u64,
+        relocations: *const Rela,
+        relocations_len: usize,
+        deleted: *const Deletion,
+        deleted_len: usize,
+        items: *mut Item,
+        items_len: usize,
+        makers: *mut usize,
+        makers_len: usize,
+        len: *mut usize,
+        faulty: *mut usize,
+    ) -> u32;
     pub fn linker_utils_items_relaxable_nonnull(
         items: *const Item,
         items_len: usize,

@@ -10,6 +10,7 @@ pub mod Firsts
 pub mod Frees
 pub mod PackedItems
 pub mod Layouts
+pub mod Listed
 pub mod LongAddresses
 pub mod LongCalls
 pub mod LongCalls36

@@ -1854,6 +1854,39 @@ unsafe extern "C" fn linker_utils_section_items_nonnull(
 }
 
 #[unsafe(no_mangle)]
+unsafe extern "C" fn linker_utils_rewritten_items_nonnull(
+    machine: u16,
+    section: *const u8,
+    section_len: usize,
+    base: u64,
+    relocations: *const Rela,
+    relocations_len: usize,
+    deleted: *const Deletion,
+    deleted_len: usize,
+    items: *mut ItemNumbers,
+    items_len: usize,
+    makers: *mut usize,
+    makers_len: usize,
+    len: *mut usize,
+    faulty: *mut usize,
+) -> u32 {
+    // SAFETY: the arguments are as the head of the header says.
+    unsafe {
+        crate::section_items::linker_utils_rewritten_items_nonnull(
+            machine,
+            from_raw_parts(section, section_len),
+            base,
+            from_raw_parts(relocations, relocations_len),
+            from_raw_parts(deleted, deleted_len),
+            from_raw_parts_mut(items, items_len),
+            from_raw_parts_mut(makers, makers_len),
+            &mut *len,
+            &mut *faulty,
+        )
+    }
+}
+
+#[unsafe(no_mangle)]
 unsafe extern "C" fn linker_utils_needs(
     machine: u16,
     r_type: u32,
