@@ -3,6 +3,7 @@
 //! instructions are rewritten, all of a group or none, and what becomes of their relocations.
 
 pub mod candidates;
+mod codes;
 pub mod decisions;
 pub mod facts;
 pub mod groups;

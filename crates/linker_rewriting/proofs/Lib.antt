@@ -1,3 +1,4 @@
+pub mod CodeNumbers
 pub mod Deciding
 pub mod Keeping
 pub mod LabelGroups

@@ -3,6 +3,7 @@
 #![tactic(auto)]
 
 pub mod candidates;
+mod codes;
 pub mod decisions;
 pub mod facts;
 pub mod groups;
