@@ -3,13 +3,11 @@ use Rattle.std.proofs.Common.{◌≡◌, ℕ, zero, suc, ◌+◌, ◌-◌, ◌�
 use Rattle.std.proofs.lemmas.List.{get_or-set_same, get_or-set_other}
 use Rattle.linker_rewriting.specs.Decisions.{CanBeMade, AllCanBeMade, AreApart, decision_at, is_taken, takes_next, start_by, end_by, start_at, end_at, IsDecidedAfter, IsDecidedAlone, IsDecisionAfter, IsNotSurveyed, IsOverlapping, AreDecidedIn, IsEndBehind}
 use Rattle.linker_rewriting.specs.Facts.{Setting}
-use Rattle.linker_rewriting.specs.Groups.{IsScopeIn}
 use Rattle.linker_rewriting.specs.Labels.{IsLabelNote}
 use Rattle.linker_rewriting.specs.Notes.{is_note, AreLabelsNoted}
 use Rattle.linker_rewriting.specs.declared.decisions.Decision.{Decision}
 use Rattle.linker_rewriting.specs.declared.decisions.Decision.TheVariants.{Kept, TakenAlong}
 use Rattle.linker_rewriting.specs.declared.groups.KeptGroups.{KeptGroups}
-use Rattle.linker_rewriting.specs.declared.groups.Scope.TheVariants.{Unlisted}
 use Rattle.linker_section.specs.Relocations.{relocation_in}
 use Rattle.linker_section.specs.declared.relocations.Rela.{Rela}
 use borrow.Author.Count.{below_more}
@@ -177,16 +175,16 @@ more_decided s kept bytes section old end grown taken k d before within is can g
           (before.notes n (omega (arith, from)) less in_label);
     }
 
--- one more relocation that stays by its code alone
+-- one more relocation that no other takes along and that stays
 pub more_kept : (s : Setting) (kept : List KeptGroups) (bytes section : List ℕ)
     (old : List Decision) (end : ℕ) (taken : Bool) (k : ℕ)
     → AreDecidedTo s kept bytes section old end taken k → k < length old → taken ≡ false
-    → IsScopeIn s.architecture s.phase (relocation_in bytes k).code Unlisted
+    → IsDecidedAlone s kept bytes section k (relocation_in bytes k) Kept
     → AreDecidedTo s kept bytes section (slice_set old k Kept) end taken (k + 1)
-more_kept s kept bytes section old end taken k before within isnt scope =
+more_kept s kept bytes section old end taken k before within isnt decided =
     subst (λ t. AreDecidedTo s kept bytes section (slice_set old k Kept) end t (k + 1)) (sym isnt)
     (more_decided s kept bytes section old end end taken k Kept before within
-    (subst (λ t. IsDecidedAfter s kept bytes section k t Kept) (sym isnt) (Unlisted, scope, refl))
+    (subst (λ t. IsDecidedAfter s kept bytes section k t Kept) (sym isnt) decided)
     tt (inl (omega arith, refl)))
 
 -- ---- one more decision, and errors

@@ -1,7 +1,7 @@
 //! What becomes of each relocation of a section and of its instruction.
 
 ghost use Rattle.std.specs.Prelude.{◌≡◌, ◌<◌, ◌≤◌, ◌+◌, ◌-◌, ◌/◌, length, map, IfSome, IfErr};
-ghost use Rattle.std.specs.Prelude.{OnOk, All, take, drop, true, false};
+ghost use Rattle.std.specs.Prelude.{OnOk, All, take, drop, true, false, slice_get};
 ghost use Rattle.linker_rewriting.specs.declared.decisions.Decision.{Decision as decisions};
 ghost use Rattle.linker_section.specs.Relocations.{relocation_in, relocation_at};
 ghost use Rattle.linker_rewriting.specs.Decisions.{takes_next, window_of, IsDecision, CanBeMade};
@@ -10,11 +10,11 @@ ghost use Rattle.linker_rewriting.specs.Decisions.{AreDecidedIn, AreApart, AllCa
 ghost use Rattle.linker_rewriting.specs.Decisions.{IsDecisionAfter, IsEndBehind, IsRejectedIn};
 ghost use Rattle.linker_rewriting.specs.Decisions.{IsRewrittenAt, label_decision, IsLabelDecision};
 ghost use Rattle.linker_rewriting.specs.Facts.{setting};
-ghost use Rattle.linker_rewriting.specs.Groups.{IsScopeIn};
+ghost use Rattle.linker_rewriting.specs.Inner.Calls.{IsLeft};
 ghost use Rattle.linker_rewriting.specs.Inner.Codes.{bit_of, table_of};
-ghost use Rattle.linker_rewriting.specs.declared.groups.Scope.TheVariants as scopes;
 ghost use Rattle.linker_rewriting.specs.Labels.{IsInLabel, IsLabelNote};
 
+use crate::calls::keeps_call;
 use crate::candidates::candidate;
 use crate::codes::{bit_of, is_listed, table_of};
 use crate::facts::{OutputFacts, SymbolFacts};
@@ -349,22 +349,30 @@ fn decide(
     }
 }
 
-/// Whether a relocation stays as it is by its code alone, and no other takes it along.
+/// Whether no other relocation takes one along, and it stays as it is by its code, or as a call by its
+/// symbol. The scope is for the proof alone: the compiler leaves it out.
 #[inline(always)]
-fn stays_by_code(
+fn is_left(
     is_taken: bool,
     architecture: Architecture,
     phase: Phase,
     table: &'static [u8],
     bit: u8,
-    code: u32,
+    symbols: &[SymbolFacts],
+    relocation: &Rela,
 ) -> bool
     requires table { table.now ≡ table_of architecture }
     requires bit { bit ≡ bit_of phase }
     ensures not_taken { result ≡ true → is_taken ≡ false }
-    ensures unlisted { result ≡ true → IsScopeIn architecture phase code scopes.Unlisted }
+    ensures left { result ≡ true → IsLeft architecture phase
+        (slice_get symbols.now relocation.now.symbol) relocation.now.code }
 {
-    !is_taken && !is_listed(architecture, phase, table, bit, code)
+    if is_taken {
+        return false;
+    }
+    let scope = scope_in(architecture, phase, relocation.code);
+    let listed = is_listed(architecture, phase, table, bit, relocation.code);
+    !listed || keeps_call(architecture, phase, symbols, relocation)
 }
 
 /// What becomes of a relocation, which another may take along.
@@ -511,7 +519,15 @@ pub(crate) fn decide_section<D: AsDecision>(
     let bit = bit_of(phase);
     for index in 0..len {
         let relocation = relocation_in(relocations, index);
-        if stays_by_code(is_taken, architecture, phase, table, bit, relocation.code) {
+        if is_left(
+            is_taken,
+            architecture,
+            phase,
+            table,
+            bit,
+            symbols,
+            &relocation,
+        ) {
             decisions[index] = D::from_decision(Decision::Kept);
             continue;
         }

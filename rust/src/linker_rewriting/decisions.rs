@@ -1,6 +1,7 @@
 // Made by tools/erase of crates/linker_rewriting/src/decisions.rt.
 //! What becomes of each relocation of a section and of its instruction.
 
+use crate::linker_rewriting::calls::keeps_call;
 use crate::linker_rewriting::candidates::candidate;
 use crate::linker_rewriting::codes::{bit_of, is_listed, table_of};
 use crate::linker_rewriting::facts::{OutputFacts, SymbolFacts};
@@ -293,17 +294,24 @@ fn decide(
     }
 }
 
-/// Whether a relocation stays as it is by its code alone, and no other takes it along.
+/// Whether no other relocation takes one along, and it stays as it is by its code, or as a call by its
+/// symbol. The scope is for the proof alone: the compiler leaves it out.
 #[inline(always)]
-fn stays_by_code(
+fn is_left(
     is_taken: bool,
     architecture: Architecture,
     phase: Phase,
     table: &'static [u8],
     bit: u8,
-    code: u32,
+    symbols: &[SymbolFacts],
+    relocation: &Rela,
 ) -> bool {
-    !is_taken && !is_listed(architecture, phase, table, bit, code)
+    if is_taken {
+        return false;
+    }
+    let scope = scope_in(architecture, phase, relocation.code);
+    let listed = is_listed(architecture, phase, table, bit, relocation.code);
+    !listed || keeps_call(architecture, phase, symbols, relocation)
 }
 
 /// What becomes of a relocation, which another may take along.
@@ -413,7 +421,15 @@ pub(crate) fn decide_section<D: AsDecision>(
     let bit = bit_of(phase);
     for index in 0..len {
         let relocation = relocation_in(relocations, index);
-        if stays_by_code(is_taken, architecture, phase, table, bit, relocation.code) {
+        if is_left(
+            is_taken,
+            architecture,
+            phase,
+            table,
+            bit,
+            symbols,
+            &relocation,
+        ) {
             decisions[index] = D::from_decision(Decision::Kept);
             continue;
         }

@@ -4,12 +4,11 @@ use Rattle.std.proofs.lemmas.List.{length-map, map-set, drop-set-lt, get_or-map}
 use Rattle.linker_riscv64.proofs.Shrunk.{written_more}
 use Rattle.linker_rewriting.proofs.Deciding.{AreDecidedTo, more_decided, more_kept, not_surveyed, decided_after, overlapping, IsGrown}
 use Rattle.linker_rewriting.specs.Facts.{setting}
-use Rattle.linker_rewriting.specs.Groups.{IsScopeIn}
 use Rattle.linker_rewriting.specs.Labels.{IsInLabel, IsLabelNote}
 use Rattle.linker_rewriting.specs.Notes.{is_note}
 use Rattle.linker_rewriting.specs.declared.decisions.Decision.TheVariants.{Kept}
-use Rattle.linker_rewriting.specs.declared.groups.Scope.TheVariants.{Unlisted}
-use Rattle.linker_rewriting.specs.Decisions.{decision_at, CanBeMade, IsDecisionAfter, IsEndBehind, start_by, end_by}
+use Rattle.linker_rewriting.proofs.KeptCalls.{left_decided}
+use Rattle.linker_rewriting.specs.Decisions.{decision_at, CanBeMade, IsDecidedAlone, IsDecisionAfter, IsEndBehind, start_by, end_by}
 use Rattle.linker_rewriting.proofs.decisions.decide_section.Goals as goal
 
 pub returns-in_default-clause-rejected : goal.returns-in_default-clause-rejected
@@ -116,8 +115,8 @@ decide_after-requires-clause-noted g c in_label =
     (c.loop-index.invariant.decided.notes k (omega arith) less
     (subst (λ r. IsInLabel a.architecture a.phase r.code true) same in_label)))
 
-pub loop-index-preserved-then-stays_by_code : goal.loop-index-preserved-then-stays_by_code
-loop-index-preserved-then-stays_by_code g c =
+pub loop-index-preserved-then-is_left : goal.loop-index-preserved-then-is_left
+loop-index-preserved-then-is_left g c =
     let a = c.args in
     let k = c.loop-index.index in
     let r = c.relocation_in-relocation.result in
@@ -136,9 +135,10 @@ loop-index-preserved-then-stays_by_code g c =
     record {
       decided = subst (λ l. AreDecidedTo s a.kept.now a.relocations.now a.section.now l c.loop-index.end c.loop-index.is_taken (k + 1)) (sym written)
           (more_kept s a.kept.now a.relocations.now a.section.now ds c.loop-index.end c.loop-index.is_taken k
-          c.loop-index.invariant.decided within_map (c.stays_by_code.ensures.not_taken c.if-stays_by_code.true)
-          (subst (λ x. IsScopeIn a.architecture a.phase x.code Unlisted) same
-          (c.stays_by_code.ensures.unlisted c.if-stays_by_code.true)));
+          c.loop-index.invariant.decided within_map (c.is_left.ensures.not_taken c.if-is_left.true)
+          (subst (λ x. IsDecidedAlone s a.kept.now a.relocations.now a.section.now k x Kept) same
+          (left_decided a.architecture a.phase a.output.now a.symbols.now a.addresses.now a.values.now a.kept.now a.relocations.now a.section.now k r
+          (c.is_left.ensures.left c.if-is_left.true))));
       form = written_more g.D.AsDecision.is_written xs k c.from_decision.result within c.from_decision.ensures.form c.loop-index.invariant.form;
       others = drop-set-lt (length a.relocations.now / 24) xs k c.from_decision.result less ∙ c.loop-index.invariant.others;
     }
