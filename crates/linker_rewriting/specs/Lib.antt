@@ -3,6 +3,7 @@ pub mod Decisions
 pub mod Facts
 pub mod Groups
 pub mod Kept
+pub mod Inner
 pub mod Labels
 pub mod Notes
 pub mod Rewritten
