@@ -207,6 +207,21 @@ uint8_t linker_utils_filler(uint16_t machine, uint64_t offset);
 static inline uint32_t linker_utils_interpreter(uint16_t machine, uint32_t flags, uint8_t *path,
                                                 size_t path_len, size_t *path_used);
 
+/* Writes the name of the section of objects in which compilers keep addresses, as the GOT does, to
+ * `name`, without a zero behind it, and its length to `name_used`: PowerPC64's `.toc`. It stands
+ * beside the GOT. Nothing changes its words, so that a linker may have instructions compute such an
+ * address. LINKER_UTILS_NOT_PROVIDED where there is none; LINKER_UTILS_TOO_SHORT. No name is longer
+ * than LINKER_UTILS_NAME_SIZE. */
+static inline uint32_t linker_utils_address_section(uint16_t machine, uint8_t *name,
+                                                    size_t name_len, size_t *name_used);
+
+/* The type of the relocation that an instruction would have if the address were in an entry of the
+ * GOT, into `entry_type`, by the type that it has where that is in a word of this section. With it
+ * `linker_utils_choose` says whether the instruction can compute the address. As it does so of all
+ * that refer to one word or of none, a linker asks it of each first. LINKER_UTILS_NOT_PROVIDED of
+ * other types. */
+uint32_t linker_utils_entry_relocation(uint16_t machine, uint32_t r_type, uint32_t *entry_type);
+
 /* A symbol that a linker defines if an object refers to it. */
 struct linker_utils_provided_symbol {
     uint64_t offset; /* how many bytes above its place */

@@ -279,6 +279,14 @@ static inline uint32_t linker_utils_interpreter(
         machine, flags, LINKER_UTILS_SLICE(uint8_t, path), path_len, path_used);
 }
 
+uint32_t linker_utils_address_section_nonnull(
+    uint16_t machine, uint8_t *name, size_t name_len, size_t *name_used);
+static inline uint32_t linker_utils_address_section(
+    uint16_t machine, uint8_t *name, size_t name_len, size_t *name_used) {
+    return linker_utils_address_section_nonnull(
+        machine, LINKER_UTILS_SLICE(uint8_t, name), name_len, name_used);
+}
+
 uint32_t linker_utils_provided_symbol_nonnull(
     uint16_t machine, size_t index, uint8_t *name, size_t name_len, size_t *name_used,
     struct linker_utils_provided_symbol *symbol);

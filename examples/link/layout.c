@@ -30,11 +30,12 @@ static unsigned rank_of(const struct output *o) {
         unsigned rank;
     } ranks[] = {{".preinit_array", RANK_ARRAYS}, {".init_array", RANK_ARRAYS + 1},
                  {".fini_array", RANK_ARRAYS + 2}, {".data.rel.ro", RANK_RELOCATED},
-                 {".dynamic", RANK_RELOCATED}, {".got", RANK_GOT}, {".toc", RANK_TOC},
+                 {".dynamic", RANK_RELOCATED}, {".got", RANK_GOT},
                  {".sdata", RANK_SMALL_DATA}, {".sbss", RANK_BSS}, {".bss", RANK_BSS}};
     if (o == headers) return RANK_HEADERS;
     if (o->flags & SHF_EXECINSTR) return RANK_CODE;
     if (o->flags & SHF_TLS) return o->has_bytes ? RANK_TLS : RANK_TLS_BSS;
+    if (is_of_addresses(o->name)) return RANK_GOT + 1;
     for (unsigned i = 0; i < sizeof ranks / sizeof *ranks; i++)
         if (!strncmp(o->name, ranks[i].name, strlen(ranks[i].name))) return ranks[i].rank;
     return !(o->flags & SHF_WRITE) ? RANK_FIXED : o->has_bytes ? RANK_DATA : RANK_BSS;
@@ -62,6 +63,16 @@ struct relocation *add_relocations(struct output *o, size_t len) {
 /* How many bytes the shortest instruction has. */
 uint64_t code_unit(void) { return linker_utils_code_unit(machine, machine_flags); }
 
+/* The relocation at nops that an alignment may not need; 0 where code doesn't become shorter. */
+static uint32_t alignment_type(void) {
+    static uint32_t found, next = 1;
+    struct linker_utils_relocation_info info;
+    for (; next < 256; next++)
+        if (!linker_utils_relocation(machine, next, &info) && info.kind == LINKER_UTILS_KIND_ALIGNMENT)
+            found = next;
+    return found;
+}
+
 /* The offset of new room at a section's end. Gaps in code have instructions that trap, or zeros, as
  * ld.lld's; where code shrinks they are as long as may be needed, and a relocation cuts them. */
 uint64_t make_room(struct output *o, uint64_t align, uint64_t len) {
@@ -73,7 +84,7 @@ uint64_t make_room(struct output *o, uint64_t align, uint64_t len) {
         offset = round_up(start, unit);
         *add_relocations(o, 1) = (struct relocation){
             .offset = offset, .addend = (int64_t)(align - unit),
-            .type = machine == EM_RISCV ? R_RISCV_ALIGN : LARCH_ALIGN};
+            .type = alignment_type()};
         offset += align - unit;
     }
     if (align > o->align) o->align = align;
@@ -91,15 +102,14 @@ void add_section(struct section *s) {
     if (!(head->sh_flags & SHF_ALLOC) || head->sh_type == SHT_NOTE || s->is_discarded) return;
     bool has_bytes = head->sh_type != SHT_NOBITS, is_code = head->sh_flags & SHF_EXECINSTR;
     struct output *o = s->output = output_of(s->name);
-    if (o == got || o == slots || o == stubs || o == irelatives || o == index_of || o == headers ||
+    if (o == got || o == slots || o == stubs || o == rela || o == index_of || o == headers ||
         (!has_bytes && (s->relocations || o == frames)))
         fail("%s: a section %s is not supported", s->object->path, s->name);
     if (o->flags && (o->flags ^ head->sh_flags) & SHF_TLS)
         fail("%s: %s is thread-local, and elsewhere it is not", s->object->path, s->name);
     o->flags |= head->sh_flags;
     o->has_bytes |= has_bytes;
-    o->shrinks |= (machine == EM_RISCV || machine == EM_LOONGARCH) && has_bytes && is_code &&
-                  !(head->sh_flags & SHF_TLS);
+    o->shrinks |= alignment_type() && has_bytes && is_code && !(head->sh_flags & SHF_TLS);
     if (o == frames)
         index_of->len += 8 * read_frames(s, s->object->bytes + head->sh_offset, NULL);
 }
@@ -263,5 +273,5 @@ void set_addresses(void) {
 uint64_t address_of(const struct output *o, uint64_t offset) {
     if (!o) return offset;
     if (offset == END) return o->address + o->len;
-    return o->shrinks ? address_in(o->run, o->base + offset) : o->address + offset;
+    return o->shrinks && o->run ? address_in(o->run, o->base + offset) : o->address + offset;
 }

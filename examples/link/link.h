@@ -1,5 +1,5 @@
 /* A small linker over the library, for RISC-V, AArch64, LoongArch, PowerPC64 (ELFv2,
- * little-endian) and x86-64. It reads relocatable ELF64 objects, archives of them and shared
+ * little-endian) and x86-64, none of which it knows. It reads relocatable ELF64 objects, archives of them and shared
  * libraries, and writes an executable that begins at `_start`, static or for a dynamic linker, or a
  * shared library. main.c has the steps; each other file is one part:
  *
@@ -7,11 +7,13 @@
  * - symbols.c: which definition a name has, and what the linker itself defines
  * - libraries.c: what shared libraries define
  * - layout.c: which sections the linked file has, and where they are
- * - entries.c: rewrites, the GOT, thread-local storage, indirect functions and thunks
+ * - rewrite.c: what the library chooses in each phase
+ * - entries.c: what relocations require: the GOT, stubs and thunks
  * - dynamic.c: what the dynamic linker reads and fills
- * - relax.c: what is deleted of RISC-V and LoongArch code
- * - relocate.c: rewrites that depend on addresses, and all values
- * - output.c: the table of unwind information, and the file with its symbols
+ * - relax.c: what is deleted of code
+ * - relocate.c: the values of all relocations
+ * - frames.c: the table of unwind information
+ * - output.c: the file with its symbols
  *
  * The first error ends it, and it never frees memory. */
 #ifndef LINK_H
@@ -31,17 +33,12 @@
 #define HEADERS UINT64_C(0x400)         /* room for the headers there */
 #define MOST_BYTES UINT64_C(0x40000000) /* of a file and of a section */
 #define MOST_VERSIONS 0x7fff            /* of a library: above is the mark of hidden ones */
-#define NO_ENTRY (UINT64_C(1) << 63)    /* the address of a GOT entry that nothing reaches */
 #define END UINT64_MAX                  /* the offset of a section's end, wherever that will be */
 
-/* relocation types that older versions of <elf.h> lack */
-enum { LARCH_PCALA_HI20 = 71, LARCH_PCALA_LO12 = 72, LARCH_RELAX = 100, LARCH_ALIGN = 102 };
-enum { LARCH_CALL36 = 110, PPC64_REL24_NOTOC = 116 };
-enum { RISCV_TLSDESC_HI20 = 62, RISCV_TLSDESC_CALL = 65 };
-
-/* the order of the sections of the linked file; there are three kinds of arrays */
+/* the order of the sections of the linked file; there are three kinds of arrays, and behind the GOT is
+ * what is of addresses as it */
 enum { RANK_HEADERS, RANK_FIXED, RANK_CODE, RANK_TLS, RANK_TLS_BSS, RANK_ARRAYS, RANK_RELOCATED = 8,
-       RANK_GOT, RANK_TOC, RANK_DATA, RANK_SMALL_DATA, RANK_BSS };
+       RANK_GOT, RANK_DATA = RANK_GOT + 2, RANK_SMALL_DATA, RANK_BSS };
 
 #define fail(...) (fprintf(stderr, __VA_ARGS__), fputc('\n', stderr), exit(1))
 
@@ -86,6 +83,7 @@ struct object {
     size_t len, sections_len, symbols_len, resolved_len;
     uint32_t flags; /* `e_flags` */
     struct linker_utils_symbol_facts *facts; /* of each symbol */
+    struct linker_utils_symbol *values;      /* likewise, once addresses are known */
     struct linker_utils_kept_groups *kept;   /* by symbol, which groups of instructions stay */
 };
 
@@ -97,7 +95,6 @@ struct section {
     uint64_t offset, end;                 /* in the output */
     size_t first, relocations_len;        /* of its relocations, in those of the output */
     bool is_discarded; /* SHF_EXCLUDE, or of a group that an earlier object has too */
-    uint8_t *words_kept; /* PowerPC64, `.toc`: 1 for a doubleword that not only `ld`s refer to */
 };
 
 struct archive {
@@ -107,12 +104,19 @@ struct archive {
     bool *is_loaded; /* by half of a member's offset */
 };
 
+/* A version of a library. */
+struct version {
+    const char *name;
+    uint32_t hash;
+    uint16_t number; /* in the linked file; 0 where it asks for none */
+};
+
 /* A shared library. */
 struct library {
     struct library *next;
     struct object file;
-    const char *name, **versions; /* as programs name it; its versions, by number */
-    uint16_t *numbers;            /* of these in the linked file; 0 where it asks for none */
+    const char *name;         /* as programs name it */
+    struct version *versions; /* by number */
     const Elf64_Sym *elf;
     struct symbol **symbols; /* null where nothing can refer to one */
     size_t len;
@@ -129,25 +133,24 @@ struct symbol {
     struct output *output; /* null where the address is absolute, and where nothing defines it */
     struct entry *entries; /* in the GOT */
     struct symbol *thunks; /* to it */
-    int64_t thunk_addend;
     bool is_listed, needs_stub, is_thunk; /* (an indirect function that is used needs one) */
     struct library *library; /* the first that defines it; null where none does */
     Elf64_Sym there;         /* as that has it */
-    struct symbol *definition, *import; /* of what another file may replace, the other of both */
     uint64_t stub;              /* to a function of another file, where `has_stub` */
     uint32_t dynamic;           /* in the table of dynamic symbols */
     uint16_t version;           /* in its library */
-    bool is_imported, is_exported; /* other files define it; or may see it */
+    bool is_imported, is_exported; /* other files define it, or may replace it; or may see it */
     bool is_copied, has_stub, is_canonical; /* its stub is its address in all files */
     uint32_t number; /* in the table that the library reads; 0 where it isn't there yet */
 };
 
 /* An entry of the GOT. */
 struct entry {
-    struct entry *next;
-    uint32_t class; /* `enum linker_utils_entry_class` */
-    int64_t addend; /* on AArch64 and PowerPC64 the entry is of S + A */
+    struct entry *next, *later; /* of its symbol; in the GOT */
+    struct symbol *symbol;      /* null where it is that of the module */
+    int64_t addend;             /* on AArch64 and PowerPC64 the entry is of S + A */
     uint64_t offset;
+    uint32_t class;  /* `enum linker_utils_entry_class` */
     uint32_t number; /* of its symbol with this entry, in the table that the library reads */
 };
 
@@ -158,14 +161,14 @@ struct relocation {
     uint64_t offset; /* in the output */
     int64_t addend;
     uint32_t type, index, deleted; /* index: of its symbol in the object; deleted: bytes there */
-    bool restores_toc; /* PowerPC64: by its `nop` */
-    bool keeps_entry; /* RISC-V: an `auipc` whose loads from the GOT stay */
+    bool is_kept; /* of a word that instructions load: one of them can't compute what it has */
 };
 
-/* What the library says of a relocation type. */
-struct row {
-    struct linker_utils_relocation_info info;
-    bool is_known;
+/* A relocation by itself, of the second of two symbols, and what is known of both. */
+struct alone {
+    Elf64_Rela elf;
+    struct linker_utils_symbol known[2];
+    struct linker_utils_addresses addresses;
 };
 
 /* The TLS segment: where its image is, its length and alignment, and what offsets count from. */
@@ -187,17 +190,19 @@ extern struct symbol *symbols; /* all that objects mention, in their order */
 extern struct symbol *module_base; /* `_TLS_MODULE_BASE_`; null where no object requires it */
 extern struct library *libraries; /* in their order */
 extern struct linker_utils_dynamic_types types;
-extern struct output *outputs[256], *headers, *got, *stubs, *slots, *irelatives, *frames, *index_of;
+extern struct output *outputs[256], *headers, *got, *stubs, *slots, *rela, *frames, *index_of;
 extern struct output *interpreter, *dynamic; /* null where there is none */
 extern size_t outputs_len;
 extern struct tls tls;
 extern struct entry *module_entry; /* of the GOT; null where no relocation requires it */
 
+static inline int order(uint64_t a, uint64_t b) { return a < b ? -1 : a > b; }
+
 void *take(uint64_t count, size_t size), *grow(void *array, size_t need, size_t *room, size_t size);
 uint64_t round_up(uint64_t at, uint64_t align);
 const char *place_of(const struct relocation *r);
 void check(const struct relocation *r, uint32_t status);
-const struct row *row_of(const struct relocation *r);
+const struct linker_utils_relocation_info *row_of(const struct relocation *r);
 struct linker_utils_requirements needs_of(const struct relocation *r);
 
 void demand(const struct object *o, bool holds, const char *otherwise);
@@ -223,26 +228,22 @@ uint64_t address_of(const struct output *o, uint64_t offset);
 void place_outputs(void), set_addresses(void);
 void add_section(struct section *s), copy_section(struct section *s), sort_outputs(void);
 
-void survey(struct object *o), note_facts(struct object *o), make_entries(void);
-void read_relocations(struct section *s), rewrite_phase(uint32_t phase), rewrite_placed(void);
-bool is_hidden(const struct relocation *r), is_code(const struct section *s);
-void write_entries(void), write_stubs(void);
+void rewrite_phase(uint32_t phase), rewrite_placed(void), require_all(void), make_entries(void);
+void read_relocations(struct section *s), write_entries(void), write_stubs(void), relax(void), relocate(struct output *o);
+bool is_of_addresses(const char *name), is_ifunc(const struct symbol *s), add_thunks(void);
 bool is_defined(const struct symbol *s), is_here(const struct symbol *s);
-uint64_t add_stub(struct output *o, uint32_t kind, const struct symbol *s, int64_t addend);
+uint64_t add_slot(struct symbol *s, uint32_t type);
+uint64_t append(struct output *o, uint64_t align, const void *bytes, uint64_t len);
+uint32_t add_name(struct output *o, const char *text);
 void make_tables(void), bind_symbols(void), make_imports(void), make_dynamic(void);
 void import(struct relocation *r, const struct linker_utils_requirements *needs);
 void add_row(struct output *o, uint64_t offset, uint32_t type, struct symbol *s, int64_t addend);
-void fill_entry(struct symbol *s, const struct entry *e);
+void fill_entry(const struct entry *e);
 bool write_dynamic(void);
 struct linker_utils_got known_got(void);
-struct section *toc_section(const struct relocation *r, uint64_t *offset);
-bool add_thunks(void);
-void rewrite(const struct relocation *r, uint8_t *bytes, uint64_t len, uint64_t *offset,
-             int64_t *addend, uint32_t *type, const struct linker_utils_link_facts *facts);
-bool is_relaxable(const struct output *o, const struct relocation *r);
-void relax(void), relocate(struct output *o);
-struct relocation *high_part(const struct output *o, const struct relocation *low);
-int64_t value_of(const struct output *o, const struct relocation *r);
+struct linker_utils_symbol known_symbol(const struct symbol *s);
+struct linker_utils_addresses addresses_of(uint64_t start);
+struct alone alone_of(const struct output *o, const struct relocation *r);
 bool is_left_out(const struct relocation *r), is_undefined_weak(const struct symbol *s);
 bool is_thread_local(const struct symbol *s);
 Elf64_Sym symbol_of(const struct symbol *s);

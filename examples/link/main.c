@@ -61,13 +61,10 @@ static void make_sections(void) {
     got = own_section(".got", SHF_ALLOC | SHF_WRITE, false);
     stubs = own_section(is_dynamic ? ".plt" : ".iplt", SHF_ALLOC | SHF_EXECINSTR, true);
     slots = own_section(is_dynamic ? ".got.plt" : ".igot.plt", SHF_ALLOC | SHF_WRITE, true);
-    irelatives = own_section(".rela_iplt", SHF_ALLOC, true);
-    irelatives->type = SHT_RELA;
-    irelatives->element = sizeof(Elf64_Rela);
     index_of = own_section(".eh_frame_hdr", SHF_ALLOC, true);
     headers = own_section("the headers", SHF_ALLOC, true);
     frames = output_of(".eh_frame");
-    if (is_dynamic) make_tables();
+    make_tables();
 }
 
 int main(int argc, char **argv) {
@@ -123,14 +120,14 @@ int main(int argc, char **argv) {
         s->output->flags |= SHF_WRITE | SHF_ALLOC;
         s->offset = make_room(s->output, s->elf.st_value, s->elf.st_size);
     }
-    for (struct object *o = objects; o; o = o->next) {
-        survey(o);
+    for (struct object *o = objects; o; o = o->next)
         for (size_t i = 0; i < o->sections_len; i++) copy_section(&o->sections[i]);
-    }
     for (struct symbol *s = symbols; s; s = s->later) place_symbol(s);
+    rewrite_phase(LINKER_UTILS_PHASE_EARLY);
+    require_all();
     make_imports();
     make_entries();
-    if (is_dynamic) make_dynamic();
+    make_dynamic();
     do place_outputs();
     while (add_thunks());
     relax();

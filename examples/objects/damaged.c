@@ -50,6 +50,7 @@ static void *guarded_realloc(void *old, size_t size) {
 #endif
 #include "../link/dynamic.c"
 #include "../link/entries.c"
+#include "../link/frames.c"
 #include "../link/layout.c"
 #include "../link/libraries.c"
 #include "../link/main.c"
@@ -57,6 +58,7 @@ static void *guarded_realloc(void *old, size_t size) {
 #include "../link/output.c"
 #include "../link/relax.c"
 #include "../link/relocate.c"
+#include "../link/rewrite.c"
 #include "../link/symbols.c"
 #undef main
 #undef calloc

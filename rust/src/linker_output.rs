@@ -3,6 +3,7 @@
 //! GOT, origins of thread-local storage, `e_flags`, and the code of stubs.
 
 mod aarch64;
+pub mod addresses;
 pub mod description;
 pub mod dynamic;
 pub mod flags;

@@ -50,6 +50,7 @@ int main(void) {
     struct linker_utils_provided_run run;
     EXPECT(TOO_SHORT, dynamic_name(LINKER_UTILS_X86_64, 8, NULL, 0, &count));
     EXPECT(TOO_SHORT, interpreter(LINKER_UTILS_X86_64, 0, NULL, 0, &count));
+    EXPECT(TOO_SHORT, address_section(LINKER_UTILS_PPC64, NULL, 0, &count));
     EXPECT(TOO_SHORT, provided_symbol(LINKER_UTILS_PPC64, 0, NULL, 0, &count, &symbol));
     EXPECT(TOO_SHORT, provided_run(LINKER_UTILS_PPC64, 0, NULL, 0, &count, &run));
     EXPECT(TOO_SHORT, write_stub(LINKER_UTILS_X86_64, LINKER_UTILS_STUB_LOAD, 0, 0, NULL, 0));

@@ -1113,6 +1113,22 @@ static void call_interpreter(void) {
     finish_with(status, 0 UNKNOWN OR(NOT_PROVIDED) OR(TOO_SHORT));
 }
 
+static void call_address_section(void) {
+    struct buffer *name = bytes(WRITTEN, any_len(LINKER_UTILS_NAME_SIZE));
+    size_t *name_used = output(sizeof(size_t));
+    uint32_t status = CALL(address_section, any_machine(), name->given, name->len, name_used);
+    if (status == LINKER_UTILS_OK) changes(name, 0, *name_used);
+    expect(status != LINKER_UTILS_TOO_SHORT || name->len < LINKER_UTILS_NAME_SIZE, "a long name");
+    finish_with(status, 0 UNKNOWN OR(NOT_PROVIDED) OR(TOO_SHORT));
+}
+
+static void call_entry_relocation(void) {
+    uint32_t *entry_type = output(sizeof *entry_type);
+    uint32_t r_type = (uint32_t)(once_in(4) ? any_number() : below(80));
+    uint32_t status = CALL(entry_relocation, any_machine(), r_type, entry_type);
+    finish_with(status, 0 UNKNOWN OR(NOT_PROVIDED));
+}
+
 static void call_provided_symbol(void) {
     struct buffer *name = bytes(WRITTEN, any_len(LINKER_UTILS_NAME_SIZE));
     size_t *name_used = output(sizeof(size_t));
@@ -2140,7 +2156,8 @@ static void (*const all[])(void) = {
     call_rewrite_section, call_has_rewrites, call_survey_placed_section,
     call_rewrite_placed_section, call_dynamic_types, call_dynamic_name, call_dynamic_words,
     call_entry_words, call_origins, call_static_words, call_got, call_join_flags,
-    call_output_facts, call_interpreter, call_provided_symbol, call_provided_run,
+    call_output_facts, call_interpreter, call_address_section, call_entry_relocation,
+    call_provided_symbol, call_provided_run,
     call_provided_word, call_stub, call_write_stub, call_route_at, call_route_by_word,
     call_most_stubs, call_place_stubs, call_clui_rel_info, call_jal_site, call_jal_site_with, call_relax_call,
     call_tests, call_write_mov_sequence, call_write_address_sequence, call_write_ha_lo,

@@ -1325,6 +1325,22 @@ pub fn interpreter(architecture: Architecture, flags: u32) -> Result<String, Sta
     })
 }
 
+/// The name of the section of objects in which compilers keep addresses, as the GOT does.
+pub fn address_section(architecture: Architecture) -> Result<String, Status> {
+    text_of(|name, used| unsafe {
+        let (at, len) = (name.as_mut_ptr(), name.len());
+        raw::linker_utils_address_section_nonnull(architecture.machine(), at, len, used)
+    })
+}
+
+/// The type of the relocation that an instruction would have if the address were in an entry of the GOT,
+/// by the type that it has where that is in a word of this section.
+pub fn entry_relocation(architecture: Architecture, r_type: u32) -> Result<u32, Status> {
+    let (machine, mut entry_type) = (architecture.machine(), 0);
+    let status = unsafe { raw::linker_utils_entry_relocation(machine, r_type, &mut entry_type) };
+    result_of(status, entry_type)
+}
+
 /// The symbols that a linker defines if an object refers to them.
 pub fn provided_symbols(architecture: Architecture) -> Vec<ProvidedSymbol> {
     let machine = architecture.machine();

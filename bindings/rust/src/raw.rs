@@ -427,6 +427,13 @@ extern "C" {
         path_len: usize,
         path_used: *mut usize,
     ) -> u32;
+    pub fn linker_utils_address_section_nonnull(
+        machine: u16,
+        name: *mut u8,
+        name_len: usize,
+        name_used: *mut usize,
+    ) -> u32;
+    pub fn linker_utils_entry_relocation(machine: u16, r_type: u32, entry_type: *mut u32) -> u32;
     pub fn linker_utils_provided_symbol_nonnull(
         machine: u16,
         index: usize,

@@ -72,6 +72,15 @@ fn code_and_pages_are_the_machines() {
 }
 
 #[test]
+fn compilers_keep_addresses_beside_the_got() {
+    assert_eq!(address_section(PPC64).as_deref(), Ok(".toc"));
+    assert_eq!(address_section(X86_64), Err(Status::NotProvided));
+    // R_PPC64_TOC16_LO_DS and R_PPC64_GOT16_LO_DS
+    assert_eq!(entry_relocation(PPC64, 64), Ok(59));
+    assert_eq!(entry_relocation(PPC64, 59), Err(Status::NotProvided));
+}
+
+#[test]
 fn linkers_provide_symbols_and_functions() {
     let symbols = provided_symbols(PPC64);
     let toc = ProvidedSymbol {

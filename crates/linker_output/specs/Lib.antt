@@ -1,6 +1,7 @@
 pub mod AArch64LazyPlt
 pub mod AArch64Output
 pub mod AArch64Stubs
+pub mod Addresses
 pub mod Dynamic
 pub mod Flags
 pub mod Got

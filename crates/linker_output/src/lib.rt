@@ -3,6 +3,7 @@
 #![tactic(auto)]
 
 mod aarch64;
+pub mod addresses;
 pub mod description;
 pub mod dynamic;
 pub mod flags;

@@ -717,6 +717,39 @@ unsafe extern "C" fn linker_utils_interpreter_nonnull(
 }
 
 #[unsafe(no_mangle)]
+unsafe extern "C" fn linker_utils_address_section_nonnull(
+    machine: u16,
+    name: *mut u8,
+    name_len: usize,
+    name_used: *mut usize,
+) -> u32 {
+    // SAFETY: the arguments are as the head of the header says.
+    unsafe {
+        crate::output::linker_utils_address_section_nonnull(
+            machine,
+            from_raw_parts_mut(name, name_len),
+            &mut *name_used,
+        )
+    }
+}
+
+#[unsafe(no_mangle)]
+unsafe extern "C" fn linker_utils_entry_relocation(
+    machine: u16,
+    r_type: u32,
+    entry_type: *mut u32,
+) -> u32 {
+    // SAFETY: the arguments are as the head of the header says.
+    unsafe {
+        crate::output::linker_utils_entry_relocation(
+            machine,
+            r_type,
+            &mut *entry_type,
+        )
+    }
+}
+
+#[unsafe(no_mangle)]
 unsafe extern "C" fn linker_utils_provided_symbol_nonnull(
     machine: u16,
     index: usize,

@@ -1,0 +1,173 @@
+/* Rewrites: what the library chooses in each phase, of all code. */
+#include "link.h"
+
+/* Whether the library is not shown a relocation: nothing here has its symbol, or it would be relaxed
+ * where nothing is to be, as by a mark, which has no symbol. */
+static bool is_hidden(const struct relocation *r) {
+    const struct symbol *s = r->symbol;
+    if (!r->index) return !relaxes;
+    if (s->is_imported || !strcmp(s->name, "__tls_get_addr")) return false;
+    return !is_here(s) || (!relaxes && needs_of(r).entry_class == LINKER_UTILS_ENTRY_ADDRESS);
+}
+
+static bool is_code(const struct section *s) {
+    return s->output && s->relocations && s->head->sh_flags & SHF_EXECINSTR;
+}
+
+/* Notes what is known of an object's symbols. An indirect function's address is known once it has a
+ * stub. */
+static void note_facts(struct object *o) {
+    for (size_t i = 1; i < o->symbols_len; i++) {
+        const struct symbol *s = o->symbols[i];
+        o->values[i] = known_symbol(s);
+        o->facts[i] = (struct linker_utils_symbol_facts){
+            .is_local = !s->is_imported, .is_ifunc = is_ifunc(s) && s->output != stubs,
+            .other = s->elf.st_other, .is_tls_get_addr = !strcmp(s->name, "__tls_get_addr")};
+    }
+}
+
+/* Notes what a phase deletes of a section, each at the relocation there. */
+static void note_deleted(const Elf64_Rela *elf, struct relocation *r, size_t len,
+                         const struct linker_utils_deletion *deleted, size_t deleted_len) {
+    size_t found = 0;
+    for (size_t i = 0; i < len && found < deleted_len; i++)
+        if (elf[i].r_info && elf[i].r_offset == deleted[found].offset)
+            r[i].deleted = deleted[found++].bytes;
+    if (found < deleted_len) fail("%s deletes other bytes", place_of(r));
+}
+
+/* Rewrites a section of an object in a phase, or notes which groups of it stay. */
+static void rewrite_in(uint32_t phase, struct section *s, bool is_survey) {
+    const struct object *o = s->object;
+    size_t count = o->symbols_len, len = s->relocations_len, used = 0, at = 0;
+    uint64_t start = address_of(s->output, s->offset), size = address_of(s->output, s->end) - start;
+    uint8_t *bytes = s->output->bytes + (start - s->output->address);
+    struct relocation *r = s->output->relocations + s->first;
+    struct linker_utils_addresses addresses = addresses_of(start);
+    Elf64_Rela *elf = take(len, sizeof *elf);
+    for (size_t i = 0; i < len; i++)
+        elf[i] = (Elf64_Rela){address_of(s->output, r[i].offset) - start,
+                              ELF64_R_INFO((uint64_t)r[i].index, is_hidden(&r[i]) ? 0 : r[i].type),
+                              r[i].addend};
+    if (is_survey) {
+        linker_utils_survey_placed_section(machine, phase, &linked, o->facts, count, &addresses,
+                                           o->values, count, (uint8_t *)elf, len * sizeof *elf, bytes,
+                                           size, o->kept, count);
+        return;
+    }
+    struct linker_utils_decision *decisions = take(len, sizeof *decisions);
+    struct linker_utils_deletion *deleted = take(len, sizeof *deleted);
+    uint32_t status = linker_utils_rewrite_placed_section(
+        machine, phase, &linked, o->facts, count, &addresses, o->values, count, o->kept, count,
+        (uint8_t *)elf, len * sizeof *elf, bytes, size, decisions, len, deleted, len, &used, &at);
+    check(&r[at < len ? at : 0], status);
+    for (size_t i = 0; i < len; i++, r++) {
+        if (decisions[i].fate == LINKER_UTILS_FATE_KEPT) {
+            elf[i].r_info = 0;
+            continue;
+        }
+        r->offset += elf[i].r_offset - (address_of(s->output, r->offset) - start);
+        r->type = ELF64_R_TYPE(elf[i].r_info);
+        r->addend = elf[i].r_addend;
+        if (decisions[i].fate != LINKER_UTILS_FATE_REDIRECTED) continue;
+        r->index = decisions[i].symbol;
+        r->symbol = o->symbols[r->index];
+    }
+    note_deleted(elf, r - len, len, deleted, used);
+}
+
+/* Whether compilers keep addresses in a section, beside the GOT. */
+bool is_of_addresses(const char *name) {
+    static char known[LINKER_UTILS_NAME_SIZE + 1];
+    size_t used;
+    return !linker_utils_address_section(machine, (uint8_t *)known, sizeof known - 1, &used) &&
+           !strcmp(name, known);
+}
+
+static int by_offset(const void *left, const void *right) {
+    return order(((const struct relocation *)left)->offset, ((const struct relocation *)right)->offset);
+}
+
+/* The word of such a section that a relocation refers to, if it has an address; else null. */
+static struct relocation *word_of(const struct relocation *r) {
+    const struct symbol *s = r->symbol;
+    struct relocation key = {.type = 0}, *word;
+    if (linker_utils_entry_relocation(machine, r->type, &key.type) ||
+        s->object != r->section->object || s->elf.st_shndx >= s->object->sections_len)
+        return NULL;
+    const struct section *words = &s->object->sections[s->elf.st_shndx];
+    if (!words->output || !is_of_addresses(words->name)) return NULL;
+    key.offset = words->offset + s->elf.st_value + (uint64_t)r->addend;
+    word = bsearch(&key, words->output->relocations + words->first, words->relocations_len,
+                   sizeof key, by_offset);
+    return word && word->type == types.word && !is_left_out(word) ? word : NULL;
+}
+
+/* Has instructions compute the addresses that they load from such words, or notes that one of a word
+ * can't: then none of it does. */
+static void rewrite_loads(struct section *s, bool is_survey) {
+    for (size_t i = 0; i < s->relocations_len; i++) {
+        struct relocation *r = s->output->relocations + s->first + i, *word = word_of(r);
+        if (!word || word->is_kept) continue;
+        uint64_t at = r->offset - s->offset;
+        int64_t addend = word->addend;
+        uint8_t *bytes = s->output->bytes + s->offset;
+        uint32_t type;
+        struct linker_utils_choice choice;
+        struct linker_utils_link_facts facts = {
+            .is_local = is_defined(word->symbol) && !word->symbol->is_imported, .has_fixed_distance = 1, .has_addresses = 1,
+            .operands = {.got_base = known_got().base, .addend = addend,
+                         .symbol = known_symbol(word->symbol).address}};
+        linker_utils_entry_relocation(machine, r->type, &type);
+        check(r, linker_utils_choose(machine, type, bytes, s->head->sh_size, at, &facts, &choice));
+        if (is_survey) {
+            word->is_kept = linker_utils_is_unchanged(machine, type, &choice);
+            continue;
+        }
+        check(r, linker_utils_apply(machine, choice.rewrite, choice.opcode_len, bytes,
+                                    s->head->sh_size, &at, &addend));
+        r->symbol = word->symbol;
+        r->index = word->index;
+        r->addend = addend;
+        r->type = choice.relocation;
+    }
+}
+
+/* Rewrites some sections of an object in a phase, all of a group or none. */
+static void rewrite_some(uint32_t phase, struct object *o, struct section *first, struct section *end) {
+    bool stays = false; /* of the loads from the GOT one */
+    memset(o->kept, 0, o->symbols_len * sizeof *o->kept);
+    o->kept->got_load = phase == LINKER_UTILS_PHASE_EARLY; /* as in ld.lld */
+    for (int is_survey = 1; is_survey >= 0 && !stays; is_survey--) {
+        for (struct section *s = first; s < end; s++)
+            if (is_code(s)) rewrite_in(phase, s, is_survey);
+        for (size_t i = 0; i < o->symbols_len && phase == LINKER_UTILS_PHASE_GOT_LOADS; i++)
+            stays |= o->kept[i].got_load;
+    }
+}
+
+/* Rewrites the instructions of all code in a phase. Of a section all loads from the GOT are rewritten or
+ * none is, as in ld.lld. */
+void rewrite_phase(uint32_t phase) {
+    size_t step = phase == LINKER_UTILS_PHASE_GOT_LOADS ? 1 : SIZE_MAX;
+    for (struct object *o = objects; o; o = o->next) {
+        o->facts = take(o->symbols_len, sizeof *o->facts);
+        o->values = take(o->symbols_len, sizeof *o->values);
+        o->kept = take(o->symbols_len + 1, sizeof *o->kept);
+        if (!linker_utils_has_rewrites(machine, phase)) continue;
+        note_facts(o);
+        for (size_t i = 0, len = o->sections_len; i < len; i += step < len - i ? step : len - i)
+            rewrite_some(phase, o, o->sections + i, o->sections + (step < len - i ? i + step : len));
+    }
+}
+
+/* Rewrites what waits for all addresses. */
+void rewrite_placed(void) {
+    if (!relaxes) return;
+    for (struct object *o = objects; o; o = o->next)
+        for (int is_survey = 1; is_survey >= 0; is_survey--)
+            for (struct section *s = o->sections; s < o->sections + o->sections_len; s++)
+                if (is_code(s)) rewrite_loads(s, is_survey);
+    rewrite_phase(LINKER_UTILS_PHASE_GOT_LOADS);
+    rewrite_phase(LINKER_UTILS_PHASE_DISTANCES);
+}
