@@ -32,12 +32,10 @@ use Rattle.linker_reading.specs.Fields.{IsOfValue}
 use Rattle.linker_reading.specs.Reading.{bits_held, bits_read, holds_bits, are_signed}
 use Rattle.std.proofs.Common.{◌≡◌, ℕ, ◌<◌, ◌+◌, ◌-◌, ◌*◌, ◌/◌, ◌%◌, ◌^◌, Bool, true, false, refl, ◌∙◌}
 use Rattle.std.proofs.Common.{ap, arith, List, [], ℤ, pos, int_lt, eqb, ltb, if◌then◌else◌}
-use Rattle.linker_base.specs.Bits.{field}
 use Rattle.linker_base.specs.Form.{window_of}
 use Rattle.linker_elf.specs.AArch64.{aarch64_form, imm16_places, move_opcode, moved_bits}
 use Rattle.linker_elf.specs.Relocate.{InstructionWritten, bits_taken, is_movk}
 use Rattle.linker_elf.specs.Relocate.{with_bit_31_if, is_32_bit_move, ored_cleared, places_cleared}
-use Rattle.linker_elf.specs.declared.elf.RelocationInstruction.TheVariants.{AArch64}
 use Rattle.linker_elf.proofs.AArch64Forms.{high_kept}
 use Rattle.std.proofs.Common.{◌≡◌, ◌≤◌, ◌<◌, ℕ, zero, suc, ◌+◌, ◌-◌, ◌*◌, ◌/◌, ◌%◌, ◌^◌, Bool, true, false, not, ◌&&◌, ◌||◌, List, [], refl, sym, ap, subst, ◌∙◌, ⊎_elim, arith, ℤ, eqb}
 use Rattle.std.specs.Prelude.{nat_lt, if◌then◌else◌}
@@ -49,11 +47,20 @@ use Rattle.linker_elf.specs.AArch64.{aarch64_form, access_scale, move_opcode}
 use Rattle.linker_elf.specs.Inner.FormLaws.{aarch64_keeps}
 use Rattle.linker_elf.specs.Relocate.{ored_cleared, places_cleared, bits_taken, with_bit_31_if, is_32_bit_move}
 use Rattle.linker_elf.specs.declared.aarch64.forms.AArch64Instruction.TheVariants.{Movnz, MachOLow12}
-use Rattle.linker_elf.specs.declared.elf.RelocationInstruction.TheVariants.{AArch64}
 use Rattle.linker_elf.proofs.Clearing.{same_window, none_ored}
 use Rattle.linker_reading.specs.FieldsOfBytes.{is_instruction_bit}
 use Rattle.linker_reading.proofs.WrittenImmediates.{unrounded, plain_read}
 use Rattle.linker_reading.proofs.WrittenBits.{or_first, or_second, not_cleared, outside}
+use Rattle.std.proofs.Common.{◌≡◌, ◌≤◌, ◌<◌, ℕ, zero, suc, ◌+◌, ◌-◌, ◌*◌, ◌/◌, ◌%◌, ◌^◌, Bool, true, false, ◌&&◌, List, refl, sym, ap, subst, ◌∙◌, ⊎_elim, arith, ℤ, pos, negsuc}
+use Rattle.std.specs.Prelude.{nat_lt, if◌then◌else◌, int_lt, unsigned_abs}
+use Rattle.std.specs.Int.{bit_at, byte_len, w64, int_rem_euclid}
+use Rattle.std.proofs.lemmas.Bool.{cases_lt, lt-ltb, and_parts, ltb-true}
+use Rattle.std.proofs.lemmas.Nat.Bits.{bit_at_cat_high}
+use Rattle.linker_elf.specs.AArch64.{aarch64_form}
+use Rattle.linker_elf.specs.Relocate.{InstructionWritten, bits_taken}
+use Rattle.linker_elf.specs.declared.aarch64.forms.AArch64Instruction.TheVariants.{Movnz}
+use Rattle.linker_elf.specs.declared.elf.RelocationInstruction.TheVariants.{AArch64}
+use Rattle.linker_reading.specs.FieldsOfBytes.{is_instruction_bit}
 
 -- ---- what is read
 
@@ -342,3 +349,9 @@ aarch64_outside MachOLow12 bits n x clear y w neg h ignored clears laid =
 aarch64_outside f bits n x clear y w neg h ignored clears laid =
     outside (aarch64_form f) (ored_cleared ((aarch64_form f).places x)) n x clear y w neg (aarch64_keeps f) clears laid
     (not_cleared ((aarch64_form f).places x) w ignored) ignored refl
+
+-- ---- its length
+
+pub aarch64_word : (f : AArch64Instruction) → byte_len (aarch64_form f).window ≡ 4
+aarch64_word Movnz = refl
+aarch64_word f = refl

@@ -1,3 +1,5 @@
+pub mod AArch64FieldBits
+pub mod AArch64Numbers
 pub mod AArch64Written
 pub mod Aligned
 pub mod BitFields
@@ -6,14 +8,21 @@ pub mod FieldBits
 pub mod Formulas
 pub mod Found
 pub mod LeastWindow
+pub mod LoongArchFieldBits
+pub mod LoongArchNumbers
 pub mod LoongArchWritten
 pub mod Masked
+pub mod Masks
 pub mod Numbers
+pub mod Ppc64FieldBits
+pub mod Ppc64Numbers
 pub mod Ppc64Written
 pub mod Proper
 pub mod Ranges
 pub mod Reached
 pub mod Read
+pub mod RiscVFieldBits
+pub mod RiscVNumbers
 pub mod RiscVWritten
 pub mod Same
 pub mod Shifts
@@ -22,7 +31,7 @@ pub mod WindowBits
 pub mod Words
 pub mod Written
 pub mod WrittenBits
-pub mod WrittenChoices
 pub mod WrittenImmediates
 pub mod WrittenLeft
 pub mod WrittenRows
+pub mod X86WrittenChoices

@@ -44,7 +44,6 @@ use Rattle.linker_elf.specs.Inner.Runs.{words_below}
 use Rattle.linker_elf.specs.LoongArch.{loongarch_form}
 use Rattle.linker_elf.specs.Relocate.{InstructionWritten, bits_taken, is_jirl, is_low_jump}
 use Rattle.linker_elf.specs.Relocate.{ored_cleared, places_cleared}
-use Rattle.linker_elf.specs.declared.elf.RelocationInstruction.TheVariants.{LoongArch64}
 use Rattle.linker_elf.proofs.AArch64Forms.{high_kept}
 use Rattle.std.proofs.Common.{◌≡◌, ◌≤◌, ◌<◌, ℕ, ◌+◌, ◌-◌, ◌*◌, ◌/◌, ◌%◌, ◌^◌, Bool, true, false, ◌||◌, List, [], refl, sym, ap, subst, ◌∙◌, ⊎_elim, arith, ℤ, max, eqb}
 use Rattle.std.specs.Prelude.{nat_lt, if◌then◌else◌}
@@ -56,11 +55,20 @@ use Rattle.linker_base.proofs.Fields.{bit_at_mod_above}
 use Rattle.linker_elf.specs.Inner.FormLaws.{loongarch_keeps}
 use Rattle.linker_elf.specs.LoongArch.{loongarch_form, shift10_low}
 use Rattle.linker_elf.specs.Relocate.{ored_cleared, places_cleared, bits_taken}
-use Rattle.linker_elf.specs.declared.elf.RelocationInstruction.TheVariants.{LoongArch64}
 use Rattle.linker_elf.proofs.Clearing.{same_window}
 use Rattle.linker_reading.specs.FieldsOfBytes.{is_instruction_bit}
 use Rattle.linker_reading.proofs.WrittenImmediates.{unrounded, plain_read, moved_sum_fits, modulo_read, rest_is}
 use Rattle.linker_reading.proofs.WrittenBits.{not_cleared, outside}
+use Rattle.std.proofs.Common.{◌≡◌, ◌≤◌, ◌<◌, ℕ, ◌+◌, ◌-◌, ◌*◌, ◌/◌, ◌%◌, ◌^◌, Bool, true, false, List, refl, sym, ap, subst, ◌∙◌, ⊎_elim, arith, ℤ, pos}
+use Rattle.std.specs.Prelude.{nat_lt, if◌then◌else◌, int_lt, unsigned_abs}
+use Rattle.std.specs.Int.{bit_at, byte_len, w64}
+use Rattle.std.proofs.lemmas.Bool.{cases_lt, lt-ltb}
+use Rattle.linker_elf.specs.Relocate.{is_low_jump}
+use Rattle.linker_elf.specs.Relocate.{InstructionWritten, bits_taken}
+use Rattle.linker_elf.specs.declared.elf.RelocationInstruction.TheVariants.{LoongArch64}
+use Rattle.linker_elf.specs.declared.elf.RelocationSize.TheVariants.{BitMasking}
+use Rattle.linker_elf.specs.declared.loongarch64.forms.LoongArch64Instruction.TheVariants.{Shift5}
+use Rattle.linker_reading.specs.FieldsOfBytes.{is_instruction_bit}
 
 -- ---- what is read
 
@@ -251,3 +259,9 @@ loongarch_outside Shift10 bits taken x clear y w neg h ignored clears laid =
 loongarch_outside f bits taken x clear y w neg h ignored clears laid =
     outside (loongarch_form f) (places_cleared (LoongArch64 f) bits x) taken x clear y w neg (loongarch_keeps f) clears laid
     (either_cleared (nat_lt 12 (bits.end - bits.start)) ((loongarch_form f).places x) w ignored) ignored refl
+
+-- ---- its length
+
+pub loongarch_short : (f : LoongArch64Instruction) → byte_len (loongarch_form f).window ≤ 8
+loongarch_short Shift5 = omega arith
+loongarch_short f = omega arith

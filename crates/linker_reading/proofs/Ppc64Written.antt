@@ -27,11 +27,21 @@ use Rattle.linker_base.specs.Form.{replaced, BitsWritten, Written, is_placed}
 use Rattle.linker_base.proofs.Fields.{bit_at_mod}
 use Rattle.linker_elf.specs.Inner.FormLaws.{ppc64_keeps}
 use Rattle.linker_elf.specs.Relocate.{number_placed, bits_taken, is_dq_form, with_low_4}
-use Rattle.linker_elf.specs.declared.elf.RelocationInstruction.TheVariants.{Ppc64}
 use Rattle.linker_elf.specs.declared.ppc64.forms.Ppc64Instruction.TheVariants.{Ds}
 use Rattle.linker_reading.specs.FieldsOfBytes.{is_instruction_bit}
 use Rattle.linker_reading.proofs.WrittenImmediates.{plain_read}
 use Rattle.linker_reading.proofs.WrittenBits.{outside}
+use Rattle.std.proofs.Common.{◌≡◌, ◌≤◌, ◌<◌, ℕ, zero, suc, ◌+◌, ◌%◌, ◌^◌, Bool, true, false, ◌&&◌, List, refl, sym, ap, ◌∙◌, ⊎_elim, arith, ℤ, pos}
+use Rattle.std.specs.Prelude.{nat_lt, if◌then◌else◌, int_lt}
+use Rattle.std.specs.Int.{bit_at, byte_len, w64}
+use Rattle.std.proofs.lemmas.Bool.{cases_lt}
+use Rattle.linker_base.specs.Form.{window_of}
+use Rattle.linker_base.proofs.Fields.{bit_at_mod}
+use Rattle.linker_elf.specs.Relocate.{InstructionWritten, bits_taken}
+use Rattle.linker_elf.specs.declared.elf.RelocationInstruction.TheVariants.{Ppc64}
+use Rattle.linker_elf.specs.declared.elf.RelocationSize.TheVariants.{BitMasking}
+use Rattle.linker_elf.specs.declared.ppc64.forms.Ppc64Instruction.TheVariants.{D}
+use Rattle.linker_reading.specs.FieldsOfBytes.{is_instruction_bit}
 
 -- ---- what is read
 
@@ -98,3 +108,9 @@ pub ppc64_outside : (f : Ppc64Instruction) (bits : BitRange) (taken x clear y w 
 ppc64_outside Ds bits taken x clear y w neg h ignored clears laid = ds_outside (is_dq_form x) taken x clear y w neg h ignored clears laid
 ppc64_outside f bits taken x clear y w neg h ignored clears laid =
     outside (ppc64_form f) [] taken x clear y w neg (ppc64_keeps f) clears laid refl ignored refl
+
+-- ---- its length
+
+pub ppc64_short : (f : Ppc64Instruction) → byte_len (ppc64_form f).window ≤ 8
+ppc64_short D = omega arith
+ppc64_short f = omega arith

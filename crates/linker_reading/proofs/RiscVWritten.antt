@@ -26,16 +26,21 @@ use Rattle.linker_reading.specs.Fields.{IsOfValue}
 use Rattle.linker_reading.specs.Reading.{bits_within, bits_held, bits_read, holds_bits}
 use Rattle.std.proofs.Common.{◌≡◌, ◌≤◌, ◌<◌, ℕ, ◌+◌, ◌-◌, ◌*◌, ◌/◌, ◌%◌, ◌^◌, Bool, true, false, List, [], refl, sym, ap, ◌∙◌, arith, ℤ}
 use Rattle.std.specs.Int.{bit_at, w64, cast_unsigned}
-use Rattle.std.proofs.lemmas.Bool.{eqb-true}
 use Rattle.linker_base.specs.Form.{BitsWritten, Written}
 use Rattle.linker_elf.specs.Inner.FormLaws.{riscv_keeps}
 use Rattle.linker_elf.specs.Relocate.{bits_taken}
 use Rattle.linker_elf.specs.RiscV.{riscv_form}
-use Rattle.linker_elf.specs.declared.elf.RelocationInstruction.TheVariants.{RiscV}
 use Rattle.linker_elf.specs.declared.riscv64.forms.RiscVInstruction.TheVariants.{UType}
 use Rattle.linker_reading.specs.FieldsOfBytes.{is_instruction_bit}
 use Rattle.linker_reading.proofs.WrittenImmediates.{plain_read, sum_fits, modulo_read}
 use Rattle.linker_reading.proofs.WrittenBits.{outside}
+use Rattle.std.proofs.Common.{◌≡◌, ◌≤◌, ◌<◌, ℕ, ◌+◌, ◌-◌, ◌*◌, ◌/◌, ◌%◌, ◌^◌, Bool, true, false, List, refl, sym, ap, ◌∙◌, arith, ℤ, pos}
+use Rattle.std.specs.Prelude.{int_lt}
+use Rattle.std.specs.Int.{bit_at, byte_len, w64}
+use Rattle.linker_base.specs.Form.{window_of}
+use Rattle.linker_elf.specs.Relocate.{InstructionWritten, bits_taken}
+use Rattle.linker_elf.specs.declared.elf.RelocationInstruction.TheVariants.{RiscV}
+use Rattle.linker_reading.specs.FieldsOfBytes.{is_instruction_bit}
 
 -- ---- what is read
 
@@ -62,11 +67,11 @@ rounded_read : (k : ℕ) (bits : BitRange) (v : ℤ) (sum : ℕ)
     ≡ field (cast_unsigned w64 (signed k sum))
     ((bits_within (record { start = 12; end = k }) bits).start - bits.start)
     ((bits_within (record { start = 12; end = k }) bits).end - bits.start)
-rounded_read k bits v sum zero order inside long most is small =
+rounded_read k bits v sum first order inside long most is small =
     let imm : BitRange = record { start = 12; end = k } in
     let n = cast_unsigned w64 v in
     let whole = (bits_taken bits v + 0x800) % 2 ^ 64 in
-    let taken : bits_taken bits v ≡ field n 0 bits.end = ap (λ s. field n s bits.end) zero in
+    let taken : bits_taken bits v ≡ field n 0 bits.end = ap (λ s. field n s bits.end) first in
     own_bits imm bits (cast_unsigned w64 (signed k sum)) (sum_64 n 0x800) 0 (omega arith) (λ m short within.
     let start : bits.start + 12 ≡ 12 = omega arith in
     let end : bits.start + m ≡ m = omega arith in
@@ -117,3 +122,9 @@ riscv_outside UType bits n x clear y w neg ignored clears laid =
     outside (riscv_form UType) [] n x clear y w neg (riscv_keeps UType) clears laid refl ignored refl
 riscv_outside f bits n x clear y w neg ignored clears laid =
     outside (riscv_form f) [] n x clear y w neg (riscv_keeps f) clears laid refl ignored refl
+
+-- ---- its length
+
+pub riscv_short : (f : RiscVInstruction) → byte_len (riscv_form f).window ≤ 8
+riscv_short UType = omega arith
+riscv_short f = omega arith

@@ -16,6 +16,6 @@ pub mod RiscVEncodings
 pub mod RiscVRecogniser
 pub mod Solving
 pub mod Windows
-pub mod WrittenFields
 pub mod WrittenRows
 pub mod X86Recogniser
+pub mod X86WrittenFields

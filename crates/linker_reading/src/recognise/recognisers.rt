@@ -10,7 +10,7 @@ ghost use Rattle.linker_reading.specs.AArch64Recogniser.{aarch64};
 ghost use Rattle.linker_reading.specs.LoongArchRecogniser.{loongarch};
 ghost use Rattle.linker_reading.specs.Ppc64Recogniser.{ppc64};
 ghost use Rattle.linker_reading.specs.RiscVRecogniser.{riscv};
-ghost use Rattle.linker_reading.specs.WrittenFields.{X86WrittenIsLeft};
+ghost use Rattle.linker_reading.specs.X86WrittenFields.{X86WrittenIsLeft};
 ghost use Rattle.linker_reading.specs.WrittenRows.{WrittenIsLeft};
 
 /// Where a rewrite is applied, the value of the relocation after it is written, and the deleted

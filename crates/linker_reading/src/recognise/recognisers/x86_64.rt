@@ -1,12 +1,12 @@
 //! What is recognised of x86-64.
 
+ghost use Rattle.std.specs.Prelude.{refl};
 ghost use Rattle.linker_elf.specs.contracts.x86_64.relocations.X86_64Relocation as x86_64_name;
 ghost use Rattle.linker_reading.specs.Inner.Equality.{enum_is_equality, numbers};
 ghost use Rattle.linker_reading.specs.Inner.Laws.{laws};
 ghost use Rattle.linker_reading.specs.X86Recogniser.{x86_64, x86_64_table_at};
 ghost use Rattle.linker_x86_64.proofs.X86Choices.{chosen_matches as x86_64_chosen};
 ghost use Rattle.linker_x86_64.specs.contracts.rewrites.RelaxationKind as x86_64_kind;
-ghost use Rattle.std.specs.Prelude.{refl};
 
 use crate::recognise::engine::RecognisedName;
 use linker_utils::architecture::Relaxation;

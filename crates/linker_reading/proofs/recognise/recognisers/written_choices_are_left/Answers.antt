@@ -1,4 +1,4 @@
-use Rattle.linker_reading.proofs.WrittenChoices.{x86_written_is_left}
+use Rattle.linker_reading.proofs.X86WrittenChoices.{x86_written_is_left}
 use Rattle.linker_reading.proofs.WrittenLeft.{written_choice_is_left}
 use Rattle.linker_reading.specs.AArch64Recogniser.{aarch64}
 use Rattle.linker_reading.specs.RiscVRecogniser.{riscv}

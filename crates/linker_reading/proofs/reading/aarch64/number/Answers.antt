@@ -1,5 +1,5 @@
-use Rattle.linker_reading.proofs.Numbers.{movkz_held, ldst_held}
-use Rattle.linker_reading.proofs.reading.aarch64_number.Goals as goal
+use Rattle.linker_reading.proofs.AArch64Numbers.{movkz_held, ldst_held}
+use Rattle.linker_reading.proofs.reading.aarch64.number.Goals as goal
 
 pub returns-in-Movkz : goal.returns-in-Movkz
 returns-in-Movkz c =

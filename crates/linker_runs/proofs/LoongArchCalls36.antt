@@ -27,7 +27,7 @@ use Rattle.linker_runs.specs.declared.packing.ItemError.TheVariants.{Overlaps, O
 use Rattle.linker_runs.proofs.LoongArch.{not_both}
 use Rattle.linker_runs.specs.Writable.{HasShapesOf, IsNearCall36, NearCalls36AreWritable}
 use Rattle.linker_runs.proofs.LongSites.{IsLongSite, LongCause, long_sites}
-use Rattle.linker_runs.proofs.Writable.{not_rejected}
+use Rattle.linker_runs.proofs.Distances.{not_rejected}
 
 none : {A : Type 0} → false ≡ true → A
 none e = cc

@@ -1,6 +1,6 @@
 use Rattle.std.proofs.Common.{sym, ◌∙◌}
-use Rattle.linker_reading.proofs.Numbers.{d_held, ds_held, dq_held, branch14_held, branch24_held, prefixed_held}
-use Rattle.linker_reading.proofs.reading.ppc64_number.Goals as goal
+use Rattle.linker_reading.proofs.Ppc64Numbers.{d_held, ds_held, dq_held, branch14_held, branch24_held, prefixed_held}
+use Rattle.linker_reading.proofs.reading.ppc64.number.Goals as goal
 
 pub returns-then-is_dq_form : goal.returns-then-is_dq_form
 returns-then-is_dq_form c =

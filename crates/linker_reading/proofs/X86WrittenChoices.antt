@@ -14,7 +14,7 @@ use Rattle.linker_elf.specs.declared.x86_64.relocations.X86_64Relocation.{X86_64
 use Rattle.linker_elf.specs.declared.x86_64.relocations.X86_64Relocation.TheVariants as r
 use Rattle.linker_reading.specs.FieldsOfBytes.{is_field_bit, is_size_bit, is_value_bit, is_in_row, is_in_one, kept_index, IsSameBut, AreSameBut, AreSameButFor}
 use Rattle.linker_reading.specs.Recognised.{AreLeft}
-use Rattle.linker_reading.specs.WrittenFields.{WritesField, X86WrittenIsLeft}
+use Rattle.linker_reading.specs.X86WrittenFields.{WritesField, X86WrittenIsLeft}
 use Rattle.linker_base.specs.Rewrite.{rewritten, offset_after}
 use Rattle.linker_x86_64.specs.X86Rewrites.{x86_64_rewrite}
 use Rattle.linker_elf.specs.declared.elf.RelocationKind.TheVariants.{AbsoluteSetWord6, AbsoluteAdditionWord6, AbsoluteSubtractionWord6}

@@ -1,5 +1,5 @@
-use Rattle.linker_reading.proofs.Numbers.{utype_held, clui_held}
-use Rattle.linker_reading.proofs.reading.riscv_number.Goals as goal
+use Rattle.linker_reading.proofs.RiscVNumbers.{utype_held, clui_held}
+use Rattle.linker_reading.proofs.reading.riscv64.number.Goals as goal
 
 pub returns-in-UType : goal.returns-in-UType
 returns-in-UType c =

@@ -23,7 +23,7 @@ use Rattle.linker_runs.specs.declared.packing.ItemError.{ItemError}
 use Rattle.linker_runs.specs.declared.packing.ItemError.TheVariants.{Overlaps, OutOfSection, DeletedOutside, NotItsFirstBytes, NotItsInstructions, NoShape, OutOfReach}
 use Rattle.linker_runs.specs.Writable.{IsNear, NearCallsAreWritable}
 use Rattle.linker_runs.proofs.LongSites.{IsLongSite, LongCause, long_sites}
-use Rattle.linker_runs.proofs.Writable.{not_rejected}
+use Rattle.linker_runs.proofs.Distances.{not_rejected}
 
 none : {A : Type 0} → false ≡ true → A
 none e = cc

@@ -27,8 +27,8 @@ use Rattle.linker_runs.specs.declared.packing.ItemError.{ItemError}
 use Rattle.linker_runs.specs.declared.packing.ItemError.TheVariants.{Overlaps, OutOfSection, DeletedOutside, NotItsFirstBytes, NotItsInstructions, NoShape, OutOfReach}
 use Rattle.linker_runs.proofs.LoongArch.{not_both, no_jirl}
 use Rattle.linker_runs.specs.Writable.{HasShapesOf, IsNearAddress, NearAddressesAreWritable}
-use Rattle.linker_runs.proofs.LongCalls.{whole}
-use Rattle.linker_runs.proofs.LongCalls36.{shapes_differ}
+use Rattle.linker_runs.proofs.RiscVLongCalls.{whole}
+use Rattle.linker_runs.proofs.LoongArchCalls36.{shapes_differ}
 use Rattle.linker_runs.proofs.LongSites.{IsLongSite, LongCause, long_sites}
 
 none : {A : Type 0} → false ≡ true → A
