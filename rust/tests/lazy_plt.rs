@@ -127,10 +127,13 @@ fn lazy_plts_are_those_of_linkers() {
         assert_eq!(linked.plt % plt.alignment, 0);
         let mut code = vec![0x55; expected.len() + 1];
         let mut words = Vec::new();
-        plt.write_header(linked.plt, linked.got_plt, &mut code).unwrap();
+        plt.write_header(linked.plt, linked.got_plt, &mut code)
+            .unwrap();
         assert_eq!(code[header_len..], vec![0x55; 3 * entry_len + 1]);
         for index in 0.. {
-            let Some(word) = plt.header_word(index, linked.dynamic, linked.plt) else { break };
+            let Some(word) = plt.header_word(index, linked.dynamic, linked.plt) else {
+                break;
+            };
             words.push(word);
         }
         assert_eq!(words.len(), plt.header_words.len());
@@ -158,30 +161,82 @@ fn lazy_plts_are_those_of_linkers() {
 fn entries_reach_as_far_as_their_fields() {
     let field = |error| Err(StubError::Field(error));
     for (architecture, last, beyond, error) in [
-        (Architecture::X86_64, 0x8000_0005, 0x8000_0006, RelocateError::OutOfReach),
-        (Architecture::AArch64, 0xffff_fff8, 0x1_0000_0000, RelocateError::OutOfReach),
+        (
+            Architecture::X86_64,
+            0x8000_0005,
+            0x8000_0006,
+            RelocateError::OutOfReach,
+        ),
+        (
+            Architecture::AArch64,
+            0xffff_fff8,
+            0x1_0000_0000,
+            RelocateError::OutOfReach,
+        ),
         (Architecture::AArch64, 0, 4, RelocateError::Misaligned),
-        (Architecture::RiscV, 0x7fff_f7ff, 0x7fff_f800, RelocateError::OutOfReach),
-        (Architecture::LoongArch64, 0x7fff_f7ff, 0x7fff_f800, RelocateError::OutOfReach),
+        (
+            Architecture::RiscV,
+            0x7fff_f7ff,
+            0x7fff_f800,
+            RelocateError::OutOfReach,
+        ),
+        (
+            Architecture::LoongArch64,
+            0x7fff_f7ff,
+            0x7fff_f800,
+            RelocateError::OutOfReach,
+        ),
     ] {
         let plt = LazyPlt::of(architecture);
         let place = 0x10_0000;
-        let entry = |distance| LazyEntry { address: place, word: place + distance, header: place, index: 0 };
+        let entry = |distance| LazyEntry {
+            address: place,
+            word: place + distance,
+            header: place,
+            index: 0,
+        };
         let len = plt.entry_len() as usize;
         let mut code = vec![0x55; len];
-        assert_eq!(plt.write_entry(&entry(beyond), &mut code), field(error), "{architecture:?}");
-        assert_eq!(plt.write_entry(&entry(last), &mut code[1..]), Err(StubError::TooShort));
+        assert_eq!(
+            plt.write_entry(&entry(beyond), &mut code),
+            field(error),
+            "{architecture:?}"
+        );
+        assert_eq!(
+            plt.write_entry(&entry(last), &mut code[1..]),
+            Err(StubError::TooShort)
+        );
         assert_eq!(code, vec![0x55; len]);
-        assert_eq!(plt.write_entry(&entry(last), &mut code), Ok(()), "{architecture:?}");
+        assert_eq!(
+            plt.write_entry(&entry(last), &mut code),
+            Ok(()),
+            "{architecture:?}"
+        );
     }
     // `b` reaches 32 MiB backward
     let plt = LazyPlt::of(Architecture::Ppc64);
-    let at = |address| LazyEntry { address, word: 0, header: 0, index: 0 };
+    let at = |address| LazyEntry {
+        address,
+        word: 0,
+        header: 0,
+        index: 0,
+    };
     assert_eq!(plt.write_entry(&at(0x200_0000), &mut [0; 4]), Ok(()));
-    assert_eq!(plt.write_entry(&at(0x200_0004), &mut [0; 4]), field(RelocateError::OutOfReach));
+    assert_eq!(
+        plt.write_entry(&at(0x200_0004), &mut [0; 4]),
+        field(RelocateError::OutOfReach)
+    );
     // `push` has 31 bits of an index
     let plt = LazyPlt::of(Architecture::X86_64);
-    let at = |index| LazyEntry { address: 0, word: 0, header: 0, index };
+    let at = |index| LazyEntry {
+        address: 0,
+        word: 0,
+        header: 0,
+        index,
+    };
     assert_eq!(plt.write_entry(&at(0x7fff_ffff), &mut [0; 16]), Ok(()));
-    assert_eq!(plt.write_entry(&at(0x8000_0000), &mut [0; 16]), field(RelocateError::OutOfReach));
+    assert_eq!(
+        plt.write_entry(&at(0x8000_0000), &mut [0; 16]),
+        field(RelocateError::OutOfReach)
+    );
 }

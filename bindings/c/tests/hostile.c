@@ -1180,6 +1180,47 @@ static void call_write_stub(void) {
     finish_with(status, 0 UNKNOWN OR(UNKNOWN_STUB) OR(TOO_SHORT) OR(OUT_OF_REACH) OR(MISALIGNED));
 }
 
+static void call_lazy_plt(void) {
+    struct linker_utils_lazy_plt *plt = output(sizeof *plt);
+    uint32_t status = CALL(lazy_plt, any_machine(), plt);
+    expect(status || (plt->header_len <= 60 && plt->entry_len <= 16 && plt->alignment <= 16 &&
+                      plt->header_words <= 3), "no lazy PLT");
+    finish_with(status, 0 UNKNOWN);
+}
+
+static void call_write_lazy_header(void) {
+    struct buffer *code = bytes(WRITTEN, any_len(72));
+    uint64_t at = any_number(), words = once_in(4) ? any_number() : at + 8 * below(1 << 20);
+    changes(code, 0, 60);
+    uint32_t status = CALL(write_lazy_header, any_machine(), at, words, code->given, code->len);
+    finish_with(status, 0 UNKNOWN OR(TOO_SHORT) OR(OUT_OF_REACH) OR(MISALIGNED));
+}
+
+static void call_write_lazy_entry(void) {
+    struct buffer *given = place(READ, 1, sizeof(struct linker_utils_lazy_entry));
+    struct buffer *code = bytes(WRITTEN, any_len(24));
+    uint64_t at = any_number(), index = once_in(4) ? any_number() : below(1 << 16);
+    *(struct linker_utils_lazy_entry *)filled(given) = (struct linker_utils_lazy_entry){
+        .address = at,
+        .word = once_in(4) ? any_number() : at + 8 * below(1 << 20),
+        .header = once_in(4) ? any_number() : at - 32 - 16 * index,
+        .index = index,
+    };
+    changes(code, 0, 16);
+    uint32_t status = CALL(write_lazy_entry, any_machine(), given->given, code->given, code->len);
+    finish_with(status, 0 UNKNOWN OR(TOO_SHORT) OR(OUT_OF_REACH) OR(MISALIGNED));
+}
+
+static void call_lazy_words(void) {
+    uint64_t *word = output(sizeof *word), dynamic = any_number(), header = any_number();
+    size_t index = once_in(4) ? (size_t)any_number() : below(4);
+    uint32_t status = CALL(lazy_header_word, any_machine(), index, dynamic, header, word);
+    expect(status || !*word || *word == dynamic || *word == header, "another word");
+    uint64_t entry = any_number(), first = CALL(lazy_entry_word, any_machine(), entry, header, dynamic);
+    expect(!first || first == header || first - entry < 16, "another word of an entry");
+    finish_with(status, 0 UNKNOWN OR(NOT_PROVIDED));
+}
+
 /* A route in numbers: a stub of the library's, or nothing. */
 static bool is_route(const struct linker_utils_route *route) {
     return route->is_by_stub ? route->is_by_stub == 1 && route->kind < 2 && route->entry < 64
@@ -2157,8 +2198,9 @@ static void (*const all[])(void) = {
     call_rewrite_placed_section, call_dynamic_types, call_dynamic_name, call_dynamic_words,
     call_entry_words, call_origins, call_static_words, call_got, call_join_flags,
     call_output_facts, call_interpreter, call_address_section, call_entry_relocation,
-    call_provided_symbol, call_provided_run,
-    call_provided_word, call_stub, call_write_stub, call_route_at, call_route_by_word,
+    call_provided_symbol, call_provided_run, call_provided_word, call_stub, call_write_stub,
+    call_lazy_plt, call_write_lazy_header, call_write_lazy_entry, call_lazy_words, call_route_at,
+    call_route_by_word,
     call_most_stubs, call_place_stubs, call_clui_rel_info, call_jal_site, call_jal_site_with, call_relax_call,
     call_tests, call_write_mov_sequence, call_write_address_sequence, call_write_ha_lo,
     call_u32_from_slice, call_u64_from_slice, call_read_u32, call_read_uleb128, call_write_uleb128,

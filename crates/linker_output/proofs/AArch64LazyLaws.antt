@@ -1,8 +1,8 @@
 -- AArch64's lazy PLT.
-use Rattle.std.proofs.Common.{◌≡◌, ℕ, ◌+◌, ◌-◌, ◌*◌, ◌/◌, ◌%◌, ◌^◌, ◌<◌, ◌≤◌, Bool, true, false, refl, sym, ◌∙◌, ap, subst, arith}
-use Rattle.std.proofs.Common.{List, [], ◌∷◌, ◌++◌, take, eqb, cond, Some, None, pos, negsuc, ◌+ℤ◌, ◌*ℤ◌}
+use Rattle.std.proofs.Common.{◌≡◌, ℕ, ◌+◌, ◌-◌, ◌*◌, ◌^◌, ◌<◌, ◌≤◌, Bool, true, false, refl, sym, ◌∙◌, ap, subst, arith}
+use Rattle.std.proofs.Common.{List, [], ◌∷◌, ◌++◌, take, eqb, cond, Some, pos, negsuc, ◌+ℤ◌}
 use Rattle.std.specs.Prelude.{◌||◌, ◌==◌, IsSomeAnd, nat_lt, if◌then◌else◌}
-use Rattle.std.specs.Int.{w64, from_le_bytes, cast_unsigned}
+use Rattle.std.specs.Int.{w64, from_le_bytes}
 use Rattle.std.proofs.lemmas.Bool.{cond-true, cond-false}
 use Rattle.std.proofs.lemmas.Int.{ints}
 use Rattle.linker_base.specs.Bits.{field}
@@ -24,10 +24,10 @@ use Rattle.linker_laws.proofs.AArch64Words.{IsAdrOf, IsOf, adrp_after, ldr_after
 use Rattle.linker_laws.proofs.RiscVMachine.{wrapped_is}
 use Rattle.linker_output.proofs.LazyRuns.{run_more, left_false, right_false, one_word, are_addresses_at}
 use Rattle.linker_output.proofs.StubWords.{applies, no_addend, at_place}
-use Rattle.linker_output.specs.AArch64LazyPlt.{step, further, run, pair_stored, pair_address, GoesTo, Asks, IsOffStack}
+use Rattle.linker_output.specs.AArch64LazyPlt.{step, further, run, pair_stored, pair_address, GoesTo, Asks}
 use Rattle.linker_output.specs.AArch64LazyPlt as laws
 use Rattle.linker_output.specs.LazyPlt.{IsCode, operands_at, header_places}
-use Rattle.linker_output.specs.LazyPlts.{aarch64_entry, aarch64_header, padded}
+use Rattle.linker_output.specs.LazyPlts.{aarch64_entry, padded}
 use Rattle.linker_output.specs.LazyRuns.{words, or_else}
 use Rattle.linker_output.specs.Tables.{field_of, code_of_words}
 use Rattle.linker_output.specs.declared.lazy_plt.LazyEntry.{LazyEntry}

@@ -1,5 +1,5 @@
 -- Pieces of a lazy PLT's code that are written one behind the other.
-use Rattle.std.proofs.Common.{ℕ, ◌≡◌, ◌≤◌, ◌+◌, ◌++◌, ◌∙◌, List, refl, sym, ap, arith, length, take, drop}
+use Rattle.std.proofs.Common.{ℕ, ◌≡◌, ◌≤◌, ◌+◌, ◌++◌, ◌∙◌, List, sym, ap, arith, length, take, drop}
 use Rattle.std.proofs.lemmas.List.{take-append-le, take-append-drop, length-take-le, drop_at, append_assoc}
 
 -- the bytes before a place, of those before a later one

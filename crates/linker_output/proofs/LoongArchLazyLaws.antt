@@ -1,6 +1,6 @@
 -- LoongArch's lazy PLT.
-use Rattle.std.proofs.Common.{◌≡◌, ◌≢◌, ℕ, ◌+◌, ◌-◌, ◌*◌, ◌/◌, ◌%◌, ◌^◌, ◌<◌, ◌≤◌, Bool, true, false, refl, sym, ◌∙◌, ap, subst, arith}
-use Rattle.std.proofs.Common.{List, [], ◌∷◌, ◌++◌, take, eqb, cond, ℤ, Some, None, pos, negsuc, ◌+ℤ◌, ◌*ℤ◌}
+use Rattle.std.proofs.Common.{◌≡◌, ◌≢◌, ℕ, ◌+◌, ◌*◌, ◌/◌, ◌^◌, ◌<◌, ◌≤◌, false, refl, sym, ◌∙◌, ap, subst, arith}
+use Rattle.std.proofs.Common.{List, [], ◌∷◌, ◌++◌, take, eqb, cond, Some, pos, negsuc, ◌+ℤ◌, ◌*ℤ◌}
 use Rattle.std.specs.Prelude.{◌||◌, ◌==◌, IsSomeAnd}
 use Rattle.std.proofs.lemmas.Bool.{ne_eqb, cond-true, cond-false}
 use Rattle.std.proofs.lemmas.Int.{ints}
@@ -10,7 +10,7 @@ use Rattle.linker_elf.specs.Value.{sum_64, difference_64}
 use Rattle.linker_elf.specs.declared.elf.value.Operands.{Operands}
 use Rattle.linker_elf.specs.declared.loongarch64.relocations.LoongArch64Relocation.TheVariants as r
 use Rattle.linker_laws.specs.LoongArchMachine as machine
-use Rattle.linker_laws.specs.LoongArchMachine.{State, read, write, go_on, go_to, next_pc, sum_of, register_target}
+use Rattle.linker_laws.specs.LoongArchMachine.{State, read, write, go_to, next_pc, sum_of, register_target}
 use Rattle.linker_laws.specs.LoongArchRelocationLaws as relocation_laws
 use Rattle.linker_loongarch64.specs.LoongArchRewrites.{rd_of, rj_of}
 use Rattle.linker_laws.specs.LoongArchRewriteLaws.{word_of}
@@ -24,9 +24,9 @@ use Rattle.linker_output.proofs.LazyRuns.{run_more, left_false, right_false, one
 use Rattle.linker_output.proofs.LoongArchStubLaws.{stays}
 use Rattle.linker_output.proofs.StubWords.{applies, no_addend, at_place}
 use Rattle.linker_output.specs.LazyPlt.{IsCode, operands_at, header_places}
-use Rattle.linker_output.specs.LazyPlts.{loongarch_entry, loongarch_header, padded}
+use Rattle.linker_output.specs.LazyPlts.{loongarch_entry, padded}
 use Rattle.linker_output.specs.LazyRuns.{words, or_else}
-use Rattle.linker_output.specs.LoongArchLazyPlt.{step, further, upper_address, run, GoesTo, Asks}
+use Rattle.linker_output.specs.LoongArchLazyPlt.{step, upper_address, run, GoesTo, Asks}
 use Rattle.linker_output.specs.LoongArchLazyPlt as laws
 use Rattle.linker_output.specs.Tables.{field_of, field_of_32, code_of_words}
 use Rattle.linker_output.specs.declared.lazy_plt.LazyEntry.{LazyEntry}

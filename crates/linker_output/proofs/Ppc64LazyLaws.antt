@@ -1,6 +1,6 @@
 -- PowerPC64's lazy PLT.
-use Rattle.std.proofs.Common.{◌≡◌, ℕ, ℤ, ◌+◌, ◌-◌, ◌*◌, ◌/◌, ◌%◌, ◌^◌, ◌<◌, ◌≤◌, Bool, true, false, refl, sym, ◌∙◌, ap, subst, arith}
-use Rattle.std.proofs.Common.{List, [], ◌∷◌, ◌++◌, take, drop, length, eqb, cond, Some, None, Option, pos, negsuc, ◌+ℤ◌, ◌*ℤ◌}
+use Rattle.std.proofs.Common.{◌≡◌, ℕ, ℤ, ◌+◌, ◌-◌, ◌*◌, ◌%◌, ◌^◌, ◌<◌, Bool, true, false, refl, sym, ◌∙◌, ap, subst, arith}
+use Rattle.std.proofs.Common.{List, [], ◌∷◌, ◌++◌, take, drop, length, eqb, cond, Some, pos, negsuc, ◌+ℤ◌, ◌*ℤ◌}
 use Rattle.std.specs.Prelude.{◌==◌, ◌&&◌, ◌||◌, IsSomeAnd, replicate}
 use Rattle.std.specs.Int.{w64, from_le_bytes, cast_unsigned}
 use Rattle.std.proofs.lemmas.Bool.{cond-true}
@@ -14,25 +14,23 @@ use Rattle.linker_elf.specs.Ppc64Relocations.{ppc64_name, ppc64_row}
 use Rattle.linker_elf.specs.Relocate.{InstructionWritten, number_of_bytes}
 use Rattle.linker_elf.specs.Value.{sum_64, difference_64}
 use Rattle.linker_elf.specs.declared.elf.RelocationInstruction.TheVariants.{Ppc64}
-use Rattle.linker_elf.specs.declared.elf.value.Operands.{Operands}
 use Rattle.linker_elf.specs.declared.ppc64.forms.Ppc64Instruction.TheVariants.{Branch24}
 use Rattle.linker_elf.specs.declared.ppc64.relocations.Ppc64Relocation.TheVariants as r
 use Rattle.linker_laws.specs.Machine.{loaded, moved, wrapped}
-use Rattle.linker_laws.specs.Ppc64Machine.{State, Formats, write, go_on, go_to, next_pc}
+use Rattle.linker_laws.specs.Ppc64Machine.{Formats, write, go_on, go_to}
 use Rattle.linker_laws.specs.Ppc64RelocationLaws.{Branches, Fields}
 use Rattle.linker_laws.specs.Ppc64RewriteLaws.{word_of}
 use Rattle.linker_laws.proofs.AArch64Words.{field_kept}
 use Rattle.linker_laws.proofs.RiscVMachine.{address_is, times_one, wrapped_is}
 use Rattle.linker_output.proofs.LazyRuns.{run_more, one_word, behind, are_addresses_at}
 use Rattle.linker_output.proofs.StubWords.{applies, no_addend, at_place}
-use Rattle.linker_output.specs.LazyPlt.{IsCode, operands_at, header_places}
-use Rattle.linker_output.specs.LazyPlts.{ppc64_entry, ppc64_header, padded}
+use Rattle.linker_output.specs.LazyPlt.{operands_at, header_places}
+use Rattle.linker_output.specs.LazyPlts.{padded}
 use Rattle.linker_output.specs.LazyRuns.{words, or_else}
 use Rattle.linker_output.specs.Ppc64LazyPlt.{step, run, is_b, lifted, rotated, Asks}
 use Rattle.linker_output.specs.Ppc64LazyPlt as laws
 use Rattle.linker_output.specs.Ppc64Stubs.{Counted, step_counted, with_state, moved_from_link, moved_to_link, linked, at_count}
 use Rattle.linker_output.specs.Tables.{field_of, code_of_words}
-use Rattle.linker_output.specs.declared.lazy_plt.LazyEntry.{LazyEntry}
 use Rattle.linker_output.specs.declared.lazy_plt.LazyField.{LazyField}
 use Rattle.linker_output.specs.declared.lazy_plt.LazyTarget.TheVariants.{Word, Header}
 use Rattle.linker_ppc64.specs.Ppc64Rewrites.{opcode_of}
@@ -102,7 +100,6 @@ module _ (f : Formats) (c : Counted) where
 
   pub c13 : Counted
   c13 = at_count c12
-
 
   -- the addition, and both loads, of which the displacements are numbers
   fifth : step f 0x380cffcc c5 ≡ Some c6

@@ -24,12 +24,11 @@ use Rattle.linker_output.proofs.LazyRuns.{run_more, left_false, right_false, one
 use Rattle.linker_output.proofs.RiscVStubLaws.{whole_number}
 use Rattle.linker_output.proofs.StubWords.{applies, no_addend, at_place}
 use Rattle.linker_output.specs.LazyPlt.{IsCode, operands_at, header_places}
-use Rattle.linker_output.specs.LazyPlts.{riscv_entry, riscv_header, padded}
+use Rattle.linker_output.specs.LazyPlts.{riscv_entry, padded}
 use Rattle.linker_output.specs.LazyRuns.{words, or_else}
 use Rattle.linker_output.specs.RiscVLazyPlt.{step, stepped, further, run, GoesTo, Asks}
 use Rattle.linker_output.specs.RiscVLazyPlt as laws
 use Rattle.linker_output.specs.declared.lazy_plt.LazyEntry.{LazyEntry}
-use Rattle.linker_output.specs.declared.lazy_plt.LazyField.{LazyField}
 use Rattle.linker_output.specs.declared.lazy_plt.LazyTarget.TheVariants.{Word}
 use Rattle.linker_output.specs.Tables.{field_of, code_of_words}
 use Rattle.linker_utils.specs.declared.elf.Architecture.TheVariants.{RiscV}

@@ -1,8 +1,7 @@
 -- AArch64: entries go to the address that their word has, and by the header to the dynamic linker's
 -- resolver (Arm Architecture Reference Manual for A-profile, DDI 0487, C6.2).
-use Rattle.std.specs.Prelude.{◌≡◌, ◌==◌, ◌&&◌, ◌||◌, ◌≤◌, ◌/◌, ◌^◌, ◌<◌, ℕ, List, Bool, false, Option, Some, None, ◌+ℤ◌, ◌*ℤ◌, pos}
+use Rattle.std.specs.Prelude.{◌≡◌, ◌==◌, ◌||◌, ◌≤◌, ◌/◌, ◌^◌, ◌<◌, ℕ, List, Bool, false, Option, Some, ◌+ℤ◌, ◌*ℤ◌, pos}
 use Rattle.std.specs.Prelude.{IsSomeAnd, if◌then◌else◌}
-use Rattle.std.specs.Int.{byte_at}
 use Rattle.linker_base.specs.Bits.{field, signed}
 use Rattle.linker_aarch64.specs.AArch64Rewrites.{rd_of, rn_of}
 use Rattle.linker_elf.specs.Value.{sum_64, difference_64}

@@ -1,6 +1,6 @@
 -- PowerPC64: an entry goes by the header to the dynamic linker's resolver (Power ISA, version 3.1, book
 -- I, "Branch Facility", "Fixed-Point Facility"; 64-bit ELF V2 ABI for Power, "Procedure Linkage Table").
-use Rattle.std.specs.Prelude.{◌≡◌, ◌==◌, ◌&&◌, ◌||◌, ◌+◌, ◌*◌, ◌/◌, ◌%◌, ◌-◌, ◌^◌, ◌<◌, ℕ, List, Bool, false, Option, Some, None, pos, ◌+ℤ◌}
+use Rattle.std.specs.Prelude.{◌≡◌, ◌==◌, ◌&&◌, ◌||◌, ◌+◌, ◌*◌, ◌/◌, ◌%◌, ◌-◌, ◌^◌, ◌<◌, ℕ, List, Bool, false, Option, Some, None}
 use Rattle.std.specs.Prelude.{IsSomeAnd, if◌then◌else◌, drop}
 use Rattle.linker_base.specs.Bits.{field}
 use Rattle.linker_elf.specs.Ppc64.{ppc64_form}

@@ -4,8 +4,8 @@
 //! machine that `linker_laws` has of it and a few further instructions, which are defined with the
 //! laws. From the address at which an entry of `LazyPlt::of` stands, with any registers, its code ends
 //! at the address that its word has. With what the word holds at first it goes on to the header, and
-//! the header to the resolver, which gets what the dynamic linkers of glibc and musl expect. Only
-//! registers that a call may change on its way have changed.
+//! the header to the resolver, which gets what glibc's dynamic linker expects. Only registers that a
+//! call may change on its way have changed.
 
 ghost use Rattle.linker_output.specs.AArch64LazyPlt as aarch64_plt;
 ghost use Rattle.linker_output.specs.LoongArchLazyPlt as loongarch_plt;

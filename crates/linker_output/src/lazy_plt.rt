@@ -5,7 +5,7 @@
 //! the function, that word leads on to the header, which jumps to the dynamic linker's resolver. Its
 //! address is in a word at the begin of `.got.plt`, where the dynamic linker puts it.
 
-ghost use Rattle.std.specs.Prelude.{◌≡◌, ◌+◌, ◌≤◌, length, min, IfSome, IfNone, IfOk, OnOk, IfErr, slice_get};
+ghost use Rattle.std.specs.Prelude.{◌≡◌, ◌+◌, ◌≤◌, length, min, IfOk, OnOk, IfErr};
 ghost use Rattle.linker_output.specs.LazyPlt.{view_plt, word_by, word_in, operands_at, WritesPieces};
 ghost use Rattle.linker_output.specs.LazyPlt.{piece_len, pieces_len, told_len, IsPiece, RejectsPiece};
 ghost use Rattle.linker_output.specs.LazyPlt.{RejectsPieces, WritesCode, RejectsCode, header_places};
@@ -85,6 +85,7 @@ pub struct LazyPlt {
 }
 
 /// What an entry is written from.
+#[repr(C)]
 #[derive(Debug, Clone, Copy, PartialEq, Eq)]
 pub struct LazyEntry {
     /// Its address.
@@ -139,7 +140,12 @@ fn piece_bytes(
 {
     let mut code = piece.code;
     if let Some(field) = &piece.field {
-        write_field(architecture, field.field, &field.operands(places), &mut code)?;
+        write_field(
+            architecture,
+            field.field,
+            &field.operands(places),
+            &mut code,
+        )?;
     }
     Ok(code)
 }

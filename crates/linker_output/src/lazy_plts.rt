@@ -39,11 +39,32 @@ pub(crate) static AARCH64: LazyPlt = LazyPlt {
         // `stp x16, x30, [sp, -16]!`
         fixed!([0xf0, 0x7b, 0xbf, 0xa9, 0, 0, 0, 0], 4),
         // `adrp x16, 0`
-        with_field!([0x10, 0, 0, 0x90, 0, 0, 0, 0], 4, field!(0, 275), Word, 4, 16),
+        with_field!(
+            [0x10, 0, 0, 0x90, 0, 0, 0, 0],
+            4,
+            field!(0, 275),
+            Word,
+            4,
+            16
+        ),
         // `ldr x17, [x16, 0]`
-        with_field!([0x11, 2, 0x40, 0xf9, 0, 0, 0, 0], 4, field!(0, 286), Word, 4, 16),
+        with_field!(
+            [0x11, 2, 0x40, 0xf9, 0, 0, 0, 0],
+            4,
+            field!(0, 286),
+            Word,
+            4,
+            16
+        ),
         // `add x16, x16, 0`
-        with_field!([0x10, 2, 0, 0x91, 0, 0, 0, 0], 4, field!(0, 277), Word, 4, 16),
+        with_field!(
+            [0x10, 2, 0, 0x91, 0, 0, 0, 0],
+            4,
+            field!(0, 277),
+            Word,
+            4,
+            16
+        ),
         // `br x17`, `nop`
         fixed!([0x20, 2, 0x1f, 0xd6, 0x1f, 0x20, 3, 0xd5], 8),
         // `nop`, `nop`
@@ -51,11 +72,32 @@ pub(crate) static AARCH64: LazyPlt = LazyPlt {
     ],
     entry: &[
         // `adrp x16, 0`
-        with_field!([0x10, 0, 0, 0x90, 0, 0, 0, 0], 4, field!(0, 275), Word, 0, 0),
+        with_field!(
+            [0x10, 0, 0, 0x90, 0, 0, 0, 0],
+            4,
+            field!(0, 275),
+            Word,
+            0,
+            0
+        ),
         // `ldr x17, [x16, 0]`
-        with_field!([0x11, 2, 0x40, 0xf9, 0, 0, 0, 0], 4, field!(0, 286), Word, 0, 0),
+        with_field!(
+            [0x11, 2, 0x40, 0xf9, 0, 0, 0, 0],
+            4,
+            field!(0, 286),
+            Word,
+            0,
+            0
+        ),
         // `add x16, x16, 0`
-        with_field!([0x10, 2, 0, 0x91, 0, 0, 0, 0], 4, field!(0, 277), Word, 0, 0),
+        with_field!(
+            [0x10, 2, 0, 0x91, 0, 0, 0, 0],
+            4,
+            field!(0, 277),
+            Word,
+            0,
+            0
+        ),
         // `br x17`
         fixed!([0x20, 2, 0x1f, 0xd6, 0, 0, 0, 0], 4),
     ],
@@ -69,15 +111,36 @@ pub(crate) static LOONGARCH64: LazyPlt = LazyPlt {
     alignment: 16,
     header: &[
         // `pcaddu12i $t2, 0`
-        with_field!([0xe, 0, 0, 0x1c, 0, 0, 0, 0], 4, field!(0, 121, -0x8000_0000, 0x8000_0000), Word, 0, 0),
+        with_field!(
+            [0xe, 0, 0, 0x1c, 0, 0, 0, 0],
+            4,
+            field!(0, 121, -0x8000_0000, 0x8000_0000),
+            Word,
+            0,
+            0
+        ),
         // `sub.d $t1, $t1, $t3`
         fixed!([0xad, 0xbd, 0x11, 0, 0, 0, 0, 0], 4),
         // `ld.d $t3, $t2, 0`
-        with_field!([0xcf, 1, 0xc0, 0x28, 0, 0, 0, 0], 4, field!(0, 123), Word, 0, 0),
+        with_field!(
+            [0xcf, 1, 0xc0, 0x28, 0, 0, 0, 0],
+            4,
+            field!(0, 123),
+            Word,
+            0,
+            0
+        ),
         // `addi.d $t1, $t1, -44`
         fixed!([0xad, 0x51, 0xff, 2, 0, 0, 0, 0], 4),
         // `addi.d $t0, $t2, 0`
-        with_field!([0xcc, 1, 0xc0, 2, 0, 0, 0, 0], 4, field!(0, 123), Word, 0, 0),
+        with_field!(
+            [0xcc, 1, 0xc0, 2, 0, 0, 0, 0],
+            4,
+            field!(0, 123),
+            Word,
+            0,
+            0
+        ),
         // `srli.d $t1, $t1, 1`, `ld.d $t0, $t0, 8`
         fixed!([0xad, 5, 0x45, 0, 0x8c, 0x21, 0xc0, 0x28], 8),
         // `jr $t3`
@@ -85,9 +148,23 @@ pub(crate) static LOONGARCH64: LazyPlt = LazyPlt {
     ],
     entry: &[
         // `pcaddu12i $t3, 0`
-        with_field!([0xf, 0, 0, 0x1c, 0, 0, 0, 0], 4, field!(0, 121, -0x8000_0000, 0x8000_0000), Word, 0, 0),
+        with_field!(
+            [0xf, 0, 0, 0x1c, 0, 0, 0, 0],
+            4,
+            field!(0, 121, -0x8000_0000, 0x8000_0000),
+            Word,
+            0,
+            0
+        ),
         // `ld.d $t3, $t3, 0`
-        with_field!([0xef, 1, 0xc0, 0x28, 0, 0, 0, 0], 4, field!(0, 123), Word, 0, 0),
+        with_field!(
+            [0xef, 1, 0xc0, 0x28, 0, 0, 0, 0],
+            4,
+            field!(0, 123),
+            Word,
+            0,
+            0
+        ),
         // `jirl $t1, $t3, 0`, `nop`
         fixed!([0xed, 1, 0, 0x4c, 0, 0, 0x40, 3], 8),
     ],

@@ -80,6 +80,7 @@ pub struct LazyPlt {
 }
 
 /// What an entry is written from.
+#[repr(C)]
 #[derive(Debug, Clone, Copy, PartialEq, Eq)]
 pub struct LazyEntry {
     /// Its address.
@@ -127,7 +128,12 @@ fn piece_bytes(
 ) -> Result<[u8; 8], RelocateError> {
     let mut code = piece.code;
     if let Some(field) = &piece.field {
-        write_field(architecture, field.field, &field.operands(places), &mut code)?;
+        write_field(
+            architecture,
+            field.field,
+            &field.operands(places),
+            &mut code,
+        )?;
     }
     Ok(code)
 }
