@@ -16,6 +16,7 @@ pub mod LongCalls
 pub mod LongCalls36
 pub mod LongSites
 pub mod LoongArch
+pub mod LoongArchItems
 pub mod Made
 pub mod MadeSites
 pub mod Multiples
@@ -27,6 +28,7 @@ pub mod Powers
 pub mod Reaches
 pub mod Reaching
 pub mod RiscV
+pub mod RiscVItems
 pub mod Rounds
 pub mod Same
 pub mod Shrunk
