@@ -18,6 +18,7 @@ pub mod LoongArchCalls36
 pub mod LoongArchMadeSites
 pub mod LoongArchReaches
 pub mod LoongArchWritable
+pub mod LoongArchItems
 pub mod Made
 pub mod MadeSites
 pub mod Multiples
@@ -35,6 +36,7 @@ pub mod RiscVLongCalls
 pub mod RiscVMadeSites
 pub mod RiscVReaches
 pub mod RiscVWritable
+pub mod RiscVItems
 pub mod Rounds
 pub mod Same
 pub mod Shrunk

@@ -8,15 +8,14 @@ use Rattle.linker_runs.specs.declared.relaxation.Item.{Item}
 use Rattle.linker_runs.specs.declared.relaxation.Item.TheVariants.{Site, Aligned}
 use Rattle.linker_runs.specs.declared.items.Relocation.{Relocation}
 use Rattle.linker_runs.specs.declared.packing.Machine.{Machine}
-use Rattle.linker_runs.specs.declared.shapes.loongarch64.TheConstants.{CALL36, PCALA}
 use Rattle.linker_runs.specs.declared.packing.Machine.TheVariants.{RiscV64, LoongArch64}
 use Rattle.linker_runs.specs.Relaxing.{offset_of, end_of}
 use Rattle.linker_runs.specs.Relocations.{relocation_at}
-use Rattle.linker_runs.specs.RiscVItems.{RiscVMakes, IsRiscVFormed}
-use Rattle.linker_runs.specs.LoongArchItems.{LoongArchMakes, IsCall36, IsPcala}
 use Rattle.linker_runs.specs.SectionItems.{Makes, IsFormed}
 use Rattle.linker_runs.specs.RewrittenItems.{AreListed, IsDeleted, ArePlaced, deleted_at, deleted_end}
 use Rattle.linker_runs.specs.RewrittenItems.AreListed.{none, left_out, made, deleted}
+use Rattle.linker_runs.proofs.RiscVItems.{riscv_within}
+use Rattle.linker_runs.proofs.LoongArchItems.{loongarch_within}
 use Rattle.linker_runs.specs.Inner.Listed.{Rewritten, AreListedIn}
 
 -- where a deletion is
@@ -34,26 +33,6 @@ drop_same_from xs ys n m below same =
     subst (λ k. drop k xs ≡ drop k ys) e (sym (drop-drop (m - n) n xs) ∙ ap (drop (m - n)) same ∙ drop-drop (m - n) n ys)
 
 -- ---- the item that a relocation makes
-
-riscv_within : (section : List ℕ) (base : ℕ) (relocations : List Relocation) (i : ℕ) (item : Item) → IsRiscVFormed section (relocation_at relocations i) → RiscVMakes section base relocations i item
-    → (offset_of item < end_of item) × (end_of item ≤ base + length section)
-riscv_within section base relocations i (Site call) formed makes =
-    let within = formed.call makes.name in
-    (omega (arith, makes.len), omega (arith, makes.len, makes.place, within))
-riscv_within section base relocations i (Aligned alignment) formed makes =
-    (omega (arith, makes.some), omega (arith, makes.place, makes.nops.inside))
-
-loongarch_within : (section : List ℕ) (base : ℕ) (relocations : List Relocation) (i : ℕ) (item : Item) → LoongArchMakes section base relocations i item
-    → (offset_of item < end_of item) × (end_of item ≤ base + length section)
-loongarch_within section base relocations i (Site here) makes =
-    let o = (relocation_at relocations i).offset in
-    let within : o + 8 ≤ length section = ⊎_elim
-        (λ (call : IsCall36 section relocations i × (here.shapes ≡ CALL36)). ⊎_elim (λ one. one.within) (λ jump. jump.within) call.0.call)
-        (λ (pair : IsPcala section relocations i × (here.shapes ≡ PCALA)). pair.0.pair.within)
-        makes.1 in
-    (omega (arith, makes.0.len), omega (arith, makes.0.len, makes.0.place, within))
-loongarch_within section base relocations i (Aligned alignment) makes =
-    (omega (arith, makes.some), omega (arith, makes.place, makes.nops.inside))
 
 -- it has bytes, and ends in the section
 pub made_within : (machine : Machine) (section : List ℕ) (base : ℕ) (relocations : List Relocation) (i : ℕ) (item : Item) → IsFormed machine section (relocation_at relocations i) → Makes machine section base relocations i item

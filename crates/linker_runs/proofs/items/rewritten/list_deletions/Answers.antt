@@ -37,9 +37,9 @@ loop-gone-preserved g c =
           let out = set c.loop-gone.out n x in
           let after = base + (at.0 + c.from.result) in
           let put = put_deleted f g.I.AsItem.is_written of i k n c.loop-gone.end after c.loop-gone.out c.loop-gone.makers x so_far
-              (omega (arith, so_far.few, few, c.requires.room, c.loop-gone.auto.out, c.loop-gone-test.true))
-              (omega (arith, so_far.few, few, c.requires.makers, c.loop-gone.auto.makers, c.loop-gone-test.true))
-              is c.from_item.ensures.form (omega (arith, all)) ends (λ more. omega (arith, end, next (omega (arith, more, all)))) in
+          (omega (arith, so_far.few, few, c.requires.room, c.loop-gone.auto.out, c.loop-gone-test.true))
+          (omega (arith, so_far.few, few, c.requires.makers, c.loop-gone.auto.makers, c.loop-gone-test.true))
+          is c.from_item.ensures.form (omega (arith, all)) ends (λ more. omega (arith, end, next (omega (arith, more, all)))) in
           subst (λ first. AreListedIn f g.I.AsItem.is_written of i (k + 1) (n + 1) after out (set c.loop-gone.makers n (first + k))) len put;
       others = drop-set-lt (n + 1) c.loop-gone.out n x (omega arith) ∙ drop_more_same c.loop-gone.out c.args.out.now n inv.others;
       makers_stay = drop-set-lt (n + 1) c.loop-gone.makers n _ (omega arith) ∙ drop_more_same c.loop-gone.makers c.args.makers.now n inv.makers_stay;

@@ -24,10 +24,10 @@ returns-clause-listed g c = λ m s rs len is before.
     let behind : all.result.end ≤ offset_of (f x) = omega (arith, c.if-offset-all.false, c.offset-3.ensures, ap offset_of there) in
     let end : after ≡ end_of item = omega (arith, c.offset-4.ensures, c.len.ensures) in
     let next : all.result.gone < length c.args.deleted.now → after ≤ base + (deleted_at ds all.result.gone).0 = λ more. ⊎_elim
-        (λ (cut : base + (deleted_at ds all.result.gone).0 < after). absurd (both_ways c.is_cut.result c.if-is_cut.false (c.is_cut.ensures.1 (more, omega (arith, cut, end)))))
-        (λ (clear : after ≤ base + (deleted_at ds all.result.gone).0). clear)
-        (cases_lt (base + (deleted_at ds all.result.gone).0) after) in
+    (λ (cut : base + (deleted_at ds all.result.gone).0 < after). absurd (both_ways c.is_cut.result c.if-is_cut.false (c.is_cut.ensures.1 (more, omega (arith, cut, end)))))
+    (λ (clear : after ≤ base + (deleted_at ds all.result.gone).0). clear)
+    (cases_lt (base + (deleted_at ds all.result.gone).0) after) in
     put_made f g.I.AsItem.is_written (record { machine = m; section = s; base = base; relocations = rs; deletions = ds }) i all.result.gone all.result.count all.result.end after all.new.out all.new.makers x so_far
-        (omega (arith, so_far.few, all.ensures.range.1, c.requires.index, c.requires.room, all.auto.out))
-        (omega (arith, so_far.few, all.ensures.range.1, c.requires.index, c.requires.makers, all.auto.makers))
-        made c.from_item.ensures.form behind (end ∙ sym (ap end_of there)) (λ more. next (omega (arith, more, count)))
+    (omega (arith, so_far.few, all.ensures.range.1, c.requires.index, c.requires.room, all.auto.out))
+    (omega (arith, so_far.few, all.ensures.range.1, c.requires.index, c.requires.makers, all.auto.makers))
+    made c.from_item.ensures.form behind (end ∙ sym (ap end_of there)) (λ more. next (omega (arith, more, count)))
