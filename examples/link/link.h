@@ -229,7 +229,8 @@ void place_outputs(void), set_addresses(void);
 void add_section(struct section *s), copy_section(struct section *s), sort_outputs(void);
 
 void rewrite_phase(uint32_t phase), rewrite_placed(void), require_all(void), make_entries(void);
-void read_relocations(struct section *s), write_entries(void), write_stubs(void), relax(void), relocate(struct output *o);
+void read_relocations(struct section *s), write_entries(void), write_stubs(void), relax(void);
+void relocate(void);
 bool is_of_addresses(const char *name), is_ifunc(const struct symbol *s), add_thunks(void);
 bool is_defined(const struct symbol *s), is_here(const struct symbol *s);
 uint64_t add_slot(struct symbol *s, uint32_t type);

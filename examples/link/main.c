@@ -131,7 +131,7 @@ int main(int argc, char **argv) {
     do place_outputs();
     while (add_thunks());
     relax();
-    for (size_t i = 0; i < outputs_len; i++) relocate(outputs[i]);
+    relocate();
     write_entries();
     write_stubs();
     index_frames();

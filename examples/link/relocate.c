@@ -125,19 +125,21 @@ static uint64_t number_of(const struct relocation *r) {
 
 /* Whether a machine's relocations change ULEB128 numbers that are there. */
 static bool changes_numbers(void) {
-    for (uint32_t type = 0; type < 256; type++)
-        if (linker_utils_uleb128_role(machine, type) == LINKER_UTILS_ROLE_ADDS) return true;
-    return false;
+    static uint32_t next;
+    static bool is_found;
+    for (; next < 256 && !is_found; next++)
+        is_found = linker_utils_uleb128_role(machine, next) == LINKER_UTILS_ROLE_ADDS;
+    return is_found;
 }
 
 /* Adds to a ULEB128 number or subtracts from it, each by itself and modulo what its bytes hold, as in
  * ld.lld. Whether the relocation does so. */
 static bool change_number(struct output *o, const struct relocation *r) {
-    uint32_t role = linker_utils_uleb128_role(machine, r->type);
+    uint32_t role = changes_numbers() ? linker_utils_uleb128_role(machine, r->type) : 0;
+    if (!role) return false;
     uint64_t number = 0, at = address_of(o, r->offset) - o->address;
     int64_t value = 0;
     size_t used = 0;
-    if (!role || !changes_numbers()) return false;
     struct alone a = alone_of(o, r);
     check(r, linker_utils_value_at(machine, &a.addresses, (const uint8_t *)&a.elf, sizeof a.elf,
                                    a.known, 2, 0, &value));
@@ -148,10 +150,11 @@ static bool change_number(struct output *o, const struct relocation *r) {
     return true;
 }
 
-/* Writes the values of relocations of one section. */
-static void relocate_some(struct output *o, const struct relocation *r, size_t len) {
-    const struct section *s = r->section;
-    uint64_t start = address_of(o, s->offset), end = address_of(o, s->end);
+/* Writes the values of a section's relocations. */
+static void relocate_section(const struct section *s) {
+    struct output *o = s->output;
+    const struct relocation *r = o->relocations + s->first;
+    uint64_t start = address_of(o, s->offset), end = address_of(o, s->end), len = s->relocations_len;
     size_t size = len * sizeof(Elf64_Rela), at = 0;
     Elf64_Rela *elf = take(len, sizeof *elf);
     for (size_t i = 0; i < len; i++) {
@@ -177,10 +180,8 @@ static void relocate_some(struct output *o, const struct relocation *r, size_t l
 }
 
 /* Writes all values. */
-void relocate(struct output *o) {
-    struct relocation *r = o->relocations, *end = r + o->relocations_len, *first;
-    for (first = r; first < end; first = r) {
-        while (r < end && r->section == first->section) r++;
-        if (first->section) relocate_some(o, first, (size_t)(r - first));
-    }
+void relocate(void) {
+    for (const struct object *o = objects; o; o = o->next)
+        for (const struct section *s = o->sections; s < o->sections + o->sections_len; s++)
+            if (s->relocations_len) relocate_section(s);
 }

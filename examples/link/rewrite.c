@@ -19,53 +19,47 @@ static bool is_code(const struct section *s) {
 static void note_facts(struct object *o) {
     for (size_t i = 1; i < o->symbols_len; i++) {
         const struct symbol *s = o->symbols[i];
-        o->values[i] = known_symbol(s);
+        if (o->values) o->values[i] = known_symbol(s);
         o->facts[i] = (struct linker_utils_symbol_facts){
             .is_local = !s->is_imported, .is_ifunc = is_ifunc(s) && s->output != stubs,
             .other = s->elf.st_other, .is_tls_get_addr = !strcmp(s->name, "__tls_get_addr")};
     }
 }
 
-/* Notes what a phase deletes of a section, each at the relocation there. */
-static void note_deleted(const Elf64_Rela *elf, struct relocation *r, size_t len,
-                         const struct linker_utils_deletion *deleted, size_t deleted_len) {
-    size_t found = 0;
-    for (size_t i = 0; i < len && found < deleted_len; i++)
-        if (elf[i].r_info && elf[i].r_offset == deleted[found].offset)
-            r[i].deleted = deleted[found++].bytes;
-    if (found < deleted_len) fail("%s deletes other bytes", place_of(r));
-}
-
 /* Rewrites a section of an object in a phase, or notes which groups of it stay. */
 static void rewrite_in(uint32_t phase, struct section *s, bool is_survey) {
     const struct object *o = s->object;
-    size_t count = o->symbols_len, len = s->relocations_len, used = 0, at = 0;
+    size_t count = o->symbols_len, values_len = o->values ? count : 0, used = 0, at = 0, found = 0;
+    size_t len = s->relocations_len;
     uint64_t start = address_of(s->output, s->offset), size = address_of(s->output, s->end) - start;
     uint8_t *bytes = s->output->bytes + (start - s->output->address);
     struct relocation *r = s->output->relocations + s->first;
     struct linker_utils_addresses addresses = addresses_of(start);
-    Elf64_Rela *elf = take(len, sizeof *elf);
+    static Elf64_Rela *elf; /* these are for one section after another */
+    static struct linker_utils_decision *decisions;
+    static struct linker_utils_deletion *deleted;
+    static size_t rooms[3];
+    elf = grow(elf, len, &rooms[0], sizeof *elf);
     for (size_t i = 0; i < len; i++)
         elf[i] = (Elf64_Rela){address_of(s->output, r[i].offset) - start,
                               ELF64_R_INFO((uint64_t)r[i].index, is_hidden(&r[i]) ? 0 : r[i].type),
                               r[i].addend};
     if (is_survey) {
         linker_utils_survey_placed_section(machine, phase, &linked, o->facts, count, &addresses,
-                                           o->values, count, (uint8_t *)elf, len * sizeof *elf, bytes,
-                                           size, o->kept, count);
+                                           o->values, values_len, (uint8_t *)elf, len * sizeof *elf,
+                                           bytes, size, o->kept, count);
         return;
     }
-    struct linker_utils_decision *decisions = take(len, sizeof *decisions);
-    struct linker_utils_deletion *deleted = take(len, sizeof *deleted);
+    decisions = grow(decisions, len, &rooms[1], sizeof *decisions);
+    deleted = grow(deleted, len, &rooms[2], sizeof *deleted);
     uint32_t status = linker_utils_rewrite_placed_section(
-        machine, phase, &linked, o->facts, count, &addresses, o->values, count, o->kept, count,
+        machine, phase, &linked, o->facts, count, &addresses, o->values, values_len, o->kept, count,
         (uint8_t *)elf, len * sizeof *elf, bytes, size, decisions, len, deleted, len, &used, &at);
     check(&r[at < len ? at : 0], status);
     for (size_t i = 0; i < len; i++, r++) {
-        if (decisions[i].fate == LINKER_UTILS_FATE_KEPT) {
-            elf[i].r_info = 0;
-            continue;
-        }
+        if (decisions[i].fate == LINKER_UTILS_FATE_KEPT) continue;
+        if (found < used && elf[i].r_offset == deleted[found].offset)
+            r->deleted = deleted[found++].bytes;
         r->offset += elf[i].r_offset - (address_of(s->output, r->offset) - start);
         r->type = ELF64_R_TYPE(elf[i].r_info);
         r->addend = elf[i].r_addend;
@@ -73,15 +67,15 @@ static void rewrite_in(uint32_t phase, struct section *s, bool is_survey) {
         r->index = decisions[i].symbol;
         r->symbol = o->symbols[r->index];
     }
-    note_deleted(elf, r - len, len, deleted, used);
+    if (found < used) fail("%s: %s: other bytes are to be deleted", o->path, s->name);
 }
 
 /* Whether compilers keep addresses in a section, beside the GOT. */
 bool is_of_addresses(const char *name) {
     static char known[LINKER_UTILS_NAME_SIZE + 1];
     size_t used;
-    return !linker_utils_address_section(machine, (uint8_t *)known, sizeof known - 1, &used) &&
-           !strcmp(name, known);
+    if (!*known) linker_utils_address_section(machine, (uint8_t *)known, sizeof known - 1, &used);
+    return *known && !strcmp(name, known);
 }
 
 static int by_offset(const void *left, const void *right) {
@@ -92,11 +86,12 @@ static int by_offset(const void *left, const void *right) {
 static struct relocation *word_of(const struct relocation *r) {
     const struct symbol *s = r->symbol;
     struct relocation key = {.type = 0}, *word;
-    if (linker_utils_entry_relocation(machine, r->type, &key.type) ||
-        s->object != r->section->object || s->elf.st_shndx >= s->object->sections_len)
+    if (s->object != r->section->object || s->elf.st_shndx >= s->object->sections_len)
         return NULL;
     const struct section *words = &s->object->sections[s->elf.st_shndx];
-    if (!words->output || !is_of_addresses(words->name)) return NULL;
+    if (!words->output || !is_of_addresses(words->name) ||
+        linker_utils_entry_relocation(machine, r->type, &key.type))
+        return NULL;
     key.offset = words->offset + s->elf.st_value + (uint64_t)r->addend;
     word = bsearch(&key, words->output->relocations + words->first, words->relocations_len,
                    sizeof key, by_offset);
@@ -150,11 +145,12 @@ static void rewrite_some(uint32_t phase, struct object *o, struct section *first
  * none is, as in ld.lld. */
 void rewrite_phase(uint32_t phase) {
     size_t step = phase == LINKER_UTILS_PHASE_GOT_LOADS ? 1 : SIZE_MAX;
+    bool is_early = phase == LINKER_UTILS_PHASE_EARLY;
     for (struct object *o = objects; o; o = o->next) {
-        o->facts = take(o->symbols_len, sizeof *o->facts);
-        o->values = take(o->symbols_len, sizeof *o->values);
-        o->kept = take(o->symbols_len + 1, sizeof *o->kept);
+        if (is_early) o->facts = take(o->symbols_len, sizeof *o->facts);
+        if (is_early) o->kept = take(o->symbols_len + 1, sizeof *o->kept);
         if (!linker_utils_has_rewrites(machine, phase)) continue;
+        if (!is_early && !o->values) o->values = take(o->symbols_len, sizeof *o->values);
         note_facts(o);
         for (size_t i = 0, len = o->sections_len; i < len; i += step < len - i ? step : len - i)
             rewrite_some(phase, o, o->sections + i, o->sections + (step < len - i ? i + step : len));
