@@ -83,6 +83,7 @@ pub mod rewriting {
 
 pub mod output {
     #![doc = include_str!("../doc/output.md")]
+    pub use crate::linker_output::addresses::{AddressSection, WordLoad};
     pub use crate::linker_output::dynamic::{DynamicType, DynamicTypes};
     pub use crate::linker_output::flags::FlagRules;
     pub use crate::linker_output::got::{
