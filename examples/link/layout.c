@@ -12,12 +12,13 @@ struct output *output_of(const char *name) {
     const char *kind = name; /* the last that matches; with a priority the name is its own */
     unsigned priority = UINT16_MAX + 1;
     for (size_t i = 0, len; i < sizeof kinds / sizeof *kinds; i++) {
-        if (strncmp(name, kinds[i], len = strlen(kinds[i]))) continue;
+        if (!*name || name[1] != kinds[i][1] || strncmp(name, kinds[i], len = strlen(kinds[i])))
+            continue;
         if (kinds[i][len - 1] == '.') priority = (unsigned)strtoul(name + len, NULL, 10);
         else if (!name[len] || name[len] == '.') kind = kinds[i];
     }
     for (size_t i = 0; i < outputs_len; i++)
-        if (!strcmp(outputs[i]->name, kind)) return outputs[i];
+        if (outputs[i]->name == kind || !strcmp(outputs[i]->name, kind)) return outputs[i];
     if (outputs_len == sizeof outputs / sizeof *outputs) fail("too many sections");
     struct output *o = outputs[outputs_len++] = take(1, sizeof *o);
     *o = (struct output){.name = kind, .align = 1, .priority = priority};
@@ -110,8 +111,21 @@ void add_section(struct section *s) {
     o->flags |= head->sh_flags;
     o->has_bytes |= has_bytes;
     o->shrinks |= alignment_type() && has_bytes && is_code && !(head->sh_flags & SHF_TLS);
+    if (has_bytes) o->room += head->sh_size + head->sh_addralign % MOST_ALIGN;
+    o->relocations_room += 1 + (s->relocations ? s->relocations->sh_size / sizeof(Elf64_Rela) : 0);
     if (o == frames)
         index_of->len += 8 * read_frames(s, s->object->bytes + head->sh_offset, NULL);
+}
+
+/* Makes room for all bytes and relocations that objects have, in one piece. */
+void reserve_outputs(void) {
+    for (size_t i = 0; i < outputs_len; i++) {
+        struct output *o = outputs[i];
+        if (o->room > MOST_BYTES) o->room = MOST_BYTES;
+        if (o->bytes) continue;
+        o->bytes = take(o->room, 1);
+        o->relocations = take(o->relocations_room, sizeof *o->relocations);
+    }
 }
 
 /* Copies a section to where it goes. The unwind information has no gaps: they would end it. */
@@ -239,10 +253,44 @@ void place_outputs(void) {
     set_addresses();
 }
 
+/* Counts the deltas before each block of a run, so that few are searched for an offset. */
+void index_deltas(struct run *run) {
+    const struct linker_utils_delta *deltas = run->deltas;
+    uint64_t last = run->deltas_len ? deltas[run->deltas_len - 1].input_offset : 0;
+    run->heads_len = linker_utils_deltas_block_count(deltas, run->deltas_len);
+    run->heads = take(run->heads_len, sizeof *run->heads);
+    linker_utils_deltas_heads(deltas, run->deltas_len, run->heads, run->heads_len);
+    while (last >> run->block > 2 * run->deltas_len) run->block++;
+    run->firsts_len = (size_t)(last >> run->block) + 2;
+    run->firsts = take(run->firsts_len, sizeof *run->firsts);
+    for (uint32_t i = 0, k = 0; i < run->firsts_len; run->firsts[i++] = k)
+        while (k < run->deltas_len && deltas[k].input_offset >> run->block < i) k++;
+}
+
 static uint64_t address_in(const struct run *run, uint64_t offset) {
     if (!run->deltas_len) return run->start + offset;
-    return run->start + linker_utils_deltas_input_to_output_by_heads(
-                            run->deltas, run->deltas_len, run->heads, run->heads_len, offset);
+    uint64_t block = offset >> run->block;
+    size_t at = run->firsts[block < run->firsts_len ? block : run->firsts_len - 1], end = at + 16;
+    if (end > run->deltas_len) end = run->deltas_len;
+    while (at < end && run->deltas[at].input_offset < offset) at++;
+    if (at == end && end < run->deltas_len)
+        return run->start + linker_utils_deltas_input_to_output_by_heads(
+                                run->deltas, run->deltas_len, run->heads, run->heads_len, offset);
+    if (!at) return run->start + offset;
+    const struct linker_utils_delta *before = &run->deltas[at - 1];
+    uint64_t past = offset - before->input_offset, bytes = before->bytes_deleted;
+    return run->start + offset - before->cumulative_deleted + (past < bytes ? bytes - past : 0);
+}
+
+/* How far the first and the last byte of the linked file are from each other. */
+int64_t span_of_outputs(void) {
+    uint64_t first = UINT64_MAX, end = 0;
+    for (size_t i = 0; i < outputs_len; i++) {
+        const struct output *o = outputs[i];
+        if (o->len && o->address < first) first = o->address;
+        if (o->len && o->address + o->len > end) end = o->address + o->len;
+    }
+    return (int64_t)(end - first);
 }
 
 /* Sets the addresses of the sections, by what the runs lose. */

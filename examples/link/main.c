@@ -12,21 +12,48 @@ uint16_t machine;
 uint32_t machine_flags;
 bool relaxes = true, has_short_offsets = false;
 
+static bool is_small(uint64_t count, size_t size) { return count < BLOCK / 16 / size; }
+
+/* Zeros. What is small is cut from blocks. */
 void *take(uint64_t count, size_t size) {
-    void *memory = calloc(count ? count : 1, size);
+    static uint8_t *block;
+    static size_t left;
+    size_t len = is_small(count, size) ? (count * size + 16) & ~(size_t)15 : 0;
+    if (len > left) block = NULL;
+    uint8_t *memory = block && len ? block : len ? calloc(BLOCK, 1) : calloc(count ? count : 1, size);
     if (!memory) fail("out of memory");
+    if (len && !block) left = BLOCK;
+    if (len) block = memory + len;
+    left -= len;
     return memory;
+}
+
+/* Gives back what was taken, if that is large. */
+void give_back(void *memory, uint64_t count, size_t size) {
+    if (BLOCK && !is_small(count, size)) free(memory);
+}
+
+/* Memory until the next call for the same use, with anything in it. */
+void *scratch(enum use use, uint64_t count, size_t size) {
+    static struct {
+        void *memory;
+        size_t room;
+    } uses[USES];
+    if (uses[use].room < count * size || !BLOCK) {
+        give_back(uses[use].memory, uses[use].room, 1);
+        uses[use].room = 2 * count * size;
+        uses[use].memory = take(uses[use].room + 1, 1);
+    }
+    return uses[use].memory;
 }
 
 /* An array with room for so many elements: twice as many where it has to grow. */
 void *grow(void *array, size_t need, size_t *room, size_t size) {
-    size_t old = *room;
-    if (need <= old) return array;
+    if (need <= *room) return array;
+    void *more = take(2 * need, size);
+    if (array) memcpy(more, array, *room * size);
     *room = 2 * need;
-    array = realloc(array, *room * size);
-    if (!array) fail("out of memory");
-    if (size == 1) memset((uint8_t *)array + old, 0, *room - old); /* (bytes begin as zeros) */
-    return array;
+    return more;
 }
 
 uint64_t round_up(uint64_t at, uint64_t align) { return (at + align - 1) & ~(align - 1); }
@@ -109,12 +136,13 @@ int main(int argc, char **argv) {
     list_symbols();
     for (struct object *o = objects; o; o = o->next)
         for (size_t i = 0; i < o->sections_len; i++) add_section(&o->sections[i]);
+    reserve_outputs();
     uint64_t index_len = index_of->len ? index_of->len + 12 : 0;
     index_of->len = 0;
     make_room(index_of, 4, index_len);
     define_symbols();
     if (is_dynamic) bind_symbols();
-    for (struct symbol *s = symbols; s; s = s->later) {
+    for (struct symbol *s = has_commons ? symbols : NULL; s; s = s->later) {
         if (s->elf.st_shndx != SHN_COMMON) continue; /* these are first in `.bss`, as in ld.lld */
         s->output = output_of(".bss");
         s->output->flags |= SHF_WRITE | SHF_ALLOC;
@@ -123,9 +151,9 @@ int main(int argc, char **argv) {
     for (struct object *o = objects; o; o = o->next)
         for (size_t i = 0; i < o->sections_len; i++) copy_section(&o->sections[i]);
     for (struct symbol *s = symbols; s; s = s->later) place_symbol(s);
-    rewrite_phase(LINKER_UTILS_PHASE_EARLY);
+    rewrite_phases(LINKER_UTILS_PHASE_EARLY, LINKER_UTILS_PHASE_EARLY);
     require_all();
-    make_imports();
+    if (is_dynamic) make_imports();
     make_entries();
     make_dynamic();
     do place_outputs();

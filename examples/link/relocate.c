@@ -6,16 +6,18 @@ struct tls tls;
 /* Reads the relocations of a section. */
 void read_relocations(struct section *s) {
     const struct object *o = s->object;
-    const Elf64_Rela *elf = copy_table(o, s->relocations, sizeof *elf, &s->relocations_len);
+    const uint8_t *bytes = bytes_of(o, s->relocations, sizeof(Elf64_Rela), &s->relocations_len);
     struct relocation *r = add_relocations(s->output, s->relocations_len);
     s->first = (size_t)(r - s->output->relocations);
-    for (size_t i = 0; i < s->relocations_len; i++, elf++) {
-        uint64_t index = ELF64_R_SYM(elf->r_info);
-        if (elf->r_offset > s->head->sh_size || index >= o->symbols_len)
+    for (size_t i = 0; i < s->relocations_len; i++) {
+        Elf64_Rela elf;
+        memcpy(&elf, bytes + i * sizeof elf, sizeof elf);
+        uint64_t index = ELF64_R_SYM(elf.r_info);
+        if (elf.r_offset > s->head->sh_size || index >= o->symbols_len)
             fail("%s: %s: a relocation is of no byte or no symbol", o->path, s->name);
         r[i] = (struct relocation){.section = s, .symbol = o->symbols[index],
-                                   .offset = s->offset + elf->r_offset, .addend = elf->r_addend,
-                                   .type = ELF64_R_TYPE(elf->r_info), .index = (uint32_t)index};
+                                   .offset = s->offset + elf.r_offset, .addend = elf.r_addend,
+                                   .type = ELF64_R_TYPE(elf.r_info), .index = (uint32_t)index};
     }
 }
 
@@ -117,8 +119,8 @@ static uint64_t number_of(const struct relocation *r) {
     bool has_entry = r->entry && r->entry != module_entry;
     uint32_t *number = has_entry ? &r->entry->number : &r->symbol->number;
     if (*number) return *number;
-    table = grow(table == &none ? NULL : table, table_len + 1, &table_room, sizeof *table);
-    table[0] = none;
+    if (table == &none) table = grow(NULL, symbols_len + 2, &table_room, sizeof *table);
+    table = grow(table, table_len + 1, &table_room, sizeof *table);
     table[table_len] = known_of(r);
     return *number = (uint32_t)table_len++;
 }
@@ -134,10 +136,10 @@ static bool changes_numbers(void) {
  * ld.lld. Whether the relocation does so. */
 static bool change_number(struct output *o, const struct relocation *r) {
     uint32_t role = linker_utils_uleb128_role(machine, r->type);
+    if (!role || !changes_numbers()) return false;
     uint64_t number = 0, at = address_of(o, r->offset) - o->address;
     int64_t value = 0;
     size_t used = 0;
-    if (!role || !changes_numbers()) return false;
     struct alone a = alone_of(o, r);
     check(r, linker_utils_value_at(machine, &a.addresses, (const uint8_t *)&a.elf, sizeof a.elf,
                                    a.known, 2, 0, &value));
@@ -153,15 +155,16 @@ static void relocate_some(struct output *o, const struct relocation *r, size_t l
     const struct section *s = r->section;
     uint64_t start = address_of(o, s->offset), end = address_of(o, s->end);
     size_t size = len * sizeof(Elf64_Rela), at = 0;
-    Elf64_Rela *elf = take(len, sizeof *elf);
+    Elf64_Rela *elf = scratch(USE_RELOCATIONS, len, sizeof *elf);
     for (size_t i = 0; i < len; i++) {
-        bool has_value = row_of(&r[i])->kind && !is_left_out(&r[i]) && !change_number(o, &r[i]);
+        bool is_there = r[i].symbol->output || !is_left_out(&r[i]);
+        bool has_value = row_of(&r[i])->kind && is_there && !change_number(o, &r[i]);
         elf[i] = (Elf64_Rela){address_of(o, r[i].offset) - start,
                               has_value ? ELF64_R_INFO(number_of(&r[i]), r[i].type) : 0, r[i].addend};
     }
     const uint8_t *relocations = (const uint8_t *)elf;
     size_t memory_len = linker_utils_relocate_memory(relocations, size);
-    uint64_t *memory = take(memory_len, sizeof *memory);
+    uint64_t *memory = scratch(USE_DECISIONS, memory_len, sizeof *memory);
     struct linker_utils_addresses addresses = addresses_of(start);
     uint32_t status = linker_utils_relocate_section(
         machine, &addresses, relocations, size, table, table_len, o->bytes + (start - o->address),
@@ -180,7 +183,8 @@ static void relocate_some(struct output *o, const struct relocation *r, size_t l
 void relocate(struct output *o) {
     struct relocation *r = o->relocations, *end = r + o->relocations_len, *first;
     for (first = r; first < end; first = r) {
-        while (r < end && r->section == first->section) r++;
+        for (; r < end && r->section == first->section; r++)
+            __builtin_prefetch(r->entry ? (void *)r->entry : r->symbol);
         if (first->section) relocate_some(o, first, (size_t)(r - first));
     }
 }

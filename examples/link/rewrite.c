@@ -4,10 +4,10 @@
 /* Whether the library is not shown a relocation: nothing here has its symbol, or it would be relaxed
  * where nothing is to be, as by a mark, which has no symbol. */
 static bool is_hidden(const struct relocation *r) {
-    const struct symbol *s = r->symbol;
-    if (!r->index) return !relaxes;
-    if (s->is_imported || !strcmp(s->name, "__tls_get_addr")) return false;
-    return !is_here(s) || (!relaxes && needs_of(r).entry_class == LINKER_UTILS_ENTRY_ADDRESS);
+    const struct object *o = r->section->object;
+    if (relaxes || !r->index) return r->index ? o->is_hidden[r->index] : !relaxes;
+    if (r->symbol->is_imported || o->facts[r->index].is_tls_get_addr) return false;
+    return o->is_hidden[r->index] || needs_of(r).entry_class == LINKER_UTILS_ENTRY_ADDRESS;
 }
 
 static bool is_code(const struct section *s) {
@@ -17,12 +17,15 @@ static bool is_code(const struct section *s) {
 /* Notes what is known of an object's symbols. An indirect function's address is known once it has a
  * stub. */
 static void note_facts(struct object *o) {
+    const struct symbol *tls_get_addr = *global("__tls_get_addr");
     for (size_t i = 1; i < o->symbols_len; i++) {
         const struct symbol *s = o->symbols[i];
         o->values[i] = known_symbol(s);
+        o->is_hidden[i] = !s->is_imported && s != tls_get_addr && !is_here(s);
+        o->is_threaded |= is_thread_local(s);
         o->facts[i] = (struct linker_utils_symbol_facts){
             .is_local = !s->is_imported, .is_ifunc = is_ifunc(s) && s->output != stubs,
-            .other = s->elf.st_other, .is_tls_get_addr = !strcmp(s->name, "__tls_get_addr")};
+            .other = s->elf.st_other, .is_tls_get_addr = s == tls_get_addr};
     }
 }
 
@@ -44,7 +47,7 @@ static void rewrite_in(uint32_t phase, struct section *s, bool is_survey) {
     uint8_t *bytes = s->output->bytes + (start - s->output->address);
     struct relocation *r = s->output->relocations + s->first;
     struct linker_utils_addresses addresses = addresses_of(start);
-    Elf64_Rela *elf = take(len, sizeof *elf);
+    Elf64_Rela *elf = scratch(USE_RELOCATIONS, len, sizeof *elf);
     for (size_t i = 0; i < len; i++)
         elf[i] = (Elf64_Rela){address_of(s->output, r[i].offset) - start,
                               ELF64_R_INFO((uint64_t)r[i].index, is_hidden(&r[i]) ? 0 : r[i].type),
@@ -55,8 +58,8 @@ static void rewrite_in(uint32_t phase, struct section *s, bool is_survey) {
                                            size, o->kept, count);
         return;
     }
-    struct linker_utils_decision *decisions = take(len, sizeof *decisions);
-    struct linker_utils_deletion *deleted = take(len, sizeof *deleted);
+    struct linker_utils_decision *decisions = scratch(USE_DECISIONS, len, sizeof *decisions);
+    struct linker_utils_deletion *deleted = scratch(USE_DELETED, len, sizeof *deleted);
     uint32_t status = linker_utils_rewrite_placed_section(
         machine, phase, &linked, o->facts, count, &addresses, o->values, count, o->kept, count,
         (uint8_t *)elf, len * sizeof *elf, bytes, size, decisions, len, deleted, len, &used, &at);
@@ -133,41 +136,64 @@ static void rewrite_loads(struct section *s, bool is_survey) {
     }
 }
 
-/* Rewrites some sections of an object in a phase, all of a group or none. */
-static void rewrite_some(uint32_t phase, struct object *o, struct section *first, struct section *end) {
-    bool stays = false; /* of the loads from the GOT one */
-    memset(o->kept, 0, o->symbols_len * sizeof *o->kept);
-    o->kept->got_load = phase == LINKER_UTILS_PHASE_EARLY; /* as in ld.lld */
-    for (int is_survey = 1; is_survey >= 0 && !stays; is_survey--) {
-        for (struct section *s = first; s < end; s++)
-            if (is_code(s)) rewrite_in(phase, s, is_survey);
-        for (size_t i = 0; i < o->symbols_len && phase == LINKER_UTILS_PHASE_GOT_LOADS; i++)
-            stays |= o->kept[i].got_load;
-    }
+/* Rewrites the loads from the GOT of a section, all or none, as in ld.lld. Of what is noted of groups
+ * only that of the section's relocations counts. */
+static void rewrite_got_loads(struct section *s) {
+    const struct relocation *first = s->output->relocations + s->first, *r;
+    const struct relocation *end = first + s->relocations_len;
+    struct linker_utils_kept_groups *kept = s->object->kept;
+    for (r = first; r < end; r++) memset(&kept[r->index], 0, sizeof *kept);
+    memset(kept, 0, sizeof *kept);
+    rewrite_in(LINKER_UTILS_PHASE_GOT_LOADS, s, true);
+    bool stays = kept->got_load;
+    for (r = first; r < end; r++) stays |= kept[r->index].got_load;
+    if (!stays) rewrite_in(LINKER_UTILS_PHASE_GOT_LOADS, s, false);
 }
 
-/* Rewrites the instructions of all code in a phase. Of a section all loads from the GOT are rewritten or
- * none is, as in ld.lld. */
-void rewrite_phase(uint32_t phase) {
-    size_t step = phase == LINKER_UTILS_PHASE_GOT_LOADS ? 1 : SIZE_MAX;
+/* Rewrites the instructions of an object in a phase, all of a group or none. */
+static void rewrite_object(uint32_t phase, struct object *o) {
+    struct section *end = o->sections + o->sections_len;
+    if (phase == LINKER_UTILS_PHASE_GOT_LOADS) {
+        for (struct section *s = o->sections; s < end; s++)
+            if (s->has_loads && is_code(s)) rewrite_got_loads(s);
+        return;
+    }
+    memset(o->kept, 0, o->symbols_len * sizeof *o->kept);
+    o->kept->got_load = phase == LINKER_UTILS_PHASE_EARLY; /* as in ld.lld */
+    for (int is_survey = 1; is_survey >= 0; is_survey--)
+        for (struct section *s = o->sections; s < end; s++)
+            if (is_code(s)) rewrite_in(phase, s, is_survey);
+}
+
+/* Rewrites the instructions of all code in some phases. */
+void rewrite_phases(uint32_t first, uint32_t last) {
     for (struct object *o = objects; o; o = o->next) {
-        o->facts = take(o->symbols_len, sizeof *o->facts);
-        o->values = take(o->symbols_len, sizeof *o->values);
-        o->kept = take(o->symbols_len + 1, sizeof *o->kept);
-        if (!linker_utils_has_rewrites(machine, phase)) continue;
-        note_facts(o);
-        for (size_t i = 0, len = o->sections_len; i < len; i += step < len - i ? step : len - i)
-            rewrite_some(phase, o, o->sections + i, o->sections + (step < len - i ? i + step : len));
+        if (!o->facts) {
+            o->facts = take(o->symbols_len, sizeof *o->facts);
+            o->is_hidden = take(o->symbols_len, sizeof *o->is_hidden);
+            o->kept = take(o->symbols_len + 1, sizeof *o->kept);
+        }
+        o->values = scratch(USE_VALUES, o->symbols_len + 1, sizeof *o->values);
+        o->values[0] = (struct linker_utils_symbol){.address = 0};
+        bool is_noted = false;
+        for (uint32_t phase = first; phase <= last; phase++) {
+            if (!linker_utils_has_rewrites(machine, phase)) continue;
+            if (!is_noted) note_facts(o);
+            is_noted = true;
+            if (phase != LINKER_UTILS_PHASE_THREAD_OFFSETS || o->is_threaded) rewrite_object(phase, o);
+        }
     }
 }
 
 /* Rewrites what waits for all addresses. */
 void rewrite_placed(void) {
+    uint8_t name[LINKER_UTILS_NAME_SIZE];
+    size_t used;
+    bool has_words = !linker_utils_address_section(machine, name, sizeof name, &used);
     if (!relaxes) return;
-    for (struct object *o = objects; o; o = o->next)
+    for (struct object *o = has_words ? objects : NULL; o; o = o->next)
         for (int is_survey = 1; is_survey >= 0; is_survey--)
             for (struct section *s = o->sections; s < o->sections + o->sections_len; s++)
                 if (is_code(s)) rewrite_loads(s, is_survey);
-    rewrite_phase(LINKER_UTILS_PHASE_GOT_LOADS);
-    rewrite_phase(LINKER_UTILS_PHASE_DISTANCES);
+    rewrite_phases(LINKER_UTILS_PHASE_GOT_LOADS, LINKER_UTILS_PHASE_DISTANCES);
 }
