@@ -78,7 +78,7 @@ static uint32_t alignment_type(void) {
  * ld.lld's; where code shrinks they are as long as may be needed, and a relocation cuts them. */
 uint64_t make_room(struct output *o, uint64_t align, uint64_t len) {
     uint64_t start = o->len, offset = align ? round_up(start, align) : start;
-    uint64_t unit = code_unit();
+    uint64_t unit = o->shrinks ? code_unit() : 0;
     if (len > MOST_BYTES || offset + len > MOST_BYTES) fail("section %s is too large", o->name);
     if (align & (align - 1) || align > MOST_ALIGN) fail("section %s can't be aligned so", o->name);
     if (o->shrinks && start && align > unit) {

@@ -279,4 +279,9 @@ Elf64_Sym symbol_of(const struct symbol *s);
 uint64_t read_frames(const struct section *s, const uint8_t *bytes, uint8_t *rows);
 void index_frames(void), write_file(const char *path, uint64_t entry, bool has_symbols);
 
+/* The offset of a relocation in its section, which is at an address. */
+static inline uint64_t offset_in(const struct section *s, const struct relocation *r, uint64_t start) {
+    return s->output->shrinks ? address_of(s->output, r->offset) - start : r->offset - s->offset;
+}
+
 #endif

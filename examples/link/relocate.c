@@ -159,7 +159,7 @@ static void relocate_some(struct output *o, const struct relocation *r, size_t l
     for (size_t i = 0; i < len; i++) {
         bool is_there = r[i].symbol->output || !is_left_out(&r[i]);
         bool has_value = row_of(&r[i])->kind && is_there && !change_number(o, &r[i]);
-        elf[i] = (Elf64_Rela){address_of(o, r[i].offset) - start,
+        elf[i] = (Elf64_Rela){offset_in(s, &r[i], start),
                               has_value ? ELF64_R_INFO(number_of(&r[i]), r[i].type) : 0, r[i].addend};
     }
     const uint8_t *relocations = (const uint8_t *)elf;

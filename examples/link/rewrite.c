@@ -49,7 +49,7 @@ static void rewrite_in(uint32_t phase, struct section *s, bool is_survey) {
     struct linker_utils_addresses addresses = addresses_of(start);
     Elf64_Rela *elf = scratch(USE_RELOCATIONS, len, sizeof *elf);
     for (size_t i = 0; i < len; i++)
-        elf[i] = (Elf64_Rela){address_of(s->output, r[i].offset) - start,
+        elf[i] = (Elf64_Rela){offset_in(s, &r[i], start),
                               ELF64_R_INFO((uint64_t)r[i].index, is_hidden(&r[i]) ? 0 : r[i].type),
                               r[i].addend};
     if (is_survey) {
@@ -69,7 +69,7 @@ static void rewrite_in(uint32_t phase, struct section *s, bool is_survey) {
             elf[i].r_info = 0;
             continue;
         }
-        r->offset += elf[i].r_offset - (address_of(s->output, r->offset) - start);
+        r->offset += elf[i].r_offset - offset_in(s, r, start);
         r->type = ELF64_R_TYPE(elf[i].r_info);
         r->addend = elf[i].r_addend;
         if (decisions[i].fate != LINKER_UTILS_FATE_REDIRECTED) continue;

@@ -25,7 +25,7 @@ static struct cell *cell_in(const struct table *t, uint32_t hash, const char *na
 uint32_t hash_of(const char *name) {
     uint32_t hash = 5381;
     for (; *name; name++) hash = hash * 33 + (unsigned char)*name;
-    hash *= 0x9e3779b1;
+    hash *= 2654435769; /* 2^32 over the golden ratio */
     return hash ^ hash >> 15;
 }
 
