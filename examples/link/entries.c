@@ -185,14 +185,14 @@ static struct symbol *thunk_to(struct output *o, struct symbol *s, uint64_t abov
     return s->thunks = t;
 }
 
-/* Whether a branch reaches a function of this file, which expects no more than others, wherever both are
- * in a file of a length. */
-static bool is_near(const struct relocation *r, int64_t span) {
+/* Whether a branch reaches a function of this file, which expects no more than others, wherever
+ * both are. */
+static bool is_near(const struct relocation *r) {
     const struct symbol *s = r->symbol;
     struct linker_utils_relocation_reach reach;
     check(r, linker_utils_reach(machine, r->type, &reach));
     return s->output && s->offset <= s->output->len && !s->has_stub && !r->addend &&
-           !(s->elf.st_other & ~3) && (!reach.has_range || span < reach.max / 2);
+           !(s->elf.st_other & ~3) && (!reach.has_range || span < (uint64_t)reach.max / 2);
 }
 
 /* Adds a thunk for each branch in code that doesn't reach its target, or whose function expects other
@@ -202,13 +202,12 @@ bool add_thunks(void) {
     struct linker_utils_stub stub;
     struct linker_utils_route route;
     if (linker_utils_stub(machine, LINKER_UTILS_STUB_JUMP, &stub)) return false;
-    int64_t span = span_of_outputs();
     for (size_t i = 0; i < outputs_len; i++) {
         struct output *o = outputs[i];
         size_t len = o->flags & SHF_EXECINSTR ? o->relocations_len : 0;
         for (size_t j = 0; j < len; j++) {
             struct relocation *r = &o->relocations[j];
-            if (!r->may_use_stub || r->symbol->is_thunk || is_left_out(r) || is_near(r, span)) continue;
+            if (!r->may_use_stub || r->symbol->is_thunk || is_left_out(r) || is_near(r)) continue;
             struct alone a = alone_of(o, r);
             uint32_t status = linker_utils_route_at(machine, &a.addresses, (const uint8_t *)&a.elf,
                                                     sizeof a.elf, a.known, 2, 0, o->bytes, o->len, &route);

@@ -3,6 +3,7 @@
 
 struct output *outputs[256];
 size_t outputs_len;
+uint64_t span;
 
 /* The section of the linked file that a section of an object goes into. */
 struct output *output_of(const char *name) {
@@ -121,9 +122,7 @@ void add_section(struct section *s) {
 void reserve_outputs(void) {
     for (size_t i = 0; i < outputs_len; i++) {
         struct output *o = outputs[i];
-        if (o->room > MOST_BYTES) o->room = MOST_BYTES;
-        if (o->bytes) continue;
-        o->bytes = take(o->room, 1);
+        if (!o->bytes) o->bytes = take(o->room, 1);
         o->relocations = take(o->relocations_room, sizeof *o->relocations);
     }
 }
@@ -257,9 +256,6 @@ void place_outputs(void) {
 void index_deltas(struct run *run) {
     const struct linker_utils_delta *deltas = run->deltas;
     uint64_t last = run->deltas_len ? deltas[run->deltas_len - 1].input_offset : 0;
-    run->heads_len = linker_utils_deltas_block_count(deltas, run->deltas_len);
-    run->heads = take(run->heads_len, sizeof *run->heads);
-    linker_utils_deltas_heads(deltas, run->deltas_len, run->heads, run->heads_len);
     while (last >> run->block > 2 * run->deltas_len) run->block++;
     run->firsts_len = (size_t)(last >> run->block) + 2;
     run->firsts = take(run->firsts_len, sizeof *run->firsts);
@@ -274,39 +270,30 @@ static uint64_t address_in(const struct run *run, uint64_t offset) {
     if (end > run->deltas_len) end = run->deltas_len;
     while (at < end && run->deltas[at].input_offset < offset) at++;
     if (at == end && end < run->deltas_len)
-        return run->start + linker_utils_deltas_input_to_output_by_heads(
-                                run->deltas, run->deltas_len, run->heads, run->heads_len, offset);
+        return run->start + linker_utils_deltas_input_to_output(run->deltas, run->deltas_len, offset);
     if (!at) return run->start + offset;
     const struct linker_utils_delta *before = &run->deltas[at - 1];
     uint64_t past = offset - before->input_offset, bytes = before->bytes_deleted;
     return run->start + offset - before->cumulative_deleted + (past < bytes ? bytes - past : 0);
 }
 
-/* How far the first and the last byte of the linked file are from each other. */
-int64_t span_of_outputs(void) {
-    uint64_t first = UINT64_MAX, end = 0;
-    for (size_t i = 0; i < outputs_len; i++) {
-        const struct output *o = outputs[i];
-        if (o->len && o->address < first) first = o->address;
-        if (o->len && o->address + o->len > end) end = o->address + o->len;
-    }
-    return (int64_t)(end - first);
-}
-
 /* Sets the addresses of the sections, by what the runs lose. */
 void set_addresses(void) {
     const struct output *first = NULL;
-    uint64_t align = 1;
+    uint64_t align = 1, least = UINT64_MAX, most = 0;
     tls.image = tls.len = 0;
     for (size_t i = 0; i < outputs_len; i++) {
         struct output *o = outputs[i];
         o->address = address_in(o->run, o->base);
+        least = o->address < least ? o->address : least;
+        most = o->address + o->len > most ? o->address + o->len : most;
         if (!(o->flags & SHF_TLS)) continue;
         if (!first) tls.image = (first = o)->address;
         o->address = tls.image + (o->base - first->base);
         tls.len = o->address + o->len - tls.image;
         if (o->align > align) align = o->align;
     }
+    span = most - least;
     tls.align = align;
     uint64_t past = tls.image % align; /* (0 once code is shorter) */
     linker_utils_origins(machine, tls.image - past, tls.len, align, &tls.origins);

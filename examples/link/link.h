@@ -46,9 +46,6 @@
 enum { RANK_HEADERS, RANK_FIXED, RANK_CODE, RANK_TLS, RANK_TLS_BSS, RANK_ARRAYS, RANK_RELOCATED = 8,
        RANK_GOT, RANK_DATA = RANK_GOT + 2, RANK_SMALL_DATA, RANK_BSS };
 
-/* what memory is used for again and again */
-enum use { USE_RELOCATIONS, USE_DECISIONS, USE_DELETED, USE_VALUES, USES };
-
 #define fail(...) (fprintf(stderr, __VA_ARGS__), fputc('\n', stderr), exit(1))
 
 /* Sections that are relaxed together, one behind the other from `start` on: all of the linked file,
@@ -57,9 +54,8 @@ enum use { USE_RELOCATIONS, USE_DECISIONS, USE_DELETED, USE_VALUES, USES };
 struct run {
     uint64_t start;
     struct linker_utils_delta *deltas;
-    struct linker_utils_block_head *heads; /* of the deltas */
     uint32_t *firsts; /* of each block of bytes: how many deltas are before it */
-    size_t deltas_len, heads_len, firsts_len;
+    size_t deltas_len, firsts_len;
     unsigned block; /* the exponent of two of its length */
 };
 
@@ -206,22 +202,20 @@ extern const char *own_name; /* of a shared library, by `-soname`; null where it
 extern bool relaxes; /* whether instructions are rewritten that need not be */
 extern bool has_short_offsets; /* and PowerPC64's local-exec, which ld.lld leaves */
 extern struct object *objects; /* in the order in which they are read */
-extern bool has_commons;       /* whether one of them has symbols without a section for them */
 extern struct symbol *symbols; /* all that objects mention, in their order */
-extern size_t symbols_len;     /* how many these are */
 extern struct symbol *module_base; /* `_TLS_MODULE_BASE_`; null where no object requires it */
 extern struct library *libraries; /* in their order */
 extern struct linker_utils_dynamic_types types;
 extern struct output *outputs[256], *headers, *got, *stubs, *slots, *rela, *frames, *index_of;
 extern struct output *interpreter, *dynamic; /* null where there is none */
 extern size_t outputs_len;
+extern uint64_t span; /* of the linked file's addresses */
 extern struct tls tls;
 extern struct entry *module_entry; /* of the GOT; null where no relocation requires it */
 
 static inline int order(uint64_t a, uint64_t b) { return a < b ? -1 : a > b; }
 
-void *take(uint64_t count, size_t size), *scratch(enum use use, uint64_t count, size_t size);
-void *grow(void *array, size_t need, size_t *room, size_t size);
+void *take(uint64_t count, size_t size), *grow(void *array, size_t need, size_t *room, size_t size);
 void give_back(void *memory, uint64_t count, size_t size);
 uint64_t round_up(uint64_t at, uint64_t align);
 const char *place_of(const struct relocation *r);
@@ -252,10 +246,8 @@ struct output *own_section(const char *name, uint64_t flags, bool has_bytes);
 struct relocation *add_relocations(struct output *o, size_t len);
 uint64_t code_unit(void), make_room(struct output *o, uint64_t align, uint64_t len);
 uint64_t address_of(const struct output *o, uint64_t offset);
-int64_t span_of_outputs(void);
 void place_outputs(void), index_deltas(struct run *run), set_addresses(void);
-void add_section(struct section *s), copy_section(struct section *s), sort_outputs(void);
-void reserve_outputs(void);
+void add_section(struct section *s), reserve_outputs(void), copy_section(struct section *s), sort_outputs(void);
 
 void rewrite_phases(uint32_t first, uint32_t last), rewrite_placed(void), require_all(void), make_entries(void);
 void read_relocations(struct section *s), write_entries(void), write_stubs(void), relax(void), relocate(struct output *o);

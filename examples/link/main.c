@@ -12,39 +12,32 @@ uint16_t machine;
 uint32_t machine_flags;
 bool relaxes = true, has_short_offsets = false;
 
-static bool is_small(uint64_t count, size_t size) { return count < BLOCK / 16 / size; }
+static uint8_t *block; /* of memory, and how much of it is left */
+static size_t left;
 
-/* Zeros. What is small is cut from blocks. */
+/* How much of a block so many elements take; 0 where they are too large for that. */
+static size_t len_in_block(uint64_t count, size_t size) {
+    return count < BLOCK / 16 / size ? (count * size + 16) & ~(size_t)15 : 0;
+}
+
+/* Memory that is all zeros. */
 void *take(uint64_t count, size_t size) {
-    static uint8_t *block;
-    static size_t left;
-    size_t len = is_small(count, size) ? (count * size + 16) & ~(size_t)15 : 0;
-    if (len > left) block = NULL;
-    uint8_t *memory = block && len ? block : len ? calloc(BLOCK, 1) : calloc(count ? count : 1, size);
+    size_t len = len_in_block(count, size);
+    if (len > left) block = take(left = BLOCK, 1);
+    void *memory = len ? block : calloc(count ? count : 1, size);
     if (!memory) fail("out of memory");
-    if (len && !block) left = BLOCK;
-    if (len) block = memory + len;
+    if (len) block += len;
     left -= len;
     return memory;
 }
 
-/* Gives back what was taken, if that is large. */
+/* Gives back what was taken last, or what is large. */
 void give_back(void *memory, uint64_t count, size_t size) {
-    if (BLOCK && !is_small(count, size)) free(memory);
-}
-
-/* Memory until the next call for the same use, with anything in it. */
-void *scratch(enum use use, uint64_t count, size_t size) {
-    static struct {
-        void *memory;
-        size_t room;
-    } uses[USES];
-    if (uses[use].room < count * size || !BLOCK) {
-        give_back(uses[use].memory, uses[use].room, 1);
-        uses[use].room = 2 * count * size;
-        uses[use].memory = take(uses[use].room + 1, 1);
-    }
-    return uses[use].memory;
+    size_t len = len_in_block(count, size);
+    if (BLOCK && !len) free(memory);
+    if (!len || (uint8_t *)memory + len != block) return;
+    block = memset(memory, 0, len);
+    left += len;
 }
 
 /* An array with room for so many elements: twice as many where it has to grow. */
@@ -52,6 +45,7 @@ void *grow(void *array, size_t need, size_t *room, size_t size) {
     if (need <= *room) return array;
     void *more = take(2 * need, size);
     if (array) memcpy(more, array, *room * size);
+    if (array) give_back(array, *room, size);
     *room = 2 * need;
     return more;
 }
@@ -142,7 +136,7 @@ int main(int argc, char **argv) {
     make_room(index_of, 4, index_len);
     define_symbols();
     if (is_dynamic) bind_symbols();
-    for (struct symbol *s = has_commons ? symbols : NULL; s; s = s->later) {
+    for (struct symbol *s = symbols; s; s = s->later) {
         if (s->elf.st_shndx != SHN_COMMON) continue; /* these are first in `.bss`, as in ld.lld */
         s->output = output_of(".bss");
         s->output->flags |= SHF_WRITE | SHF_ALLOC;

@@ -2,7 +2,6 @@
 #include "link.h"
 
 struct object *objects;
-bool has_commons;
 static struct object **objects_end = &objects;
 static struct object *reading; /* a stack of those whose undefined symbols are to be looked up */
 
@@ -89,7 +88,6 @@ static void read_symbols(struct object *o, const Elf64_Shdr *head) {
         if (type == STT_TLS && at && has_section && !(o->heads[at].sh_flags & SHF_TLS))
             fail("%s: %s: '%s' is thread-local in a section that is not", o->path,
                  o->sections[at].name, name);
-        has_commons |= at == SHN_COMMON;
         if (bind == STB_LOCAL) *(o->symbols[i] = local++) = mention(o, i);
         else expect(o->hashes[i] = hash_of(name));
     }

@@ -119,8 +119,7 @@ static uint64_t number_of(const struct relocation *r) {
     bool has_entry = r->entry && r->entry != module_entry;
     uint32_t *number = has_entry ? &r->entry->number : &r->symbol->number;
     if (*number) return *number;
-    if (table == &none) table = grow(NULL, symbols_len + 2, &table_room, sizeof *table);
-    table = grow(table, table_len + 1, &table_room, sizeof *table);
+    table = grow(table == &none ? NULL : table, table_len + 1, &table_room, sizeof *table);
     table[table_len] = known_of(r);
     return *number = (uint32_t)table_len++;
 }
@@ -155,7 +154,7 @@ static void relocate_some(struct output *o, const struct relocation *r, size_t l
     const struct section *s = r->section;
     uint64_t start = address_of(o, s->offset), end = address_of(o, s->end);
     size_t size = len * sizeof(Elf64_Rela), at = 0;
-    Elf64_Rela *elf = scratch(USE_RELOCATIONS, len, sizeof *elf);
+    Elf64_Rela *elf = take(len, sizeof *elf);
     for (size_t i = 0; i < len; i++) {
         bool is_there = r[i].symbol->output || !is_left_out(&r[i]);
         bool has_value = row_of(&r[i])->kind && is_there && !change_number(o, &r[i]);
@@ -164,7 +163,7 @@ static void relocate_some(struct output *o, const struct relocation *r, size_t l
     }
     const uint8_t *relocations = (const uint8_t *)elf;
     size_t memory_len = linker_utils_relocate_memory(relocations, size);
-    uint64_t *memory = scratch(USE_DECISIONS, memory_len, sizeof *memory);
+    uint64_t *memory = take(memory_len, sizeof *memory);
     struct linker_utils_addresses addresses = addresses_of(start);
     uint32_t status = linker_utils_relocate_section(
         machine, &addresses, relocations, size, table, table_len, o->bytes + (start - o->address),
@@ -177,6 +176,8 @@ static void relocate_some(struct output *o, const struct relocation *r, size_t l
         fail("%s out of reach: %" PRId64 " is not in [%" PRId64 ", %" PRId64 "), to '%s'",
              place_of(&r[at]), value, reach.min, reach.max, r[at].symbol->name);
     check(&r[at], status);
+    give_back(memory, memory_len, sizeof *memory);
+    give_back(elf, len, sizeof *elf);
 }
 
 /* Writes all values. */

@@ -16,8 +16,7 @@ static bool is_code(const struct section *s) {
 
 /* Notes what is known of an object's symbols. An indirect function's address is known once it has a
  * stub. */
-static void note_facts(struct object *o) {
-    const struct symbol *tls_get_addr = *global("__tls_get_addr");
+static void note_facts(struct object *o, const struct symbol *tls_get_addr) {
     for (size_t i = 1; i < o->symbols_len; i++) {
         const struct symbol *s = o->symbols[i];
         o->values[i] = known_symbol(s);
@@ -47,7 +46,7 @@ static void rewrite_in(uint32_t phase, struct section *s, bool is_survey) {
     uint8_t *bytes = s->output->bytes + (start - s->output->address);
     struct relocation *r = s->output->relocations + s->first;
     struct linker_utils_addresses addresses = addresses_of(start);
-    Elf64_Rela *elf = scratch(USE_RELOCATIONS, len, sizeof *elf);
+    Elf64_Rela *elf = take(len, sizeof *elf);
     for (size_t i = 0; i < len; i++)
         elf[i] = (Elf64_Rela){offset_in(s, &r[i], start),
                               ELF64_R_INFO((uint64_t)r[i].index, is_hidden(&r[i]) ? 0 : r[i].type),
@@ -56,10 +55,11 @@ static void rewrite_in(uint32_t phase, struct section *s, bool is_survey) {
         linker_utils_survey_placed_section(machine, phase, &linked, o->facts, count, &addresses,
                                            o->values, count, (uint8_t *)elf, len * sizeof *elf, bytes,
                                            size, o->kept, count);
+        give_back(elf, len, sizeof *elf);
         return;
     }
-    struct linker_utils_decision *decisions = scratch(USE_DECISIONS, len, sizeof *decisions);
-    struct linker_utils_deletion *deleted = scratch(USE_DELETED, len, sizeof *deleted);
+    struct linker_utils_decision *decisions = take(len, sizeof *decisions);
+    struct linker_utils_deletion *deleted = take(len, sizeof *deleted);
     uint32_t status = linker_utils_rewrite_placed_section(
         machine, phase, &linked, o->facts, count, &addresses, o->values, count, o->kept, count,
         (uint8_t *)elf, len * sizeof *elf, bytes, size, decisions, len, deleted, len, &used, &at);
@@ -77,6 +77,9 @@ static void rewrite_in(uint32_t phase, struct section *s, bool is_survey) {
         r->symbol = o->symbols[r->index];
     }
     note_deleted(elf, r - len, len, deleted, used);
+    give_back(deleted, len, sizeof *deleted);
+    give_back(decisions, len, sizeof *decisions);
+    give_back(elf, len, sizeof *elf);
 }
 
 /* Whether compilers keep addresses in a section, beside the GOT. */
@@ -167,21 +170,22 @@ static void rewrite_object(uint32_t phase, struct object *o) {
 
 /* Rewrites the instructions of all code in some phases. */
 void rewrite_phases(uint32_t first, uint32_t last) {
+    const struct symbol *tls_get_addr = *global("__tls_get_addr");
     for (struct object *o = objects; o; o = o->next) {
         if (!o->facts) {
             o->facts = take(o->symbols_len, sizeof *o->facts);
             o->is_hidden = take(o->symbols_len, sizeof *o->is_hidden);
             o->kept = take(o->symbols_len + 1, sizeof *o->kept);
         }
-        o->values = scratch(USE_VALUES, o->symbols_len + 1, sizeof *o->values);
-        o->values[0] = (struct linker_utils_symbol){.address = 0};
+        o->values = take(o->symbols_len, sizeof *o->values);
         bool is_noted = false;
         for (uint32_t phase = first; phase <= last; phase++) {
             if (!linker_utils_has_rewrites(machine, phase)) continue;
-            if (!is_noted) note_facts(o);
+            if (!is_noted) note_facts(o, tls_get_addr);
             is_noted = true;
             if (phase != LINKER_UTILS_PHASE_THREAD_OFFSETS || o->is_threaded) rewrite_object(phase, o);
         }
+        give_back(o->values, o->symbols_len, sizeof *o->values);
     }
 }
 

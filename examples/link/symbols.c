@@ -3,7 +3,6 @@
 #include "link.h"
 
 struct symbol *symbols, *module_base;
-size_t symbols_len;
 
 /* Symbols by their names. At most half of the cells are taken. */
 static struct table {
@@ -30,7 +29,9 @@ uint32_t hash_of(const char *name) {
 }
 
 /* Says that the global symbol of a hash will be looked up. */
-void expect(uint32_t hash) { __builtin_prefetch(&globals.cells[hash & (globals.len - 1)]); }
+void expect(uint32_t hash) {
+    if (globals.len) __builtin_prefetch(&globals.cells[hash & (globals.len - 1)]);
+}
 
 /* Where the symbol of a name is, or is to be put at once. */
 static struct symbol **find(struct table *t, const char *name, uint32_t hash) {
@@ -39,6 +40,7 @@ static struct symbol **find(struct table *t, const char *name, uint32_t hash) {
         more.cells = take(more.len, sizeof *more.cells);
         for (size_t i = 0; i < t->len; i++)
             if (t->cells[i].symbol) *cell_in(&more, t->cells[i].hash, NULL) = t->cells[i];
+        if (t->len) give_back(t->cells, t->len, sizeof *t->cells);
         *t = more;
     }
     struct cell *cell = cell_in(t, hash, name);
@@ -137,7 +139,6 @@ void list_symbol(struct symbol *s) {
     static struct symbol **end = &symbols;
     if (s->is_listed) return;
     s->is_listed = true;
-    symbols_len++;
     *end = s;
     end = &s->later;
 }
