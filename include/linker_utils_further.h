@@ -215,11 +215,11 @@ static inline uint32_t linker_utils_interpreter(uint16_t machine, uint32_t flags
 static inline uint32_t linker_utils_address_section(uint16_t machine, uint8_t *name,
                                                     size_t name_len, size_t *name_used);
 
-/* The type of the relocation that an instruction would have if the address were in an entry of the
- * GOT, into `entry_type`, by the type that it has where that is in a word of this section. With it
- * `linker_utils_choose` says whether the instruction can compute the address. As it does so of all
- * that refer to one word or of none, a linker asks it of each first. LINKER_UTILS_NOT_PROVIDED of
- * other types. */
+/* The type of the relocation that an instruction would have if its address were in an entry of the
+ * GOT, into `entry_type`. `r_type` is the type where that is in a word of this section. By
+ * `entry_type` `linker_utils_choose` says whether the instruction can compute the address. Some
+ * instruction that refers to a word may not: then none of that word is rewritten, so that a linker
+ * asks for each first. LINKER_UTILS_NOT_PROVIDED of other types. */
 uint32_t linker_utils_entry_relocation(uint16_t machine, uint32_t r_type, uint32_t *entry_type);
 
 /* A symbol that a linker defines if an object refers to it. */

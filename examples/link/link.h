@@ -203,6 +203,7 @@ extern bool relaxes; /* whether instructions are rewritten that need not be */
 extern bool has_short_offsets; /* and PowerPC64's local-exec, which ld.lld leaves */
 extern struct object *objects; /* in the order in which they are read */
 extern struct symbol *symbols; /* all that objects mention, in their order */
+extern size_t symbols_len;
 extern struct symbol *module_base; /* `_TLS_MODULE_BASE_`; null where no object requires it */
 extern struct library *libraries; /* in their order */
 extern struct linker_utils_dynamic_types types;
@@ -215,7 +216,8 @@ extern struct entry *module_entry; /* of the GOT; null where no relocation requi
 
 static inline int order(uint64_t a, uint64_t b) { return a < b ? -1 : a > b; }
 
-void *take(uint64_t count, size_t size), *grow(void *array, size_t need, size_t *room, size_t size);
+void *borrow(uint64_t count, size_t size), *take(uint64_t count, size_t size);
+void *grow(void *array, size_t need, size_t *room, size_t size);
 void give_back(void *memory, uint64_t count, size_t size);
 uint64_t round_up(uint64_t at, uint64_t align);
 const char *place_of(const struct relocation *r);
@@ -249,8 +251,10 @@ uint64_t address_of(const struct output *o, uint64_t offset);
 void place_outputs(void), index_deltas(struct run *run), set_addresses(void);
 void add_section(struct section *s), reserve_outputs(void), copy_section(struct section *s), sort_outputs(void);
 
-void rewrite_phases(uint32_t first, uint32_t last), rewrite_placed(void), require_all(void), make_entries(void);
-void read_relocations(struct section *s), write_entries(void), write_stubs(void), relax(void), relocate(struct output *o);
+void rewrite_phases(uint32_t first, uint32_t last), rewrite_placed(void), require_all(void);
+void make_entries(void);
+void read_relocations(struct section *s), write_entries(void), write_stubs(void), relax(void);
+void relocate(void);
 bool is_of_addresses(const char *name), is_ifunc(const struct symbol *s), add_thunks(void);
 bool is_defined(const struct symbol *s), is_here(const struct symbol *s);
 uint64_t add_slot(struct symbol *s, uint32_t type);

@@ -20,10 +20,10 @@ static size_t len_in_block(uint64_t count, size_t size) {
     return count < BLOCK / 16 / size ? (count * size + 16) & ~(size_t)15 : 0;
 }
 
-/* Memory that is all zeros. */
-void *take(uint64_t count, size_t size) {
+/* Memory with anything in it. */
+void *borrow(uint64_t count, size_t size) {
     size_t len = len_in_block(count, size);
-    if (len > left) block = take(left = BLOCK, 1);
+    if (len > left) block = borrow(left = BLOCK, 1);
     void *memory = len ? block : calloc(count ? count : 1, size);
     if (!memory) fail("out of memory");
     if (len) block += len;
@@ -31,12 +31,18 @@ void *take(uint64_t count, size_t size) {
     return memory;
 }
 
+/* Memory that is all zeros. */
+void *take(uint64_t count, size_t size) {
+    void *memory = borrow(count, size);
+    return len_in_block(count, size) ? memset(memory, 0, count * size) : memory;
+}
+
 /* Gives back what was taken last, or what is large. */
 void give_back(void *memory, uint64_t count, size_t size) {
     size_t len = len_in_block(count, size);
     if (BLOCK && !len) free(memory);
     if (!len || (uint8_t *)memory + len != block) return;
-    block = memset(memory, 0, len);
+    block = memory;
     left += len;
 }
 
@@ -153,7 +159,7 @@ int main(int argc, char **argv) {
     do place_outputs();
     while (add_thunks());
     relax();
-    for (size_t i = 0; i < outputs_len; i++) relocate(outputs[i]);
+    relocate();
     write_entries();
     write_stubs();
     index_frames();

@@ -119,7 +119,7 @@ static uint64_t number_of(const struct relocation *r) {
     bool has_entry = r->entry && r->entry != module_entry;
     uint32_t *number = has_entry ? &r->entry->number : &r->symbol->number;
     if (*number) return *number;
-    table = grow(table == &none ? NULL : table, table_len + 1, &table_room, sizeof *table);
+    table = grow(table == &none ? NULL : table, table_len + symbols_len, &table_room, sizeof *table);
     table[table_len] = known_of(r);
     return *number = (uint32_t)table_len++;
 }
@@ -149,12 +149,14 @@ static bool change_number(struct output *o, const struct relocation *r) {
     return true;
 }
 
-/* Writes the values of relocations of one section. */
-static void relocate_some(struct output *o, const struct relocation *r, size_t len) {
-    const struct section *s = r->section;
-    uint64_t start = address_of(o, s->offset), end = address_of(o, s->end);
+/* Writes the values of a section's relocations. */
+static void relocate_section(const struct section *s) {
+    struct output *o = s->output;
+    const struct relocation *r = o->relocations + s->first;
+    uint64_t start = address_of(o, s->offset), end = address_of(o, s->end), len = s->relocations_len;
     size_t size = len * sizeof(Elf64_Rela), at = 0;
-    Elf64_Rela *elf = take(len, sizeof *elf);
+    Elf64_Rela *elf = borrow(len, sizeof *elf);
+    for (size_t i = 0; i < len; i++) __builtin_prefetch(r[i].entry ? (void *)r[i].entry : r[i].symbol);
     for (size_t i = 0; i < len; i++) {
         bool is_there = r[i].symbol->output || !is_left_out(&r[i]);
         bool has_value = row_of(&r[i])->kind && is_there && !change_number(o, &r[i]);
@@ -163,7 +165,7 @@ static void relocate_some(struct output *o, const struct relocation *r, size_t l
     }
     const uint8_t *relocations = (const uint8_t *)elf;
     size_t memory_len = linker_utils_relocate_memory(relocations, size);
-    uint64_t *memory = take(memory_len, sizeof *memory);
+    uint64_t *memory = borrow(memory_len, sizeof *memory);
     struct linker_utils_addresses addresses = addresses_of(start);
     uint32_t status = linker_utils_relocate_section(
         machine, &addresses, relocations, size, table, table_len, o->bytes + (start - o->address),
@@ -181,11 +183,8 @@ static void relocate_some(struct output *o, const struct relocation *r, size_t l
 }
 
 /* Writes all values. */
-void relocate(struct output *o) {
-    struct relocation *r = o->relocations, *end = r + o->relocations_len, *first;
-    for (first = r; first < end; first = r) {
-        for (; r < end && r->section == first->section; r++)
-            __builtin_prefetch(r->entry ? (void *)r->entry : r->symbol);
-        if (first->section) relocate_some(o, first, (size_t)(r - first));
-    }
+void relocate(void) {
+    for (const struct object *o = objects; o; o = o->next)
+        for (const struct section *s = o->sections; s < o->sections + o->sections_len; s++)
+            if (s->relocations_len) relocate_section(s);
 }

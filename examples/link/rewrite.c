@@ -17,6 +17,7 @@ static bool is_code(const struct section *s) {
 /* Notes what is known of an object's symbols. An indirect function's address is known once it has a
  * stub. */
 static void note_facts(struct object *o, const struct symbol *tls_get_addr) {
+    o->values[0] = (struct linker_utils_symbol){.address = 0};
     for (size_t i = 1; i < o->symbols_len; i++) {
         const struct symbol *s = o->symbols[i];
         o->values[i] = known_symbol(s);
@@ -28,25 +29,15 @@ static void note_facts(struct object *o, const struct symbol *tls_get_addr) {
     }
 }
 
-/* Notes what a phase deletes of a section, each at the relocation there. */
-static void note_deleted(const Elf64_Rela *elf, struct relocation *r, size_t len,
-                         const struct linker_utils_deletion *deleted, size_t deleted_len) {
-    size_t found = 0;
-    for (size_t i = 0; i < len && found < deleted_len; i++)
-        if (elf[i].r_info && elf[i].r_offset == deleted[found].offset)
-            r[i].deleted = deleted[found++].bytes;
-    if (found < deleted_len) fail("%s deletes other bytes", place_of(r));
-}
-
 /* Rewrites a section of an object in a phase, or notes which groups of it stay. */
 static void rewrite_in(uint32_t phase, struct section *s, bool is_survey) {
     const struct object *o = s->object;
-    size_t count = o->symbols_len, len = s->relocations_len, used = 0, at = 0;
+    size_t count = o->symbols_len, len = s->relocations_len, used = 0, at = 0, found = 0;
     uint64_t start = address_of(s->output, s->offset), size = address_of(s->output, s->end) - start;
     uint8_t *bytes = s->output->bytes + (start - s->output->address);
     struct relocation *r = s->output->relocations + s->first;
     struct linker_utils_addresses addresses = addresses_of(start);
-    Elf64_Rela *elf = take(len, sizeof *elf);
+    Elf64_Rela *elf = borrow(len, sizeof *elf);
     for (size_t i = 0; i < len; i++)
         elf[i] = (Elf64_Rela){offset_in(s, &r[i], start),
                               ELF64_R_INFO((uint64_t)r[i].index, is_hidden(&r[i]) ? 0 : r[i].type),
@@ -58,17 +49,16 @@ static void rewrite_in(uint32_t phase, struct section *s, bool is_survey) {
         give_back(elf, len, sizeof *elf);
         return;
     }
-    struct linker_utils_decision *decisions = take(len, sizeof *decisions);
-    struct linker_utils_deletion *deleted = take(len, sizeof *deleted);
+    struct linker_utils_decision *decisions = borrow(len, sizeof *decisions);
+    struct linker_utils_deletion *deleted = borrow(len, sizeof *deleted);
     uint32_t status = linker_utils_rewrite_placed_section(
         machine, phase, &linked, o->facts, count, &addresses, o->values, count, o->kept, count,
         (uint8_t *)elf, len * sizeof *elf, bytes, size, decisions, len, deleted, len, &used, &at);
     check(&r[at < len ? at : 0], status);
     for (size_t i = 0; i < len; i++, r++) {
-        if (decisions[i].fate == LINKER_UTILS_FATE_KEPT) {
-            elf[i].r_info = 0;
-            continue;
-        }
+        if (decisions[i].fate == LINKER_UTILS_FATE_KEPT) continue;
+        if (found < used && elf[i].r_offset == deleted[found].offset)
+            r->deleted = deleted[found++].bytes;
         r->offset += elf[i].r_offset - offset_in(s, r, start);
         r->type = ELF64_R_TYPE(elf[i].r_info);
         r->addend = elf[i].r_addend;
@@ -76,7 +66,7 @@ static void rewrite_in(uint32_t phase, struct section *s, bool is_survey) {
         r->index = decisions[i].symbol;
         r->symbol = o->symbols[r->index];
     }
-    note_deleted(elf, r - len, len, deleted, used);
+    if (found < used) fail("%s: %s: other bytes are to be deleted", o->path, s->name);
     give_back(deleted, len, sizeof *deleted);
     give_back(decisions, len, sizeof *decisions);
     give_back(elf, len, sizeof *elf);
@@ -155,37 +145,33 @@ static void rewrite_got_loads(struct section *s) {
 
 /* Rewrites the instructions of an object in a phase, all of a group or none. */
 static void rewrite_object(uint32_t phase, struct object *o) {
-    struct section *end = o->sections + o->sections_len;
-    if (phase == LINKER_UTILS_PHASE_GOT_LOADS) {
-        for (struct section *s = o->sections; s < end; s++)
-            if (s->has_loads && is_code(s)) rewrite_got_loads(s);
-        return;
-    }
+    bool is_of_got = phase == LINKER_UTILS_PHASE_GOT_LOADS;
+    if (phase == LINKER_UTILS_PHASE_THREAD_OFFSETS && !o->is_threaded) return;
     memset(o->kept, 0, o->symbols_len * sizeof *o->kept);
     o->kept->got_load = phase == LINKER_UTILS_PHASE_EARLY; /* as in ld.lld */
-    for (int is_survey = 1; is_survey >= 0; is_survey--)
-        for (struct section *s = o->sections; s < end; s++)
-            if (is_code(s)) rewrite_in(phase, s, is_survey);
+    for (int is_survey = !is_of_got; is_survey >= 0; is_survey--)
+        for (struct section *s = o->sections; s < o->sections + o->sections_len; s++)
+            if (is_code(s) && !is_of_got) rewrite_in(phase, s, is_survey);
+            else if (is_code(s) && s->has_loads) rewrite_got_loads(s);
 }
 
 /* Rewrites the instructions of all code in some phases. */
 void rewrite_phases(uint32_t first, uint32_t last) {
     const struct symbol *tls_get_addr = *global("__tls_get_addr");
+    bool has_rewrites = false;
+    for (uint32_t i = first; i <= last; i++) has_rewrites |= linker_utils_has_rewrites(machine, i);
     for (struct object *o = objects; o; o = o->next) {
-        if (!o->facts) {
-            o->facts = take(o->symbols_len, sizeof *o->facts);
-            o->is_hidden = take(o->symbols_len, sizeof *o->is_hidden);
-            o->kept = take(o->symbols_len + 1, sizeof *o->kept);
-        }
-        o->values = take(o->symbols_len, sizeof *o->values);
-        bool is_noted = false;
-        for (uint32_t phase = first; phase <= last; phase++) {
-            if (!linker_utils_has_rewrites(machine, phase)) continue;
-            if (!is_noted) note_facts(o, tls_get_addr);
-            is_noted = true;
-            if (phase != LINKER_UTILS_PHASE_THREAD_OFFSETS || o->is_threaded) rewrite_object(phase, o);
-        }
-        give_back(o->values, o->symbols_len, sizeof *o->values);
+        if (!o->kept) o->kept = take(o->symbols_len + 1, sizeof *o->kept);
+        if (!has_rewrites) continue;
+        o->facts = take(o->symbols_len, sizeof *o->facts);
+        o->values = borrow(o->symbols_len + 1, sizeof *o->values);
+        o->is_hidden = take(o->symbols_len, sizeof *o->is_hidden);
+        note_facts(o, tls_get_addr);
+        for (uint32_t i = first; i <= last; i++)
+            if (linker_utils_has_rewrites(machine, i)) rewrite_object(i, o);
+        give_back(o->is_hidden, o->symbols_len, sizeof *o->is_hidden);
+        give_back(o->values, o->symbols_len + 1, sizeof *o->values);
+        give_back(o->facts, o->symbols_len, sizeof *o->facts);
     }
 }
 

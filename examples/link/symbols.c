@@ -3,6 +3,7 @@
 #include "link.h"
 
 struct symbol *symbols, *module_base;
+size_t symbols_len;
 
 /* Symbols by their names. At most half of the cells are taken. */
 static struct table {
@@ -139,6 +140,7 @@ void list_symbol(struct symbol *s) {
     static struct symbol **end = &symbols;
     if (s->is_listed) return;
     s->is_listed = true;
+    symbols_len++;
     *end = s;
     end = &s->later;
 }
