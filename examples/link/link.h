@@ -92,11 +92,8 @@ struct object {
     struct object *below;      /* in the stack of those that are being read */
     size_t len, sections_len, symbols_len, resolved_len;
     uint32_t flags; /* `e_flags` */
-    struct linker_utils_symbol_facts *facts; /* of each symbol */
-    struct linker_utils_symbol *values;      /* likewise, once addresses are known */
-    struct linker_utils_kept_groups *kept;   /* by symbol, which groups of instructions stay */
-    bool *is_hidden; /* by symbol, whether the library isn't shown its relocations */
-    bool is_threaded; /* it mentions thread-local symbols */
+    struct linker_utils_kept_groups *kept; /* by symbol, which groups of instructions stay */
+    bool is_threaded;                      /* it mentions thread-local symbols */
 };
 
 struct section {
@@ -216,8 +213,7 @@ extern struct entry *module_entry; /* of the GOT; null where no relocation requi
 
 static inline int order(uint64_t a, uint64_t b) { return a < b ? -1 : a > b; }
 
-void *borrow(uint64_t count, size_t size), *take(uint64_t count, size_t size);
-void *grow(void *array, size_t need, size_t *room, size_t size);
+void *take(uint64_t count, size_t size), *grow(void *array, size_t need, size_t *room, size_t size);
 void give_back(void *memory, uint64_t count, size_t size);
 uint64_t round_up(uint64_t at, uint64_t align);
 const char *place_of(const struct relocation *r);

@@ -12,18 +12,17 @@ uint16_t machine;
 uint32_t machine_flags;
 bool relaxes = true, has_short_offsets = false;
 
-static uint8_t *block; /* of memory, and how much of it is left */
-static size_t left;
-
 /* How much of a block so many elements take; 0 where they are too large for that. */
 static size_t len_in_block(uint64_t count, size_t size) {
     return count < BLOCK / 16 / size ? (count * size + 16) & ~(size_t)15 : 0;
 }
 
-/* Memory with anything in it. */
-void *borrow(uint64_t count, size_t size) {
+/* Memory that is all zeros. */
+void *take(uint64_t count, size_t size) {
+    static uint8_t *block;
+    static size_t left;
     size_t len = len_in_block(count, size);
-    if (len > left) block = borrow(left = BLOCK, 1);
+    if (len > left) block = take(left = BLOCK, 1);
     void *memory = len ? block : calloc(count ? count : 1, size);
     if (!memory) fail("out of memory");
     if (len) block += len;
@@ -31,19 +30,9 @@ void *borrow(uint64_t count, size_t size) {
     return memory;
 }
 
-/* Memory that is all zeros. */
-void *take(uint64_t count, size_t size) {
-    void *memory = borrow(count, size);
-    return len_in_block(count, size) ? memset(memory, 0, count * size) : memory;
-}
-
-/* Gives back what was taken last, or what is large. */
+/* Gives back what was taken, if it is large. */
 void give_back(void *memory, uint64_t count, size_t size) {
-    size_t len = len_in_block(count, size);
-    if (BLOCK && !len) free(memory);
-    if (!len || (uint8_t *)memory + len != block) return;
-    block = memory;
-    left += len;
+    if (BLOCK && !len_in_block(count, size)) free(memory);
 }
 
 /* An array with room for so many elements: twice as many where it has to grow. */

@@ -126,16 +126,18 @@ static uint64_t number_of(const struct relocation *r) {
 
 /* Whether a machine's relocations change ULEB128 numbers that are there. */
 static bool changes_numbers(void) {
-    for (uint32_t type = 0; type < 256; type++)
-        if (linker_utils_uleb128_role(machine, type) == LINKER_UTILS_ROLE_ADDS) return true;
-    return false;
+    static uint32_t next;
+    static bool is_found;
+    for (; next < 256 && !is_found; next++)
+        is_found = linker_utils_uleb128_role(machine, next) == LINKER_UTILS_ROLE_ADDS;
+    return is_found;
 }
 
 /* Adds to a ULEB128 number or subtracts from it, each by itself and modulo what its bytes hold, as in
  * ld.lld. Whether the relocation does so. */
 static bool change_number(struct output *o, const struct relocation *r) {
-    uint32_t role = linker_utils_uleb128_role(machine, r->type);
-    if (!role || !changes_numbers()) return false;
+    uint32_t role = changes_numbers() ? linker_utils_uleb128_role(machine, r->type) : 0;
+    if (!role) return false;
     uint64_t number = 0, at = address_of(o, r->offset) - o->address;
     int64_t value = 0;
     size_t used = 0;
@@ -155,7 +157,10 @@ static void relocate_section(const struct section *s) {
     const struct relocation *r = o->relocations + s->first;
     uint64_t start = address_of(o, s->offset), end = address_of(o, s->end), len = s->relocations_len;
     size_t size = len * sizeof(Elf64_Rela), at = 0;
-    Elf64_Rela *elf = borrow(len, sizeof *elf);
+    static Elf64_Rela *elf; /* these are for one section after another */
+    static uint64_t *memory;
+    static size_t rooms[2];
+    elf = grow(elf, len, &rooms[0], sizeof *elf);
     for (size_t i = 0; i < len; i++) __builtin_prefetch(r[i].entry ? (void *)r[i].entry : r[i].symbol);
     for (size_t i = 0; i < len; i++) {
         bool is_there = r[i].symbol->output || !is_left_out(&r[i]);
@@ -165,7 +170,7 @@ static void relocate_section(const struct section *s) {
     }
     const uint8_t *relocations = (const uint8_t *)elf;
     size_t memory_len = linker_utils_relocate_memory(relocations, size);
-    uint64_t *memory = borrow(memory_len, sizeof *memory);
+    memory = grow(memory, memory_len, &rooms[1], sizeof *memory);
     struct linker_utils_addresses addresses = addresses_of(start);
     uint32_t status = linker_utils_relocate_section(
         machine, &addresses, relocations, size, table, table_len, o->bytes + (start - o->address),
@@ -178,8 +183,6 @@ static void relocate_section(const struct section *s) {
         fail("%s out of reach: %" PRId64 " is not in [%" PRId64 ", %" PRId64 "), to '%s'",
              place_of(&r[at]), value, reach.min, reach.max, r[at].symbol->name);
     check(&r[at], status);
-    give_back(memory, memory_len, sizeof *memory);
-    give_back(elf, len, sizeof *elf);
 }
 
 /* Writes all values. */

@@ -1,13 +1,18 @@
 /* Rewrites: what the library chooses in each phase, of all code. */
 #include "link.h"
 
+/* What is known of the symbols of one object after another, and whether the library isn't shown their
+ * relocations. */
+static struct linker_utils_symbol_facts *facts;
+static struct linker_utils_symbol *values;
+static bool *hides;
+
 /* Whether the library is not shown a relocation: nothing here has its symbol, or it would be relaxed
  * where nothing is to be, as by a mark, which has no symbol. */
 static bool is_hidden(const struct relocation *r) {
-    const struct object *o = r->section->object;
-    if (relaxes || !r->index) return r->index ? o->is_hidden[r->index] : !relaxes;
-    if (r->symbol->is_imported || o->facts[r->index].is_tls_get_addr) return false;
-    return o->is_hidden[r->index] || needs_of(r).entry_class == LINKER_UTILS_ENTRY_ADDRESS;
+    if (relaxes || !r->index) return r->index ? hides[r->index] : !relaxes;
+    if (r->symbol->is_imported || facts[r->index].is_tls_get_addr) return false;
+    return hides[r->index] || needs_of(r).entry_class == LINKER_UTILS_ENTRY_ADDRESS;
 }
 
 static bool is_code(const struct section *s) {
@@ -17,13 +22,12 @@ static bool is_code(const struct section *s) {
 /* Notes what is known of an object's symbols. An indirect function's address is known once it has a
  * stub. */
 static void note_facts(struct object *o, const struct symbol *tls_get_addr) {
-    o->values[0] = (struct linker_utils_symbol){.address = 0};
     for (size_t i = 1; i < o->symbols_len; i++) {
         const struct symbol *s = o->symbols[i];
-        o->values[i] = known_symbol(s);
-        o->is_hidden[i] = !s->is_imported && s != tls_get_addr && !is_here(s);
+        values[i] = known_symbol(s);
+        hides[i] = !s->is_imported && s != tls_get_addr && !is_here(s);
         o->is_threaded |= is_thread_local(s);
-        o->facts[i] = (struct linker_utils_symbol_facts){
+        facts[i] = (struct linker_utils_symbol_facts){
             .is_local = !s->is_imported, .is_ifunc = is_ifunc(s) && s->output != stubs,
             .other = s->elf.st_other, .is_tls_get_addr = s == tls_get_addr};
     }
@@ -33,26 +37,29 @@ static void note_facts(struct object *o, const struct symbol *tls_get_addr) {
 static void rewrite_in(uint32_t phase, struct section *s, bool is_survey) {
     const struct object *o = s->object;
     size_t count = o->symbols_len, len = s->relocations_len, used = 0, at = 0, found = 0;
+    static Elf64_Rela *elf; /* these are for one section after another */
+    static struct linker_utils_decision *decisions;
+    static struct linker_utils_deletion *deleted;
+    static size_t rooms[3];
     uint64_t start = address_of(s->output, s->offset), size = address_of(s->output, s->end) - start;
     uint8_t *bytes = s->output->bytes + (start - s->output->address);
     struct relocation *r = s->output->relocations + s->first;
     struct linker_utils_addresses addresses = addresses_of(start);
-    Elf64_Rela *elf = borrow(len, sizeof *elf);
+    elf = grow(elf, len, &rooms[0], sizeof *elf);
     for (size_t i = 0; i < len; i++)
         elf[i] = (Elf64_Rela){offset_in(s, &r[i], start),
                               ELF64_R_INFO((uint64_t)r[i].index, is_hidden(&r[i]) ? 0 : r[i].type),
                               r[i].addend};
     if (is_survey) {
-        linker_utils_survey_placed_section(machine, phase, &linked, o->facts, count, &addresses,
-                                           o->values, count, (uint8_t *)elf, len * sizeof *elf, bytes,
+        linker_utils_survey_placed_section(machine, phase, &linked, facts, count, &addresses,
+                                           values, count, (uint8_t *)elf, len * sizeof *elf, bytes,
                                            size, o->kept, count);
-        give_back(elf, len, sizeof *elf);
         return;
     }
-    struct linker_utils_decision *decisions = borrow(len, sizeof *decisions);
-    struct linker_utils_deletion *deleted = borrow(len, sizeof *deleted);
+    decisions = grow(decisions, len, &rooms[1], sizeof *decisions);
+    deleted = grow(deleted, len, &rooms[2], sizeof *deleted);
     uint32_t status = linker_utils_rewrite_placed_section(
-        machine, phase, &linked, o->facts, count, &addresses, o->values, count, o->kept, count,
+        machine, phase, &linked, facts, count, &addresses, values, count, o->kept, count,
         (uint8_t *)elf, len * sizeof *elf, bytes, size, decisions, len, deleted, len, &used, &at);
     check(&r[at < len ? at : 0], status);
     for (size_t i = 0; i < len; i++, r++) {
@@ -67,17 +74,14 @@ static void rewrite_in(uint32_t phase, struct section *s, bool is_survey) {
         r->symbol = o->symbols[r->index];
     }
     if (found < used) fail("%s: %s: other bytes are to be deleted", o->path, s->name);
-    give_back(deleted, len, sizeof *deleted);
-    give_back(decisions, len, sizeof *decisions);
-    give_back(elf, len, sizeof *elf);
 }
 
 /* Whether compilers keep addresses in a section, beside the GOT. */
 bool is_of_addresses(const char *name) {
     static char known[LINKER_UTILS_NAME_SIZE + 1];
     size_t used;
-    return !linker_utils_address_section(machine, (uint8_t *)known, sizeof known - 1, &used) &&
-           !strcmp(name, known);
+    if (!*known) linker_utils_address_section(machine, (uint8_t *)known, sizeof known - 1, &used);
+    return *known && !strcmp(name, known);
 }
 
 static int by_offset(const void *left, const void *right) {
@@ -88,11 +92,12 @@ static int by_offset(const void *left, const void *right) {
 static struct relocation *word_of(const struct relocation *r) {
     const struct symbol *s = r->symbol;
     struct relocation key = {.type = 0}, *word;
-    if (linker_utils_entry_relocation(machine, r->type, &key.type) ||
-        s->object != r->section->object || s->elf.st_shndx >= s->object->sections_len)
+    if (s->object != r->section->object || s->elf.st_shndx >= s->object->sections_len)
         return NULL;
     const struct section *words = &s->object->sections[s->elf.st_shndx];
-    if (!words->output || !is_of_addresses(words->name)) return NULL;
+    if (!words->output || !is_of_addresses(words->name) ||
+        linker_utils_entry_relocation(machine, r->type, &key.type))
+        return NULL;
     key.offset = words->offset + s->elf.st_value + (uint64_t)r->addend;
     word = bsearch(&key, words->output->relocations + words->first, words->relocations_len,
                    sizeof key, by_offset);
@@ -158,20 +163,18 @@ static void rewrite_object(uint32_t phase, struct object *o) {
 /* Rewrites the instructions of all code in some phases. */
 void rewrite_phases(uint32_t first, uint32_t last) {
     const struct symbol *tls_get_addr = *global("__tls_get_addr");
+    static size_t rooms[3];
     bool has_rewrites = false;
     for (uint32_t i = first; i <= last; i++) has_rewrites |= linker_utils_has_rewrites(machine, i);
     for (struct object *o = objects; o; o = o->next) {
         if (!o->kept) o->kept = take(o->symbols_len + 1, sizeof *o->kept);
         if (!has_rewrites) continue;
-        o->facts = take(o->symbols_len, sizeof *o->facts);
-        o->values = borrow(o->symbols_len + 1, sizeof *o->values);
-        o->is_hidden = take(o->symbols_len, sizeof *o->is_hidden);
+        facts = grow(facts, o->symbols_len, &rooms[0], sizeof *facts);
+        values = grow(values, o->symbols_len, &rooms[1], sizeof *values);
+        hides = grow(hides, o->symbols_len, &rooms[2], 1);
         note_facts(o, tls_get_addr);
         for (uint32_t i = first; i <= last; i++)
             if (linker_utils_has_rewrites(machine, i)) rewrite_object(i, o);
-        give_back(o->is_hidden, o->symbols_len, sizeof *o->is_hidden);
-        give_back(o->values, o->symbols_len + 1, sizeof *o->values);
-        give_back(o->facts, o->symbols_len, sizeof *o->facts);
     }
 }
 
