@@ -19,7 +19,9 @@ struct output *output_of(const char *name) {
         else if (!name[len] || name[len] == '.') kind = kinds[i];
     }
     for (size_t i = 0; i < outputs_len; i++)
-        if (outputs[i]->name == kind || !strcmp(outputs[i]->name, kind)) return outputs[i];
+        if (outputs[i]->name == kind) return outputs[i];
+    for (size_t i = 0; i < outputs_len; i++)
+        if (!strcmp(outputs[i]->name, kind)) return outputs[i];
     if (outputs_len == sizeof outputs / sizeof *outputs) fail("too many sections");
     struct output *o = outputs[outputs_len++] = take(1, sizeof *o);
     *o = (struct output){.name = kind, .align = 1, .priority = priority};
