@@ -39,10 +39,8 @@ static struct output *own_table(const char *name, uint32_t type, uint64_t elemen
 
 /* The sections that dynamic outputs have, and the only one of them that static ones have too. */
 void make_tables(void) {
-    if (!is_dynamic) {
-        rela = own_table(".rela_iplt", SHT_RELA, sizeof(Elf64_Rela), NULL);
-        return;
-    }
+    rela = own_table(is_dynamic ? ".rela.dyn" : ".rela_iplt", SHT_RELA, sizeof(Elf64_Rela), NULL);
+    if (!is_dynamic) return;
     if (linked.is_executable) interpreter = own_section(".interp", SHF_ALLOC, true);
     dynstr = own_table(".dynstr", SHT_STRTAB, 0, NULL);
     dynsym = own_table(".dynsym", SHT_DYNSYM, sizeof(Elf64_Sym), dynstr);
@@ -50,7 +48,7 @@ void make_tables(void) {
     hash_table = own_table(".gnu.hash", SHT_GNU_HASH, 0, dynsym);
     versym = own_table(".gnu.version", SHT_GNU_versym, 2, dynsym);
     verneed = own_table(".gnu.version_r", SHT_GNU_verneed, 0, dynstr);
-    rela = own_table(".rela.dyn", SHT_RELA, sizeof(Elf64_Rela), dynsym);
+    rela->link = dynsym;
     dynamic = own_table(".dynamic", SHT_DYNAMIC, sizeof(Elf64_Dyn), dynstr);
     dynamic->flags |= SHF_WRITE;
 }

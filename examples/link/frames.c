@@ -79,9 +79,7 @@ uint64_t read_frames(const struct section *s, const uint8_t *bytes, uint8_t *row
 }
 
 static int by_function(const void *left, const void *right) {
-    int32_t a, b;
-    memcpy(&a, left, sizeof a);
-    memcpy(&b, right, sizeof b);
+    int32_t a = *(const int32_t *)left, b = *(const int32_t *)right;
     return a < b ? -1 : a > b;
 }
 

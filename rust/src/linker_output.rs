@@ -9,6 +9,8 @@ pub mod dynamic;
 pub mod flags;
 pub mod got;
 pub mod layout;
+pub mod lazy_plt;
+mod lazy_plts;
 mod loongarch64;
 pub mod placement;
 mod ppc64;

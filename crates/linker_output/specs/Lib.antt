@@ -1,3 +1,4 @@
+pub mod AArch64LazyPlt
 pub mod AArch64Output
 pub mod AArch64Stubs
 pub mod Addresses
@@ -6,11 +7,17 @@ pub mod Flags
 pub mod Got
 pub mod Inner
 pub mod Layout
+pub mod LazyPlt
+pub mod LazyPlts
+pub mod LazyRuns
+pub mod LoongArchLazyPlt
 pub mod LoongArchOutput
 pub mod LoongArchStubs
 pub mod Placement
+pub mod Ppc64LazyPlt
 pub mod Ppc64Output
 pub mod Ppc64Stubs
+pub mod RiscVLazyPlt
 pub mod RiscVOutput
 pub mod RiscVStubs
 pub mod Routes
@@ -18,5 +25,6 @@ pub mod Stubs
 pub mod Tables
 pub mod Targets
 pub mod View
+pub mod X86LazyPlt
 pub mod X86Output
 pub mod X86Stubs

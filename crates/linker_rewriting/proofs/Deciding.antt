@@ -175,6 +175,18 @@ more_decided s kept bytes section old end grown taken k d before within is can g
           (before.notes n (omega (arith, from)) less in_label);
     }
 
+-- one more relocation that no other takes along and that stays
+pub more_kept : (s : Setting) (kept : List KeptGroups) (bytes section : List ℕ)
+    (old : List Decision) (end : ℕ) (taken : Bool) (k : ℕ)
+    → AreDecidedTo s kept bytes section old end taken k → k < length old → taken ≡ false
+    → IsDecidedAlone s kept bytes section k (relocation_in bytes k) Kept
+    → AreDecidedTo s kept bytes section (slice_set old k Kept) end taken (k + 1)
+more_kept s kept bytes section old end taken k before within isnt decided =
+    subst (λ t. AreDecidedTo s kept bytes section (slice_set old k Kept) end t (k + 1)) (sym isnt)
+    (more_decided s kept bytes section old end end taken k Kept before within
+    (subst (λ t. IsDecidedAfter s kept bytes section k t Kept) (sym isnt) decided)
+    tt (inl (omega arith, refl)))
+
 -- ---- one more decision, and errors
 
 pub not_surveyed : (s : Setting) (kept : List KeptGroups) (bytes section : List ℕ) (k : ℕ)
