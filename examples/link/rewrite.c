@@ -1,8 +1,8 @@
 /* Rewrites: what the library chooses in each phase, of all code. */
 #include "link.h"
 
-/* What is known of the symbols of one object after another, and whether the library isn't shown their
- * relocations. */
+/* What is known of the symbols of one object after another, once addresses are known also these, and
+ * whether the library isn't shown their relocations. */
 static struct linker_utils_symbol_facts *facts;
 static struct linker_utils_symbol *values;
 static bool *hides;
@@ -24,7 +24,7 @@ static bool is_code(const struct section *s) {
 static void note_facts(struct object *o, const struct symbol *tls_get_addr) {
     for (size_t i = 1; i < o->symbols_len; i++) {
         const struct symbol *s = o->symbols[i];
-        values[i] = known_symbol(s);
+        if (values) values[i] = known_symbol(s);
         hides[i] = !s->is_imported && s != tls_get_addr && !is_here(s);
         o->is_threaded |= is_thread_local(s);
         facts[i] = (struct linker_utils_symbol_facts){
@@ -36,8 +36,10 @@ static void note_facts(struct object *o, const struct symbol *tls_get_addr) {
 /* Rewrites a section of an object in a phase, or notes which groups of it stay. */
 static void rewrite_in(uint32_t phase, struct section *s, bool is_survey) {
     const struct object *o = s->object;
-    size_t count = o->symbols_len, len = s->relocations_len, used = 0, at = 0, found = 0;
-    static Elf64_Rela *elf; /* these are for one section after another */
+    size_t count = o->symbols_len, values_len = values ? count : 0, used = 0, at = 0, found = 0;
+    size_t len = s->relocations_len;
+    static const struct section *surveyed; /* these are for one section after another */
+    static Elf64_Rela *elf;
     static struct linker_utils_decision *decisions;
     static struct linker_utils_deletion *deleted;
     static size_t rooms[3];
@@ -46,20 +48,21 @@ static void rewrite_in(uint32_t phase, struct section *s, bool is_survey) {
     struct relocation *r = s->output->relocations + s->first;
     struct linker_utils_addresses addresses = addresses_of(start);
     elf = grow(elf, len, &rooms[0], sizeof *elf);
-    for (size_t i = 0; i < len; i++)
+    for (size_t i = 0; i < len && s != surveyed; i++)
         elf[i] = (Elf64_Rela){offset_in(s, &r[i], start),
                               ELF64_R_INFO((uint64_t)r[i].index, is_hidden(&r[i]) ? 0 : r[i].type),
                               r[i].addend};
+    surveyed = is_survey ? s : NULL;
     if (is_survey) {
         linker_utils_survey_placed_section(machine, phase, &linked, facts, count, &addresses,
-                                           values, count, (uint8_t *)elf, len * sizeof *elf, bytes,
+                                           values, values_len, (uint8_t *)elf, len * sizeof *elf, bytes,
                                            size, o->kept, count);
         return;
     }
     decisions = grow(decisions, len, &rooms[1], sizeof *decisions);
     deleted = grow(deleted, len, &rooms[2], sizeof *deleted);
     uint32_t status = linker_utils_rewrite_placed_section(
-        machine, phase, &linked, facts, count, &addresses, values, count, o->kept, count,
+        machine, phase, &linked, facts, count, &addresses, values, values_len, o->kept, count,
         (uint8_t *)elf, len * sizeof *elf, bytes, size, decisions, len, deleted, len, &used, &at);
     check(&r[at < len ? at : 0], status);
     for (size_t i = 0; i < len; i++, r++) {
@@ -170,7 +173,8 @@ void rewrite_phases(uint32_t first, uint32_t last) {
         if (!o->kept) o->kept = take(o->symbols_len + 1, sizeof *o->kept);
         if (!has_rewrites) continue;
         facts = grow(facts, o->symbols_len, &rooms[0], sizeof *facts);
-        values = grow(values, o->symbols_len, &rooms[1], sizeof *values);
+        if (first != LINKER_UTILS_PHASE_EARLY)
+            values = grow(values, o->symbols_len, &rooms[1], sizeof *values);
         hides = grow(hides, o->symbols_len, &rooms[2], 1);
         note_facts(o, tls_get_addr);
         for (uint32_t i = first; i <= last; i++)
