@@ -87,24 +87,29 @@ static void require(struct relocation *r) {
     struct object *o = r->section->object;
     struct symbol *s = r->symbol;
     uint32_t kind = row_of(r)->kind;
-    if (s != *o->symbols && kind && rank(s) == 1 && !s->is_imported)
+    if (s != *o->symbols && kind && !is_defined(s) && rank(s) == 1 && !s->is_imported)
         fail("%s: undefined symbol '%s'", place_of(r), s->name);
     if (kind == LINKER_UTILS_KIND_ALIGNMENT && !r->section->output->shrinks)
         fail("%s is not supported", place_of(r));
     struct linker_utils_requirements needs = needs_of(r);
     bool is_rewritten = needs.entry_class == LINKER_UTILS_ENTRY_DESCRIPTOR && linked.is_executable &&
                         !s->is_imported && !o->kept[r->index].descriptor;
+    r->may_use_stub = needs.may_use_stub;
+    r->section->has_loads |= needs.entry_class == LINKER_UTILS_ENTRY_ADDRESS;
     if (needs.entry_class && !is_rewritten) r->entry = entry_of(r, &needs);
     if (kind && is_ifunc(s)) s->needs_stub = true;
-    import(r, &needs);
+    if (is_dynamic) import(r, &needs);
     if (needs.may_use_stub && (is_ifunc(s) || s->is_imported)) r->addend += entered_at(r);
 }
 
 void require_all(void) {
     for (struct object *o = objects; o; o = o->next)
         for (struct section *s = o->sections; s < o->sections + o->sections_len; s++)
-            for (size_t i = 0; i < s->relocations_len; i++)
-                require(s->output->relocations + s->first + i);
+            for (size_t i = 0; i < s->relocations_len; i++) {
+                struct relocation *r = s->output->relocations + s->first + i;
+                if (i + 8 < s->relocations_len) __builtin_prefetch(r[8].symbol);
+                require(r);
+            }
 }
 
 /* An indirect function's address is that of its stub, which goes to the address in a slot. When the
@@ -183,6 +188,16 @@ static struct symbol *thunk_to(struct output *o, struct symbol *s, uint64_t abov
     return s->thunks = t;
 }
 
+/* Whether a branch reaches a function of this file, which expects no more than others, wherever
+ * both are. */
+static bool is_near(const struct relocation *r) {
+    const struct symbol *s = r->symbol;
+    struct linker_utils_relocation_reach reach;
+    check(r, linker_utils_reach(machine, r->type, &reach));
+    return s->output && s->offset <= s->output->len && !s->has_stub && !r->addend &&
+           !(s->elf.st_other & ~3) && (!reach.has_range || span < (uint64_t)reach.max / 2);
+}
+
 /* Adds a thunk for each branch in code that doesn't reach its target, or whose function expects other
  * registers. Whether it has added one: then addresses change. */
 bool add_thunks(void) {
@@ -195,8 +210,7 @@ bool add_thunks(void) {
         size_t len = o->flags & SHF_EXECINSTR ? o->relocations_len : 0;
         for (size_t j = 0; j < len; j++) {
             struct relocation *r = &o->relocations[j];
-            if (!r->section || r->symbol->is_thunk || !needs_of(r).may_use_stub || is_left_out(r))
-                continue;
+            if (!r->may_use_stub || r->symbol->is_thunk || is_left_out(r) || is_near(r)) continue;
             struct alone a = alone_of(o, r);
             uint32_t status = linker_utils_route_at(machine, &a.addresses, (const uint8_t *)&a.elf,
                                                     sizeof a.elf, a.known, 2, 0, o->bytes, o->len,

@@ -41,7 +41,7 @@ static void read_versions(struct library *l, const Elf64_Shdr *head) {
 /* Offers what a library defines, but for versions that only old programs ask for. */
 static void read_dynamic_symbols(struct library *l, const Elf64_Shdr *head,
                                  const Elf64_Shdr *versions) {
-    const Elf64_Sym *elf = l->elf = copy_table(&l->file, head, sizeof *elf, &l->len);
+    const Elf64_Sym *elf = l->elf = table_of(&l->file, head, sizeof *elf, &l->len);
     l->symbols = take(l->len, sizeof *l->symbols);
     for (size_t i = 0; i < l->len; i++, elf++) {
         uint16_t version = VER_NDX_GLOBAL;

@@ -72,6 +72,8 @@ Elf64_Sym symbol_of(const struct symbol *s) {
 
 /* Puts the symbols, if wanted, local ones first, and the section headers behind the segments. */
 static void put_symbols(uint64_t offset, Elf64_Ehdr *head, bool has_symbols) {
+    symbol_table.room = (has_symbols ? symbols_len + 1 : 1) * sizeof(Elf64_Sym);
+    symbol_table.bytes = take(symbol_table.room, 1);
     make_room(&symbol_table, 8, sizeof(Elf64_Sym));
     for (int is_global = 0; has_symbols && is_global < 2; is_global++) {
         for (const struct symbol *s = symbols; s; s = s->later) {

@@ -6,16 +6,18 @@ struct tls tls;
 /* Reads the relocations of a section. */
 void read_relocations(struct section *s) {
     const struct object *o = s->object;
-    const Elf64_Rela *elf = copy_table(o, s->relocations, sizeof *elf, &s->relocations_len);
+    const uint8_t *bytes = bytes_of(o, s->relocations, sizeof(Elf64_Rela), &s->relocations_len);
     struct relocation *r = add_relocations(s->output, s->relocations_len);
     s->first = (size_t)(r - s->output->relocations);
-    for (size_t i = 0; i < s->relocations_len; i++, elf++) {
-        uint64_t index = ELF64_R_SYM(elf->r_info);
-        if (elf->r_offset > s->head->sh_size || index >= o->symbols_len)
+    for (size_t i = 0; i < s->relocations_len; i++) {
+        Elf64_Rela elf;
+        memcpy(&elf, bytes + i * sizeof elf, sizeof elf);
+        uint64_t index = ELF64_R_SYM(elf.r_info);
+        if (elf.r_offset > s->head->sh_size || index >= o->symbols_len)
             fail("%s: %s: a relocation is of no byte or no symbol", o->path, s->name);
         r[i] = (struct relocation){.section = s, .symbol = o->symbols[index],
-                                   .offset = s->offset + elf->r_offset, .addend = elf->r_addend,
-                                   .type = ELF64_R_TYPE(elf->r_info), .index = (uint32_t)index};
+                                   .offset = s->offset + elf.r_offset, .addend = elf.r_addend,
+                                   .type = ELF64_R_TYPE(elf.r_info), .index = (uint32_t)index};
     }
 }
 
@@ -117,8 +119,7 @@ static uint64_t number_of(const struct relocation *r) {
     bool has_entry = r->entry && r->entry != module_entry;
     uint32_t *number = has_entry ? &r->entry->number : &r->symbol->number;
     if (*number) return *number;
-    table = grow(table == &none ? NULL : table, table_len + 1, &table_room, sizeof *table);
-    table[0] = none;
+    table = grow(table == &none ? NULL : table, table_len + symbols_len, &table_room, sizeof *table);
     table[table_len] = known_of(r);
     return *number = (uint32_t)table_len++;
 }
@@ -156,15 +157,20 @@ static void relocate_section(const struct section *s) {
     const struct relocation *r = o->relocations + s->first;
     uint64_t start = address_of(o, s->offset), end = address_of(o, s->end), len = s->relocations_len;
     size_t size = len * sizeof(Elf64_Rela), at = 0;
-    Elf64_Rela *elf = take(len, sizeof *elf);
+    static Elf64_Rela *elf; /* these are for one section after another */
+    static uint64_t *memory;
+    static size_t rooms[2];
+    elf = grow(elf, len, &rooms[0], sizeof *elf);
+    for (size_t i = 0; i < len; i++) __builtin_prefetch(r[i].entry ? (void *)r[i].entry : r[i].symbol);
     for (size_t i = 0; i < len; i++) {
-        bool has_value = row_of(&r[i])->kind && !is_left_out(&r[i]) && !change_number(o, &r[i]);
-        elf[i] = (Elf64_Rela){address_of(o, r[i].offset) - start,
+        bool is_there = r[i].symbol->output || !is_left_out(&r[i]);
+        bool has_value = row_of(&r[i])->kind && is_there && !change_number(o, &r[i]);
+        elf[i] = (Elf64_Rela){offset_in(s, &r[i], start),
                               has_value ? ELF64_R_INFO(number_of(&r[i]), r[i].type) : 0, r[i].addend};
     }
     const uint8_t *relocations = (const uint8_t *)elf;
     size_t memory_len = linker_utils_relocate_memory(relocations, size);
-    uint64_t *memory = take(memory_len, sizeof *memory);
+    memory = grow(memory, memory_len, &rooms[1], sizeof *memory);
     struct linker_utils_addresses addresses = addresses_of(start);
     uint32_t status = linker_utils_relocate_section(
         machine, &addresses, relocations, size, table, table_len, o->bytes + (start - o->address),
