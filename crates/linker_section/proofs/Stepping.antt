@@ -26,7 +26,7 @@ use Rattle.linker_section.specs.Inner.Claims.{is_clear_of, next_field, AreClaime
 use Rattle.linker_section.specs.Inner.Steps.{Ascends, IsInOrder, IsLimit, IsStopped, clear_in, field_of_row}
 use Rattle.linker_section.specs.Relocations.{relocation_in}
 use Rattle.linker_section.specs.Sections.{IsWritten, BeginsPair, IsPairWritten, IsFirstRejected}
-use Rattle.linker_section.specs.Values.{has_value, offset_at, IsAscending, IsValue}
+use Rattle.linker_section.specs.Values.{has_value, offset_at, IsValue}
 use Rattle.linker_section.specs.declared.facts.Addresses.{Addresses}
 use Rattle.linker_section.specs.declared.facts.Symbol.{Symbol}
 use Rattle.std.specs.Prelude.{Ok, IfNone}

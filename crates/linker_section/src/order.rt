@@ -1,6 +1,6 @@
 //! Relocations in any order: the first whose field overlaps that of an earlier one.
 
-ghost use Rattle.std.specs.Prelude.{◌≡◌, ◌<◌, ◌≤◌, ◌+◌, ◌/◌, ◌↔◌, IsTrue, IfSome, IfNone, Some};
+ghost use Rattle.std.specs.Prelude.{◌≡◌, ◌<◌, ◌≤◌, ◌+◌, ◌/◌, IfSome, IfNone, Some};
 ghost use Rattle.std.specs.Prelude.{true, false, length};
 ghost use Rattle.linker_elf.specs.declared.elf.RelocationKindInfo.{RelocationKindInfo};
 ghost use Rattle.linker_section.specs.Fields.{IsField, AreApart};
@@ -8,7 +8,6 @@ ghost use Rattle.linker_section.specs.Inner.Claims.{HasField};
 ghost use Rattle.linker_section.specs.Inner.Order.{place_of, AreIndexes, IsOrder, IsOverlappedBelow};
 ghost use Rattle.linker_section.specs.Inner.Steps.{IsLimit};
 ghost use Rattle.linker_section.specs.Sections.{BeginsPair};
-ghost use Rattle.linker_section.specs.Values.{IsAscending};
 
 use crate::fields::Field;
 use crate::relocations::{relocation_at, relocation_in, relocations_len};

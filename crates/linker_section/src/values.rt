@@ -1,6 +1,6 @@
 //! The value of a relocation, by what a linker knows of symbols and of the output.
 
-ghost use Rattle.std.specs.Prelude.{◌≡◌, ◌<◌, ◌≤◌, ◌/◌, ℕ, length, Some, IfSome};
+ghost use Rattle.std.specs.Prelude.{◌≡◌, ◌<◌, ◌/◌, Some, IfSome};
 ghost use Rattle.linker_section.specs.Inner.Codes.{SaysNeeds};
 ghost use Rattle.linker_section.specs.Needed.{entry_of, may_use_stub};
 ghost use Rattle.linker_section.specs.Relocations.{relocation_in};
@@ -10,7 +10,7 @@ ghost use Rattle.linker_section.specs.Values.{is_relative, is_offset, weak_addre
 ghost use Rattle.linker_section.specs.Values.{defined_or_weak, target_of, operands_with};
 ghost use Rattle.linker_section.specs.Values.{operands_by, operands_of, has_value, own_value};
 ghost use Rattle.linker_section.specs.Values.{names_label, is_auipc, is_high_kind, is_high_part};
-ghost use Rattle.linker_section.specs.Values.{offset_at, IsAscending, IsHighPartAt, low_operands};
+ghost use Rattle.linker_section.specs.Values.{IsHighPartAt, low_operands};
 ghost use Rattle.linker_section.specs.Values.{low_value, IsValueBy, IsValue};
 ghost use Rattle.linker_utils.specs.Architectures.{IsRow};
 

@@ -1,4 +1,4 @@
-use Rattle.std.proofs.Common.{◌≡◌, ◌+◌, ◌-◌, ◌∙◌, refl, sym, ap, subst, arith, true≢false, Some, None}
+use Rattle.std.proofs.Common.{◌≡◌, ◌-◌, ◌∙◌, refl, sym, ap, subst, arith, true≢false, Some, None}
 use Rattle.std.specs.Prelude.{is_some}
 use Rattle.linker_elf.specs.Relocate.{window_len}
 use Rattle.linker_section.proofs.Rows.{one_info, one_row}

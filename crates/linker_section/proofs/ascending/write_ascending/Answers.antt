@@ -1,4 +1,4 @@
-use Rattle.std.proofs.Common.{◌≡◌, ◌<◌, ◌^◌, ◌∙◌, ◌/◌, refl, ap, subst, arith, rules, length, Ok, Some, None}
+use Rattle.std.proofs.Common.{◌<◌, ◌^◌, ◌∙◌, refl, ap, subst, arith, rules, length, Ok}
 use Rattle.linker_section.proofs.Reaching.{front_first, front_quickly, front_kept, front_slowly, end_fits, there_is, there_isnt, rest_behind, written_below, written_all}
 use Rattle.linker_section.specs.Inner.Steps.{IsQuickStep, IsSlowStep}
 use Rattle.linker_section.proofs.ascending.write_ascending.Goals as goal

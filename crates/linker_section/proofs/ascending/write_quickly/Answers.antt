@@ -1,4 +1,4 @@
-use Rattle.std.proofs.Common.{◌≡◌, ◌+◌, ◌<◌, ◌^◌, ◌∙◌, refl, sym, ap, subst, arith, rules, length, set, FitsSigned, to_z, of_z, true, None}
+use Rattle.std.proofs.Common.{◌<◌, ◌^◌, ◌∙◌, refl, sym, ap, subst, arith, rules, length, set, FitsSigned, to_z, of_z, None}
 use Rattle.std.specs.Int.{w64}
 use Rattle.std.proofs.lemmas.Int.{to_z-of_z}
 use Rattle.linker_elf.specs.Relocate.{window_len}
