@@ -82,6 +82,9 @@ pub mod rewriting {
     pub use crate::linker_rewriting::groups::{
         Group, KeptGroups, Scope, has_rewrites, scope_in, scope_of,
     };
+    pub use crate::linker_rewriting::kept::{
+        KeptFacts, WritingError, first_changed, keep_facts, relocate_rewritten_section,
+    };
     pub use crate::linker_rewriting::phases::Phase;
     pub use crate::linker_rewriting::sections::{rewrite_placed_section, rewrite_section};
     pub use crate::linker_rewriting::surveys::{survey, survey_placed_section};

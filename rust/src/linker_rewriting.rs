@@ -8,6 +8,7 @@ mod codes;
 pub mod decisions;
 pub mod facts;
 pub mod groups;
+pub mod kept;
 mod labels;
 pub mod phases;
 mod relocations;

@@ -4,9 +4,10 @@
 use linker_utils::elf::Architecture::{self, AArch64, LoongArch64, Ppc64, RiscV, X86_64};
 use linker_utils::relaxation::AsDeletion;
 use linker_utils::rewriting::{
-    has_rewrites, rewrite_placed_section, rewrite_section, scope_in, scope_of, survey,
-    survey_placed_section, AsDecision, Decision, FromDeletion, Group, KeptGroups, OutputFacts,
-    Phase, RewritingError, Scope, SymbolFacts,
+    first_changed, has_rewrites, keep_facts, relocate_rewritten_section, rewrite_placed_section,
+    rewrite_section, scope_in, scope_of, survey, survey_placed_section, AsDecision, Decision,
+    FromDeletion, Group, KeptFacts, KeptGroups, OutputFacts, Phase, RewritingError, Scope,
+    SymbolFacts, WritingError,
 };
 use linker_utils::section::{relocate_section, relocation_at, Addresses, Rela, Symbol};
 
@@ -1175,4 +1176,83 @@ fn descriptors_of_riscv_become_offsets() {
     let made = placed(RiscV, phase, &addresses, &near, &[&other]);
     assert_eq!(made[0].0.bytes, other.bytes);
     assert_eq!(made[0].0.relocations, other.relocations);
+}
+
+#[test]
+fn values_are_written_where_the_kept_facts_still_hold() {
+    // addr32 call x, which was call *x@GOTPCREL(%rip)
+    let call = [0x67, 0xe8, 0, 0, 0, 0];
+    let entries = bytes_of(&[rela(2, 2, 1, -4)]);
+    let addresses = Addresses {
+        section: 0x1000,
+        ..Addresses::default()
+    };
+    let values = values(0x2000, 0);
+    let written = |kept: &[KeptFacts], output: &OutputFacts, facts: &[SymbolFacts]| {
+        let mut section = call;
+        let result = relocate_rewritten_section(
+            X86_64,
+            output,
+            facts,
+            kept,
+            &addresses,
+            &entries,
+            &values,
+            &mut section,
+            &mut [0; 1],
+        );
+        (result, section)
+    };
+    let facts = symbols();
+    let mut kept = [KeptFacts::default(); 5];
+    let changed = (Err(WritingError::Changed(0)), call);
+    assert_eq!(written(&kept, &EXECUTABLE, &facts), changed);
+    keep_facts(&EXECUTABLE, &facts, &mut kept);
+    // 0x2000 - 0x1006
+    let done = (Ok(()), [0x67, 0xe8, 0xfa, 0x0f, 0, 0]);
+    assert_eq!(written(&kept, &EXECUTABLE, &facts), done);
+    // each fact of the symbol and of the output counts, and those of other symbols don't
+    let differ: [fn(&mut SymbolFacts); 7] = [
+        |it| it.is_local = false,
+        |it| it.is_ifunc = true,
+        |it| it.is_absolute = true,
+        |it| it.is_undefined_weak = true,
+        |it| it.is_tls_get_addr = true,
+        |it| it.other = 1 << 5,
+        |it| it.other = 7 << 5,
+    ];
+    for change in differ {
+        let mut facts = facts;
+        change(&mut facts[1]);
+        assert_eq!(written(&kept, &EXECUTABLE, &facts), changed);
+        facts[1] = symbols()[1];
+        change(&mut facts[3]);
+        assert_eq!(written(&kept, &EXECUTABLE, &facts), done);
+    }
+    for output in [
+        OutputFacts {
+            is_executable: false,
+            ..EXECUTABLE
+        },
+        OutputFacts {
+            is_fixed: false,
+            ..EXECUTABLE
+        },
+    ] {
+        assert_eq!(written(&kept, &output, &facts), changed);
+    }
+    // visibility isn't read
+    let mut facts = facts;
+    facts[1].other = 2;
+    assert_eq!(written(&kept, &EXECUTABLE, &facts), done);
+    // the first of two, and a symbol that is in no table
+    let two = bytes_of(&[rela(2, 2, 3, -4), rela(2, 0, 1, 0)]);
+    facts[1].is_local = false;
+    assert_eq!(first_changed(&EXECUTABLE, &facts, &kept, &two), Some(1));
+    let none = bytes_of(&[rela(2, 2, 9, -4)]);
+    assert_eq!(first_changed(&EXECUTABLE, &facts, &kept, &none), None);
+    assert_eq!(
+        first_changed(&EXECUTABLE, &facts[..1], &kept, &two),
+        Some(0)
+    );
 }

@@ -20,7 +20,7 @@ use Rattle.linker_final.proofs.Fields.{IsLeft, left}
 use Rattle.linker_final.proofs.Inner.{IsWithin}
 use Rattle.linker_final.proofs.PlainRows.{IsPlain}
 use Rattle.linker_final.proofs.PutBack.{put_back_is, back_inside, back_outside, back_rewritten, same_windows}
-use Rattle.linker_final.proofs.X86Lawful.{HasLaw, IsServed, of_choice}
+use Rattle.linker_final.proofs.X86Lawful.{HasLaw, of_choice}
 use Rattle.linker_final.proofs.X86Names.{got_name, unlabelled}
 use Rattle.linker_final.proofs.X86Patterns.{there_inside, one_same}
 use Rattle.linker_final.proofs.X86Rows.{IsAfterRow}

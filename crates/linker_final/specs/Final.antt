@@ -2,16 +2,23 @@
 use Rattle.std.specs.Prelude.{◌≡◌, ◌≢◌, ◌⊎◌, ℕ, ◌+◌, ◌/◌, ◌^◌, ◌<◌, ◌≤◌, List, ◌++◌, length, take, drop}
 use Rattle.std.specs.List.{All}
 use Rattle.linker_elf.specs.declared.elf.RelocationKindInfo.{RelocationKindInfo}
-use Rattle.linker_rewriting.specs.Decisions.{AreDecidedIn, start_at, written_end_at}
+use Rattle.linker_final.specs.declared.sections.LinkError.{LinkError}
+use Rattle.linker_final.specs.declared.sections.LinkError.TheVariants.{Rewriting, Writing}
+use Rattle.linker_rewriting.specs.Decisions.{IsRejected, AreDecidedIn, start_at, written_end_at}
 use Rattle.linker_rewriting.specs.Facts.{Setting}
+use Rattle.linker_rewriting.specs.Kept.{IsWritingCause}
 use Rattle.linker_rewriting.specs.Rewritten.{AreRelocationsAfter, AreDone, OthersStay}
 use Rattle.linker_rewriting.specs.declared.decisions.Decision.{Decision}
+use Rattle.linker_rewriting.specs.declared.facts.OutputFacts.{OutputFacts}
+use Rattle.linker_rewriting.specs.declared.facts.SymbolFacts.{SymbolFacts}
 use Rattle.linker_rewriting.specs.declared.groups.KeptGroups.{KeptGroups}
+use Rattle.linker_rewriting.specs.declared.kept.KeptFacts.{KeptFacts}
 use Rattle.linker_section.specs.Fields.{IsField, field_end}
 use Rattle.linker_section.specs.Values.{offset_at}
 use Rattle.linker_section.specs.WrittenFields.{AreWritten}
 use Rattle.linker_section.specs.declared.facts.Addresses.{Addresses}
 use Rattle.linker_section.specs.declared.facts.Symbol.{Symbol}
+use Rattle.linker_utils.specs.declared.elf.Architecture.{Architecture}
 
 -- What is passed to `rewrite_section` or `rewrite_placed_section` and then to `relocate_section`, and
 -- what they leave.
@@ -52,6 +59,35 @@ pub record IsLinked (l : Linked) : Type 0 where
   pub relocation_bytes : AreBytes l.relocations
   pub section_bytes : AreBytes l.section
   pub final_bytes : AreBytes l.final
+
+-- of what calls were passed and left
+abbrev pub linked : Setting → List KeptGroups → List ℕ → List ℕ → List Decision → List ℕ → List ℕ
+    → Addresses → List Symbol → List ℕ → Linked
+linked setting kept relocations section decisions relocations_after rewritten addresses symbols final =
+    record {
+      setting = setting;
+      kept = kept;
+      relocations = relocations;
+      section = section;
+      decisions = decisions;
+      relocations_after = relocations_after;
+      rewritten = rewritten;
+      addresses = addresses;
+      symbols = symbols;
+      final = final;
+    }
+
+-- why a section isn't linked: the bytes are then as before, or rewritten
+abbrev pub IsLinkCause : Architecture → OutputFacts → List SymbolFacts → List KeptGroups
+    → List KeptFacts → Addresses → List Symbol → List ℕ → List ℕ → List Decision → List ℕ → List ℕ
+    → LinkError → Type 0
+IsLinkCause architecture output facts groups kept addresses symbols relocations section decisions
+    relocations_after bytes (Rewriting error) =
+    IsRejected architecture output facts groups relocations section decisions error
+    × (relocations_after ≡ relocations) × (bytes ≡ section)
+IsLinkCause architecture output facts groups kept addresses symbols relocations section decisions
+    relocations_after bytes (Writing error) =
+    IsWritingCause architecture output facts kept addresses relocations_after symbols bytes error
 
 -- no rewrite and no field of another relocation has a byte from a start up, below an end
 abbrev pub AreAlone : Linked → ℕ → ℕ → ℕ → Type 0

@@ -1,0 +1,47 @@
+use Rattle.std.proofs.Common.{◌≡◌, ℕ, ◌/◌, ◌^◌, ◌<◌, List, [], ◌∷◌, length, map, get_or, refl, ap, subst, rules}
+use Rattle.std.proofs.lemmas.List.Elements.{All-from_get_or}
+use Rattle.linker_final.specs.Final.{AreBytes}
+use Rattle.linker_rewriting.specs.Decisions.{AreDecidedIn, IsRejected}
+use Rattle.linker_rewriting.specs.Facts.{early}
+use Rattle.linker_rewriting.specs.Rewritten.{AreRelocationsAfter, AreDone, OthersStay}
+use Rattle.linker_rewriting.specs.declared.decisions.Decision.{Decision}
+use Rattle.linker_final.proofs.sections.link_section.Goals as goal
+
+same_decisions : (ds : List Decision) → map (λ d. d) ds ≡ ds
+same_decisions [] = refl
+same_decisions (d ∷ ds) = ap (λ xs. d ∷ xs) (same_decisions ds)
+
+are_bytes : (bytes : List ℕ) → ((i : ℕ) → get_or bytes i 0 < 2 ^ 8) → AreBytes bytes
+are_bytes bytes small = All-from_get_or (λ b. b < 2 ^ 8) bytes 0 (λ i below. small i)
+
+pub returns-in-Err-clause-cause : goal.returns-in-Err-clause-cause
+returns-in-Err-clause-cause c = (
+  subst (λ ds. IsRejected c.args.architecture c.args.output.now c.args.facts.now c.args.groups.now c.args.relocations.now c.args.section.now ds c.in-Err.error)
+      (same_decisions c.rewrite_section.new.decisions) c.in-Err.ensures.rejected,
+  c.in-Err.ensures.entries,
+  c.in-Err.ensures.section,
+)
+
+pub returns-in-Ok-clause-linked : goal.returns-in-Ok-clause-linked
+returns-in-Ok-clause-linked c =
+    let same = same_decisions c.rewrite_section.new.decisions in
+    let before = c.args.relocations.now in
+    let section = c.args.section.now in
+    let count = length before / 24 in
+    let first : (i : ℕ) → get_or before i 0 < 2 ^ 8 = λ i. search rules in
+    let object : (i : ℕ) → get_or section i 0 < 2 ^ 8 = λ i. search rules in
+    let final : (i : ℕ) → get_or c.relocate_rewritten_section.new.section i 0 < 2 ^ 8 = λ i. search rules in (
+      c.rewrite_section.new.section,
+      record {
+        decided = subst (λ ds. AreDecidedIn (early c.args.architecture c.args.output.now c.args.facts.now) c.args.groups.now before section ds count) same c.in_default.ensures.decided;
+        relocations = subst (λ ds. AreRelocationsAfter ds before c.rewrite_section.new.relocations count) same c.in_default.ensures.relocations;
+        done = subst (λ ds. AreDone before ds section c.rewrite_section.new.section count) same c.in_default.ensures.done;
+        others = subst (λ ds. OthersStay before ds section c.rewrite_section.new.section count) same c.in_default.ensures.others;
+        written = c.in-Ok.ensures.fields;
+        as_many = search rules;
+        same_length = search rules;
+        relocation_bytes = are_bytes before first;
+        section_bytes = are_bytes section object;
+        final_bytes = are_bytes c.relocate_rewritten_section.new.section final;
+      },
+    )
