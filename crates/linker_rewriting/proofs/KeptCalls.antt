@@ -1,5 +1,5 @@
 -- Relocations that stay as they are by their code, or as calls by their symbol.
-use Rattle.std.proofs.Common.{◌≡◌, ℕ, ◌∙◌, ◌⊎◌, inl, inr, ◌||◌, ◌&&◌, eqb, not, List, sym, subst, refl, Bool, true, false, true≢false, Option, Some, None}
+use Rattle.std.proofs.Common.{◌≡◌, ℕ, ◌∙◌, ◌⊎◌, inl, inr, ◌||◌, eqb, not, List, sym, subst, refl, Bool, true, false, true≢false, Option, Some, None}
 use Rattle.std.specs.Prelude.{slice_get}
 use Rattle.std.proofs.lemmas.Bool.{and_parts, eqb-true, cases_Bool}
 use Rattle.linker_aarch64.specs.AArch64Rewrites.{IsAArch64Choice}
@@ -180,7 +180,7 @@ by_call s kept bytes section n r scope keeps of call (inr is) = call is
 pub left_decided : (architecture : Architecture) (phase : Phase) (output : OutputFacts)
     (symbols : List SymbolFacts) (addresses : Addresses) (values : List Symbol)
     (kept : List KeptGroups) (bytes section : List ℕ) (n : ℕ) (r : Rela)
-    → IsLeft architecture phase (slice_get symbols r.symbol) r.code
+    → IsLeft architecture phase symbols r
     → IsDecidedAlone (setting architecture phase output symbols addresses values) kept bytes section n r Kept
 left_decided AArch64 Early output symbols addresses values kept bytes section n r left =
     by_call (setting AArch64 Early output symbols addresses values) kept bytes section n r (left.0)

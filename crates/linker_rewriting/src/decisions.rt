@@ -1,7 +1,7 @@
 //! What becomes of each relocation of a section and of its instruction.
 
 ghost use Rattle.std.specs.Prelude.{◌≡◌, ◌<◌, ◌≤◌, ◌+◌, ◌-◌, ◌/◌, length, map, IfSome, IfErr};
-ghost use Rattle.std.specs.Prelude.{OnOk, All, take, drop, true, false, slice_get};
+ghost use Rattle.std.specs.Prelude.{OnOk, All, take, drop, true, false};
 ghost use Rattle.linker_rewriting.specs.declared.decisions.Decision.{Decision as decisions};
 ghost use Rattle.linker_section.specs.Relocations.{relocation_in, relocation_at};
 ghost use Rattle.linker_rewriting.specs.Decisions.{takes_next, window_of, IsDecision, CanBeMade};
@@ -349,8 +349,8 @@ fn decide(
     }
 }
 
-/// Whether no other relocation takes one along, and it stays as it is by its code, or as a call by its
-/// symbol. The scope is for the proof alone: the compiler leaves it out.
+/// Whether no other relocation takes along the one with an index, and it stays as it is by its code, or
+/// as a call by its symbol. The scope is for the proof alone: the compiler leaves it out.
 #[inline(always)]
 fn is_left(
     is_taken: bool,
@@ -359,17 +359,20 @@ fn is_left(
     table: &'static [u8],
     bit: u8,
     symbols: &[SymbolFacts],
-    relocation: &Rela,
+    relocations: &[u8],
+    index: usize,
 ) -> bool
     requires table { table.now ≡ table_of architecture }
     requires bit { bit ≡ bit_of phase }
+    requires within { index < length relocations.now / 24 }
     ensures not_taken { result ≡ true → is_taken ≡ false }
-    ensures left { result ≡ true → IsLeft architecture phase
-        (slice_get symbols.now relocation.now.symbol) relocation.now.code }
+    ensures left { result ≡ true → IsLeft architecture phase symbols.now
+        (relocation_in relocations.now index) }
 {
+    let relocation = relocation_in(relocations, index);
     let scope = scope_in(architecture, phase, relocation.code);
     let listed = is_listed(architecture, phase, table, bit, relocation.code);
-    !is_taken && (!listed || keeps_call(architecture, phase, symbols, relocation))
+    !is_taken && (!listed || keeps_call(architecture, phase, symbols, &relocation))
 }
 
 /// What becomes of a relocation, which another may take along.
@@ -509,7 +512,6 @@ pub(crate) fn decide_section<D: AsDecision>(
     let table = table_of(architecture);
     let bit = bit_of(phase);
     for index in 0..len {
-        let relocation = relocation_in(relocations, index);
         if is_left(
             is_taken,
             architecture,
@@ -517,11 +519,13 @@ pub(crate) fn decide_section<D: AsDecision>(
             table,
             bit,
             symbols,
-            &relocation,
+            relocations,
+            index,
         ) {
             decisions[index] = D::from_decision(Decision::Kept);
             continue;
         }
+        let relocation = relocation_in(relocations, index);
         let stays = is_note(&decisions[index].as_decision());
         let Some(decision) = decide_after(
             is_taken,

@@ -1,10 +1,10 @@
 //! Which groups of an object stay as they are, since one of their instructions can't be rewritten.
 
-ghost use Rattle.std.specs.Prelude.{◌≡◌, ◌+◌, ◌<◌, ◌≤◌, ◌/◌, length, slice_get};
+ghost use Rattle.std.specs.Prelude.{◌≡◌, ◌+◌, ◌<◌, ◌≤◌, ◌/◌, length, slice_get, true};
 ghost use Rattle.linker_section.specs.Relocations.{relocation_in};
 ghost use Rattle.linker_rewriting.specs.Candidates.{calls_tls_get_addr};
 ghost use Rattle.linker_rewriting.specs.Facts.{setting};
-ghost use Rattle.linker_rewriting.specs.Inner.Codes.{bit_of, table_of};
+ghost use Rattle.linker_rewriting.specs.Inner.Codes.{bit_of, table_of, KeepsNone};
 ghost use Rattle.linker_rewriting.specs.Surveys.{IsKeeping, IsMarked, IsUnmarkedIn, IsUnmarkedBy};
 ghost use Rattle.linker_rewriting.specs.Surveys.{AreKeptToo, IsGroup, IsGroupOf, IsOfThreads};
 ghost use Rattle.linker_rewriting.specs.Surveys.{IsSurveyed, IsSurveyedIn};
@@ -52,12 +52,9 @@ fn keep_threads(kept: &mut [KeptGroups], stay: bool)
     }
 }
 
-/// The kind of the groups that a relocation keeps, since it has no rewrite, though it is of one. Most
-/// relocations are of none, which the table of the architecture says by the bit of the phase.
+/// The kind of the groups that a relocation keeps, since it has no rewrite, though it is of one.
 #[inline(always)]
 fn keeping(
-    table: &'static [u8],
-    bit: u8,
     architecture: Architecture,
     phase: Phase,
     output: &OutputFacts,
@@ -69,15 +66,10 @@ fn keeping(
     index: usize,
     relocation: &Rela,
 ) -> Option<Group>
-    requires table { table.now ≡ table_of architecture }
-    requires bit { bit ≡ bit_of phase }
-    requires index { index + 3 ≤ usize.MAX }
+    requires { index + 3 ≤ usize.MAX }
     ensures { IsKeeping (setting architecture phase output.now symbols.now addresses.now values.now)
         relocations.now section.now index relocation.now result }
 {
-    if !is_listed(architecture, phase, table, bit, relocation.code) {
-        return None;
-    }
     match scope_in(architecture, phase, relocation.code) {
         Scope::Grouped(group) => {
             match candidate(
@@ -172,6 +164,30 @@ fn is_unmarked(
     }
 }
 
+/// Whether the relocation with an index keeps no group by its code, and isn't asked for its mark.
+#[inline(always)]
+fn keeps_none(
+    architecture: Architecture,
+    phase: Phase,
+    table: &'static [u8],
+    bit: u8,
+    relocations: &[u8],
+    index: usize,
+) -> bool
+    requires table { table.now ≡ table_of architecture }
+    requires bit { bit ≡ bit_of phase }
+    requires within { index < length relocations.now / 24 }
+    ensures { result ≡ true → KeepsNone architecture phase (relocation_in relocations.now index).code }
+{
+    match (phase, architecture) {
+        (Phase::Early, Architecture::Ppc64) => false,
+        _ => {
+            let relocation = relocation_in(relocations, index);
+            !is_listed(architecture, phase, table, bit, relocation.code)
+        }
+    }
+}
+
 /// Notes which groups stay in a phase, by a section, as `survey` and `survey_placed_section` say.
 #[inline(always)]
 fn survey_in(
@@ -191,10 +207,11 @@ fn survey_in(
     let table = table_of(architecture);
     let bit = bit_of(phase);
     for index in 0..relocations_len(relocations) {
+        if keeps_none(architecture, phase, table, bit, relocations, index) {
+            continue;
+        }
         let relocation = relocation_in(relocations, index);
         let group = keeping(
-            table,
-            bit,
             architecture,
             phase,
             output,

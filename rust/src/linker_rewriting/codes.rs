@@ -88,11 +88,7 @@ pub(crate) fn bit_of(phase: Phase) -> u8 {
 #[inline(always)]
 fn phases_in(table: &'static [u8], code: u32) -> u8 {
     let index = code as usize;
-    if index < table.len() {
-        table[index]
-    } else {
-        0
-    }
+    if index < table.len() { table[index] } else { 0 }
 }
 
 /// Whether a relocation with a code may be rewritten in a phase, by the table of the architecture and

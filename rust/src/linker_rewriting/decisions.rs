@@ -294,8 +294,8 @@ fn decide(
     }
 }
 
-/// Whether no other relocation takes one along, and it stays as it is by its code, or as a call by its
-/// symbol. The scope is for the proof alone: the compiler leaves it out.
+/// Whether no other relocation takes along the one with an index, and it stays as it is by its code, or
+/// as a call by its symbol. The scope is for the proof alone: the compiler leaves it out.
 #[inline(always)]
 fn is_left(
     is_taken: bool,
@@ -304,11 +304,13 @@ fn is_left(
     table: &'static [u8],
     bit: u8,
     symbols: &[SymbolFacts],
-    relocation: &Rela,
+    relocations: &[u8],
+    index: usize,
 ) -> bool {
+    let relocation = relocation_in(relocations, index);
     let scope = scope_in(architecture, phase, relocation.code);
     let listed = is_listed(architecture, phase, table, bit, relocation.code);
-    !is_taken && (!listed || keeps_call(architecture, phase, symbols, relocation))
+    !is_taken && (!listed || keeps_call(architecture, phase, symbols, &relocation))
 }
 
 /// What becomes of a relocation, which another may take along.
@@ -413,7 +415,6 @@ pub(crate) fn decide_section<D: AsDecision>(
     let table = table_of(architecture);
     let bit = bit_of(phase);
     for index in 0..len {
-        let relocation = relocation_in(relocations, index);
         if is_left(
             is_taken,
             architecture,
@@ -421,11 +422,13 @@ pub(crate) fn decide_section<D: AsDecision>(
             table,
             bit,
             symbols,
-            &relocation,
+            relocations,
+            index,
         ) {
             decisions[index] = D::from_decision(Decision::Kept);
             continue;
         }
+        let relocation = relocation_in(relocations, index);
         let stays = is_note(&decisions[index].as_decision());
         let Some(decision) = decide_after(
             is_taken,

@@ -38,12 +38,9 @@ fn keep_threads(kept: &mut [KeptGroups], stay: bool) {
     }
 }
 
-/// The kind of the groups that a relocation keeps, since it has no rewrite, though it is of one. Most
-/// relocations are of none, which the table of the architecture says by the bit of the phase.
+/// The kind of the groups that a relocation keeps, since it has no rewrite, though it is of one.
 #[inline(always)]
 fn keeping(
-    table: &'static [u8],
-    bit: u8,
     architecture: Architecture,
     phase: Phase,
     output: &OutputFacts,
@@ -55,9 +52,6 @@ fn keeping(
     index: usize,
     relocation: &Rela,
 ) -> Option<Group> {
-    if !is_listed(architecture, phase, table, bit, relocation.code) {
-        return None;
-    }
     match scope_in(architecture, phase, relocation.code) {
         Scope::Grouped(group) => {
             match candidate(
@@ -141,6 +135,25 @@ fn is_unmarked(
     }
 }
 
+/// Whether the relocation with an index keeps no group by its code, and isn't asked for its mark.
+#[inline(always)]
+fn keeps_none(
+    architecture: Architecture,
+    phase: Phase,
+    table: &'static [u8],
+    bit: u8,
+    relocations: &[u8],
+    index: usize,
+) -> bool {
+    match (phase, architecture) {
+        (Phase::Early, Architecture::Ppc64) => false,
+        _ => {
+            let relocation = relocation_in(relocations, index);
+            !is_listed(architecture, phase, table, bit, relocation.code)
+        }
+    }
+}
+
 /// Notes which groups stay in a phase, by a section, as `survey` and `survey_placed_section` say.
 #[inline(always)]
 fn survey_in(
@@ -157,10 +170,11 @@ fn survey_in(
     let table = table_of(architecture);
     let bit = bit_of(phase);
     for index in 0..relocations_len(relocations) {
+        if keeps_none(architecture, phase, table, bit, relocations, index) {
+            continue;
+        }
         let relocation = relocation_in(relocations, index);
         let group = keeping(
-            table,
-            bit,
             architecture,
             phase,
             output,

@@ -1,5 +1,6 @@
 -- Calls that stay as they are before addresses are known, by what is known of their symbol.
 use Rattle.std.specs.Prelude.{◌≡◌, ℕ, ◌==◌, ◌||◌, ◌&&◌, ◌⊎◌, not, Bool, true, false, Option, Some, None}
+use Rattle.std.specs.Prelude.{List, slice_get}
 use Rattle.linker_elf.specs.AArch64Relocations.{aarch64_name}
 use Rattle.linker_elf.specs.ElfNames.{code_of}
 use Rattle.linker_elf.specs.Ppc64Relocations.{ppc64_name}
@@ -12,6 +13,7 @@ use Rattle.linker_rewriting.specs.declared.groups.Scope.{Scope}
 use Rattle.linker_rewriting.specs.declared.groups.Scope.TheVariants.{Unlisted}
 use Rattle.linker_rewriting.specs.declared.phases.Phase.{Phase}
 use Rattle.linker_rewriting.specs.declared.phases.Phase.TheVariants.{Early}
+use Rattle.linker_section.specs.declared.relocations.Rela.{Rela}
 use Rattle.linker_utils.specs.declared.elf.Architecture.{Architecture}
 use Rattle.linker_utils.specs.declared.elf.Architecture.TheVariants.{AArch64, Ppc64}
 
@@ -39,8 +41,9 @@ keeps_call Early AArch64 = aarch64_keeps
 keeps_call Early Ppc64 = ppc64_keeps
 keeps_call phase architecture = λ symbol code. false
 
--- a relocation of a symbol stays as it is, by its code or as such a call
-abbrev pub IsLeft : Architecture → Phase → Option SymbolFacts → ℕ → Type 0
-IsLeft architecture phase symbol code =
-    (scope : Scope) × IsScopeIn architecture phase code scope
-    × ((scope ≡ Unlisted) ⊎ (keeps_call phase architecture symbol code ≡ true))
+-- a relocation stays as it is by its code, or as such a call
+abbrev pub IsLeft : Architecture → Phase → List SymbolFacts → Rela → Type 0
+IsLeft architecture phase symbols r =
+    (scope : Scope) × IsScopeIn architecture phase r.code scope
+    × ((scope ≡ Unlisted)
+    ⊎ (keeps_call phase architecture (slice_get symbols r.symbol) r.code ≡ true))

@@ -1,5 +1,5 @@
 -- What the number of a relocation's code says: the phases in which it may be rewritten.
-use Rattle.std.specs.Prelude.{◌≡◌, ℕ, ◌==◌, nat_lt, not, bit_and, if◌then◌else◌, Bool, false, List}
+use Rattle.std.specs.Prelude.{◌≡◌, ℕ, ◌==◌, nat_lt, not, bit_and, if◌then◌else◌, Bool, true, false, List}
 use Rattle.std.specs.Prelude.{length, slice_index}
 use Rattle.linker_rewriting.specs.Groups.{IsScopeIn}
 use Rattle.linker_rewriting.specs.declared.codes.TheConstants as tables
@@ -31,7 +31,17 @@ bit_of Distances = 8
 abbrev pub has_phase : ℕ → Phase → Bool
 has_phase number phase = not (bit_and number (bit_of phase) == 0)
 
+-- PowerPC64: a use of `__tls_get_addr` is asked for its mark
+abbrev pub asks_for_mark : Phase → Architecture → Bool
+asks_for_mark Early architectures.Ppc64 = true
+asks_for_mark phase architecture = false
+
 -- a relocation with a code that isn't listed has no scope
 abbrev pub IsListed : Architecture → Phase → ℕ → Bool → Type 0
 IsListed architecture phase code listed =
     listed ≡ false → IsScopeIn architecture phase code Unlisted
+
+-- it has no scope, and isn't one that is asked for its mark
+abbrev pub KeepsNone : Architecture → Phase → ℕ → Type 0
+KeepsNone architecture phase code =
+    IsScopeIn architecture phase code Unlisted × (asks_for_mark phase architecture ≡ false)

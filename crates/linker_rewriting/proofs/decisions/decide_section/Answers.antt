@@ -3,12 +3,13 @@ use Rattle.std.specs.Prelude.{IfSome, All}
 use Rattle.std.proofs.lemmas.List.{length-map, map-set, drop-set-lt, get_or-map}
 use Rattle.linker_riscv64.proofs.Shrunk.{written_more}
 use Rattle.linker_rewriting.proofs.Deciding.{AreDecidedTo, ends_within, more_decided, more_kept, not_surveyed, decided_after, overlapping, IsGrown}
+use Rattle.linker_section.specs.Relocations.{relocation_in}
 use Rattle.linker_rewriting.specs.Facts.{setting}
 use Rattle.linker_rewriting.specs.Labels.{IsInLabel, IsLabelNote}
 use Rattle.linker_rewriting.specs.Notes.{is_note}
 use Rattle.linker_rewriting.specs.declared.decisions.Decision.TheVariants.{Kept}
 use Rattle.linker_rewriting.proofs.KeptCalls.{left_decided}
-use Rattle.linker_rewriting.specs.Decisions.{decision_at, CanBeMade, IsDecidedAlone, IsDecisionAfter, IsEndBehind, start_by, end_by}
+use Rattle.linker_rewriting.specs.Decisions.{decision_at, CanBeMade, IsDecisionAfter, IsEndBehind, start_by, end_by}
 use Rattle.linker_rewriting.proofs.decisions.decide_section.Goals as goal
 
 pub returns-in_default-clause-rejected : goal.returns-in_default-clause-rejected
@@ -117,8 +118,6 @@ pub loop-index-preserved-then-is_left : goal.loop-index-preserved-then-is_left
 loop-index-preserved-then-is_left g c =
     let a = c.args in
     let k = c.loop-index.index in
-    let r = c.relocation_in-relocation.result in
-    let same = c.relocation_in-relocation.ensures in
     let less : k < length a.relocations.now / 24 =
     (let t = c.loop-index-test.true in let e = c.relocations_len-len.ensures in omega arith) in
     let within : k < length c.loop-index.decisions =
@@ -134,9 +133,8 @@ loop-index-preserved-then-is_left g c =
       decided = subst (λ l. AreDecidedTo s a.kept.now a.relocations.now a.section.now l c.loop-index.end c.loop-index.is_taken (k + 1)) (sym written)
           (more_kept s a.kept.now a.relocations.now a.section.now ds c.loop-index.end c.loop-index.is_taken k
           c.loop-index.invariant.decided within_map (c.is_left.ensures.not_taken c.if-is_left.true)
-          (subst (λ x. IsDecidedAlone s a.kept.now a.relocations.now a.section.now k x Kept) same
-          (left_decided a.architecture a.phase a.output.now a.symbols.now a.addresses.now a.values.now a.kept.now a.relocations.now a.section.now k r
-          (c.is_left.ensures.left c.if-is_left.true))));
+          (left_decided a.architecture a.phase a.output.now a.symbols.now a.addresses.now a.values.now a.kept.now a.relocations.now a.section.now k
+          (relocation_in a.relocations.now k) (c.is_left.ensures.left c.if-is_left.true)));
       form = written_more g.D.AsDecision.is_written xs k c.from_decision.result within c.from_decision.ensures.form c.loop-index.invariant.form;
       others = drop-set-lt (length a.relocations.now / 24) xs k c.from_decision.result less ∙ c.loop-index.invariant.others;
     }
