@@ -15,7 +15,7 @@
  * - frames.c: the table of unwind information
  * - output.c: the file with its symbols
  *
- * The first error ends it, and it never frees memory. */
+ * The first error ends it, and of memory it frees only what is large. */
 #ifndef LINK_H
 #define LINK_H
 

@@ -53,7 +53,6 @@ static size_t add_items(struct output *o, struct linker_utils_item *items, struc
             continue;
         of[len] = r;
     }
-    give_back(makers, all, sizeof *makers);
     return o->items_len;
 }
 
@@ -116,7 +115,6 @@ static void relax_run(struct run *run) {
     items[len++] = (struct linker_utils_item){
         .offset = end, .target = end, .len = unit, .kind = LINKER_UTILS_ITEM_SITE,
         .shapes = {.shorter = {{.max_forward = 1, .granularity = unit}}, .longest = unit, .count = 1}};
-    size_t all = len;
     uint64_t *kept = take(len, sizeof *kept), *freed = take(len + 1, sizeof *freed);
     size_t *places = take(len, sizeof *places);
     uint8_t *shapes = take(len, 1);
@@ -124,8 +122,6 @@ static void relax_run(struct run *run) {
                                          len, freed, len + 1, &at);
     if (status && at < len && of[at]) check(of[at], status);
     if (status) fail("the code can't be relaxed: %s", linker_utils_status_text(status));
-    give_back(freed, len + 1, sizeof *freed);
-    give_back(places, len, sizeof *places);
     run->deltas = take(len, sizeof *run->deltas);
     linker_utils_run_deltas(items, len, kept, len, run->deltas, len, &run->deltas_len);
     index_deltas(run);
@@ -139,7 +135,6 @@ static void relax_run(struct run *run) {
     }
     give_back(items, room, sizeof *items);
     give_back(of, room, sizeof *of);
-    give_back(kept, all, sizeof *kept);
 }
 
 /* Relaxes all code. */
