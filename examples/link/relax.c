@@ -6,7 +6,11 @@
 
 /* Whether objects with such flags have shorter instructions than others. */
 static bool is_compressed(uint32_t flags) {
-    return linker_utils_code_unit(machine, flags) < linker_utils_code_unit(machine, 0);
+    static uint32_t asked;
+    static bool is;
+    if (flags != asked) is = linker_utils_code_unit(machine, flags) < linker_utils_code_unit(machine, 0);
+    asked = flags;
+    return is;
 }
 
 /* What the library is told of a relocation: its target, if that is in the same run. Between a
@@ -32,7 +36,10 @@ static size_t add_items(struct output *o, struct linker_utils_item *items, struc
     size_t all = o->relocations_len, found_len = 0, len = 0, at = SIZE_MAX;
     struct linker_utils_rela *relocations = take(all, sizeof *relocations);
     size_t *makers = take(all, sizeof *makers);
-    for (size_t i = 0; i < all; i++) relocations[i] = seen(o, &o->relocations[i]);
+    for (size_t i = 0; i < all; i++) {
+        __builtin_prefetch(o->relocations[i + 8 < all ? i + 8 : i].symbol);
+        relocations[i] = seen(o, &o->relocations[i]);
+    }
     uint32_t status = linker_utils_section_items(machine, o->bytes, o->len, o->base, relocations, all,
                                                  items, all, makers, all, &found_len, &at);
     if (status && at < all) check(&o->relocations[at], status);
