@@ -160,9 +160,12 @@ void make_entries(void) {
  * ld.lld. */
 static uint64_t target_of(const struct entry *e) {
     const struct symbol *s = e->symbol;
-    if (!s || !is_undefined_weak(s)) return s ? address_of(s->output, s->offset) : 0;
-    if (e->class == LINKER_UTILS_ENTRY_THREAD_OFFSET) return tls.origins.thread_pointer;
-    return e->class == LINKER_UTILS_ENTRY_MODULE_OFFSET ? tls.image : 0;
+    uint64_t at = s ? address_of(s->output, s->offset) : 0;
+    if (s && is_undefined_weak(s))
+        at = e->class == LINKER_UTILS_ENTRY_THREAD_OFFSET   ? tls.origins.thread_pointer
+             : e->class == LINKER_UTILS_ENTRY_MODULE_OFFSET ? tls.image
+                                                            : 0;
+    return at + (uint64_t)e->addend;
 }
 
 /* Writes the GOT. */
@@ -171,7 +174,7 @@ void write_entries(void) {
     struct linker_utils_entry_words words;
     if (got->len && known.has_header) memcpy(got->bytes, &known.header, sizeof known.header);
     for (const struct entry *e = made; e; e = e->later)
-        if (!linker_utils_static_words(e->class, target_of(e) + (uint64_t)e->addend, &tls.origins, &words))
+        if (!linker_utils_static_words(e->class, target_of(e), &tls.origins, &words))
             memcpy(got->bytes + e->offset, &words, 8 * linker_utils_entry_words(e->class));
 }
 
@@ -213,7 +216,8 @@ bool add_thunks(void) {
             if (!r->may_use_stub || r->symbol->is_thunk || is_left_out(r) || is_near(r)) continue;
             struct alone a = alone_of(o, r);
             uint32_t status = linker_utils_route_at(machine, &a.addresses, (const uint8_t *)&a.elf,
-                                                    sizeof a.elf, a.known, 2, 0, o->bytes, o->len, &route);
+                                                    sizeof a.elf, a.known, 2, 0, o->bytes, o->len,
+                                                    &route);
             if (status == LINKER_UTILS_NO_ROOM) check(r, status);
             if (status || !route.is_by_stub) continue;
             uint64_t from = r->symbol->has_stub ? a.known[1].stub : a.known[1].address;

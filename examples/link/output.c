@@ -15,8 +15,8 @@ static Elf64_Shdr heads[MOST_PARTS]; /* of sections; the first is empty */
 static size_t parts_len, heads_len = 1;
 
 static struct output strings = {.name = ".strtab", .align = 1, .has_bytes = true, .type = SHT_STRTAB};
-static struct output symbol_table = {.name = ".symtab", .align = 8, .has_bytes = true, .type = SHT_SYMTAB,
-                              .info = 1, .link = &strings, .element = sizeof(Elf64_Sym)};
+static struct output symbol_table = {.name = ".symtab", .align = 8, .has_bytes = true, .info = 1,
+                                     .type = SHT_SYMTAB, .element = sizeof(Elf64_Sym)};
 
 static void put(uint64_t offset, const void *bytes, uint64_t len) {
     parts[parts_len++] = (struct part){offset, len, bytes};
@@ -58,14 +58,14 @@ static bool is_local(const struct symbol *s) {
 Elf64_Sym symbol_of(const struct symbol *s) {
     Elf64_Sym elf = s->elf;
     const struct output *o = s->output;
-    unsigned bind = is_local(s) ? STB_LOCAL : ELF64_ST_BIND(elf.st_info), type = ELF64_ST_TYPE(elf.st_info);
+    unsigned bind = ELF64_ST_BIND(elf.st_info), type = ELF64_ST_TYPE(elf.st_info);
     elf.st_value = address_of(o, s->offset);
     if (s == module_base || (o && type == STT_TLS)) elf.st_value -= tls.image;
     if (o && elf.st_shndx < SHN_LORESERVE) /* less is left of code that shrinks */
         elf.st_size = address_of(o, s->offset + elf.st_size) - address_of(o, s->offset);
     else if (o && type == STT_GNU_IFUNC) /* its stub */
         type = STT_FUNC, elf.st_size = 0;
-    elf.st_info = ELF64_ST_INFO(bind, type);
+    elf.st_info = ELF64_ST_INFO(is_local(s) ? STB_LOCAL : bind, type);
     if (o) elf.st_shndx = o->index ? o->index : SHN_ABS;
     return elf;
 }

@@ -120,7 +120,8 @@ static void rewrite_loads(struct section *s, bool is_survey) {
         uint32_t type;
         struct linker_utils_choice choice;
         struct linker_utils_link_facts facts = {
-            .is_local = is_defined(word->symbol) && !word->symbol->is_imported, .has_fixed_distance = 1, .has_addresses = 1,
+            .is_local = is_defined(word->symbol) && !word->symbol->is_imported,
+            .has_fixed_distance = 1, .has_addresses = 1,
             .operands = {.got_base = known_got().base, .addend = addend,
                          .symbol = known_symbol(word->symbol).address}};
         linker_utils_entry_relocation(machine, r->type, &type);

@@ -160,7 +160,7 @@ pub(crate) fn candidate(
     let facts = link_facts(
         phase, output, symbols, addresses, values, relocation, relocation, marked,
     );
-    match facts {
+    match &facts {
         Some(facts) => candidate_by(
             architecture,
             symbols,
@@ -168,7 +168,7 @@ pub(crate) fn candidate(
             section,
             index,
             relocation,
-            &facts,
+            facts,
         ),
         None => None,
     }

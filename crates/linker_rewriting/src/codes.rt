@@ -96,11 +96,7 @@ fn phases_in(table: &'static [u8], code: u32) -> u8
     ensures { result ≡ phases_in table.now code }
 {
     let index = code as usize;
-    if index < table.len() {
-        table[index]
-    } else {
-        0
-    }
+    if index < table.len() { table[index] } else { 0 }
 }
 
 /// Whether a relocation with a code may be rewritten in a phase, by the table of the architecture and

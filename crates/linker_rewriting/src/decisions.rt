@@ -367,12 +367,9 @@ fn is_left(
     ensures left { result ≡ true → IsLeft architecture phase
         (slice_get symbols.now relocation.now.symbol) relocation.now.code }
 {
-    if is_taken {
-        return false;
-    }
     let scope = scope_in(architecture, phase, relocation.code);
     let listed = is_listed(architecture, phase, table, bit, relocation.code);
-    !listed || keeps_call(architecture, phase, symbols, relocation)
+    !is_taken && (!listed || keeps_call(architecture, phase, symbols, relocation))
 }
 
 /// What becomes of a relocation, which another may take along.
@@ -422,14 +419,6 @@ fn decide_after(
     )
 }
 
-/// Where the bytes begin that a decision rewrites.
-#[inline(always)]
-fn start_by(decision: &Decision, offset: u64) -> u64
-    ensures { result ≡ start_by decision.now offset }
-{
-    offset.saturating_sub(decision.window().back)
-}
-
 /// Where what is deleted ends; 0 if nothing is.
 #[inline(always)]
 fn deleted_end(offset: u64, deleted: Option<DeletedBytes>) -> u64
@@ -442,15 +431,17 @@ fn deleted_end(offset: u64, deleted: Option<DeletedBytes>) -> u64
     }
 }
 
-/// Where the bytes end that a decision rewrites or deletes.
+/// Where the bytes begin that a decision rewrites, and where those end that it rewrites or deletes.
 #[inline(always)]
-fn end_by(decision: &Decision, offset: u64) -> u64
+fn span_of(decision: &Decision, offset: u64) -> (u64, u64)
     requires { end_by decision.now offset ≤ u64.MAX }
-    ensures { result ≡ end_by decision.now offset }
+    ensures { result ≡ (start_by decision.now offset, end_by decision.now offset) }
 {
-    let end = start_by(decision, offset) + decision.window().len;
+    let window = decision.window();
+    let start = offset.saturating_sub(window.back);
+    let end = start + window.len;
     let deleted = deleted_end(offset, decision.deleted());
-    if end < deleted { deleted } else { end }
+    (start, if end < deleted { deleted } else { end })
 }
 
 /// Where the bytes end that are rewritten or deleted up to some from a start to an end, by where those
@@ -549,8 +540,7 @@ pub(crate) fn decide_section<D: AsDecision>(
         ) else {
             return Err(RewritingError::NotSurveyed(index));
         };
-        let start = start_by(&decision, relocation.offset);
-        let own = end_by(&decision, relocation.offset);
+        let (start, own) = span_of(&decision, relocation.offset);
         let Some(new_end) = end_behind(start, own, end) else {
             return Err(RewritingError::Overlaps(index));
         };

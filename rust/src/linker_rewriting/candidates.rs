@@ -125,7 +125,7 @@ pub(crate) fn candidate(
     let facts = link_facts(
         phase, output, symbols, addresses, values, relocation, relocation, marked,
     );
-    match facts {
+    match &facts {
         Some(facts) => candidate_by(
             architecture,
             symbols,
@@ -133,7 +133,7 @@ pub(crate) fn candidate(
             section,
             index,
             relocation,
-            &facts,
+            facts,
         ),
         None => None,
     }

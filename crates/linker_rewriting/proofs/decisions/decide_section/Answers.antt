@@ -2,7 +2,7 @@ use Rattle.std.proofs.Common.{◌≡◌, ◌<◌, ◌+◌, ◌/◌, ◌∙◌, l
 use Rattle.std.specs.Prelude.{IfSome, All}
 use Rattle.std.proofs.lemmas.List.{length-map, map-set, drop-set-lt, get_or-map}
 use Rattle.linker_riscv64.proofs.Shrunk.{written_more}
-use Rattle.linker_rewriting.proofs.Deciding.{AreDecidedTo, more_decided, more_kept, not_surveyed, decided_after, overlapping, IsGrown}
+use Rattle.linker_rewriting.proofs.Deciding.{AreDecidedTo, ends_within, more_decided, more_kept, not_surveyed, decided_after, overlapping, IsGrown}
 use Rattle.linker_rewriting.specs.Facts.{setting}
 use Rattle.linker_rewriting.specs.Labels.{IsInLabel, IsLabelNote}
 use Rattle.linker_rewriting.specs.Notes.{is_note}
@@ -37,9 +37,8 @@ returns-in_default-end_behind-clause-rejected g c =
       overlapping (setting a.architecture a.phase a.output.now a.symbols.now a.addresses.now a.values.now) a.kept.now a.relocations.now a.section.now (map g.D.AsDecision.decision c.loop-index.decisions) c.loop-index.end k r c.loop-index.is_taken c.in-Some.decision
           (subst (IsDecisionAfter (setting a.architecture a.phase a.output.now a.symbols.now a.addresses.now a.values.now) a.kept.now a.relocations.now a.section.now k r c.loop-index.is_taken) c.in-Some.is c.decide_after.ensures.decision)
           c.relocation_in-relocation.ensures
-          (subst (λ x. IsEndBehind x (end_by c.in-Some.decision r.offset) c.loop-index.end None) c.start_by-start.ensures
-          (subst (λ y. IsEndBehind c.start_by-start.result y c.loop-index.end None) c.end_by-own.ensures
-          (subst (IsEndBehind c.start_by-start.result c.end_by-own.result c.loop-index.end) c.in_default-end_behind.is c.end_behind.ensures)))
+          (subst (λ x. IsEndBehind (x.0) (x.1) c.loop-index.end None) c.span_of-start.ensures
+          (subst (IsEndBehind (c.span_of-start.result.0) (c.span_of-start.result.1) c.loop-index.end) c.in_default-end_behind.is c.end_behind.ensures))
           c.loop-index.invariant.decided.ends,
     )
 
@@ -57,9 +56,8 @@ loop-index-preserved g c =
     (let t = c.loop-index-test.true in let e = c.relocations_len-len.ensures in let f = c.if-decisions-len.false in let l = c.loop-index.auto.decisions in omega arith) in
     let grow : IsGrown a.relocations.now k d c.loop-index.end end =
     subst (λ x. IsEndBehind (start_by d x.offset) (end_by d x.offset) c.loop-index.end (Some end)) same
-    (subst (λ x. IsEndBehind x (end_by d r.offset) c.loop-index.end (Some end)) c.start_by-start.ensures
-    (subst (λ y. IsEndBehind c.start_by-start.result y c.loop-index.end (Some end)) c.end_by-own.ensures
-    (subst (IsEndBehind c.start_by-start.result c.end_by-own.result c.loop-index.end) c.in-Some-end_behind.is c.end_behind.ensures))) in
+    (subst (λ x. IsEndBehind (x.0) (x.1) c.loop-index.end (Some end)) c.span_of-start.ensures
+    (subst (IsEndBehind (c.span_of-start.result.0) (c.span_of-start.result.1) c.loop-index.end) c.in-Some-end_behind.is c.end_behind.ensures)) in
     let f = g.D.AsDecision.decision in
     let xs = c.loop-index.decisions in
     let ds = map f xs in
@@ -142,3 +140,10 @@ loop-index-preserved-then-is_left g c =
       form = written_more g.D.AsDecision.is_written xs k c.from_decision.result within c.from_decision.ensures.form c.loop-index.invariant.form;
       others = drop-set-lt (length a.relocations.now / 24) xs k c.from_decision.result less ∙ c.loop-index.invariant.others;
     }
+
+pub span_of-start-requires : goal.span_of-start-requires
+span_of-start-requires g c =
+    let a = c.args in
+    let o = c.relocation_in-relocation.result.offset in
+    ends_within c.in-Some.decision a.section.now o 0xffffffffffffffff (omega arith) (omega arith)
+    (subst (λ x. IfSome x (λ y. CanBeMade y a.section.now o)) c.in-Some.is c.decide_after.ensures.made)
