@@ -143,9 +143,12 @@ static void make_entry(struct symbol *s, struct entry *e) {
 /* Makes the stubs and the GOT. The local symbols' entries are the last. */
 void make_entries(void) {
     if (got->has_bytes && known_got().has_header) make_room(got, 8, 8);
-    for (int locals = 0; locals < 2; locals++) {
+    bool has_locals = false;
+    for (int locals = 0; locals <= has_locals; locals++) {
         for (struct symbol *s = symbols; s; s = s->later) {
-            if (locals != (ELF64_ST_BIND(s->elf.st_info) == STB_LOCAL)) continue;
+            bool is_local = ELF64_ST_BIND(s->elf.st_info) == STB_LOCAL;
+            has_locals |= is_local && (s->needs_stub || s->entries);
+            if (locals != is_local) continue;
             if (s->needs_stub) make_stub(s);
             for (struct entry *e = s->entries; e; e = e->next) make_entry(s, e);
         }

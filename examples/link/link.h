@@ -15,7 +15,7 @@
  * - frames.c: the table of unwind information
  * - output.c: the file with its symbols
  *
- * The first error ends it, and it never frees memory. */
+ * The first error ends it, and of memory it frees only what is large. */
 #ifndef LINK_H
 #define LINK_H
 
@@ -201,6 +201,7 @@ extern bool has_short_offsets; /* and PowerPC64's local-exec, which ld.lld leave
 extern struct object *objects; /* in the order in which they are read */
 extern struct symbol *symbols; /* all that objects mention, in their order */
 extern size_t symbols_len;
+extern bool has_commons; /* whether one of them has no section yet */
 extern struct symbol *module_base; /* `_TLS_MODULE_BASE_`; null where no object requires it */
 extern struct library *libraries; /* in their order */
 extern struct linker_utils_dynamic_types types;

@@ -57,15 +57,18 @@ static void read_group(struct object *o, const Elf64_Shdr *head, const char *sec
     }
 }
 
-/* A symbol as an object mentions it. */
-static struct symbol mention(const struct object *o, size_t i) {
+/* A symbol as an object mentions it, until the next call. */
+static struct symbol *mention(const struct object *o, size_t i) {
+    static struct symbol s; /* of which nothing else is set */
     const Elf64_Sym *elf = &o->mentions[i];
-    struct symbol s = {.elf = *elf, .object = o, .name = o->names + elf->st_name};
     bool has_section = elf->st_shndx < o->sections_len;
     const struct section *section = &o->sections[has_section ? elf->st_shndx : 0];
-    if (ELF64_ST_TYPE(elf->st_info) == STT_SECTION && has_section) s.name = section->name;
+    bool is_section = ELF64_ST_TYPE(elf->st_info) == STT_SECTION && has_section;
+    s.object = o;
+    s.elf = *elf;
+    s.name = is_section ? section->name : o->names + elf->st_name;
     if (ELF64_ST_BIND(elf->st_info) == STB_WEAK && section->is_discarded) s.elf.st_shndx = 0;
-    return s;
+    return &s;
 }
 
 static void read_symbols(struct object *o, const Elf64_Shdr *head) {
@@ -88,12 +91,12 @@ static void read_symbols(struct object *o, const Elf64_Shdr *head) {
         if (type == STT_TLS && at && has_section && !(o->heads[at].sh_flags & SHF_TLS))
             fail("%s: %s: '%s' is thread-local in a section that is not", o->path,
                  o->sections[at].name, name);
-        if (bind == STB_LOCAL) *(o->symbols[i] = local++) = mention(o, i);
+        if (bind == STB_LOCAL) *(o->symbols[i] = local++) = *mention(o, i);
         else expect(o->hashes[i] = hash_of(name));
     }
     for (size_t i = locals_len; i < o->symbols_len; i++) {
-        struct symbol s = mention(o, i);
-        if (s.elf.st_shndx != SHN_UNDEF) o->symbols[i] = resolve(&s, o->hashes[i]);
+        struct symbol *s = mention(o, i);
+        if (is_defined(s)) o->symbols[i] = resolve(s, o->hashes[i]);
     }
     o->below = reading;
     reading = o;
@@ -110,9 +113,7 @@ static void resolve_all(void) {
         }
         o->resolved_len++;
         expect(o->hashes[i + 16 < o->symbols_len ? i + 16 : i]);
-        if (o->symbols[i]) continue;
-        struct symbol s = mention(o, i);
-        o->symbols[i] = resolve(&s, o->hashes[i]);
+        if (!o->symbols[i]) o->symbols[i] = resolve(mention(o, i), o->hashes[i]);
     }
 }
 

@@ -6,7 +6,11 @@
 
 /* Whether objects with such flags have shorter instructions than others. */
 static bool is_compressed(uint32_t flags) {
-    return linker_utils_code_unit(machine, flags) < linker_utils_code_unit(machine, 0);
+    static uint32_t asked;
+    static bool is;
+    if (flags != asked) is = linker_utils_code_unit(machine, flags) < linker_utils_code_unit(machine, 0);
+    asked = flags;
+    return is;
 }
 
 /* What the library is told of a relocation: its target, if that is in the same run. Between a
@@ -32,7 +36,10 @@ static size_t add_items(struct output *o, struct linker_utils_item *items, struc
     size_t all = o->relocations_len, found_len = 0, len = 0, at = SIZE_MAX;
     struct linker_utils_rela *relocations = take(all, sizeof *relocations);
     size_t *makers = take(all, sizeof *makers);
-    for (size_t i = 0; i < all; i++) relocations[i] = seen(o, &o->relocations[i]);
+    for (size_t i = 0; i < all; i++) {
+        __builtin_prefetch(o->relocations[i + 8 < all ? i + 8 : i].symbol);
+        relocations[i] = seen(o, &o->relocations[i]);
+    }
     uint32_t status = linker_utils_section_items(machine, o->bytes, o->len, o->base, relocations, all,
                                                  items, all, makers, all, &found_len, &at);
     if (status && at < all) check(&o->relocations[at], status);
@@ -53,7 +60,6 @@ static size_t add_items(struct output *o, struct linker_utils_item *items, struc
             continue;
         of[len] = r;
     }
-    give_back(makers, all, sizeof *makers);
     return o->items_len;
 }
 
@@ -116,7 +122,6 @@ static void relax_run(struct run *run) {
     items[len++] = (struct linker_utils_item){
         .offset = end, .target = end, .len = unit, .kind = LINKER_UTILS_ITEM_SITE,
         .shapes = {.shorter = {{.max_forward = 1, .granularity = unit}}, .longest = unit, .count = 1}};
-    size_t all = len;
     uint64_t *kept = take(len, sizeof *kept), *freed = take(len + 1, sizeof *freed);
     size_t *places = take(len, sizeof *places);
     uint8_t *shapes = take(len, 1);
@@ -124,8 +129,6 @@ static void relax_run(struct run *run) {
                                          len, freed, len + 1, &at);
     if (status && at < len && of[at]) check(of[at], status);
     if (status) fail("the code can't be relaxed: %s", linker_utils_status_text(status));
-    give_back(freed, len + 1, sizeof *freed);
-    give_back(places, len, sizeof *places);
     run->deltas = take(len, sizeof *run->deltas);
     linker_utils_run_deltas(items, len, kept, len, run->deltas, len, &run->deltas_len);
     index_deltas(run);
@@ -139,7 +142,6 @@ static void relax_run(struct run *run) {
     }
     give_back(items, room, sizeof *items);
     give_back(of, room, sizeof *of);
-    give_back(kept, all, sizeof *kept);
 }
 
 /* Relaxes all code. */

@@ -118,6 +118,7 @@ static size_t table_len = 1, table_room;
 static uint64_t number_of(const struct relocation *r) {
     bool has_entry = r->entry && r->entry != module_entry;
     uint32_t *number = has_entry ? &r->entry->number : &r->symbol->number;
+    if (*number) __builtin_prefetch(&table[*number]);
     if (*number) return *number;
     table = grow(table == &none ? NULL : table, table_len + symbols_len, &table_room, sizeof *table);
     table[table_len] = known_of(r);
@@ -161,7 +162,8 @@ static void relocate_section(const struct section *s) {
     static uint64_t *memory;
     static size_t rooms[2];
     elf = grow(elf, len, &rooms[0], sizeof *elf);
-    for (size_t i = 0; i < len; i++) __builtin_prefetch(r[i].entry ? (void *)r[i].entry : r[i].symbol);
+    for (size_t i = len; i < 2 * len && s->first + i < o->relocations_len; i++) /* of the next section */
+        __builtin_prefetch(r[i].entry ? (void *)r[i].entry : r[i].symbol);
     for (size_t i = 0; i < len; i++) {
         bool is_there = r[i].symbol->output || !is_left_out(&r[i]);
         bool has_value = row_of(&r[i])->kind && is_there && !change_number(o, &r[i]);

@@ -24,6 +24,7 @@ static bool is_code(const struct section *s) {
 static void note_facts(struct object *o, const struct symbol *tls_get_addr) {
     for (size_t i = 1; i < o->symbols_len; i++) {
         const struct symbol *s = o->symbols[i];
+        __builtin_prefetch(o->symbols[i + 8 < o->symbols_len ? i + 8 : i]);
         if (values) values[i] = known_symbol(s);
         hides[i] = !s->is_imported && s != tls_get_addr && !is_here(s);
         o->is_threaded |= is_thread_local(s);

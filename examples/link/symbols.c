@@ -4,6 +4,7 @@
 
 struct symbol *symbols, *module_base;
 size_t symbols_len;
+bool has_commons;
 
 /* Symbols by their names. At most half of the cells are taken. */
 static struct table {
@@ -141,6 +142,7 @@ void list_symbol(struct symbol *s) {
     if (s->is_listed) return;
     s->is_listed = true;
     symbols_len++;
+    has_commons |= s->elf.st_shndx == SHN_COMMON;
     *end = s;
     end = &s->later;
 }
