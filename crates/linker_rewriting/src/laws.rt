@@ -1,6 +1,7 @@
 //! Laws of surveys and of sections that are rewritten by them. The functions do nothing.
 
 ghost use Rattle.linker_rewriting.specs.Decisions.{DecisionsFollow};
+ghost use Rattle.linker_rewriting.specs.Kept.{KeptFactsTell};
 ghost use Rattle.linker_rewriting.specs.Rewritten.{GroupsAreWholeAcross, LoadsAreWhole};
 ghost use Rattle.linker_rewriting.specs.Surveys.{NotesStay, SurveysCommute};
 
@@ -30,4 +31,9 @@ pub fn groups_are_whole_across()
 /// loads of its symbol are.
 pub fn loads_are_whole()
     ensures { LoadsAreWhole }
+{}
+
+/// Where the same bits are kept of two symbols, choices read the same of them in every phase.
+pub fn kept_facts_tell()
+    ensures { KeptFactsTell }
 {}

@@ -2,10 +2,13 @@
 //! instructions are rewritten, all of a group or none, and what becomes of their relocations.
 #![tactic(auto)]
 
+mod calls;
 pub mod candidates;
+mod codes;
 pub mod decisions;
 pub mod facts;
 pub mod groups;
+pub mod kept;
 mod labels;
 pub mod laws;
 pub mod phases;

@@ -1,14 +1,16 @@
 //! Which groups of an object stay as they are, since one of their instructions can't be rewritten.
 
-ghost use Rattle.std.specs.Prelude.{◌+◌, ◌<◌, ◌≤◌, ◌/◌, length, slice_get};
+ghost use Rattle.std.specs.Prelude.{◌≡◌, ◌+◌, ◌<◌, ◌≤◌, ◌/◌, length, slice_get};
 ghost use Rattle.linker_section.specs.Relocations.{relocation_in};
 ghost use Rattle.linker_rewriting.specs.Candidates.{calls_tls_get_addr};
 ghost use Rattle.linker_rewriting.specs.Facts.{setting};
+ghost use Rattle.linker_rewriting.specs.Inner.Codes.{bit_of, table_of};
 ghost use Rattle.linker_rewriting.specs.Surveys.{IsKeeping, IsMarked, IsUnmarkedIn, IsUnmarkedBy};
 ghost use Rattle.linker_rewriting.specs.Surveys.{AreKeptToo, IsGroup, IsGroupOf, IsOfThreads};
 ghost use Rattle.linker_rewriting.specs.Surveys.{IsSurveyed, IsSurveyedIn};
 
 use crate::candidates::{candidate, is_matched, is_tls_get_addr};
+use crate::codes::{bit_of, is_listed, table_of};
 use crate::facts::{NO_ADDRESSES, OutputFacts, SymbolFacts};
 use crate::groups::{Group, KeptGroups, Scope, marks_call, scope_in, symbol_of_group};
 use crate::phases::Phase;
@@ -50,9 +52,12 @@ fn keep_threads(kept: &mut [KeptGroups], stay: bool)
     }
 }
 
-/// The kind of the groups that a relocation keeps, since it has no rewrite, though it is of one.
+/// The kind of the groups that a relocation keeps, since it has no rewrite, though it is of one. Most
+/// relocations are of none, which the table of the architecture says by the bit of the phase.
 #[inline(always)]
 fn keeping(
+    table: &'static [u8],
+    bit: u8,
     architecture: Architecture,
     phase: Phase,
     output: &OutputFacts,
@@ -64,10 +69,15 @@ fn keeping(
     index: usize,
     relocation: &Rela,
 ) -> Option<Group>
-    requires { index + 3 ≤ usize.MAX }
+    requires table { table.now ≡ table_of architecture }
+    requires bit { bit ≡ bit_of phase }
+    requires index { index + 3 ≤ usize.MAX }
     ensures { IsKeeping (setting architecture phase output.now symbols.now addresses.now values.now)
         relocations.now section.now index relocation.now result }
 {
+    if !is_listed(architecture, phase, table, bit, relocation.code) {
+        return None;
+    }
     match scope_in(architecture, phase, relocation.code) {
         Scope::Grouped(group) => {
             match candidate(
@@ -178,9 +188,13 @@ fn survey_in(
     ensures { IsSurveyedIn (setting architecture phase output.now symbols.now addresses.now
         values.now) relocations.now section.now kept.old kept.new (length relocations.now / 24) }
 {
+    let table = table_of(architecture);
+    let bit = bit_of(phase);
     for index in 0..relocations_len(relocations) {
         let relocation = relocation_in(relocations, index);
         let group = keeping(
+            table,
+            bit,
             architecture,
             phase,
             output,

@@ -10,6 +10,7 @@ pub mod First
 pub mod Firsts
 pub mod Frees
 pub mod Layouts
+pub mod Listed
 pub mod LongSites
 pub mod LoongArch
 pub mod LoongArchAddresses
@@ -17,6 +18,7 @@ pub mod LoongArchCalls36
 pub mod LoongArchMadeSites
 pub mod LoongArchReaches
 pub mod LoongArchWritable
+pub mod LoongArchItems
 pub mod Made
 pub mod MadeSites
 pub mod Multiples
@@ -34,6 +36,7 @@ pub mod RiscVLongCalls
 pub mod RiscVMadeSites
 pub mod RiscVReaches
 pub mod RiscVWritable
+pub mod RiscVItems
 pub mod Rounds
 pub mod Same
 pub mod Shrunk

@@ -2,6 +2,7 @@
 //! Which groups of an object stay as they are, since one of their instructions can't be rewritten.
 
 use crate::linker_rewriting::candidates::{candidate, is_matched, is_tls_get_addr};
+use crate::linker_rewriting::codes::{bit_of, is_listed, table_of};
 use crate::linker_rewriting::facts::{NO_ADDRESSES, OutputFacts, SymbolFacts};
 use crate::linker_rewriting::groups::{Group, KeptGroups, Scope, marks_call, scope_in, symbol_of_group};
 use crate::linker_rewriting::phases::Phase;
@@ -37,9 +38,12 @@ fn keep_threads(kept: &mut [KeptGroups], stay: bool) {
     }
 }
 
-/// The kind of the groups that a relocation keeps, since it has no rewrite, though it is of one.
+/// The kind of the groups that a relocation keeps, since it has no rewrite, though it is of one. Most
+/// relocations are of none, which the table of the architecture says by the bit of the phase.
 #[inline(always)]
 fn keeping(
+    table: &'static [u8],
+    bit: u8,
     architecture: Architecture,
     phase: Phase,
     output: &OutputFacts,
@@ -51,6 +55,9 @@ fn keeping(
     index: usize,
     relocation: &Rela,
 ) -> Option<Group> {
+    if !is_listed(architecture, phase, table, bit, relocation.code) {
+        return None;
+    }
     match scope_in(architecture, phase, relocation.code) {
         Scope::Grouped(group) => {
             match candidate(
@@ -147,9 +154,13 @@ fn survey_in(
     section: &[u8],
     kept: &mut [KeptGroups],
 ) {
+    let table = table_of(architecture);
+    let bit = bit_of(phase);
     for index in 0..relocations_len(relocations) {
         let relocation = relocation_in(relocations, index);
         let group = keeping(
+            table,
+            bit,
             architecture,
             phase,
             output,

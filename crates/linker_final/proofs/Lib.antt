@@ -1,0 +1,10 @@
+pub mod Chosen
+pub mod Fields
+pub mod Inner
+pub mod PlainRows
+pub mod PutBack
+pub mod X86Finals
+pub mod X86Lawful
+pub mod X86Names
+pub mod X86Patterns
+pub mod X86Rows

@@ -1,0 +1,172 @@
+-- Rows of whole bytes whose value replaces what is there, and what a section's relocation of such a row
+-- leaves in its field.
+use Rattle.std.proofs.Common.{◌≡◌, ℕ, zero, suc, ℤ, pos, ◌*◌, ◌%◌, ◌^◌, ◌<◌, ◌≤◌, List, drop, true, false, eqb, ltb, cond, refl, sym, ap, subst, ◌∙◌, inl, inr, arith, Option, Some, None, Ok, Err, Result, IsSomeAnd}
+use Rattle.std.proofs.lemmas.Bool.{cases_eq, cases_lt, cases_Bool, cond-true, cond-false, eq-eqb, eqb-true, lt-ltb, le-ltb}
+use Rattle.std.specs.Prelude.{⊤}
+use Rattle.std.specs.Int.{w64, cast_unsigned, int_rem_euclid}
+use Rattle.linker_elf.specs.Elf.{IsWithin}
+use Rattle.linker_elf.specs.Reach.{reach_of}
+use Rattle.linker_elf.specs.Relocate.{number_of_bytes, number_written}
+use Rattle.linker_elf.specs.Value.{value_of}
+use Rattle.linker_elf.specs.declared.elf.RelocationKindInfo.{RelocationKindInfo}
+use Rattle.linker_elf.specs.declared.elf.RelocationSize.TheVariants.{ByteSize}
+use Rattle.linker_elf.specs.declared.elf.value.Operands.{Operands}
+use Rattle.linker_section.proofs.Rows.{one_row, one_info}
+use Rattle.linker_section.specs.Fields.{field_len, is_of_pair}
+use Rattle.linker_section.specs.Sections.{IsRowValue}
+use Rattle.linker_section.specs.Values.{IsValueIn, IsValueBy, has_value, names_label, offset_at, operands_of, own_value, value_by}
+use Rattle.linker_section.specs.WrittenFields.{Found, composed, composed_by, composed_with, HoldsNumber}
+use Rattle.linker_section.specs.declared.facts.Addresses.{Addresses}
+use Rattle.linker_section.specs.declared.facts.Symbol.{Symbol}
+use Rattle.linker_section.specs.declared.relocations.Rela.{Rela}
+use Rattle.linker_section.specs.declared.values.ValueError.{ValueError}
+use Rattle.linker_utils.specs.Architectures.{IsRow}
+use Rattle.linker_utils.specs.declared.elf.Architecture.{Architecture}
+
+-- of n bytes, which the value replaces
+pub record IsPlain (n : ℕ) (row : RelocationKindInfo) : Type 0 where
+  pub size : row.size ≡ ByteSize n
+  pub valued : has_value row.kind ≡ true
+  pub unlabelled : names_label row.size row.kind ≡ false
+  pub alone : is_of_pair row ≡ false
+  pub some : (o : Operands) → IsSomeAnd (value_of row o) (λ _. ⊤)
+  pub writes : (v : ℤ) (old : ℕ) → number_written row.kind v old ≡ cast_unsigned w64 v
+  pub composes : (v number : ℤ) → composed_with row.kind v number ≡ v
+  pub remainder : (v : ℤ) → IsWithin (reach_of row) v
+      → int_rem_euclid v (pos (2 ^ (8 * n))) ≡ pos (cast_unsigned w64 v % 2 ^ (8 * n))
+  pub holds : (len : ℕ) (v : ℤ) (before after : List ℕ) → HoldsNumber row.kind len v before after
+      → pos (number_of_bytes len after) ≡ int_rem_euclid v (pos (2 ^ (8 * len)))
+
+-- ---- what is composed at the field
+
+-- a relocation without a field in the bytes there composes nothing
+by_other : (there : List ℕ) (f : Option (RelocationKindInfo × ℤ)) (number : ℤ)
+    → ((row : RelocationKindInfo) (v : ℤ) → f ≡ Some (row, v) → 0 < field_len row there → ⊥)
+    → composed_by there f number ≡ number
+by_other there None number far = refl
+by_other there (Some one) number far =
+    cond-false (ltb 0 (field_len (one.0) there)) (composed_with (one.0).kind (one.1) number) number
+    (le-ltb 0 (field_len (one.0) there) (elim (cases_lt 0 (field_len (one.0) there)) [
+      | inl some ↦ absurd (far (one.0) (one.1) refl some)
+      | inr empty ↦ empty
+    ]))
+
+by_own : (there : List ℕ) (row : RelocationKindInfo) (v number : ℤ) → 0 < field_len row there
+    → composed_with row.kind v number ≡ v → composed_by there (Some (row, v)) number ≡ v
+by_own there row v number some is =
+    cond-true (ltb 0 (field_len row there)) (composed_with row.kind v number) number
+    (lt-ltb 0 (field_len row there) some) ∙ is
+
+module _ (found : Found) (bytes section : List ℕ) (number : ℤ) (i : ℕ) (row : RelocationKindInfo)
+    (v : ℤ) (is : found i ≡ Some (row, v)) (one : (m : ℤ) → composed_with row.kind v m ≡ v)
+    (some : 0 < field_len row (drop (offset_at bytes i) section))
+    (total : ℕ)
+    (far : (j : ℕ) (other : RelocationKindInfo) (w : ℤ) → j < total → (j ≡ i → ⊥)
+    → found j ≡ Some (other, w) → offset_at bytes j ≡ offset_at bytes i
+    → 0 < field_len other (drop (offset_at bytes i) section) → ⊥) where
+  abbrev so_far : ℕ → ℤ
+  so_far n = composed found bytes section (offset_at bytes i) number n
+
+  there : List ℕ
+  there = drop (offset_at bytes i) section
+
+  next : (n : ℕ) → so_far (suc n)
+      ≡ cond (eqb (offset_at bytes n) (offset_at bytes i))
+      (composed_by (drop (offset_at bytes i) section) (found n) (so_far n)) (so_far n)
+  next n = refl
+
+  passed : (n : ℕ) → n < total → (n ≡ i → ⊥) → so_far (suc n) ≡ so_far n
+  passed n below isnt =
+      next n ∙ elim (cases_Bool (eqb (offset_at bytes n) (offset_at bytes i))) [
+        | inl here ↦
+            cond-true (eqb (offset_at bytes n) (offset_at bytes i))
+            (composed_by (drop (offset_at bytes i) section) (found n) (so_far n)) (so_far n) here
+            ∙ by_other (drop (offset_at bytes i) section) (found n) (so_far n)
+            (λ other w is_other wide.
+            far n other w below isnt is_other (eqb-true (offset_at bytes n) (offset_at bytes i) here) wide)
+        | inr away ↦
+            cond-false (eqb (offset_at bytes n) (offset_at bytes i))
+            (composed_by (drop (offset_at bytes i) section) (found n) (so_far n)) (so_far n) away
+      ]
+
+  own : (n : ℕ) → n ≡ i → so_far (suc n) ≡ v
+  own n same =
+      next n
+      ∙ (cond-true (eqb (offset_at bytes n) (offset_at bytes i))
+      (composed_by (drop (offset_at bytes i) section) (found n) (so_far n)) (so_far n)
+      (eq-eqb (offset_at bytes n) (offset_at bytes i) (ap (offset_at bytes) same))
+      ∙ (ap (λ f. composed_by (drop (offset_at bytes i) section) f (so_far n)) (ap found same ∙ is)
+      ∙ by_own (drop (offset_at bytes i) section) row v (so_far n) some (one (so_far n))))
+
+  -- the value
+  pub composed_alone : (n : ℕ) → n ≤ total → i < n
+      → composed found bytes section (offset_at bytes i) number n ≡ v
+  composed_alone zero most below = absurd (omega (arith, below))
+  composed_alone (suc n) most below =
+      elim (cases_eq n i) [
+        | inl same ↦ own n same
+        | inr isnt ↦
+            passed n (omega (arith, most)) isnt
+            ∙ composed_alone n (omega (arith, most)) (omega (arith, below, isnt))
+      ]
+
+-- ---- what is found
+
+abbrev value_in : ℤ → Option ℤ → ℤ
+value_in other None = other
+value_in other (Some v) = v
+
+-- a relocation of a row, with the operands of its formula, has the value of the formula
+pub record IsFoundOf (row : RelocationKindInfo) (operands : Operands)
+    (found : Option (RelocationKindInfo × ℤ)) : Type 0 where
+  pub value : ℤ
+  pub is : found ≡ Some (row, value)
+  pub value_is : value_of row operands ≡ Some value
+
+module _ (architecture : Architecture) (addresses : Addresses) (bytes : List ℕ)
+    (symbols : List Symbol) (r : Rela) (row : RelocationKindInfo) (operands : Operands)
+    (is_row : IsRow architecture r.code (Some row))
+    (valued : has_value row.kind ≡ true)
+    (unlabelled : names_label row.size row.kind ≡ false)
+    (taken : operands_of architecture addresses symbols row r ≡ Ok operands)
+    (some : IsSomeAnd (value_of row operands) (λ _. ⊤)) where
+  own_is : own_value architecture addresses symbols row r ≡ Ok (value_of row operands)
+  own_is =
+      cond-true (has_value row.kind) (value_by row (operands_of architecture addresses symbols row r))
+      (Ok None) valued
+      ∙ ap (value_by row) taken
+
+  by_row : (result : Result (Option ℤ) ValueError)
+      → IsValueIn architecture addresses bytes symbols r (Some row) result
+      → result ≡ Ok (value_of row operands)
+  by_row result is =
+      subst (λ labels. IsValueBy labels architecture addresses bytes symbols row r result) unlabelled is
+      ∙ own_is
+
+  abbrev of_ok : Result (Option ℤ) ValueError → Option ℤ
+  of_ok (Ok found) = found
+  of_ok (Err error) = None
+
+  some_is_not : (value : Option ℤ) → IsSomeAnd value (λ _. ⊤) → None ≡ value → ⊥
+  some_is_not None nothing is = nothing
+  some_is_not (Some v) there is = absurd (let e : None ≡ Some v = is in cc)
+
+  pub found_is : (found : Option (RelocationKindInfo × ℤ))
+      → IsRowValue architecture addresses bytes symbols r (Ok found)
+      → IsFoundOf row operands found
+  found_is (Some one) has =
+      let same : one.0 ≡ row = one_info architecture r.code (one.0) row has.is_row is_row in
+      let value : Ok (Some (one.1)) ≡ Ok (value_of row operands) =
+      by_row (Ok (Some (one.1)))
+      (subst (λ x. IsValueIn architecture addresses bytes symbols r (Some x) (Ok (Some (one.1)))) same has.is_value) in
+      record {
+        value = one.1;
+        is = ap (λ x. Some (x, one.1)) same;
+        value_is = sym (ap of_ok value);
+      }
+  found_is None marked =
+      let same = one_row architecture r.code (marked.0) (Some row) (marked.1) is_row in
+      let value : Ok None ≡ Ok (value_of row operands) =
+      by_row (Ok None)
+      (subst (λ x. IsValueIn architecture addresses bytes symbols r x (Ok None)) same (marked.2)) in
+      absurd (some_is_not (value_of row operands) some (ap of_ok value))

@@ -1,0 +1,401 @@
+-- Each rewrite that is chosen for an instruction with an operand in the GOT has a law.
+use Rattle.std.proofs.Common.{◌≡◌, ℕ, pos, neg_ℤ, ◌+◌, ◌-◌, ◌≤◌, List, [], ◌∷◌, length, Bool, true, false, IsTrue, eqb, cond, refl, sym, ap, subst, ◌∙◌, inl, inr, arith, Option, Some, None}
+use Rattle.std.specs.Prelude.{slice_index, ⊤}
+use Rattle.linker_elf.specs.Choices.{AllHold, Applies, IsFirst, choice}
+use Rattle.linker_elf.specs.X86Relocations.{x86_64_row}
+use Rattle.linker_elf.specs.declared.elf.choice.Choice.{Choice}
+use Rattle.linker_elf.specs.declared.elf.choice.LinkFacts.{LinkFacts}
+use Rattle.linker_elf.specs.declared.elf.value.Operands.{Operands}
+use Rattle.linker_elf.specs.declared.x86_64.relocations.X86_64Relocation.{X86_64Relocation}
+use Rattle.linker_elf.specs.declared.x86_64.relocations.X86_64Relocation.TheVariants as names
+use Rattle.linker_final.proofs.Inner.{IsWithin, within, lea, jump, wide}
+use Rattle.linker_final.proofs.X86Rows.{IsAfterRow, pc32, absolute32, signed32, tpoff32}
+use Rattle.linker_final.specs.X86Final.{GotOperand, got_operand}
+use Rattle.linker_laws.specs.X86RewriteLaws.{DoesTheSame, Laws, address, thread_offset}
+use Rattle.linker_x86_64.specs.X86RelocationsAfter.{x86_64_relocation_after, immediate_of}
+use Rattle.linker_x86_64.specs.X86Rewrites as x86
+use Rattle.linker_x86_64.specs.X86Rewrites.{Original, original, is_one_at, legacy, x86_64_matches, x86_64_originals, x86_64_rewrite, x86_64_after, x86_64_table, IsAskedFor, IsByTable, IsX86Choice, X86Entry, Table}
+use Rattle.linker_x86_64.specs.declared.rewrites.RelaxationKind.{RelaxationKind}
+use Rattle.linker_x86_64.specs.declared.rewrites.RelaxationKind.TheVariants as kinds
+
+-- ---- the shape of a rewrite
+
+-- an instruction of at most n bytes before its field of 4 bytes
+abbrev pub HasShape : ℕ → Original → Type 0
+HasShape n r = (r.back ≤ n) × (length r.bytes ≤ r.back + 4)
+
+abbrev pub HaveShape : ℕ → List Original → Type 0
+HaveShape n [] = ⊤
+HaveShape n (r ∷ rs) = HasShape n r × HaveShape n rs
+
+-- with n bytes
+abbrev pub AreOf : ℕ → List Original → Type 0
+AreOf n [] = ⊤
+AreOf n (r ∷ rs) = (r.back ≡ n × length r.bytes ≡ n + 4) × AreOf n rs
+
+pub shaped_of : (n : ℕ) (rs : List Original) → AreOf n rs → HaveShape n rs
+shaped_of n [] are = tt
+shaped_of n (r ∷ rs) are =
+    let back = are.0.0 in
+    let long = are.0.1 in
+    ((omega (arith, back), omega (arith, back, long)), shaped_of n rs (are.1))
+
+-- ---- a rewrite with its law
+
+-- for a relocation of a name, with n bytes before the field, and what the GOT's entry holds
+pub record HasLaw (n : ℕ) (name : X86_64Relocation) (held : Operands → ℕ) (section : List ℕ) (o : ℕ)
+    (chosen : Choice RelaxationKind X86_64Relocation) : Type 0 where
+  pub instructions : List Original
+  pub are_of : AreOf n instructions
+  pub there : IsTrue (is_one_at instructions section o)
+  pub matches : x86_64_matches chosen.kind section o
+  pub shaped_too : HaveShape n (x86_64_originals chosen.kind)
+  pub after : x86_64_relocation_after chosen.kind name ≡ Some chosen.relocation
+  pub law : DoesTheSame n instructions name chosen.kind held
+  pub within : IsWithin n (x86_64_rewrite chosen.kind)
+  pub row : IsAfterRow chosen.relocation
+
+-- a rewrite that is asked for at some instructions has a law
+pub record Serves (n : ℕ) (name : X86_64Relocation) (held : Operands → ℕ) (asked : List Original)
+    (e : X86Entry) : Type 0 where
+  pub serve : (section : List ℕ) (o : ℕ) → IsAskedFor asked e.kind section o
+      → HasLaw n name held section o (choice e.kind e.relocation)
+
+-- by a law of the instructions that are asked for
+pub by_asked : (n : ℕ) (name : X86_64Relocation) (held : Operands → ℕ) (asked : List Original)
+    (e : X86Entry) → AreOf n asked → HaveShape n (x86_64_originals e.kind)
+    → x86_64_relocation_after e.kind name ≡ Some e.relocation
+    → IsWithin n (x86_64_rewrite e.kind) → IsAfterRow e.relocation
+    → DoesTheSame n asked name e.kind held → Serves n name held asked e
+by_asked n name held asked e shaped shaped_too after within row law =
+    record {
+      serve = λ section o is. record {
+        instructions = asked;
+        are_of = shaped;
+        there = is.0;
+        matches = is.1;
+        shaped_too = shaped_too;
+        after = after;
+        law = law;
+        within = within;
+        row = row;
+      };
+    }
+
+-- by a law of those that the rewrite is for
+pub by_originals : (n : ℕ) (name : X86_64Relocation) (held : Operands → ℕ) (asked : List Original)
+    (e : X86Entry) → AreOf n (x86_64_originals e.kind)
+    → x86_64_relocation_after e.kind name ≡ Some e.relocation
+    → IsWithin n (x86_64_rewrite e.kind) → IsAfterRow e.relocation
+    → DoesTheSame n (x86_64_originals e.kind) name e.kind held → Serves n name held asked e
+by_originals n name held asked e shaped after within row law =
+    record {
+      serve = λ section o is. record {
+        instructions = x86_64_originals e.kind;
+        are_of = shaped;
+        there = is.1.1;
+        matches = is.1;
+        shaped_too = shaped_of n (x86_64_originals e.kind) shaped;
+        after = after;
+        law = law;
+        within = within;
+        row = row;
+      };
+    }
+
+-- a rewrite that is for no instruction is never asked for
+pub by_none : (n : ℕ) (name : X86_64Relocation) (held : Operands → ℕ) (asked : List Original)
+    (e : X86Entry) → x86_64_originals e.kind ≡ [] → Serves n name held asked e
+by_none n name held asked e none = record {
+  serve = λ section o is.
+      absurd (let h : IsTrue (is_one_at [] section o) = subst (λ rs. IsTrue (is_one_at rs section o)) none (is.1.1) in
+      let b : false ≡ true = h in cc);
+}
+
+-- nor is one at no instruction
+pub by_unasked : (n : ℕ) (name : X86_64Relocation) (held : Operands → ℕ) (e : X86Entry)
+    → Serves n name held [] e
+by_unasked n name held e =
+    record { serve = λ section o is. absurd (let b : false ≡ true = is.0 in cc) }
+
+-- ---- a choice by a table
+
+-- the third condition of each entry is on the addend
+abbrev pub AsksForAddend : X86Entry → Type 0
+AsksForAddend e =
+    (facts : LinkFacts) (after : Operands) → AllHold x86_64_row after facts e.conditions
+    → facts.operands.addend ≡ neg_ℤ (pos 4)
+
+abbrev pub AllServe : ℕ → X86_64Relocation → (Operands → ℕ) → List Original → List X86Entry → Type 0
+AllServe n name held asked [] = ⊤
+AllServe n name held asked (e ∷ es) =
+    Serves n name held asked e × AsksForAddend e × AllServe n name held asked es
+
+pub record IsServed (n : ℕ) (name : X86_64Relocation) (held : Operands → ℕ) (section : List ℕ)
+    (o : ℕ) (facts : LinkFacts) (chosen : Choice RelaxationKind X86_64Relocation) : Type 0 where
+  pub has_law : HasLaw n name held section o chosen
+  pub addend : facts.operands.addend ≡ neg_ℤ (pos 4)
+
+pub by_entries : (n : ℕ) (name : X86_64Relocation) (held : Operands → ℕ) (asked : List Original)
+    (es : List X86Entry) (section : List ℕ) (o : ℕ) (facts : LinkFacts)
+    (chosen : Choice RelaxationKind X86_64Relocation)
+    → AllServe n name held asked es
+    → IsFirst (Applies (IsAskedFor asked) x86_64_row x86_64_after section o facts) es
+    (choice kinds.NoOp name) chosen
+    → (chosen ≡ choice kinds.NoOp name → ⊥) → IsServed n name held section o facts chosen
+by_entries n name held asked [] section o facts chosen serve is changed = absurd (changed is)
+by_entries n name held asked (e ∷ es) section o facts chosen serve (inl this) changed =
+    record {
+      has_law = subst (HasLaw n name held section o) (sym (this.1)) (serve.0.serve section o (this.0.0));
+      addend = serve.1 facts (x86_64_after e.kind o facts.operands) (this.0.1);
+    }
+by_entries n name held asked (e ∷ es) section o facts chosen serve (inr other) changed =
+    by_entries n name held asked es section o facts chosen (serve.2) (other.1) changed
+
+pub record TableServes (n : ℕ) (name : X86_64Relocation) (held : Operands → ℕ) (t : Table) : Type 0
+  where
+    pub serves : AllServe n name held t.instructions t.entries
+
+-- one of two tables
+either : (n : ℕ) (name : X86_64Relocation) (held : Operands → ℕ) (b : Bool) (t u : Table)
+    → TableServes n name held t → TableServes n name held u
+    → TableServes n name held (cond b t u)
+either n name held true t u x y = x
+either n name held false t u x y = y
+
+nothing : (n : ℕ) (name : X86_64Relocation) (held : Operands → ℕ)
+    → TableServes n name held (x86.any_entry [])
+nothing n name held = record { serves = tt }
+
+-- ---- tables of one name
+
+module _ (n : ℕ) (name : X86_64Relocation) where
+  -- an operation on an immediate
+  operation : (kind : RelaxationKind) → AreOf n (x86_64_originals kind)
+      → x86_64_relocation_after kind name ≡ Some (immediate_of n)
+      → IsWithin n (x86_64_rewrite kind) → IsAfterRow (immediate_of n)
+      → DoesTheSame n (x86_64_originals kind) name kind address
+      → TableServes n name address (x86.operation_table n kind)
+  operation kind shaped after inside row law =
+      record {
+        serves = (by_originals n name address _ _ shaped after inside row law, (λ facts after h. h.1.1.0), (by_originals n name address _ _ shaped after inside row law, (λ facts after h. h.1.1.0), tt));
+      }
+
+  -- one that is for no instruction
+  no_operation : (kind : RelaxationKind) → x86_64_originals kind ≡ []
+      → TableServes n name address (x86.operation_table n kind)
+  no_operation kind none =
+      record {
+        serves = (by_none n name address _ _ none, (λ facts after h. h.1.1.0), (by_none n name address _ _ none, (λ facts after h. h.1.1.0), tt));
+      }
+
+  movs : AreOf n (legacy n 0x8b) → HaveShape n (x86_64_originals (x86.mov_of n))
+      → x86_64_relocation_after (x86.mov_of n) name ≡ Some (immediate_of n)
+      → IsWithin n (x86_64_rewrite (x86.mov_of n)) → IsAfterRow (immediate_of n)
+      → DoesTheSame n (legacy n 0x8b) name (x86.mov_of n) address → 2 ≤ n
+      → x86_64_relocation_after kinds.MovIndirectToLea name ≡ Some names.R_X86_64_PC32
+      → DoesTheSame n (legacy n 0x8b) name kinds.MovIndirectToLea address
+      → TableServes n name address (x86.mov_table n)
+  movs shaped shaped_too after inside row law long distance lea_law =
+      record {
+        serves = (by_asked n name address _ _ shaped shaped_too after inside row law, (λ facts after h. h.1.1.0), (by_asked n name address _ _ shaped shaped_too after inside row law, (λ facts after h. h.1.1.0), (by_asked n name address _ _ shaped ((long, omega arith), tt) distance (lea n long) pc32 lea_law, (λ facts after h. h.1.1.0), tt)));
+      }
+
+  -- an offset from the thread pointer
+  offset : (kind : RelaxationKind) → AreOf n (x86_64_originals kind)
+      → x86_64_relocation_after kind name ≡ Some names.R_X86_64_TPOFF32
+      → IsWithin n (x86_64_rewrite kind)
+      → DoesTheSame n (x86_64_originals kind) name kind thread_offset
+      → TableServes n name thread_offset (x86.any_entry (x86.local_exec_by kind ∷ []))
+  offset kind shaped after inside law =
+      record {
+        serves = (by_originals n name thread_offset _ _ shaped after inside tpoff32 law, (λ facts after h. h.1.1.0), tt);
+      }
+
+  got : (opcode : ℕ) → TableServes n name address (x86.mov_table n)
+      → TableServes n name address (x86.operation_table n (kinds.RexAddIndirectToAbsolute n))
+      → TableServes n name address (x86.operation_table n (kinds.RexSubIndirectToAbsolute n))
+      → TableServes n name address (x86.operation_table n (kinds.RexCmpIndirectToAbsolute n))
+      → TableServes n name address (x86.operation_table n (kinds.RexAdcIndirectToAbsolute n))
+      → TableServes n name address (x86.operation_table n (kinds.RexAndIndirectToAbsolute n))
+      → TableServes n name address (x86.operation_table n (kinds.RexOrIndirectToAbsolute n))
+      → TableServes n name address (x86.operation_table n (kinds.RexSbbIndirectToAbsolute n))
+      → TableServes n name address (x86.operation_table n (kinds.RexXorIndirectToAbsolute n))
+      → TableServes n name address (x86.operation_table n (kinds.RexTestIndirectToAbsolute n))
+      → TableServes n name address (x86.got_table n opcode)
+  got opcode mov add sub cmp adc and or sbb xor test =
+      either n name address (eqb opcode 0x8b) _ _ mov
+      (either n name address (eqb opcode 0x03) _ _ add
+      (either n name address (eqb opcode 0x2b) _ _ sub
+      (either n name address (eqb opcode 0x3b) _ _ cmp
+      (either n name address (eqb opcode 0x13) _ _ adc
+      (either n name address (eqb opcode 0x23) _ _ and
+      (either n name address (eqb opcode 0x0b) _ _ or
+      (either n name address (eqb opcode 0x1b) _ _ sbb
+      (either n name address (eqb opcode 0x33) _ _ xor
+      (either n name address (eqb opcode 0x85) _ _ test
+      (nothing n name address))))))))))
+
+-- ---- all names
+
+module _ (laws : Laws) where
+  got_2 : (opcode : ℕ) → TableServes 2 names.R_X86_64_GOTPCRELX address (x86.got_table 2 opcode)
+  got_2 opcode =
+      got 2 names.R_X86_64_GOTPCRELX opcode
+      (movs 2 names.R_X86_64_GOTPCRELX ((omega arith, omega arith), tt) ((omega arith, omega arith), tt) refl (within 2 2 2 _ _ (x86_64_rewrite kinds.MovIndirectToAbsolute) refl (omega arith) (omega arith)) absolute32 laws.absolute.0 (omega arith) refl laws.loads.0.0)
+      (operation 2 names.R_X86_64_GOTPCRELX (kinds.RexAddIndirectToAbsolute 2) ((omega arith, omega arith), tt) refl (within 2 2 2 _ _ (x86_64_rewrite (kinds.RexAddIndirectToAbsolute 2)) refl (omega arith) (omega arith)) absolute32 laws.operations.0.0)
+      (operation 2 names.R_X86_64_GOTPCRELX (kinds.RexSubIndirectToAbsolute 2) ((omega arith, omega arith), tt) refl (wide 0x81 0xe8) absolute32 laws.operations.1.0)
+      (operation 2 names.R_X86_64_GOTPCRELX (kinds.RexCmpIndirectToAbsolute 2) ((omega arith, omega arith), tt) refl (wide 0x81 0xf8) absolute32 laws.operations.2.0)
+      (operation 2 names.R_X86_64_GOTPCRELX (kinds.RexAdcIndirectToAbsolute 2) ((omega arith, omega arith), tt) refl (within 2 2 2 _ _ (x86_64_rewrite (kinds.RexAdcIndirectToAbsolute 2)) refl (omega arith) (omega arith)) absolute32 laws.operations.3.0)
+      (operation 2 names.R_X86_64_GOTPCRELX (kinds.RexAndIndirectToAbsolute 2) ((omega arith, omega arith), tt) refl (within 2 2 2 _ _ (x86_64_rewrite (kinds.RexAndIndirectToAbsolute 2)) refl (omega arith) (omega arith)) absolute32 laws.operations.4.0)
+      (operation 2 names.R_X86_64_GOTPCRELX (kinds.RexOrIndirectToAbsolute 2) ((omega arith, omega arith), tt) refl (within 2 2 2 _ _ (x86_64_rewrite (kinds.RexOrIndirectToAbsolute 2)) refl (omega arith) (omega arith)) absolute32 laws.operations.5.0)
+      (operation 2 names.R_X86_64_GOTPCRELX (kinds.RexSbbIndirectToAbsolute 2) ((omega arith, omega arith), tt) refl (within 2 2 2 _ _ (x86_64_rewrite (kinds.RexSbbIndirectToAbsolute 2)) refl (omega arith) (omega arith)) absolute32 laws.operations.6.0)
+      (operation 2 names.R_X86_64_GOTPCRELX (kinds.RexXorIndirectToAbsolute 2) ((omega arith, omega arith), tt) refl (within 2 2 2 _ _ (x86_64_rewrite (kinds.RexXorIndirectToAbsolute 2)) refl (omega arith) (omega arith)) absolute32 laws.operations.7.0)
+      (operation 2 names.R_X86_64_GOTPCRELX (kinds.RexTestIndirectToAbsolute 2) ((omega arith, omega arith), tt) refl (within 2 2 2 _ _ (x86_64_rewrite (kinds.RexTestIndirectToAbsolute 2)) refl (omega arith) (omega arith)) absolute32 laws.operations.8.0)
+
+  got_3 : (opcode : ℕ) → TableServes 3 names.R_X86_64_REX_GOTPCRELX address (x86.got_table 3 opcode)
+  got_3 opcode =
+      got 3 names.R_X86_64_REX_GOTPCRELX opcode
+      (movs 3 names.R_X86_64_REX_GOTPCRELX ((omega arith, omega arith), tt) ((omega arith, omega arith), tt) refl (within 3 3 3 _ _ (x86_64_rewrite (kinds.RexMovIndirectToAbsolute 3)) refl (omega arith) (omega arith)) signed32 laws.absolute.1.1 (omega arith) refl laws.loads.0.1)
+      (operation 3 names.R_X86_64_REX_GOTPCRELX (kinds.RexAddIndirectToAbsolute 3) ((omega arith, omega arith), tt) refl (within 3 3 3 _ _ (x86_64_rewrite (kinds.RexAddIndirectToAbsolute 3)) refl (omega arith) (omega arith)) signed32 laws.operations.0.1)
+      (operation 3 names.R_X86_64_REX_GOTPCRELX (kinds.RexSubIndirectToAbsolute 3) ((omega arith, omega arith), tt) refl (within 3 3 3 _ _ (x86_64_rewrite (kinds.RexSubIndirectToAbsolute 3)) refl (omega arith) (omega arith)) signed32 laws.operations.1.1)
+      (operation 3 names.R_X86_64_REX_GOTPCRELX (kinds.RexCmpIndirectToAbsolute 3) ((omega arith, omega arith), tt) refl (within 3 3 3 _ _ (x86_64_rewrite (kinds.RexCmpIndirectToAbsolute 3)) refl (omega arith) (omega arith)) signed32 laws.operations.2.1)
+      (operation 3 names.R_X86_64_REX_GOTPCRELX (kinds.RexAdcIndirectToAbsolute 3) ((omega arith, omega arith), tt) refl (within 3 3 3 _ _ (x86_64_rewrite (kinds.RexAdcIndirectToAbsolute 3)) refl (omega arith) (omega arith)) signed32 laws.operations.3.1)
+      (operation 3 names.R_X86_64_REX_GOTPCRELX (kinds.RexAndIndirectToAbsolute 3) ((omega arith, omega arith), tt) refl (within 3 3 3 _ _ (x86_64_rewrite (kinds.RexAndIndirectToAbsolute 3)) refl (omega arith) (omega arith)) signed32 laws.operations.4.1)
+      (operation 3 names.R_X86_64_REX_GOTPCRELX (kinds.RexOrIndirectToAbsolute 3) ((omega arith, omega arith), tt) refl (within 3 3 3 _ _ (x86_64_rewrite (kinds.RexOrIndirectToAbsolute 3)) refl (omega arith) (omega arith)) signed32 laws.operations.5.1)
+      (operation 3 names.R_X86_64_REX_GOTPCRELX (kinds.RexSbbIndirectToAbsolute 3) ((omega arith, omega arith), tt) refl (within 3 3 3 _ _ (x86_64_rewrite (kinds.RexSbbIndirectToAbsolute 3)) refl (omega arith) (omega arith)) signed32 laws.operations.6.1)
+      (operation 3 names.R_X86_64_REX_GOTPCRELX (kinds.RexXorIndirectToAbsolute 3) ((omega arith, omega arith), tt) refl (within 3 3 3 _ _ (x86_64_rewrite (kinds.RexXorIndirectToAbsolute 3)) refl (omega arith) (omega arith)) signed32 laws.operations.7.1)
+      (operation 3 names.R_X86_64_REX_GOTPCRELX (kinds.RexTestIndirectToAbsolute 3) ((omega arith, omega arith), tt) refl (within 3 3 3 _ _ (x86_64_rewrite (kinds.RexTestIndirectToAbsolute 3)) refl (omega arith) (omega arith)) signed32 laws.operations.8.1)
+
+  got_4 : (opcode : ℕ) → TableServes 4 names.R_X86_64_CODE_4_GOTPCRELX address (x86.got_table 4 opcode)
+  got_4 opcode =
+      got 4 names.R_X86_64_CODE_4_GOTPCRELX opcode
+      (movs 4 names.R_X86_64_CODE_4_GOTPCRELX ((omega arith, omega arith), tt) ((omega arith, omega arith), tt) refl (within 4 3 3 _ _ (x86_64_rewrite (kinds.RexMovIndirectToAbsolute 4)) refl (omega arith) (omega arith)) signed32 laws.absolute.1.2 (omega arith) refl laws.loads.0.2)
+      (operation 4 names.R_X86_64_CODE_4_GOTPCRELX (kinds.RexAddIndirectToAbsolute 4) ((omega arith, omega arith), tt) refl (within 4 3 3 _ _ (x86_64_rewrite (kinds.RexAddIndirectToAbsolute 4)) refl (omega arith) (omega arith)) signed32 laws.operations.0.2)
+      (operation 4 names.R_X86_64_CODE_4_GOTPCRELX (kinds.RexSubIndirectToAbsolute 4) ((omega arith, omega arith), tt) refl (within 4 3 3 _ _ (x86_64_rewrite (kinds.RexSubIndirectToAbsolute 4)) refl (omega arith) (omega arith)) signed32 laws.operations.1.2)
+      (operation 4 names.R_X86_64_CODE_4_GOTPCRELX (kinds.RexCmpIndirectToAbsolute 4) ((omega arith, omega arith), tt) refl (within 4 3 3 _ _ (x86_64_rewrite (kinds.RexCmpIndirectToAbsolute 4)) refl (omega arith) (omega arith)) signed32 laws.operations.2.2)
+      (operation 4 names.R_X86_64_CODE_4_GOTPCRELX (kinds.RexAdcIndirectToAbsolute 4) ((omega arith, omega arith), tt) refl (within 4 3 3 _ _ (x86_64_rewrite (kinds.RexAdcIndirectToAbsolute 4)) refl (omega arith) (omega arith)) signed32 laws.operations.3.2)
+      (operation 4 names.R_X86_64_CODE_4_GOTPCRELX (kinds.RexAndIndirectToAbsolute 4) ((omega arith, omega arith), tt) refl (within 4 3 3 _ _ (x86_64_rewrite (kinds.RexAndIndirectToAbsolute 4)) refl (omega arith) (omega arith)) signed32 laws.operations.4.2)
+      (operation 4 names.R_X86_64_CODE_4_GOTPCRELX (kinds.RexOrIndirectToAbsolute 4) ((omega arith, omega arith), tt) refl (within 4 3 3 _ _ (x86_64_rewrite (kinds.RexOrIndirectToAbsolute 4)) refl (omega arith) (omega arith)) signed32 laws.operations.5.2)
+      (operation 4 names.R_X86_64_CODE_4_GOTPCRELX (kinds.RexSbbIndirectToAbsolute 4) ((omega arith, omega arith), tt) refl (within 4 3 3 _ _ (x86_64_rewrite (kinds.RexSbbIndirectToAbsolute 4)) refl (omega arith) (omega arith)) signed32 laws.operations.6.2)
+      (operation 4 names.R_X86_64_CODE_4_GOTPCRELX (kinds.RexXorIndirectToAbsolute 4) ((omega arith, omega arith), tt) refl (within 4 3 3 _ _ (x86_64_rewrite (kinds.RexXorIndirectToAbsolute 4)) refl (omega arith) (omega arith)) signed32 laws.operations.7.2)
+      (operation 4 names.R_X86_64_CODE_4_GOTPCRELX (kinds.RexTestIndirectToAbsolute 4) ((omega arith, omega arith), tt) refl (within 4 3 3 _ _ (x86_64_rewrite (kinds.RexTestIndirectToAbsolute 4)) refl (omega arith) (omega arith)) signed32 laws.operations.8.2)
+
+  got_6 : (opcode : ℕ) → TableServes 6 names.R_X86_64_CODE_6_GOTPCRELX address (x86.got_table 6 opcode)
+  got_6 opcode =
+      got 6 names.R_X86_64_CODE_6_GOTPCRELX opcode
+      (record { serves = (by_unasked 6 names.R_X86_64_CODE_6_GOTPCRELX address _, (λ facts after h. h.1.1.0), (by_unasked 6 names.R_X86_64_CODE_6_GOTPCRELX address _, (λ facts after h. h.1.1.0), (by_unasked 6 names.R_X86_64_CODE_6_GOTPCRELX address _, (λ facts after h. h.1.1.0), tt))) })
+      (operation 6 names.R_X86_64_CODE_6_GOTPCRELX (kinds.RexAddIndirectToAbsolute 6) ((omega arith, omega arith), ((omega arith, omega arith), tt)) refl (within 6 5 5 _ _ (x86_64_rewrite (kinds.RexAddIndirectToAbsolute 6)) refl (omega arith) (omega arith)) signed32 laws.operations.9.0)
+      (no_operation 6 names.R_X86_64_CODE_6_GOTPCRELX (kinds.RexSubIndirectToAbsolute 6) refl)
+      (no_operation 6 names.R_X86_64_CODE_6_GOTPCRELX (kinds.RexCmpIndirectToAbsolute 6) refl)
+      (operation 6 names.R_X86_64_CODE_6_GOTPCRELX (kinds.RexAdcIndirectToAbsolute 6) ((omega arith, omega arith), ((omega arith, omega arith), tt)) refl (within 6 5 5 _ _ (x86_64_rewrite (kinds.RexAdcIndirectToAbsolute 6)) refl (omega arith) (omega arith)) signed32 laws.operations.9.1)
+      (operation 6 names.R_X86_64_CODE_6_GOTPCRELX (kinds.RexAndIndirectToAbsolute 6) ((omega arith, omega arith), ((omega arith, omega arith), tt)) refl (within 6 5 5 _ _ (x86_64_rewrite (kinds.RexAndIndirectToAbsolute 6)) refl (omega arith) (omega arith)) signed32 laws.operations.9.2)
+      (operation 6 names.R_X86_64_CODE_6_GOTPCRELX (kinds.RexOrIndirectToAbsolute 6) ((omega arith, omega arith), ((omega arith, omega arith), tt)) refl (within 6 5 5 _ _ (x86_64_rewrite (kinds.RexOrIndirectToAbsolute 6)) refl (omega arith) (omega arith)) signed32 laws.operations.9.3)
+      (operation 6 names.R_X86_64_CODE_6_GOTPCRELX (kinds.RexSbbIndirectToAbsolute 6) ((omega arith, omega arith), ((omega arith, omega arith), tt)) refl (within 6 5 5 _ _ (x86_64_rewrite (kinds.RexSbbIndirectToAbsolute 6)) refl (omega arith) (omega arith)) signed32 laws.operations.9.4)
+      (operation 6 names.R_X86_64_CODE_6_GOTPCRELX (kinds.RexXorIndirectToAbsolute 6) ((omega arith, omega arith), ((omega arith, omega arith), tt)) refl (within 6 5 5 _ _ (x86_64_rewrite (kinds.RexXorIndirectToAbsolute 6)) refl (omega arith) (omega arith)) signed32 laws.operations.9.5)
+      (no_operation 6 names.R_X86_64_CODE_6_GOTPCRELX (kinds.RexTestIndirectToAbsolute 6) refl)
+
+  load : (opcode : ℕ) → TableServes 3 names.R_X86_64_GOTPCREL address (x86.load_table opcode)
+  load opcode =
+      either 3 names.R_X86_64_GOTPCREL address (eqb opcode 0x8b) _ _
+      (record {
+        serves = (
+          by_asked 3 names.R_X86_64_GOTPCREL address _ _ ((omega arith, omega arith), tt)
+              ((omega arith, omega arith), tt) refl (lea 3 (omega arith)) pc32 laws.loads.1,
+          (λ facts after h. h.1.1.0),
+          tt,
+        );
+      })
+      (nothing 3 names.R_X86_64_GOTPCREL address)
+
+  branch : TableServes 2 names.R_X86_64_GOTPCRELX address x86.branch_table
+  branch =
+      record {
+        serves = (
+          by_originals 2 names.R_X86_64_GOTPCRELX address _ _ ((omega arith, omega arith), tt) refl
+              (within 2 2 2 _ _ (x86_64_rewrite kinds.CallIndirectToRelative) refl (omega arith) (omega arith))
+              pc32 laws.branches.0,
+          (λ facts after h. h.1.1.0),
+          (
+            by_originals 2 names.R_X86_64_GOTPCRELX address _ _ ((omega arith, omega arith), tt) refl jump pc32
+                laws.branches.1,
+            (λ facts after h. h.1.1.0),
+            tt,
+          ),
+        );
+      }
+
+  offset_3 : (opcode : ℕ) → TableServes 3 names.R_X86_64_GOTTPOFF thread_offset (x86.initial_exec_table 3 opcode)
+  offset_3 opcode =
+      either 3 names.R_X86_64_GOTTPOFF thread_offset (eqb opcode 0x8b) _ _
+      (offset 3 names.R_X86_64_GOTTPOFF (kinds.RexMovIndirectToAbsolute 3) ((omega arith, omega arith), tt) refl (within 3 3 3 _ _ (x86_64_rewrite (kinds.RexMovIndirectToAbsolute 3)) refl (omega arith) (omega arith)) laws.thread.0.0)
+      (either 3 names.R_X86_64_GOTTPOFF thread_offset (eqb opcode 0x03) _ _
+      (offset 3 names.R_X86_64_GOTTPOFF (kinds.RexAddIndirectToAbsolute 3) ((omega arith, omega arith), tt) refl (within 3 3 3 _ _ (x86_64_rewrite (kinds.RexAddIndirectToAbsolute 3)) refl (omega arith) (omega arith)) laws.thread.1.0)
+      (nothing 3 names.R_X86_64_GOTTPOFF thread_offset))
+
+  offset_4 : (opcode : ℕ) → TableServes 4 names.R_X86_64_CODE_4_GOTTPOFF thread_offset (x86.initial_exec_table 4 opcode)
+  offset_4 opcode =
+      either 4 names.R_X86_64_CODE_4_GOTTPOFF thread_offset (eqb opcode 0x8b) _ _
+      (offset 4 names.R_X86_64_CODE_4_GOTTPOFF (kinds.RexMovIndirectToAbsolute 4) ((omega arith, omega arith), tt) refl (within 4 3 3 _ _ (x86_64_rewrite (kinds.RexMovIndirectToAbsolute 4)) refl (omega arith) (omega arith)) laws.thread.0.1)
+      (either 4 names.R_X86_64_CODE_4_GOTTPOFF thread_offset (eqb opcode 0x03) _ _
+      (offset 4 names.R_X86_64_CODE_4_GOTTPOFF (kinds.RexAddIndirectToAbsolute 4) ((omega arith, omega arith), tt) refl (within 4 3 3 _ _ (x86_64_rewrite (kinds.RexAddIndirectToAbsolute 4)) refl (omega arith) (omega arith)) laws.thread.1.1)
+      (nothing 4 names.R_X86_64_CODE_4_GOTTPOFF thread_offset))
+
+  offset_6 : (opcode : ℕ) → TableServes 6 names.R_X86_64_CODE_6_GOTTPOFF thread_offset (x86.initial_exec_table 6 opcode)
+  offset_6 opcode =
+      either 6 names.R_X86_64_CODE_6_GOTTPOFF thread_offset (eqb opcode 0x8b) _ _
+      (record { serves = (by_none 6 names.R_X86_64_CODE_6_GOTTPOFF thread_offset _ _ refl, (λ facts after h. h.1.1.0), tt) })
+      (either 6 names.R_X86_64_CODE_6_GOTTPOFF thread_offset (eqb opcode 0x03) _ _
+      (offset 6 names.R_X86_64_CODE_6_GOTTPOFF (kinds.RexAddIndirectToAbsolute 6) ((omega arith, omega arith), ((omega arith, omega arith), tt)) refl (within 6 5 5 _ _ (x86_64_rewrite (kinds.RexAddIndirectToAbsolute 6)) refl (omega arith) (omega arith)) laws.thread.2)
+      (nothing 6 names.R_X86_64_CODE_6_GOTTPOFF thread_offset))
+
+  abbrev ServesName : X86_64Relocation → GotOperand → Type 0
+  ServesName name operand =
+      (opcode : ℕ) → TableServes operand.back name operand.held (x86_64_table name opcode)
+
+  of_some : GotOperand → Option GotOperand → GotOperand
+  of_some other None = other
+  of_some other (Some operand) = operand
+
+  named : (name : X86_64Relocation) (mine operand : GotOperand) → got_operand name ≡ Some mine
+      → got_operand name ≡ Some operand → ServesName name mine → ServesName name operand
+  unfolding of_some
+  named name mine operand is wanted serves =
+      subst (ServesName name) (ap (of_some mine) (sym is ∙ wanted)) serves
+
+  none : (name : X86_64Relocation) (operand : GotOperand) → got_operand name ≡ None
+      → got_operand name ≡ Some operand → ServesName name operand
+  none name operand is wanted = absurd (let e : None ≡ Some operand = sym is ∙ wanted in cc)
+
+  pub serves : (name : X86_64Relocation) (operand : GotOperand) → got_operand name ≡ Some operand
+      → ServesName name operand
+  serves names.R_X86_64_GOTPCREL operand wanted =
+      named names.R_X86_64_GOTPCREL _ operand refl wanted load
+  serves names.R_X86_64_GOTPCRELX operand wanted =
+      named names.R_X86_64_GOTPCRELX _ operand refl wanted (λ opcode.
+      either 2 names.R_X86_64_GOTPCRELX address (eqb opcode 0xff) _ _ branch (got_2 opcode))
+  serves names.R_X86_64_REX_GOTPCRELX operand wanted =
+      named names.R_X86_64_REX_GOTPCRELX _ operand refl wanted got_3
+  serves names.R_X86_64_CODE_4_GOTPCRELX operand wanted =
+      named names.R_X86_64_CODE_4_GOTPCRELX _ operand refl wanted got_4
+  serves names.R_X86_64_CODE_6_GOTPCRELX operand wanted =
+      named names.R_X86_64_CODE_6_GOTPCRELX _ operand refl wanted got_6
+  serves names.R_X86_64_GOTTPOFF operand wanted =
+      named names.R_X86_64_GOTTPOFF _ operand refl wanted offset_3
+  serves names.R_X86_64_CODE_4_GOTTPOFF operand wanted =
+      named names.R_X86_64_CODE_4_GOTTPOFF _ operand refl wanted offset_4
+  serves names.R_X86_64_CODE_6_GOTTPOFF operand wanted =
+      named names.R_X86_64_CODE_6_GOTTPOFF _ operand refl wanted offset_6
+  serves name operand wanted = none name operand refl wanted
+
+  -- each choice but that of no rewrite
+  pub of_choice : (name : X86_64Relocation) (operand : GotOperand) → got_operand name ≡ Some operand
+      → (section : List ℕ) (o : ℕ) (facts : LinkFacts)
+      (chosen : Choice RelaxationKind X86_64Relocation) → IsX86Choice name section o facts chosen
+      → (chosen ≡ choice kinds.NoOp name → ⊥)
+      → IsServed operand.back name operand.held section o facts chosen
+  of_choice name operand wanted section o facts chosen is changed =
+      let opcode = slice_index section (o - 2) in
+      let t = x86_64_table name opcode in
+      by_entries operand.back name operand.held t.instructions t.entries section o facts chosen
+      (serves name operand wanted opcode).serves is changed

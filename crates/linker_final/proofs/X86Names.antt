@@ -1,0 +1,71 @@
+-- The names of relocations of operands in the GOT.
+use Rattle.std.proofs.Common.{◌≡◌, ℕ, true, false, refl, sym, ap, ◌∙◌, Some, None}
+use Rattle.linker_elf.specs.ElfNames.{IsNamed, code_of}
+use Rattle.linker_elf.specs.X86Relocations.{x86_64_name}
+use Rattle.linker_elf.specs.declared.x86_64.relocations.X86_64Relocation.{X86_64Relocation}
+use Rattle.linker_elf.specs.declared.x86_64.relocations.X86_64Relocation.TheVariants as names
+use Rattle.linker_final.specs.X86Final.{GotOperand, got_operand}
+use Rattle.linker_rewriting.specs.Groups.{IsScopeIn, x86_64_scope_in}
+use Rattle.linker_rewriting.specs.Labels.{is_labelled}
+use Rattle.linker_rewriting.specs.declared.groups.Scope.{Scope}
+use Rattle.linker_rewriting.specs.declared.groups.Scope.TheVariants.{Labelled}
+use Rattle.linker_rewriting.specs.declared.phases.Phase.{Phase}
+use Rattle.linker_rewriting.specs.declared.phases.Phase.TheVariants as phases
+use Rattle.linker_section.specs.Values.{is_of_got}
+use Rattle.linker_utils.specs.declared.elf.Architecture.TheVariants.{X86_64}
+
+-- a code of its own, which isn't that of the GOT's address
+pub record IsGotName (name : X86_64Relocation) : Type 0 where
+  pub named : IsNamed (x86_64_name name)
+  pub is_not_of_got : is_of_got X86_64 (code_of (x86_64_name name)) ≡ false
+
+pub got_name : (name : X86_64Relocation) (operand : GotOperand) → got_operand name ≡ Some operand
+    → IsGotName name
+got_name names.R_X86_64_GOTPCREL operand is = record { named = tt; is_not_of_got = refl }
+got_name names.R_X86_64_GOTPCRELX operand is = record { named = tt; is_not_of_got = refl }
+got_name names.R_X86_64_REX_GOTPCRELX operand is = record { named = tt; is_not_of_got = refl }
+got_name names.R_X86_64_CODE_4_GOTPCRELX operand is = record { named = tt; is_not_of_got = refl }
+got_name names.R_X86_64_CODE_6_GOTPCRELX operand is = record { named = tt; is_not_of_got = refl }
+got_name names.R_X86_64_GOTTPOFF operand is = record { named = tt; is_not_of_got = refl }
+got_name names.R_X86_64_CODE_4_GOTTPOFF operand is = record { named = tt; is_not_of_got = refl }
+got_name names.R_X86_64_CODE_6_GOTTPOFF operand is = record { named = tt; is_not_of_got = refl }
+got_name name operand is = absurd (let e : None ≡ Some operand = is in cc)
+
+-- ---- scopes
+
+early_unlabelled : (name : X86_64Relocation) → is_labelled (x86_64_scope_in phases.Early name) ≡ false
+early_unlabelled names.R_X86_64_GOTPCREL = refl
+early_unlabelled names.R_X86_64_GOTPCRELX = refl
+early_unlabelled names.R_X86_64_REX_GOTPCRELX = refl
+early_unlabelled names.R_X86_64_CODE_4_GOTPCRELX = refl
+early_unlabelled names.R_X86_64_CODE_5_GOTPCRELX = refl
+early_unlabelled names.R_X86_64_CODE_6_GOTPCRELX = refl
+early_unlabelled names.R_X86_64_GOTTPOFF = refl
+early_unlabelled names.R_X86_64_CODE_4_GOTTPOFF = refl
+early_unlabelled names.R_X86_64_CODE_5_GOTTPOFF = refl
+early_unlabelled names.R_X86_64_CODE_6_GOTTPOFF = refl
+early_unlabelled names.R_X86_64_TLSGD = refl
+early_unlabelled names.R_X86_64_TLSLD = refl
+early_unlabelled names.R_X86_64_DTPOFF32 = refl
+early_unlabelled names.R_X86_64_DTPOFF64 = refl
+early_unlabelled names.R_X86_64_GOTPC32_TLSDESC = refl
+early_unlabelled names.R_X86_64_CODE_4_GOTPC32_TLSDESC = refl
+early_unlabelled names.R_X86_64_CODE_5_GOTPC32_TLSDESC = refl
+early_unlabelled names.R_X86_64_CODE_6_GOTPC32_TLSDESC = refl
+early_unlabelled names.R_X86_64_TLSDESC_CALL = refl
+early_unlabelled name = refl
+
+unlabelled_in : (phase : Phase) (name : X86_64Relocation)
+    → is_labelled (x86_64_scope_in phase name) ≡ false
+unlabelled_in phases.Early name = early_unlabelled name
+unlabelled_in phases.ThreadOffsets name = refl
+unlabelled_in phases.GotLoads name = refl
+unlabelled_in phases.Distances name = refl
+
+-- x86-64 has no labels
+pub unlabelled : (phase : Phase) (code : ℕ) (scope : Scope) → IsScopeIn X86_64 phase code scope
+    → scope ≡ Labelled → ⊥
+unlabelled phase code scope is labelled =
+    let no : is_labelled scope ≡ false = ap is_labelled is.value_is ∙ unlabelled_in phase is.name in
+    let yes : is_labelled scope ≡ true = ap is_labelled labelled in
+    let e : true ≡ false = sym yes ∙ no in cc

@@ -1,0 +1,91 @@
+-- What stands at an instruction's bytes stands wherever the same bytes are.
+use Rattle.std.proofs.Common.{◌≡◌, ℕ, suc, ◌+◌, ◌-◌, ◌<◌, ◌≤◌, ◌⊎◌, List, [], ◌∷◌, length, drop, get_or, Bool, true, false, ◌&&◌, ◌||◌, IsTrue, eqb, leb, refl, sym, ap, ◌∙◌, inl, inr, arith}
+use Rattle.std.proofs.lemmas.Bool.{and_parts, leb-true}
+use Rattle.std.proofs.lemmas.List.{length-drop, get_or-drop}
+use Rattle.std.specs.Prelude.{bit_and}
+use Rattle.linker_final.proofs.X86Lawful.{AreOf, HasShape, HaveShape}
+use Rattle.linker_x86_64.specs.X86Rewrites.{Original, is_one_at, is_at, begins}
+
+both : (a b : Bool) → a ≡ true → b ≡ true → (a && b) ≡ true
+both true b is too = too
+both false b is too = is
+
+of_or : (a b : Bool) → (a || b) ≡ true → (a ≡ true) ⊎ (b ≡ true)
+of_or true b is = inl refl
+of_or false b is = inr is
+
+or_first : (a b : Bool) → a ≡ true → (a || b) ≡ true
+or_first true b is = refl
+or_first false b is = absurd (let e : false ≡ true = is in cc)
+
+or_second : (a b : Bool) → b ≡ true → (a || b) ≡ true
+or_second true b is = refl
+or_second false b is = is
+
+begins_same : (ps : List (ℕ × ℕ)) (xs ys : List ℕ) → length ys ≡ length xs
+    → ((k : ℕ) → k < length ps → get_or xs k 0 ≡ get_or ys k 0)
+    → begins ps xs ≡ true → begins ps ys ≡ true
+begins_same [] xs ys long same is = refl
+begins_same (p ∷ ps) [] ys long same is = absurd (let e : false ≡ true = is in cc)
+begins_same (p ∷ ps) (x ∷ xs) [] long same is = absurd (omega (arith, long))
+begins_same (p ∷ ps) (x ∷ xs) (y ∷ ys) long same is =
+    let parts = and_parts (eqb (bit_and x (p.0)) (p.1)) (begins ps xs) is in
+    let head : x ≡ y = same 0 (omega arith) in
+    both (eqb (bit_and y (p.0)) (p.1)) (begins ps ys)
+    (ap (λ z. eqb (bit_and z (p.0)) (p.1)) (sym head) ∙ parts.0)
+    (begins_same ps xs ys (omega (arith, long)) (λ k below. same (suc k) (omega (arith, below))) (parts.1))
+
+begins_long : (ps : List (ℕ × ℕ)) (xs : List ℕ) → begins ps xs ≡ true → length ps ≤ length xs
+begins_long [] xs is = omega arith
+begins_long (p ∷ ps) [] is = absurd (let e : false ≡ true = is in cc)
+begins_long (p ∷ ps) (x ∷ xs) is =
+    let rest = begins_long ps xs ((and_parts (eqb (bit_and x (p.0)) (p.1)) (begins ps xs) is).1) in
+    omega (arith, rest)
+
+-- ---- an instruction with n bytes before its field
+
+pub there_inside : (n : ℕ) (rs : List Original) (section : List ℕ) (o : ℕ) → AreOf n rs
+    → IsTrue (is_one_at rs section o) → (n ≤ o) × (o + 4 ≤ length section)
+there_inside n [] section o are is = absurd (let e : false ≡ true = is in cc)
+there_inside n (r ∷ rs) section o are is =
+    elim (of_or (is_at r section o) (is_one_at rs section o) is) [
+      | inl this ↦
+          let parts = and_parts (leb r.back o) (begins r.bytes (drop (o - r.back) section)) this in
+          let starts = leb-true r.back o (parts.0) in
+          let long = begins_long r.bytes (drop (o - r.back) section) (parts.1) in
+          let l = length-drop (o - r.back) section in
+          let back = are.0.0 in
+          let bytes = are.0.1 in
+          (omega (arith, starts, back), omega (arith, starts, back, bytes, long, l))
+      | inr other ↦ there_inside n rs section o (are.1) other
+    ]
+
+module _ (n o : ℕ) (section others : List ℕ) (same_length : length others ≡ length section)
+    (room : n ≤ o)
+    (same : (at : ℕ) → o - n ≤ at → at < o + 4 → get_or section at 0 ≡ get_or others at 0) where
+  at_same : (r : Original) → HasShape n r → is_at r section o ≡ true → is_at r others o ≡ true
+  at_same r shape is =
+      let parts = and_parts (leb r.back o) (begins r.bytes (drop (o - r.back) section)) is in
+      let starts = leb-true r.back o (parts.0) in
+      let back = shape.0 in
+      let long = shape.1 in
+      let ls = length-drop (o - r.back) section in
+      let lo = length-drop (o - r.back) others in
+      both (leb r.back o) (begins r.bytes (drop (o - r.back) others)) (parts.0)
+      (begins_same r.bytes (drop (o - r.back) section) (drop (o - r.back) others)
+      (omega (arith, ls, lo, same_length))
+      (λ k below.
+      get_or-drop (o - r.back) section k 0
+      ∙ (same (o - r.back + k) (omega (arith, starts, back)) (omega (arith, starts, long, below))
+      ∙ sym (get_or-drop (o - r.back) others k 0)))
+      (parts.1))
+
+  pub one_same : (rs : List Original) → HaveShape n rs → IsTrue (is_one_at rs section o)
+      → IsTrue (is_one_at rs others o)
+  one_same [] shape is = is
+  one_same (r ∷ rs) shape is =
+      elim (of_or (is_at r section o) (is_one_at rs section o) is) [
+        | inl this ↦ or_first (is_at r others o) (is_one_at rs others o) (at_same r (shape.0) this)
+        | inr other ↦
+            or_second (is_at r others o) (is_one_at rs others o) (one_same rs (shape.1) other)
+      ]

@@ -1,0 +1,151 @@
+-- The rows of the relocations that x86-64's rewrites leave.
+use Rattle.std.proofs.Common.{◌≡◌, ℕ, ℤ, pos, negsuc, ◌%◌, ◌^◌, ◌<◌, false, refl, ap, arith, Some, Ok}
+use Rattle.std.proofs.lemmas.Int.{ints}
+use Rattle.std.specs.Int.{w64, cast_unsigned, int_rem_euclid}
+use Rattle.linker_elf.specs.Elf.{IsWithin, bit_bounds}
+use Rattle.linker_elf.specs.ElfNames.{IsNamed, code_of}
+use Rattle.linker_elf.specs.Rows.{bytes_row, signed_row, unsigned_row}
+use Rattle.linker_elf.specs.Value.{value_of}
+use Rattle.linker_elf.specs.X86Relocations.{x86_64_name, x86_64_row}
+use Rattle.linker_elf.specs.declared.elf.RelocationKindInfo.{RelocationKindInfo}
+use Rattle.linker_elf.specs.declared.elf.RelocationKind.TheVariants.{Relative, Absolute, TpOff}
+use Rattle.linker_elf.specs.declared.elf.Sign.TheVariants.{Signed, Unsigned}
+use Rattle.linker_elf.specs.declared.elf.value.Operands.{Operands}
+use Rattle.linker_elf.specs.declared.x86_64.relocations.X86_64Relocation.{X86_64Relocation}
+use Rattle.linker_elf.specs.declared.x86_64.relocations.X86_64Relocation.TheVariants as names
+use Rattle.linker_final.proofs.PlainRows.{IsPlain}
+use Rattle.linker_section.specs.Values.{operands_by, operands_with, entry_address, target_of, is_of_got}
+use Rattle.linker_section.specs.Needed.{entry_of, loads_plt_word}
+use Rattle.linker_section.specs.declared.facts.Addresses.{Addresses}
+use Rattle.linker_section.specs.declared.facts.Symbol.{Symbol}
+use Rattle.linker_section.specs.declared.relocations.Rela.{Rela}
+use Rattle.linker_utils.specs.declared.elf.Architecture.TheVariants.{X86_64}
+
+-- ---- values of 32 bits
+
+signed_remainder : (v : ℤ) → IsWithin (Some (bit_bounds 32 Signed)) v
+    → int_rem_euclid v (pos (2 ^ 32)) ≡ pos (cast_unsigned w64 v % 2 ^ 32)
+signed_remainder (pos n) within = refl
+signed_remainder (negsuc n) within =
+    let low = within.0 in let small : n < 2 ^ 31 = omega (arith, ints) in ap pos (omega (arith, small))
+
+unsigned_remainder : (v : ℤ) → IsWithin (Some (bit_bounds 32 Unsigned)) v
+    → int_rem_euclid v (pos (2 ^ 32)) ≡ pos (cast_unsigned w64 v % 2 ^ 32)
+unsigned_remainder (pos n) within = refl
+unsigned_remainder (negsuc n) within = let low = within.0 in absurd (omega (arith, ints))
+
+-- ---- rows
+
+-- A relocation with a row of 4 bytes that needs no entry and names no stub: its operands are those of
+-- `operands_with`, and S doesn't depend on the place.
+pub record IsAfterRow (name : X86_64Relocation) : Type 0 where
+  pub row : RelocationKindInfo
+  pub is : x86_64_row name ≡ Some row
+  pub plain : IsPlain 4 row
+  pub unloaded : loads_plt_word row.size row.kind ≡ false
+  pub placeless : (addresses : Addresses) (symbol : Symbol) (place other : ℕ)
+      → target_of X86_64 addresses row symbol place ≡ target_of X86_64 addresses row symbol other
+  pub alone : (addresses : Addresses) (symbol : Symbol) (r : Rela)
+      → operands_by X86_64 addresses row r symbol (entry_address addresses symbol (entry_of row r.addend symbol.is_thread_local))
+      ≡ Ok (operands_with X86_64 addresses row symbol r 0)
+  -- the value doesn't read the entry
+  pub same_value : (o : Operands) (entry plt : ℕ)
+      → value_of row (record o { got_entry = entry; plt_entry = plt }) ≡ value_of row o
+  pub is_not_of_got : is_of_got X86_64 (code_of (x86_64_name name)) ≡ false
+  pub named : IsNamed (x86_64_name name)
+
+pub pc32 : IsAfterRow names.R_X86_64_PC32
+pc32 =
+    record {
+      row = signed_row 32 (bytes_row Relative 4);
+      is = refl;
+      plain = record {
+        size = refl;
+        valued = refl;
+        unlabelled = refl;
+        alone = refl;
+        some = λ o. tt;
+        writes = λ v old. refl;
+        composes = λ v number. refl;
+        remainder = signed_remainder;
+        holds = λ len v before after is. is;
+      };
+      unloaded = refl;
+      placeless = λ addresses symbol place other. refl;
+      alone = λ addresses symbol r. refl;
+      same_value = λ o entry plt. refl;
+      is_not_of_got = refl;
+      named = tt;
+    }
+
+pub absolute32 : IsAfterRow names.R_X86_64_32
+absolute32 =
+    record {
+      row = unsigned_row 32 (bytes_row Absolute 4);
+      is = refl;
+      plain = record {
+        size = refl;
+        valued = refl;
+        unlabelled = refl;
+        alone = refl;
+        some = λ o. tt;
+        writes = λ v old. refl;
+        composes = λ v number. refl;
+        remainder = unsigned_remainder;
+        holds = λ len v before after is. is;
+      };
+      unloaded = refl;
+      placeless = λ addresses symbol place other. refl;
+      alone = λ addresses symbol r. refl;
+      same_value = λ o entry plt. refl;
+      is_not_of_got = refl;
+      named = tt;
+    }
+
+pub signed32 : IsAfterRow names.R_X86_64_32S
+signed32 =
+    record {
+      row = signed_row 32 (bytes_row Absolute 4);
+      is = refl;
+      plain = record {
+        size = refl;
+        valued = refl;
+        unlabelled = refl;
+        alone = refl;
+        some = λ o. tt;
+        writes = λ v old. refl;
+        composes = λ v number. refl;
+        remainder = signed_remainder;
+        holds = λ len v before after is. is;
+      };
+      unloaded = refl;
+      placeless = λ addresses symbol place other. refl;
+      alone = λ addresses symbol r. refl;
+      same_value = λ o entry plt. refl;
+      is_not_of_got = refl;
+      named = tt;
+    }
+
+pub tpoff32 : IsAfterRow names.R_X86_64_TPOFF32
+tpoff32 =
+    record {
+      row = signed_row 32 (bytes_row TpOff 4);
+      is = refl;
+      plain = record {
+        size = refl;
+        valued = refl;
+        unlabelled = refl;
+        alone = refl;
+        some = λ o. tt;
+        writes = λ v old. refl;
+        composes = λ v number. refl;
+        remainder = signed_remainder;
+        holds = λ len v before after is. is;
+      };
+      unloaded = refl;
+      placeless = λ addresses symbol place other. refl;
+      alone = λ addresses symbol r. refl;
+      same_value = λ o entry plt. refl;
+      is_not_of_got = refl;
+      named = tt;
+    }

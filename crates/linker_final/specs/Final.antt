@@ -1,0 +1,69 @@
+-- A section of code of an object as a linker rewrites it in a phase and then writes its values.
+use Rattle.std.specs.Prelude.{◌≡◌, ◌≢◌, ◌⊎◌, ℕ, ◌+◌, ◌/◌, ◌^◌, ◌<◌, ◌≤◌, List, ◌++◌, length, take, drop}
+use Rattle.std.specs.List.{All}
+use Rattle.linker_elf.specs.declared.elf.RelocationKindInfo.{RelocationKindInfo}
+use Rattle.linker_rewriting.specs.Decisions.{AreDecidedIn, start_at, written_end_at}
+use Rattle.linker_rewriting.specs.Facts.{Setting}
+use Rattle.linker_rewriting.specs.Rewritten.{AreRelocationsAfter, AreDone, OthersStay}
+use Rattle.linker_rewriting.specs.declared.decisions.Decision.{Decision}
+use Rattle.linker_rewriting.specs.declared.groups.KeptGroups.{KeptGroups}
+use Rattle.linker_section.specs.Fields.{IsField, field_end}
+use Rattle.linker_section.specs.Values.{offset_at}
+use Rattle.linker_section.specs.WrittenFields.{AreWritten}
+use Rattle.linker_section.specs.declared.facts.Addresses.{Addresses}
+use Rattle.linker_section.specs.declared.facts.Symbol.{Symbol}
+
+-- What is passed to `rewrite_section` or `rewrite_placed_section` and then to `relocate_section`, and
+-- what they leave.
+pub record Linked : Type 0 where
+  -- what rewrites are chosen by
+  pub setting : Setting
+  pub kept : List KeptGroups
+  -- the object's relocations and bytes
+  pub relocations : List ℕ
+  pub section : List ℕ
+  -- those once the section is rewritten, and what became of each relocation
+  pub decisions : List Decision
+  pub relocations_after : List ℕ
+  pub rewritten : List ℕ
+  -- what values are made of
+  pub addresses : Addresses
+  pub symbols : List Symbol
+  -- the bytes once values are written
+  pub final : List ℕ
+
+abbrev pub count : Linked → ℕ
+count l = length l.relocations / 24
+
+abbrev pub AreBytes : List ℕ → Type 0
+AreBytes bytes = All (λ b. b < 2 ^ 8) bytes
+
+-- Both calls succeeded: what their contracts ensure.
+pub record IsLinked (l : Linked) : Type 0 where
+  pub decided : AreDecidedIn l.setting l.kept l.relocations l.section l.decisions (count l)
+  pub relocations : AreRelocationsAfter l.decisions l.relocations l.relocations_after (count l)
+  pub done : AreDone l.relocations l.decisions l.section l.rewritten (count l)
+  pub others : OthersStay l.relocations l.decisions l.section l.rewritten (count l)
+  pub written : AreWritten l.setting.architecture l.addresses l.relocations_after l.symbols
+      l.rewritten l.final
+  -- what slices have
+  pub as_many : length l.relocations_after ≡ length l.relocations
+  pub same_length : length l.rewritten ≡ length l.section
+  pub relocation_bytes : AreBytes l.relocations
+  pub section_bytes : AreBytes l.section
+  pub final_bytes : AreBytes l.final
+
+-- no rewrite and no field of another relocation has a byte from a start up, below an end
+abbrev pub AreAlone : Linked → ℕ → ℕ → ℕ → Type 0
+AreAlone l i start end =
+    (j at : ℕ) → j < count l → j ≢ i → start ≤ at → at < end
+    → ((at < start_at l.relocations l.decisions j) ⊎ (written_end_at l.relocations l.decisions j ≤ at))
+    × ((row : RelocationKindInfo)
+    → IsField l.setting.architecture l.relocations_after l.rewritten j row
+    → (at < offset_at l.relocations_after j)
+    ⊎ (field_end l.relocations_after l.rewritten j row ≤ at))
+
+-- bytes with so many of others, from a start on
+abbrev pub put_back : ℕ → ℕ → List ℕ → List ℕ → List ℕ
+put_back start len others bytes =
+    take start bytes ++ take len (drop start others) ++ drop (start + len) bytes

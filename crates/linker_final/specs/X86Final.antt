@@ -1,0 +1,83 @@
+-- x86-64: in the final bytes of a section each rewritten instruction does what the object's does with
+-- the value of its relocation (x86-64 psABI, "Optimize GOTPCRELX Relocations" and "ELF Handling For
+-- Thread-Local Storage").
+use Rattle.std.specs.Prelude.{◌≡◌, ℕ, ◌+◌, ◌-◌, ◌<◌, List, drop, Option, Some, None, IsSomeAnd}
+use Rattle.std.specs.Prelude.{slice_get}
+use Rattle.linker_elf.specs.ElfNames.{IsNameOf}
+use Rattle.linker_elf.specs.Value.{difference_64}
+use Rattle.linker_elf.specs.X86Relocations.{x86_64_name}
+use Rattle.linker_elf.specs.declared.elf.RelocationKindInfo.{RelocationKindInfo}
+use Rattle.linker_elf.specs.declared.elf.choice.Choice.{Choice}
+use Rattle.linker_elf.specs.declared.elf.value.Operands.{Operands}
+use Rattle.linker_elf.specs.declared.x86_64.relocations.X86_64Relocation.{X86_64Relocation}
+use Rattle.linker_elf.specs.declared.x86_64.relocations.X86_64Relocation.TheVariants as names
+use Rattle.linker_final.specs.Final.{Linked, IsLinked, AreAlone, count, put_back}
+use Rattle.linker_laws.specs.Schemes.{AreAddresses}
+use Rattle.linker_laws.specs.X86Machine.{State, load, step}
+use Rattle.linker_laws.specs.X86RewriteLaws.{IsRelocated, address, thread_offset}
+use Rattle.linker_rewriting.specs.Decisions.{decision_at}
+use Rattle.linker_rewriting.specs.declared.decisions.Decision.TheVariants.{Rewritten}
+use Rattle.linker_section.specs.Relocations.{relocation_in}
+use Rattle.linker_section.specs.Values.{operands_with}
+use Rattle.linker_section.specs.declared.facts.Symbol.{Symbol}
+use Rattle.linker_utils.specs.Architectures.{IsRow}
+use Rattle.linker_utils.specs.declared.architecture.Relaxation.{Relaxation}
+use Rattle.linker_utils.specs.declared.elf.Architecture.TheVariants.{X86_64}
+
+-- The operand of an instruction that is in the GOT: how many bytes of the instruction are before the
+-- field of its distance, and what the entry holds.
+pub record GotOperand : Type 0 where
+  pub back : ℕ
+  pub held : Operands → ℕ
+
+abbrev pub operand : ℕ → (Operands → ℕ) → Option GotOperand
+operand back held = Some (record { back = back; held = held })
+
+abbrev pub got_operand : X86_64Relocation → Option GotOperand
+got_operand names.R_X86_64_GOTPCREL = operand 3 address
+got_operand names.R_X86_64_GOTPCRELX = operand 2 address
+got_operand names.R_X86_64_REX_GOTPCRELX = operand 3 address
+got_operand names.R_X86_64_CODE_4_GOTPCRELX = operand 4 address
+got_operand names.R_X86_64_CODE_6_GOTPCRELX = operand 6 address
+got_operand names.R_X86_64_GOTTPOFF = operand 3 thread_offset
+got_operand names.R_X86_64_CODE_4_GOTTPOFF = operand 4 thread_offset
+got_operand names.R_X86_64_CODE_6_GOTTPOFF = operand 6 thread_offset
+got_operand name = None
+
+-- The instruction of the relocation at an index, which has become one of a row. From any state before
+-- it, where the entry at an address holds what the written value stands for, the final bytes do what
+-- the object's bytes in their place do with the relocation's value.
+abbrev pub DoesTheSame : Linked → ℕ → X86_64Relocation → GotOperand → RelocationKindInfo → Type 0
+DoesTheSame l i name operand row =
+    let r = relocation_in l.relocations i in
+    (symbol : Symbol) → slice_get l.symbols r.symbol ≡ Some symbol
+    → (entry : ℕ) (s : State) (original : List ℕ)
+    → let operands = operands_with X86_64 l.addresses row symbol r entry in
+    AreAddresses operands
+    → load 8 s entry ≡ operand.held operands
+    → s.ip ≡ difference_64 operands.place operand.back
+    → IsRelocated name operands r.offset
+    (put_back (r.offset - operand.back) (operand.back + 4) l.section l.final) original
+    → IsSomeAnd (step (drop (r.offset - operand.back) original) s) (λ t.
+    step (drop (r.offset - operand.back) l.final) s ≡ Some t)
+
+-- So it is of each such relocation whose instruction is rewritten, where no other rewrite or relocation
+-- has a byte of the instruction.
+abbrev pub RewrittenDoTheSame : X86_64Relocation → GotOperand → Type 0
+RewrittenDoTheSame name operand =
+    (l : Linked) → IsLinked l → l.setting.architecture ≡ X86_64
+    → (i : ℕ) (chosen : Choice Relaxation ℕ) → i < count l
+    → decision_at l.decisions i ≡ Rewritten chosen
+    → let r = relocation_in l.relocations i in
+    IsNameOf x86_64_name r.code name
+    → AreAlone l i (r.offset - operand.back) (r.offset + 4)
+    → (row : RelocationKindInfo) → IsRow X86_64 chosen.relocation (Some row)
+    → DoesTheSame l i name operand row
+
+-- ---- the laws
+
+-- of every instruction with an operand in the GOT that a linker rewrites
+abbrev pub GotOperands : Type 0
+GotOperands =
+    (name : X86_64Relocation) (operand : GotOperand) → got_operand name ≡ Some operand
+    → RewrittenDoTheSame name operand

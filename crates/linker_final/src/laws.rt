@@ -1,0 +1,15 @@
+//! Laws of the final bytes of sections, by architecture.
+//!
+//! Each joins what `rewrite_section` and `relocate_section` leave with the laws of single rewrites of
+//! `linker_laws`.
+
+ghost use Rattle.linker_final.specs.X86Final as x86_64_final;
+
+/// x86-64: each instruction whose operand in the GOT became an address, a distance or an offset from
+/// the thread pointer takes every state in which the GOT's entry holds that to the same state as the
+/// object's instruction does.
+pub fn x86_64()
+    ensures got_operands { x86_64_final.GotOperands }
+{
+    linker_laws::rewrites::x86_64();
+}

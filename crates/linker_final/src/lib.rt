@@ -1,0 +1,6 @@
+//! Laws of final bytes: once a section is rewritten and its values are written, its instructions
+//! compute what the object's do with the values of their relocations. The functions do nothing but
+//! where their docs say so, and the contract of each has the laws of one architecture.
+#![tactic(auto)]
+
+pub mod laws;

@@ -1,0 +1,88 @@
+-- What choices of rewrites read of symbols and of the output, kept until values are written.
+use Rattle.std.specs.Prelude.{◌≡◌, ℕ, ◌+◌, ◌*◌, ◌/◌, ◌<◌, ◌^◌, ℤ, Bool, true, false, List, length}
+use Rattle.std.specs.Prelude.{slice_get, Option, Some, None}
+use Rattle.linker_rewriting.specs.Facts.{facts_of, placed_facts}
+use Rattle.linker_rewriting.specs.declared.facts.OutputFacts.{OutputFacts}
+use Rattle.linker_rewriting.specs.declared.facts.SymbolFacts.{SymbolFacts}
+use Rattle.linker_rewriting.specs.declared.kept.KeptFacts.{KeptFacts}
+use Rattle.linker_rewriting.specs.declared.kept.WritingError.{WritingError}
+use Rattle.linker_rewriting.specs.declared.kept.WritingError.TheVariants.{Changed, Section}
+use Rattle.linker_rewriting.specs.declared.phases.Phase.{Phase}
+use Rattle.linker_section.specs.Relocations.{relocation_in}
+use Rattle.linker_section.specs.WrittenFields.{IsFirstFault}
+use Rattle.linker_section.specs.declared.facts.Addresses.{Addresses}
+use Rattle.linker_section.specs.declared.facts.Symbol.{Symbol}
+use Rattle.linker_section.specs.declared.relocations.Rela.{Rela}
+use Rattle.linker_utils.specs.declared.elf.Architecture.{Architecture}
+
+-- ---- the facts of a symbol in a number
+
+abbrev pub bit_if : ℕ → Bool → ℕ
+bit_if worth true = worth
+bit_if worth false = 0
+
+-- Each fact has a bit: from bit 0 up those of the symbol, with bits 5 to 7 of `st_other` in bits 5 to 7,
+-- and then those of the output. Bit 15 is 1, so that none of what is kept is 0.
+abbrev pub kept_bits : OutputFacts → SymbolFacts → ℕ
+kept_bits output symbol =
+    2 ^ 15 + bit_if (2 ^ 9) output.is_fixed + bit_if (2 ^ 8) output.is_executable
+    + symbol.other / 32 * 32 + bit_if 16 symbol.is_tls_get_addr + bit_if 8 symbol.is_undefined_weak
+    + bit_if 4 symbol.is_absolute + bit_if 2 symbol.is_ifunc + bit_if 1 symbol.is_local
+
+abbrev pub kept_facts : OutputFacts → SymbolFacts → KeptFacts
+kept_facts output symbol = record { bits = kept_bits output symbol }
+
+-- ---- the facts of an object
+
+abbrev pub facts_now : OutputFacts → Option SymbolFacts → Option KeptFacts
+facts_now output None = None
+facts_now output (Some symbol) = Some (kept_facts output symbol)
+
+abbrev pub AreKept : OutputFacts → List SymbolFacts → List KeptFacts → Type 0
+AreKept output symbols kept =
+    (n : ℕ) → slice_get kept n ≡ facts_now output (slice_get symbols n)
+
+-- What is kept of a relocation's symbol is what holds now. Of a symbol that isn't in the tables no
+-- choice read a fact.
+abbrev pub IsAsKept : OutputFacts → List SymbolFacts → List KeptFacts → Rela → Type 0
+IsAsKept output symbols kept r =
+    slice_get kept r.symbol ≡ facts_now output (slice_get symbols r.symbol)
+
+-- of the relocations with an index below a limit
+abbrev pub AreAsKept : OutputFacts → List SymbolFacts → List KeptFacts → List ℕ → ℕ → Type 0
+AreAsKept output symbols kept bytes limit =
+    (n : ℕ) → n < limit → IsAsKept output symbols kept (relocation_in bytes n)
+
+-- the first of which something else is kept
+pub record IsFirstChanged (output : OutputFacts) (symbols : List SymbolFacts) (kept : List KeptFacts)
+    (bytes : List ℕ) (n : ℕ) : Type 0 where
+  pub within : n < length bytes / 24
+  pub same_before : AreAsKept output symbols kept bytes n
+  pub changed : ¬ IsAsKept output symbols kept (relocation_in bytes n)
+
+-- why values aren't written
+abbrev pub IsWritingCause : Architecture → OutputFacts → List SymbolFacts → List KeptFacts
+    → Addresses → List ℕ → List Symbol → List ℕ → WritingError → Type 0
+IsWritingCause architecture output facts kept addresses bytes symbols section (Changed n) =
+    IsFirstChanged output facts kept bytes n
+IsWritingCause architecture output facts kept addresses bytes symbols section (Section error) =
+    AreAsKept output facts kept bytes (length bytes / 24)
+    × IsFirstFault architecture addresses bytes symbols section error
+
+-- ---- what they tell
+
+-- what choices read of a symbol, in every phase
+pub record AreReadAlike (output other : OutputFacts) (symbol another : SymbolFacts) : Type 0 where
+  pub early : (addend : ℤ) → facts_of output symbol addend ≡ facts_of other another addend
+  pub placed : (phase : Phase) (addresses : Addresses) (value : Symbol) (offset : ℕ) (addend : ℤ)
+      (marked : Bool) → placed_facts phase output addresses symbol value offset addend marked
+      ≡ placed_facts phase other addresses another value offset addend marked
+  pub tls_get_addr : symbol.is_tls_get_addr ≡ another.is_tls_get_addr
+
+-- where the same is kept, choices read the same
+abbrev pub KeptFactsTell : Type 0
+KeptFactsTell =
+    (output other : OutputFacts) (symbol another : SymbolFacts)
+    → symbol.other < 2 ^ 8 → another.other < 2 ^ 8
+    → kept_facts output symbol ≡ kept_facts other another
+    → AreReadAlike output other symbol another

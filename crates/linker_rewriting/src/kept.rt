@@ -1,0 +1,199 @@
+//! What choices of rewrites read of symbols, kept until values are written: then the same has to hold.
+
+ghost use Rattle.std.specs.Prelude.{◌≡◌, ◌≤◌, ◌<◌, ◌*◌, ◌/◌, ◌^◌, ◌↔◌, length, IsTrue, IfErr, IfSome, IfNone, OnOk};
+ghost use Rattle.linker_rewriting.specs.Kept.{AreAsKept, AreKept, IsAsKept, IsFirstChanged};
+ghost use Rattle.linker_rewriting.specs.Kept.{IsWritingCause, bit_if, kept_facts};
+ghost use Rattle.linker_section.specs.Relocations.{relocation_in};
+ghost use Rattle.linker_section.specs.WrittenFields.{AreWritten};
+
+use crate::facts::{OutputFacts, SymbolFacts};
+use crate::relocations::relocation_in;
+use linker_section::facts::{Addresses, Symbol};
+use linker_section::relocations::{Rela, relocations_len};
+use linker_section::sections::{SectionError, relocate_section};
+use linker_utils::elf::Architecture;
+
+/// What choices read of a symbol and of the output, a bit for each fact; 0 where nothing is kept. A
+/// table of these has those of an object at the indexes that its relocations name (`r_sym`).
+#[repr(C)]
+#[derive(Debug, Default, Clone, Copy, PartialEq, Eq)]
+pub struct KeptFacts {
+    /// The bits, as `kept_bits` says.
+    pub bits: u16,
+}
+
+/// Why the values of a section whose instructions were rewritten aren't written.
+#[derive(Debug, Clone, Copy, PartialEq, Eq)]
+pub enum WritingError {
+    /// Of the symbol of the relocation with this index other facts hold than those that are kept.
+    Changed(usize),
+    /// A value isn't written, as `relocate_section` says.
+    Section(SectionError),
+}
+
+/// A bit that is worth so much, or 0.
+#[inline(always)]
+fn bit_if(worth: u16, is_set: bool) -> u16
+    ensures bit { result ≡ bit_if worth is_set }
+    ensures most { result ≤ worth }
+{
+    if is_set { worth } else { 0 }
+}
+
+/// The bits of `st_other` that say what a call does with PowerPC64's TOC pointer.
+#[inline(always)]
+fn toc_bits(other: u8) -> u16
+    ensures bits { result ≡ other / 32 * 32 }
+    ensures most { result < 2 ^ 8 }
+{
+    u16::from(other / 32) * 32
+}
+
+/// What choices read of a symbol and of the output.
+#[inline(always)]
+fn kept_facts(output: &OutputFacts, symbol: &SymbolFacts) -> KeptFacts
+    ensures { result ≡ kept_facts output.now symbol.now }
+{
+    let of_output = bit_if(1 << 9, output.is_fixed) + bit_if(1 << 8, output.is_executable);
+    let toc = toc_bits(symbol.other);
+    let of_symbol = bit_if(16, symbol.is_tls_get_addr)
+        + bit_if(8, symbol.is_undefined_weak)
+        + bit_if(4, symbol.is_absolute)
+        + bit_if(2, symbol.is_ifunc)
+        + bit_if(1, symbol.is_local);
+    KeptFacts {
+        bits: (1 << 15) + of_output + toc + of_symbol,
+    }
+}
+
+/// Keeps what choices read of an object's symbols and of the output. A linker calls this when it
+/// chooses rewrites, with the facts that it passes to `survey` and `rewrite_section`, and passes what
+/// is kept to `relocate_rewritten_section`.
+pub fn keep_facts(output: &OutputFacts, symbols: &[SymbolFacts], kept: &mut [KeptFacts])
+    requires room { length symbols.now ≡ length kept.old }
+    ensures { AreKept output.now symbols.now kept.new }
+{
+    for index in 0..symbols.len() {
+        kept[index] = kept_facts(output, &symbols[index]);
+    }
+}
+
+/// Whether what is kept of a relocation's symbol is what holds now.
+#[inline(always)]
+fn is_as_kept(
+    output: &OutputFacts,
+    symbols: &[SymbolFacts],
+    kept: &[KeptFacts],
+    relocation: &Rela,
+) -> bool
+    ensures { IsTrue result ↔ IsAsKept output.now symbols.now kept.now relocation.now }
+{
+    let index = relocation.symbol as usize;
+    match (kept.get(index), symbols.get(index)) {
+        (Some(before), Some(symbol)) => before.bits == kept_facts(output, symbol).bits,
+        (None, None) => true,
+        _ => false,
+    }
+}
+
+/// The index of the first relocation of whose symbol other facts hold than those that are kept; none
+/// where all are the same. A relocation that a rewrite took along counts too: the facts of its symbol
+/// were read.
+pub fn first_changed(
+    output: &OutputFacts,
+    symbols: &[SymbolFacts],
+    kept: &[KeptFacts],
+    relocations: &[u8],
+) -> Option<usize>
+    ensures some { IfSome result (IsFirstChanged output.now symbols.now kept.now relocations.now) }
+    ensures none { IfNone result (AreAsKept output.now symbols.now kept.now relocations.now
+        (length relocations.now / 24)) }
+{
+    for index in 0..relocations_len(relocations) {
+        if !is_as_kept(output, symbols, kept, &relocation_in(relocations, index)) {
+            return Some(index);
+        }
+    }
+    None
+}
+
+/// Writes the values of a section whose instructions were rewritten, as `relocate_section` does, where
+/// choices would still read the same facts: `facts` and `output` are those that hold now, and `kept`
+/// those of `keep_facts` when rewrites were chosen. So a symbol that was bound then and isn't any more
+/// doesn't get code that bypasses its GOT entry. A relocation that needs an entry which the linker
+/// hasn't made is an error of `relocate_section` (`NoEntry`).
+///
+/// # Errors
+///
+/// The section is as before. `Changed`: of a symbol other facts hold than are kept, or none are kept;
+/// with the index of the first such relocation. `Section`: all facts are as kept, and a value isn't
+/// written.
+///
+/// ```
+/// use linker_rewriting::facts::{OutputFacts, SymbolFacts};
+/// use linker_rewriting::kept::{KeptFacts, WritingError, keep_facts, relocate_rewritten_section};
+/// use linker_section::facts::{Addresses, Symbol};
+/// use linker_utils::elf::Architecture;
+///
+/// // addr32 call f, with R_X86_64_PC32 of symbol 1 at 2, which was call *f@GOTPCREL(%rip)
+/// let mut section = [0x67, 0xe8, 0, 0, 0, 0];
+/// let mut relocations = [0; 24];
+/// (relocations[0], relocations[8], relocations[12]) = (2, 2, 1);
+/// relocations[16..].copy_from_slice(&(-4i64).to_le_bytes());
+/// let output = OutputFacts { is_executable: true, is_fixed: false };
+/// let mut facts = [SymbolFacts::default(), SymbolFacts { is_local: true, ..SymbolFacts::default() }];
+/// let mut kept = [KeptFacts::default(); 2];
+/// keep_facts(&output, &facts, &mut kept);
+/// // another definition replaces f
+/// facts[1].is_local = false;
+/// let addresses = Addresses { section: 0x1000, ..Addresses::default() };
+/// let symbols = [Symbol::default(), Symbol { address: 0x2000, ..Symbol::default() }];
+/// let written = relocate_rewritten_section(
+///     Architecture::X86_64,
+///     &output,
+///     &facts,
+///     &kept,
+///     &addresses,
+///     &relocations,
+///     &symbols,
+///     &mut section,
+///     &mut [0; 1],
+/// );
+/// assert_eq!(written, Err(WritingError::Changed(0)));
+/// assert_eq!(section, [0x67, 0xe8, 0, 0, 0, 0]);
+/// ```
+pub fn relocate_rewritten_section(
+    architecture: Architecture,
+    output: &OutputFacts,
+    facts: &[SymbolFacts],
+    kept: &[KeptFacts],
+    addresses: &Addresses,
+    relocations: &[u8],
+    symbols: &[Symbol],
+    section: &mut [u8],
+    memory: &mut [u64],
+) -> Result<(), WritingError>
+    requires memory { length relocations.now / 24 ≤ length memory.old }
+    ensures kept { OnOk result (AreAsKept output.now facts.now kept.now relocations.now
+        (length relocations.now / 24)) }
+    ensures fields { OnOk result (AreWritten architecture addresses.now relocations.now symbols.now
+        section.old section.new) }
+    ensures cause { IfErr result (IsWritingCause architecture output.now facts.now kept.now
+        addresses.now relocations.now symbols.now section.old) }
+    ensures unchanged { IfErr result (λ _. section.new ≡ section.old) }
+{
+    if let Some(index) = first_changed(output, facts, kept, relocations) {
+        return Err(WritingError::Changed(index));
+    }
+    match relocate_section(
+        architecture,
+        addresses,
+        relocations,
+        symbols,
+        section,
+        memory,
+    ) {
+        Ok(()) => Ok(()),
+        Err(error) => Err(WritingError::Section(error)),
+    }
+}
