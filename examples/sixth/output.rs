@@ -9,6 +9,7 @@ use crate::linker_output::got::{GotHeader, GotLayout, ThreadPointer};
 use crate::linker_output::layout::{
     CodeUnit, Interpreter, ProvidedRun, ProvidedSymbol, SymbolPlace,
 };
+use crate::linker_output::lazy_plt::{LazyField, LazyPiece, LazyPlt, LazyTarget, LazyWord};
 use crate::linker_output::stubs::{Stub, StubField, field};
 
 /// The description.
@@ -34,6 +35,7 @@ pub(crate) static TARGET: Target = Target {
         header: Some(GotHeader::Base),
         bias: 0x100,
     },
+    address_section: None,
     page: 0x4000,
     code_unit: CodeUnit {
         len: 4,
@@ -108,4 +110,40 @@ pub(crate) static TARGET: Target = Target {
         origin: 0,
         addend: 0,
     }),
+};
+
+/// An instruction with a field, whose value is computed from the word of an entry.
+const fn of_word(code: [u8; 8], field: StubField) -> LazyPiece {
+    LazyPiece {
+        code,
+        len: 4,
+        field: Some(LazyField {
+            field,
+            target: LazyTarget::Word,
+            origin: 0,
+            addend: 0,
+        }),
+    }
+}
+
+/// The lazy PLT, whose header only traps.
+pub(crate) static LAZY_PLT: LazyPlt = LazyPlt {
+    instructions: Architecture::Sixth,
+    alignment: 8,
+    header: &[LazyPiece {
+        code: [0x20, 0, 0x20, 0xd4, 0x1f, 0x20, 3, 0xd5], // brk 1, nop
+        len: 8,
+        field: None,
+    }],
+    entry: &[
+        of_word([0x0e, 0, 0, 0x90, 0, 0, 0, 0], field!(0, 20)), // adrp x14, 0
+        of_word([0xcf, 1, 0x40, 0xf9, 0, 0, 0, 0], field!(0, 62)), // ldr x15, [x14]
+        LazyPiece {
+            code: [0xe0, 1, 0x1f, 0xd6, 0x20, 0, 0x20, 0xd4], // br x15, brk 1
+            len: 8,
+            field: None,
+        },
+    ],
+    header_words: &[LazyWord::Dynamic],
+    word: LazyWord::Header,
 };

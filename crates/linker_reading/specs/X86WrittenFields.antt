@@ -1,4 +1,4 @@
--- What a write of a relocation's value leaves is what is recognised.
+-- What a write of the value of a relocation of x86-64 leaves is what is recognised.
 use Rattle.std.specs.Prelude.{◌≡◌, ◌≤◌, ℕ, List, ◌++◌, length, take, drop, ℤ, Some}
 use Rattle.linker_base.specs.Rewrite.{CanRewrite, rewritten, offset_after}
 use Rattle.linker_elf.specs.Relocate.{WritesRow}
