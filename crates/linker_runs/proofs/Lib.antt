@@ -29,6 +29,7 @@ pub mod Reaches
 pub mod Reaching
 pub mod RiscV
 pub mod RiscVItems
+pub mod RewrittenSites
 pub mod Rounds
 pub mod Same
 pub mod Shrunk
