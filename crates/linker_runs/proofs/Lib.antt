@@ -37,6 +37,7 @@ pub mod RiscVMadeSites
 pub mod RiscVReaches
 pub mod RiscVWritable
 pub mod RiscVItems
+pub mod RewrittenSites
 pub mod Rounds
 pub mod Same
 pub mod Shrunk

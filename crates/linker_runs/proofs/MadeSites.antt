@@ -17,20 +17,25 @@ use Rattle.linker_runs.specs.Writable.{MadeSitesHaveInstructions}
 use Rattle.linker_runs.proofs.RiscVMadeSites.{riscv_site}
 use Rattle.linker_runs.proofs.LoongArchMadeSites.{loongarch_site}
 
+-- what holds of each item, and of one behind them
+pub pushed : (P : Item → Type 0) (items : List Item) (item : Item) → ((j : ℕ) → j < length items → P (item_at items j)) → P item → (j : ℕ) → j < length (items ++ item ∷ []) → P (item_at (items ++ item ∷ []) j)
+pushed P items item each is j below = ⊎_elim
+    (λ (first : j < length items). subst P (sym (get_or-append items (item ∷ []) no_item j first)) (each j first))
+    (λ (last : length items ≤ j).
+    let len = length-append items (item ∷ []) in
+    let at : length items ≡ j = omega arith in
+    subst P (sym (get_or-append_seam items item [] no_item) ∙ ap (item_at (items ++ item ∷ [])) at) is)
+    (cases_lt j (length items))
+
 -- what holds of each item that a relocation makes holds of each item
 each_made : (Makes : ℕ → Item → Type 0) (P : Item → Type 0) (n : ℕ) (items : List Item) (makers : List ℕ) → AreMade Makes n items makers → ((i : ℕ) (item : Item) → i < n → Makes i item → P item) → (j : ℕ) → j < length items → P (item_at items j)
 each_made Makes P zero [] makers none each j below = absurd (omega arith)
 each_made Makes P zero (_ ∷ _) makers impossible each j below = elim impossible [ ]
 each_made Makes P (suc i) items makers (left_out before not) each j below = each_made Makes P i items makers before (λ k item h. each k item (omega arith)) j below
-each_made Makes P (suc i) all all_makers (made {items = items} {makers = makers} {item = item} before is) each j below = ⊎_elim
-    (λ (first : j < length items). subst P (sym (get_or-append items (item ∷ []) no_item j first)) (each_made Makes P i items makers before (λ k item h. each k item (omega arith)) j first))
-    (λ (last : length items ≤ j).
-    let len = length-append items (item ∷ []) in
-    let at : length items ≡ j = omega arith in
-    subst P (sym (get_or-append_seam items item [] no_item) ∙ ap (item_at (items ++ item ∷ [])) at) (each i item (omega arith) is))
-    (cases_lt j (length items))
+each_made Makes P (suc i) all all_makers (made {items = items} {makers = makers} {item = item} before is) each j below =
+    pushed P items item (each_made Makes P i items makers before (λ k item h. each k item (omega arith))) (each i item (omega arith) is) j below
 
-site : (machine : Machine) (section : List ℕ) (base : ℕ) (relocations : List Relocation) (i : ℕ) (item : Item) → IsFormed machine section (relocation_at relocations i) → Makes machine section base relocations i item → HasItsInstructions machine section base item
+pub site : (machine : Machine) (section : List ℕ) (base : ℕ) (relocations : List Relocation) (i : ℕ) (item : Item) → IsFormed machine section (relocation_at relocations i) → Makes machine section base relocations i item → HasItsInstructions machine section base item
 site RiscV64 section base relocations i item formed makes = riscv_site section base relocations i item formed makes
 site LoongArch64 section base relocations i item formed makes = loongarch_site section base relocations i item makes
 

@@ -12,6 +12,7 @@ pub mod Reaches
 pub mod Relaxing
 pub mod Relocations
 pub mod RewrittenItems
+pub mod RewrittenLaws
 pub mod RiscVItems
 pub mod RiscVSites
 pub mod SectionItems
