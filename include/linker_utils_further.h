@@ -97,8 +97,8 @@ static inline uint32_t linker_utils_relocate_all(
 /* ---- Outputs: what a linker adds to one, by architecture.
  *
  * Types of dynamic relocations, words of the GOT, what offsets of thread-local storage count from,
- * `e_flags`, symbols and functions that linkers provide, and the code of stubs. The status
- * LINKER_UTILS_UNKNOWN_ARCHITECTURE comes first. With any status but LINKER_UTILS_OK nothing is
+ * `e_flags`, symbols and functions that linkers provide, and the code of stubs and lazy PLTs. The
+ * status LINKER_UTILS_UNKNOWN_ARCHITECTURE comes first. With any status but LINKER_UTILS_OK nothing is
  * written. Each call takes O(1), but for copies of texts. */
 
 /* The types of the dynamic relocations that a linker emits. */
@@ -207,6 +207,21 @@ uint8_t linker_utils_filler(uint16_t machine, uint64_t offset);
 static inline uint32_t linker_utils_interpreter(uint16_t machine, uint32_t flags, uint8_t *path,
                                                 size_t path_len, size_t *path_used);
 
+/* Writes the name of the section of objects in which compilers keep addresses, as the GOT does, to
+ * `name`, without a zero behind it, and its length to `name_used`: PowerPC64's `.toc`. It stands
+ * beside the GOT. Nothing changes its words, so that a linker may have instructions compute such an
+ * address. LINKER_UTILS_NOT_PROVIDED where there is none; LINKER_UTILS_TOO_SHORT. No name is longer
+ * than LINKER_UTILS_NAME_SIZE. */
+static inline uint32_t linker_utils_address_section(uint16_t machine, uint8_t *name,
+                                                    size_t name_len, size_t *name_used);
+
+/* The type of the relocation that an instruction would have if its address were in an entry of the
+ * GOT, into `entry_type`. `r_type` is the type where that is in a word of this section. By
+ * `entry_type` `linker_utils_choose` says whether the instruction can compute the address. Some
+ * instruction that refers to a word may not: then none of that word is rewritten, so that a linker
+ * asks for each first. LINKER_UTILS_NOT_PROVIDED of other types. */
+uint32_t linker_utils_entry_relocation(uint16_t machine, uint32_t r_type, uint32_t *entry_type);
+
 /* A symbol that a linker defines if an object refers to it. */
 struct linker_utils_provided_symbol {
     uint64_t offset; /* how many bytes above its place */
@@ -260,6 +275,51 @@ uint32_t linker_utils_stub(uint16_t machine, uint32_t kind, struct linker_utils_
  * `linker_utils_relocate`. */
 static inline uint32_t linker_utils_write_stub(uint16_t machine, uint32_t kind, uint64_t place,
                                                uint64_t target, uint8_t *bytes, size_t bytes_len);
+
+/* A lazy PLT of an architecture: its header, and behind it an entry for each function. An entry jumps
+ * to the address that its word of `.got.plt` has. That is the function's only once the dynamic linker
+ * has looked it up; until then the word leads on to the header, which jumps to the dynamic linker. */
+struct linker_utils_lazy_plt {
+    uint64_t header_len, entry_len; /* in bytes */
+    uint64_t alignment;             /* what addresses of both are multiples of */
+    uint64_t header_words;          /* how many words `.got.plt` has before those of entries */
+};
+
+/* The lazy PLT of an architecture, into `plt`. */
+uint32_t linker_utils_lazy_plt(uint16_t machine, struct linker_utils_lazy_plt *plt);
+
+/* Writes the header that stands at the address `header`, of the `.got.plt` at `words`, to the
+ * beginning of `bytes`. PowerPC64's is `__glink_PLTresolve`, and its `.got.plt` is the section `.plt`.
+ * LINKER_UTILS_TOO_SHORT; and where `words` are out of reach the status of the first such field, as
+ * `linker_utils_relocate`. */
+static inline uint32_t linker_utils_write_lazy_header(uint16_t machine, uint64_t header,
+                                                      uint64_t words, uint8_t *bytes,
+                                                      size_t bytes_len);
+
+/* What an entry is written from. */
+struct linker_utils_lazy_entry {
+    uint64_t address; /* its own address */
+    uint64_t word;    /* that of its word in `.got.plt` */
+    uint64_t header;  /* that of the header */
+    uint64_t index;   /* the index of its relocation in `.rela.plt` */
+};
+
+/* Writes an entry to the beginning of `bytes`, with the statuses of the header. */
+static inline uint32_t linker_utils_write_lazy_entry(uint16_t machine,
+                                                     const struct linker_utils_lazy_entry *entry,
+                                                     uint8_t *bytes, size_t bytes_len);
+
+/* What the word with an index at the begin of `.got.plt` holds, by the addresses of `.dynamic` and of
+ * the header, into `word`. LINKER_UTILS_NOT_PROVIDED where that is no word before those of entries. */
+uint32_t linker_utils_lazy_header_word(uint16_t machine, size_t index, uint64_t dynamic,
+                                       uint64_t header, uint64_t *word);
+
+/* What the word of the entry at an address holds until the dynamic linker has looked up the function,
+ * by the addresses of the header and of `.dynamic`; 0 of a machine that isn't known. PowerPC64's the
+ * dynamic linker puts there itself, from DT_PPC64_GLINK, which is 32 below the first entry: in an
+ * output its section has no contents. */
+uint64_t linker_utils_lazy_entry_word(uint16_t machine, uint64_t entry, uint64_t header,
+                                      uint64_t dynamic);
 
 /* How a branch goes to its target. */
 struct linker_utils_route {
@@ -782,7 +842,8 @@ struct linker_utils_rela {
      * or where the instructions are to stay as they are */
     uint8_t has_target;
     uint8_t may_compress; /* 1 where the code may use RISC-V's C extension: EF_RISCV_RVC is in the
-                             `e_flags` of its object */
+                             `e_flags` of its object, so that `linker_utils_code_unit` of them is 2.
+                             An output's `e_flags` say nothing of it */
 };
 
 /* Writes the items that the relocations of a section of RISC-V or LoongArch make, in their order,
@@ -824,6 +885,33 @@ struct linker_utils_rela {
 static inline uint32_t linker_utils_section_items(
     uint16_t machine, const uint8_t *section, size_t section_len, uint64_t base,
     const struct linker_utils_rela *relocations, size_t relocations_len,
+    struct linker_utils_item *items, size_t items_len, size_t *makers, size_t makers_len, size_t *len,
+    size_t *faulty);
+
+/* Writes the items of a section that `linker_utils_rewrite_section` and
+ * `linker_utils_rewrite_placed_section` rewrote. They are those that its relocations make, as
+ * `linker_utils_section_items` does, and what `deleted` lists, as the latter call wrote it. The
+ * section's bytes and relocations are as these left them: deleted bytes are still there, and a
+ * relocation of type 0 makes no item. A deletion is a site with one shape, of no bytes. So
+ * `linker_utils_relax` counts distances over it, `linker_utils_run_deltas` lists it, and
+ * `linker_utils_pack_run` leaves its bytes out.
+ *
+ * The items ascend, and none begins below the end of the one before it. `makers` has for each item
+ * the index of its relocation, or `relocations_len` and the index of its deletion. `items_len` and
+ * `makers_len` are `relocations_len` and `deleted_len` together. `len` is how many items there are;
+ * the elements from there on are unchanged.
+ *
+ * LINKER_UTILS_UNKNOWN_ARCHITECTURE, LINKER_UTILS_DIFFERENT_LENGTHS, LINKER_UTILS_ENDS_TOO_HIGH and
+ * LINKER_UTILS_MALFORMED_RELOCATION as above. LINKER_UTILS_INVALID_DELETIONS, and `faulty` is the
+ * first deletion that begins below the end of the one before it or ends past the section. Nothing is
+ * written then. Last LINKER_UTILS_ITEMS_OVERLAP, and `faulty` is a relocation whose item begins below
+ * the end of that of an earlier relocation, or has deleted bytes. What `items` and `makers` have then
+ * isn't specified. A target inside deleted bytes is no error here, but LINKER_UTILS_TARGET_INSIDE of
+ * `linker_utils_relax`. */
+static inline uint32_t linker_utils_rewritten_items(
+    uint16_t machine, const uint8_t *section, size_t section_len, uint64_t base,
+    const struct linker_utils_rela *relocations, size_t relocations_len,
+    const struct linker_utils_deletion *deleted, size_t deleted_len,
     struct linker_utils_item *items, size_t items_len, size_t *makers, size_t makers_len, size_t *len,
     size_t *faulty);
 

@@ -279,6 +279,14 @@ static inline uint32_t linker_utils_interpreter(
         machine, flags, LINKER_UTILS_SLICE(uint8_t, path), path_len, path_used);
 }
 
+uint32_t linker_utils_address_section_nonnull(
+    uint16_t machine, uint8_t *name, size_t name_len, size_t *name_used);
+static inline uint32_t linker_utils_address_section(
+    uint16_t machine, uint8_t *name, size_t name_len, size_t *name_used) {
+    return linker_utils_address_section_nonnull(
+        machine, LINKER_UTILS_SLICE(uint8_t, name), name_len, name_used);
+}
+
 uint32_t linker_utils_provided_symbol_nonnull(
     uint16_t machine, size_t index, uint8_t *name, size_t name_len, size_t *name_used,
     struct linker_utils_provided_symbol *symbol);
@@ -307,6 +315,22 @@ static inline uint32_t linker_utils_write_stub(
     size_t bytes_len) {
     return linker_utils_write_stub_nonnull(
         machine, kind, place, target, LINKER_UTILS_SLICE(uint8_t, bytes), bytes_len);
+}
+
+uint32_t linker_utils_write_lazy_header_nonnull(
+    uint16_t machine, uint64_t header, uint64_t words, uint8_t *bytes, size_t bytes_len);
+static inline uint32_t linker_utils_write_lazy_header(
+    uint16_t machine, uint64_t header, uint64_t words, uint8_t *bytes, size_t bytes_len) {
+    return linker_utils_write_lazy_header_nonnull(
+        machine, header, words, LINKER_UTILS_SLICE(uint8_t, bytes), bytes_len);
+}
+
+uint32_t linker_utils_write_lazy_entry_nonnull(
+    uint16_t machine, const struct linker_utils_lazy_entry *entry, uint8_t *bytes, size_t bytes_len);
+static inline uint32_t linker_utils_write_lazy_entry(
+    uint16_t machine, const struct linker_utils_lazy_entry *entry, uint8_t *bytes, size_t bytes_len) {
+    return linker_utils_write_lazy_entry_nonnull(
+        machine, entry, LINKER_UTILS_SLICE(uint8_t, bytes), bytes_len);
 }
 
 uint32_t linker_utils_route_at_nonnull(
@@ -680,6 +704,27 @@ static inline uint32_t linker_utils_section_items(
         machine, LINKER_UTILS_SLICE(const uint8_t, section), section_len, base,
         LINKER_UTILS_SLICE(const struct linker_utils_rela, relocations),
         relocations_len, LINKER_UTILS_SLICE(struct linker_utils_item, items), items_len,
+        LINKER_UTILS_SLICE(size_t, makers), makers_len, len, faulty ? faulty : &ignored);
+}
+
+uint32_t linker_utils_rewritten_items_nonnull(
+    uint16_t machine, const uint8_t *section, size_t section_len, uint64_t base,
+    const struct linker_utils_rela *relocations, size_t relocations_len,
+    const struct linker_utils_deletion *deleted, size_t deleted_len,
+    struct linker_utils_item *items, size_t items_len, size_t *makers, size_t makers_len, size_t *len,
+    size_t *faulty);
+static inline uint32_t linker_utils_rewritten_items(
+    uint16_t machine, const uint8_t *section, size_t section_len, uint64_t base,
+    const struct linker_utils_rela *relocations, size_t relocations_len,
+    const struct linker_utils_deletion *deleted, size_t deleted_len,
+    struct linker_utils_item *items, size_t items_len, size_t *makers, size_t makers_len, size_t *len,
+    size_t *faulty) {
+    size_t ignored;
+    return linker_utils_rewritten_items_nonnull(
+        machine, LINKER_UTILS_SLICE(const uint8_t, section), section_len, base,
+        LINKER_UTILS_SLICE(const struct linker_utils_rela, relocations), relocations_len,
+        LINKER_UTILS_SLICE(const struct linker_utils_deletion, deleted), deleted_len,
+        LINKER_UTILS_SLICE(struct linker_utils_item, items), items_len,
         LINKER_UTILS_SLICE(size_t, makers), makers_len, len, faulty ? faulty : &ignored);
 }
 

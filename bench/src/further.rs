@@ -642,6 +642,54 @@ fn lists(report: &mut Report, random: &mut Random) {
     );
 }
 
+/// The items of such a section of which four bytes behind each call are deleted.
+fn rewritten_beside(
+    report: &mut Report,
+    machine: u16,
+    of_crate: Machine,
+    section: &[u8],
+    relocations: &[sathunne::Rela],
+    listed: &[runs::items::Relocation],
+) {
+    let calls = relocations.iter().filter(|it| it.has_target != 0);
+    let deleted: Vec<_> = calls.map(|it| (it.offset + 40, 4)).collect();
+    let given: Vec<_> = deleted
+        .iter()
+        .map(|&(offset, bytes)| sathunne::Deletion { offset, bytes })
+        .collect();
+    let room = relocations.len() + deleted.len();
+    let mut items = vec![sathunne::Item::default(); room];
+    let (mut makers, mut used) = (vec![0; room], 0);
+    let call = || unsafe {
+        linker_utils_rewritten_items_nonnull(
+            machine,
+            section.as_ptr(),
+            section.len(),
+            0,
+            relocations.as_ptr(),
+            relocations.len(),
+            given.as_ptr(),
+            given.len(),
+            items.as_mut_ptr(),
+            room,
+            makers.as_mut_ptr(),
+            room,
+            &mut used,
+            &mut 0,
+        )
+    };
+    let made = runs::items::section_items(of_crate, section, 0, listed).expect("items");
+    let mut out = vec![made.items[0]; room];
+    let mut out_makers = vec![0; room];
+    let of_crate = || {
+        let out = &mut out[..];
+        let makers = &mut out_makers[..];
+        runs::items::rewritten_items_into(of_crate, section, 0, listed, &deleted, out, makers).is_ok()
+    };
+    let name = format!("`linker_utils_rewritten_items`, {}, a relocation", name_of(machine));
+    whole_beside(report, &name, relocations.len(), call, of_crate);
+}
+
 /// Sections whose relocations make items, relaxed and packed: calls with an alignment after each
 /// eighth.
 fn runs(report: &mut Report, random: &mut Random) {
@@ -716,6 +764,7 @@ fn runs(report: &mut Report, random: &mut Random) {
         };
         whole_beside(report, &export, count, call, || made().is_ok());
         items.truncate(used);
+        rewritten_beside(report, machine, of_crate, &section, &relocations, &listed);
         assert_eq!(items.len(), COUNT + COUNT / 8);
         let run = made().expect("items").items;
 

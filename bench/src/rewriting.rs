@@ -362,6 +362,37 @@ fn stubs(report: &mut Report, machine: u16) {
     report.line(&name, COUNT as usize, true, [Some(exports), None, Some(erased), None]);
 }
 
+/// Entries of a lazy PLT.
+fn lazy_entries(report: &mut Report, machine: u16) {
+    const COUNT: u64 = 1000;
+    let place = |at| (0x1000_0020 + 16 * at, 0x1080_0000 + 8 * at, 0x1000_0000);
+    let mut code = [0; 16];
+    let exports = Side::number(move || {
+        (0..COUNT).fold(0, |sum, index| {
+            let (address, word, header) = place(index);
+            let entry = sathunne::LazyEntry { address, word, header, index };
+            // SAFETY: a slice's pointer and length are its own.
+            let status = unsafe {
+                linker_utils_write_lazy_entry_nonnull(machine, &entry, code.as_mut_ptr(), 16)
+            };
+            assert_eq!(status, 0);
+            added(sum, u64::from(code[2]))
+        })
+    });
+    let architecture = Architecture::from_machine(machine).expect("an architecture");
+    let mut code = [0; 16];
+    let erased = Side::number(move || {
+        (0..COUNT).fold(0, |sum, index| {
+            let (address, word, header) = place(index);
+            let entry = output::LazyEntry { address, word, header, index };
+            output::LazyPlt::of(architecture).write_entry(&entry, &mut code).expect("it reaches");
+            added(sum, u64::from(code[2]))
+        })
+    });
+    let name = format!("`linker_utils_write_lazy_entry`, {}", name_of(machine));
+    report.line(&name, COUNT as usize, true, [Some(exports), None, Some(erased), None]);
+}
+
 /// 1,000 calls, of which each second one doesn't reach. Calls of x86-64 reach 2 GiB.
 struct Calls {
     machine: u16,
@@ -562,6 +593,7 @@ pub fn rewriting(report: &mut Report) {
     report.heading("Stubs", Beside::Nothing);
     for input in &inputs {
         stubs(report, input.machine);
+        lazy_entries(report, input.machine);
     }
     report.heading("Routes of branches", Beside::Nothing);
     for (machine, call) in [(X86_64, OF_X86_64[3]), (AARCH64, OF_AARCH64[1]), (PPC64, OF_PPC64[0])] {

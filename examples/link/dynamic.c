@@ -16,10 +16,11 @@ struct dynamic_row {
 };
 
 struct output *interpreter, *dynamic;
-static struct output *dynsym, *dynstr, *hash_table, *versym, *verneed, *rela_dyn;
+struct output *rela;
+static struct output *dynsym, *dynstr, *hash_table, *versym, *verneed;
 static struct dynamic_row *rows;
 static size_t rows_len, rows_room, listed_len = 1, imports_len = 1, listed_room;
-static const struct symbol **listed; /* by their numbers in the table */
+static struct symbol **listed; /* by their numbers in the table */
 
 void add_row(struct output *o, uint64_t offset, uint32_t type, struct symbol *s, int64_t addend) {
     rows = grow(rows, rows_len + 1, &rows_room, sizeof *rows);
@@ -36,8 +37,10 @@ static struct output *own_table(const char *name, uint32_t type, uint64_t elemen
     return o;
 }
 
-/* The sections that dynamic outputs have. */
+/* The sections that dynamic outputs have, and the only one of them that static ones have too. */
 void make_tables(void) {
+    rela = own_table(is_dynamic ? ".rela.dyn" : ".rela_iplt", SHT_RELA, sizeof(Elf64_Rela), NULL);
+    if (!is_dynamic) return;
     if (linked.is_executable) interpreter = own_section(".interp", SHF_ALLOC, true);
     dynstr = own_table(".dynstr", SHT_STRTAB, 0, NULL);
     dynsym = own_table(".dynsym", SHT_DYNSYM, sizeof(Elf64_Sym), dynstr);
@@ -45,7 +48,7 @@ void make_tables(void) {
     hash_table = own_table(".gnu.hash", SHT_GNU_HASH, 0, dynsym);
     versym = own_table(".gnu.version", SHT_GNU_versym, 2, dynsym);
     verneed = own_table(".gnu.version_r", SHT_GNU_verneed, 0, dynstr);
-    rela_dyn = own_table(".rela.dyn", SHT_RELA, sizeof(Elf64_Rela), dynsym);
+    rela->link = dynsym;
     dynamic = own_table(".dynamic", SHT_DYNAMIC, sizeof(Elf64_Dyn), dynstr);
     dynamic->flags |= SHF_WRITE;
 }
@@ -56,7 +59,7 @@ static bool may_be_absent(const struct symbol *s) {
 }
 
 /* Says which symbols other files define, and which they may see. What another file may replace is
- * referred to as if that defined it, by a symbol of its own. */
+ * referred to as if that defined it. */
 void bind_symbols(void) {
     for (struct symbol *s = symbols; s; s = s->later) {
         unsigned visibility = ELF64_ST_VISIBILITY(s->elf.st_other);
@@ -71,12 +74,8 @@ void bind_symbols(void) {
         } else if (!is_defined(s)) {
             s->is_imported = is_default && (s->library || is_shared || may_be_absent(s));
             s->is_exported = false;
-        } else if (is_shared && is_default) {
-            struct symbol *import = s->import = take(1, sizeof *import);
-            *import = (struct symbol){.object = s->object, .name = s->name, .elf = s->elf,
-                                      .later = s->later, .definition = s, .is_imported = true};
-            import->elf.st_shndx = SHN_UNDEF;
-            s = s->later = import;
+        } else {
+            s->is_imported = is_shared && is_default;
         }
     }
 }
@@ -84,18 +83,18 @@ void bind_symbols(void) {
 /* How a relocation reaches a symbol of another file, or one of this file wherever it is loaded. */
 void import(struct relocation *r, const struct linker_utils_requirements *needs) {
     struct symbol *s = r->symbol;
-    uint32_t kind = row_of(r)->info.kind, type = ELF64_ST_TYPE(s->there.st_info);
+    uint32_t kind = row_of(r)->kind, type = ELF64_ST_TYPE(s->there.st_info);
     bool is_in_module = kind == LINKER_UTILS_KIND_DTP_OFF;
     bool is_difference = kind >= LINKER_UTILS_KIND_ABSOLUTE_SET && kind < LINKER_UTILS_KIND_RELATIVE;
+    bool is_imported = s->is_imported && !((is_in_module || is_difference) && is_defined(s));
     bool is_word = needs->is_word && r->section->output->flags & SHF_WRITE;
     if (!is_dynamic || needs->entry_class || is_left_out(r) || kind == LINKER_UTILS_KIND_NONE ||
         kind == LINKER_UTILS_KIND_ALIGNMENT || kind == LINKER_UTILS_KIND_TLS_DESC_CALL)
         return;
-    if ((is_in_module || is_difference) && s->definition) s = r->symbol = s->definition;
-    if (kind == LINKER_UTILS_KIND_TP_OFF ? s->is_imported || !linked.is_executable
-                                         : is_in_module && s->is_imported)
+    if (kind == LINKER_UTILS_KIND_TP_OFF ? is_imported || !linked.is_executable
+                                         : is_in_module && is_imported)
         fail("%s can't reach '%s' from such an output", place_of(r), s->name);
-    if (!s->is_imported) {
+    if (!is_imported) {
         if (linked.is_fixed || !needs->depends_on_load || !is_here(s)) return;
         if (!is_word)
             fail("%s depends on where the output is loaded, to '%s'", place_of(r), s->name);
@@ -142,16 +141,11 @@ static void make_copy(struct symbol *s) {
     }
 }
 
-/* Makes the stub to a function of another file, which goes to the address in a slot. What the library
- * doesn't say is the type of the slot. If the stub is the function's address other look-ups than of
- * a jump slot find the stub itself; and else in a jump slot a dynamic linker may put the entry for
- * calls within a file, as PowerPC64's. */
+/* Makes the stub to a function of another file, which goes to the address in a slot. If the stub is
+ * the function's address other look-ups than of a jump slot find the stub itself; and else in a jump
+ * slot a dynamic linker may put the entry for calls within a file. */
 static void make_import(struct symbol *s) {
-    struct symbol *slot = take(1, sizeof *slot);
-    *slot = (struct symbol){.name = s->name, .output = slots, .offset = make_room(slots, 8, 8),
-                            .elf.st_shndx = SHN_ABS};
-    s->stub = add_stub(stubs, LINKER_UTILS_STUB_LOAD, slot, 0);
-    add_row(slots, slot->offset, s->is_canonical ? types.jump_slot : types.glob_dat, s, 0);
+    s->stub = add_slot(s, s->is_canonical ? types.jump_slot : types.glob_dat);
     if (!s->is_canonical) return;
     s->output = stubs;
     s->offset = s->stub;
@@ -165,8 +159,9 @@ void make_imports(void) {
 }
 
 /* Leaves an entry of the GOT to the dynamic linker, or what of it is not known here. */
-void fill_entry(struct symbol *s, const struct entry *e) {
+void fill_entry(const struct entry *e) {
     struct linker_utils_word_types words;
+    struct symbol *s = e->symbol;
     bool is_bound = !s || !s->is_imported;
     if (!is_dynamic || (is_bound && s && !is_here(s)) ||
         linker_utils_dynamic_words(machine, e->class, is_bound, linked.is_executable, &words) ||
@@ -176,11 +171,16 @@ void fill_entry(struct symbol *s, const struct entry *e) {
     if (words.second) add_row(got, e->offset + 8, words.second, s, e->addend);
 }
 
-/* Adds a name, and returns its offset among them. The first is empty. */
-static uint32_t name_of(const char *text) {
-    uint64_t at = make_room(dynstr, 1, strlen(text) + 1);
-    memcpy(dynstr->bytes + at, text, strlen(text) + 1);
-    return (uint32_t)at;
+/* Adds bytes at a section's end, and returns where they are. */
+uint64_t append(struct output *o, uint64_t align, const void *bytes, uint64_t len) {
+    uint64_t at = make_room(o, align, len);
+    memcpy(o->bytes + at, bytes, len);
+    return at;
+}
+
+uint32_t add_name(struct output *o, const char *text) {
+    if (!o->len) make_room(o, 1, 1); /* the first is empty */
+    return (uint32_t)append(o, 1, text, strlen(text) + 1);
 }
 
 static uint32_t gnu_hash(const char *name) {
@@ -189,46 +189,28 @@ static uint32_t gnu_hash(const char *name) {
     return hash;
 }
 
-static uint32_t elf_hash(const char *name) {
-    uint32_t hash = 0;
-    for (; *name; name++) {
-        hash = (hash << 4) + (unsigned char)*name;
-        hash = (hash ^ (hash >> 28 << 4)) & 0xfffffff;
-    }
-    return hash;
-}
-
-/* How many buckets the table of hashes has, and how many words of bits. */
+/* How many buckets the table of hashes has. */
 static uint32_t buckets_len(void) { return (uint32_t)(listed_len - imports_len) / 4 + 1; }
 
-static uint32_t bits_len(void) {
-    uint32_t len = 1;
-    while (len < (listed_len - imports_len) / 8) len *= 2;
-    return len;
-}
+static uint32_t bucket_of(const struct symbol *s) { return gnu_hash(s->name) % buckets_len(); }
 
 static int by_bucket(const void *left, const void *right) {
     const struct symbol *a = *(struct symbol *const *)left, *b = *(struct symbol *const *)right;
-    uint32_t first = gnu_hash(a->name) % buckets_len(), second = gnu_hash(b->name) % buckets_len();
-    return first != second ? (first < second ? -1 : 1) : strcmp(a->name, b->name);
+    int by = order(bucket_of(a), bucket_of(b));
+    return by ? by : strcmp(a->name, b->name);
 }
 
-/* Writes the hashes of the symbols that others may see. A bit of each of two numbers in a word, and
- * the first of each bucket; of the last one of a bucket the hash is odd. */
+/* Writes the hashes of the symbols that others may see, behind a word of bits that excludes none, and
+ * the first of each bucket. Of the last one of a bucket the hash is odd. */
 static void write_hashes(void) {
-    uint32_t *head = (uint32_t *)hash_table->bytes, count = buckets_len(), words = bits_len();
-    uint32_t *buckets = head + 4 + 2 * words, *chain = buckets + count;
-    uint64_t *bits = (uint64_t *)(head + 4);
-    head[0] = count;
-    head[1] = (uint32_t)imports_len;
-    head[2] = words;
-    head[3] = 26;
+    uint32_t head[6] = {buckets_len(), (uint32_t)imports_len, 1, 0, UINT32_MAX, UINT32_MAX};
+    uint32_t *buckets = (uint32_t *)(hash_table->bytes + sizeof head), *chain = buckets + head[0];
+    memcpy(hash_table->bytes, head, sizeof head);
     for (size_t i = imports_len; i < listed_len; i++) {
-        uint32_t hash = gnu_hash(listed[i]->name), at = hash % count;
-        bits[hash / 64 % words] |= UINT64_C(1) << hash % 64 | UINT64_C(1) << (hash >> 26) % 64;
+        uint32_t at = bucket_of(listed[i]);
         if (!buckets[at]) buckets[at] = (uint32_t)i;
-        bool is_last = i + 1 == listed_len || gnu_hash(listed[i + 1]->name) % count != at;
-        chain[i - imports_len] = (hash & ~1u) | is_last;
+        bool is_last = i + 1 == listed_len || bucket_of(listed[i + 1]) != at;
+        *chain++ = (gnu_hash(listed[i]->name) & ~1u) | is_last;
     }
 }
 
@@ -238,36 +220,34 @@ static void write_needed(uint16_t number) {
     for (struct library *l = libraries; l; l = l->next) {
         Elf64_Verneed head = {.vn_version = VER_NEED_CURRENT, .vn_file = l->name_at,
                               .vn_aux = sizeof head};
-        uint64_t at = verneed->len, next = at;
-        for (size_t i = 0; i <= MOST_VERSIONS; i++) {
-            if (!l->numbers[i]) continue;
-            if (!head.vn_cnt) next = make_room(verneed, 4, sizeof head) + sizeof head;
-            head.vn_cnt++;
-            Elf64_Vernaux aux = {.vna_hash = elf_hash(l->versions[i]), .vna_other = number++,
-                                 .vna_name = name_of(l->versions[i]), .vna_next = sizeof aux};
-            l->numbers[i] = aux.vna_other;
-            next = make_room(verneed, 4, sizeof aux);
-            memcpy(verneed->bytes + next, &aux, sizeof aux);
-        }
-        if (!head.vn_cnt) continue;
+        for (size_t i = 0; i <= MOST_VERSIONS; i++) head.vn_cnt += l->versions[i].number;
+        uint16_t left = head.vn_cnt;
+        if (!left) continue;
+        head.vn_next = sizeof head + left * (uint32_t)sizeof(Elf64_Vernaux);
+        last = append(verneed, 4, &head, sizeof head);
         verneed->info++;
-        memset(verneed->bytes + next + offsetof(Elf64_Vernaux, vna_next), 0, 4);
-        memcpy(verneed->bytes + at, &head, sizeof head);
-        uint32_t distance = (uint32_t)(at - last);
-        if (at) memcpy(verneed->bytes + last + offsetof(Elf64_Verneed, vn_next), &distance, 4);
-        last = at;
+        for (struct version *v = l->versions; left; v++) {
+            if (!v->number) continue;
+            v->number = number++;
+            Elf64_Vernaux aux = {.vna_hash = v->hash, .vna_other = v->number,
+                                 .vna_name = add_name(dynstr, v->name),
+                                 .vna_next = --left ? sizeof aux : 0};
+            append(verneed, 4, &aux, sizeof aux);
+        }
     }
+    if (verneed->len) memset(verneed->bytes + last + offsetof(Elf64_Verneed, vn_next), 0, 4);
 }
 
 /* Whether a symbol is in the table: of another file, or one that other files find here. */
 static bool is_in_table(const struct symbol *s, bool is_import) {
-    if (is_import) return s->is_imported && !s->definition && !s->is_canonical;
+    if (is_import) return s->is_imported && !is_defined(s) && !s->is_canonical;
     return s->is_canonical || (s->is_exported && (s->output || s->elf.st_shndx == SHN_ABS));
 }
 
 /* Whether a symbol is looked up with the version that its library has. */
 static bool has_version(const struct symbol *s) {
-    return s->library && (s->is_imported || s->is_copied) && s->version > VER_NDX_GLOBAL;
+    bool is_there = s->is_imported && !is_defined(s);
+    return s->library && (is_there || s->is_copied) && s->version > VER_NDX_GLOBAL;
 }
 
 /* Lists the dynamic symbols, numbers them, and says which versions they require. */
@@ -278,20 +258,18 @@ static void list_dynamic(void) {
             if (!is_in_table(s, is_import)) continue;
             listed = grow(listed, listed_len + 1, &listed_room, sizeof *listed);
             listed[listed_len++] = s;
-            if (has_version(s)) s->library->numbers[s->version] = 1;
+            if (has_version(s)) s->library->versions[s->version].number = 1;
         }
     }
     if (listed_len > imports_len)
         qsort(listed + imports_len, listed_len - imports_len, sizeof *listed, by_bucket);
     write_needed(2);
-    make_room(dynsym, 8, sizeof(Elf64_Sym));
+    make_room(dynsym, 8, listed_len * sizeof(Elf64_Sym));
     for (size_t i = 1; i < listed_len; i++) {
-        Elf64_Sym elf = {.st_name = name_of(listed[i]->name)};
-        uint64_t at = make_room(dynsym, 8, sizeof elf);
-        memcpy(dynsym->bytes + at, &elf, sizeof elf);
-        ((struct symbol *)listed[i])->dynamic = (uint32_t)i;
+        ((Elf64_Sym *)dynsym->bytes)[i].st_name = add_name(dynstr, listed[i]->name);
+        listed[i]->dynamic = (uint32_t)i;
     }
-    make_room(hash_table, 8, 16 + 8 * bits_len() + 4 * (buckets_len() + listed_len - imports_len));
+    make_room(hash_table, 8, 24 + 4 * (buckets_len() + listed_len - imports_len));
     if (verneed->len) make_room(versym, 2, 2 * listed_len);
 }
 
@@ -326,7 +304,7 @@ static void put_function(int64_t tag, const char *name) {
 static void put_entries(void) {
     static uint32_t name;
     uint64_t relative = 0, flags = DF_BIND_NOW;
-    if (own_name && !name) name = name_of(own_name);
+    if (own_name && !name) name = add_name(dynstr, own_name);
     entries_len = 0;
     for (const struct library *l = libraries; l; l = l->next) put_entry(DT_NEEDED, l->name_at);
     if (name) put_entry(DT_SONAME, name);
@@ -345,8 +323,8 @@ static void put_entries(void) {
         if (!linked.is_executable && row->type == types.thread_offset) flags |= DF_STATIC_TLS;
     }
     if (rows_len) {
-        put_entry(DT_RELA, rela_dyn->address);
-        put_entry(DT_RELASZ, rela_dyn->len);
+        put_entry(DT_RELA, rela->address);
+        put_entry(DT_RELASZ, rela->len);
         put_entry(DT_RELAENT, sizeof(Elf64_Rela));
         put_entry(DT_RELACOUNT, relative);
     }
@@ -365,16 +343,15 @@ static void put_entries(void) {
 void make_dynamic(void) {
     uint8_t path[LINKER_UTILS_NAME_SIZE + 1] = {0};
     size_t used = 0;
+    if (rows_len) make_room(rela, 8, rows_len * sizeof(Elf64_Rela));
+    if (!is_dynamic) return;
     if (interpreter) {
         if (linker_utils_interpreter(machine, machine_flags, path, sizeof path - 1, &used))
             fail("no dynamic linker is known for such objects");
-        make_room(interpreter, 1, used + 1);
-        memcpy(interpreter->bytes, path, used);
+        append(interpreter, 1, path, used + 1);
     }
-    name_of("");
-    for (struct library *l = libraries; l; l = l->next) l->name_at = name_of(l->name);
+    for (struct library *l = libraries; l; l = l->next) l->name_at = add_name(dynstr, l->name);
     list_dynamic();
-    make_room(rela_dyn, 8, rows_len * sizeof(Elf64_Rela));
     put_entries();
 }
 
@@ -382,11 +359,10 @@ void make_dynamic(void) {
 static int by_symbol(const void *left, const void *right) {
     const Elf64_Rela *a = left, *b = right;
     uint32_t first = ELF64_R_TYPE(a->r_info), second = ELF64_R_TYPE(b->r_info);
-    int order = (first == types.irelative) - (second == types.irelative);
-    if (!order) order = (second == types.relative) - (first == types.relative);
-    if (order) return order;
-    if (first != types.relative && a->r_info != b->r_info) return a->r_info < b->r_info ? -1 : 1;
-    return a->r_offset < b->r_offset ? -1 : a->r_offset > b->r_offset;
+    int by = order(first == types.irelative, second == types.irelative);
+    if (!by) by = order(second == types.relative, first == types.relative);
+    if (!by && first != types.relative) by = order(a->r_info, b->r_info);
+    return by ? by : order(a->r_offset, b->r_offset);
 }
 
 /* What a word is relative to: the symbol, the image of thread-local storage, or nothing. */
@@ -403,29 +379,30 @@ static uint64_t addend_of(const struct dynamic_row *row) {
  * systems know. */
 bool write_dynamic(void) {
     bool is_of_gnu = false;
-    Elf64_Rela *to = (Elf64_Rela *)rela_dyn->bytes;
+    Elf64_Rela *to = (Elf64_Rela *)rela->bytes;
     for (const struct dynamic_row *row = rows; row < rows + rows_len; row++, to++) {
-        const struct symbol *s = row->symbol, *seen = s && s->definition ? s->definition : s;
+        const struct symbol *s = row->symbol;
         bool has_symbol = s && (s->is_imported || row->type == types.copy);
         to->r_offset = address_of(row->output, row->offset);
-        to->r_info = ELF64_R_INFO((uint64_t)(has_symbol ? seen->dynamic : 0), row->type);
+        to->r_info = ELF64_R_INFO((uint64_t)(has_symbol ? s->dynamic : 0), row->type);
         to->r_addend = (int64_t)addend_of(row);
     }
-    if (rows_len) qsort(rela_dyn->bytes, rows_len, sizeof(Elf64_Rela), by_symbol);
+    if (rows_len) qsort(rela->bytes, rows_len, sizeof(Elf64_Rela), by_symbol);
+    if (!is_dynamic) return false;
     Elf64_Sym *elf = (Elf64_Sym *)dynsym->bytes + 1;
     for (size_t i = 1; i < listed_len; i++, elf++) {
         const struct symbol *s = listed[i];
         uint32_t name = elf->st_name;
         *elf = symbol_of(s);
         elf->st_name = name;
-        if (s->is_imported) elf->st_shndx = SHN_UNDEF;
-        if (s->is_imported && s->library)
+        if (!is_defined(s)) elf->st_shndx = SHN_UNDEF;
+        if (!is_defined(s) && s->library)
             elf->st_info =
                 ELF64_ST_INFO(ELF64_ST_BIND(elf->st_info), ELF64_ST_TYPE(s->there.st_info));
         is_of_gnu |= ELF64_ST_TYPE(elf->st_info) == STT_GNU_IFUNC ||
                      ELF64_ST_BIND(elf->st_info) == STB_GNU_UNIQUE;
         if (!verneed->len) continue;
-        uint16_t number = has_version(s) ? s->library->numbers[s->version] : VER_NDX_GLOBAL;
+        uint16_t number = has_version(s) ? s->library->versions[s->version].number : VER_NDX_GLOBAL;
         memcpy(versym->bytes + 2 * i, &number, sizeof number);
     }
     write_hashes();

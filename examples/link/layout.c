@@ -3,6 +3,7 @@
 
 struct output *outputs[256];
 size_t outputs_len;
+uint64_t span;
 
 /* The section of the linked file that a section of an object goes into. */
 struct output *output_of(const char *name) {
@@ -12,10 +13,13 @@ struct output *output_of(const char *name) {
     const char *kind = name; /* the last that matches; with a priority the name is its own */
     unsigned priority = UINT16_MAX + 1;
     for (size_t i = 0, len; i < sizeof kinds / sizeof *kinds; i++) {
-        if (strncmp(name, kinds[i], len = strlen(kinds[i]))) continue;
+        if (!*name || name[1] != kinds[i][1] || strncmp(name, kinds[i], len = strlen(kinds[i])))
+            continue;
         if (kinds[i][len - 1] == '.') priority = (unsigned)strtoul(name + len, NULL, 10);
         else if (!name[len] || name[len] == '.') kind = kinds[i];
     }
+    for (size_t i = 0; i < outputs_len; i++)
+        if (outputs[i]->name == kind) return outputs[i];
     for (size_t i = 0; i < outputs_len; i++)
         if (!strcmp(outputs[i]->name, kind)) return outputs[i];
     if (outputs_len == sizeof outputs / sizeof *outputs) fail("too many sections");
@@ -30,11 +34,12 @@ static unsigned rank_of(const struct output *o) {
         unsigned rank;
     } ranks[] = {{".preinit_array", RANK_ARRAYS}, {".init_array", RANK_ARRAYS + 1},
                  {".fini_array", RANK_ARRAYS + 2}, {".data.rel.ro", RANK_RELOCATED},
-                 {".dynamic", RANK_RELOCATED}, {".got", RANK_GOT}, {".toc", RANK_TOC},
+                 {".dynamic", RANK_RELOCATED}, {".got", RANK_GOT},
                  {".sdata", RANK_SMALL_DATA}, {".sbss", RANK_BSS}, {".bss", RANK_BSS}};
     if (o == headers) return RANK_HEADERS;
     if (o->flags & SHF_EXECINSTR) return RANK_CODE;
     if (o->flags & SHF_TLS) return o->has_bytes ? RANK_TLS : RANK_TLS_BSS;
+    if (is_of_addresses(o->name)) return RANK_GOT + 1;
     for (unsigned i = 0; i < sizeof ranks / sizeof *ranks; i++)
         if (!strncmp(o->name, ranks[i].name, strlen(ranks[i].name))) return ranks[i].rank;
     return !(o->flags & SHF_WRITE) ? RANK_FIXED : o->has_bytes ? RANK_DATA : RANK_BSS;
@@ -62,18 +67,28 @@ struct relocation *add_relocations(struct output *o, size_t len) {
 /* How many bytes the shortest instruction has. */
 uint64_t code_unit(void) { return linker_utils_code_unit(machine, machine_flags); }
 
+/* The relocation at nops that an alignment may not need; 0 where code doesn't become shorter. */
+static uint32_t alignment_type(void) {
+    static uint32_t found, next = 1;
+    struct linker_utils_relocation_info info;
+    for (; next < 256; next++)
+        if (!linker_utils_relocation(machine, next, &info) && info.kind == LINKER_UTILS_KIND_ALIGNMENT)
+            found = next;
+    return found;
+}
+
 /* The offset of new room at a section's end. Gaps in code have instructions that trap, or zeros, as
  * ld.lld's; where code shrinks they are as long as may be needed, and a relocation cuts them. */
 uint64_t make_room(struct output *o, uint64_t align, uint64_t len) {
     uint64_t start = o->len, offset = align ? round_up(start, align) : start;
-    uint64_t unit = code_unit();
+    uint64_t unit = o->shrinks ? code_unit() : 0;
     if (len > MOST_BYTES || offset + len > MOST_BYTES) fail("section %s is too large", o->name);
     if (align & (align - 1) || align > MOST_ALIGN) fail("section %s can't be aligned so", o->name);
     if (o->shrinks && start && align > unit) {
         offset = round_up(start, unit);
         *add_relocations(o, 1) = (struct relocation){
             .offset = offset, .addend = (int64_t)(align - unit),
-            .type = machine == EM_RISCV ? R_RISCV_ALIGN : LARCH_ALIGN};
+            .type = alignment_type()};
         offset += align - unit;
     }
     if (align > o->align) o->align = align;
@@ -91,17 +106,27 @@ void add_section(struct section *s) {
     if (!(head->sh_flags & SHF_ALLOC) || head->sh_type == SHT_NOTE || s->is_discarded) return;
     bool has_bytes = head->sh_type != SHT_NOBITS, is_code = head->sh_flags & SHF_EXECINSTR;
     struct output *o = s->output = output_of(s->name);
-    if (o == got || o == slots || o == stubs || o == irelatives || o == index_of || o == headers ||
+    if (o == got || o == slots || o == stubs || o == rela || o == index_of || o == headers ||
         (!has_bytes && (s->relocations || o == frames)))
         fail("%s: a section %s is not supported", s->object->path, s->name);
     if (o->flags && (o->flags ^ head->sh_flags) & SHF_TLS)
         fail("%s: %s is thread-local, and elsewhere it is not", s->object->path, s->name);
     o->flags |= head->sh_flags;
     o->has_bytes |= has_bytes;
-    o->shrinks |= (machine == EM_RISCV || machine == EM_LOONGARCH) && has_bytes && is_code &&
-                  !(head->sh_flags & SHF_TLS);
+    o->shrinks |= alignment_type() && has_bytes && is_code && !(head->sh_flags & SHF_TLS);
+    if (has_bytes) o->room += head->sh_size + head->sh_addralign % MOST_ALIGN;
+    o->relocations_room += 1 + (s->relocations ? s->relocations->sh_size / sizeof(Elf64_Rela) : 0);
     if (o == frames)
         index_of->len += 8 * read_frames(s, s->object->bytes + head->sh_offset, NULL);
+}
+
+/* Makes room for all bytes and relocations that objects have, in one piece. */
+void reserve_outputs(void) {
+    for (size_t i = 0; i < outputs_len; i++) {
+        struct output *o = outputs[i];
+        if (!o->bytes) o->bytes = take(o->room, 1);
+        o->relocations = take(o->relocations_room, sizeof *o->relocations);
+    }
 }
 
 /* Copies a section to where it goes. The unwind information has no gaps: they would end it. */
@@ -229,26 +254,48 @@ void place_outputs(void) {
     set_addresses();
 }
 
+/* Counts the deltas before each block of a run, so that few are searched for an offset. */
+void index_deltas(struct run *run) {
+    const struct linker_utils_delta *deltas = run->deltas;
+    uint64_t last = run->deltas_len ? deltas[run->deltas_len - 1].input_offset : 0;
+    while (last >> run->block > 2 * run->deltas_len) run->block++;
+    run->firsts_len = (size_t)(last >> run->block) + 2;
+    run->firsts = take(run->firsts_len, sizeof *run->firsts);
+    for (uint32_t i = 0, k = 0; i < run->firsts_len; run->firsts[i++] = k)
+        while (k < run->deltas_len && deltas[k].input_offset >> run->block < i) k++;
+}
+
 static uint64_t address_in(const struct run *run, uint64_t offset) {
     if (!run->deltas_len) return run->start + offset;
-    return run->start + linker_utils_deltas_input_to_output_by_heads(
-                            run->deltas, run->deltas_len, run->heads, run->heads_len, offset);
+    uint64_t block = offset >> run->block;
+    size_t at = run->firsts[block < run->firsts_len ? block : run->firsts_len - 1], end = at + 16;
+    if (end > run->deltas_len) end = run->deltas_len;
+    while (at < end && run->deltas[at].input_offset < offset) at++;
+    if (at == end && end < run->deltas_len)
+        return run->start + linker_utils_deltas_input_to_output(run->deltas, run->deltas_len, offset);
+    if (!at) return run->start + offset;
+    const struct linker_utils_delta *before = &run->deltas[at - 1];
+    uint64_t past = offset - before->input_offset, bytes = before->bytes_deleted;
+    return run->start + offset - before->cumulative_deleted + (past < bytes ? bytes - past : 0);
 }
 
 /* Sets the addresses of the sections, by what the runs lose. */
 void set_addresses(void) {
     const struct output *first = NULL;
-    uint64_t align = 1;
+    uint64_t align = 1, least = UINT64_MAX, most = 0;
     tls.image = tls.len = 0;
     for (size_t i = 0; i < outputs_len; i++) {
         struct output *o = outputs[i];
         o->address = address_in(o->run, o->base);
+        least = o->address < least ? o->address : least;
+        most = o->address + o->len > most ? o->address + o->len : most;
         if (!(o->flags & SHF_TLS)) continue;
         if (!first) tls.image = (first = o)->address;
         o->address = tls.image + (o->base - first->base);
         tls.len = o->address + o->len - tls.image;
         if (o->align > align) align = o->align;
     }
+    span = most - least;
     tls.align = align;
     uint64_t past = tls.image % align; /* (0 once code is shorter) */
     linker_utils_origins(machine, tls.image - past, tls.len, align, &tls.origins);
@@ -263,5 +310,5 @@ void set_addresses(void) {
 uint64_t address_of(const struct output *o, uint64_t offset) {
     if (!o) return offset;
     if (offset == END) return o->address + o->len;
-    return o->shrinks ? address_in(o->run, o->base + offset) : o->address + offset;
+    return o->shrinks && o->run ? address_in(o->run, o->base + offset) : o->address + offset;
 }

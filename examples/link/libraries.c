@@ -31,16 +31,17 @@ static void read_versions(struct library *l, const Elf64_Shdr *head) {
     for (uint32_t left = head->sh_info; left; left = version.vd_next ? left - 1 : 0) {
         memcpy(&version, bytes_in(l, head, at, sizeof version), sizeof version);
         memcpy(&name, bytes_in(l, head, at + version.vd_aux, sizeof name), sizeof name);
-        l->versions[version.vd_ndx & MOST_VERSIONS] = name_in(l, head, name.vda_name);
+        l->versions[version.vd_ndx & MOST_VERSIONS] =
+            (struct version){.name = name_in(l, head, name.vda_name), .hash = version.vd_hash};
         at += version.vd_next;
     }
-    l->versions[VER_NDX_LOCAL] = l->versions[VER_NDX_GLOBAL] = NULL;
+    l->versions[VER_NDX_LOCAL].name = l->versions[VER_NDX_GLOBAL].name = NULL;
 }
 
 /* Offers what a library defines, but for versions that only old programs ask for. */
 static void read_dynamic_symbols(struct library *l, const Elf64_Shdr *head,
                                  const Elf64_Shdr *versions) {
-    const Elf64_Sym *elf = l->elf = copy_table(&l->file, head, sizeof *elf, &l->len);
+    const Elf64_Sym *elf = l->elf = table_of(&l->file, head, sizeof *elf, &l->len);
     l->symbols = take(l->len, sizeof *l->symbols);
     for (size_t i = 0; i < l->len; i++, elf++) {
         uint16_t version = VER_NDX_GLOBAL;
@@ -48,7 +49,7 @@ static void read_dynamic_symbols(struct library *l, const Elf64_Shdr *head,
         const char *name = name_in(l, head, elf->st_name);
         bool is_hidden = version & ~MOST_VERSIONS || version == VER_NDX_LOCAL;
         if (ELF64_ST_BIND(elf->st_info) == STB_LOCAL || (elf->st_shndx && is_hidden)) continue;
-        if (version > VER_NDX_GLOBAL && elf->st_shndx && !l->versions[version])
+        if (version > VER_NDX_GLOBAL && elf->st_shndx && !l->versions[version].name)
             fail("%s: %s: '%s' is of a version that is not there", l->file.path,
                  l->file.sections[head - l->file.heads].name, name);
         l->symbols[i] = offer_import(name, elf->st_shndx ? l : NULL, elf, version);
@@ -59,8 +60,7 @@ void read_library(struct object file) {
     struct library *l = take(1, sizeof *l);
     const Elf64_Shdr *symbols = NULL, *versions = NULL;
     uint32_t joined;
-    *l = (struct library){.file = file, .versions = take(MOST_VERSIONS + 1, sizeof *l->versions),
-                          .numbers = take(MOST_VERSIONS + 1, sizeof *l->numbers)};
+    *l = (struct library){.file = file, .versions = take(MOST_VERSIONS + 1, sizeof *l->versions)};
     l->name = strrchr(file.path, '/') ? strrchr(file.path, '/') + 1 : file.path;
     *libraries_end = l;
     libraries_end = &l->next;

@@ -1,5 +1,5 @@
-/* A small linker over the library, for RISC-V, AArch64, LoongArch, PowerPC64 (ELFv2,
- * little-endian) and x86-64. It reads relocatable ELF64 objects, archives of them and shared
+/* A small linker over the library, for RISC-V, AArch64, LoongArch, PowerPC64 (ELFv2, little-endian)
+ * and x86-64, none of which it knows. It reads relocatable ELF64 objects, archives of them and shared
  * libraries, and writes an executable that begins at `_start`, static or for a dynamic linker, or a
  * shared library. main.c has the steps; each other file is one part:
  *
@@ -7,22 +7,27 @@
  * - symbols.c: which definition a name has, and what the linker itself defines
  * - libraries.c: what shared libraries define
  * - layout.c: which sections the linked file has, and where they are
- * - entries.c: rewrites, the GOT, thread-local storage, indirect functions and thunks
+ * - rewrite.c: what the library chooses in each phase
+ * - entries.c: what relocations require: the GOT, stubs and thunks
  * - dynamic.c: what the dynamic linker reads and fills
- * - relax.c: what is deleted of RISC-V and LoongArch code
- * - relocate.c: rewrites that depend on addresses, and all values
- * - output.c: the table of unwind information, and the file with its symbols
+ * - relax.c: what is deleted of code
+ * - relocate.c: the values of all relocations
+ * - frames.c: the table of unwind information
+ * - output.c: the file with its symbols
  *
- * The first error ends it, and it never frees memory. */
+ * The first error ends it, and of memory it frees only what is large. */
 #ifndef LINK_H
 #define LINK_H
 
 #include <elf.h>
+#include <fcntl.h>
 #include <inttypes.h>
 #include <stdio.h>
 #include <stdlib.h>
 #include <string.h>
+#include <sys/mman.h>
 #include <sys/stat.h>
+#include <unistd.h>
 
 #include "linker_utils.h"
 
@@ -30,18 +35,16 @@
 #define BASE UINT64_C(0x400000)         /* where the file's header is, if no section is placed */
 #define HEADERS UINT64_C(0x400)         /* room for the headers there */
 #define MOST_BYTES UINT64_C(0x40000000) /* of a file and of a section */
+#ifndef BLOCK
+#define BLOCK ((size_t)1 << 20)         /* of memory; with 0 each use of it is by itself */
+#endif
 #define MOST_VERSIONS 0x7fff            /* of a library: above is the mark of hidden ones */
-#define NO_ENTRY (UINT64_C(1) << 63)    /* the address of a GOT entry that nothing reaches */
 #define END UINT64_MAX                  /* the offset of a section's end, wherever that will be */
 
-/* relocation types that older versions of <elf.h> lack */
-enum { LARCH_PCALA_HI20 = 71, LARCH_PCALA_LO12 = 72, LARCH_RELAX = 100, LARCH_ALIGN = 102 };
-enum { LARCH_CALL36 = 110, PPC64_REL24_NOTOC = 116 };
-enum { RISCV_TLSDESC_HI20 = 62, RISCV_TLSDESC_CALL = 65 };
-
-/* the order of the sections of the linked file; there are three kinds of arrays */
+/* the order of the sections of the linked file; there are three kinds of arrays, and behind the GOT is
+ * what is of addresses as it */
 enum { RANK_HEADERS, RANK_FIXED, RANK_CODE, RANK_TLS, RANK_TLS_BSS, RANK_ARRAYS, RANK_RELOCATED = 8,
-       RANK_GOT, RANK_TOC, RANK_DATA, RANK_SMALL_DATA, RANK_BSS };
+       RANK_GOT, RANK_DATA = RANK_GOT + 2, RANK_SMALL_DATA, RANK_BSS };
 
 #define fail(...) (fprintf(stderr, __VA_ARGS__), fputc('\n', stderr), exit(1))
 
@@ -51,8 +54,9 @@ enum { RANK_HEADERS, RANK_FIXED, RANK_CODE, RANK_TLS, RANK_TLS_BSS, RANK_ARRAYS,
 struct run {
     uint64_t start;
     struct linker_utils_delta *deltas;
-    struct linker_utils_block_head *heads; /* of the deltas */
-    size_t deltas_len, heads_len;
+    uint32_t *firsts; /* of each block of bytes: how many deltas are before it */
+    size_t deltas_len, firsts_len;
+    unsigned block; /* the exponent of two of its length */
 };
 
 /* A section of the linked file. Offsets in it count from before bytes are deleted. */
@@ -81,12 +85,15 @@ struct object {
     const uint8_t *bytes;
     const Elf64_Shdr *heads;
     struct section *sections; /* one for each head */
-    struct symbol **symbols, *mentions; /* as all objects say; as it says itself */
-    struct object *below;               /* in the stack of those that are being read */
+    struct symbol **symbols;   /* as all objects say */
+    const Elf64_Sym *mentions; /* as it says itself */
+    const char *names;         /* of these */
+    uint32_t *hashes;          /* of the names of the global ones */
+    struct object *below;      /* in the stack of those that are being read */
     size_t len, sections_len, symbols_len, resolved_len;
     uint32_t flags; /* `e_flags` */
-    struct linker_utils_symbol_facts *facts; /* of each symbol */
-    struct linker_utils_kept_groups *kept;   /* by symbol, which groups of instructions stay */
+    struct linker_utils_kept_groups *kept; /* by symbol, which groups of instructions stay */
+    bool is_threaded;                      /* it mentions thread-local symbols */
 };
 
 struct section {
@@ -97,7 +104,7 @@ struct section {
     uint64_t offset, end;                 /* in the output */
     size_t first, relocations_len;        /* of its relocations, in those of the output */
     bool is_discarded; /* SHF_EXCLUDE, or of a group that an earlier object has too */
-    uint8_t *words_kept; /* PowerPC64, `.toc`: 1 for a doubleword that not only `ld`s refer to */
+    bool has_loads;    /* of addresses in the GOT */
 };
 
 struct archive {
@@ -107,47 +114,55 @@ struct archive {
     bool *is_loaded; /* by half of a member's offset */
 };
 
+/* A version of a library. */
+struct version {
+    const char *name;
+    uint32_t hash;
+    uint16_t number; /* in the linked file; 0 where it asks for none */
+};
+
 /* A shared library. */
 struct library {
     struct library *next;
     struct object file;
-    const char *name, **versions; /* as programs name it; its versions, by number */
-    uint16_t *numbers;            /* of these in the linked file; 0 where it asks for none */
+    const char *name;         /* as programs name it */
+    struct version *versions; /* by number */
     const Elf64_Sym *elf;
     struct symbol **symbols; /* null where nothing can refer to one */
     size_t len;
     uint32_t name_at; /* of its name in the linked file */
 };
 
+/* Its first 64 bytes are what each pass over all symbols reads. */
 struct symbol {
+    struct output *output; /* null where the address is absolute, and where nothing defines it */
+    uint64_t offset;       /* in the output */
+    Elf64_Sym elf;
+    struct symbol *later;  /* as objects mention them */
+    struct entry *entries; /* in the GOT */
+    uint32_t number;       /* in the table that the library reads; 0 where it isn't there yet */
+    uint16_t version;      /* in its library */
+    bool is_listed : 1, needs_stub : 1, is_thunk : 1; /* (an indirect function that is used needs one) */
+    bool is_imported : 1, is_exported : 1; /* other files define it, or may replace it; or may see it */
+    bool is_copied : 1, has_stub : 1, is_canonical : 1; /* its stub is its address in all files */
     const struct object *object; /* null where only an index of an archive names it */
     const char *name;
-    Elf64_Sym elf;
-    struct symbol *next, *later; /* in its bucket; as objects mention them */
-    struct archive *archive;     /* which can define it; null where none can */
-    uint64_t member, offset;     /* in the archive; in the output */
-    struct output *output; /* null where the address is absolute, and where nothing defines it */
-    struct entry *entries; /* in the GOT */
-    struct symbol *thunks; /* to it */
-    int64_t thunk_addend;
-    bool is_listed, needs_stub, is_thunk; /* (an indirect function that is used needs one) */
+    struct archive *archive; /* which can define it; null where none can */
+    uint64_t member;         /* in the archive */
+    struct symbol *thunks;   /* to it */
     struct library *library; /* the first that defines it; null where none does */
     Elf64_Sym there;         /* as that has it */
-    struct symbol *definition, *import; /* of what another file may replace, the other of both */
-    uint64_t stub;              /* to a function of another file, where `has_stub` */
-    uint32_t dynamic;           /* in the table of dynamic symbols */
-    uint16_t version;           /* in its library */
-    bool is_imported, is_exported; /* other files define it; or may see it */
-    bool is_copied, has_stub, is_canonical; /* its stub is its address in all files */
-    uint32_t number; /* in the table that the library reads; 0 where it isn't there yet */
+    uint64_t stub;           /* to a function of another file, where `has_stub` */
+    uint32_t dynamic;        /* in the table of dynamic symbols */
 };
 
 /* An entry of the GOT. */
 struct entry {
-    struct entry *next;
-    uint32_t class; /* `enum linker_utils_entry_class` */
-    int64_t addend; /* on AArch64 and PowerPC64 the entry is of S + A */
+    struct entry *next, *later; /* of its symbol; in the GOT */
+    struct symbol *symbol;      /* null where it is that of the module */
+    int64_t addend;             /* on AArch64 and PowerPC64 the entry is of S + A */
     uint64_t offset;
+    uint32_t class;  /* `enum linker_utils_entry_class` */
     uint32_t number; /* of its symbol with this entry, in the table that the library reads */
 };
 
@@ -158,14 +173,15 @@ struct relocation {
     uint64_t offset; /* in the output */
     int64_t addend;
     uint32_t type, index, deleted; /* index: of its symbol in the object; deleted: bytes there */
-    bool restores_toc; /* PowerPC64: by its `nop` */
-    bool keeps_entry; /* RISC-V: an `auipc` whose loads from the GOT stay */
+    bool may_use_stub;
+    bool is_kept; /* of a word that instructions load: one of them can't compute what it has */
 };
 
-/* What the library says of a relocation type. */
-struct row {
-    struct linker_utils_relocation_info info;
-    bool is_known;
+/* A relocation by itself, of the second of two symbols, and what is known of both. */
+struct alone {
+    Elf64_Rela elf;
+    struct linker_utils_symbol known[2];
+    struct linker_utils_addresses addresses;
 };
 
 /* The TLS segment: where its image is, its length and alignment, and what offsets count from. */
@@ -184,30 +200,39 @@ extern bool relaxes; /* whether instructions are rewritten that need not be */
 extern bool has_short_offsets; /* and PowerPC64's local-exec, which ld.lld leaves */
 extern struct object *objects; /* in the order in which they are read */
 extern struct symbol *symbols; /* all that objects mention, in their order */
+extern size_t symbols_len;
+extern bool has_commons; /* whether one of them has no section yet */
 extern struct symbol *module_base; /* `_TLS_MODULE_BASE_`; null where no object requires it */
 extern struct library *libraries; /* in their order */
 extern struct linker_utils_dynamic_types types;
-extern struct output *outputs[256], *headers, *got, *stubs, *slots, *irelatives, *frames, *index_of;
+extern struct output *outputs[256], *headers, *got, *stubs, *slots, *rela, *frames, *index_of;
 extern struct output *interpreter, *dynamic; /* null where there is none */
 extern size_t outputs_len;
+extern uint64_t span; /* of the linked file's addresses */
 extern struct tls tls;
 extern struct entry *module_entry; /* of the GOT; null where no relocation requires it */
 
+static inline int order(uint64_t a, uint64_t b) { return a < b ? -1 : a > b; }
+
 void *take(uint64_t count, size_t size), *grow(void *array, size_t need, size_t *room, size_t size);
+void give_back(void *memory, uint64_t count, size_t size);
 uint64_t round_up(uint64_t at, uint64_t align);
 const char *place_of(const struct relocation *r);
 void check(const struct relocation *r, uint32_t status);
-const struct row *row_of(const struct relocation *r);
+const struct linker_utils_relocation_info *row_of(const struct relocation *r);
 struct linker_utils_requirements needs_of(const struct relocation *r);
 
 void demand(const struct object *o, bool holds, const char *otherwise);
 void read_heads(struct object *o, uint16_t type, const char *otherwise);
-void *copy_table(const struct object *o, const Elf64_Shdr *head, size_t size, size_t *len);
+const uint8_t *bytes_of(const struct object *o, const Elf64_Shdr *head, size_t size, size_t *len);
+const void *table_of(const struct object *o, const Elf64_Shdr *head, size_t size, size_t *len);
 void read_file(const char *path), load_member(struct archive *a, uint64_t offset);
 void read_library(struct object file);
 uint64_t import_align(const struct symbol *s);
 
-struct symbol **global(const char *name), *resolve(struct symbol *s);
+uint32_t hash_of(const char *name);
+void expect(uint32_t hash);
+struct symbol **global(const char *name), *resolve(struct symbol *s, uint32_t hash);
 int rank(const struct symbol *s);
 void offer(const char *name, struct archive *a, uint64_t member);
 struct symbol *offer_import(const char *name, struct library *l, const Elf64_Sym *elf,
@@ -220,33 +245,36 @@ struct output *own_section(const char *name, uint64_t flags, bool has_bytes);
 struct relocation *add_relocations(struct output *o, size_t len);
 uint64_t code_unit(void), make_room(struct output *o, uint64_t align, uint64_t len);
 uint64_t address_of(const struct output *o, uint64_t offset);
-void place_outputs(void), set_addresses(void);
-void add_section(struct section *s), copy_section(struct section *s), sort_outputs(void);
+void place_outputs(void), index_deltas(struct run *run), set_addresses(void);
+void add_section(struct section *s), reserve_outputs(void), copy_section(struct section *s), sort_outputs(void);
 
-void survey(struct object *o), note_facts(struct object *o), make_entries(void);
-void read_relocations(struct section *s), rewrite_phase(uint32_t phase), rewrite_placed(void);
-bool is_hidden(const struct relocation *r), is_code(const struct section *s);
-void write_entries(void), write_stubs(void);
+void rewrite_phases(uint32_t first, uint32_t last), rewrite_placed(void), require_all(void);
+void make_entries(void);
+void read_relocations(struct section *s), write_entries(void), write_stubs(void), relax(void);
+void relocate(void);
+bool is_of_addresses(const char *name), is_ifunc(const struct symbol *s), add_thunks(void);
 bool is_defined(const struct symbol *s), is_here(const struct symbol *s);
-uint64_t add_stub(struct output *o, uint32_t kind, const struct symbol *s, int64_t addend);
+uint64_t add_slot(struct symbol *s, uint32_t type);
+uint64_t append(struct output *o, uint64_t align, const void *bytes, uint64_t len);
+uint32_t add_name(struct output *o, const char *text);
 void make_tables(void), bind_symbols(void), make_imports(void), make_dynamic(void);
 void import(struct relocation *r, const struct linker_utils_requirements *needs);
 void add_row(struct output *o, uint64_t offset, uint32_t type, struct symbol *s, int64_t addend);
-void fill_entry(struct symbol *s, const struct entry *e);
+void fill_entry(const struct entry *e);
 bool write_dynamic(void);
 struct linker_utils_got known_got(void);
-struct section *toc_section(const struct relocation *r, uint64_t *offset);
-bool add_thunks(void);
-void rewrite(const struct relocation *r, uint8_t *bytes, uint64_t len, uint64_t *offset,
-             int64_t *addend, uint32_t *type, const struct linker_utils_link_facts *facts);
-bool is_relaxable(const struct output *o, const struct relocation *r);
-void relax(void), relocate(struct output *o);
-struct relocation *high_part(const struct output *o, const struct relocation *low);
-int64_t value_of(const struct output *o, const struct relocation *r);
+struct linker_utils_symbol known_symbol(const struct symbol *s);
+struct linker_utils_addresses addresses_of(uint64_t start);
+struct alone alone_of(const struct output *o, const struct relocation *r);
 bool is_left_out(const struct relocation *r), is_undefined_weak(const struct symbol *s);
 bool is_thread_local(const struct symbol *s);
 Elf64_Sym symbol_of(const struct symbol *s);
 uint64_t read_frames(const struct section *s, const uint8_t *bytes, uint8_t *rows);
 void index_frames(void), write_file(const char *path, uint64_t entry, bool has_symbols);
+
+/* The offset of a relocation in its section, which is at an address. */
+static inline uint64_t offset_in(const struct section *s, const struct relocation *r, uint64_t start) {
+    return s->output->shrinks ? address_of(s->output, r->offset) - start : r->offset - s->offset;
+}
 
 #endif

@@ -12,21 +12,37 @@ uint16_t machine;
 uint32_t machine_flags;
 bool relaxes = true, has_short_offsets = false;
 
+/* How much of a block so many elements take; 0 where they are too large for that. */
+static size_t len_in_block(uint64_t count, size_t size) {
+    return count < BLOCK / 16 / size ? (count * size + 16) & ~(size_t)15 : 0;
+}
+
+/* Memory that is all zeros. */
 void *take(uint64_t count, size_t size) {
-    void *memory = calloc(count ? count : 1, size);
+    static uint8_t *block;
+    static size_t left;
+    size_t len = len_in_block(count, size);
+    if (len > left) block = take(left = BLOCK, 1);
+    void *memory = len ? block : calloc(count ? count : 1, size);
     if (!memory) fail("out of memory");
+    if (len) block += len;
+    left -= len;
     return memory;
+}
+
+/* Gives back what was taken, if it is large. */
+void give_back(void *memory, uint64_t count, size_t size) {
+    if (BLOCK && !len_in_block(count, size)) free(memory);
 }
 
 /* An array with room for so many elements: twice as many where it has to grow. */
 void *grow(void *array, size_t need, size_t *room, size_t size) {
-    size_t old = *room;
-    if (need <= old) return array;
+    if (need <= *room) return array;
+    void *more = take(2 * need, size);
+    if (array) memcpy(more, array, *room * size);
+    if (array) give_back(array, *room, size);
     *room = 2 * need;
-    array = realloc(array, *room * size);
-    if (!array) fail("out of memory");
-    if (size == 1) memset((uint8_t *)array + old, 0, *room - old); /* (bytes begin as zeros) */
-    return array;
+    return more;
 }
 
 uint64_t round_up(uint64_t at, uint64_t align) { return (at + align - 1) & ~(align - 1); }
@@ -61,13 +77,10 @@ static void make_sections(void) {
     got = own_section(".got", SHF_ALLOC | SHF_WRITE, false);
     stubs = own_section(is_dynamic ? ".plt" : ".iplt", SHF_ALLOC | SHF_EXECINSTR, true);
     slots = own_section(is_dynamic ? ".got.plt" : ".igot.plt", SHF_ALLOC | SHF_WRITE, true);
-    irelatives = own_section(".rela_iplt", SHF_ALLOC, true);
-    irelatives->type = SHT_RELA;
-    irelatives->element = sizeof(Elf64_Rela);
     index_of = own_section(".eh_frame_hdr", SHF_ALLOC, true);
     headers = own_section("the headers", SHF_ALLOC, true);
     frames = output_of(".eh_frame");
-    if (is_dynamic) make_tables();
+    make_tables();
 }
 
 int main(int argc, char **argv) {
@@ -112,29 +125,30 @@ int main(int argc, char **argv) {
     list_symbols();
     for (struct object *o = objects; o; o = o->next)
         for (size_t i = 0; i < o->sections_len; i++) add_section(&o->sections[i]);
+    reserve_outputs();
     uint64_t index_len = index_of->len ? index_of->len + 12 : 0;
     index_of->len = 0;
     make_room(index_of, 4, index_len);
     define_symbols();
     if (is_dynamic) bind_symbols();
-    for (struct symbol *s = symbols; s; s = s->later) {
+    for (struct symbol *s = has_commons ? symbols : NULL; s; s = s->later) {
         if (s->elf.st_shndx != SHN_COMMON) continue; /* these are first in `.bss`, as in ld.lld */
         s->output = output_of(".bss");
         s->output->flags |= SHF_WRITE | SHF_ALLOC;
         s->offset = make_room(s->output, s->elf.st_value, s->elf.st_size);
     }
-    for (struct object *o = objects; o; o = o->next) {
-        survey(o);
+    for (struct object *o = objects; o; o = o->next)
         for (size_t i = 0; i < o->sections_len; i++) copy_section(&o->sections[i]);
-    }
     for (struct symbol *s = symbols; s; s = s->later) place_symbol(s);
-    make_imports();
+    rewrite_phases(LINKER_UTILS_PHASE_EARLY, LINKER_UTILS_PHASE_EARLY);
+    require_all();
+    if (is_dynamic) make_imports();
     make_entries();
-    if (is_dynamic) make_dynamic();
+    make_dynamic();
     do place_outputs();
     while (add_thunks());
     relax();
-    for (size_t i = 0; i < outputs_len; i++) relocate(outputs[i]);
+    relocate();
     write_entries();
     write_stubs();
     index_frames();

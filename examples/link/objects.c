@@ -15,12 +15,17 @@ static const uint8_t *bytes_at(const struct object *o, uint64_t offset, uint64_t
     return o->bytes + offset;
 }
 
-/* A copy of a table, whose entries nothing aligns in the file. */
-void *copy_table(const struct object *o, const Elf64_Shdr *head, size_t size, size_t *len) {
+/* The bytes of a table, and how many entries it has. */
+const uint8_t *bytes_of(const struct object *o, const Elf64_Shdr *head, size_t size, size_t *len) {
     demand(o, head->sh_entsize == size && !(head->sh_size % size), "entries of another size");
-    const uint8_t *bytes = bytes_at(o, head->sh_offset, head->sh_size);
-    void *copy = take(*len = head->sh_size / size, size);
-    return memcpy(copy, bytes, head->sh_size);
+    *len = head->sh_size / size;
+    return bytes_at(o, head->sh_offset, head->sh_size);
+}
+
+/* A table; a copy of it where nothing aligns its entries in the file. */
+const void *table_of(const struct object *o, const Elf64_Shdr *head, size_t size, size_t *len) {
+    const uint8_t *bytes = bytes_of(o, head, size, len);
+    return (uintptr_t)bytes % 8 ? memcpy(take(*len, size), bytes, head->sh_size) : bytes;
 }
 
 static const char *text_at(const struct object *o, uint64_t table, uint64_t at) {
@@ -36,7 +41,7 @@ static void read_group(struct object *o, const Elf64_Shdr *head, const char *sec
     size_t len;
     Elf64_Shdr group = *head, table = {.sh_entsize = 0};
     group.sh_entsize = sizeof(Elf32_Word);
-    const Elf32_Word *words = copy_table(o, &group, sizeof *words, &len);
+    const Elf32_Word *words = table_of(o, &group, sizeof *words, &len);
     if (head->sh_link < o->sections_len) table = o->heads[head->sh_link];
     if (table.sh_type != SHT_SYMTAB || head->sh_info >= table.sh_size / sizeof(Elf64_Sym) || !len)
         fail("%s: %s: a group without its symbol", o->path, section);
@@ -52,29 +57,46 @@ static void read_group(struct object *o, const Elf64_Shdr *head, const char *sec
     }
 }
 
+/* A symbol as an object mentions it, until the next call. */
+static struct symbol *mention(const struct object *o, size_t i) {
+    static struct symbol s; /* of which nothing else is set */
+    const Elf64_Sym *elf = &o->mentions[i];
+    bool has_section = elf->st_shndx < o->sections_len;
+    const struct section *section = &o->sections[has_section ? elf->st_shndx : 0];
+    bool is_section = ELF64_ST_TYPE(elf->st_info) == STT_SECTION && has_section;
+    s.object = o;
+    s.elf = *elf;
+    s.name = is_section ? section->name : o->names + elf->st_name;
+    if (ELF64_ST_BIND(elf->st_info) == STB_WEAK && section->is_discarded) s.elf.st_shndx = 0;
+    return &s;
+}
+
 static void read_symbols(struct object *o, const Elf64_Shdr *head) {
     demand(o, !o->symbols, "two tables of symbols");
-    const Elf64_Sym *elf = copy_table(o, head, sizeof *elf, &o->symbols_len);
-    struct symbol *s = o->mentions = take(o->symbols_len, sizeof *s);
+    const Elf64_Sym *elf = o->mentions = table_of(o, head, sizeof *elf, &o->symbols_len);
+    size_t locals_len = head->sh_info < o->symbols_len ? head->sh_info : o->symbols_len;
+    struct symbol *local = take(locals_len, sizeof *local);
     o->symbols = take(o->symbols_len, sizeof *o->symbols);
-    for (size_t i = 0; i < o->symbols_len; i++, elf++, s++) {
+    o->hashes = take(o->symbols_len, sizeof *o->hashes);
+    if (o->symbols_len) o->names = text_at(o, head->sh_link, 0);
+    for (size_t i = 0; i < o->symbols_len; i++, elf++) {
         uint16_t at = elf->st_shndx;
         unsigned type = ELF64_ST_TYPE(elf->st_info), bind = ELF64_ST_BIND(elf->st_info);
         bool has_section = at < o->sections_len;
-        s->object = o;
-        s->name = text_at(o, head->sh_link, elf->st_name);
-        s->elf = *elf;
+        const char *name = text_at(o, head->sh_link, elf->st_name);
         if ((!has_section && at != SHN_ABS && at != SHN_COMMON) ||
             (bind == STB_LOCAL) != (i < head->sh_info) ||
             (at == SHN_COMMON && (bind == STB_LOCAL || type == STT_TLS)))
-            fail("%s: symbol %zu, '%s', is of a kind that is not supported", o->path, i, s->name);
+            fail("%s: symbol %zu, '%s', is of a kind that is not supported", o->path, i, name);
         if (type == STT_TLS && at && has_section && !(o->heads[at].sh_flags & SHF_TLS))
             fail("%s: %s: '%s' is thread-local in a section that is not", o->path,
-                 o->sections[at].name, s->name);
-        if (type == STT_SECTION && has_section) s->name = o->sections[at].name;
-        if (bind == STB_WEAK && has_section && o->sections[at].is_discarded) s->elf.st_shndx = 0;
-        if (bind == STB_LOCAL) o->symbols[i] = s;
-        else if (s->elf.st_shndx != SHN_UNDEF) o->symbols[i] = resolve(s);
+                 o->sections[at].name, name);
+        if (bind == STB_LOCAL) *(o->symbols[i] = local++) = *mention(o, i);
+        else expect(o->hashes[i] = hash_of(name));
+    }
+    for (size_t i = locals_len; i < o->symbols_len; i++) {
+        struct symbol *s = mention(o, i);
+        if (is_defined(s)) o->symbols[i] = resolve(s, o->hashes[i]);
     }
     o->below = reading;
     reading = o;
@@ -90,7 +112,8 @@ static void resolve_all(void) {
             continue;
         }
         o->resolved_len++;
-        if (!o->symbols[i]) o->symbols[i] = resolve(&o->mentions[i]);
+        expect(o->hashes[i + 16 < o->symbols_len ? i + 16 : i]);
+        if (!o->symbols[i]) o->symbols[i] = resolve(mention(o, i), o->hashes[i]);
     }
 }
 
@@ -106,7 +129,7 @@ void read_heads(struct object *o, uint16_t type, const char *otherwise) {
     o->flags = head.e_flags;
     Elf64_Shdr table = {.sh_offset = head.e_shoff, .sh_entsize = head.e_shentsize};
     table.sh_size = head.e_shnum * sizeof table;
-    o->heads = copy_table(o, &table, sizeof table, &o->sections_len);
+    o->heads = table_of(o, &table, sizeof table, &o->sections_len);
     o->sections = take(o->sections_len, sizeof *o->sections);
     for (size_t i = 0; i < o->sections_len; i++) {
         const Elf64_Shdr *s = &o->heads[i];
@@ -162,7 +185,9 @@ void load_member(struct archive *a, uint64_t offset) {
         demand(&a->file, at < a->names_len, "a member's name is not there");
         text = a->names + at;
     }
-    int text_len = (int)strcspn(text, "/"); /* (the file ends with a zero) */
+    size_t most = text == name ? strlen(name) : a->names_len - at;
+    int text_len = 0;
+    while ((size_t)text_len < most && text[text_len] && text[text_len] != '/') text_len++;
     size_t path_len = strlen(a->file.path) + (size_t)text_len + 3;
     char *path = take(path_len, 1);
     snprintf(path, path_len, "%s(%.*s)", a->file.path, text_len, text);
@@ -213,14 +238,16 @@ static void read_archive(struct object file) {
 }
 
 void read_file(const char *path) {
-    FILE *file = fopen(path, "rb");
-    long len = file && !fseek(file, 0, SEEK_END) ? ftell(file) : -1;
-    if (len < 0 || (uint64_t)len > MOST_BYTES) fail("%s: can't be read", path);
-    rewind(file);
-    uint8_t *bytes = take((uint64_t)len + 1, 1);
-    struct object o = {.path = path, .bytes = bytes};
-    o.len = fread(bytes, 1, (size_t)len, file);
-    fclose(file);
+    struct stat status;
+    int file = open(path, O_RDONLY);
+    if (file < 0 || fstat(file, &status) || !S_ISREG(status.st_mode) ||
+        (uint64_t)status.st_size > MOST_BYTES)
+        fail("%s: can't be read", path);
+    struct object o = {.path = path, .len = (size_t)status.st_size};
+    const uint8_t *bytes = o.len ? mmap(NULL, o.len, PROT_READ, MAP_PRIVATE, file, 0) : take(1, 1);
+    if (bytes == MAP_FAILED) fail("%s: can't be read", path);
+    o.bytes = bytes;
+    close(file);
     demand(&o, memcmp(bytes, "!<thin>\n", o.len < 8 ? o.len : 8) || o.len < 8, "a thin archive");
     if (o.len >= 8 && !memcmp(bytes, "!<arch>\n", 8))
         read_archive(o);

@@ -4,11 +4,13 @@
  * each distance is known exactly. */
 #include "link.h"
 
-/* Whether an instruction may be relaxed. */
-bool is_relaxable(const struct output *o, const struct relocation *r) {
-    uint32_t mark = machine == EM_RISCV ? R_RISCV_RELAX : LARCH_RELAX;
-    const struct relocation *next = r + 1, *end = o->relocations + o->relocations_len;
-    return relaxes && next < end && next->type == mark && next->offset == r->offset;
+/* Whether objects with such flags have shorter instructions than others. */
+static bool is_compressed(uint32_t flags) {
+    static uint32_t asked;
+    static bool is;
+    if (flags != asked) is = linker_utils_code_unit(machine, flags) < linker_utils_code_unit(machine, 0);
+    asked = flags;
+    return is;
 }
 
 /* What the library is told of a relocation: its target, if that is in the same run. Between a
@@ -16,11 +18,11 @@ bool is_relaxable(const struct output *o, const struct relocation *r) {
 static struct linker_utils_rela seen(const struct output *o,
                                                    const struct relocation *r) {
     const struct symbol *s = r->symbol; /* null where the linker aligns a section */
-    const struct output *to = s ? s->output : NULL;
+    const struct output *to = s && !(s->is_imported && is_defined(s)) ? s->output : NULL;
     struct linker_utils_rela seen = {
         .offset = r->offset, .addend = r->addend, .r_type = r->type,
         .has_symbol = r->section && s != *r->section->object->symbols,
-        .may_compress = r->section && r->section->object->flags & EF_RISCV_RVC};
+        .may_compress = r->section && is_compressed(r->section->object->flags)};
     if (!relaxes || !to || to->run != o->run || to->flags & SHF_TLS || (to->shrinks && r->addend))
         return seen;
     uint64_t offset = (s->offset == END ? to->len : s->offset) + (uint64_t)r->addend;
@@ -29,89 +31,67 @@ static struct linker_utils_rela seen(const struct output *o,
     return seen;
 }
 
-/* RISC-V: the rewrite of an instruction of a TLS descriptor, which relaxation doesn't change. */
-static struct linker_utils_choice choose_descriptor(const struct output *o, struct relocation *r) {
-    struct linker_utils_choice choice = {.rewrite = 0, .relocation = r->type};
-    if (machine != EM_RISCV || r->type < RISCV_TLSDESC_HI20 || r->type > RISCV_TLSDESC_CALL)
-        return choice;
-    const struct relocation *high = r->type == RISCV_TLSDESC_HI20 ? r : high_part(o, r);
-    const struct symbol *s = high->symbol;
-    if (!s->output || !(s->output->flags & SHF_TLS) || !is_relaxable(o, high)) return choice;
-    struct linker_utils_link_facts facts = {
-        .is_local = 1, .is_executable = linked.is_executable, .is_relaxable = 1, .has_addresses = 1,
-        .operands = {.symbol = address_of(s->output, s->offset), .addend = high->addend,
-                     .tls_base = tls.origins.thread_pointer, .got_entry = NO_ENTRY}};
-    check(r, linker_utils_choose(machine, r->type, o->bytes, r->section->end, r->offset, &facts,
-                                 &choice));
-    if (!choice.rewrite) return choice;
-    r->symbol = high->symbol;
-    r->addend = high->addend;
-    r->deleted = choice.deleted_len;
-    return choice;
-}
-
 /* Adds the items of a section to those of its run, each with its relocation. */
 static size_t add_items(struct output *o, struct linker_utils_item *items, struct relocation **of) {
-    size_t all = o->relocations_len, found_len = 0, len = 0, k = 0, at = SIZE_MAX;
-    struct linker_utils_choice *choices = take(all, sizeof *choices);
+    size_t all = o->relocations_len, found_len = 0, len = 0, at = SIZE_MAX;
     struct linker_utils_rela *relocations = take(all, sizeof *relocations);
-    struct linker_utils_item *found = take(all, sizeof *found);
     size_t *makers = take(all, sizeof *makers);
-    for (size_t i = 0; i < all; i++) choices[i] = choose_descriptor(o, &o->relocations[i]);
     for (size_t i = 0; i < all; i++) {
-        struct relocation *r = &o->relocations[i];
-        uint64_t offset = r->offset;
-        if (choices[i].rewrite)
-            check(r, linker_utils_apply(machine, choices[i].rewrite, choices[i].opcode_len, o->bytes,
-                                        r->section->end, &offset, &r->addend));
-        r->type = choices[i].relocation;
-        relocations[i] = seen(o, r);
+        __builtin_prefetch(o->relocations[i + 8 < all ? i + 8 : i].symbol);
+        relocations[i] = seen(o, &o->relocations[i]);
     }
     uint32_t status = linker_utils_section_items(machine, o->bytes, o->len, o->base, relocations, all,
-                                                 found, all, makers, all, &found_len, &at);
+                                                 items, all, makers, all, &found_len, &at);
     if (status && at < all) check(&o->relocations[at], status);
     if (status) fail("section %s: %s", o->name, linker_utils_status_text(status));
-    for (size_t i = 0; i < all; i++) {
+    give_back(relocations, all, sizeof *relocations);
+    for (size_t i = 0; i < all; i++) len += o->relocations[i].deleted > 0;
+    o->items_len = len += found_len;
+    for (size_t i = all; i-- > 0 && len;) { /* makes room between them from behind */
         struct relocation *r = &o->relocations[i];
         uint64_t offset = o->base + r->offset;
-        of[len] = r;
         if (r->deleted)
-            items[len++] = (struct linker_utils_item){
-                .offset = offset, .target = offset, .len = r->deleted,
-                .kind = LINKER_UTILS_ITEM_SITE};
-        else if (k < found_len && makers[k] == i)
-            items[len++] = found[k++];
+            items[--len] = (struct linker_utils_item){.offset = offset, .target = offset,
+                                                      .len = r->deleted,
+                                                      .kind = LINKER_UTILS_ITEM_SITE};
+        else if (found_len && makers[found_len - 1] == i)
+            items[--len] = items[--found_len];
+        else
+            continue;
+        of[len] = r;
     }
-    return o->items_len = len;
+    return o->items_len;
 }
 
 /* Writes a section anew: what becomes shorter, and without what it loses. What stays of the
  * linker's own gaps stays as it is, as of deletions that are decided. */
-static void pack(struct output *o, const struct linker_utils_item *items, const uint64_t *kept,
+static void pack(struct output *o, struct linker_utils_item *items, const uint64_t *kept,
                  struct relocation **of) {
     const struct run *run = o->run;
-    struct linker_utils_item *written = take(o->items_len, sizeof *written);
     size_t len = 0, at = SIZE_MAX;
     for (size_t i = 0; i < o->items_len; i++)
         if (kept[i] < items[i].len) {
-            written[len] = items[i];
+            items[len] = items[i];
             if (!of[i]->section)
-                written[len] = (struct linker_utils_item){
-                    .offset = items[i].offset, .target = items[i].offset, .len = items[i].len,
+                items[len] = (struct linker_utils_item){
+                    .offset = items[len].offset, .target = items[len].offset, .len = items[len].len,
                     .kind = LINKER_UTILS_ITEM_SITE, .shapes = {.longest = (uint32_t)kept[i]}};
             of[len++] = of[i];
         }
     size_t packed_len = linker_utils_packed_run_len(o->base, o->len, run->deltas, run->deltas_len);
     uint8_t *packed = take(packed_len, 1);
     uint32_t status =
-        linker_utils_pack_run(machine, o->bytes, o->len, o->base, written, len, run->deltas,
+        linker_utils_pack_run(machine, o->bytes, o->len, o->base, items, len, run->deltas,
                               run->deltas_len, run->start, packed, packed_len, &at);
     if (status && at < len) check(of[at], status);
     if (status) fail("section %s: %s", o->name, linker_utils_status_text(status));
-    for (size_t i = 0; i < len; i++) { /* these have their values already */
-        if (of[i]->type == LARCH_PCALA_HI20) of[i][2].type = 0; /* the other half of the address */
-        if (written[i].shapes.count) of[i]->type = 0;
+    const struct relocation *end = o->relocations + o->relocations_len;
+    for (size_t i = 0; i < len; i++) { /* what is at these has its values already */
+        uint64_t past = items[i].offset - o->base + items[i].len;
+        for (struct relocation *r = of[i]; items[i].shapes.count && r < end && r->offset < past; r++)
+            r->type = 0;
     }
+    give_back(o->bytes, o->room, 1);
     o->bytes = packed;
     o->len = o->room = packed_len;
 }
@@ -151,9 +131,7 @@ static void relax_run(struct run *run) {
     if (status) fail("the code can't be relaxed: %s", linker_utils_status_text(status));
     run->deltas = take(len, sizeof *run->deltas);
     linker_utils_run_deltas(items, len, kept, len, run->deltas, len, &run->deltas_len);
-    run->heads_len = linker_utils_deltas_block_count(run->deltas, run->deltas_len);
-    run->heads = take(run->heads_len, sizeof *run->heads);
-    linker_utils_deltas_heads(run->deltas, run->deltas_len, run->heads, run->heads_len);
+    index_deltas(run);
     len = 0;
     for (size_t i = 0; i < outputs_len; i++) {
         struct output *o = outputs[i];
@@ -162,13 +140,16 @@ static void relax_run(struct run *run) {
         if (o->shrinks) pack(o, items + len, kept + len, of + len);
         len += o->items_len;
     }
+    give_back(items, room, sizeof *items);
+    give_back(of, room, sizeof *of);
 }
 
 /* Relaxes all code. */
 void relax(void) {
-    bool shrinks = has_short_offsets;
+    bool shrinks = has_short_offsets && relaxes;
     for (size_t i = 0; i < outputs_len; i++) shrinks |= outputs[i]->shrinks;
-    if (relaxes && shrinks) rewrite_phase(LINKER_UTILS_PHASE_THREAD_OFFSETS);
+    uint32_t phase = LINKER_UTILS_PHASE_THREAD_OFFSETS;
+    if (shrinks) rewrite_phases(phase, phase);
     for (size_t i = 0; i < outputs_len; i++)
         if (!outputs[i]->run->deltas) relax_run(outputs[i]->run);
     set_addresses();

@@ -3,21 +3,59 @@
 #include "link.h"
 
 struct symbol *symbols, *module_base;
-static struct symbol *buckets[1 << 16], *groups[1 << 12];
+size_t symbols_len;
+bool has_commons;
 
-static struct symbol **find(struct symbol **table, size_t len, const char *name) {
-    uint32_t hash = 5381;
-    for (const char *c = name; *c; c++) hash = hash * 33 + (unsigned char)*c;
-    struct symbol **at = &table[(hash ^ hash >> 16) % len];
-    while (*at && strcmp((*at)->name, name)) at = &(*at)->next;
-    return at;
+/* Symbols by their names. At most half of the cells are taken. */
+static struct table {
+    struct cell {
+        struct symbol *symbol;
+        uint32_t hash;
+    } *cells;
+    size_t len, taken;
+} globals, groups;
+
+static struct cell *cell_in(const struct table *t, uint32_t hash, const char *name) {
+    size_t at = hash & (t->len - 1);
+    while (t->cells[at].symbol && (!name || t->cells[at].hash != hash ||
+                                    strcmp(t->cells[at].symbol->name, name)))
+        at = (at + 1) & (t->len - 1);
+    return &t->cells[at];
 }
 
-/* Where the global symbol of a name is, or is to be put. */
-struct symbol **global(const char *name) { return find(buckets, 1 << 16, name); }
+uint32_t hash_of(const char *name) {
+    uint32_t hash = 5381;
+    for (; *name; name++) hash = hash * 33 + (unsigned char)*name;
+    hash *= 2654435769; /* 2^32 over the golden ratio */
+    return hash ^ hash >> 15;
+}
+
+/* Says that the global symbol of a hash will be looked up. */
+void expect(uint32_t hash) {
+    if (globals.len) __builtin_prefetch(&globals.cells[hash & (globals.len - 1)]);
+}
+
+/* Where the symbol of a name is, or is to be put at once. */
+static struct symbol **find(struct table *t, const char *name, uint32_t hash) {
+    if (2 * t->taken >= t->len) {
+        struct table more = {.len = t->len ? 4 * t->len : 1 << 12, .taken = t->taken};
+        more.cells = take(more.len, sizeof *more.cells);
+        for (size_t i = 0; i < t->len; i++)
+            if (t->cells[i].symbol) *cell_in(&more, t->cells[i].hash, NULL) = t->cells[i];
+        if (t->len) give_back(t->cells, t->len, sizeof *t->cells);
+        *t = more;
+    }
+    struct cell *cell = cell_in(t, hash, name);
+    t->taken += !cell->symbol;
+    cell->hash = hash;
+    return &cell->symbol;
+}
+
+/* Where the global symbol of a name is, or is to be put at once. */
+struct symbol **global(const char *name) { return find(&globals, name, hash_of(name)); }
 
 bool is_first_group(const char *name) {
-    struct symbol **at = find(groups, 1 << 12, name);
+    struct symbol **at = find(&groups, name, hash_of(name));
     if (*at) return false;
     *at = take(1, sizeof **at);
     (*at)->name = name;
@@ -44,9 +82,9 @@ bool is_thread_local(const struct symbol *s) {
 }
 
 /* The global symbol of a name, after what one more object says of it. */
-struct symbol *resolve(struct symbol *s) {
-    struct symbol **at = global(s->name), *old = *at;
-    if (!old) return *at = s;
+struct symbol *resolve(struct symbol *s, uint32_t hash) {
+    struct symbol **at = find(&globals, s->name, hash), *old = *at;
+    if (!old) return memcpy(*at = take(1, sizeof *s), s, sizeof *s);
     int before = old->object ? rank(old) : -1, after = rank(s);
     if (before >= 0 && is_thread_local(old) != is_thread_local(s))
         fail("%s: '%s' is %sthread-local, and in %s it is%s", s->object->path, s->name,
@@ -103,6 +141,8 @@ void list_symbol(struct symbol *s) {
     static struct symbol **end = &symbols;
     if (s->is_listed) return;
     s->is_listed = true;
+    symbols_len++;
+    has_commons |= s->elf.st_shndx == SHN_COMMON;
     *end = s;
     end = &s->later;
 }

@@ -21,35 +21,28 @@
 #define main link_main
 #ifdef GUARDED
 #define GUARD ((size_t)4096)
-static struct {
-    void *block;
-    size_t len;
-} blocks[100000];
-static size_t blocks_len;
-
 static void *guarded_calloc(size_t count, size_t size) {
     if (size && count > ((size_t)1 << 40) / size) return NULL;
     size_t len = count * size, room = (len + GUARD - 1) / GUARD * GUARD;
     char *pages = mmap(NULL, room + GUARD, PROT_READ | PROT_WRITE,
                        MAP_PRIVATE | MAP_ANONYMOUS | MAP_NORESERVE, -1, 0);
     if (pages == MAP_FAILED || mprotect(pages + room, GUARD, PROT_NONE)) return NULL;
-    blocks[blocks_len].block = pages + room - len;
-    blocks[blocks_len].len = len;
-    return blocks[blocks_len++].block;
+    return pages + room - len;
 }
 
-static void *guarded_realloc(void *old, size_t size) {
-    void *block = guarded_calloc(size, 1);
-    for (size_t i = 0; block && i < blocks_len; i++)
-        if (old && blocks[i].block == old)
-            memcpy(block, old, blocks[i].len < size ? blocks[i].len : size);
-    return block;
-}
 #define calloc guarded_calloc
-#define realloc guarded_realloc
 #endif
+#define BLOCK ((size_t)0)
+
+/* A file in a block of its own. */
+static void *read_block(size_t len, int file) {
+    void *block = calloc(len, 1);
+    return block && read(file, block, len) == (ssize_t)len ? block : MAP_FAILED;
+}
+#define mmap(at, len, protection, flags, file, offset) read_block(len, file)
 #include "../link/dynamic.c"
 #include "../link/entries.c"
+#include "../link/frames.c"
 #include "../link/layout.c"
 #include "../link/libraries.c"
 #include "../link/main.c"
@@ -57,10 +50,11 @@ static void *guarded_realloc(void *old, size_t size) {
 #include "../link/output.c"
 #include "../link/relax.c"
 #include "../link/relocate.c"
+#include "../link/rewrite.c"
 #include "../link/symbols.c"
 #undef main
 #undef calloc
-#undef realloc
+#undef mmap
 
 #define MOST ((size_t)1 << 20)
 

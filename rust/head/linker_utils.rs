@@ -86,6 +86,7 @@ pub mod rewriting {
 
 pub mod output {
     #![doc = include_str!("../doc/output.md")]
+    pub use crate::linker_output::addresses::{AddressSection, WordLoad};
     pub use crate::linker_output::dynamic::{DynamicType, DynamicTypes};
     pub use crate::linker_output::flags::FlagRules;
     pub use crate::linker_output::got::{
@@ -93,6 +94,9 @@ pub mod output {
     };
     pub use crate::linker_output::layout::{
         CodeUnit, Interpreter, ProvidedRun, ProvidedSymbol, SymbolPlace,
+    };
+    pub use crate::linker_output::lazy_plt::{
+        LazyEntry, LazyField, LazyPiece, LazyPlt, LazyTarget, LazyWord,
     };
     pub use crate::linker_output::routes::{Route, RouteError};
     pub use crate::linker_output::stubs::{Stub, StubError, StubField, StubKind};

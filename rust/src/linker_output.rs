@@ -3,11 +3,14 @@
 //! GOT, origins of thread-local storage, `e_flags`, and the code of stubs.
 
 mod aarch64;
+pub mod addresses;
 pub mod description;
 pub mod dynamic;
 pub mod flags;
 pub mod got;
 pub mod layout;
+pub mod lazy_plt;
+mod lazy_plts;
 mod loongarch64;
 pub mod placement;
 mod ppc64;

@@ -2,8 +2,9 @@
 
 use linker_utils::elf::{AllowedRange, Architecture, RelocateError};
 use linker_utils::output::{
-    CodeUnit, DynamicType, DynamicTypes, FlagRules, GotHeader, GotLayout, Origins, Stub, StubError,
-    StubField, StubKind, Target, ThreadPointer, entry_words, static_words,
+    AddressSection, CodeUnit, DynamicType, DynamicTypes, FlagRules, GotHeader, GotLayout, Origins,
+    Stub, StubError, StubField, StubKind, Target, ThreadPointer, WordLoad, entry_words,
+    static_words,
 };
 use linker_utils::section::EntryClass;
 use std::collections::HashMap;
@@ -78,6 +79,27 @@ fn types_have_the_codes_of_elf_h() {
         assert_eq!(target.dynamic_name(0), None);
     }
     assert_eq!(compared, 49);
+}
+
+#[test]
+fn loads_of_words_have_the_codes_of_elf_h() {
+    let constants = constants();
+    for architecture in ALL {
+        let target = Target::of(architecture);
+        let name = target.address_section.map(|section| section.name);
+        let expected = (architecture == Architecture::Ppc64).then_some(".toc");
+        assert_eq!(name, expected);
+        // the same halves of an address, by the TOC pointer and by an entry of the GOT
+        for half in ["HA", "LO", "LO_DS"] {
+            let code = |of: &str| constants[&format!("R_PPC64_{of}16_{half}")];
+            let entry = name.map(|_| code("GOT"));
+            assert_eq!(target.entry_code(code("TOC")), entry);
+            assert_eq!(target.entry_code(code("GOT")), None);
+        }
+        for other in ["R_PPC64_TOC16", "R_PPC64_TOC16_DS", "R_PPC64_TOC16_HI"] {
+            assert_eq!(target.entry_code(constants[other]), None);
+        }
+    }
 }
 
 #[test]
@@ -452,6 +474,10 @@ fn a_further_architecture_is_a_value() {
             header: Some(GotHeader::Base),
             bias: 0x20,
         },
+        address_section: Some(AddressSection {
+            name: ".addresses",
+            loads: &[WordLoad { word: 7, entry: 9 }],
+        }),
         page: 0x4000,
         code_unit: CodeUnit {
             len: 8,
@@ -504,6 +530,7 @@ fn a_further_architecture_is_a_value() {
     assert_eq!(sixth.join_flags(0x31, 0x34), Some(0x35));
     assert_eq!(sixth.join_flags(0x31, 0x41), None);
     assert_eq!(sixth.interpreter(0), None);
+    assert_eq!((sixth.entry_code(7), sixth.entry_code(9)), (Some(9), None));
 
     let mut out = [0; 20];
     sixth

@@ -442,6 +442,45 @@ fn calls_of_undefined_weak_functions_are_erased() {
     assert_eq!(made[0].0.relocations, [rela(0, 0, 4, 0)]);
 }
 
+/// ELF for the Arm 64-bit Architecture, "Call and Jump relocations": a branch to an undefined weak
+/// symbol goes to the next instruction.
+#[test]
+fn branches_of_aarch64_stay_unless_nothing_defines_them() {
+    let mut symbols = symbols();
+    symbols[4].is_undefined_weak = true;
+    let before = Section {
+        // bl and b
+        bytes: words(&[0x9400_0000, 0x1400_0000, 0x9400_0000, 0x1400_0000]),
+        relocations: vec![
+            rela(0, 283, 1, 0),
+            rela(4, 282, 4, 0),
+            rela(8, 283, 4, 0),
+            rela(12, 282, 0, 0),
+        ],
+    };
+    let made = rewritten(AArch64, &symbols, &[&before]);
+    let nop = 0xd503_201f;
+    assert_eq!(made[0].0.bytes, words(&[0x9400_0000, nop, nop, 0x1400_0000]));
+    let codes: Vec<_> = made[0].0.relocations.iter().map(|it| it.code).collect();
+    assert_eq!(codes, [283, 0, 0, 282]);
+}
+
+/// 64-Bit ELF V2 ABI, "Function Call": the `nop` behind a call becomes `ld r2,24(r1)` where the callee
+/// may have another TOC pointer, through a stub or by `st_other`.
+#[test]
+fn calls_of_ppc64_restore_the_toc_pointer_where_it_may_change() {
+    let mut symbols = symbols();
+    symbols[3].other = 1 << 5;
+    let (call, nop, restore) = (0x4800_0001, 0x6000_0000, 0xe841_0018);
+    let before = Section {
+        bytes: words(&[call, nop, call, nop, call, nop]),
+        relocations: vec![rela(0, 10, 1, 0), rela(8, 10, 3, 0), rela(16, 10, 4, 0)],
+    };
+    let made = rewritten(Ppc64, &symbols, &[&before]);
+    assert_eq!(made[0].0.bytes, words(&[call, nop, call, restore, call, restore]));
+    assert_eq!(made[0].0.relocations, before.relocations);
+}
+
 /// Rewrites a section by a table of groups that stay. What comes of an error is as it was.
 fn error_of(section: &Section, kept: &[KeptGroups], room: usize) -> RewritingError {
     let entries = bytes_of(&section.relocations);

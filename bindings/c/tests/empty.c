@@ -50,9 +50,13 @@ int main(void) {
     struct linker_utils_provided_run run;
     EXPECT(TOO_SHORT, dynamic_name(LINKER_UTILS_X86_64, 8, NULL, 0, &count));
     EXPECT(TOO_SHORT, interpreter(LINKER_UTILS_X86_64, 0, NULL, 0, &count));
+    EXPECT(TOO_SHORT, address_section(LINKER_UTILS_PPC64, NULL, 0, &count));
     EXPECT(TOO_SHORT, provided_symbol(LINKER_UTILS_PPC64, 0, NULL, 0, &count, &symbol));
     EXPECT(TOO_SHORT, provided_run(LINKER_UTILS_PPC64, 0, NULL, 0, &count, &run));
     EXPECT(TOO_SHORT, write_stub(LINKER_UTILS_X86_64, LINKER_UTILS_STUB_LOAD, 0, 0, NULL, 0));
+    struct linker_utils_lazy_entry lazy = {0, 0, 0, 0};
+    EXPECT(TOO_SHORT, write_lazy_header(LINKER_UTILS_X86_64, 0, 0, NULL, 0));
+    EXPECT(TOO_SHORT, write_lazy_entry(LINKER_UTILS_X86_64, &lazy, NULL, 0));
     EXPECT(OUT_OF_SECTION, jal_site(NULL, 0, 0, 0));
     EXPECT(OUT_OF_SECTION, relax_call(NULL, 0, NULL, 0, 0, 0));
     if (linker_utils_is_plain_call(NULL, 0, 0)) failures++;

@@ -1113,6 +1113,22 @@ static void call_interpreter(void) {
     finish_with(status, 0 UNKNOWN OR(NOT_PROVIDED) OR(TOO_SHORT));
 }
 
+static void call_address_section(void) {
+    struct buffer *name = bytes(WRITTEN, any_len(LINKER_UTILS_NAME_SIZE));
+    size_t *name_used = output(sizeof(size_t));
+    uint32_t status = CALL(address_section, any_machine(), name->given, name->len, name_used);
+    if (status == LINKER_UTILS_OK) changes(name, 0, *name_used);
+    expect(status != LINKER_UTILS_TOO_SHORT || name->len < LINKER_UTILS_NAME_SIZE, "a long name");
+    finish_with(status, 0 UNKNOWN OR(NOT_PROVIDED) OR(TOO_SHORT));
+}
+
+static void call_entry_relocation(void) {
+    uint32_t *entry_type = output(sizeof *entry_type);
+    uint32_t r_type = (uint32_t)(once_in(4) ? any_number() : below(80));
+    uint32_t status = CALL(entry_relocation, any_machine(), r_type, entry_type);
+    finish_with(status, 0 UNKNOWN OR(NOT_PROVIDED));
+}
+
 static void call_provided_symbol(void) {
     struct buffer *name = bytes(WRITTEN, any_len(LINKER_UTILS_NAME_SIZE));
     size_t *name_used = output(sizeof(size_t));
@@ -1162,6 +1178,47 @@ static void call_write_stub(void) {
     changes(code, 0, 36);
     uint32_t status = CALL(write_stub, any_machine(), kind, at, target, code->given, code->len);
     finish_with(status, 0 UNKNOWN OR(UNKNOWN_STUB) OR(TOO_SHORT) OR(OUT_OF_REACH) OR(MISALIGNED));
+}
+
+static void call_lazy_plt(void) {
+    struct linker_utils_lazy_plt *plt = output(sizeof *plt);
+    uint32_t status = CALL(lazy_plt, any_machine(), plt);
+    expect(status || (plt->header_len <= 60 && plt->entry_len <= 16 && plt->alignment <= 16 &&
+                      plt->header_words <= 3), "no lazy PLT");
+    finish_with(status, 0 UNKNOWN);
+}
+
+static void call_write_lazy_header(void) {
+    struct buffer *code = bytes(WRITTEN, any_len(72));
+    uint64_t at = any_number(), words = once_in(4) ? any_number() : at + 8 * below(1 << 20);
+    changes(code, 0, 60);
+    uint32_t status = CALL(write_lazy_header, any_machine(), at, words, code->given, code->len);
+    finish_with(status, 0 UNKNOWN OR(TOO_SHORT) OR(OUT_OF_REACH) OR(MISALIGNED));
+}
+
+static void call_write_lazy_entry(void) {
+    struct buffer *given = place(READ, 1, sizeof(struct linker_utils_lazy_entry));
+    struct buffer *code = bytes(WRITTEN, any_len(24));
+    uint64_t at = any_number(), index = once_in(4) ? any_number() : below(1 << 16);
+    *(struct linker_utils_lazy_entry *)filled(given) = (struct linker_utils_lazy_entry){
+        .address = at,
+        .word = once_in(4) ? any_number() : at + 8 * below(1 << 20),
+        .header = once_in(4) ? any_number() : at - 32 - 16 * index,
+        .index = index,
+    };
+    changes(code, 0, 16);
+    uint32_t status = CALL(write_lazy_entry, any_machine(), given->given, code->given, code->len);
+    finish_with(status, 0 UNKNOWN OR(TOO_SHORT) OR(OUT_OF_REACH) OR(MISALIGNED));
+}
+
+static void call_lazy_words(void) {
+    uint64_t *word = output(sizeof *word), dynamic = any_number(), header = any_number();
+    size_t index = once_in(4) ? (size_t)any_number() : below(4);
+    uint32_t status = CALL(lazy_header_word, any_machine(), index, dynamic, header, word);
+    expect(status || !*word || *word == dynamic || *word == header, "another word");
+    uint64_t entry = any_number(), first = CALL(lazy_entry_word, any_machine(), entry, header, dynamic);
+    expect(!first || first == header || first - entry < 16, "another word of an entry");
+    finish_with(status, 0 UNKNOWN OR(NOT_PROVIDED));
 }
 
 /* A route in numbers: a stub of the library's, or nothing. */
@@ -1761,13 +1818,8 @@ static void call_run_deltas(void) {
     finish_with(status, 0 OR(DIFFERENT_LENGTHS));
 }
 
-/* Relocations of a section, of which most are in it, and its items. */
-static void call_section_items(void) {
-    bool is_riscv = once_in(2);
-    uint16_t machine = once_in(16) ? (uint16_t)any_number() : is_riscv ? LINKER_UTILS_RISCV
-                                          : LINKER_UTILS_LOONGARCH64;
-    size_t section_len = any_section_len(), count = any_len(8);
-    struct buffer *section = bytes(READ, section_len);
+/* Relocations of a section, of which most are in it. */
+static struct buffer *run_relocations(size_t count, bool is_riscv) {
     struct buffer *given = place(READ, count, sizeof(struct linker_utils_rela));
     struct linker_utils_rela *at = filled(given);
     static const uint32_t types[2][5] = {{110, 71, 100, 72, 102}, {18, 19, 51, 43, 0}};
@@ -1785,6 +1837,20 @@ static void call_section_items(void) {
         if (i > 0 && once_in(2)) at[i].r_type = types[is_riscv][2];
         if (once_in(2)) offset += 4 * below(3);
     }
+    return given;
+}
+
+/* The items of a section: of its relocations alone, or of one that was rewritten. */
+static void call_items(bool is_rewritten) {
+    bool is_riscv = once_in(2);
+    uint16_t machine = once_in(16) ? (uint16_t)any_number() : is_riscv ? LINKER_UTILS_RISCV
+                                          : LINKER_UTILS_LOONGARCH64;
+    size_t section_len = any_section_len(), relocations_len = any_len(8);
+    struct buffer *section = bytes(READ, section_len);
+    struct buffer *given = run_relocations(relocations_len, is_riscv);
+    struct buffer *deleted = is_rewritten ? deletions(any_len(4)) : NULL;
+    size_t deleted_len = deleted ? LEN(deleted, struct linker_utils_deletion) : 0;
+    size_t count = relocations_len + deleted_len;
     size_t items_len = once_in(8) ? any_len(8) : count;
     struct buffer *items = place(WRITTEN, items_len, sizeof(struct linker_utils_item));
     size_t makers_len = once_in(8) ? any_len(8) : count;
@@ -1792,21 +1858,43 @@ static void call_section_items(void) {
     uint64_t base = once_in(8) ? any_number() : below(64);
     size_t *len = output(sizeof(size_t));
     size_t *faulty = any_faulty();
-    uint32_t status = CALL(section_items, machine, section->given, section_len, base, given->given,
-                           count, ITEMS(items), makers->given, makers_len, len, faulty);
-    expect(was_refused == (status == LINKER_UTILS_OUT_OF_MEMORY), "tells nothing of memory");
+    uint32_t status =
+        is_rewritten
+            ? CALL(rewritten_items, machine, section->given, section_len, base, given->given,
+                   relocations_len, DELETIONS(deleted), ITEMS(items), makers->given, makers_len, len,
+                   faulty)
+            : CALL(section_items, machine, section->given, section_len, base, given->given,
+                   relocations_len, ITEMS(items), makers->given, makers_len, len, faulty);
+    expect(!was_refused || status == LINKER_UTILS_OUT_OF_MEMORY, "tells nothing of memory");
     bool is_known = machine == LINKER_UTILS_RISCV || machine == LINKER_UTILS_LOONGARCH64;
     expect((status == LINKER_UTILS_UNKNOWN_ARCHITECTURE) == !is_known, "another machine");
     expect((status == LINKER_UTILS_DIFFERENT_LENGTHS) ==
                (is_known && (items_len != count || makers_len != count)), "another length");
-    expect(status != LINKER_UTILS_OK || *len <= count, "more items than relocations");
+    expect(status != LINKER_UTILS_OK || *len <= count, "more items than relocations and deletions");
     changes(items, 0, *len * sizeof(struct linker_utils_item));
     changes(makers, 0, *len * sizeof(size_t));
-    finish_faulty(faulty, status == LINKER_UTILS_MALFORMED_RELOCATION, count);
+    bool overlap = status == LINKER_UTILS_ITEMS_OVERLAP;
+    if (overlap) { /* nothing is said of them then */
+        keep_written(items, items->len);
+        keep_written(makers, makers->len);
+    }
+    finish_faulty(faulty, status == LINKER_UTILS_MALFORMED_RELOCATION || overlap ||
+                              status == LINKER_UTILS_INVALID_DELETIONS,
+                  status == LINKER_UTILS_INVALID_DELETIONS ? deleted_len : relocations_len);
     expect(live == 0, "keeps memory");
     allocations = 0;
-    finish_with(status, 0 OR(UNKNOWN_ARCHITECTURE) OR(DIFFERENT_LENGTHS) OR(ENDS_TOO_HIGH)
-                            OR(OUT_OF_MEMORY) OR(MALFORMED_RELOCATION));
+    statuses allowed = 0 OR(UNKNOWN_ARCHITECTURE) OR(DIFFERENT_LENGTHS) OR(ENDS_TOO_HIGH)
+                         OR(MALFORMED_RELOCATION);
+    if (is_rewritten) allowed = allowed OR(INVALID_DELETIONS) OR(ITEMS_OVERLAP);
+    finish_with(status, allowed);
+}
+
+static void call_section_items(void) {
+    call_items(false);
+}
+
+static void call_rewritten_items(void) {
+    call_items(true);
 }
 
 static void call_has_its_instructions(void) {
@@ -2109,8 +2197,10 @@ static void (*const all[])(void) = {
     call_rewrite_section, call_has_rewrites, call_survey_placed_section,
     call_rewrite_placed_section, call_dynamic_types, call_dynamic_name, call_dynamic_words,
     call_entry_words, call_origins, call_static_words, call_got, call_join_flags,
-    call_output_facts, call_interpreter, call_provided_symbol, call_provided_run,
-    call_provided_word, call_stub, call_write_stub, call_route_at, call_route_by_word,
+    call_output_facts, call_interpreter, call_address_section, call_entry_relocation,
+    call_provided_symbol, call_provided_run, call_provided_word, call_stub, call_write_stub,
+    call_lazy_plt, call_write_lazy_header, call_write_lazy_entry, call_lazy_words, call_route_at,
+    call_route_by_word,
     call_most_stubs, call_place_stubs, call_clui_rel_info, call_jal_site, call_jal_site_with, call_relax_call,
     call_tests, call_write_mov_sequence, call_write_address_sequence, call_write_ha_lo,
     call_u32_from_slice, call_u64_from_slice, call_read_u32, call_read_uleb128, call_write_uleb128,
@@ -2119,7 +2209,7 @@ static void (*const all[])(void) = {
     call_deltas_merge, call_has_valid_deltas, call_deltas_total_deleted, call_translations,
     call_deltas_translate_all,
     call_deltas_heads, call_pack, call_shrink_calls, call_standard_shapes, call_relax, call_run_deltas,
-    call_section_items, call_has_its_instructions, call_pack_run,
+    call_section_items, call_rewritten_items, call_has_its_instructions, call_pack_run,
     call_operand, call_read_value, call_solve, call_join, call_field_bits, call_same_but_for,
     call_recognise_window, call_recognise, call_recognise_chosen, call_destination,
 };

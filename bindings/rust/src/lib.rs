@@ -529,6 +529,34 @@ pub struct Stub {
     pub entry: u64,
 }
 
+/// The lazy PLT of an architecture.
+#[repr(C)]
+#[derive(Debug, Clone, Copy, Default, PartialEq, Eq)]
+pub struct LazyPlt {
+    /// The header's length in bytes.
+    pub header_len: u64,
+    /// An entry's length in bytes.
+    pub entry_len: u64,
+    /// What addresses of the header and of entries are multiples of.
+    pub alignment: u64,
+    /// How many words `.got.plt` has before those of entries.
+    pub header_words: u64,
+}
+
+/// What an entry of a lazy PLT is written from.
+#[repr(C)]
+#[derive(Debug, Clone, Copy, Default, PartialEq, Eq)]
+pub struct LazyEntry {
+    /// Its address.
+    pub address: u64,
+    /// The address of its word in `.got.plt`.
+    pub word: u64,
+    /// The address of the header.
+    pub header: u64,
+    /// The index of its relocation in `.rela.plt`.
+    pub index: u64,
+}
+
 /// How a branch goes to its target.
 #[derive(Debug, Clone, Copy, PartialEq, Eq)]
 pub enum Route {
@@ -1325,6 +1353,22 @@ pub fn interpreter(architecture: Architecture, flags: u32) -> Result<String, Sta
     })
 }
 
+/// The name of the section of objects in which compilers keep addresses, as the GOT does.
+pub fn address_section(architecture: Architecture) -> Result<String, Status> {
+    text_of(|name, used| unsafe {
+        let (at, len) = (name.as_mut_ptr(), name.len());
+        raw::linker_utils_address_section_nonnull(architecture.machine(), at, len, used)
+    })
+}
+
+/// The type of the relocation that an instruction would have if the address were in an entry of the GOT,
+/// by the type that it has where that is in a word of this section.
+pub fn entry_relocation(architecture: Architecture, r_type: u32) -> Result<u32, Status> {
+    let (machine, mut entry_type) = (architecture.machine(), 0);
+    let status = unsafe { raw::linker_utils_entry_relocation(machine, r_type, &mut entry_type) };
+    result_of(status, entry_type)
+}
+
 /// The symbols that a linker defines if an object refers to them.
 pub fn provided_symbols(architecture: Architecture) -> Vec<ProvidedSymbol> {
     let machine = architecture.machine();
@@ -1390,6 +1434,61 @@ pub fn write_stub(
     let status =
         unsafe { raw::linker_utils_write_stub_nonnull(machine, kind, place, target, at, len) };
     result_of(status, ())
+}
+
+/// The lazy PLT of an architecture.
+pub fn lazy_plt(architecture: Architecture) -> LazyPlt {
+    let mut plt = LazyPlt::default();
+    // every architecture has one
+    unsafe { raw::linker_utils_lazy_plt(architecture.machine(), &mut plt) };
+    plt
+}
+
+/// Writes the header of a lazy PLT that stands at an address, of the `.got.plt` at `words`, to the
+/// beginning of bytes.
+pub fn write_lazy_header(
+    architecture: Architecture,
+    header: u64,
+    words: u64,
+    bytes: &mut [u8],
+) -> Result<(), Status> {
+    let (at, len) = (bytes.as_mut_ptr(), bytes.len());
+    let machine = architecture.machine();
+    let status =
+        unsafe { raw::linker_utils_write_lazy_header_nonnull(machine, header, words, at, len) };
+    result_of(status, ())
+}
+
+/// Writes an entry of a lazy PLT to the beginning of bytes.
+pub fn write_lazy_entry(
+    architecture: Architecture,
+    entry: &LazyEntry,
+    bytes: &mut [u8],
+) -> Result<(), Status> {
+    let (at, len) = (bytes.as_mut_ptr(), bytes.len());
+    let machine = architecture.machine();
+    let status = unsafe { raw::linker_utils_write_lazy_entry_nonnull(machine, entry, at, len) };
+    result_of(status, ())
+}
+
+/// What the word with an index at the begin of `.got.plt` holds, by the addresses of `.dynamic` and of
+/// the header.
+pub fn lazy_header_word(
+    architecture: Architecture,
+    index: usize,
+    dynamic: u64,
+    header: u64,
+) -> Result<u64, Status> {
+    let (machine, mut word) = (architecture.machine(), 0);
+    let status = unsafe {
+        raw::linker_utils_lazy_header_word(machine, index, dynamic, header, &mut word)
+    };
+    result_of(status, word)
+}
+
+/// What the word of the entry at an address holds until the dynamic linker has looked up the function.
+pub fn lazy_entry_word(architecture: Architecture, entry: u64, header: u64, dynamic: u64) -> u64 {
+    unsafe { raw::linker_utils_lazy_entry_word(architecture.machine(), entry, header, dynamic) }
 }
 
 /// A route by its numbers.
@@ -1962,6 +2061,42 @@ pub fn section_items(
             base,
             relocations.as_ptr(),
             relocations.len(),
+            items.as_mut_ptr(),
+            items.len(),
+            makers.as_mut_ptr(),
+            makers.len(),
+            &mut len,
+            faulty,
+        )
+    })
+    .map_err(of_section)?;
+    Ok(len)
+}
+
+/// Writes the items of a section that `rewrite_section` and `rewrite_placed_section` rewrote: those that
+/// its relocations make, and what is deleted. Returns how many there are. `items` and `makers` have as many
+/// elements as there are relocations and deletions; the maker of a deletion is its index and as many as
+/// there are relocations. The entry at fault is a relocation, and with `InvalidDeletions` a deletion.
+pub fn rewritten_items(
+    machine: u16,
+    section: &[u8],
+    base: u64,
+    relocations: &[Rela],
+    deleted: &[Deletion],
+    items: &mut [Item],
+    makers: &mut [usize],
+) -> Result<usize, ArrayError> {
+    let mut len = 0;
+    result_over(|faulty| unsafe {
+        raw::linker_utils_rewritten_items_nonnull(
+            machine,
+            section.as_ptr(),
+            section.len(),
+            base,
+            relocations.as_ptr(),
+            relocations.len(),
+            deleted.as_ptr(),
+            deleted.len(),
             items.as_mut_ptr(),
             items.len(),
             makers.as_mut_ptr(),

@@ -3,7 +3,7 @@
 
 pub use crate::{Addresses, BlockHead, Call, Deletion, Delta, FieldBits, FieldValue, Item, Operands};
 pub use crate::{KeptGroups, OutputFacts, Relocation, RewriteWindow, Rela, Shape, Shapes, Symbol};
-pub use crate::{Branch, DynamicTypes, Origins, PlacedStub, Stub, StubShape, SymbolFacts};
+pub use crate::{Branch, DynamicTypes, LazyEntry, LazyPlt, Origins, PlacedStub, Stub, StubShape, SymbolFacts};
 use std::ffi::c_char;
 
 /// `struct linker_utils_relocation_info`.
@@ -427,6 +427,13 @@ extern "C" {
         path_len: usize,
         path_used: *mut usize,
     ) -> u32;
+    pub fn linker_utils_address_section_nonnull(
+        machine: u16,
+        name: *mut u8,
+        name_len: usize,
+        name_used: *mut usize,
+    ) -> u32;
+    pub fn linker_utils_entry_relocation(machine: u16, r_type: u32, entry_type: *mut u32) -> u32;
     pub fn linker_utils_provided_symbol_nonnull(
         machine: u16,
         index: usize,
@@ -458,6 +465,33 @@ extern "C" {
         bytes: *mut u8,
         bytes_len: usize,
     ) -> u32;
+    pub fn linker_utils_lazy_plt(machine: u16, plt: *mut LazyPlt) -> u32;
+    pub fn linker_utils_write_lazy_header_nonnull(
+        machine: u16,
+        header: u64,
+        words: u64,
+        bytes: *mut u8,
+        bytes_len: usize,
+    ) -> u32;
+    pub fn linker_utils_write_lazy_entry_nonnull(
+        machine: u16,
+        entry: *const LazyEntry,
+        bytes: *mut u8,
+        bytes_len: usize,
+    ) -> u32;
+    pub fn linker_utils_lazy_header_word(
+        machine: u16,
+        index: usize,
+        dynamic: u64,
+        header: u64,
+        word: *mut u64,
+    ) -> u32;
+    pub fn linker_utils_lazy_entry_word(
+        machine: u16,
+        entry: u64,
+        header: u64,
+        dynamic: u64,
+    ) -> u64;
     pub fn linker_utils_route_at_nonnull(
         machine: u16,
         addresses: *const Addresses,
@@ -709,6 +743,22 @@ extern "C" {
         base: u64,
         relocations: *const Rela,
         relocations_len: usize,
+        items: *mut Item,
+        items_len: usize,
+        makers: *mut usize,
+        makers_len: usize,
+        len: *mut usize,
+        faulty: *mut usize,
+    ) -> u32;
+    pub fn linker_utils_rewritten_items_nonnull(
+        machine: u16,
+        section: *const u8,
+        section_len: usize,
+        base: u64,
+        relocations: *const Rela,
+        relocations_len: usize,
+        deleted: *const Deletion,
+        deleted_len: usize,
         items: *mut Item,
         items_len: usize,
         makers: *mut usize,

@@ -1494,6 +1494,62 @@ fn makes_items_of_relocations() {
 }
 
 #[test]
+fn lists_what_is_deleted_among_items() {
+    let relocation = |offset, r_type, addend, target: Option<u64>| Rela {
+        offset,
+        target: target.unwrap_or_default(),
+        addend,
+        r_type,
+        has_symbol: 0,
+        has_target: target.is_some().into(),
+        may_compress: 1,
+    };
+    // lui a0, 0; add a0, a0, tp; lw a0, 0(tp); auipc ra, 0; jalr ra; nop; c.nop
+    let mut section = bytes_of(&[0x537, 0x450533, 0x22503, 0x97, 0x80e7, 0x13]);
+    section.extend([0x01, 0x00]);
+    let relocations = [
+        relocation(0, 0, 0, None),
+        relocation(0, 51, 0, None),
+        relocation(8, 48, 0, None),
+        relocation(12, 19, 0, Some(64)),
+        relocation(12, 51, 0, None),
+        relocation(20, 43, 6, None),
+    ];
+    let four = |offset| Deletion { offset, bytes: 4 };
+    let deleted = [four(0), four(4)];
+    let other = Item::site(1, 2, 3, Shapes::fixed(1));
+    let (mut items, mut makers) = ([other; 8], [9; 8]);
+    let made =
+        rewritten_items(243, &section, 64, &relocations, &deleted, &mut items, &mut makers);
+    assert_eq!(made, Ok(4));
+    assert_eq!(makers, [6, 7, 3, 5, 9, 9, 9, 9]);
+    let gone = |offset| Item {
+        shapes: Shapes {
+            longest: 0,
+            ..items[0].shapes
+        },
+        ..Item::site(offset, 4, offset, Shapes::fixed(0))
+    };
+    assert_eq!((items[0].shapes.count, items[0].shapes.longest), (0, 0));
+    assert_eq!(items[..2], [gone(64), gone(68)]);
+    let call = standard_shapes(ShapesName::RiscVCall);
+    assert_eq!(items[2], Item::site(76, 8, 64, call));
+    assert_eq!(items[4..], [other; 4]);
+    for (deleted, expected) in [
+        ([four(4), four(0)], at(1, Status::InvalidDeletions)),
+        ([four(0), four(24)], at(1, Status::InvalidDeletions)),
+        ([four(0), four(16)], at(3, Status::ItemsOverlap)),
+    ] {
+        let made =
+            rewritten_items(243, &section, 64, &relocations, &deleted, &mut items, &mut makers);
+        assert_eq!(made, Err(expected));
+    }
+    let made =
+        rewritten_items(243, &section, 64, &relocations, &deleted, &mut items[..7], &mut makers);
+    assert_eq!(made, Err(failure(Status::DifferentLengths)));
+}
+
+#[test]
 fn relaxes_runs() {
     let call = standard_shapes(ShapesName::RiscVCall);
     // `jal` reaches even distances from -1048576 to 1048574. The address behind the nops is a multiple

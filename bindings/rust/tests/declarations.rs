@@ -132,6 +132,8 @@ fn type_of_c(text: &str) -> String {
         "struct linker_utils_provided_symbol" => "ProvidedSymbol",
         "struct linker_utils_provided_run" => "ProvidedRun",
         "struct linker_utils_stub" => "Stub",
+        "struct linker_utils_lazy_plt" => "LazyPlt",
+        "struct linker_utils_lazy_entry" => "LazyEntry",
         "struct linker_utils_route" => "Route",
         "struct linker_utils_branch" => "Branch",
         "struct linker_utils_stub_shape" => "StubShape",
@@ -843,6 +845,8 @@ fn the_structs_are_those_of_the_library() {
         "linker_utils_provided_symbol": raw::ProvidedSymbol { offset, place, }
         "linker_utils_provided_run": raw::ProvidedRun { len, first, count, }
         "linker_utils_stub": Stub { len, entry, }
+        "linker_utils_lazy_plt": LazyPlt { header_len, entry_len, alignment, header_words, }
+        "linker_utils_lazy_entry": LazyEntry { address, word, header, index, }
         "linker_utils_route": raw::Route { target, entry, kind, is_by_stub, }
         "linker_utils_branch": Branch { offset, target, max_backward, max_forward, }
         "linker_utils_stub_shape": StubShape { len, unit, max_backward, max_forward, }
@@ -902,6 +906,8 @@ fn the_structs_are_those_of_the_library() {
         ("linker_utils_provided_symbol", "SymbolNumbers"),
         ("linker_utils_provided_run", "RunNumbers"),
         ("linker_utils_stub", "StubNumbers"),
+        ("linker_utils_lazy_plt", "LazyPltNumbers"),
+        ("linker_utils_lazy_entry", "LazyEntry"),
         ("linker_utils_route", "RouteNumbers"),
         ("linker_utils_branch", "Branch"),
         ("linker_utils_stub_shape", "StubShape"),

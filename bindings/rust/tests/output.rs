@@ -72,6 +72,15 @@ fn code_and_pages_are_the_machines() {
 }
 
 #[test]
+fn compilers_keep_addresses_beside_the_got() {
+    assert_eq!(address_section(PPC64).as_deref(), Ok(".toc"));
+    assert_eq!(address_section(X86_64), Err(Status::NotProvided));
+    // R_PPC64_TOC16_LO_DS and R_PPC64_GOT16_LO_DS
+    assert_eq!(entry_relocation(PPC64, 64), Ok(59));
+    assert_eq!(entry_relocation(PPC64, 59), Err(Status::NotProvided));
+}
+
+#[test]
 fn linkers_provide_symbols_and_functions() {
     let symbols = provided_symbols(PPC64);
     let toc = ProvidedSymbol {
@@ -110,6 +119,32 @@ fn stubs_go_to_their_targets() {
     assert_eq!((far, code), (Err(Status::OutOfReach), [7; 8]));
     let short = write_stub(X86_64, StubKind::Load, 0, 8, &mut code[..7]);
     assert_eq!((short, code), (Err(Status::TooShort), [7; 8]));
+}
+
+/// The third entry that ld.lld 19.1 makes with `-shared -z lazy`, and the header.
+#[test]
+fn lazy_entries_are_those_of_linkers() {
+    let lens = LazyPlt { header_len: 16, entry_len: 16, alignment: 16, header_words: 3 };
+    assert_eq!(lazy_plt(X86_64), lens);
+    let entry = LazyEntry { address: 0x1360, word: 0x3448, header: 0x1330, index: 2 };
+    let mut code = [7; 17];
+    assert_eq!(write_lazy_entry(X86_64, &entry, &mut code), Ok(()));
+    assert_eq!(code[..6], [0xff, 0x25, 0xe2, 0x20, 0, 0]);
+    assert_eq!(code[6..], [0x68, 2, 0, 0, 0, 0xe9, 0xc0, 0xff, 0xff, 0xff, 7]);
+    assert_eq!(write_lazy_header(X86_64, 0x1330, 0x3420, &mut code), Ok(()));
+    assert_eq!(code[..6], [0xff, 0x35, 0xf2, 0x20, 0, 0]);
+    assert_eq!(code[6..], [0xff, 0x25, 0xf4, 0x20, 0, 0, 0x0f, 0x1f, 0x40, 0, 7]);
+    assert_eq!(lazy_header_word(X86_64, 0, 0x2370, 0x1330), Ok(0x2370));
+    assert_eq!(lazy_header_word(X86_64, 3, 0x2370, 0x1330), Err(Status::NotProvided));
+    assert_eq!(lazy_entry_word(X86_64, 0x1360, 0x1330, 0x2370), 0x1366);
+    assert_eq!(lazy_entry_word(RISCV, 0x1360, 0x1330, 0x2370), 0x1330);
+    // `b` of PowerPC64 reaches 32 MiB
+    let entry = LazyEntry { address: 0x200_0004, word: 0, header: 0, index: 0 };
+    let mut code = [7; 4];
+    let far = write_lazy_entry(PPC64, &entry, &mut code);
+    assert_eq!((far, code), (Err(Status::OutOfReach), [7; 4]));
+    let short = write_lazy_header(PPC64, 0, 8, &mut code);
+    assert_eq!((short, code), (Err(Status::TooShort), [7; 4]));
 }
 
 /// The bytes of an `Elf64_Rela`, of symbol 1.

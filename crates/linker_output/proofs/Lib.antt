@@ -1,3 +1,4 @@
+pub mod AArch64LazyLaws
 pub mod AArch64StubLaws
 pub mod Adding
 pub mod Apart
@@ -5,15 +6,21 @@ pub mod Bounds
 pub mod Going
 pub mod Groups
 pub mod JoinedFlags
+pub mod LazyCode
+pub mod LazyRuns
+pub mod LoongArchLazyLaws
 pub mod LoongArchStubLaws
 pub mod Near
 pub mod Passed
+pub mod Ppc64LazyLaws
 pub mod Ppc64StubLaws
 pub mod Products
+pub mod RiscVLazyLaws
 pub mod RiscVStubLaws
 pub mod RouteCases
 pub mod StubFields
 pub mod StubWords
 pub mod Stuck
 pub mod Writable
+pub mod X86LazyLaws
 pub mod X86StubLaws

@@ -45,7 +45,7 @@ decodes_jirl x op =
     ∙ cond-true _ _ _ (ap (λ t. eqb t 0x13) op)
 
 -- `jirl` adds 0
-stays : (v : ℕ) → v < 2 ^ 64 → wrapped (pos v +ℤ (pos 0 *ℤ pos 4)) ≡ v
+pub stays : (v : ℕ) → v < 2 ^ 64 → wrapped (pos v +ℤ (pos 0 *ℤ pos 4)) ≡ v
 stays v small = omega (arith, ints)
 
 kept_twice : (c b : Bool) (w v r : ℕ) → b ≡ false → cond c 0 (cond b w (cond b v r)) ≡ cond c 0 r

@@ -30,7 +30,7 @@ use Rattle.linker_output.specs.RiscVStubs as stubs
 use Rattle.linker_output.proofs.StubWords.{front_word, first_is, second_is, third_is, applies, no_addend, at_place, are_addresses}
 
 -- a load of 64 bits
-whole_number : (v : ℕ) → v < 2 ^ 64 → extended 64 v ≡ v
+pub whole_number : (v : ℕ) → v < 2 ^ 64 → extended 64 v ≡ v
 whole_number v small =
     let same : signed 64 v ≡ cast_signed w64 v = elim (signed_cases 64 v) [
       | inl a ↦ a.1 ∙ sym (to_z_pos w64 v a.0)

@@ -29,6 +29,7 @@ aarch64_output =
       thread_pointer = BelowImage 16 0;
       module_bias = 0;
       got = record { header = None; bias = 0 };
+      addresses = None;
       -- 64 KiB
       page = 0x10000;
       code_unit = units_of 4;

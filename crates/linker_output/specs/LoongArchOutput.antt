@@ -43,6 +43,7 @@ loongarch_output =
       thread_pointer = BelowImage 0 0;
       module_bias = 0;
       got = record { header = None; bias = 0 };
+      addresses = None;
       page = 0x10000;
       code_unit = units_of 4;
       -- `break 0`

@@ -5,6 +5,7 @@ use Rattle.linker_elf.specs.Ppc64Relocations.{ppc64_name}
 use Rattle.linker_elf.specs.declared.ppc64.relocations.Ppc64Relocation.TheVariants as r
 use Rattle.linker_output.specs.Layout.{Run}
 use Rattle.linker_output.specs.Tables.{field_of, code_of_words, kind, units_of, symbol, only, four}
+use Rattle.linker_output.specs.Tables.{load_of}
 use Rattle.linker_output.specs.View.{Description}
 use Rattle.linker_output.specs.declared.got.ThreadPointer.TheVariants.{BelowImage}
 use Rattle.linker_output.specs.declared.got.GotHeader.TheVariants.{Base}
@@ -70,6 +71,16 @@ ppc64_output =
       module_bias = 0x8000;
       -- the TOC pointer is 0x8000 above the GOT, whose first word has it
       got = record { header = Some Base; bias = 0x8000 };
+      -- compilers keep addresses in `.toc` (64-bit ELF V2 ABI for Power, "TOC")
+      addresses =
+          Some
+          (record {
+            name = codes ".toc";
+            loads =
+                load_of (ppc64_name r.R_PPC64_TOC16_HA) (ppc64_name r.R_PPC64_GOT16_HA)
+                ∷ load_of (ppc64_name r.R_PPC64_TOC16_LO) (ppc64_name r.R_PPC64_GOT16_LO)
+                ∷ load_of (ppc64_name r.R_PPC64_TOC16_LO_DS) (ppc64_name r.R_PPC64_GOT16_LO_DS) ∷ [];
+          });
       page = 0x10000;
       code_unit = units_of 4;
       -- `trap`

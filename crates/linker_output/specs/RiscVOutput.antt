@@ -48,6 +48,7 @@ riscv_output =
       thread_pointer = BelowImage 0 0;
       module_bias = 0x800;
       got = record { header = Some Dynamic; bias = 0 };
+      addresses = None;
       page = 0x1000;
       -- 2 bytes with the C extension
       code_unit = record { len = 4; flag = has_c; flagged_len = 2 };

@@ -7,6 +7,7 @@ use Rattle.linker_elf.specs.declared.elf.Sign.TheVariants.{Signed}
 use Rattle.linker_output.specs.Dynamic.{DynamicKind}
 use Rattle.linker_output.specs.Layout.{Path}
 use Rattle.linker_output.specs.View.{Symbol}
+use Rattle.linker_output.specs.declared.addresses.WordLoad.{WordLoad}
 use Rattle.linker_output.specs.declared.flags.FlagRules.{FlagRules}
 use Rattle.linker_output.specs.declared.layout.CodeUnit.{CodeUnit}
 use Rattle.linker_output.specs.declared.layout.SymbolPlace.{SymbolPlace}
@@ -32,6 +33,10 @@ path flags text = record { flags = flags; path = text }
 -- one path, whatever `e_flags` is
 abbrev pub only : List ℕ → List Path
 only text = path 0 text ∷ []
+
+-- an instruction's relocations: for a word of a section, and for an entry of the GOT
+abbrev pub load_of : ElfName → ElfName → WordLoad
+load_of word entry = record { word = code_of word; entry = code_of entry }
 
 -- little-endian bytes of an instruction of 4
 abbrev pub four : ℕ → ℕ → ℕ → ℕ → List ℕ

@@ -1,8 +1,10 @@
 -- What the code's descriptions say, with texts and tables as lists.
 use Rattle.std.specs.Prelude.{ℕ, List, [], ◌∷◌, Option, Some, None}
+use Rattle.linker_output.specs.Addresses.{AddressWords}
 use Rattle.linker_output.specs.Dynamic.{DynamicKind, DynamicKinds}
 use Rattle.linker_output.specs.Layout.{Path, Run}
 use Rattle.linker_output.specs.Stubs.{StubCode}
+use Rattle.linker_output.specs.declared.addresses.AddressSection.{AddressSection}
 use Rattle.linker_output.specs.declared.dynamic.DynamicType.{DynamicType}
 use Rattle.linker_output.specs.declared.dynamic.DynamicTypes.{DynamicTypes}
 use Rattle.linker_output.specs.declared.flags.FlagRules.{FlagRules}
@@ -31,6 +33,8 @@ pub record Description : Type 0 where
   pub thread_pointer : ThreadPointer
   pub module_bias : ℕ
   pub got : GotLayout
+  -- the section of objects in which compilers keep addresses
+  pub addresses : Option AddressWords
   pub page : ℕ
   pub code_unit : CodeUnit
   pub filler : List ℕ
@@ -71,6 +75,10 @@ view_types t =
       thread_offset = view_type t.thread_offset;
       descriptor = view_optional t.descriptor;
     }
+
+abbrev pub view_addresses : Option AddressSection → Option AddressWords
+view_addresses None = None
+view_addresses (Some s) = Some (record { name = s.name.now; loads = s.loads.now })
 
 abbrev pub view_symbols : List ProvidedSymbol → List Symbol
 view_symbols [] = []
@@ -125,6 +133,7 @@ view t =
       thread_pointer = t.thread_pointer;
       module_bias = t.module_bias;
       got = t.got;
+      addresses = view_addresses t.address_section;
       page = t.page;
       code_unit = t.code_unit;
       filler = t.filler;

@@ -28,6 +28,7 @@ x86_64_output =
       thread_pointer = AboveImage;
       module_bias = 0;
       got = record { header = None; bias = 0 };
+      addresses = None;
       page = 0x1000;
       code_unit = units_of 1;
       -- `int3`

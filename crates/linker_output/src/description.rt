@@ -4,6 +4,7 @@ ghost use Rattle.std.specs.Prelude.{◌≡◌};
 ghost use Rattle.linker_output.specs.Targets.{target_of};
 ghost use Rattle.linker_output.specs.View.{view};
 
+use crate::addresses::AddressSection;
 use crate::dynamic::DynamicTypes;
 use crate::flags::FlagRules;
 use crate::got::{GotLayout, ThreadPointer};
@@ -25,6 +26,8 @@ pub struct Target {
     pub module_bias: u64,
     /// The GOT's first word, and what offsets from the GOT count from.
     pub got: GotLayout,
+    /// The section of objects in which compilers keep addresses, if there is one.
+    pub address_section: Option<AddressSection>,
     /// The largest page, in bytes, for which an output has to be right.
     pub page: u64,
     /// How long the shortest instruction is.

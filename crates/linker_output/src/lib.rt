@@ -3,12 +3,16 @@
 #![tactic(auto)]
 
 mod aarch64;
+pub mod addresses;
 pub mod description;
 pub mod dynamic;
 pub mod flags;
 pub mod got;
 pub mod laws;
 pub mod layout;
+pub mod lazy_laws;
+pub mod lazy_plt;
+mod lazy_plts;
 mod loongarch64;
 pub mod placement;
 mod ppc64;

@@ -1,5 +1,6 @@
 //! What a linker adds to an output of PowerPC64.
 
+use crate::addresses::{AddressSection, WordLoad};
 use crate::description::Target;
 use crate::dynamic::{DynamicType, DynamicTypes, named};
 use crate::flags::FlagRules;
@@ -31,6 +32,26 @@ pub(crate) static TARGET: Target = Target {
         header: Some(GotHeader::Base),
         bias: 0x8000,
     },
+    address_section: Some(AddressSection {
+        name: ".toc",
+        loads: &[
+            // R_PPC64_TOC16_HA and R_PPC64_GOT16_HA
+            WordLoad {
+                word: 50,
+                entry: 17,
+            },
+            // R_PPC64_TOC16_LO and R_PPC64_GOT16_LO
+            WordLoad {
+                word: 48,
+                entry: 15,
+            },
+            // R_PPC64_TOC16_LO_DS and R_PPC64_GOT16_LO_DS
+            WordLoad {
+                word: 64,
+                entry: 59,
+            },
+        ],
+    }),
     page: 0x10000,
     code_unit: CodeUnit {
         len: 4,

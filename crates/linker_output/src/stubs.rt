@@ -99,7 +99,7 @@ fn operands_of(stub: &Stub, place: u64, target: u64) -> Operands
 }
 
 /// Writes the value of a field.
-fn write_field(
+pub(crate) fn write_field(
     architecture: Architecture,
     field: StubField,
     operands: &Operands,

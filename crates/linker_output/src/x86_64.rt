@@ -28,6 +28,7 @@ pub(crate) static TARGET: Target = Target {
         header: None,
         bias: 0,
     },
+    address_section: None,
     page: 0x1000,
     code_unit: CodeUnit {
         len: 1,

@@ -1,17 +1,13 @@
 -- The masks of fields have the bits that a write of a row may change.
-use Rattle.std.proofs.Common.{◌≡◌, ℕ, ◌-◌, ◌*◌, ◌^◌, ◌<◌, ◌≤◌, Bool, true, false, not, ◌&&◌, List, refl, sym, ap, ◌∙◌, arith, min, ⊎_elim}
-use Rattle.std.specs.Prelude.{◌==◌, nat_lt, if◌then◌else◌, bit_and}
+use Rattle.std.proofs.Common.{◌≡◌, ℕ, ◌-◌, ◌*◌, ◌^◌, ◌<◌, ◌≤◌, Bool, true, ◌&&◌, List, refl, sym, ap, ◌∙◌, arith, min, ⊎_elim}
+use Rattle.std.specs.Prelude.{◌==◌, nat_lt, bit_and}
 use Rattle.std.specs.Int.{bit_at}
 use Rattle.std.proofs.lemmas.Bool.{agree_below, agree_below_at, cases_lt, lt-ltb}
-use Rattle.linker_base.specs.Form.{is_placed, window_of}
+use Rattle.linker_base.specs.Form.{window_of}
 use Rattle.linker_base.specs.declared.bit_misc.BitRange.{BitRange}
-use Rattle.linker_elf.specs.AArch64.{access_scale, low12_places}
 use Rattle.linker_elf.specs.Elf.{relocation_form}
 use Rattle.linker_elf.specs.Forms.{instruction_mask}
-use Rattle.linker_elf.specs.Inner.FormLaws.{scale_small}
-use Rattle.linker_elf.specs.LoongArch.{loongarch_form, shift10_low}
-use Rattle.linker_elf.specs.Relocate.{is_dq_form, insn_at, bits_at}
-use Rattle.linker_elf.specs.declared.aarch64.forms.AArch64Instruction.TheVariants as aarch64
+use Rattle.linker_elf.specs.Relocate.{insn_at, bits_at}
 use Rattle.linker_elf.specs.declared.elf.RelocationInstruction.{RelocationInstruction}
 use Rattle.linker_elf.specs.declared.elf.RelocationInstruction.TheVariants.{AArch64, LoongArch64, Ppc64, RiscV}
 use Rattle.linker_elf.specs.declared.elf.RelocationKind.{RelocationKind}
@@ -19,70 +15,21 @@ use Rattle.linker_elf.specs.declared.elf.RelocationKind.TheVariants.{AbsoluteSet
 use Rattle.linker_elf.specs.declared.elf.RelocationKindInfo.{RelocationKindInfo}
 use Rattle.linker_elf.specs.declared.elf.RelocationSize.{RelocationSize}
 use Rattle.linker_elf.specs.declared.elf.RelocationSize.TheVariants.{ByteSize, BitMasking}
-use Rattle.linker_elf.specs.declared.loongarch64.forms.LoongArch64Instruction.TheVariants as loongarch
-use Rattle.linker_elf.specs.declared.ppc64.forms.Ppc64Instruction.TheVariants as ppc64
-use Rattle.linker_elf.specs.declared.riscv64.forms.RiscVInstruction.TheVariants as riscv
 use Rattle.linker_reading.specs.FieldsOfBytes.{is_instruction_bit, is_size_bit, is_field_bit, is_value_bit}
 use Rattle.linker_reading.specs.Inner.Masks.{bytes_mask, number_mask, size_mask, field_mask}
+use Rattle.linker_reading.proofs.AArch64FieldBits.{aarch64_agrees}
+use Rattle.linker_reading.proofs.RiscVFieldBits.{riscv_agrees}
+use Rattle.linker_reading.proofs.Ppc64FieldBits.{ppc64_agrees}
+use Rattle.linker_reading.proofs.LoongArchFieldBits.{loongarch_agrees}
 
 -- ---- instructions
 
--- a mask has the bits of a test, by computation
-agrees : (mask : ℕ) (P : ℕ → Bool) → agree_below (λ w. bit_at mask w == 1) P 64 ≡ true → (w : ℕ) → w < 64 → (bit_at mask w == 1) ≡ P w
-agrees mask P e w h = agree_below_at (λ k. bit_at mask k == 1) P 64 w e h
-
--- the 12 bits are at the same place for each scale
-low12_agrees : (s : ℕ) → s < 5 → (w : ℕ) → w < 64 → (bit_at 0x003ffc00 w == 1) ≡ is_placed (low12_places s) w
-low12_agrees s small w h =
-    agrees 0x003ffc00 (is_placed (low12_places s))
-    (agree_below_at (λ k. agree_below (λ v. bit_at 0x003ffc00 v == 1) (is_placed (low12_places k)) 64) (λ _. true) 5 s refl small) w h
-
-shift10_agrees : (b : Bool) (x w : ℕ) → w < 64
-    → (bit_at (if b then 0x3fffc00 else 0x3ffc00) w == 1)
-    ≡ (if b then is_placed ((loongarch_form loongarch.Shift10).places x) w else is_placed shift10_low w)
-shift10_agrees true x w h = agrees 0x3fffc00 (is_placed ((loongarch_form loongarch.Shift10).places 0)) refl w h
-shift10_agrees false x w h = agrees 0x3ffc00 (is_placed shift10_low) refl w h
-
-ds_agrees : (b : Bool) (x w : ℕ) → w < 64
-    → (bit_at (if b then 0xfff0 else 0xfffc) w == 1)
-    ≡ (is_placed ((relocation_form (Ppc64 ppc64.Ds)).places x) w && not (b && nat_lt w 4))
-ds_agrees true x w h = agrees 0xfff0 (λ k. is_placed ((relocation_form (Ppc64 ppc64.Ds)).places 0) k && not (true && nat_lt k 4)) refl w h
-ds_agrees false x w h = agrees 0xfffc (λ k. is_placed ((relocation_form (Ppc64 ppc64.Ds)).places 0) k && not (false && nat_lt k 4)) refl w h
-
 instruction_agrees : (insn : RelocationInstruction) (bits : BitRange) (x w : ℕ) → w < 64
     → (bit_at (instruction_mask insn bits x) w == 1) ≡ is_instruction_bit insn bits x w
-instruction_agrees (AArch64 aarch64.Adr) bits x w h = agrees 0x60ffffe0 (is_instruction_bit (AArch64 aarch64.Adr) bits 0) refl w h
-instruction_agrees (AArch64 aarch64.Movkz) bits x w h = agrees 0x001fffe0 (is_instruction_bit (AArch64 aarch64.Movkz) bits 0) refl w h
-instruction_agrees (AArch64 aarch64.Movnz) bits x w h = agrees 0x7f9fffe0 (is_instruction_bit (AArch64 aarch64.Movnz) bits 0) refl w h
-instruction_agrees (AArch64 aarch64.Ldr) bits x w h = agrees 0x00ffffe0 (is_instruction_bit (AArch64 aarch64.Ldr) bits 0) refl w h
-instruction_agrees (AArch64 aarch64.LdrRegister) bits x w h = agrees 0x003ffc00 (is_instruction_bit (AArch64 aarch64.LdrRegister) bits 0) refl w h
-instruction_agrees (AArch64 aarch64.Add) bits x w h = agrees 0x003ffc00 (is_instruction_bit (AArch64 aarch64.Add) bits 0) refl w h
-instruction_agrees (AArch64 aarch64.LdSt) bits x w h = agrees 0x003ffc00 (is_instruction_bit (AArch64 aarch64.LdSt) bits 0) refl w h
-instruction_agrees (AArch64 aarch64.TstBr) bits x w h = agrees 0x0007ffe0 (is_instruction_bit (AArch64 aarch64.TstBr) bits 0) refl w h
-instruction_agrees (AArch64 aarch64.Bcond) bits x w h = agrees 0x00ffffe0 (is_instruction_bit (AArch64 aarch64.Bcond) bits 0) refl w h
-instruction_agrees (AArch64 aarch64.JumpCall) bits x w h = agrees 0x03ffffff (is_instruction_bit (AArch64 aarch64.JumpCall) bits 0) refl w h
-instruction_agrees (AArch64 aarch64.MachOLow12) bits x w h = low12_agrees (access_scale x) (scale_small x) w h
-instruction_agrees (RiscV riscv.UType) bits x w h = agrees 0xfffff000 (is_instruction_bit (RiscV riscv.UType) bits 0) refl w h
-instruction_agrees (RiscV riscv.IType) bits x w h = agrees 0xfff00000 (is_instruction_bit (RiscV riscv.IType) bits 0) refl w h
-instruction_agrees (RiscV riscv.SType) bits x w h = agrees 0xfe000f80 (is_instruction_bit (RiscV riscv.SType) bits 0) refl w h
-instruction_agrees (RiscV riscv.BType) bits x w h = agrees 0xfe000f80 (is_instruction_bit (RiscV riscv.BType) bits 0) refl w h
-instruction_agrees (RiscV riscv.JType) bits x w h = agrees 0xfffff000 (is_instruction_bit (RiscV riscv.JType) bits 0) refl w h
-instruction_agrees (RiscV riscv.CbType) bits x w h = agrees 0x1c7c (is_instruction_bit (RiscV riscv.CbType) bits 0) refl w h
-instruction_agrees (RiscV riscv.CjType) bits x w h = agrees 0x1ffc (is_instruction_bit (RiscV riscv.CjType) bits 0) refl w h
-instruction_agrees (RiscV riscv.CluiType) bits x w h = agrees 0x107c (is_instruction_bit (RiscV riscv.CluiType) bits 0) refl w h
-instruction_agrees (RiscV riscv.UiType) bits x w h = agrees 0xfff00000fffff000 (is_instruction_bit (RiscV riscv.UiType) bits 0) refl w h
-instruction_agrees (Ppc64 ppc64.D) bits x w h = agrees 0xffff (is_instruction_bit (Ppc64 ppc64.D) bits 0) refl w h
-instruction_agrees (Ppc64 ppc64.Ds) bits x w h = ds_agrees (is_dq_form x) x w h
-instruction_agrees (Ppc64 ppc64.Branch14) bits x w h = agrees 0xfffc (is_instruction_bit (Ppc64 ppc64.Branch14) bits 0) refl w h
-instruction_agrees (Ppc64 ppc64.Branch24) bits x w h = agrees 0x3fffffc (is_instruction_bit (Ppc64 ppc64.Branch24) bits 0) refl w h
-instruction_agrees (Ppc64 ppc64.Prefixed) bits x w h = agrees 0xffff0003ffff (is_instruction_bit (Ppc64 ppc64.Prefixed) bits 0) refl w h
-instruction_agrees (Ppc64 ppc64.DUnsigned) bits x w h = agrees 0xffff (is_instruction_bit (Ppc64 ppc64.DUnsigned) bits 0) refl w h
-instruction_agrees (LoongArch64 loongarch.Shift5) bits x w h = agrees 0x1ffffe0 (is_instruction_bit (LoongArch64 loongarch.Shift5) bits 0) refl w h
-instruction_agrees (LoongArch64 loongarch.Shift10) bits x w h = shift10_agrees (nat_lt 12 (bits.end - bits.start)) x w h
-instruction_agrees (LoongArch64 loongarch.Branch26) bits x w h = agrees 0x3ffffff (is_instruction_bit (LoongArch64 loongarch.Branch26) bits 0) refl w h
-instruction_agrees (LoongArch64 loongarch.Branch21) bits x w h = agrees 0x3fffc1f (is_instruction_bit (LoongArch64 loongarch.Branch21) bits 0) refl w h
-instruction_agrees (LoongArch64 loongarch.Call30) bits x w h = agrees 0x7fc0001ffffe0 (is_instruction_bit (LoongArch64 loongarch.Call30) bits 0) refl w h
-instruction_agrees (LoongArch64 loongarch.Call36) bits x w h = agrees 0x3fffc0001ffffe0 (is_instruction_bit (LoongArch64 loongarch.Call36) bits 0) refl w h
+instruction_agrees (AArch64 f) bits x w h = aarch64_agrees f bits x w h
+instruction_agrees (RiscV f) bits x w h = riscv_agrees f bits x w h
+instruction_agrees (Ppc64 f) bits x w h = ppc64_agrees f bits x w h
+instruction_agrees (LoongArch64 f) bits x w h = loongarch_agrees f bits x w h
 
 -- ---- whole bytes
 

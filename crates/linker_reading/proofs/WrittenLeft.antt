@@ -11,7 +11,7 @@ use Rattle.linker_reading.specs.FieldsOfBytes.{is_in_field, is_in_one, kept_inde
 use Rattle.linker_reading.specs.Recognised.{Recogniser, AreLeft, deleted_start, deleted_count}
 use Rattle.linker_reading.specs.WrittenRows.{WrittenIsLeft, without_deleted}
 use Rattle.linker_reading.specs.declared.recognise.fields.FieldBits.{FieldBits}
-use Rattle.linker_reading.proofs.WrittenChoices.{written_is_left, no_gap}
+use Rattle.linker_reading.proofs.X86WrittenChoices.{written_is_left, no_gap}
 use Rattle.linker_reading.proofs.WrittenRows.{row_changes_field}
 use Rattle.linker_base.specs.declared.rewrite.DeletedBytes.{DeletedBytes}
 

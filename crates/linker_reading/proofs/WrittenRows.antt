@@ -16,8 +16,6 @@ use Rattle.linker_elf.specs.Ppc64.{ppc64_form}
 use Rattle.linker_elf.specs.RiscV.{riscv_form}
 use Rattle.linker_elf.specs.Relocate.{insn_at, bits_at, value_at, is_low_jump}
 use Rattle.linker_elf.specs.Relocate.{IsWritten, InstructionWritten, WritesRow, size_len, bits_taken, takes_size, SizeNumber, number_of_bytes, number_written, low_bytes}
-use Rattle.linker_elf.specs.declared.aarch64.forms.AArch64Instruction.{AArch64Instruction}
-use Rattle.linker_elf.specs.declared.aarch64.forms.AArch64Instruction.TheVariants.{Movnz}
 use Rattle.linker_elf.specs.declared.elf.RelocationInstruction.{RelocationInstruction}
 use Rattle.linker_elf.specs.declared.elf.RelocationInstruction.TheVariants.{AArch64, RiscV, Ppc64, LoongArch64}
 use Rattle.linker_elf.specs.declared.elf.RelocationKind.{RelocationKind}
@@ -25,38 +23,20 @@ use Rattle.linker_elf.specs.declared.elf.RelocationKind.TheVariants.{AbsoluteSet
 use Rattle.linker_elf.specs.declared.elf.RelocationKindInfo.{RelocationKindInfo}
 use Rattle.linker_elf.specs.declared.elf.RelocationSize.{RelocationSize}
 use Rattle.linker_elf.specs.declared.elf.RelocationSize.TheVariants.{ByteSize, BitMasking}
-use Rattle.linker_elf.specs.declared.loongarch64.forms.LoongArch64Instruction.{LoongArch64Instruction}
-use Rattle.linker_elf.specs.declared.loongarch64.forms.LoongArch64Instruction.TheVariants.{Shift5}
-use Rattle.linker_elf.specs.declared.ppc64.forms.Ppc64Instruction.{Ppc64Instruction}
-use Rattle.linker_elf.specs.declared.ppc64.forms.Ppc64Instruction.TheVariants.{D}
-use Rattle.linker_elf.specs.declared.riscv64.forms.RiscVInstruction.{RiscVInstruction}
-use Rattle.linker_elf.specs.declared.riscv64.forms.RiscVInstruction.TheVariants.{UType}
 use Rattle.linker_reading.specs.FieldsOfBytes.{is_size_bit, is_instruction_bit, is_value_bit, IsSameBut, AreSameButFor}
 use Rattle.linker_reading.specs.WrittenRows.{AreBytes, ChangesField}
 use Rattle.linker_reading.proofs.WindowBits.{window_bit}
-use Rattle.linker_reading.proofs.WrittenChoices.{IsWhole, whole_writes_field}
-use Rattle.linker_reading.proofs.WrittenBits.{aarch64_outside, riscv_outside, ppc64_outside, loongarch_outside, taken_small}
+use Rattle.linker_reading.proofs.X86WrittenChoices.{IsWhole, whole_writes_field}
+use Rattle.linker_reading.proofs.AArch64Written.{aarch64_outside, aarch64_word}
+use Rattle.linker_reading.proofs.LoongArchWritten.{loongarch_outside, loongarch_short}
+use Rattle.linker_reading.proofs.Ppc64Written.{ppc64_outside, ppc64_short}
+use Rattle.linker_reading.proofs.RiscVWritten.{riscv_outside, riscv_short}
+use Rattle.linker_reading.proofs.WrittenBits.{taken_small}
 
 -- ---- instructions
 
 small_in : (n k m : ℕ) → n < 2 ^ k → k ≤ m → n < 2 ^ m
 small_in n k m h l = let p : 2 ^ k ≤ 2 ^ m = pow-le-pow_right (let two : 0 < 2 = omega arith in two) l in omega arith
-
-aarch64_word : (f : AArch64Instruction) → byte_len (aarch64_form f).window ≡ 4
-aarch64_word Movnz = refl
-aarch64_word f = refl
-
-riscv_short : (f : RiscVInstruction) → byte_len (riscv_form f).window ≤ 8
-riscv_short UType = omega arith
-riscv_short f = omega arith
-
-ppc64_short : (f : Ppc64Instruction) → byte_len (ppc64_form f).window ≤ 8
-ppc64_short D = omega arith
-ppc64_short f = omega arith
-
-loongarch_short : (f : LoongArch64Instruction) → byte_len (loongarch_form f).window ≤ 8
-loongarch_short Shift5 = omega arith
-loongarch_short f = omega arith
 
 short_window : (insn : RelocationInstruction) → byte_len (relocation_form insn).window ≤ 8
 short_window (AArch64 f) = omega (arith, aarch64_word f)

@@ -5,7 +5,11 @@ use Rattle.linker_elf.specs.ElfNames.{IsNameOf, code_of}
 use Rattle.linker_elf.specs.declared.elf.choice.LinkFacts.{LinkFacts}
 use Rattle.linker_reading.specs.Recognised.{Recogniser, IsChosen, IsMade, IsFound}
 use Rattle.linker_reading.specs.Recognised.{AreThose, ArePlaced, choices_at}
-use Rattle.linker_reading.specs.Recognisers.{aarch64, riscv, loongarch, ppc64, x86_64}
+use Rattle.linker_reading.specs.AArch64Recogniser.{aarch64}
+use Rattle.linker_reading.specs.RiscVRecogniser.{riscv}
+use Rattle.linker_reading.specs.LoongArchRecogniser.{loongarch}
+use Rattle.linker_reading.specs.Ppc64Recogniser.{ppc64}
+use Rattle.linker_reading.specs.X86Recogniser.{x86_64}
 use Rattle.linker_reading.specs.declared.recognise.engine.Recognised.{Recognised}
 use Rattle.linker_reading.specs.declared.recognise.fields.FieldBits.{FieldBits}
 use Rattle.linker_utils.specs.Architectures.{of_some}

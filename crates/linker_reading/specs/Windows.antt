@@ -14,7 +14,11 @@ use Rattle.linker_elf.specs.declared.elf.choice.Choice.{Choice}
 use Rattle.linker_reading.specs.Fields.{IsProper, whole_number}
 use Rattle.linker_reading.specs.Recognised.{Recogniser, IsOneOf, choices_at}
 use Rattle.linker_reading.specs.Recognised.{deleted_start, deleted_count}
-use Rattle.linker_reading.specs.Recognisers.{aarch64, riscv, loongarch, ppc64, x86_64}
+use Rattle.linker_reading.specs.AArch64Recogniser.{aarch64}
+use Rattle.linker_reading.specs.RiscVRecogniser.{riscv}
+use Rattle.linker_reading.specs.LoongArchRecogniser.{loongarch}
+use Rattle.linker_reading.specs.Ppc64Recogniser.{ppc64}
+use Rattle.linker_reading.specs.X86Recogniser.{x86_64}
 use Rattle.linker_utils.specs.Architectures.{relaxation_rewrite, relaxation_deleted}
 use Rattle.linker_reading.specs.Solving.{IsSolved, terms_of}
 use Rattle.linker_reading.specs.declared.fields.FieldValue.{FieldValue}

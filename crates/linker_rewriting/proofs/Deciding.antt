@@ -1,12 +1,19 @@
 -- Decisions, relocation by relocation.
+use Rattle.std.specs.Prelude.{max, Option}
+use Rattle.std.proofs.lemmas.Bool.{leb-true}
 use Rattle.std.proofs.Common.{◌≡◌, ℕ, zero, suc, ◌+◌, ◌-◌, ◌≤◌, ◌<◌, ◌⊎◌, inl, inr, ◌∙◌, List, length, ap, sym, subst, arith, refl, Bool, true, false, None, Some, slice_set}
 use Rattle.std.proofs.lemmas.List.{get_or-set_same, get_or-set_other}
-use Rattle.linker_rewriting.specs.Decisions.{CanBeMade, AllCanBeMade, AreApart, decision_at, is_taken, takes_next, start_by, end_by, start_at, end_at, IsDecidedAfter, IsDecidedAlone, IsDecisionAfter, IsNotSurveyed, IsOverlapping, AreDecidedIn, IsEndBehind}
+use Rattle.linker_base.specs.Rewrite.{Rewrite, CanRewrite}
+use Rattle.linker_base.specs.RewriteWindow.{window_of_rewrite}
+use Rattle.linker_base.specs.declared.rewrite.DeletedBytes.{DeletedBytes}
+use Rattle.linker_utils.specs.Architectures.{relaxation_rewrite, relaxation_deleted}
+use Rattle.linker_rewriting.specs.Candidates.{deletes_within}
+use Rattle.linker_rewriting.specs.Decisions.{deleted_end, CanBeMade, AllCanBeMade, AreApart, decision_at, is_taken, takes_next, start_by, end_by, start_at, end_at, IsDecidedAfter, IsDecidedAlone, IsDecisionAfter, IsNotSurveyed, IsOverlapping, AreDecidedIn, IsEndBehind}
 use Rattle.linker_rewriting.specs.Facts.{Setting}
 use Rattle.linker_rewriting.specs.Labels.{IsLabelNote}
 use Rattle.linker_rewriting.specs.Notes.{is_note, AreLabelsNoted}
 use Rattle.linker_rewriting.specs.declared.decisions.Decision.{Decision}
-use Rattle.linker_rewriting.specs.declared.decisions.Decision.TheVariants.{Kept, TakenAlong}
+use Rattle.linker_rewriting.specs.declared.decisions.Decision.TheVariants.{Kept, TakenAlong, Rewritten, Redirected}
 use Rattle.linker_rewriting.specs.declared.groups.KeptGroups.{KeptGroups}
 use Rattle.linker_section.specs.Relocations.{relocation_in}
 use Rattle.linker_section.specs.declared.relocations.Rela.{Rela}
@@ -174,6 +181,42 @@ more_decided s kept bytes section old end grown taken k d before within is can g
           (sym (get_or-set_other old k n d Kept (λ e. absurd (omega (arith, e, from)))))
           (before.notes n (omega (arith, from)) less in_label);
     }
+
+-- ---- where a span ends
+
+span_within : (rewrite : Option Rewrite) (deleted : Option DeletedBytes) (section : List ℕ) (o limit : ℕ)
+    → o ≤ limit → length section ≤ limit → CanRewrite rewrite section o
+    → deletes_within section o deleted ≡ true
+    → max (o - (window_of_rewrite rewrite).back + (window_of_rewrite rewrite).len) (deleted_end o deleted) ≤ limit
+span_within None None section o limit low long can deletes = omega (arith, low)
+span_within (Some r) None section o limit low long can deletes =
+    let e = can.ends in omega (arith, e, long)
+span_within None (Some d) section o limit low long can deletes =
+    let e = leb-true (o + (d.start + d.count)) (length section) deletes in omega (arith, low, e, long)
+span_within (Some r) (Some d) section o limit low long can deletes =
+    let e = leb-true (o + (d.start + d.count)) (length section) deletes in
+    let f = can.ends in omega (arith, e, f, long)
+
+pub ends_within : (d : Decision) (section : List ℕ) (o limit : ℕ) → o ≤ limit
+    → length section ≤ limit → CanBeMade d section o → end_by d o ≤ limit
+ends_within Kept section o limit low long can = omega (arith, low)
+ends_within TakenAlong section o limit low long can = omega (arith, low)
+ends_within (Rewritten chosen) section o limit low long can =
+    span_within (relaxation_rewrite chosen.kind) (relaxation_deleted chosen.kind) section o limit low long (can.0) (can.1)
+ends_within (Redirected chosen subject) section o limit low long can =
+    span_within (relaxation_rewrite chosen.kind) (relaxation_deleted chosen.kind) section o limit low long (can.0) (can.1)
+
+-- one more relocation that no other takes along and that stays
+pub more_kept : (s : Setting) (kept : List KeptGroups) (bytes section : List ℕ)
+    (old : List Decision) (end : ℕ) (taken : Bool) (k : ℕ)
+    → AreDecidedTo s kept bytes section old end taken k → k < length old → taken ≡ false
+    → IsDecidedAlone s kept bytes section k (relocation_in bytes k) Kept
+    → AreDecidedTo s kept bytes section (slice_set old k Kept) end taken (k + 1)
+more_kept s kept bytes section old end taken k before within isnt decided =
+    subst (λ t. AreDecidedTo s kept bytes section (slice_set old k Kept) end t (k + 1)) (sym isnt)
+    (more_decided s kept bytes section old end end taken k Kept before within
+    (subst (λ t. IsDecidedAfter s kept bytes section k t Kept) (sym isnt) decided)
+    tt (inl (omega arith, refl)))
 
 -- ---- one more decision, and errors
 

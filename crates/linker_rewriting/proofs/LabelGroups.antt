@@ -418,9 +418,12 @@ x86_64_none ThreadOffsets name = refl
 x86_64_none GotLoads name = refl
 x86_64_none Distances name = refl
 
-no_label : (architecture : Architecture) (phase : Phase) (code : ℕ) → has_labels architecture ≡ false
-    → IsInLabel architecture phase code true → ⊥
-no_label RiscV phase code is in_label = isnt is
+no_label : (architecture : Architecture) (phase : Phase) (code : ℕ)
+    → has_labels architecture phase ≡ false → IsInLabel architecture phase code true → ⊥
+no_label RiscV ThreadOffsets code is in_label = isnt is
+no_label RiscV GotLoads code is in_label = isnt is
+no_label RiscV Early code is in_label = isnt (in_label.2 ∙ ap is_labelled (in_label.1).value_is)
+no_label RiscV Distances code is in_label = isnt (in_label.2 ∙ ap is_labelled (in_label.1).value_is)
 no_label AArch64 phase code is in_label =
     isnt (in_label.2 ∙ (ap is_labelled (in_label.1).value_is ∙ aarch64_none phase (in_label.1).name))
 no_label LoongArch64 phase code is in_label =
@@ -431,7 +434,7 @@ no_label X86_64 phase code is in_label =
     isnt (in_label.2 ∙ (ap is_labelled (in_label.1).value_is ∙ x86_64_none phase (in_label.1).name))
 
 pub no_labels : (s : Setting) (bytes section : List ℕ) (decisions : List Decision)
-    → has_labels s.architecture ≡ false → AreLabelsNoted s bytes section decisions 0
+    → has_labels s.architecture s.phase ≡ false → AreLabelsNoted s bytes section decisions 0
 no_labels s bytes section decisions is n from less in_label =
     absurd (no_label s.architecture s.phase (relocation_in bytes n).code is in_label)
 

@@ -1,6 +1,8 @@
+pub mod CodeNumbers
 pub mod Deciding
 pub mod Keeping
 pub mod KeptBits
+pub mod KeptCalls
 pub mod LabelGroups
 pub mod Listing
 pub mod Loads

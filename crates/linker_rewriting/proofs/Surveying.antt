@@ -1,11 +1,22 @@
 -- The groups that stay, noted relocation by relocation.
-use Rattle.std.proofs.Common.{ℕ, ◌+◌, inl, inr, ◌∙◌, List, ap, sym, subst, arith, refl, IsTrue, Option, None, Some, Bool, true, false}
-use Rattle.linker_rewriting.specs.Facts.{Setting}
-use Rattle.linker_rewriting.specs.Groups.{stays_at, symbol_of_group}
-use Rattle.linker_rewriting.specs.Surveys.{AreKeptToo, IsGroupOf, IsOfThreads, IsKeeping, IsUnmarked, StaysBy, AllStayIf, IsNoted, IsCause, IsSurveyedIn}
+use Rattle.std.proofs.Common.{◌≡◌, ℕ, ◌+◌, inl, inr, ◌∙◌, List, ap, sym, subst, arith, refl, IsTrue, Option, None, Some, Bool, true, false}
+use Rattle.linker_rewriting.specs.Facts.{Setting, setting}
+use Rattle.linker_rewriting.specs.Groups.{IsScopeIn, stays_at, symbol_of_group}
+use Rattle.linker_rewriting.specs.Inner.Codes.{asks_for_mark}
+use Rattle.linker_rewriting.specs.Surveys.{AreKeptToo, IsGroupOf, IsOfThreads, IsKeeping, IsUnmarked, IsUnmarkedIn, StaysBy, AllStayIf, IsNoted, IsCause, IsSurveyedIn}
+use Rattle.linker_rewriting.specs.declared.facts.OutputFacts.{OutputFacts}
+use Rattle.linker_rewriting.specs.declared.facts.SymbolFacts.{SymbolFacts}
 use Rattle.linker_rewriting.specs.declared.groups.Group.{Group}
 use Rattle.linker_rewriting.specs.declared.groups.KeptGroups.{KeptGroups}
+use Rattle.linker_rewriting.specs.declared.groups.Scope.TheVariants.{Unlisted}
+use Rattle.linker_rewriting.specs.declared.phases.Phase.{Phase}
+use Rattle.linker_rewriting.specs.declared.phases.Phase.TheVariants.{Early, ThreadOffsets, GotLoads, Distances}
 use Rattle.linker_section.specs.Relocations.{relocation_in}
+use Rattle.linker_section.specs.declared.facts.Addresses.{Addresses}
+use Rattle.linker_section.specs.declared.facts.Symbol.{Symbol}
+use Rattle.linker_section.specs.declared.relocations.Rela.{Rela}
+use Rattle.linker_utils.specs.declared.elf.Architecture.{Architecture}
+use Rattle.linker_utils.specs.declared.elf.Architecture.TheVariants.{AArch64, RiscV, LoongArch64, Ppc64, X86_64}
 use borrow.Author.Count.{below_more}
 
 abbrev pub AreKept : List KeptGroups → List KeptGroups → Type 0
@@ -98,3 +109,41 @@ more_surveyed s bytes section before mid once after k group unmarked surveyed ke
         | inr is ↦ inr (k, omega arith, inr (subst (IsUnmarked s bytes k (relocation_in bytes k)) (is.0) is_unmarked, is.1, is.2))
       ];
     }
+
+-- ---- a relocation that keeps none
+
+not_asked : (architecture : Architecture) (phase : Phase) (symbols : List SymbolFacts)
+    (bytes : List ℕ) (n : ℕ) (r : Rela) → asks_for_mark phase architecture ≡ false
+    → IsUnmarkedIn phase architecture symbols bytes n r false
+not_asked Ppc64 Early symbols bytes n r is = absurd (let e : true ≡ false = is in cc)
+not_asked AArch64 Early symbols bytes n r is = refl
+not_asked RiscV Early symbols bytes n r is = refl
+not_asked LoongArch64 Early symbols bytes n r is = refl
+not_asked X86_64 Early symbols bytes n r is = refl
+not_asked architecture ThreadOffsets symbols bytes n r is = refl
+not_asked architecture GotLoads symbols bytes n r is = refl
+not_asked architecture Distances symbols bytes n r is = refl
+
+none_too : (kept : List KeptGroups) (IsAdded : Group → ℕ → Type 0)
+    → ((group : Group) (symbol : ℕ) → IsAdded group symbol → ⊥) → AreKeptToo kept kept IsAdded
+none_too kept IsAdded none group symbol = (
+  (λ stays. inl stays),
+  (λ either. elim either [
+    | inl stays ↦ stays
+    | inr is ↦ absurd (none group symbol is)
+  ]),
+)
+
+pub one_left : (architecture : Architecture) (phase : Phase) (output : OutputFacts)
+    (symbols : List SymbolFacts) (addresses : Addresses) (values : List Symbol)
+    (bytes section : List ℕ) (before mid : List KeptGroups) (k : ℕ)
+    → IsSurveyedIn (setting architecture phase output symbols addresses values) bytes section before mid k
+    → IsScopeIn architecture phase (relocation_in bytes k).code Unlisted
+    → asks_for_mark phase architecture ≡ false
+    → IsSurveyedIn (setting architecture phase output symbols addresses values) bytes section before mid (k + 1)
+one_left architecture phase output symbols addresses values bytes section before mid k surveyed scope isnt =
+    more_surveyed (setting architecture phase output symbols addresses values) bytes section before mid mid mid k None false
+    surveyed (Unlisted, scope, tt)
+    (none_too mid (IsGroupOf None (relocation_in bytes k).symbol) (λ group symbol is. is))
+    (not_asked architecture phase symbols bytes k (relocation_in bytes k) isnt)
+    (none_too mid (IsOfThreads false) (λ group symbol is. let e : false ≡ true = is.0 in cc))

@@ -15,7 +15,7 @@ use Rattle.linker_rewriting.specs.Sequences.{is_marked_at}
 use Rattle.linker_rewriting.specs.declared.groups.Scope.{Scope}
 use Rattle.linker_rewriting.specs.declared.groups.Scope.TheVariants.{Labelled}
 use Rattle.linker_rewriting.specs.declared.phases.Phase.{Phase}
-use Rattle.linker_rewriting.specs.declared.phases.Phase.TheVariants.{ThreadOffsets}
+use Rattle.linker_rewriting.specs.declared.phases.Phase.TheVariants.{ThreadOffsets, GotLoads}
 use Rattle.linker_section.specs.Relocations.{relocation_in}
 use Rattle.linker_section.specs.Values.{IsAscending}
 use Rattle.linker_section.specs.declared.facts.Addresses.{Addresses}
@@ -74,10 +74,11 @@ abbrev pub is_labelled : Scope → Bool
 is_labelled Labelled = true
 is_labelled scope = false
 
--- an architecture has them
-abbrev pub has_labels : Architecture → Bool
-has_labels RiscV = true
-has_labels architecture = false
+-- an architecture has them in a phase
+abbrev pub has_labels : Architecture → Phase → Bool
+has_labels RiscV ThreadOffsets = true
+has_labels RiscV GotLoads = true
+has_labels architecture phase = false
 
 -- a code is of such groups
 abbrev pub IsInLabel : Architecture → Phase → ℕ → Bool → Type 0

@@ -2,6 +2,7 @@ pub mod Candidates
 pub mod Decisions
 pub mod Facts
 pub mod Groups
+pub mod Inner
 pub mod Kept
 pub mod Labels
 pub mod Notes

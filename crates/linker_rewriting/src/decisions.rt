@@ -1,7 +1,7 @@
 //! What becomes of each relocation of a section and of its instruction.
 
 ghost use Rattle.std.specs.Prelude.{◌≡◌, ◌<◌, ◌≤◌, ◌+◌, ◌-◌, ◌/◌, length, map, IfSome, IfErr};
-ghost use Rattle.std.specs.Prelude.{OnOk, All, take, drop, true};
+ghost use Rattle.std.specs.Prelude.{OnOk, All, take, drop, true, false};
 ghost use Rattle.linker_rewriting.specs.declared.decisions.Decision.{Decision as decisions};
 ghost use Rattle.linker_section.specs.Relocations.{relocation_in, relocation_at};
 ghost use Rattle.linker_rewriting.specs.Decisions.{takes_next, window_of, IsDecision, CanBeMade};
@@ -10,9 +10,13 @@ ghost use Rattle.linker_rewriting.specs.Decisions.{AreDecidedIn, AreApart, AllCa
 ghost use Rattle.linker_rewriting.specs.Decisions.{IsDecisionAfter, IsEndBehind, IsRejectedIn};
 ghost use Rattle.linker_rewriting.specs.Decisions.{IsRewrittenAt, label_decision, IsLabelDecision};
 ghost use Rattle.linker_rewriting.specs.Facts.{setting};
+ghost use Rattle.linker_rewriting.specs.Inner.Calls.{IsLeft};
+ghost use Rattle.linker_rewriting.specs.Inner.Codes.{bit_of, table_of};
 ghost use Rattle.linker_rewriting.specs.Labels.{IsInLabel, IsLabelNote};
 
+use crate::calls::keeps_call;
 use crate::candidates::candidate;
+use crate::codes::{bit_of, is_listed, table_of};
 use crate::facts::{OutputFacts, SymbolFacts};
 use crate::groups::{KeptGroups, Scope, group_stays, scope_in};
 use crate::labels::{high_of, is_note, label_candidate, note_labels};
@@ -255,6 +259,7 @@ fn decide_label(
 
 /// What becomes of a relocation that no other takes along. `stays` is what was noted of its label. None
 /// if its group doesn't stay, but it can't be rewritten.
+#[inline(always)]
 fn decide(
     stays: bool,
     architecture: Architecture,
@@ -279,10 +284,11 @@ fn decide(
         values.now) kept.now relocations.now section.now index relocation.now result }
     ensures made { IfSome result (λ d. CanBeMade d section.now relocation.now.offset) }
 {
-    match scope_in(architecture, phase, relocation.code) {
-        Scope::Unlisted => Some(Decision::Kept),
-        Scope::Alone => {
-            match candidate(
+    let is_grouped = match scope_in(architecture, phase, relocation.code) {
+        Scope::Unlisted => return Some(Decision::Kept),
+        Scope::Labelled => {
+            return Some(decide_label(
+                stays,
                 architecture,
                 phase,
                 output,
@@ -293,64 +299,8 @@ fn decide(
                 section,
                 index,
                 relocation,
-            ) {
-                Some(choice) => Some(Decision::Rewritten(choice)),
-                None => Some(Decision::Kept),
-            }
+            ));
         }
-        Scope::Grouped(group) => {
-            if group_stays(kept, group, relocation.symbol) {
-                return Some(Decision::Kept);
-            }
-            match candidate(
-                architecture,
-                phase,
-                output,
-                symbols,
-                addresses,
-                values,
-                relocations,
-                section,
-                index,
-                relocation,
-            ) {
-                Some(choice) => Some(Decision::Rewritten(choice)),
-                None => None,
-            }
-        }
-        Scope::Matched(group) => {
-            if group_stays(kept, group, relocation.symbol) {
-                return Some(Decision::Kept);
-            }
-            match candidate(
-                architecture,
-                phase,
-                output,
-                symbols,
-                addresses,
-                values,
-                relocations,
-                section,
-                index,
-                relocation,
-            ) {
-                Some(choice) => Some(Decision::Rewritten(choice)),
-                None => Some(Decision::Kept),
-            }
-        }
-        Scope::Labelled => Some(decide_label(
-            stays,
-            architecture,
-            phase,
-            output,
-            symbols,
-            addresses,
-            values,
-            relocations,
-            section,
-            index,
-            relocation,
-        )),
         Scope::Ahead => {
             if is_rewritten_at(
                 architecture,
@@ -363,12 +313,66 @@ fn decide(
                 section,
                 index + 1,
             ) {
-                Some(Decision::TakenAlong)
-            } else {
-                Some(Decision::Kept)
+                return Some(Decision::TakenAlong);
             }
+            return Some(Decision::Kept);
         }
+        Scope::Grouped(group) => {
+            if group_stays(kept, group, relocation.symbol) {
+                return Some(Decision::Kept);
+            }
+            true
+        }
+        Scope::Matched(group) => {
+            if group_stays(kept, group, relocation.symbol) {
+                return Some(Decision::Kept);
+            }
+            false
+        }
+        Scope::Alone => false,
+    };
+    match candidate(
+        architecture,
+        phase,
+        output,
+        symbols,
+        addresses,
+        values,
+        relocations,
+        section,
+        index,
+        relocation,
+    ) {
+        Some(choice) => Some(Decision::Rewritten(choice)),
+        None if is_grouped => None,
+        None => Some(Decision::Kept),
     }
+}
+
+/// Whether no other relocation takes along the one with an index, and it stays as it is by its code, or
+/// as a call by its symbol. The scope is for the proof alone: the compiler leaves it out.
+#[inline(always)]
+fn is_left(
+    is_taken: bool,
+    architecture: Architecture,
+    phase: Phase,
+    table: &'static [u8],
+    bit: u8,
+    symbols: &[SymbolFacts],
+    relocations: &[u8],
+    index: usize,
+) -> bool
+    requires table { table.now ≡ table_of architecture }
+    requires bit { bit ≡ bit_of phase }
+    requires within { index < length relocations.now / 24 }
+    ensures not_taken { result ≡ true → is_taken ≡ false }
+    ensures left { result ≡ true → IsLeft architecture phase symbols.now
+        (relocation_in relocations.now index) }
+{
+    let relocation = relocation_in(relocations, index);
+    let scope = scope_in(architecture, phase, relocation.code);
+    let listed = is_listed(architecture, phase, table, bit, relocation.code);
+    !is_taken && (!listed || keeps_call(architecture, phase, symbols, &relocation))
 }
 
 /// What becomes of a relocation, which another may take along.
@@ -418,14 +422,6 @@ fn decide_after(
     )
 }
 
-/// Where the bytes begin that a decision rewrites.
-#[inline(always)]
-fn start_by(decision: &Decision, offset: u64) -> u64
-    ensures { result ≡ start_by decision.now offset }
-{
-    offset.saturating_sub(decision.window().back)
-}
-
 /// Where what is deleted ends; 0 if nothing is.
 #[inline(always)]
 fn deleted_end(offset: u64, deleted: Option<DeletedBytes>) -> u64
@@ -438,15 +434,17 @@ fn deleted_end(offset: u64, deleted: Option<DeletedBytes>) -> u64
     }
 }
 
-/// Where the bytes end that a decision rewrites or deletes.
+/// Where the bytes begin that a decision rewrites, and where those end that it rewrites or deletes.
 #[inline(always)]
-fn end_by(decision: &Decision, offset: u64) -> u64
+fn span_of(decision: &Decision, offset: u64) -> (u64, u64)
     requires { end_by decision.now offset ≤ u64.MAX }
-    ensures { result ≡ end_by decision.now offset }
+    ensures { result ≡ (start_by decision.now offset, end_by decision.now offset) }
 {
-    let end = start_by(decision, offset) + decision.window().len;
+    let window = decision.window();
+    let start = offset.saturating_sub(window.back);
+    let end = start + window.len;
     let deleted = deleted_end(offset, decision.deleted());
-    if end < deleted { deleted } else { end }
+    (start, if end < deleted { deleted } else { end })
 }
 
 /// Where the bytes end that are rewritten or deleted up to some from a start to an end, by where those
@@ -511,7 +509,22 @@ pub(crate) fn decide_section<D: AsDecision>(
     );
     let mut end = 0;
     let mut is_taken = false;
+    let table = table_of(architecture);
+    let bit = bit_of(phase);
     for index in 0..len {
+        if is_left(
+            is_taken,
+            architecture,
+            phase,
+            table,
+            bit,
+            symbols,
+            relocations,
+            index,
+        ) {
+            decisions[index] = D::from_decision(Decision::Kept);
+            continue;
+        }
         let relocation = relocation_in(relocations, index);
         let stays = is_note(&decisions[index].as_decision());
         let Some(decision) = decide_after(
@@ -531,8 +544,7 @@ pub(crate) fn decide_section<D: AsDecision>(
         ) else {
             return Err(RewritingError::NotSurveyed(index));
         };
-        let start = start_by(&decision, relocation.offset);
-        let own = end_by(&decision, relocation.offset);
+        let (start, own) = span_of(&decision, relocation.offset);
         let Some(new_end) = end_behind(start, own, end) else {
             return Err(RewritingError::Overlaps(index));
         };

@@ -58,7 +58,7 @@ fn has_own_address(symbol: &SymbolFacts) -> bool
 
 /// Whether a call of a symbol may return with another TOC pointer.
 #[inline(always)]
-fn may_change_toc(symbol: &SymbolFacts) -> bool
+pub(crate) fn may_change_toc(symbol: &SymbolFacts) -> bool
     ensures { result ≡ may_change_toc symbol.now }
 {
     let is_known = symbol.is_local || symbol.is_undefined_weak;

@@ -405,12 +405,15 @@ fn copy_notes<D: AsDecision>(
     }
 }
 
-/// Whether an architecture has groups of labels.
+/// Whether an architecture has groups of labels in a phase.
 #[inline(always)]
-fn has_labels(architecture: Architecture) -> bool
-    ensures { result ≡ has_labels architecture }
+fn has_labels(architecture: Architecture, phase: Phase) -> bool
+    ensures { result ≡ has_labels architecture phase }
 {
-    matches!(architecture, Architecture::RiscV)
+    match architecture {
+        Architecture::RiscV => matches!(phase, Phase::ThreadOffsets | Phase::GotLoads),
+        _ => false,
+    }
 }
 
 /// Notes at each relocation of a label of RISC-V whether its group stays, in place of its decision.
@@ -431,7 +434,7 @@ pub(crate) fn note_labels<D: AsDecision>(
     ensures others { drop (length relocations.now / 24) decisions.new
         ≡ drop (length relocations.now / 24) decisions.old }
 {
-    if !has_labels(architecture) {
+    if !has_labels(architecture, phase) {
         return;
     }
     if !is_ascending(relocations) {

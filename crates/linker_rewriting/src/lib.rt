@@ -2,7 +2,9 @@
 //! instructions are rewritten, all of a group or none, and what becomes of their relocations.
 #![tactic(auto)]
 
+mod calls;
 pub mod candidates;
+mod codes;
 pub mod decisions;
 pub mod facts;
 pub mod groups;

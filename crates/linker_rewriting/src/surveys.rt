@@ -1,14 +1,16 @@
 //! Which groups of an object stay as they are, since one of their instructions can't be rewritten.
 
-ghost use Rattle.std.specs.Prelude.{◌+◌, ◌<◌, ◌≤◌, ◌/◌, length, slice_get};
+ghost use Rattle.std.specs.Prelude.{◌≡◌, ◌+◌, ◌<◌, ◌≤◌, ◌/◌, length, slice_get, true};
 ghost use Rattle.linker_section.specs.Relocations.{relocation_in};
 ghost use Rattle.linker_rewriting.specs.Candidates.{calls_tls_get_addr};
 ghost use Rattle.linker_rewriting.specs.Facts.{setting};
+ghost use Rattle.linker_rewriting.specs.Inner.Codes.{bit_of, table_of, KeepsNone};
 ghost use Rattle.linker_rewriting.specs.Surveys.{IsKeeping, IsMarked, IsUnmarkedIn, IsUnmarkedBy};
 ghost use Rattle.linker_rewriting.specs.Surveys.{AreKeptToo, IsGroup, IsGroupOf, IsOfThreads};
 ghost use Rattle.linker_rewriting.specs.Surveys.{IsSurveyed, IsSurveyedIn};
 
 use crate::candidates::{candidate, is_matched, is_tls_get_addr};
+use crate::codes::{bit_of, is_listed, table_of};
 use crate::facts::{NO_ADDRESSES, OutputFacts, SymbolFacts};
 use crate::groups::{Group, KeptGroups, Scope, marks_call, scope_in, symbol_of_group};
 use crate::phases::Phase;
@@ -162,6 +164,30 @@ fn is_unmarked(
     }
 }
 
+/// Whether the relocation with an index keeps no group by its code, and isn't asked for its mark.
+#[inline(always)]
+fn keeps_none(
+    architecture: Architecture,
+    phase: Phase,
+    table: &'static [u8],
+    bit: u8,
+    relocations: &[u8],
+    index: usize,
+) -> bool
+    requires table { table.now ≡ table_of architecture }
+    requires bit { bit ≡ bit_of phase }
+    requires within { index < length relocations.now / 24 }
+    ensures { result ≡ true → KeepsNone architecture phase (relocation_in relocations.now index).code }
+{
+    match (phase, architecture) {
+        (Phase::Early, Architecture::Ppc64) => false,
+        _ => {
+            let relocation = relocation_in(relocations, index);
+            !is_listed(architecture, phase, table, bit, relocation.code)
+        }
+    }
+}
+
 /// Notes which groups stay in a phase, by a section, as `survey` and `survey_placed_section` say.
 #[inline(always)]
 fn survey_in(
@@ -178,7 +204,12 @@ fn survey_in(
     ensures { IsSurveyedIn (setting architecture phase output.now symbols.now addresses.now
         values.now) relocations.now section.now kept.old kept.new (length relocations.now / 24) }
 {
+    let table = table_of(architecture);
+    let bit = bit_of(phase);
     for index in 0..relocations_len(relocations) {
+        if keeps_none(architecture, phase, table, bit, relocations, index) {
+            continue;
+        }
         let relocation = relocation_in(relocations, index);
         let group = keeping(
             architecture,

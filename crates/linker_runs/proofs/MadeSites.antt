@@ -1,68 +1,41 @@
 -- The sites that relocations make are of the section's bytes.
-use Rattle.std.proofs.Common.{◌≡◌, ℕ, zero, suc, ◌+◌, ◌-◌, ◌<◌, ◌≤◌, ◌++◌, ◌∷◌, [], List, length, sym, ap, subst, ◌∙◌, inl, inr, ⊎_elim, arith}
+use Rattle.std.proofs.Common.{◌≡◌, ℕ, zero, suc, ◌<◌, ◌≤◌, ◌++◌, ◌∷◌, [], List, length, sym, ap, subst, ◌∙◌, ⊎_elim, arith}
 use Rattle.std.proofs.lemmas.Bool.{cases_lt}
 use Rattle.std.proofs.lemmas.List.{length-append}
 use Rattle.std.proofs.Math.ListN.{get_or-append}
 use Rattle.std.proofs.Math.Seq.{get_or-append_seam}
 use Rattle.linker_runs.specs.declared.relaxation.Item.{Item}
-use Rattle.linker_runs.specs.declared.relaxation.Item.TheVariants.{Site, Aligned}
-use Rattle.linker_runs.specs.declared.shapes.loongarch64.TheConstants.{CALL36, PCALA}
-use Rattle.linker_runs.specs.declared.shapes.riscv64.TheConstants.{CALL, TAIL_C}
 use Rattle.linker_runs.specs.Relaxing.{item_at, no_item}
 use Rattle.linker_runs.specs.Relocations.{relocation_at, AreMade}
 use Rattle.linker_runs.specs.Relocations.AreMade.{none, left_out, made}
-use Rattle.linker_runs.specs.RiscVItems.{RiscVMakes, IsRiscVFormed, MayBeCJ}
-use Rattle.linker_runs.specs.LoongArchItems.{LoongArchMakes, IsCall36, IsPcala}
 use Rattle.linker_runs.specs.declared.items.Relocation.{Relocation}
-use Rattle.linker_runs.specs.Origins.{HasItsInstructions, HasRiscVShapes, HasLoongArchShapes}
+use Rattle.linker_runs.specs.Origins.{HasItsInstructions}
 use Rattle.linker_runs.specs.SectionItems.{Makes, IsFormed}
 use Rattle.linker_runs.specs.declared.packing.Machine.{Machine}
 use Rattle.linker_runs.specs.declared.packing.Machine.TheVariants.{RiscV64, LoongArch64}
 use Rattle.linker_runs.specs.Writable.{MadeSitesHaveInstructions}
+use Rattle.linker_runs.proofs.RiscVMadeSites.{riscv_site}
+use Rattle.linker_runs.proofs.LoongArchMadeSites.{loongarch_site}
+
+-- what holds of each item, and of one behind them
+pub pushed : (P : Item → Type 0) (items : List Item) (item : Item) → ((j : ℕ) → j < length items → P (item_at items j)) → P item → (j : ℕ) → j < length (items ++ item ∷ []) → P (item_at (items ++ item ∷ []) j)
+pushed P items item each is j below = ⊎_elim
+    (λ (first : j < length items). subst P (sym (get_or-append items (item ∷ []) no_item j first)) (each j first))
+    (λ (last : length items ≤ j).
+    let len = length-append items (item ∷ []) in
+    let at : length items ≡ j = omega arith in
+    subst P (sym (get_or-append_seam items item [] no_item) ∙ ap (item_at (items ++ item ∷ [])) at) is)
+    (cases_lt j (length items))
 
 -- what holds of each item that a relocation makes holds of each item
 each_made : (Makes : ℕ → Item → Type 0) (P : Item → Type 0) (n : ℕ) (items : List Item) (makers : List ℕ) → AreMade Makes n items makers → ((i : ℕ) (item : Item) → i < n → Makes i item → P item) → (j : ℕ) → j < length items → P (item_at items j)
 each_made Makes P zero [] makers none each j below = absurd (omega arith)
 each_made Makes P zero (_ ∷ _) makers impossible each j below = elim impossible [ ]
 each_made Makes P (suc i) items makers (left_out before not) each j below = each_made Makes P i items makers before (λ k item h. each k item (omega arith)) j below
-each_made Makes P (suc i) all all_makers (made {items = items} {makers = makers} {item = item} before is) each j below = ⊎_elim
-    (λ (first : j < length items). subst P (sym (get_or-append items (item ∷ []) no_item j first)) (each_made Makes P i items makers before (λ k item h. each k item (omega arith)) j first))
-    (λ (last : length items ≤ j).
-    let len = length-append items (item ∷ []) in
-    let at : length items ≡ j = omega arith in
-    subst P (sym (get_or-append_seam items item [] no_item) ∙ ap (item_at (items ++ item ∷ [])) at) (each i item (omega arith) is))
-    (cases_lt j (length items))
+each_made Makes P (suc i) all all_makers (made {items = items} {makers = makers} {item = item} before is) each j below =
+    pushed P items item (each_made Makes P i items makers before (λ k item h. each k item (omega arith))) (each i item (omega arith) is) j below
 
-riscv_site : (section : List ℕ) (base : ℕ) (relocations : List Relocation) (i : ℕ) (item : Item) → IsRiscVFormed section (relocation_at relocations i) → RiscVMakes section base relocations i item → HasItsInstructions RiscV64 section base item
-riscv_site section base relocations i (Aligned alignment) formed makes = tt
-riscv_site section base relocations i (Site call) formed makes =
-    let o = (relocation_at relocations i).offset in
-    let within = formed.call makes.name in
-    let place : call.offset ≡ base + o = makes.place in
-    let at : o ≡ call.offset - base = omega (arith, place) in
-    let shapes : HasRiscVShapes section o call.shapes = (
-      makes.is_call,
-      ⊎_elim
-          (λ (short : MayBeCJ section relocations i × (call.shapes ≡ TAIL_C)). inr (short.1, short.0.links_none))
-          (λ (other : (MayBeCJ section relocations i → ⊥) × (call.shapes ≡ CALL)). inl other.1)
-          makes.shapes,
-    ) in
-    (makes.len, omega (arith, place), omega (arith, place, within), subst (λ n. HasRiscVShapes section n call.shapes) at shapes)
-
-loongarch_site : (section : List ℕ) (base : ℕ) (relocations : List Relocation) (i : ℕ) (item : Item) → LoongArchMakes section base relocations i item → HasItsInstructions LoongArch64 section base item
-loongarch_site section base relocations i (Aligned alignment) makes = tt
-loongarch_site section base relocations i (Site here) makes =
-    let o = (relocation_at relocations i).offset in
-    let place : here.offset ≡ base + o = makes.0.place in
-    let at : o ≡ here.offset - base = omega (arith, place) in
-    let site : (o + 8 ≤ length section) × HasLoongArchShapes section o here.shapes = ⊎_elim
-    (λ (call : IsCall36 section relocations i × (here.shapes ≡ CALL36)). (⊎_elim (λ one. one.within) (λ jump. jump.within) call.0.call, inl (call.0.call, call.1)))
-    (λ (pair : IsPcala section relocations i × (here.shapes ≡ PCALA)). (pair.0.pair.within, inr (pair.0.pair, pair.1)))
-    makes.1 in
-    let within = site.0 in
-    (makes.0.len, omega (arith, place), omega (arith, place, within), subst (λ n. HasLoongArchShapes section n here.shapes) at site.1)
-
-site : (machine : Machine) (section : List ℕ) (base : ℕ) (relocations : List Relocation) (i : ℕ) (item : Item) → IsFormed machine section (relocation_at relocations i) → Makes machine section base relocations i item → HasItsInstructions machine section base item
+pub site : (machine : Machine) (section : List ℕ) (base : ℕ) (relocations : List Relocation) (i : ℕ) (item : Item) → IsFormed machine section (relocation_at relocations i) → Makes machine section base relocations i item → HasItsInstructions machine section base item
 site RiscV64 section base relocations i item formed makes = riscv_site section base relocations i item formed makes
 site LoongArch64 section base relocations i item formed makes = loongarch_site section base relocations i item makes
 

@@ -15,9 +15,9 @@ use Rattle.linker_runs.specs.declared.packing.Machine.TheVariants.{RiscV64, Loon
 use Rattle.linker_runs.specs.declared.packing.ItemError.{ItemError}
 use Rattle.linker_runs.specs.declared.packing.ItemError.TheVariants.{OutOfReach, DeletedOutside}
 use Rattle.linker_runs.specs.Writable.{IsShortened, IsNearCall36, IsNearAddress, IsNearSite, MayBePacked, NoneIsOutOfReach}
-use Rattle.linker_runs.proofs.LongAddresses.{near_addresses}
-use Rattle.linker_runs.proofs.LongCalls.{near_calls}
-use Rattle.linker_runs.proofs.LongCalls36.{near_calls_36}
+use Rattle.linker_runs.proofs.LoongArchAddresses.{near_addresses}
+use Rattle.linker_runs.proofs.RiscVLongCalls.{near_calls}
+use Rattle.linker_runs.proofs.LoongArchCalls36.{near_calls_36}
 use Rattle.linker_runs.proofs.Writable.{short_sites}
 
 module _ (start base : ℕ) (items : List Item) (shapes kept freed bytes : List ℕ) (are : AreItems start items) (is : IsRelaxation start items shapes kept freed)

@@ -1,6 +1,6 @@
 -- What is written of each item.
 use Rattle.std.proofs.Common.{◌≡◌, ℕ, zero, suc, ◌+◌, ◌-◌, ◌<◌, ◌≤◌, true, false, List, ◌++◌, length, get_or, take, drop, refl, sym, subst, ◌∙◌, ap, arith, inl, inr}
-use Rattle.std.specs.Prelude.{if◌then◌else◌, IsSomeAnd, ◌↔◌}
+use Rattle.std.specs.Prelude.{if◌then◌else◌, ◌↔◌}
 use Rattle.std.proofs.lemmas.Bool.{cases_lt, cases_Bool}
 use Rattle.std.proofs.lemmas.List.{append_assoc, length-append, length-take, length-drop, get_or-take, get_or-drop, get_or-append_right, get_or_default, take_at, drop_at, same_lists}
 use Rattle.linker_base.specs.Deletions.{is_kept, rank}
@@ -9,30 +9,19 @@ use Rattle.linker_base.proofs.Copied.{put_below}
 use Rattle.linker_runs.specs.declared.relaxation.Item.{Item}
 use Rattle.linker_runs.specs.declared.relaxation.Item.TheVariants.{Site, Aligned}
 use Rattle.linker_runs.specs.Relaxing.{offset_of, len_of, end_of, item_at}
-use Rattle.linker_runs.specs.Sites.{IsInReach}
-use Rattle.linker_runs.specs.RiscVSites.{riscv_template, RiscVAccepts, RiscVCause}
 use Rattle.linker_runs.specs.Packing.{Section, packed_offset, kept_len, is_fixed, written_len, IsApart, IsInside, KeepsGap, gap_start, IsNotIn, ItemAccepts, ItemCause, ItemBecomes, IsWritable, IsUnwritable, IsCause, LosesItems, IsPackedRun}
 use Rattle.linker_runs.specs.Inner.Pieces.{piece_bytes, IsWhole, IsPieceOf}
 use Rattle.linker_base.specs.Inner.Packing.{IsFilledTo}
 use Rattle.linker_runs.specs.Inner.Packing.{AreReady, IsWrittenTo}
 use Rattle.linker_runs.specs.declared.packing.Machine.{Machine}
 use Rattle.linker_runs.specs.declared.packing.Machine.TheVariants.{RiscV64, LoongArch64}
-use Rattle.linker_runs.proofs.Sites.{both_some, in_reach}
 use Rattle.linker_runs.proofs.LoongArch.{loongarch_excludes}
 use Rattle.linker_runs.specs.declared.packing.Piece.{Piece}
 use Rattle.linker_runs.specs.declared.packing.ItemError.{ItemError}
 use Rattle.linker_runs.specs.declared.packing.ItemError.TheVariants.{Overlaps, OutOfSection, DeletedOutside, NotItsFirstBytes, NotItsInstructions, NoShape, OutOfReach}
+use Rattle.linker_runs.proofs.RiscVExcluded.{riscv_excludes}
 
 -- ---- what is accepted isn't rejected
-
-riscv_excludes : (section : List ℕ) (o kept place target : ℕ) (error : ItemError) → RiscVAccepts section o kept place target → RiscVCause section o kept place target error → ⊥
-riscv_excludes section o kept place target NotItsInstructions a cause = cause a.call
-riscv_excludes section o kept place target NoShape a cause = subst (λ t. IsSomeAnd t (λ t. IsInReach t place target)) cause.1 a.reached
-riscv_excludes section o kept place target OutOfReach a cause = both_some (riscv_template section o kept) _ _ a.reached cause.1 (λ t p q. in_reach t place target p q)
-riscv_excludes section o kept place target Overlaps a cause = cause
-riscv_excludes section o kept place target OutOfSection a cause = cause
-riscv_excludes section o kept place target DeletedOutside a cause = cause
-riscv_excludes section o kept place target NotItsFirstBytes a cause = cause
 
 item_excludes : (machine : Machine) (s : Section) (item : Item) (kept : ℕ) (error : ItemError) → ItemAccepts machine s item kept → ItemCause machine s item kept error → ⊥
 item_excludes RiscV64 s (Site site) kept NotItsInstructions a cause = riscv_excludes _ _ kept _ _ NotItsInstructions a.1 (cause a.0)

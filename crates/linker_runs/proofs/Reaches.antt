@@ -1,22 +1,16 @@
 -- Shapes reach what the rows of jumps reach.
-use Rattle.std.proofs.Common.{◌≡◌, ℕ, zero, suc, ◌+◌, ◌-◌, ◌*◌, ◌%◌, ◌<◌, ◌≤◌, ◌↔◌, true, refl, ap, sym, subst, ⊎_elim, arith, ℤ, pos, negsuc, neg_ℤ, ◌-ℤ◌, [], ◌∷◌, Option, Some, None}
+use Rattle.std.proofs.Common.{◌≡◌, ℕ, zero, suc, ◌+◌, ◌-◌, ◌*◌, ◌%◌, ◌<◌, ◌≤◌, ◌↔◌, true, ap, sym, subst, ⊎_elim, arith, ℤ, pos, negsuc, neg_ℤ, ◌-ℤ◌, [], ◌∷◌, Option, Some, None}
 use Rattle.std.specs.Prelude.{IsSomeAnd, slice_index_or}
 use Rattle.std.proofs.lemmas.Int.{ints}
 use Rattle.std.proofs.lemmas.Bool.{cases_lt}
 use Rattle.std.proofs.lemmas.Bool.Decides.{nat_tests}
 use Rattle.linker_elf.specs.Elf.{IsWithin}
-use Rattle.linker_elf.specs.LoongArchRelocations.{loongarch_row}
-use Rattle.linker_elf.specs.RiscVRelocations.{riscv_row}
 use Rattle.linker_elf.specs.Relocate.{IsInReach, IsAligned, is_supported, IsEncoded}
 use Rattle.linker_elf.specs.declared.elf.RelocationKindInfo.{RelocationKindInfo}
 use Rattle.linker_elf.specs.Reach.{reach_of}
-use Rattle.linker_elf.specs.declared.loongarch64.relocations.LoongArch64Relocation.TheVariants.{R_LARCH_B26, R_LARCH_PCREL20_S2}
-use Rattle.linker_elf.specs.declared.riscv64.relocations.RiscVRelocation.TheVariants.{R_RISCV_JAL, R_RISCV_RVC_JUMP}
 use Rattle.linker_runs.specs.declared.relaxation.Shape.{Shape}
 use Rattle.linker_runs.specs.declared.relaxation.Shapes.{Shapes}
-use Rattle.linker_runs.specs.declared.shapes.loongarch64.TheConstants.{CALL36, PCALA}
-use Rattle.linker_runs.specs.declared.shapes.riscv64.TheConstants.{CALL, TAIL_C, CALL_WITHOUT_C}
-use Rattle.linker_runs.specs.Reaches.{IsOfRow, AreOfRows, RiscVShapesAreOfRows, LoongArchShapesAreOfRows}
+use Rattle.linker_runs.specs.Reaches.{IsOfRow, AreOfRows}
 use Rattle.linker_runs.specs.Relaxing.{short_shape, is_reached}
 
 -- a distance, by its size and its direction
@@ -146,54 +140,18 @@ module _ (kept size : ℕ) where
     pub fourth_reach : (from to : ℕ) → (is_reached fourth from to ≡ true) ↔ IsInReach row (pos to -ℤ pos from)
     fourth_reach from to = (fourth_in from to, fourth_from from to)
 
--- ---- the architectures
-
-jal : IsSomeAnd (riscv_row R_RISCV_JAL) (IsOfRow (short_shape CALL 0))
-jal = record {
-  len = refl;
-  reach = even_reach 4 524288 _ refl refl refl (λ v. tt) (omega arith);
-}
-
-c_j : IsSomeAnd (riscv_row R_RISCV_RVC_JUMP) (IsOfRow (short_shape TAIL_C 0))
-c_j = record {
-  len = refl;
-  reach = even_reach 2 1024 _ refl refl refl (λ v. tt) (omega arith);
-}
-
-branch : IsSomeAnd (loongarch_row R_LARCH_B26) (IsOfRow (short_shape CALL36 0))
-branch = record {
-  len = refl;
-  reach = fourth_reach 4 134217728 _ refl refl refl (λ v. tt);
-}
-
-pcaddi : IsSomeAnd (loongarch_row R_LARCH_PCREL20_S2) (IsOfRow (short_shape PCALA 0))
-pcaddi = record {
-  len = refl;
-  reach = fourth_reach 4 2097152 _ refl refl refl (λ v. tt);
-}
-
 -- shapes of one short one
-one : (shapes : Shapes) (row : Option RelocationKindInfo) → shapes.count ≡ 1 → shapes.longest ≡ 8 → IsSomeAnd row (IsOfRow (short_shape shapes 0)) → AreOfRows shapes (row ∷ [])
+pub one : (shapes : Shapes) (row : Option RelocationKindInfo) → shapes.count ≡ 1 → shapes.longest ≡ 8 → IsSomeAnd row (IsOfRow (short_shape shapes 0)) → AreOfRows shapes (row ∷ [])
 one shapes row count longest is = record { count = count; each = each; longest = longest }
   where
     each : (k : ℕ) → k < 1 → IsSomeAnd (slice_index_or (row ∷ []) k None) (IsOfRow (short_shape shapes k))
     each zero below = is
     each (suc k) below = absurd (omega arith)
 
-two : (shapes : Shapes) (short long : Option RelocationKindInfo) → shapes.count ≡ 2 → shapes.longest ≡ 8 → IsSomeAnd short (IsOfRow (short_shape shapes 0)) → IsSomeAnd long (IsOfRow (short_shape shapes 1)) → AreOfRows shapes (short ∷ long ∷ [])
+pub two : (shapes : Shapes) (short long : Option RelocationKindInfo) → shapes.count ≡ 2 → shapes.longest ≡ 8 → IsSomeAnd short (IsOfRow (short_shape shapes 0)) → IsSomeAnd long (IsOfRow (short_shape shapes 1)) → AreOfRows shapes (short ∷ long ∷ [])
 two shapes short long count longest is is' = record { count = count; each = each; longest = longest }
   where
     each : (k : ℕ) → k < 2 → IsSomeAnd (slice_index_or (short ∷ long ∷ []) k None) (IsOfRow (short_shape shapes k))
     each zero below = is
     each (suc zero) below = is'
     each (suc (suc k)) below = absurd (omega arith)
-
-pub riscv_shapes : RiscVShapesAreOfRows
-riscv_shapes = (
-  one CALL _ refl refl jal,
-  two TAIL_C _ _ refl refl c_j jal,
-  one CALL_WITHOUT_C _ refl refl jal,
-)
-
-pub loongarch_shapes : LoongArchShapesAreOfRows
-loongarch_shapes = (one CALL36 _ refl refl branch, one PCALA _ refl refl pcaddi)

@@ -1,4 +1,5 @@
 pub mod Ahead
+pub mod Listed
 pub mod LoongArch
 pub mod Packing
 pub mod Pieces

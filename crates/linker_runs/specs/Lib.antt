@@ -11,6 +11,8 @@ pub mod Packing
 pub mod Reaches
 pub mod Relaxing
 pub mod Relocations
+pub mod RewrittenItems
+pub mod RewrittenLaws
 pub mod RiscVItems
 pub mod RiscVSites
 pub mod SectionItems

@@ -11,11 +11,13 @@ ghost use Rattle.linker_runs.specs.SectionItems.{Makes, IsFormed};
 ghost use Rattle.linker_runs.specs.Inner.Ahead.{IsAhead, MayBeAhead};
 
 mod list;
+mod rewritten;
 
 use crate::packing::Machine;
 use crate::relaxation::Item;
 use crate::{loongarch64, riscv64};
 pub(crate) use list::ItemList;
+pub use rewritten::{RewrittenItemsError, rewritten_items_into};
 use std::alloc::{AllocError, AllocFailed, Global};
 
 /// A relocation of a section.

@@ -3,6 +3,7 @@
 ghost use Rattle.std.specs.Prelude.{◌≡◌};
 ghost use Rattle.linker_runs.specs.Calls.{call_shapes, CallsAreShrunkAlike};
 ghost use Rattle.linker_runs.specs.FirstBytes.{FirstBytesAreKept};
+ghost use Rattle.linker_runs.specs.RewrittenLaws.{RewrittenSitesHaveInstructions, DeletedBytesGo};
 ghost use Rattle.linker_runs.specs.Writable.{ShortSitesAreWritable, NearCallsAreWritable};
 ghost use Rattle.linker_runs.specs.Writable.{NearCalls36AreWritable, NearAddressesAreWritable};
 ghost use Rattle.linker_runs.specs.Writable.{NoneIsOutOfReach, MadeSitesHaveInstructions};
@@ -70,4 +71,16 @@ pub fn none_is_out_of_reach()
 /// `short_sites_are_writable` requires.
 pub fn made_sites_have_instructions()
     ensures { MadeSitesHaveInstructions }
+{}
+
+/// The same of the sites that `rewritten_items_into` lists, but for its deletions, which have no
+/// instructions to be tested.
+pub fn rewritten_sites_have_instructions()
+    ensures { RewrittenSitesHaveInstructions }
+{}
+
+/// Of what rewrites delete, as `rewritten_items_into` lists it, no byte stays where a run is packed with
+/// the deletions that `relax` returns.
+pub fn deleted_bytes_go()
+    ensures { DeletedBytesGo }
 {}

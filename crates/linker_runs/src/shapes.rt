@@ -18,6 +18,8 @@ const NONE: Shape = Shape {
 
 /// A deletion that is decided already: so many bytes stay wherever the target is.
 pub fn fixed(kept: u32) -> Shapes
+    ensures none { result.count ≡ 0 }
+    ensures longest { result.longest ≡ kept }
     ensures len { (k : ℕ) → shape_len result k ≡ kept }
     ensures reached { (k from to : ℕ) → shape_reaches result k from to ≡ true }
 {

@@ -6,6 +6,7 @@ mod choices;
 mod deltas;
 mod forms;
 mod heads;
+mod lazy_plt;
 mod merges;
 mod output;
 mod pack_runs;

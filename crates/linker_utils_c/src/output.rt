@@ -4,6 +4,7 @@
 ghost use Rattle.std.specs.Prelude.{◌≡◌, IfSome, IfNone, Some, None, bit_or};
 ghost use Rattle.std.specs.Prelude.{slice_get, slice_index, ◌%◌};
 ghost use Rattle.linker_elf.specs.Value.{sum_64};
+ghost use Rattle.linker_output.specs.Addresses.{entry_code_of, section_name};
 ghost use Rattle.linker_output.specs.Dynamic.{name_of, dynamic_words};
 ghost use Rattle.linker_output.specs.Flags.{joined_flags};
 ghost use Rattle.linker_output.specs.Got.{origins_of, entry_words, static_words, got_header_of};
@@ -17,7 +18,7 @@ ghost use Rattle.linker_utils_c.specs.Output.{place_number, IsTextReturned, IsHe
 ghost use Rattle.linker_utils_c.specs.Output.{AreWordsReturned, AreStaticReturned};
 ghost use Rattle.linker_utils_c.specs.Output.{AreFlagsReturned, IsSymbolReturned, IsRunReturned};
 ghost use Rattle.linker_utils_c.specs.Output.{IsWordReturned, IsStubReturned, IsStubWritten};
-ghost use Rattle.linker_utils_c.specs.Output.{entry_words_of};
+ghost use Rattle.linker_utils_c.specs.Output.{entry_words_of, IsFoundWord};
 ghost use Rattle.linker_utils_c.specs.Relocations.{IsCopied};
 ghost use Rattle.linker_utils_c.specs.Status.{code};
 
@@ -458,6 +459,65 @@ pub extern "C" fn linker_utils_interpreter_nonnull(
     };
     match Target::of(architecture).interpreter(flags) {
         Some(text) => put_text(text, path, path_used),
+        None => Status::NotProvided.number(),
+    }
+}
+
+/// Writes the name of the section of objects in which compilers keep addresses to the beginning of
+/// `name`, and its length to `name_used`. The first that applies of `UnknownArchitecture`;
+/// `NotProvided`, where there is none; `TooShort`.
+#[unsafe(no_mangle)]
+pub extern "C" fn linker_utils_address_section_nonnull(
+    machine: u16,
+    name: &mut [u8],
+    name_used: &mut usize,
+) -> u32
+    ensures known { IfSome (architecture_of machine) (λ architecture.
+        IsTextReturned (section_name (target_of architecture).addresses) (code Status.NotProvided)
+        name.old name.new name_used.old name_used.new result) }
+    ensures unknown { IfNone (architecture_of machine)
+        ((result ≡ code Status.UnknownArchitecture) × (name.new ≡ name.old)
+        × (name_used.new ≡ name_used.old)) }
+{
+    let Some(architecture) = Architecture::from_machine(machine) else {
+        return Status::UnknownArchitecture.number();
+    };
+    put_section_name(Target::of(architecture), name, name_used)
+}
+
+fn put_section_name(target: &Target, name: &mut [u8], name_used: &mut usize) -> u32
+    ensures { IsTextReturned (section_name (view target.now).addresses) (code Status.NotProvided)
+        name.old name.new name_used.old name_used.new result }
+{
+    match &target.address_section {
+        Some(section) => put_text(section.name, name, name_used),
+        None => Status::NotProvided.number(),
+    }
+}
+
+/// Writes the code of the relocation that an instruction would have if the address were in an entry
+/// of the GOT, by its code where that is in a word of this section. The first that applies of
+/// `UnknownArchitecture`; `NotProvided`, of other codes.
+#[unsafe(no_mangle)]
+pub extern "C" fn linker_utils_entry_relocation(
+    machine: u16,
+    r_type: u32,
+    entry_type: &mut u32,
+) -> u32
+    ensures known { IfSome (architecture_of machine) (λ architecture. IsFoundWord
+        (entry_code_of (target_of architecture).addresses r_type) entry_type.old entry_type.new
+        result) }
+    ensures unknown { IfNone (architecture_of machine)
+        ((result ≡ code Status.UnknownArchitecture) × (entry_type.new ≡ entry_type.old)) }
+{
+    let Some(architecture) = Architecture::from_machine(machine) else {
+        return Status::UnknownArchitecture.number();
+    };
+    match Target::of(architecture).entry_code(r_type) {
+        Some(found) => {
+            *entry_type = found;
+            Status::Success.number()
+        }
         None => Status::NotProvided.number(),
     }
 }

@@ -1,19 +1,25 @@
 //! The items that a section's relocations make, in arrays of the caller's.
 
-ghost use Rattle.std.specs.Prelude.{◌≡◌, ◌≢◌, ◌+◌, ◌^◌, ◌≤◌, ◌↔◌, ◌⊎◌, All, length};
+ghost use Rattle.std.specs.Prelude.{◌≡◌, ◌≢◌, ◌+◌, ◌^◌, ◌≤◌, ◌↔◌, ◌⊎◌, All, IsTrue, length};
 ghost use Rattle.std.specs.Prelude.{take, drop, Some, None};
+ghost use Rattle.linker_runs.specs.RewrittenItems.{AreRewrittenItems, IsRewrittenCause};
+ghost use Rattle.linker_runs.specs.declared.items.rewritten.RewrittenItemsError.TheVariants as why;
 ghost use Rattle.linker_runs.specs.Relocations.{AreMade, AreWellFormed, IsFirstMalformed};
 ghost use Rattle.linker_runs.specs.SectionItems.{Makes, IsFormed};
 ghost use Rattle.linker_runs.specs.declared.packing.Machine.{Machine as machines};
+ghost use Rattle.linker_utils_c.specs.Deltas.{pairs_in};
 ghost use Rattle.linker_utils_c.specs.PackRuns.{packing_machine};
 ghost use Rattle.linker_utils_c.specs.Relaxing.{items_in, HasKind};
 ghost use Rattle.linker_utils_c.specs.SectionItems.{relocations_in};
 ghost use Rattle.linker_utils_c.specs.Status.{code};
 
+use crate::deltas::Deletion;
 use crate::pack_runs::packing_machine;
 use crate::relaxing::ItemNumbers;
 use crate::status::Status;
-use linker_runs::items::{AsRelocation, Relocation, section_items_into};
+use linker_runs::items::{
+    AsRelocation, Relocation, RewrittenItemsError, rewritten_items_into, section_items_into,
+};
 
 /// A relocation of a section, and what it refers to in a run.
 #[repr(C)]
@@ -127,6 +133,108 @@ pub extern "C" fn linker_utils_section_items_nonnull(
         Err(index) => {
             *faulty = index;
             Status::MalformedRelocation.number()
+        }
+    }
+}
+
+/// Whether an array has an element for each of two others.
+#[inline]
+fn has_both(len: usize, first: usize, second: usize) -> bool
+    ensures { IsTrue result ↔ (len ≡ first + second) }
+{
+    len >= second && len - second == first
+}
+
+/// Writes the items of a section of a machine that was rewritten, as `rewritten_items_into`, and to
+/// `makers` what makes each. The section begins at the input offset `base` of the run.
+///
+/// `items` and `makers` have as many elements as there are relocations and deletions. `len` is how many
+/// items there are, and the elements from there on are unchanged. The first that applies of
+/// `UnknownArchitecture`, where no code of the machine becomes shorter; `DifferentLengths`;
+/// `EndsTooHigh`, where `base` and the section's length add up to 2^64 or more; `MalformedRelocation`,
+/// of the relocation at `faulty`; and `InvalidDeletions`, of the deletion at `faulty`. Nothing is written
+/// then. Last `ItemsOverlap`, of the relocation at `faulty`: `items` and `makers` may then be written.
+#[unsafe(no_mangle)]
+pub extern "C" fn linker_utils_rewritten_items_nonnull(
+    machine: u16,
+    section: &[u8],
+    base: u64,
+    relocations: &[Rela],
+    deleted: &[Deletion],
+    items: &mut [ItemNumbers],
+    makers: &mut [usize],
+    len: &mut usize,
+    faulty: &mut usize,
+) -> u32
+    ensures known { (result ≡ code Status.Success) ⊎ (result ≡ code Status.UnknownArchitecture)
+        ⊎ (result ≡ code Status.DifferentLengths) ⊎ (result ≡ code Status.EndsTooHigh)
+        ⊎ (result ≡ code Status.MalformedRelocation) ⊎ (result ≡ code Status.InvalidDeletions)
+        ⊎ (result ≡ code Status.ItemsOverlap) }
+    ensures unknown { (result ≡ code Status.UnknownArchitecture)
+        ↔ (packing_machine machine ≡ None) }
+    ensures different_lengths { (result ≡ code Status.DifferentLengths)
+        ↔ ((packing_machine machine ≢ None)
+        × ((length items.old ≢ length relocations.now + length deleted.now)
+        ⊎ (length makers.old ≢ length relocations.now + length deleted.now))) }
+    ensures too_high { (result ≡ code Status.EndsTooHigh)
+        ↔ ((packing_machine machine ≢ None)
+        × (length items.old ≡ length relocations.now + length deleted.now)
+        × (length makers.old ≡ length relocations.now + length deleted.now)
+        × (2 ^ 64 ≤ base + length section.now)) }
+    ensures listed { result ≡ code Status.Success → (of : machines)
+        → packing_machine machine ≡ Some of
+        → AreRewrittenItems of section.now base (relocations_in relocations.now)
+        (pairs_in deleted.now) (items_in (take len.new items.new)) (take len.new makers.new) }
+    ensures kinds { result ≡ code Status.Success → All HasKind (take len.new items.new) }
+    ensures malformed { result ≡ code Status.MalformedRelocation → (of : machines)
+        → packing_machine machine ≡ Some of
+        → IsRewrittenCause of section.now base (relocations_in relocations.now)
+        (pairs_in deleted.now) (why.Malformed faulty.new) }
+    ensures misplaced { result ≡ code Status.InvalidDeletions → (of : machines)
+        → packing_machine machine ≡ Some of
+        → IsRewrittenCause of section.now base (relocations_in relocations.now)
+        (pairs_in deleted.now) (why.Misplaced faulty.new) }
+    ensures overlaps { result ≡ code Status.ItemsOverlap → (of : machines)
+        → packing_machine machine ≡ Some of
+        → IsRewrittenCause of section.now base (relocations_in relocations.now)
+        (pairs_in deleted.now) (why.Overlaps faulty.new) }
+    ensures others_stay { result ≡ code Status.Success
+        → (drop len.new items.new ≡ drop len.new items.old)
+        × (drop len.new makers.new ≡ drop len.new makers.old) }
+    ensures unchanged { result ≢ code Status.Success → result ≢ code Status.ItemsOverlap
+        → (items.new ≡ items.old) × (makers.new ≡ makers.old) }
+    ensures len_stays { result ≢ code Status.Success → len.new ≡ len.old }
+    ensures faulty_stays { result ≢ code Status.MalformedRelocation
+        → result ≢ code Status.InvalidDeletions → result ≢ code Status.ItemsOverlap
+        → faulty.new ≡ faulty.old }
+{
+    let Some(of) = packing_machine(machine) else {
+        return Status::UnknownArchitecture.number();
+    };
+    if !has_both(items.len(), relocations.len(), deleted.len())
+        || !has_both(makers.len(), relocations.len(), deleted.len())
+    {
+        return Status::DifferentLengths.number();
+    }
+    if section.len() as u64 > u64::MAX - base {
+        return Status::EndsTooHigh.number();
+    }
+    match rewritten_items_into(of, section, base, relocations, deleted, items, makers) {
+        Ok(count) => {
+            *len = count;
+            Status::Success.number()
+        }
+        Err(RewrittenItemsError::Malformed(index)) => {
+            *faulty = index;
+            Status::MalformedRelocation.number()
+        }
+        Err(RewrittenItemsError::Misplaced(index)) => {
+            *faulty = index;
+            Status::InvalidDeletions.number()
+        }
+        Err(RewrittenItemsError::Overlaps(index)) => {
+            *faulty = index;
+            Status::ItemsOverlap.number()
         }
     }
 }

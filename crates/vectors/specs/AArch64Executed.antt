@@ -1,9 +1,9 @@
--- AArch64: the instructions of `linker_laws`, and BR of `linker_output`, compared with an emulator.
+-- AArch64: the instructions of `linker_laws`, and BR and STP of `linker_output`, compared with an emulator.
 -- Register 31 is the stack pointer.
-use Rattle.std.specs.Prelude.{◌≡◌, Bool, true, false, Option, Some, None, if◌then◌else◌}
+use Rattle.std.specs.Prelude.{◌≡◌, Bool, true, false, Option, Some, None}
 use Rattle.std.specs.List.{list_all}
-use Rattle.linker_laws.specs.AArch64Machine.{State, step}
-use Rattle.linker_output.specs.AArch64Stubs.{is_br, jumped}
+use Rattle.linker_laws.specs.AArch64Machine.{State}
+use Rattle.linker_output.specs.AArch64LazyPlt.{step}
 use Rattle.vectors.specs.Steps.{Executed, Group, Numbers, at, pc, made_high, before, memory_in}
 use Rattle.vectors.specs.Steps.{bytes_from, is_left}
 use Rattle.vectors.specs.AArch64Steps.{aarch64_groups}
@@ -27,7 +27,7 @@ ends_so e None = false
 ends_so e (Some s) = is_left 32 4 0 e (numbers e) s.registers s.pc s.memory 0
 
 abbrev pub executed : Executed → Option State
-executed e = if is_br e.code then jumped e.code (begun e) else step e.code (begun e)
+executed e = step e.code (begun e)
 
 -- Each instruction leaves what the emulator did.
 abbrev pub Agrees : Type 0

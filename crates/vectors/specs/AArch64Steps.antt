@@ -1,6 +1,6 @@
 -- What the emulator unicorn 2.0.1 made of instructions. `tools/emulate_steps` makes this file.
 use Rattle.std.specs.Prelude.{List, [], ◌∷◌}
-use Rattle.vectors.specs.Steps.{Group, group, pc, row, ◌=>◌, ◌with◌}
+use Rattle.vectors.specs.Steps.{Group, at, group, m1, m2, pc, row, ◌=>◌, ◌with◌}
 
 unfoldable pub aarch64_groups : List Group
 aarch64_groups =
@@ -483,5 +483,88 @@ aarch64_groups =
     row 442 0xd61f0060 with (3, 0x2f850c2aa33c) => (pc, 0x2f850c2aa33c) ∷
     row 443 0xd61f0000 with (0, 0x296d98c29798) => (pc, 0x296d98c29798) ∷
     row 444 0xd61f0160 with (11, 0x341830cbc3d4) => (pc, 0x341830cbc3d4) ∷
+    []) ∷
+    -- stp
+    group 0x0 (
+    row 445 0xa98069fc with (15, 0x600014eb92dd) => (m1, 0xcaa17a032a4373fd)
+    => (m2, 0x6aca33337f881ee6) ∷
+    row 446 0xa9bff355 with (26, 0x600032c5015c) => (26, 0x600032c50154) => (m1, 0x215bc6f1d1acd04d)
+    => (m2, 0x26f1f136c9e13f8) ∷
+    row 447 0xa98081a6 with (13, 0x60002c4747eb) => (13, 0x60002c4747f3) => (m1, 0x6b012f24f0f8a41b)
+    => (m2, 0x95ef6e15915649b0) ∷
+    row 448 0xa9804422 with (1, 0x6000017266b8) => (m1, 0x8fddec893ab8ce31)
+    => (m2, 0x72dd500e70723db4) ∷
+    row 449 0xa9bfd832 with (1, 0x600032465dad) => (1, 0x600032465da5) => (m1, 0x1c797cc21c3a4c04)
+    => (m2, 0x5ef18e834e6b7d3b) ∷
+    row 450 0xa980eab4 with (21, 0x60003ec32cb1) => (21, 0x60003ec32cb9) => (m1, 0xac9449d80085e725)
+    => (m2, 0x8d70ebb5117e8) ∷
+    row 451 0xa9805175 with (11, 0x600026e8d3f5) => (m1, 0x93d88b68bc4e84f6)
+    => (m2, 0x36af24ed64f7924) ∷
+    row 452 0xa9805692 with (20, 0x60002ab75357) => (m1, 0x9bf9611dd4710cef)
+    => (m2, 0xb6bf3945e49c97f5) ∷
+    row 453 0xa98080bc with (5, 0x60000a2eaad9) => (5, 0x60000a2eaae1) => (m1, 0xbe868de543901825)
+    => (m2, 0x4d7eb7aa4a1e07e1) ∷
+    row 454 0xa9802a35 with (17, 0x6000054eda92) => (m1, 0x97a69af2c8334667)
+    => (m2, 0x303ee10f5e7631c5) ∷
+    row 455 0xa9800cfe with (7, 0x60001c17e26b) => (m1, 0xc13c66d4b03ba755)
+    => (m2, 0xcb8c88542fced82c) ∷
+    row 456 0xa9bf9a3f with (17, 0x60000e89c272) => (17, 0x60000e89c26a) => (m1, 0)
+    => (m2, 0x53c52a7ade1450e) ∷
+    row 457 0xa9801d75 with (11, 0x60001ca47a91) => (m1, 0xaa8161aa8d07a139)
+    => (m2, 0x2e9634111041a9ce) ∷
+    row 458 0xa98076a8 with (21, 0x600006680ae0) => (m1, 0x67130a459379140e)
+    => (m2, 0x1f9fa6b05806f6bd) ∷
+    row 459 0xa9bf91b1 with (13, 0x60000bd4735d) => (13, 0x60000bd47355) => (m1, 0x9d5c2ed59e8e9cda)
+    => (m2, 0x7dab39f911b9f717) ∷
+    row 460 0xa980a64d with (18, 0x60002ce9b3ea) => (18, 0x60002ce9b3f2) => (m1, 0xf3675d7afe0bc085)
+    => (m2, 0xfc16389aad06de5) ∷
+    row 461 0xa98002fd with (23, 0x600029a7ccb6) => (m1, 0x723c395d8d5d47aa)
+    => (m2, 0x5ebf991b4d6cf8b8) ∷
+    row 462 0xa9bfadc2 with (14, 0x6000020ebda9) => (14, 0x6000020ebda1) => (m1, 0x5b57d067fa11c703)
+    => (m2, 0xb3e59618fa7b5fe7) ∷
+    row 463 0xa9809dff with (15, 0x6000361e86ac) => (15, 0x6000361e86b4) => (m1, 0)
+    => (m2, 0x6ab67caec4a5c4a9) ∷
+    row 464 0xa9804334 with (25, 0x600005d727ee) => (m1, 0x6a99d5d7c690b90a)
+    => (m2, 0xa8967671749ad270) ∷
+    row 465 0xa9ad5a8e with (20, 0x60003138a27f) => (20, 0x60003138a14f) => (m1, 0x89d930ec6848742c)
+    => (m2, 0xd53ab664c3118820) ∷
+    row 466 0xa9aaafe5 with (31, 0x60003842f420) with (at, 0x60003842f2c0) => (31, 0x60003842f2c8)
+    => (m1, 0x33dc02362fa3950) => (m2, 0xe4f006fdf05b81c5) ∷
+    row 467 0xa9bbb6d7 with (22, 0x60001af61ccf) => (22, 0x60001af61c87) => (m1, 0xad3311c6e62ccce7)
+    => (m2, 0xdc31597f2b884312) ∷
+    row 468 0xa98eb8c4 with (6, 0x600019521d76) => (6, 0x600019521e5e) => (m1, 0x53aadc2e1e6be969)
+    => (m2, 0xb1157e5fbddbd253) ∷
+    row 469 0xa9a66d23 with (9, 0x60003356f9fc) => (9, 0x60003356f85c) => (m1, 0x3851f5df85cdcbd9)
+    => (m2, 0xdb8b08028f1a9148) ∷
+    row 470 0xa9af27c3 with (30, 0x60002904ab92) => (30, 0x60002904aa82) => (m1, 0x1743aa51c4893267)
+    => (m2, 0xca2ed5735cf00336) ∷
+    row 471 0xa9a1976f with (27, 0x60003a5b36b7) => (27, 0x60003a5b34cf) => (m1, 0x55119631eebde09b)
+    => (m2, 0x53c00df2f6eb99c4) ∷
+    row 472 0xa9ae9dc0 with (14, 0x6000275a985b) => (14, 0x6000275a9743) => (m1, 0x9c83d61b5c65bfe9)
+    => (m2, 0xd6b0b4c3e40eb4c) ∷
+    row 473 0xa9b2484f with (2, 0x60003002d2be) => (2, 0x60003002d1de) => (m1, 0xebb5401bdb18bac0)
+    => (m2, 0x85a75ab818251a07) ∷
+    row 474 0xa9a15035 with (1, 0x60001453e691) => (1, 0x60001453e4a1) => (m1, 0xc6a264a712fd89d)
+    => (m2, 0xcc1ee3c8dd74a15f) ∷
+    row 475 0xa9964f06 with (24, 0x6000144dce2a) => (24, 0x6000144dcf8a) => (m1, 0x41fe134296924e16)
+    => (m2, 0x11d39a8c97f2729f) ∷
+    row 476 0xa99b04ac with (5, 0x60002ff090ec) => (5, 0x60002ff0929c) => (m1, 0x2ff451dad57bc12c)
+    => (m2, 0xb5dec51e3100281) ∷
+    row 477 0xa995de42 with (18, 0x6000273c2c7c) => (18, 0x6000273c2dd4) => (m1, 0x6403a351b02de4b0)
+    => (m2, 0xa3ccfc95a897d32a) ∷
+    row 478 0xa9a82bbb with (29, 0x60003a30a2b4) => (29, 0x60003a30a134) => (m1, 0x9e026651f0c60830)
+    => (m2, 0x934e3a9f2cc7b013) ∷
+    row 479 0xa992ab1d with (24, 0x600028cdeb93) => (24, 0x600028cdecbb) => (m1, 0xfe86cc6af90ac235)
+    => (m2, 0xeb649cd364744dec) ∷
+    row 480 0xa99d8730 with (25, 0x600033140e91) => (25, 0x600033141069) => (m1, 0xf5076078452c3118)
+    => (m2, 0x150a5454538d0b30) ∷
+    row 481 0xa9b00fd3 with (30, 0x600019030d3e) => (30, 0x600019030c3e) => (m1, 0x2f17ec5a65593ad6)
+    => (m2, 0xc0b1f069181e54a5) ∷
+    row 482 0xa9800de1 with (15, 0x60001a9ae03b) => (m1, 0xc859591eb1c0a073)
+    => (m2, 0xd0ef00efa2c3dd0a) ∷
+    row 483 0xa985ab26 with (25, 0x600037db8c07) => (25, 0x600037db8c5f) => (m1, 0x855199e0e7258275)
+    => (m2, 0xda0b0d00d7bf36d8) ∷
+    row 484 0xa9a8dd70 with (11, 0x600030c51222) => (11, 0x600030c510aa) => (m1, 0x5f6cbc3c4bb24ee5)
+    => (m2, 0x9abd87b871a0fb14) ∷
     []) ∷
     []

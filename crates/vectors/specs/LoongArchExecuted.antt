@@ -1,9 +1,10 @@
--- LoongArch: the instructions of `linker_laws` compared with an emulator. Registers 32 to 63 are
--- those of vectors.
+-- LoongArch: the instructions of `linker_laws`, and those of lazy PLTs in `linker_output`, compared with
+-- an emulator. Registers 32 to 63 are those of vectors.
 use Rattle.std.specs.Prelude.{ℕ, ◌≡◌, ◌+◌, ◌-◌, ◌*◌, ◌/◌, ◌^◌, ◌==◌, ◌&&◌, nat_le, nat_lt}
 use Rattle.std.specs.Prelude.{if◌then◌else◌, Bool, true, false, Option, Some, None}
 use Rattle.std.specs.List.{list_all}
-use Rattle.linker_laws.specs.LoongArchMachine.{State, Floats, step, read}
+use Rattle.linker_laws.specs.LoongArchMachine.{State, Floats, read}
+use Rattle.linker_output.specs.LoongArchLazyPlt.{step}
 use Rattle.vectors.specs.Steps.{Executed, Group, Numbers, at, pc, noise, made_low, before}
 use Rattle.vectors.specs.Steps.{memory_in, bytes_from, is_left}
 use Rattle.vectors.specs.LoongArchSteps.{loongarch_groups}

@@ -1693,4 +1693,137 @@ loongarch_groups =
     row 1280 0x2cd16c07 with (at, 0x45b) => (m0, 0x435608767419a0d3) => (m1, 0x9cf6924197c6606c)
     => (m2, 0x4c354ec8647984bf) => (m3, 0xc23a2250fd08803a) ∷
     []) ∷
+    -- pcaddu12i
+    group 0x0 (
+    row 1281 0x1c000004 => (4, 0x2015067b0) ∷
+    row 1282 0x1dffffe0 ∷
+    row 1283 0x1c00003c => (28, 0x40150d788) ∷
+    row 1284 0x1d000017 => (23, 0x381510518) ∷
+    row 1285 0x1cfffff9 => (25, 0x281514034) ∷
+    row 1286 0x1dffffed => (13, 0x151a0d8) ∷
+    row 1287 0x1c000036 => (22, 0x40151e458) ∷
+    row 1288 0x1d000015 => (21, 0xffffffff81521568) ∷
+    row 1289 0x1cfffffd => (29, 0x81524ea8) ∷
+    row 1290 0x1c000000 ∷
+    row 1291 0x1c000027 => (7, 0x20152ec70) ∷
+    row 1292 0x1d000007 => (7, 0x38153364c) ∷
+    row 1293 0x1cffffe3 => (3, 0x81533b0c) ∷
+    row 1294 0x1c00000c => (12, 0x40153b550) ∷
+    row 1295 0x1dffffff => (31, 0x20153d7cc) ∷
+    row 1296 0x1d00000d => (13, 0x381541d24) ∷
+    row 1297 0x1cfffff3 => (19, 0x281546ab4) ∷
+    row 1298 0x1c000000 ∷
+    row 1299 0x1dffffe8 => (8, 0x40154b66c) ∷
+    row 1300 0x1c000020 ∷
+    row 1301 0x1d1aace2 => (2, 0x38eabe2f8) ∷
+    row 1302 0x1df1818f => (15, 0x1fa165c38) ∷
+    row 1303 0x1c5df74b => (11, 0x305195ac) ∷
+    row 1304 0x1c18a004 => (4, 0x40da629fc) ∷
+    row 1305 0x1c46d088 => (8, 0x424bea92c) ∷
+    row 1306 0x1d457c60 ∷
+    row 1307 0x1c152332 => (18, 0x20be862d8) ∷
+    row 1308 0x1d7e87dc => (28, 0xffffffffc09b12a8) ∷
+    row 1309 0x1d508f5d => (29, 0x3a99f0aa8) ∷
+    row 1310 0x1cb3b0c2 => (2, 0x45b301034) ∷
+    row 1311 0x1c1ae4c2 => (2, 0x20eca58a0) ∷
+    row 1312 0x1c6ee4b7 => (23, 0x38ca73ec) ∷
+    row 1313 0x1c8a308c => (12, 0x467084c0) ∷
+    row 1314 0x1d73abc0 ∷
+    row 1315 0x1dba8c51 => (17, 0xffffffffde9ef9b0) ∷
+    row 1316 0x1cab346f => (15, 0x56f355cc) ∷
+    row 1317 0x1c02c330 => (16, 0x202bae770) ∷
+    row 1318 0x1c57a67c => (28, 0x2d2cdea0) ∷
+    row 1319 0x1c04a3a7 => (7, 0x3ab9604) ∷
+    row 1320 0x1cb17ad6 => (22, 0x25a1792f0) ∷
+    []) ∷
+    -- sub.d
+    group 0x0 (
+    row 1321 0x0011d2b4 with (20, 0) with (21, 0) ∷
+    row 1322 0x0011ba40 with (14, 0xffffffff) with (18, 0x8000000000000000) ∷
+    row 1323 0x0011ceb7 with (19, 0x7fffffffffffffff) with (21, 0x7fffffff)
+    => (23, 0x8000000080000000) ∷
+    row 1324 0x0011ac1d with (11, 1) => (29, 0xffffffffffffffff) ∷
+    row 1325 0x001189b7 with (2, 0xffffffff7fffffff) with (13, 0xffffffffffffffff)
+    => (23, 0x80000000) ∷
+    row 1326 0x001198c6 with (6, 0x80000000) => (6, 0) ∷
+    row 1327 0x0011b3b1 with (12, 0xffffffffffffffff) with (29, 0xffffffff7fffffff)
+    => (17, 0xffffffff80000000) ∷
+    row 1328 0x00119768 with (5, 0xffffffff80000000) with (27, 1) => (8, 0x80000001) ∷
+    row 1329 0x0011975b with (5, 0x7fffffff) with (26, 0x7fffffffffffffff)
+    => (27, 0x7fffffff80000000) ∷
+    row 1330 0x0011c9c0 with (14, 0xffffffff) with (18, 0x8000000000000000) ∷
+    row 1331 0x0011bea2 with (15, 1) with (21, 1) => (2, 0) ∷
+    row 1332 0x0011c406 with (17, 0xffffffff7fffffff) => (6, 0x80000001) ∷
+    row 1333 0x0011ffd6 with (30, 0xffffffff) with (31, 0x80000000) => (22, 0x7fffffff) ∷
+    row 1334 0x0011b18c with (12, 0) ∷
+    row 1335 0x001182c8 with (22, 0x8000000000000000) => (8, 0x8000000000000000) ∷
+    row 1336 0x0011d5f9 with (15, 0x7fffffff) with (21, 0x7fffffff) => (25, 0) ∷
+    row 1337 0x00119c03 with (7, 0x8000000000000000) => (3, 0x8000000000000000) ∷
+    row 1338 0x0011c2a0 with (16, 0) with (21, 0xffffffffffffffff) ∷
+    row 1339 0x00119c34 with (1, 0x80000000) with (7, 0xffffffff) => (20, 0xffffffff80000001) ∷
+    row 1340 0x00119806 with (6, 0x7fffffffffffffff) => (6, 0x8000000000000001) ∷
+    row 1341 0x0011da5c => (28, 0x8bc63046384d8a25) ∷
+    row 1342 0x0011ce73 => (19, 0) ∷
+    row 1343 0x00118dbe => (30, 0x5789c60bcb06060) ∷
+    row 1344 0x0011a6fb => (27, 0x57142c98fa4304) ∷
+    row 1345 0x00119ed2 => (18, 0x4ec49965d88b02b2) ∷
+    row 1346 0x0011dd60 ∷
+    row 1347 0x0011f75d => (29, 0x906a50181ed5fa13) ∷
+    row 1348 0x00119809 => (9, 0xc8a310b213e6f211) ∷
+    row 1349 0x0011d2f8 => (24, 0xfa345ae83f4891f) ∷
+    row 1350 0x0011def7 => (23, 0) ∷
+    row 1351 0x0011e2c4 => (4, 0xe8e37625c6346e3b) ∷
+    row 1352 0x0011a91a => (26, 0x64c28830697d2302) ∷
+    row 1353 0x0011ca4c => (12, 0) ∷
+    row 1354 0x0011a4c0 ∷
+    row 1355 0x0011be66 => (6, 0x2078fbfbae2d1939) ∷
+    row 1356 0x00119011 => (17, 0x4332bf93beb414cc) ∷
+    row 1357 0x0011bff5 => (21, 0xa381ffd460bbdf3a) ∷
+    row 1358 0x0011ad6b => (11, 0) ∷
+    row 1359 0x0011b61d => (29, 0xb2a1721444f24d9a) ∷
+    row 1360 0x0011d1d1 => (17, 0x7e95745e8cfe90d6) ∷
+    []) ∷
+    -- srli.d
+    group 0x0 (
+    row 1361 0x0045026e with (19, 0) => (14, 0) ∷
+    row 1362 0x0045fd80 with (12, 0x8000000000000000) ∷
+    row 1363 0x004504b2 with (5, 0x7fffffff) => (18, 0x3fffffff) ∷
+    row 1364 0x00450016 => (22, 0) ∷
+    row 1365 0x0045fc90 with (4, 0xffffffffffffffff) => (16, 1) ∷
+    row 1366 0x0045fc00 ∷
+    row 1367 0x00450661 with (19, 0xffffffff7fffffff) => (1, 0x7fffffffbfffffff) ∷
+    row 1368 0x00450059 with (2, 1) => (25, 1) ∷
+    row 1369 0x0045fd26 with (9, 0x7fffffffffffffff) => (6, 0) ∷
+    row 1370 0x004502e0 with (23, 0xffffffff) ∷
+    row 1371 0x004506da with (22, 1) => (26, 0) ∷
+    row 1372 0x0045000b => (11, 0) ∷
+    row 1373 0x0045fdd7 with (14, 0xffffffff) => (23, 0) ∷
+    row 1374 0x004502b5 with (21, 0) ∷
+    row 1375 0x0045fc4a with (2, 0x8000000000000000) => (10, 1) ∷
+    row 1376 0x00450180 with (12, 0x7fffffff) ∷
+    row 1377 0x0045ffec with (31, 0xffffffff80000000) => (12, 1) ∷
+    row 1378 0x004501e0 with (15, 0xffffffffffffffff) ∷
+    row 1379 0x0045fc43 with (2, 0x80000000) => (3, 0) ∷
+    row 1380 0x00450404 => (4, 0) ∷
+    row 1381 0x00454906 => (6, 0x39f53f9d9f18) ∷
+    row 1382 0x004552d6 => (22, 0x2234288967d) ∷
+    row 1383 0x0045dddd => (29, 0x1c7) ∷
+    row 1384 0x0045f878 => (24, 3) ∷
+    row 1385 0x0045de60 ∷
+    row 1386 0x004508c0 ∷
+    row 1387 0x00457f0d => (13, 0xe0bf95b1) ∷
+    row 1388 0x0045d814 => (20, 0) ∷
+    row 1389 0x0045242a => (10, 0x61f5ffd4e59872) ∷
+    row 1390 0x00455ad6 => (22, 0xa48245147f) ∷
+    row 1391 0x0045542b => (11, 0x1487f8440b3) ∷
+    row 1392 0x0045e81e => (30, 0) ∷
+    row 1393 0x0045e9ec => (12, 0x13) ∷
+    row 1394 0x00451100 ∷
+    row 1395 0x00452f5d => (29, 0x55be7545bcd06) ∷
+    row 1396 0x00458009 => (9, 0) ∷
+    row 1397 0x004523db => (27, 0x181c9d47633d91) ∷
+    row 1398 0x0045e129 => (9, 0x4e) ∷
+    row 1399 0x00452dda => (26, 0x4b1cb6aad9d12) ∷
+    row 1400 0x00453247 => (7, 0x469063e1a539d) ∷
+    []) ∷
     []

@@ -7,7 +7,8 @@ use Rattle.std.specs.List.{list_all}
 use Rattle.std.specs.Int.{w64, leading_zeros}
 use Rattle.linker_base.specs.Bits.{field}
 use Rattle.linker_laws.specs.Ppc64Machine.{Formats, step_prefixed}
-use Rattle.linker_output.specs.Ppc64Stubs.{Counted, step_counted, lifted}
+use Rattle.linker_output.specs.Ppc64LazyPlt.{step}
+use Rattle.linker_output.specs.Ppc64Stubs.{Counted, lifted}
 use Rattle.vectors.specs.Steps.{Executed, Group, Numbers, at, pc, made_low, before, memory_in}
 use Rattle.vectors.specs.Steps.{bytes_from, is_left}
 use Rattle.vectors.specs.Ppc64Steps.{ppc64_groups}
@@ -87,7 +88,7 @@ ends_so e (Some c) =
 
 abbrev pub executed : Executed → Option Counted
 executed e =
-    if length_of e.code == 4 then step_counted formats e.code (begun e)
+    if length_of e.code == 4 then step formats e.code (begun e)
     else lifted (begun e) (step_prefixed formats e.code ((begun e).state))
 
 -- Each instruction leaves what the emulator did.

@@ -2112,4 +2112,140 @@ ppc64_groups =
     row 1563 0x4e800420 with (65, 0x14c5aab) => (pc, 0x14c5aa8) ∷
     row 1564 0x4e800420 with (65, 0x201441196) => (pc, 0x201441194) ∷
     []) ∷
+    -- b
+    group 0x0 (
+    row 1565 0x48000000 => (pc, 0x201976068) ∷
+    row 1566 0x4bfffffc => (pc, 0x1979fa4) ∷
+    row 1567 0x48000004 ∷
+    row 1568 0x4a000000 => (pc, 0x1ff982ec0) ∷
+    row 1569 0x49fffffc => (pc, 0x2039853ec) ∷
+    row 1570 0x4bfffffc => (pc, 0x20198b3fc) ∷
+    row 1571 0x48000004 ∷
+    row 1572 0x4a000000 => (pc, 0x1ff9904bc) ∷
+    row 1573 0x49fffffc => (pc, 0x203995810) ∷
+    row 1574 0x48000000 => (pc, 0x20199bba0) ∷
+    row 1575 0x48000004 ∷
+    row 1576 0x4a000000 => (pc, 0x1ff9a2b54) ∷
+    row 1577 0x49fffffc => (pc, 0x4039a7778) ∷
+    row 1578 0x48000000 => (pc, 0x2019a9130) ∷
+    row 1579 0x4bfffffc => (pc, 0x2019ac868) ∷
+    row 1580 0x4a000000 => (pc, 0xffffffffff9b2a88) ∷
+    row 1581 0x49fffffc => (pc, 0x2039b7a28) ∷
+    row 1582 0x48000000 => (pc, 0x2019b94b0) ∷
+    row 1583 0x4bfffffc => (pc, 0x19bea10) ∷
+    row 1584 0x48000004 ∷
+    row 1585 0x4a39b618 => (pc, 0x3ffd60638) ∷
+    row 1586 0x4a1a9090 => (pc, 0x3ffb736b0) ∷
+    row 1587 0x49383170 => (pc, 0x402d515c4) ∷
+    row 1588 0x4a0cfa0c => (pc, 0x1ffaa1a20) ∷
+    row 1589 0x49ffb274 => (pc, 0x4039d1124) ∷
+    row 1590 0x481268f4 => (pc, 0x201aff3cc) ∷
+    row 1591 0x4825bca4 => (pc, 0x1c3a3d8) ∷
+    row 1592 0x4a3ad008 => (pc, 0x1ffd8f920) ∷
+    row 1593 0x48245754 => (pc, 0x401c2c284) ∷
+    row 1594 0x49a17178 => (pc, 0x4034029a0) ∷
+    row 1595 0x4b18a3a4 => (pc, 0x400b783a4) ∷
+    row 1596 0x4b46d3c8 => (pc, 0x200e5de80) ∷
+    row 1597 0x48835c6c => (pc, 0x20222a764) ∷
+    row 1598 0x49ded750 => (pc, 0x2037e6abc) ∷
+    row 1599 0x4aa980b8 => (pc, 0x4004964cc) ∷
+    row 1600 0x4beca1e0 => (pc, 0x2018cb428) ∷
+    row 1601 0x485cbfc4 => (pc, 0x401fd331c) ∷
+    row 1602 0x483cbb94 => (pc, 0x401dd42dc) ∷
+    row 1603 0x497da3e4 => (pc, 0x4031e79fc) ∷
+    row 1604 0x4a57ba8c => (pc, 0xfffffffffff8e500) ∷
+    []) ∷
+    -- subf
+    group 0x0 (
+    row 1605 0x7e0c4850 with (9, 0) with (12, 0) => (16, 0) ∷
+    row 1606 0x7e000050 with (0, 0x8000000000000000) => (16, 0) ∷
+    row 1607 0x7c841850 with (3, 0x7fffffffffffffff) with (4, 0x7fffffff) => (4, 0x7fffffff80000000)
+    ∷
+    row 1608 0x7e318850 with (17, 0xffffffff80000000) => (17, 0) ∷
+    row 1609 0x7d39f850 with (25, 0xffffffffffffffff) with (31, 0xffffffff7fffffff)
+    => (9, 0xffffffff80000000) ∷
+    row 1610 0x7c842850 with (4, 0x80000000) with (5, 0x80000000) => (4, 0) ∷
+    row 1611 0x7c353050 with (6, 0xffffffffffffffff) with (21, 0xffffffff7fffffff)
+    => (1, 0x80000000) ∷
+    row 1612 0x7dad6850 with (13, 1) => (13, 0) ∷
+    row 1613 0x7faef850 with (14, 0x7fffffffffffffff) with (31, 0x7fffffff)
+    => (29, 0x8000000080000000) ∷
+    row 1614 0x7d202850 with (0, 0xffffffff) with (5, 0x8000000000000000) => (9, 0x7fffffff00000001)
+    ∷
+    row 1615 0x7eafe850 with (15, 1) with (29, 1) => (21, 0) ∷
+    row 1616 0x7e9ad050 with (26, 0x7fffffffffffffff) => (20, 0) ∷
+    row 1617 0x7dbc3850 with (7, 0x80000000) with (28, 0xffffffff) => (13, 0xffffffff80000001) ∷
+    row 1618 0x7ce7f050 with (7, 0) with (30, 0xffffffffffffffff) => (7, 0xffffffffffffffff) ∷
+    row 1619 0x7fa1c850 with (1, 0x8000000000000000) with (25, 0xffffffff80000000)
+    => (29, 0x7fffffff80000000) ∷
+    row 1620 0x7cea6850 with (10, 0x7fffffff) with (13, 0x7fffffff) => (7, 0) ∷
+    row 1621 0x7f0cc050 with (12, 0xffffffff80000000) with (24, 0x8000000000000000)
+    => (24, 0x8000000080000000) ∷
+    row 1622 0x7f004050 with (0, 0xffffffffffffffff) with (8, 0) => (24, 1) ∷
+    row 1623 0x7fd5b850 with (21, 0x80000000) with (23, 0xffffffff) => (30, 0x7fffffff) ∷
+    row 1624 0x7dbef050 with (30, 0xffffffff7fffffff) => (13, 0) ∷
+    row 1625 0x7dd27850 => (14, 0x2990d8cf2d8c3aa6) ∷
+    row 1626 0x7ef7f850 => (23, 0xae18df7945bcbdc2) ∷
+    row 1627 0x7e8a8050 => (20, 0x8ef5717b0a736ffc) ∷
+    row 1628 0x7d4a5050 => (10, 0) ∷
+    row 1629 0x7f9c6050 => (28, 0x33c75afd6f56f5d3) ∷
+    row 1630 0x7c206050 => (1, 0x17c6d97a18ca8af5) ∷
+    row 1631 0x7c5ed850 => (2, 0x98f6f2b4856377b5) ∷
+    row 1632 0x7e37b850 => (17, 0) ∷
+    row 1633 0x7def4850 => (15, 0x966e12244b71f794) ∷
+    row 1634 0x7e942050 => (20, 0x4b5bb094062006b3) ∷
+    row 1635 0x7c0d9850 => (0, 0x919b5fb779fe8a62) ∷
+    row 1636 0x7d94b850 => (12, 0x21acb0dd44bb681c) ∷
+    row 1637 0x7e3de850 => (17, 0) ∷
+    row 1638 0x7c20e850 => (1, 0x610e0938d597ab1e) ∷
+    row 1639 0x7f102050 => (24, 0x33e0f9ff5c410a32) ∷
+    row 1640 0x7d9bd850 => (12, 0) ∷
+    row 1641 0x7f45d050 => (26, 0x8f21413f94b7fc4d) ∷
+    row 1642 0x7d089050 => (8, 0x6f562ba0b7553f4) ∷
+    row 1643 0x7dbc9050 => (13, 0x234b0d71258845a5) ∷
+    row 1644 0x7f7bd850 => (27, 0) ∷
+    []) ∷
+    -- rldicl
+    group 0x0 (
+    row 1645 0x79760000 with (11, 0) => (22, 0) ∷
+    row 1646 0x79e0ffe2 with (15, 0x8000000000000000) => (0, 0) ∷
+    row 1647 0x7a2c0000 with (17, 0x7fffffff) => (12, 0x7fffffff) ∷
+    row 1648 0x7a308000 with (17, 0xffffffff80000000) => (16, 0xffff80000000ffff) ∷
+    row 1649 0x78de7fe2 with (6, 0xffffffffffffffff) => (30, 1) ∷
+    row 1650 0x7908ffe2 with (8, 0x80000000) => (8, 0) ∷
+    row 1651 0x7b980000 with (28, 0xffffffff7fffffff) => (24, 0xffffffff7fffffff) ∷
+    row 1652 0x7b9c8000 with (28, 1) => (28, 0x10000) ∷
+    row 1653 0x7b1f7fe2 with (24, 0x7fffffffffffffff) => (31, 1) ∷
+    row 1654 0x79c00000 with (14, 0xffffffff) => (0, 0xffffffff) ∷
+    row 1655 0x78bc0000 with (5, 1) => (28, 1) ∷
+    row 1656 0x78f28000 with (7, 0x7fffffffffffffff) => (18, 0xffffffffffff7fff) ∷
+    row 1657 0x7a537fe2 with (18, 0xffffffff) => (19, 1) ∷
+    row 1658 0x79080000 with (8, 0) ∷
+    row 1659 0x7afaffe2 with (23, 0x8000000000000000) => (26, 0) ∷
+    row 1660 0x7bd48000 with (30, 0x7fffffff) => (20, 0x7fffffff0000) ∷
+    row 1661 0x7bef7fe2 with (31, 0xffffffff80000000) => (15, 0) ∷
+    row 1662 0x78000000 with (0, 0xffffffffffffffff) ∷
+    row 1663 0x79d5ffe2 with (14, 0x80000000) => (21, 0) ∷
+    row 1664 0x7a720000 with (19, 0xffffffff7fffffff) => (18, 0xffffffff7fffffff) ∷
+    row 1665 0x79346f62 => (20, 5) ∷
+    row 1666 0x7a7314c0 => (19, 0xeb3a19a05c5) ∷
+    row 1667 0x78f222a0 => (18, 0x3afe1c) ∷
+    row 1668 0x798cd9a0 => (12, 0x1554e45) ∷
+    row 1669 0x7861e222 => (1, 0xb3f5d6) ∷
+    row 1670 0x79e0b542 => (0, 0x3f47d18b380) ∷
+    row 1671 0x7a995902 => (25, 0x7dd8fed1174f1f8) ∷
+    row 1672 0x78e15102 => (1, 0xfe7e040dcd1f602) ∷
+    row 1673 0x79f8c102 => (24, 0x1e7106c25f238ab) ∷
+    row 1674 0x7b5afc60 => (26, 0x668e) ∷
+    row 1675 0x78670b00 => (7, 0x5e42efe8f7f10) ∷
+    row 1676 0x7b158ec2 => (21, 0x1d18a00e9e) ∷
+    row 1677 0x78158900 => (21, 0xd1725a3d4d5ada4) ∷
+    row 1678 0x7aa04ec2 => (0, 0x1d258eecce) ∷
+    row 1679 0x7a6af5c0 => (10, 0x157e9c009b6) ∷
+    row 1680 0x79209900 => (0, 0x7cd335e0d349630) ∷
+    row 1681 0x78847d22 => (4, 0x8c7) ∷
+    row 1682 0x7a5249e2 => (18, 0x146d85a) ∷
+    row 1683 0x78733be0 => (19, 0x278f) ∷
+    row 1684 0x78420980 => (2, 0xaa6411317afc20) ∷
+    []) ∷
     []

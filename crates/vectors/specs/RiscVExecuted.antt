@@ -1,10 +1,11 @@
--- RISC-V: the instructions of `linker_laws` compared with an emulator. Registers 32 to 63 are those
--- of floating-point numbers, which have 64 bits in the emulator.
+-- RISC-V: the instructions of `linker_laws`, and those of lazy PLTs in `linker_output`, compared with an
+-- emulator. Registers 32 to 63 are those of floating-point numbers, which have 64 bits in the emulator.
 use Rattle.std.specs.Prelude.{ℕ, ◌≡◌, ◌+◌, ◌-◌, ◌%◌, ◌^◌, ◌==◌, nat_lt, if◌then◌else◌, List, take}
 use Rattle.std.specs.Prelude.{Bool, true, false, Option, Some, None}
 use Rattle.std.specs.Int.{w32, to_le_bytes}
 use Rattle.std.specs.List.{list_all}
 use Rattle.linker_laws.specs.RiscVMachine.{Hart, Instruction, register, fetched, executed}
+use Rattle.linker_output.specs.RiscVLazyPlt.{further}
 use Rattle.vectors.specs.Steps.{Executed, Group, Numbers, at, pc, made_high, before, memory_in}
 use Rattle.vectors.specs.Steps.{bytes_from, is_left}
 use Rattle.vectors.specs.RiscVSteps.{riscv_groups}
@@ -33,8 +34,13 @@ is_hart e h =
     is_left 64 (length_of e.code) 0 e (numbers e)
     (λ r. if nat_lt r 32 then register h r else h.floats (r - 32) % 2 ^ 64) h.pc h.memory 0
 
+abbrev pub is_some_hart : Executed → Option Hart → Bool
+is_some_hart e None = false
+is_some_hart e (Some h) = is_hart e h
+
+-- an instruction of `linker_laws`, or a further one
 abbrev pub ends_so : Executed → Option (ℕ × Instruction) → Bool
-ends_so e None = false
+ends_so e None = is_some_hart e (further e.code (begun e))
 ends_so e (Some i) = is_hart e (executed i.0 i.1 (begun e))
 
 abbrev pub bytes_of : ℕ → List ℕ

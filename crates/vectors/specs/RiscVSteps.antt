@@ -1122,4 +1122,90 @@ riscv_groups =
     row 1039 0x5995 => (19, 0xffffffffffffffe5) ∷
     row 1040 0x5451 => (8, 0xfffffffffffffff4) ∷
     []) ∷
+    -- sub
+    group 0x0 (
+    row 1041 0x40608f33 with (1, 0) => (30, 0x29292e634ed86826) ∷
+    row 1042 0x41f48d33 with (9, 0x8000000000000000) => (26, 0x8f949cea9df7fb7a) ∷
+    row 1043 0x401d8733 with (27, 0x7fffffff) => (14, 0x5c9e5cc1d1616da5) ∷
+    row 1044 0x41e10bb3 with (2, 0xffffffff80000000) => (23, 0x10e4a7231669843e) ∷
+    row 1045 0x41098333 with (19, 0xffffffffffffffff) => (6, 0xcf1d1ad6fef949e2) ∷
+    row 1046 0x40e08133 with (1, 0x80000000) => (2, 0xe0637b0586257c28) ∷
+    row 1047 0x416d8a33 with (27, 0xffffffff7fffffff) => (20, 0xb4f10620fe92b48d) ∷
+    row 1048 0x405b0233 with (22, 1) => (4, 0xe8b7044b2a4e2c16) ∷
+    row 1049 0x412b0733 with (22, 0x7fffffffffffffff) => (14, 0x2c3b0cda17e80985) ∷
+    row 1050 0x41bc0633 with (24, 0xffffffff) => (12, 0x3bd6f6bfffb8892b) ∷
+    row 1051 0x41b380b3 with (7, 1) => (1, 0xdb7695471632bd3a) ∷
+    row 1052 0x40f38933 with (7, 0x7fffffffffffffff) => (18, 0xb0b0bf8799fa7664) ∷
+    row 1053 0x402f8db3 with (31, 0xffffffff) => (27, 0xeb3b82bf740442f2) ∷
+    row 1054 0x405b8133 with (23, 0) => (2, 0xc92c64526773eb64) ∷
+    row 1055 0x401b07b3 with (22, 0x8000000000000000) => (15, 0x207aec40acb0d879) ∷
+    row 1056 0x41eb8133 with (23, 0x7fffffff) => (2, 0x2f61183593354764) ∷
+    row 1057 0x40378633 with (15, 0xffffffff80000000) => (12, 0xd5dcfb2a2e3e8b34) ∷
+    row 1058 0x40310bb3 with (2, 0xffffffffffffffff) => (23, 0x8d0cbbb7e7b2aa71) ∷
+    row 1059 0x40fc87b3 with (25, 0x80000000) => (15, 0xfa04fb53af4fbc51) ∷
+    row 1060 0x40e10a33 with (2, 0xffffffff7fffffff) => (20, 0xbdad760838e8d130) ∷
+    row 1061 0x40948bb3 => (23, 0) ∷
+    row 1062 0x412a02b3 => (5, 0x8561af7d22217c76) ∷
+    row 1063 0x41ab05b3 => (11, 0x2124e1ad0b053a83) ∷
+    row 1064 0x413888b3 => (17, 0x4e97f24bb15d977c) ∷
+    row 1065 0x40138833 => (16, 0x69ada1f9020d1b38) ∷
+    row 1066 0x40540c33 => (24, 0x5e614d3af594f797) ∷
+    row 1067 0x411585b3 => (11, 0xe31dcef8ebcb7f13) ∷
+    row 1068 0x410d8f33 => (30, 0xba834341c59e4ce6) ∷
+    row 1069 0x40c406b3 => (13, 0xe314f9fd086d732f) ∷
+    row 1070 0x41a18e33 => (28, 0x6e358d9e662b5c1b) ∷
+    row 1071 0x411e0133 => (2, 0x5d0e833ada0a8105) ∷
+    row 1072 0x40710133 => (2, 0x104a82ff38ee83f3) ∷
+    row 1073 0x400285b3 => (11, 0xb96bc86bcab91492) ∷
+    row 1074 0x409f86b3 => (13, 0x58a421ea8e2d587c) ∷
+    row 1075 0x412d02b3 => (5, 0x661b1c4d04e7217c) ∷
+    row 1076 0x41ea84b3 => (9, 0xd1c5b72de9a30374) ∷
+    row 1077 0x408c0033 ∷
+    row 1078 0x418808b3 => (17, 0x4627ef454deec4ce) ∷
+    row 1079 0x40aa83b3 => (7, 0x4d523bfa66cc7988) ∷
+    row 1080 0x40ae06b3 => (13, 0x69464050a12f11b7) ∷
+    []) ∷
+    -- srli
+    group 0x0 (
+    row 1081 0x000ad993 with (21, 0) => (19, 0) ∷
+    row 1082 0x03f4d893 with (9, 0x8000000000000000) => (17, 1) ∷
+    row 1083 0x00185e93 with (16, 0x7fffffff) => (29, 0x3fffffff) ∷
+    row 1084 0x020ed113 with (29, 0xffffffff80000000) => (2, 0xffffffff) ∷
+    row 1085 0x01fdd093 with (27, 0xffffffffffffffff) => (1, 0x1ffffffff) ∷
+    row 1086 0x03f65993 with (12, 0x80000000) => (19, 0) ∷
+    row 1087 0x001cdc13 with (25, 0xffffffff7fffffff) => (24, 0x7fffffffbfffffff) ∷
+    row 1088 0x0209da13 with (19, 1) => (20, 0) ∷
+    row 1089 0x01f2d893 with (5, 0x7fffffffffffffff) => (17, 0xffffffff) ∷
+    row 1090 0x000d5c13 with (26, 0xffffffff) => (24, 0xffffffff) ∷
+    row 1091 0x001ad093 with (21, 1) => (1, 0) ∷
+    row 1092 0x02065a13 with (12, 0x7fffffffffffffff) => (20, 0x7fffffff) ∷
+    row 1093 0x01fcdc13 with (25, 0xffffffff) => (24, 1) ∷
+    row 1094 0x00025d13 with (4, 0) => (26, 0) ∷
+    row 1095 0x03f15013 with (2, 0x8000000000000000) ∷
+    row 1096 0x0202dd13 with (5, 0x7fffffff) => (26, 0) ∷
+    row 1097 0x01f3d513 with (7, 0xffffffff80000000) => (10, 0x1ffffffff) ∷
+    row 1098 0x000dda13 with (27, 0xffffffffffffffff) => (20, 0xffffffffffffffff) ∷
+    row 1099 0x03f75513 with (14, 0x80000000) => (10, 0) ∷
+    row 1100 0x0011d093 with (3, 0xffffffff7fffffff) => (1, 0x7fffffffbfffffff) ∷
+    row 1101 0x02745c13 => (24, 0x75f6c1) ∷
+    row 1102 0x0113de13 => (28, 0x754a2adf8d6c) ∷
+    row 1103 0x028edb93 => (23, 0x914483) ∷
+    row 1104 0x0332de93 => (29, 0x1dce) ∷
+    row 1105 0x0296d513 => (10, 0x4c3337) ∷
+    row 1106 0x03b85193 => (3, 1) ∷
+    row 1107 0x005c5513 => (10, 0x34a96e26f28fba5) ∷
+    row 1108 0x01b65693 => (13, 0x1b4f36d0aa) ∷
+    row 1109 0x0069d513 => (10, 0x766abe87966307) ∷
+    row 1110 0x01355113 => (2, 0x16be9d1cec46) ∷
+    row 1111 0x00145e93 => (29, 0x3e2695760ae44219) ∷
+    row 1112 0x03065993 => (19, 0xbf8) ∷
+    row 1113 0x0118df13 => (30, 0x1ed0cea4438f) ∷
+    row 1114 0x03dcd293 => (5, 1) ∷
+    row 1115 0x02915093 => (1, 0x67d832) ∷
+    row 1116 0x026b5a93 => (21, 0x1cbcede) ∷
+    row 1117 0x03d8dc13 => (24, 0) ∷
+    row 1118 0x02775a93 => (21, 0xd5ab9a) ∷
+    row 1119 0x02a4dc93 => (25, 0x2566da) ∷
+    row 1120 0x019d5093 => (1, 0x7f3e5afbbc) ∷
+    []) ∷
     []

@@ -1,10 +1,11 @@
--- x86-64: the instructions of `linker_laws` compared with an emulator. Register 16 is where the FS
--- segment begins.
+-- x86-64: the instructions of `linker_laws`, and PUSH of `linker_output`, compared with an emulator.
+-- Register 16 is where the FS segment begins.
 use Rattle.std.specs.Prelude.{ℕ, zero, suc, ◌≡◌, ◌+◌, ◌*◌, ◌/◌, ◌%◌, ◌==◌, ◌^◌, Bool, true, false}
 use Rattle.std.specs.Prelude.{Option, Some, None, if◌then◌else◌, List, [], ◌∷◌, length}
 use Rattle.std.specs.List.{list_all}
 use Rattle.std.specs.Int.{bit_at}
-use Rattle.linker_laws.specs.X86Machine.{State, Flags, step, bit_of}
+use Rattle.linker_laws.specs.X86Machine.{State, Flags, bit_of}
+use Rattle.linker_output.specs.X86LazyPlt.{step}
 use Rattle.vectors.specs.Steps.{Executed, Group, Numbers, at, flags, pc, made_high, before}
 use Rattle.vectors.specs.Steps.{memory_in, bytes_from, is_left}
 use Rattle.vectors.specs.X86Steps.{x86_groups}

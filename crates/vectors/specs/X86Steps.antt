@@ -1653,4 +1653,155 @@ x86_groups =
     row 1123 0x90 ∷
     row 1124 0x90 ∷
     []) ∷
+    -- push $
+    group 0x8d5 (
+    row 1125 0x6800000000 with (4, 0x600029c775aa) => (4, 0x600029c775a2) => (m0, 0) ∷
+    row 1126 0x6800000080 with (4, 0x6000001f0c71) => (4, 0x6000001f0c69)
+    => (m0, 0xffffffff80000000) ∷
+    row 1127 0x6801000000 with (4, 0x6000321f7b60) => (4, 0x6000321f7b58) => (m0, 1) ∷
+    row 1128 0x68ffffff7f with (4, 0x60003fc8c276) => (4, 0x60003fc8c26e) => (m0, 0x7fffffff) ∷
+    row 1129 0x68ffffffff with (4, 0x6000291ae1b3) => (4, 0x6000291ae1ab)
+    => (m0, 0xffffffffffffffff) ∷
+    row 1130 0x6801000000 with (4, 0x60002e15d918) => (4, 0x60002e15d910) => (m0, 1) ∷
+    row 1131 0x68ffffff7f with (4, 0x60000eb9a8a4) => (4, 0x60000eb9a89c) => (m0, 0x7fffffff) ∷
+    row 1132 0x68ffffffff with (4, 0x60000b065057) => (4, 0x60000b06504f)
+    => (m0, 0xffffffffffffffff) ∷
+    row 1133 0x6800000000 with (4, 0x600022fbd031) => (4, 0x600022fbd029) => (m0, 0) ∷
+    row 1134 0x6800000080 with (4, 0x6000169a2833) => (4, 0x6000169a282b)
+    => (m0, 0xffffffff80000000) ∷
+    row 1135 0x68ffffffff with (4, 0x600025e1585c) => (4, 0x600025e15854)
+    => (m0, 0xffffffffffffffff) ∷
+    row 1136 0x6800000000 with (4, 0x600010d160ac) => (4, 0x600010d160a4) => (m0, 0) ∷
+    row 1137 0x6800000080 with (4, 0x6000176a4123) => (4, 0x6000176a411b)
+    => (m0, 0xffffffff80000000) ∷
+    row 1138 0x6801000000 with (4, 0x600039abf9c2) => (4, 0x600039abf9ba) => (m0, 1) ∷
+    row 1139 0x68ffffff7f with (4, 0x600037968a88) => (4, 0x600037968a80) => (m0, 0x7fffffff) ∷
+    row 1140 0x6800000080 with (4, 0x60001129f375) => (4, 0x60001129f36d)
+    => (m0, 0xffffffff80000000) ∷
+    row 1141 0x6801000000 with (4, 0x60000666348a) => (4, 0x600006663482) => (m0, 1) ∷
+    row 1142 0x68ffffff7f with (4, 0x6000174b4dc6) => (4, 0x6000174b4dbe) => (m0, 0x7fffffff) ∷
+    row 1143 0x68ffffffff with (4, 0x600003d93f29) => (4, 0x600003d93f21)
+    => (m0, 0xffffffffffffffff) ∷
+    row 1144 0x6800000000 with (4, 0x60000c1008b3) => (4, 0x60000c1008ab) => (m0, 0) ∷
+    row 1145 0x68c24c6b20 with (4, 0x60002fefaa65) => (4, 0x60002fefaa5d) => (m0, 0x206b4cc2) ∷
+    row 1146 0x68d93ed7bf with (4, 0x60002f78243e) => (4, 0x60002f782436)
+    => (m0, 0xffffffffbfd73ed9) ∷
+    row 1147 0x689e5b5f76 with (4, 0x60000aa9763e) => (4, 0x60000aa97636) => (m0, 0x765f5b9e) ∷
+    row 1148 0x6832f444d2 with (4, 0x60000183a065) => (4, 0x60000183a05d)
+    => (m0, 0xffffffffd244f432) ∷
+    row 1149 0x68055b9ae7 with (4, 0x60001406a2b4) => (4, 0x60001406a2ac)
+    => (m0, 0xffffffffe79a5b05) ∷
+    row 1150 0x68199d393e with (4, 0x600002327d2a) => (4, 0x600002327d22) => (m0, 0x3e399d19) ∷
+    row 1151 0x68c0f3224a with (4, 0x60000c072fc7) => (4, 0x60000c072fbf) => (m0, 0x4a22f3c0) ∷
+    row 1152 0x688f17d973 with (4, 0x60003184ba8c) => (4, 0x60003184ba84) => (m0, 0x73d9178f) ∷
+    row 1153 0x684d380413 with (4, 0x600032ab1d77) => (4, 0x600032ab1d6f) => (m0, 0x1304384d) ∷
+    row 1154 0x681e51ab10 with (4, 0x60000f7a588a) => (4, 0x60000f7a5882) => (m0, 0x10ab511e) ∷
+    row 1155 0x686ee8e357 with (4, 0x600007f26bc5) => (4, 0x600007f26bbd) => (m0, 0x57e3e86e) ∷
+    row 1156 0x68160088c4 with (4, 0x60001c135726) => (4, 0x60001c13571e)
+    => (m0, 0xffffffffc4880016) ∷
+    row 1157 0x6854ad5ae9 with (4, 0x60000bdd1aaf) => (4, 0x60000bdd1aa7)
+    => (m0, 0xffffffffe95aad54) ∷
+    row 1158 0x682008f8bc with (4, 0x6000174fb65f) => (4, 0x6000174fb657)
+    => (m0, 0xffffffffbcf80820) ∷
+    row 1159 0x681c321198 with (4, 0x60003e6b2a37) => (4, 0x60003e6b2a2f)
+    => (m0, 0xffffffff9811321c) ∷
+    row 1160 0x683bf4506d with (4, 0x6000012f7635) => (4, 0x6000012f762d) => (m0, 0x6d50f43b) ∷
+    row 1161 0x6853456796 with (4, 0x60001f9c9a5b) => (4, 0x60001f9c9a53)
+    => (m0, 0xffffffff96674553) ∷
+    row 1162 0x68c4d72005 with (4, 0x600019b296a9) => (4, 0x600019b296a1) => (m0, 0x520d7c4) ∷
+    row 1163 0x684fc7a9e7 with (4, 0x60002f716b1d) => (4, 0x60002f716b15)
+    => (m0, 0xffffffffe7a9c74f) ∷
+    row 1164 0x68828e5509 with (4, 0x600020d917b9) => (4, 0x600020d917b1) => (m0, 0x9558e82) ∷
+    []) ∷
+    -- push
+    group 0x8d5 (
+    row 1165 0xff354fba5148 with (4, 0x700062fbdfad) with (6, 0) with (m1, 0)
+    with (at, 0x700062fbdfa5) => (4, 0x700062fbdfa5) => (m0, 0) ∷
+    row 1166 0xff3500000080 with (4, 0x6fff8c87d970) with (7, 1) with (m1, 0xffffffff)
+    with (at, 0x6fff8c87d968) => (4, 0x6fff8c87d968) => (m0, 0xffffffff) ∷
+    row 1167 0xff358f7e012f with (4, 0x7000490fe438) with (6, 0xffffffffffffffff)
+    with (m1, 0x7fffffffffffffff) with (at, 0x7000490fe430) => (4, 0x7000490fe430)
+    => (m0, 0x7fffffffffffffff) ∷
+    row 1168 0xff35ffffff7f with (1, 0x8000000000000000) with (4, 0x7000833dca09) with (m1, 1)
+    with (at, 0x7000833dca01) => (4, 0x7000833dca01) => (m0, 1) ∷
+    row 1169 0xff35ae5ffb06 with (1, 0x7fffffffffffffff) with (4, 0x70000f116640)
+    with (m1, 0xffffffff7fffffff) with (at, 0x70000f116638) => (4, 0x70000f116638)
+    => (m0, 0xffffffff7fffffff) ∷
+    row 1170 0xff3501f44c51 with (3, 0x80000000) with (4, 0x700079e40f42) with (m1, 0x80000000)
+    with (at, 0x700079e40f3a) => (4, 0x700079e40f3a) => (m0, 0x80000000) ∷
+    row 1171 0xff35ffffff7f with (2, 0x7fffffff) with (4, 0x7000a4c10817)
+    with (m1, 0xffffffffffffffff) with (at, 0x7000a4c1080f) => (4, 0x7000a4c1080f)
+    => (m0, 0xffffffffffffffff) ∷
+    row 1172 0xff35fa557065 with (1, 0xffffffff) with (4, 0x7000a204230f)
+    with (m1, 0xffffffff80000000) with (at, 0x7000a2042307) => (4, 0x7000a2042307)
+    => (m0, 0xffffffff80000000) ∷
+    row 1173 0xff353cf7d01f with (0, 0xffffffff7fffffff) with (4, 0x70004fe06176)
+    with (m1, 0x7fffffff) with (at, 0x70004fe0616e) => (4, 0x70004fe0616e) => (m0, 0x7fffffff) ∷
+    row 1174 0xff3500000080 with (3, 0xffffffff80000000) with (4, 0x6fffbf33df87)
+    with (m1, 0x8000000000000000) with (at, 0x6fffbf33df7f) => (4, 0x6fffbf33df7f)
+    => (m0, 0x8000000000000000) ∷
+    row 1175 0xff35ebd4ec2c with (0, 1) with (4, 0x700056ee01e5) with (m1, 1)
+    with (at, 0x700056ee01dd) => (4, 0x700056ee01dd) => (m0, 1) ∷
+    row 1176 0xff3561f83024 with (2, 0xffffffffffffffff) with (4, 0x700054a84af6)
+    with (m1, 0xffffffff7fffffff) with (at, 0x700054a84aee) => (4, 0x700054a84aee)
+    => (m0, 0xffffffff7fffffff) ∷
+    row 1177 0xff3500000080 with (2, 0x8000000000000000) with (4, 0x6fff92965057)
+    with (m1, 0x80000000) with (at, 0x6fff9296504f) => (4, 0x6fff9296504f) => (m0, 0x80000000) ∷
+    row 1178 0xff35779ddb36 with (1, 0x7fffffffffffffff) with (4, 0x70004739c3b8)
+    with (m1, 0xffffffffffffffff) with (at, 0x70004739c3b0) => (4, 0x70004739c3b0)
+    => (m0, 0xffffffffffffffff) ∷
+    row 1179 0xff35ffffff7f with (4, 0x7000a9ced450) with (5, 0x80000000)
+    with (m1, 0xffffffff80000000) with (at, 0x7000a9ced448) => (4, 0x7000a9ced448)
+    => (m0, 0xffffffff80000000) ∷
+    row 1180 0xff3500000080 with (0, 0x7fffffff) with (4, 0x6fff9ee85a89) with (m1, 0x7fffffff)
+    with (at, 0x6fff9ee85a81) => (4, 0x6fff9ee85a81) => (m0, 0x7fffffff) ∷
+    row 1181 0xff3507d23057 with (4, 0x700086db8af0) with (m1, 0x8000000000000000)
+    with (at, 0x700086db8ae8) => (4, 0x700086db8ae8) => (m0, 0x8000000000000000) ∷
+    row 1182 0xff35ffffff7f with (4, 0x70009c15ef6e) with (m1, 0) with (at, 0x70009c15ef66)
+    => (4, 0x70009c15ef66) => (m0, 0) ∷
+    row 1183 0xff35c3b7c40c with (4, 0x700030eeb5e0) with (5, 0xffffffff80000000)
+    with (m1, 0xffffffff) with (at, 0x700030eeb5d8) => (4, 0x700030eeb5d8) => (m0, 0xffffffff) ∷
+    row 1184 0xff353993667c with (2, 0) with (4, 0x7000844d782b) with (m1, 0x7fffffffffffffff)
+    with (at, 0x7000844d7823) => (4, 0x7000844d7823) => (m0, 0x7fffffffffffffff) ∷
+    row 1185 0xff35b0a7d861 with (4, 0x700069254b9e) with (at, 0x700069254b96)
+    => (4, 0x700069254b96) => (m0, 0x8c1ee9ddc04e9883) ∷
+    row 1186 0xff3512292c32 with (4, 0x700054876424) with (at, 0x70005487641c)
+    => (4, 0x70005487641c) => (m0, 0x53a7ff51ffee8c46) ∷
+    row 1187 0xff35fdf82e3e with (4, 0x70005741a35a) with (at, 0x70005741a352)
+    => (4, 0x70005741a352) => (m0, 0x2ba83271b375830) ∷
+    row 1188 0xff356dcfaf62 with (4, 0x70008e22c13c) with (at, 0x70008e22c134)
+    => (4, 0x70008e22c134) => (m0, 0xd6a409891228fc42) ∷
+    row 1189 0xff358cd078a2 with (4, 0x6fffbbf4e1f4) with (at, 0x6fffbbf4e1ec)
+    => (4, 0x6fffbbf4e1ec) => (m0, 0x9851524be4c3787a) ∷
+    row 1190 0xff35e66627ca with (4, 0x6fffed55700f) with (at, 0x6fffed557007)
+    => (4, 0x6fffed557007) => (m0, 0x789b499b9306ccda) ∷
+    row 1191 0xff358c530fa0 with (4, 0x6fffa8982c9d) with (at, 0x6fffa8982c95)
+    => (4, 0x6fffa8982c95) => (m0, 0x4ce3574c1cf2f962) ∷
+    row 1192 0xff35d2b820a7 with (4, 0x6fffb0ad39f2) with (at, 0x6fffb0ad39ea)
+    => (4, 0x6fffb0ad39ea) => (m0, 0xec075c738287fe10) ∷
+    row 1193 0xff35c9fffea2 with (4, 0x6fffc9380120) with (at, 0x6fffc9380118)
+    => (4, 0x6fffc9380118) => (m0, 0x20709227c3c5dae6) ∷
+    row 1194 0xff35b12c248e with (4, 0x6fffacb28665) with (at, 0x6fffacb2865d)
+    => (4, 0x6fffacb2865d) => (m0, 0xd22f5c3ce0ac8fe3) ∷
+    row 1195 0xff35e72dd6e9 with (4, 0x70001c62b820) with (at, 0x70001c62b818)
+    => (4, 0x70001c62b818) => (m0, 0x12f902ded93c1d08) ∷
+    row 1196 0xff35b3463fbf with (4, 0x6fffe172d999) with (at, 0x6fffe172d991)
+    => (4, 0x6fffe172d991) => (m0, 0xd75291e1ad748253) ∷
+    row 1197 0xff35d7837c25 with (4, 0x700052fff790) with (at, 0x700052fff788)
+    => (4, 0x700052fff788) => (m0, 0x247ca9715d55bfc6) ∷
+    row 1198 0xff3566b82ad9 with (4, 0x6fffeda6e51a) with (at, 0x6fffeda6e512)
+    => (4, 0x6fffeda6e512) => (m0, 0xfb70fd61e8dfd561) ∷
+    row 1199 0xff35f344e079 with (4, 0x700090fe02c9) with (at, 0x700090fe02c1)
+    => (4, 0x700090fe02c1) => (m0, 0x9d4148c95012c322) ∷
+    row 1200 0xff3510b5ce1b with (4, 0x70005136dc30) with (at, 0x70005136dc28)
+    => (4, 0x70005136dc28) => (m0, 0x3e8a9ebd92ee890b) ∷
+    row 1201 0xff35f4602bbb with (4, 0x6fffea86c984) with (at, 0x6fffea86c97c)
+    => (4, 0x6fffea86c97c) => (m0, 0xf2f5af12b173271b) ∷
+    row 1202 0xff3536076f19 with (4, 0x70001e66895e) with (at, 0x70001e668956)
+    => (4, 0x70001e668956) => (m0, 0xa09f75f4aba09d52) ∷
+    row 1203 0xff35b1420aab with (4, 0x6fffe146b698) with (at, 0x6fffe146b690)
+    => (4, 0x6fffe146b690) => (m0, 0x67a54b378176ebb1) ∷
+    row 1204 0xff35fa127bfe with (4, 0x700001a550c8) with (at, 0x700001a550c0)
+    => (4, 0x700001a550c0) => (m0, 0x21af830732f61237) ∷
+    []) ∷
     []

@@ -16,7 +16,7 @@ ghost use Rattle.vectors.specs.RiscVTable as riscv_table;
 ghost use Rattle.vectors.specs.X86Executed as x86_executed;
 
 /// AArch64: offsets of loads and stores, `adr` and `adrp`, moves, additions, branches, a number by
-/// four moves, and `adrp` with `add`; and what the instructions of `linker_laws`, and BR, do.
+/// four moves, and `adrp` with `add`; and what the instructions of `linker_laws`, and BR and STP, do.
 pub fn aarch64()
     ensures agrees { aarch64_table.Agrees }
     ensures steps { aarch64_executed.Agrees }
@@ -24,7 +24,7 @@ pub fn aarch64()
 
 /// RISC-V: the forms of 32 bits and of 16, pairs with `lui` or `auipc`, and calls; and what the
 /// instructions of `linker_laws` do, but for the loads and stores of floating-point numbers of 2 and
-/// 16 bytes.
+/// 16 bytes; and SUB and SRLI.
 pub fn riscv64()
     ensures agrees { riscv_table.Agrees }
     ensures steps { riscv_executed.Agrees }
@@ -32,7 +32,7 @@ pub fn riscv64()
 
 /// LoongArch: immediates of 20, 16 and 12 bits, branches, `pcaddu18i` with `jirl`, numbers by two to
 /// four instructions, and addresses by two and by five; and what the instructions of `linker_laws`
-/// do.
+/// and of lazy PLTs do.
 pub fn loongarch64()
     ensures agrees { loongarch_table.Agrees }
     ensures steps { loongarch_executed.Agrees }
@@ -41,13 +41,13 @@ pub fn loongarch64()
 /// PowerPC64: displacements, also those in units of 4 and 16 bytes, branches, `paddi`, `ori` and
 /// `oris`, `addis` with `addi` or `ori`, and numbers of 64 bits by five instructions; and what the
 /// instructions of `linker_laws` do, but for `stfs` of a number that is too small for single
-/// precision, and those of stubs that move the link and the count register.
+/// precision; and those of stubs, which move the link and the count register, and of lazy PLTs.
 pub fn ppc64()
     ensures agrees { ppc64_table.Agrees }
     ensures steps { ppc64_executed.Agrees }
 {}
 
-/// x86-64: what the instructions of `linker_laws` do.
+/// x86-64: what the instructions of `linker_laws`, and PUSH, do.
 pub fn x86_64()
     ensures steps { x86_executed.Agrees }
 {}

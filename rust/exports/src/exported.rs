@@ -5,6 +5,7 @@
 use crate::choices::ChoiceNumbers;
 use crate::choices::LinkFactNumbers;
 use crate::deltas::Deletion;
+use crate::lazy_plt::LazyPltNumbers;
 use crate::output::DynamicCodes;
 use crate::output::EntryWords;
 use crate::output::GotNumbers;
@@ -26,6 +27,7 @@ use crate::sections::RequirementNumbers;
 use linker_utils::elf::Operands;
 use linker_utils::elf::RelocationNumbers;
 use linker_utils::elf::RewriteWindow;
+use linker_utils::output::LazyEntry;
 use linker_utils::output::Origins;
 use linker_utils::placement::Branch;
 use linker_utils::placement::StubShape;
@@ -483,6 +485,91 @@ unsafe extern "C" fn linker_utils_deltas_output_to_input_by_heads_nonnull(
 }
 
 #[unsafe(no_mangle)]
+unsafe extern "C" fn linker_utils_lazy_plt(
+    machine: u16,
+    plt: *mut LazyPltNumbers,
+) -> u32 {
+    // SAFETY: the arguments are as the head of the header says.
+    unsafe {
+        crate::lazy_plt::linker_utils_lazy_plt(
+            machine,
+            &mut *plt,
+        )
+    }
+}
+
+#[unsafe(no_mangle)]
+unsafe extern "C" fn linker_utils_write_lazy_header_nonnull(
+    machine: u16,
+    header: u64,
+    words: u64,
+    bytes: *mut u8,
+    bytes_len: usize,
+) -> u32 {
+    // SAFETY: the arguments are as the head of the header says.
+    unsafe {
+        crate::lazy_plt::linker_utils_write_lazy_header_nonnull(
+            machine,
+            header,
+            words,
+            from_raw_parts_mut(bytes, bytes_len),
+        )
+    }
+}
+
+#[unsafe(no_mangle)]
+unsafe extern "C" fn linker_utils_write_lazy_entry_nonnull(
+    machine: u16,
+    entry: *const LazyEntry,
+    bytes: *mut u8,
+    bytes_len: usize,
+) -> u32 {
+    // SAFETY: the arguments are as the head of the header says.
+    unsafe {
+        crate::lazy_plt::linker_utils_write_lazy_entry_nonnull(
+            machine,
+            &*entry,
+            from_raw_parts_mut(bytes, bytes_len),
+        )
+    }
+}
+
+#[unsafe(no_mangle)]
+unsafe extern "C" fn linker_utils_lazy_header_word(
+    machine: u16,
+    index: usize,
+    dynamic: u64,
+    header: u64,
+    word: *mut u64,
+) -> u32 {
+    // SAFETY: the arguments are as the head of the header says.
+    unsafe {
+        crate::lazy_plt::linker_utils_lazy_header_word(
+            machine,
+            index,
+            dynamic,
+            header,
+            &mut *word,
+        )
+    }
+}
+
+#[unsafe(no_mangle)]
+extern "C" fn linker_utils_lazy_entry_word(
+    machine: u16,
+    entry: u64,
+    header: u64,
+    dynamic: u64,
+) -> u64 {
+    crate::lazy_plt::linker_utils_lazy_entry_word(
+        machine,
+        entry,
+        header,
+        dynamic,
+    )
+}
+
+#[unsafe(no_mangle)]
 unsafe extern "C" fn linker_utils_deletions_mergeable_nonnull(
     deltas: *const RelaxDelta,
     deltas_len: usize,
@@ -712,6 +799,39 @@ unsafe extern "C" fn linker_utils_interpreter_nonnull(
             flags,
             from_raw_parts_mut(path, path_len),
             &mut *path_used,
+        )
+    }
+}
+
+#[unsafe(no_mangle)]
+unsafe extern "C" fn linker_utils_address_section_nonnull(
+    machine: u16,
+    name: *mut u8,
+    name_len: usize,
+    name_used: *mut usize,
+) -> u32 {
+    // SAFETY: the arguments are as the head of the header says.
+    unsafe {
+        crate::output::linker_utils_address_section_nonnull(
+            machine,
+            from_raw_parts_mut(name, name_len),
+            &mut *name_used,
+        )
+    }
+}
+
+#[unsafe(no_mangle)]
+unsafe extern "C" fn linker_utils_entry_relocation(
+    machine: u16,
+    r_type: u32,
+    entry_type: *mut u32,
+) -> u32 {
+    // SAFETY: the arguments are as the head of the header says.
+    unsafe {
+        crate::output::linker_utils_entry_relocation(
+            machine,
+            r_type,
+            &mut *entry_type,
         )
     }
 }
@@ -1845,6 +1965,39 @@ unsafe extern "C" fn linker_utils_section_items_nonnull(
             from_raw_parts(section, section_len),
             base,
             from_raw_parts(relocations, relocations_len),
+            from_raw_parts_mut(items, items_len),
+            from_raw_parts_mut(makers, makers_len),
+            &mut *len,
+            &mut *faulty,
+        )
+    }
+}
+
+#[unsafe(no_mangle)]
+unsafe extern "C" fn linker_utils_rewritten_items_nonnull(
+    machine: u16,
+    section: *const u8,
+    section_len: usize,
+    base: u64,
+    relocations: *const Rela,
+    relocations_len: usize,
+    deleted: *const Deletion,
+    deleted_len: usize,
+    items: *mut ItemNumbers,
+    items_len: usize,
+    makers: *mut usize,
+    makers_len: usize,
+    len: *mut usize,
+    faulty: *mut usize,
+) -> u32 {
+    // SAFETY: the arguments are as the head of the header says.
+    unsafe {
+        crate::section_items::linker_utils_rewritten_items_nonnull(
+            machine,
+            from_raw_parts(section, section_len),
+            base,
+            from_raw_parts(relocations, relocations_len),
+            from_raw_parts(deleted, deleted_len),
             from_raw_parts_mut(items, items_len),
             from_raw_parts_mut(makers, makers_len),
             &mut *len,

@@ -355,6 +355,47 @@ pub fn linker_utils_interpreter_nonnull(
     }
 }
 
+/// Writes the name of the section of objects in which compilers keep addresses to the beginning of
+/// `name`, and its length to `name_used`. The first that applies of `UnknownArchitecture`;
+/// `NotProvided`, where there is none; `TooShort`.
+pub fn linker_utils_address_section_nonnull(
+    machine: u16,
+    name: &mut [u8],
+    name_used: &mut usize,
+) -> u32 {
+    let Some(architecture) = Architecture::from_machine(machine) else {
+        return Status::UnknownArchitecture.number();
+    };
+    put_section_name(Target::of(architecture), name, name_used)
+}
+
+fn put_section_name(target: &Target, name: &mut [u8], name_used: &mut usize) -> u32 {
+    match &target.address_section {
+        Some(section) => put_text(section.name, name, name_used),
+        None => Status::NotProvided.number(),
+    }
+}
+
+/// Writes the code of the relocation that an instruction would have if the address were in an entry
+/// of the GOT, by its code where that is in a word of this section. The first that applies of
+/// `UnknownArchitecture`; `NotProvided`, of other codes.
+pub fn linker_utils_entry_relocation(
+    machine: u16,
+    r_type: u32,
+    entry_type: &mut u32,
+) -> u32 {
+    let Some(architecture) = Architecture::from_machine(machine) else {
+        return Status::UnknownArchitecture.number();
+    };
+    match Target::of(architecture).entry_code(r_type) {
+        Some(found) => {
+            *entry_type = found;
+            Status::Success.number()
+        }
+        None => Status::NotProvided.number(),
+    }
+}
+
 /// The number of a place.
 #[inline]
 fn place_number(place: SymbolPlace) -> u32 {

@@ -1,10 +1,13 @@
 // Made by tools/erase of crates/linker_utils_c/src/section_items.rt.
 //! The items that a section's relocations make, in arrays of the caller's.
 
+use crate::deltas::Deletion;
 use crate::pack_runs::packing_machine;
 use crate::relaxing::ItemNumbers;
 use crate::status::Status;
-use linker_utils::runs::items::{AsRelocation, Relocation, section_items_into};
+use linker_utils::runs::items::{
+    AsRelocation, Relocation, RewrittenItemsError, rewritten_items_into, section_items_into,
+};
 
 /// A relocation of a section, and what it refers to in a run.
 #[repr(C)]
@@ -82,6 +85,63 @@ pub fn linker_utils_section_items_nonnull(
         Err(index) => {
             *faulty = index;
             Status::MalformedRelocation.number()
+        }
+    }
+}
+
+/// Whether an array has an element for each of two others.
+#[inline]
+fn has_both(len: usize, first: usize, second: usize) -> bool {
+    len >= second && len - second == first
+}
+
+/// Writes the items of a section of a machine that was rewritten, as `rewritten_items_into`, and to
+/// `makers` what makes each. The section begins at the input offset `base` of the run.
+///
+/// `items` and `makers` have as many elements as there are relocations and deletions. `len` is how many
+/// items there are, and the elements from there on are unchanged. The first that applies of
+/// `UnknownArchitecture`, where no code of the machine becomes shorter; `DifferentLengths`;
+/// `EndsTooHigh`, where `base` and the section's length add up to 2^64 or more; `MalformedRelocation`,
+/// of the relocation at `faulty`; and `InvalidDeletions`, of the deletion at `faulty`. Nothing is written
+/// then. Last `ItemsOverlap`, of the relocation at `faulty`: `items` and `makers` may then be written.
+pub fn linker_utils_rewritten_items_nonnull(
+    machine: u16,
+    section: &[u8],
+    base: u64,
+    relocations: &[Rela],
+    deleted: &[Deletion],
+    items: &mut [ItemNumbers],
+    makers: &mut [usize],
+    len: &mut usize,
+    faulty: &mut usize,
+) -> u32 {
+    let Some(of) = packing_machine(machine) else {
+        return Status::UnknownArchitecture.number();
+    };
+    if !has_both(items.len(), relocations.len(), deleted.len())
+        || !has_both(makers.len(), relocations.len(), deleted.len())
+    {
+        return Status::DifferentLengths.number();
+    }
+    if section.len() as u64 > u64::MAX - base {
+        return Status::EndsTooHigh.number();
+    }
+    match rewritten_items_into(of, section, base, relocations, deleted, items, makers) {
+        Ok(count) => {
+            *len = count;
+            Status::Success.number()
+        }
+        Err(RewrittenItemsError::Malformed(index)) => {
+            *faulty = index;
+            Status::MalformedRelocation.number()
+        }
+        Err(RewrittenItemsError::Misplaced(index)) => {
+            *faulty = index;
+            Status::InvalidDeletions.number()
+        }
+        Err(RewrittenItemsError::Overlaps(index)) => {
+            *faulty = index;
+            Status::ItemsOverlap.number()
         }
     }
 }

@@ -32,6 +32,7 @@ pub(crate) static TARGET: Target = Target {
         header: None,
         bias: 0,
     },
+    address_section: None,
     page: 0x10000,
     code_unit: CodeUnit {
         len: 4,

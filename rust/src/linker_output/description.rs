@@ -1,6 +1,7 @@
 // Made by tools/erase of crates/linker_output/src/description.rt.
 //! The description of an architecture.
 
+use crate::linker_output::addresses::AddressSection;
 use crate::linker_output::dynamic::DynamicTypes;
 use crate::linker_output::flags::FlagRules;
 use crate::linker_output::got::{GotLayout, ThreadPointer};
@@ -22,6 +23,8 @@ pub struct Target {
     pub module_bias: u64,
     /// The GOT's first word, and what offsets from the GOT count from.
     pub got: GotLayout,
+    /// The section of objects in which compilers keep addresses, if there is one.
+    pub address_section: Option<AddressSection>,
     /// The largest page, in bytes, for which an output has to be right.
     pub page: u64,
     /// How long the shortest instruction is.

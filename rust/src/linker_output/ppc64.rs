@@ -1,6 +1,7 @@
 // Made by tools/erase of crates/linker_output/src/ppc64.rt.
 //! What a linker adds to an output of PowerPC64.
 
+use crate::linker_output::addresses::{AddressSection, WordLoad};
 use crate::linker_output::description::Target;
 use crate::linker_output::dynamic::{DynamicType, DynamicTypes, named};
 use crate::linker_output::flags::FlagRules;
@@ -32,6 +33,26 @@ pub(crate) static TARGET: Target = Target {
         header: Some(GotHeader::Base),
         bias: 0x8000,
     },
+    address_section: Some(AddressSection {
+        name: ".toc",
+        loads: &[
+            // R_PPC64_TOC16_HA and R_PPC64_GOT16_HA
+            WordLoad {
+                word: 50,
+                entry: 17,
+            },
+            // R_PPC64_TOC16_LO and R_PPC64_GOT16_LO
+            WordLoad {
+                word: 48,
+                entry: 15,
+            },
+            // R_PPC64_TOC16_LO_DS and R_PPC64_GOT16_LO_DS
+            WordLoad {
+                word: 64,
+                entry: 59,
+            },
+        ],
+    }),
     page: 0x10000,
     code_unit: CodeUnit {
         len: 4,

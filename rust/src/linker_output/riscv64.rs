@@ -32,6 +32,7 @@ pub(crate) static TARGET: Target = Target {
         header: Some(GotHeader::Dynamic),
         bias: 0,
     },
+    address_section: None,
     page: 0x1000,
     code_unit: CodeUnit {
         len: 4,

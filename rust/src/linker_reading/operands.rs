@@ -1,24 +1,30 @@
 // Made by tools/erase of crates/linker_reading/src/operands.rt.
 //! Which forms the immediate of an instruction has, and the number that the machine makes of it.
 
+mod aarch64;
+mod loongarch64;
+mod ppc64;
+mod riscv64;
+
 use crate::linker_reading::reading::{number_held, number_of_bytes};
 use crate::linker_base::bit_misc::BitExtraction;
 use crate::linker_base::utils::u32_from_slice;
 use crate::linker_elf::elf::{
     AArch64Instruction, InstructionForm, LoongArch64Instruction, Ppc64Instruction,
-    RelocationInstruction, RiscVInstruction,
+    RelocationInstruction,
 };
 use crate::elf::Architecture;
 
-/// Which registers of two instructions have to be the same.
+/// Which registers of two instructions have to be the same: the destination of the first, and the base
+/// of the second. Each has 5 bits.
 #[derive(Clone, Copy)]
 enum Base {
     /// None.
     Any,
-    /// The destination of the first, bits 7 to 11, and the base of the second, bits 15 to 19.
-    RiscV,
-    /// The same of LoongArch: bits 0 to 4, and bits 5 to 9.
-    LoongArch64,
+    /// From bit 7 on, and from bit 15 of the second word on.
+    From7And47,
+    /// From bit 0 on, and from bit 5 of the second word on.
+    From0And37,
 }
 
 /// An instruction, or two that make one value: the bits of its opcode, and the forms of its
@@ -49,213 +55,15 @@ macro_rules! encoding {
     };
 }
 
-macro_rules! a64 {
-    ($mask:literal, $bits:literal, $($form:ident)*) => {
-        encoding!(4, $mask, $bits, AArch64 [$(AArch64Instruction::$form),*])
-    };
-}
-
-/// DDI 0487, C4.1.
-static AARCH64: &[Encoding] = &[
-    // PC-rel. addressing
-    a64!(0x1f00_0000, 0x1000_0000, Adr),
-    // Add/subtract (immediate)
-    a64!(0x7fc0_0000, 0x1100_0000, Add MachOLow12),
-    a64!(0x7fc0_0000, 0x1140_0000, Add),
-    // Move wide (immediate)
-    a64!(0xff80_0000, 0x9280_0000, Movnz),
-    a64!(0xff80_0000, 0xd280_0000, Movkz Movnz),
-    a64!(0xff80_0000, 0xf280_0000, Movkz),
-    a64!(0xffc0_0000, 0x1280_0000, Movnz),
-    a64!(0xffc0_0000, 0x5280_0000, Movkz Movnz),
-    a64!(0xffc0_0000, 0x7280_0000, Movkz),
-    // branches
-    a64!(0xff00_0000, 0x5400_0000, Bcond),
-    a64!(0x7e00_0000, 0x3400_0000, Bcond),
-    a64!(0x7e00_0000, 0x3600_0000, TstBr),
-    a64!(0x7c00_0000, 0x1400_0000, JumpCall),
-    // Load register (literal)
-    a64!(0x3f00_0000, 0x1800_0000, Ldr),
-    a64!(0xbf00_0000, 0x1c00_0000, Ldr),
-    a64!(0xff00_0000, 0x9c00_0000, Ldr),
-    // Load/store register (unsigned immediate)
-    a64!(0xbfc0_0000, 0xb940_0000, LdrRegister LdSt MachOLow12),
-    a64!(0x3f80_0000, 0x3900_0000, LdSt MachOLow12),
-    a64!(0x3fc0_0000, 0x3980_0000, LdSt MachOLow12),
-    a64!(0xbfc0_0000, 0x39c0_0000, LdSt MachOLow12),
-    a64!(0x3f80_0000, 0x3d00_0000, LdSt MachOLow12),
-    a64!(0xff80_0000, 0x3d80_0000, LdSt MachOLow12),
-];
-
-macro_rules! rv {
-    ($mask:literal, $bits:literal, $form:ident) => {
-        encoding!(4, $mask, $bits, RiscV [RiscVInstruction::$form])
-    };
-}
-
-macro_rules! rvc {
-    ($mask:literal, $bits:literal $(, $form:ident)?) => {
-        encoding!(2, $mask, $bits, RiscV [$(RiscVInstruction::$form)?])
-    };
-}
-
-/// LUI or AUIPC, and an instruction whose base is its destination.
-macro_rules! rv_pair {
-    ($mask:literal, $bits:literal) => {
-        Encoding {
-            len: 8,
-            mask: $mask << 32 | 0x5f,
-            bits: $bits << 32 | 0x17,
-            base: Base::RiscV,
-            forms: &[
-                RelocationInstruction::RiscV(RiscVInstruction::UType),
-                RelocationInstruction::RiscV(RiscVInstruction::UiType),
-            ],
-        }
-    };
-}
-
-/// RISC-V unprivileged ISA, "RV32/64G Instruction Set Listings" and "RVC Instruction Set Listings".
-static RISCV: &[Encoding] = &[
-    // x0 is no base
-    rv!(0xfdf, 0x17, UType),
-    rv_pair!(0x707f, 0x13),
-    rv_pair!(0x707f, 0x67),
-    rv_pair!(0x407f, 0x03),
-    rv_pair!(0x607f, 0x4003),
-    rv_pair!(0x707f, 0x6003),
-    rv_pair!(0x707f, 0x1007),
-    rv_pair!(0x607f, 0x2007),
-    rv!(0x5f, 0x17, UType),
-    rv!(0x707f, 0x13, IType),
-    rv!(0x607f, 0x2013, IType),
-    rv!(0x707f, 0x4013, IType),
-    rv!(0x607f, 0x6013, IType),
-    rv!(0x707f, 0x1b, IType),
-    rv!(0x707f, 0x67, IType),
-    rv!(0x407f, 0x03, IType),
-    rv!(0x607f, 0x4003, IType),
-    rv!(0x707f, 0x6003, IType),
-    rv!(0x707f, 0x1007, IType),
-    rv!(0x607f, 0x2007, IType),
-    rv!(0x407f, 0x23, SType),
-    rv!(0x707f, 0x1027, SType),
-    rv!(0x607f, 0x2027, SType),
-    rv!(0x607f, 0x63, BType),
-    rv!(0x407f, 0x4063, BType),
-    rv!(0x7f, 0x6f, JType),
-    rvc!(0xc003, 0xc001, CbType),
-    rvc!(0xe003, 0xa001, CjType),
-    // C.ADDI16SP
-    rvc!(0xef83, 0x6101),
-    rvc!(0xe003, 0x6001, CluiType),
-];
-
-macro_rules! la {
-    ($mask:literal, $bits:literal, $form:ident) => {
-        encoding!(4, $mask, $bits, LoongArch64 [LoongArch64Instruction::$form])
-    };
-}
-
-/// LoongArch Reference Manual, volume 1, "Table of Instruction Encoding", and volume 2.
-static LOONGARCH64: &[Encoding] = &[
-    // r0 is no base
-    la!(0xfe00_001f, 0x1e00_0000, Shift5),
-    // PCADDU18I and JIRL
-    Encoding {
-        len: 8,
-        mask: 0xfc00_0000 << 32 | 0xfe00_0000,
-        bits: 0x4c00_0000 << 32 | 0x1e00_0000,
-        base: Base::LoongArch64,
-        forms: &[
-            RelocationInstruction::LoongArch64(LoongArch64Instruction::Shift5),
-            RelocationInstruction::LoongArch64(LoongArch64Instruction::Call36),
-        ],
-    },
-    la!(0xfc00_0000, 0x1400_0000, Shift5),
-    la!(0xf800_0000, 0x1800_0000, Shift5),
-    la!(0xff00_0000, 0x0200_0000, Shift10),
-    la!(0xffc0_0000, 0x0300_0000, Shift10),
-    la!(0xffc0_0000, 0x0340_0000, Shift10),
-    la!(0xff80_0000, 0x0380_0000, Shift10),
-    la!(0xfc00_0000, 0x2800_0000, Shift10),
-    la!(0xff00_0000, 0x2c00_0000, Shift10),
-    la!(0xfc00_0000, 0x1000_0000, Shift10),
-    la!(0xfc00_0000, 0x4c00_0000, Shift10),
-    la!(0xf800_0000, 0x5800_0000, Shift10),
-    la!(0xf000_0000, 0x6000_0000, Shift10),
-    la!(0xf800_0000, 0x4000_0000, Branch21),
-    la!(0xfc00_0200, 0x4800_0000, Branch21),
-    la!(0xf800_0000, 0x5000_0000, Branch26),
-];
-
-macro_rules! power {
-    ($mask:literal, $bits:literal, $form:ident) => {
-        encoding!(4, $mask, $bits, Ppc64 [Ppc64Instruction::$form])
-    };
-}
-
-/// A prefix of a type, R and d0 aside, and the opcode of the suffix.
-macro_rules! prefixed {
-    ($prefix:literal, $mask:literal, $bits:literal) => {
-        encoding!(
-            8,
-            $mask << 32 | 0xffec_0000,
-            $bits << 32 | $prefix,
-            Ppc64 [Ppc64Instruction::Prefixed]
-        )
-    };
-}
-
-/// Power ISA 3.1, Book I, "Instruction Formats" and the pages of the instructions.
-static PPC64: &[Encoding] = &[
-    power!(0xf800_0000, 0x0800_0000, D),
-    power!(0xfc00_0000, 0x1c00_0000, D),
-    power!(0xfc00_0000, 0x2000_0000, D),
-    power!(0xfc00_0000, 0x2c00_0000, D),
-    power!(0xf800_0000, 0x3000_0000, D),
-    power!(0xf800_0000, 0x3800_0000, D),
-    power!(0xc000_0000, 0x8000_0000, D),
-    power!(0xe000_0000, 0xc000_0000, D),
-    power!(0xfc00_0000, 0x2800_0000, DUnsigned),
-    power!(0xf000_0000, 0x6000_0000, DUnsigned),
-    power!(0xf800_0000, 0x7000_0000, DUnsigned),
-    power!(0xfc00_000e, 0x1800_0000, Ds),
-    power!(0xfc00_0000, 0xe000_0000, Ds),
-    power!(0xfc00_0002, 0xe400_0002, Ds),
-    power!(0xfc00_0002, 0xe800_0000, Ds),
-    power!(0xfc00_0003, 0xe800_0002, Ds),
-    power!(0xfc00_0001, 0xf400_0001, Ds),
-    power!(0xfc00_0003, 0xf400_0002, Ds),
-    power!(0xfc00_0002, 0xf800_0000, Ds),
-    power!(0xfc00_0003, 0xf800_0002, Ds),
-    power!(0xfc00_0000, 0x4000_0000, Branch14),
-    power!(0xfc00_0000, 0x4800_0000, Branch24),
-    // MLS:D-form
-    prefixed!(0x0600_0000, 0xfc00_0000, 0x3800_0000),
-    prefixed!(0x0600_0000, 0xe400_0000, 0x8000_0000),
-    prefixed!(0x0600_0000, 0xf400_0000, 0xa000_0000),
-    prefixed!(0x0600_0000, 0xfc00_0000, 0xb000_0000),
-    prefixed!(0x0600_0000, 0xe400_0000, 0xc000_0000),
-    // 8LS:D-form
-    prefixed!(0x0400_0000, 0xfc00_0000, 0xa400_0000),
-    prefixed!(0x0400_0000, 0xf800_0000, 0xa800_0000),
-    prefixed!(0x0400_0000, 0xf800_0000, 0xb800_0000),
-    prefixed!(0x0400_0000, 0xf800_0000, 0xc800_0000),
-    prefixed!(0x0400_0000, 0xf800_0000, 0xd800_0000),
-    prefixed!(0x0400_0000, 0xf800_0000, 0xe000_0000),
-    prefixed!(0x0400_0000, 0xfc00_0000, 0xe800_0000),
-    prefixed!(0x0400_0000, 0xf800_0000, 0xf000_0000),
-    prefixed!(0x0400_0000, 0xfc00_0000, 0xf800_0000),
-];
+pub(crate) use encoding;
 
 /// The encodings of an architecture. x86-64's values are whole bytes, which no form has.
 fn encodings(architecture: Architecture) -> &'static [Encoding] {
     match architecture {
-        Architecture::AArch64 => AARCH64,
-        Architecture::RiscV => RISCV,
-        Architecture::LoongArch64 => LOONGARCH64,
-        Architecture::Ppc64 => PPC64,
+        Architecture::AArch64 => aarch64::ENCODINGS,
+        Architecture::RiscV => riscv64::ENCODINGS,
+        Architecture::LoongArch64 => loongarch64::ENCODINGS,
+        Architecture::Ppc64 => ppc64::ENCODINGS,
         Architecture::X86_64 => &[],
     }
 }
@@ -271,8 +79,8 @@ impl Encoding {
         }
         match self.base {
             Base::Any => true,
-            Base::RiscV => number.extract_bit_range(7..12) == number.extract_bit_range(47..52),
-            Base::LoongArch64 => number.extract_bit_range(0..5) == number.extract_bit_range(37..42),
+            Base::From7And47 => number.extract_bit_range(7..12) == number.extract_bit_range(47..52),
+            Base::From0And37 => number.extract_bit_range(0..5) == number.extract_bit_range(37..42),
         }
     }
 }
@@ -346,144 +154,30 @@ fn is_one_of(form: RelocationInstruction, forms: &'static [RelocationInstruction
     false
 }
 
-/// Whether the immediate of a `Shift10` has 16 bits.
-fn has_si16(word: u64) -> bool {
-    let opcode = word.extract_bit_range(26..32);
-    opcode == 4 || 11 < opcode
-}
-
-/// Whether that of 12 bits has no sign.
-fn is_logical(word: u64) -> bool {
-    let opcode = word.extract_bit_range(22..32);
-    12 < opcode && opcode < 16
-}
-
-/// The immediate of a `Shift10`, modulo 2^64.
-fn shift10_number(word: u64) -> u64 {
-    if has_si16(word) {
-        return word.extract_bit_range(10..26).low_bits_signed(16);
-    }
-    let number = word.extract_bit_range(10..22);
-    if is_logical(word) {
-        number
-    } else {
-        number.low_bits_signed(12)
-    }
-}
-
-/// What MOVN or MOVZ moves, modulo 2^64.
-fn moved_number(word: u64) -> u64 {
-    let moved = word.extract_bit_range(5..21) << (16 * word.extract_bit_range(21..23));
-    if word.extract_bit(30) == 0 {
-        !moved
-    } else {
-        moved
-    }
-}
-
 /// The number in an immediate, modulo 2^64.
 fn immediate_number(form: RelocationInstruction, bytes: &[u8]) -> u64 {
     match form {
         RelocationInstruction::AArch64(AArch64Instruction::Movnz) => {
-            moved_number(u32_from_slice(bytes) as u64)
+            aarch64::moved_number(u32_from_slice(bytes) as u64)
         }
         RelocationInstruction::LoongArch64(LoongArch64Instruction::Shift10) => {
-            shift10_number(u32_from_slice(bytes) as u64)
+            loongarch64::shift10_number(u32_from_slice(bytes) as u64)
         }
         _ => number_held(form, bytes),
-    }
-}
-
-/// Log2 of the bytes that a load or store accesses, and 0 of other instructions.
-fn access_scale(word: u64) -> u64 {
-    if word.extract_bit_range(27..30) != 7 {
-        return 0;
-    }
-    if word.extract_bit_range(24..26) != 1 {
-        return 0;
-    }
-    let size = word.extract_bit_range(30..32);
-    if size == 0 && word.extract_bit(26) == 1 && word.extract_bit(23) == 1 {
-        4
-    } else {
-        size
-    }
-}
-
-/// Log2 of what the immediate of an instruction of AArch64 counts.
-fn aarch64_scale(form: AArch64Instruction, word: u64) -> u64 {
-    match form {
-        AArch64Instruction::Adr => 12 * word.extract_bit(31),
-        AArch64Instruction::Movkz => 16 * word.extract_bit_range(21..23),
-        AArch64Instruction::Add => 12 * word.extract_bit(22),
-        AArch64Instruction::LdrRegister | AArch64Instruction::LdSt => access_scale(word),
-        AArch64Instruction::Ldr
-        | AArch64Instruction::TstBr
-        | AArch64Instruction::Bcond
-        | AArch64Instruction::JumpCall => 2,
-        AArch64Instruction::Movnz | AArch64Instruction::MachOLow12 => 0,
-    }
-}
-
-/// That of an immediate of 20 bits of LoongArch.
-fn shift5_scale(word: u64) -> u64 {
-    match word.extract_bit_range(25..32) {
-        11 => 32,
-        12 => 2,
-        15 => 18,
-        _ => 12,
-    }
-}
-
-/// That of an immediate of 12 or 16 bits of LoongArch.
-fn shift10_scale(word: u64) -> u64 {
-    if word.extract_bit_range(22..32) == 12 {
-        return 52;
-    }
-    if word.extract_bit_range(26..32) == 4 {
-        return 16;
-    }
-    if has_si16(word) { 2 } else { 0 }
-}
-
-/// That of an instruction of LoongArch.
-fn loongarch_scale(form: LoongArch64Instruction, word: u64) -> u64 {
-    match form {
-        LoongArch64Instruction::Shift5 => shift5_scale(word),
-        LoongArch64Instruction::Shift10 => shift10_scale(word),
-        LoongArch64Instruction::Branch26
-        | LoongArch64Instruction::Branch21
-        | LoongArch64Instruction::Call36 => 2,
-        LoongArch64Instruction::Call30 => 0,
-    }
-}
-
-/// That of an instruction of PowerPC64.
-fn ppc64_scale(form: Ppc64Instruction, word: u64) -> u64 {
-    match form {
-        Ppc64Instruction::D => {
-            if word.extract_bit_range(26..32) == 15 {
-                16
-            } else {
-                0
-            }
-        }
-        Ppc64Instruction::DUnsigned => 16 * word.extract_bit(26),
-        _ => 0,
     }
 }
 
 /// Log2 of what an immediate counts.
 fn scale_of(form: RelocationInstruction, bytes: &[u8]) -> u64 {
     match form {
-        RelocationInstruction::AArch64(form) => aarch64_scale(form, u32_from_slice(bytes) as u64),
+        RelocationInstruction::AArch64(form) => aarch64::scale(form, u32_from_slice(bytes) as u64),
         RelocationInstruction::RiscV(_) => 0,
         RelocationInstruction::Ppc64(Ppc64Instruction::Prefixed) => 0,
-        RelocationInstruction::Ppc64(form) => ppc64_scale(form, u32_from_slice(bytes) as u64),
+        RelocationInstruction::Ppc64(form) => ppc64::scale(form, u32_from_slice(bytes) as u64),
         RelocationInstruction::LoongArch64(LoongArch64Instruction::Call30) => 0,
         RelocationInstruction::LoongArch64(LoongArch64Instruction::Call36) => 2,
         RelocationInstruction::LoongArch64(form) => {
-            loongarch_scale(form, u32_from_slice(bytes) as u64)
+            loongarch64::scale(form, u32_from_slice(bytes) as u64)
         }
     }
 }

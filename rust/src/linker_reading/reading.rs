@@ -1,15 +1,19 @@
 // Made by tools/erase of crates/linker_reading/src/reading.rt.
 //! The value of a relocation, read from the bytes at its place.
 
+mod aarch64;
+mod loongarch64;
+mod ppc64;
+mod riscv64;
+
 use crate::linker_reading::fields::{FieldValue, bits_of, power_of_two};
 use crate::linker_base::bit_misc::{BitExtraction, BitRange};
-use crate::linker_base::utils::{u32_from_slice, u64_from_slice};
+use crate::linker_base::utils::u32_from_slice;
 use crate::linker_elf::elf::{
-    AArch64Instruction, AllowedRange, InstructionForm, LoongArch64Instruction, Ppc64Instruction,
+    AArch64Instruction, AllowedRange, LoongArch64Instruction, Ppc64Instruction,
     RelocationInstruction, RelocationKind, RelocationKindInfo, RelocationSize, RiscVInstruction,
     Row, Sign,
 };
-use crate::linker_elf::ppc64::DQ_UNIT;
 
 /// Whether bytes hold the value, or its low bits, and not a sum of it and what stood there.
 #[inline(always)]
@@ -40,76 +44,14 @@ fn holds_bits(insn: RelocationInstruction, bits: BitRange) -> bool {
     }
 }
 
-/// What an instruction of AArch64 holds.
-#[inline(always)]
-fn aarch64_number(insn: AArch64Instruction, bytes: &[u8]) -> u64 {
-    let (number, _) = insn.read(bytes);
-    match insn {
-        // the machine reads these without a sign
-        AArch64Instruction::Movkz => number.low_bits(16),
-        AArch64Instruction::LdSt => number.low_bits(12),
-        _ => number,
-    }
-}
-
-/// What an instruction of RISC-V holds, its value rounded.
-#[inline(always)]
-fn riscv_number(insn: RiscVInstruction, bytes: &[u8]) -> u64 {
-    let (number, _) = insn.read(bytes);
-    match insn {
-        RiscVInstruction::UType => number.wrapping_add(0x800),
-        RiscVInstruction::CluiType => number.wrapping_add(0x800),
-        _ => number,
-    }
-}
-
-/// What an instruction of PowerPC64 holds, in two's complement.
-#[inline(always)]
-fn ppc64_number(insn: Ppc64Instruction, bytes: &[u8]) -> u64 {
-    let (number, _) = insn.read(bytes);
-    match insn {
-        Ppc64Instruction::Ds => {
-            if insn.is_dq_form(bytes) {
-                (number - number % DQ_UNIT).low_bits_signed(16)
-            } else {
-                number.low_bits_signed(16)
-            }
-        }
-        Ppc64Instruction::D => number.low_bits_signed(16),
-        Ppc64Instruction::Branch14 => number.low_bits_signed(16),
-        Ppc64Instruction::Branch24 => number.low_bits_signed(26),
-        Ppc64Instruction::Prefixed => number.low_bits_signed(34),
-        Ppc64Instruction::DUnsigned => number,
-    }
-}
-
-/// What an instruction of LoongArch, or a pair, holds, in two's complement.
-#[inline(always)]
-fn loongarch_number(insn: LoongArch64Instruction, bytes: &[u8]) -> u64 {
-    match insn {
-        LoongArch64Instruction::Shift5 => insn.read(bytes).0.low_bits_signed(20),
-        LoongArch64Instruction::Shift10 => {
-            let word = u32_from_slice(bytes) as u64;
-            word.extract_bit_range(10..26).low_bits_signed(16)
-        }
-        LoongArch64Instruction::Call36 => {
-            let pair = u64_from_slice(bytes);
-            let high = pair.extract_bit_range(5..25).low_bits_signed(20);
-            let low = pair.extract_bit_range(42..58).low_bits_signed(16);
-            high.wrapping_mul(1 << 16).wrapping_add(low)
-        }
-        _ => insn.read(bytes).0,
-    }
-}
-
 /// What the machine reads of an instruction, in units of the first bit of its range, modulo 2^64.
 #[inline(always)]
 pub(crate) fn number_held(insn: RelocationInstruction, bytes: &[u8]) -> u64 {
     match insn {
-        RelocationInstruction::AArch64(insn) => aarch64_number(insn, bytes),
-        RelocationInstruction::RiscV(insn) => riscv_number(insn, bytes),
-        RelocationInstruction::Ppc64(insn) => ppc64_number(insn, bytes),
-        RelocationInstruction::LoongArch64(insn) => loongarch_number(insn, bytes),
+        RelocationInstruction::AArch64(insn) => aarch64::number(insn, bytes),
+        RelocationInstruction::RiscV(insn) => riscv64::number(insn, bytes),
+        RelocationInstruction::Ppc64(insn) => ppc64::number(insn, bytes),
+        RelocationInstruction::LoongArch64(insn) => loongarch64::number(insn, bytes),
     }
 }
 

@@ -71,6 +71,7 @@ fn deletes_within(section: &[u8], offset: u64, deleted: Option<DeletedBytes>) ->
 
 /// The rewrite of the instruction of the relocation with an index by facts, and the code of the
 /// relocation after it, as `candidate` says.
+#[inline(always)]
 pub(crate) fn candidate_by(
     architecture: Architecture,
     symbols: &[SymbolFacts],
@@ -107,6 +108,7 @@ pub(crate) fn candidate_by(
 /// rewritten, and the code of the relocation after it. None where there is none: `choose` has no
 /// rewrite for it, the one that it has takes a relocation along that isn't the next one or deletes
 /// bytes behind the section, or it is of a sequence whose relocations aren't all next to it.
+#[inline(always)]
 pub(crate) fn candidate(
     architecture: Architecture,
     phase: Phase,
@@ -123,7 +125,7 @@ pub(crate) fn candidate(
     let facts = link_facts(
         phase, output, symbols, addresses, values, relocation, relocation, marked,
     );
-    match facts {
+    match &facts {
         Some(facts) => candidate_by(
             architecture,
             symbols,
@@ -131,7 +133,7 @@ pub(crate) fn candidate(
             section,
             index,
             relocation,
-            &facts,
+            facts,
         ),
         None => None,
     }
@@ -155,6 +157,7 @@ fn at_base(facts: Option<LinkFacts>) -> Option<LinkFacts> {
 
 /// Whether the instruction of the relocation with an index is one that its rewrite is meant for,
 /// whatever the distance.
+#[inline(always)]
 pub(crate) fn is_matched(
     architecture: Architecture,
     phase: Phase,

@@ -1,7 +1,9 @@
 // Made by tools/erase of crates/linker_rewriting/src/decisions.rt.
 //! What becomes of each relocation of a section and of its instruction.
 
+use crate::linker_rewriting::calls::keeps_call;
 use crate::linker_rewriting::candidates::candidate;
+use crate::linker_rewriting::codes::{bit_of, is_listed, table_of};
 use crate::linker_rewriting::facts::{OutputFacts, SymbolFacts};
 use crate::linker_rewriting::groups::{KeptGroups, Scope, group_stays, scope_in};
 use crate::linker_rewriting::labels::{high_of, is_note, label_candidate, note_labels};
@@ -212,6 +214,7 @@ fn decide_label(
 
 /// What becomes of a relocation that no other takes along. `stays` is what was noted of its label. None
 /// if its group doesn't stay, but it can't be rewritten.
+#[inline(always)]
 fn decide(
     stays: bool,
     architecture: Architecture,
@@ -226,10 +229,11 @@ fn decide(
     index: usize,
     relocation: &Rela,
 ) -> Option<Decision> {
-    match scope_in(architecture, phase, relocation.code) {
-        Scope::Unlisted => Some(Decision::Kept),
-        Scope::Alone => {
-            match candidate(
+    let is_grouped = match scope_in(architecture, phase, relocation.code) {
+        Scope::Unlisted => return Some(Decision::Kept),
+        Scope::Labelled => {
+            return Some(decide_label(
+                stays,
                 architecture,
                 phase,
                 output,
@@ -240,64 +244,8 @@ fn decide(
                 section,
                 index,
                 relocation,
-            ) {
-                Some(choice) => Some(Decision::Rewritten(choice)),
-                None => Some(Decision::Kept),
-            }
+            ));
         }
-        Scope::Grouped(group) => {
-            if group_stays(kept, group, relocation.symbol) {
-                return Some(Decision::Kept);
-            }
-            match candidate(
-                architecture,
-                phase,
-                output,
-                symbols,
-                addresses,
-                values,
-                relocations,
-                section,
-                index,
-                relocation,
-            ) {
-                Some(choice) => Some(Decision::Rewritten(choice)),
-                None => None,
-            }
-        }
-        Scope::Matched(group) => {
-            if group_stays(kept, group, relocation.symbol) {
-                return Some(Decision::Kept);
-            }
-            match candidate(
-                architecture,
-                phase,
-                output,
-                symbols,
-                addresses,
-                values,
-                relocations,
-                section,
-                index,
-                relocation,
-            ) {
-                Some(choice) => Some(Decision::Rewritten(choice)),
-                None => Some(Decision::Kept),
-            }
-        }
-        Scope::Labelled => Some(decide_label(
-            stays,
-            architecture,
-            phase,
-            output,
-            symbols,
-            addresses,
-            values,
-            relocations,
-            section,
-            index,
-            relocation,
-        )),
         Scope::Ahead => {
             if is_rewritten_at(
                 architecture,
@@ -310,12 +258,59 @@ fn decide(
                 section,
                 index + 1,
             ) {
-                Some(Decision::TakenAlong)
-            } else {
-                Some(Decision::Kept)
+                return Some(Decision::TakenAlong);
             }
+            return Some(Decision::Kept);
         }
+        Scope::Grouped(group) => {
+            if group_stays(kept, group, relocation.symbol) {
+                return Some(Decision::Kept);
+            }
+            true
+        }
+        Scope::Matched(group) => {
+            if group_stays(kept, group, relocation.symbol) {
+                return Some(Decision::Kept);
+            }
+            false
+        }
+        Scope::Alone => false,
+    };
+    match candidate(
+        architecture,
+        phase,
+        output,
+        symbols,
+        addresses,
+        values,
+        relocations,
+        section,
+        index,
+        relocation,
+    ) {
+        Some(choice) => Some(Decision::Rewritten(choice)),
+        None if is_grouped => None,
+        None => Some(Decision::Kept),
     }
+}
+
+/// Whether no other relocation takes along the one with an index, and it stays as it is by its code, or
+/// as a call by its symbol. The scope is for the proof alone: the compiler leaves it out.
+#[inline(always)]
+fn is_left(
+    is_taken: bool,
+    architecture: Architecture,
+    phase: Phase,
+    table: &'static [u8],
+    bit: u8,
+    symbols: &[SymbolFacts],
+    relocations: &[u8],
+    index: usize,
+) -> bool {
+    let relocation = relocation_in(relocations, index);
+    let scope = scope_in(architecture, phase, relocation.code);
+    let listed = is_listed(architecture, phase, table, bit, relocation.code);
+    !is_taken && (!listed || keeps_call(architecture, phase, symbols, &relocation))
 }
 
 /// What becomes of a relocation, which another may take along.
@@ -354,12 +349,6 @@ fn decide_after(
     )
 }
 
-/// Where the bytes begin that a decision rewrites.
-#[inline(always)]
-fn start_by(decision: &Decision, offset: u64) -> u64 {
-    offset.saturating_sub(decision.window().back)
-}
-
 /// Where what is deleted ends; 0 if nothing is.
 #[inline(always)]
 fn deleted_end(offset: u64, deleted: Option<DeletedBytes>) -> u64 {
@@ -369,12 +358,14 @@ fn deleted_end(offset: u64, deleted: Option<DeletedBytes>) -> u64 {
     }
 }
 
-/// Where the bytes end that a decision rewrites or deletes.
+/// Where the bytes begin that a decision rewrites, and where those end that it rewrites or deletes.
 #[inline(always)]
-fn end_by(decision: &Decision, offset: u64) -> u64 {
-    let end = start_by(decision, offset) + decision.window().len;
+fn span_of(decision: &Decision, offset: u64) -> (u64, u64) {
+    let window = decision.window();
+    let start = offset.saturating_sub(window.back);
+    let end = start + window.len;
     let deleted = deleted_end(offset, decision.deleted());
-    if end < deleted { deleted } else { end }
+    (start, if end < deleted { deleted } else { end })
 }
 
 /// Where the bytes end that are rewritten or deleted up to some from a start to an end, by where those
@@ -421,7 +412,22 @@ pub(crate) fn decide_section<D: AsDecision>(
     );
     let mut end = 0;
     let mut is_taken = false;
+    let table = table_of(architecture);
+    let bit = bit_of(phase);
     for index in 0..len {
+        if is_left(
+            is_taken,
+            architecture,
+            phase,
+            table,
+            bit,
+            symbols,
+            relocations,
+            index,
+        ) {
+            decisions[index] = D::from_decision(Decision::Kept);
+            continue;
+        }
         let relocation = relocation_in(relocations, index);
         let stays = is_note(&decisions[index].as_decision());
         let Some(decision) = decide_after(
@@ -441,8 +447,7 @@ pub(crate) fn decide_section<D: AsDecision>(
         ) else {
             return Err(RewritingError::NotSurveyed(index));
         };
-        let start = start_by(&decision, relocation.offset);
-        let own = end_by(&decision, relocation.offset);
+        let (start, own) = span_of(&decision, relocation.offset);
         let Some(new_end) = end_behind(start, own, end) else {
             return Err(RewritingError::Overlaps(index));
         };

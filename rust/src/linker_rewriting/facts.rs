@@ -52,7 +52,7 @@ fn has_own_address(symbol: &SymbolFacts) -> bool {
 
 /// Whether a call of a symbol may return with another TOC pointer.
 #[inline(always)]
-fn may_change_toc(symbol: &SymbolFacts) -> bool {
+pub(crate) fn may_change_toc(symbol: &SymbolFacts) -> bool {
     let is_known = symbol.is_local || symbol.is_undefined_weak;
     symbol.is_ifunc || !is_known || symbol.other >> 5 == 1
 }

@@ -310,10 +310,13 @@ fn copy_notes<D: AsDecision>(
     }
 }
 
-/// Whether an architecture has groups of labels.
+/// Whether an architecture has groups of labels in a phase.
 #[inline(always)]
-fn has_labels(architecture: Architecture) -> bool {
-    matches!(architecture, Architecture::RiscV)
+fn has_labels(architecture: Architecture, phase: Phase) -> bool {
+    match architecture {
+        Architecture::RiscV => matches!(phase, Phase::ThreadOffsets | Phase::GotLoads),
+        _ => false,
+    }
 }
 
 /// Notes at each relocation of a label of RISC-V whether its group stays, in place of its decision.
@@ -328,7 +331,7 @@ pub(crate) fn note_labels<D: AsDecision>(
     section: &[u8],
     decisions: &mut [D],
 ) {
-    if !has_labels(architecture) {
+    if !has_labels(architecture, phase) {
         return;
     }
     if !is_ascending(relocations) {

@@ -2,6 +2,7 @@
 //! Which groups of an object stay as they are, since one of their instructions can't be rewritten.
 
 use crate::linker_rewriting::candidates::{candidate, is_matched, is_tls_get_addr};
+use crate::linker_rewriting::codes::{bit_of, is_listed, table_of};
 use crate::linker_rewriting::facts::{NO_ADDRESSES, OutputFacts, SymbolFacts};
 use crate::linker_rewriting::groups::{Group, KeptGroups, Scope, marks_call, scope_in, symbol_of_group};
 use crate::linker_rewriting::phases::Phase;
@@ -134,6 +135,25 @@ fn is_unmarked(
     }
 }
 
+/// Whether the relocation with an index keeps no group by its code, and isn't asked for its mark.
+#[inline(always)]
+fn keeps_none(
+    architecture: Architecture,
+    phase: Phase,
+    table: &'static [u8],
+    bit: u8,
+    relocations: &[u8],
+    index: usize,
+) -> bool {
+    match (phase, architecture) {
+        (Phase::Early, Architecture::Ppc64) => false,
+        _ => {
+            let relocation = relocation_in(relocations, index);
+            !is_listed(architecture, phase, table, bit, relocation.code)
+        }
+    }
+}
+
 /// Notes which groups stay in a phase, by a section, as `survey` and `survey_placed_section` say.
 #[inline(always)]
 fn survey_in(
@@ -147,7 +167,12 @@ fn survey_in(
     section: &[u8],
     kept: &mut [KeptGroups],
 ) {
+    let table = table_of(architecture);
+    let bit = bit_of(phase);
     for index in 0..relocations_len(relocations) {
+        if keeps_none(architecture, phase, table, bit, relocations, index) {
+            continue;
+        }
         let relocation = relocation_in(relocations, index);
         let group = keeping(
             architecture,

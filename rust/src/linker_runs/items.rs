@@ -2,6 +2,7 @@
 //! Relocations of a section, and why no items are made of them.
 
 mod list;
+mod rewritten;
 
 use alloc::vec::Vec;
 use crate::support::*;
@@ -9,6 +10,7 @@ use crate::linker_runs::packing::Machine;
 use crate::linker_runs::relaxation::Item;
 use crate::linker_runs::{loongarch64, riscv64};
 pub(crate) use list::ItemList;
+pub use rewritten::{RewrittenItemsError, rewritten_items_into};
 
 /// A relocation of a section.
 #[derive(Debug, Clone, Copy, PartialEq, Eq, Hash)]

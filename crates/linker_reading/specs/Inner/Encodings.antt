@@ -1,6 +1,6 @@
 -- The encodings of instructions, as the code has them.
 use Rattle.std.specs.Prelude.{ℕ, List, [], ◌∷◌, Option, None, Some}
-use Rattle.linker_reading.specs.Encodings.{Encoding}
+use Rattle.linker_reading.specs.Opcodes.{Encoding}
 use Rattle.linker_reading.specs.declared.operands.Base.{Base}
 use Rattle.linker_reading.specs.declared.operands.Base.TheVariants as bases
 use Rattle.linker_reading.specs.declared.operands.Encoding.{Encoding as CodeEncoding}
@@ -8,8 +8,8 @@ use Rattle.linker_reading.specs.declared.operands.Encoding.{Encoding as CodeEnco
 -- where the destination of the first instruction and the base of the second begin
 abbrev pub registers_of : Base → Option (ℕ × ℕ)
 registers_of bases.Any = None
-registers_of bases.RiscV = Some (7, 47)
-registers_of bases.LoongArch64 = Some (0, 37)
+registers_of bases.From7And47 = Some (7, 47)
+registers_of bases.From0And37 = Some (0, 37)
 
 abbrev pub encoding_of : CodeEncoding → Encoding
 encoding_of e =

@@ -4,6 +4,7 @@ mod items;
 mod packing;
 mod random;
 mod relax;
+mod rewritten;
 
 pub use relax::cascade;
 

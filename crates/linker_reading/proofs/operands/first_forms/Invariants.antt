@@ -1,5 +1,5 @@
 use Rattle.std.proofs.Common.{◌≡◌, drop}
-use Rattle.linker_reading.specs.Encodings.{first_forms}
+use Rattle.linker_reading.specs.Opcodes.{first_forms}
 use Rattle.linker_reading.specs.Inner.Encodings.{encodings_of}
 use Rattle.linker_reading.proofs.operands.first_forms.Given as goal
 

@@ -1,4 +1,4 @@
-use Rattle.linker_runs.proofs.LongAddresses.{near_addresses}
+use Rattle.linker_runs.proofs.LoongArchAddresses.{near_addresses}
 use Rattle.linker_runs.proofs.laws.near_addresses_are_writable.Goals as goal
 
 pub returns : goal.returns

@@ -1,4 +1,4 @@
-use Rattle.linker_runs.proofs.LongCalls36.{near_calls_36}
+use Rattle.linker_runs.proofs.LoongArchCalls36.{near_calls_36}
 use Rattle.linker_runs.proofs.laws.near_calls_36_are_writable.Goals as goal
 
 pub returns : goal.returns

@@ -1,4 +1,4 @@
-use Rattle.linker_runs.proofs.LongCalls.{near_calls}
+use Rattle.linker_runs.proofs.RiscVLongCalls.{near_calls}
 use Rattle.linker_runs.proofs.laws.near_calls_are_writable.Goals as goal
 
 pub returns : goal.returns

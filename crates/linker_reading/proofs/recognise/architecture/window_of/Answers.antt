@@ -1,5 +1,9 @@
 use Rattle.std.proofs.Common.{subst}
-use Rattle.linker_reading.specs.Recognisers.{aarch64, riscv, loongarch, ppc64, x86_64}
+use Rattle.linker_reading.specs.AArch64Recogniser.{aarch64}
+use Rattle.linker_reading.specs.RiscVRecogniser.{riscv}
+use Rattle.linker_reading.specs.LoongArchRecogniser.{loongarch}
+use Rattle.linker_reading.specs.Ppc64Recogniser.{ppc64}
+use Rattle.linker_reading.specs.X86Recogniser.{x86_64}
 use Rattle.linker_reading.specs.Windows.{IsLeastWindow}
 use Rattle.linker_reading.proofs.recognise.architecture.window_of.Goals as goal
 

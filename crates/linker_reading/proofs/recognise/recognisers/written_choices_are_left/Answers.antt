@@ -1,6 +1,9 @@
-use Rattle.linker_reading.proofs.WrittenChoices.{x86_written_is_left}
+use Rattle.linker_reading.proofs.X86WrittenChoices.{x86_written_is_left}
 use Rattle.linker_reading.proofs.WrittenLeft.{written_choice_is_left}
-use Rattle.linker_reading.specs.Recognisers.{aarch64, riscv, loongarch, ppc64}
+use Rattle.linker_reading.specs.AArch64Recogniser.{aarch64}
+use Rattle.linker_reading.specs.RiscVRecogniser.{riscv}
+use Rattle.linker_reading.specs.LoongArchRecogniser.{loongarch}
+use Rattle.linker_reading.specs.Ppc64Recogniser.{ppc64}
 use Rattle.linker_reading.proofs.recognise.recognisers.written_choices_are_left.Goals as goal
 
 pub returns-clause-aarch64 : goal.returns-clause-aarch64

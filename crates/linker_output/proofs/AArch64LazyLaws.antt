@@ -1,0 +1,333 @@
+-- AArch64's lazy PLT.
+use Rattle.std.proofs.Common.{◌≡◌, ℕ, ◌+◌, ◌-◌, ◌*◌, ◌^◌, ◌<◌, ◌≤◌, Bool, true, false, refl, sym, ◌∙◌, ap, subst, arith}
+use Rattle.std.proofs.Common.{List, [], ◌∷◌, ◌++◌, take, eqb, cond, Some, pos, negsuc, ◌+ℤ◌}
+use Rattle.std.specs.Prelude.{◌||◌, ◌==◌, IsSomeAnd, nat_lt, if◌then◌else◌}
+use Rattle.std.specs.Int.{w64, from_le_bytes}
+use Rattle.std.proofs.lemmas.Bool.{cond-true, cond-false}
+use Rattle.std.proofs.lemmas.Int.{ints}
+use Rattle.linker_base.specs.Bits.{field}
+use Rattle.linker_elf.specs.AArch64.{aarch64_form}
+use Rattle.linker_elf.specs.AArch64Relocations.{aarch64_name, aarch64_row}
+use Rattle.linker_elf.specs.Value.{sum_64, difference_64}
+use Rattle.linker_elf.specs.declared.aarch64.forms.AArch64Instruction.TheVariants.{LdSt, Add}
+use Rattle.linker_elf.specs.declared.aarch64.relocations.AArch64Relocation.TheVariants as r
+use Rattle.linker_elf.specs.declared.elf.value.Operands.{Operands}
+use Rattle.linker_laws.specs.AArch64Machine as machine
+use Rattle.linker_laws.specs.AArch64Machine.{State, adrp_address, loaded, added, load_64, add, ldr, go_to, go_on, in_64_bits}
+use Rattle.linker_laws.specs.AArch64RelocationLaws.{RelativeAddresses, page_and_offset}
+use Rattle.linker_laws.specs.AArch64RewriteLaws.{word_of}
+use Rattle.linker_laws.specs.Machine.{stored}
+use Rattle.linker_laws.specs.Schemes.{IsAddress, symbol_address}
+use Rattle.linker_laws.proofs.AArch64Pairs.{loads, adds_up}
+use Rattle.linker_laws.proofs.AArch64Steps.{set, step_add}
+use Rattle.linker_laws.proofs.AArch64Words.{IsAdrOf, IsOf, adrp_after, ldr_after, add_after, of_registers}
+use Rattle.linker_laws.proofs.RiscVMachine.{wrapped_is}
+use Rattle.linker_output.proofs.LazyRuns.{run_more, left_false, right_false, one_word, are_addresses_at}
+use Rattle.linker_output.proofs.StubWords.{applies, no_addend, at_place}
+use Rattle.linker_output.specs.AArch64LazyPlt.{step, further, run, pair_stored, pair_address, GoesTo, Asks}
+use Rattle.linker_output.specs.AArch64LazyPlt as laws
+use Rattle.linker_output.specs.LazyPlt.{IsCode, operands_at, header_places}
+use Rattle.linker_output.specs.LazyPlts.{aarch64_entry, padded}
+use Rattle.linker_output.specs.LazyRuns.{words, or_else}
+use Rattle.linker_output.specs.Tables.{field_of, code_of_words}
+use Rattle.linker_output.specs.declared.lazy_plt.LazyEntry.{LazyEntry}
+use Rattle.linker_output.specs.declared.lazy_plt.LazyTarget.TheVariants.{Word}
+use Rattle.linker_utils.specs.declared.elf.Architecture.TheVariants.{AArch64}
+
+-- ---- `adrp x16`, `ldr x17, [x16]`, `add x16, x16`, `br x17`
+
+of_machine : (x : ℕ) (s t : State) → machine.step x s ≡ Some t → step x s ≡ Some t
+of_machine x s t is = ap (λ v. or_else v (further x s)) is
+
+kept : (b c : Bool) (u v w m : ℕ) → (b || c) ≡ false → cond b w (cond c v (cond b u m)) ≡ m
+kept true c u v w m e = cc
+kept false true u v w m e = cc
+kept false false u v w m e = refl
+
+module _ (o : Operands) (s : State) (x y z target : ℕ) (first : IsAdrOf 1 16 x) (second : IsOf ldr 17 16 y) (third : IsOf add 16 16 z)
+    (at : s.pc ≡ o.place) (loads_from : IsAddress (page_and_offset LdSt 8 o x y) target)
+    (adds_to : IsAddress (page_and_offset Add 1 o x z) target) where
+  one : State
+  one = set 16 (adrp_address x s) s
+
+  two : State
+  two = set 17 (loaded y one) one
+
+  three : State
+  three = set 16 (added z two) two
+
+  pub four : State
+  four = go_to (three.registers 17) three
+
+  pub runs : run (x ∷ y ∷ z ∷ 0xd61f0220 ∷ []) s ≡ Some four
+  unfolding one two three four
+  runs =
+      let l = loads o 16 17 x y target s first second (omega arith) (omega arith) at loads_from in
+      run_more (λ s. s.pc) step x y (z ∷ 0xd61f0220 ∷ []) s one (Some four) (of_machine x s one l.first) refl
+      (run_more (λ s. s.pc) step y z (0xd61f0220 ∷ []) one two (Some four) (of_machine y one two l.second) refl
+      (run_more (λ s. s.pc) step z 0xd61f0220 [] two three (Some four) (of_machine z two three (step_add z 16 two third.decodes third.rd_is)) refl refl))
+
+  pub x17_is : four.registers 17 ≡ load_64 s.memory target
+  unfolding one two three four
+  x17_is = (loads o 16 17 x y target s first second (omega arith) (omega arith) at loads_from).value_is
+
+  pub pc_is : four.pc ≡ four.registers 17
+  unfolding four
+  pc_is = refl
+
+  pub x16_is : four.registers 16 ≡ target
+  unfolding one two three four
+  x16_is =
+      ap (λ n. in_64_bits (pos (two.registers n) +ℤ (aarch64_form Add).machine z)) third.rn_is
+      ∙ adds_up o x z target s at adds_to
+
+  pub others : (n : ℕ) → (n == 16 || n == 17) ≡ false → four.registers n ≡ s.registers n
+  unfolding one two three four
+  others n e = kept (eqb n 16) (eqb n 17) (adrp_address x s) (loaded y one) (added z two) (s.registers n) e
+
+  pub memory_is : four.memory ≡ s.memory
+  unfolding one two three four
+  memory_is = refl
+
+  pub pointer_is : four.thread_pointer ≡ s.thread_pointer
+  unfolding one two three four
+  pointer_is = refl
+
+-- ---- an entry
+
+abbrev operands : ℕ → ℕ → LazyEntry → Operands
+operands origin addend entry =
+    operands_at
+    (record {
+      field = field_of 0 (aarch64_name r.R_AARCH64_ADR_PREL_PG_HI21);
+      target = Word;
+      origin = origin;
+      addend = pos addend;
+    })
+    entry
+
+pub enters : RelativeAddresses → (entry : LazyEntry) → entry.address < 2 ^ 64 → entry.word < 2 ^ 64
+    → (code : List ℕ) → IsCode AArch64 aarch64_entry entry code
+    → (s : State) → s.pc ≡ entry.address
+    → (t : State) × (run (words 4 code) s ≡ Some t) × GoesTo entry (load_64 s.memory entry.word) s t
+enters relative entry inside below code is s at =
+    let o = operands 0 0 entry in
+    let p2 = is.3 in
+    let p3 = p2.3 in
+    let p4 = p3.3 in
+    let adrp_x16 = padded (code_of_words (0x90000010 ∷ [])) in
+    let ldr_x17 = padded (code_of_words (0xf9400211 ∷ [])) in
+    let add_x16 = padded (code_of_words (0x91000210 ∷ [])) in
+    let a = applies aarch64_name aarch64_row r.R_AARCH64_ADR_PREL_PG_HI21 (field_of 0 (aarch64_name r.R_AARCH64_ADR_PREL_PG_HI21)) o adrp_x16 is.0 tt refl is.2.1.0 is.2.1.1 is.2.1.2 in
+    let b = applies aarch64_name aarch64_row r.R_AARCH64_LDST64_ABS_LO12_NC (field_of 0 (aarch64_name r.R_AARCH64_LDST64_ABS_LO12_NC)) o ldr_x17 p2.0 tt refl p2.2.1.0 p2.2.1.1 p2.2.1.2 in
+    let c = applies aarch64_name aarch64_row r.R_AARCH64_ADD_ABS_LO12_NC (field_of 0 (aarch64_name r.R_AARCH64_ADD_ABS_LO12_NC)) o add_x16 p3.0 tt refl p3.2.1.0 p3.2.1.1 p3.2.1.2 in
+    let x = word_of is.0 in
+    let y = word_of p2.0 in
+    let z = word_of p3.0 in
+    let addresses = are_addresses_at (record { field = field_of 0 (aarch64_name r.R_AARCH64_ADR_PREL_PG_HI21); target = Word; origin = 0; addend = pos 0 }) entry below in
+    let first : IsAdrOf 1 16 x = adrp_after _ _ adrp_x16 is.0 a.applied.written refl in
+    let second : IsOf ldr 17 16 y = of_registers refl refl (ldr_after _ _ ldr_x17 p2.0 b.applied.written refl) in
+    let third : IsOf add 16 16 z = of_registers refl refl (add_after _ _ add_x16 p3.0 c.applied.written refl) in
+    let here : s.pc ≡ o.place = at ∙ sym (at_place entry.address inside) in
+    let to = symbol_address o in
+    let l = relative.0.4 o addresses o.place adrp_x16 is.0 a.applied tt o.place ldr_x17 p2.0 b.applied tt in
+    let m = relative.0.0 o addresses o.place adrp_x16 is.0 a.applied tt o.place add_x16 p3.0 c.applied tt in
+    let same : to ≡ entry.word = no_addend entry.word below in
+    let last : words 1 p3.1 ≡ 0xd61f0220 ∷ [] = ap (words 1) (p4.4 ∙ ap (λ p. take 4 p ++ p4.1) p4.2.1) in
+    let all : words 4 code ≡ x ∷ y ∷ z ∷ 0xd61f0220 ∷ [] =
+    one_word is.0 is.1 code is.2.0 3 x (y ∷ z ∷ 0xd61f0220 ∷ []) is.4 refl
+    (one_word p2.0 p2.1 is.1 p2.2.0 2 y (z ∷ 0xd61f0220 ∷ []) p2.4 refl
+    (one_word p3.0 p3.1 p2.1 p3.2.0 1 z (0xd61f0220 ∷ []) p3.4 refl last)) in
+    let holds = x17_is o s x y z to first second third here l m ∙ ap (load_64 s.memory) same in (
+      four o s x y z to first second third here l m,
+      ap (λ ws. run ws s) all ∙ runs o s x y z to first second third here l m,
+      record {
+        pc = pc_is o s x y z to first second third here l m ∙ holds;
+        x16 = x16_is o s x y z to first second third here l m ∙ same;
+        x17 = holds;
+        registers = others o s x y z to first second third here l m;
+        memory = memory_is o s x y z to first second third here l m;
+        thread_pointer = pointer_is o s x y z to first second third here l m;
+      },
+    )
+
+pub enters_so : RelativeAddresses → laws.Enters
+enters_so relative entry inside below code is s at =
+    let e = enters relative entry inside below code is s at in
+    subst (λ end. IsSomeAnd end (GoesTo entry (load_64 s.memory entry.word) s)) (sym e.1) e.2
+
+-- ---- bytes on the stack
+
+stored_at : (number address : ℕ) (memory : ℕ → ℕ) (i at : ℕ) → difference_64 at address ≡ i → nat_lt i 8 ≡ true
+    → stored 8 number address memory at ≡ field number (8 * i) (8 * i + 8)
+stored_at number address memory i at is small =
+    ap (λ k. if nat_lt k 8 then field number (8 * k) (8 * k + 8) else memory at) is
+    ∙ cond-true (nat_lt i 8) (field number (8 * i) (8 * i + 8)) (memory at) small
+
+not_stored : (number address : ℕ) (memory : ℕ → ℕ) (at : ℕ) → nat_lt (difference_64 at address) 8 ≡ false
+    → stored 8 number address memory at ≡ memory at
+not_stored number address memory at is = cond-false (nat_lt (difference_64 at address) 8) _ (memory at) is
+
+whole : (n : ℕ) → n < 2 ^ 64
+    → from_le_bytes w64
+    (field n 0 8 ∷ field n 8 16 ∷ field n 16 24 ∷ field n 24 32 ∷ field n 32 40 ∷ field n 40 48 ∷ field n 48 56 ∷ field n 56 64 ∷ [])
+    ≡ n
+whole n small = omega arith
+
+loads_stored : (number address : ℕ) (memory : ℕ → ℕ) → number < 2 ^ 64 → address < 2 ^ 64
+    → load_64 (stored 8 number address memory) address ≡ number
+loads_stored number address memory small inside =
+    let m = stored 8 number address memory in
+    let b0 : m address ≡ field number 0 8 = stored_at number address memory 0 address (omega arith) refl in
+    let b1 : m (sum_64 address 1) ≡ field number 8 16 = stored_at number address memory 1 (sum_64 address 1) (omega arith) refl in
+    let b2 : m (sum_64 address 2) ≡ field number 16 24 = stored_at number address memory 2 (sum_64 address 2) (omega arith) refl in
+    let b3 : m (sum_64 address 3) ≡ field number 24 32 = stored_at number address memory 3 (sum_64 address 3) (omega arith) refl in
+    let b4 : m (sum_64 address 4) ≡ field number 32 40 = stored_at number address memory 4 (sum_64 address 4) (omega arith) refl in
+    let b5 : m (sum_64 address 5) ≡ field number 40 48 = stored_at number address memory 5 (sum_64 address 5) (omega arith) refl in
+    let b6 : m (sum_64 address 6) ≡ field number 48 56 = stored_at number address memory 6 (sum_64 address 6) (omega arith) refl in
+    let b7 : m (sum_64 address 7) ≡ field number 56 64 = stored_at number address memory 7 (sum_64 address 7) (omega arith) refl in
+    let n = whole number small in
+    ap (λ v. from_le_bytes w64 (v ∷ m (sum_64 address 1) ∷ m (sum_64 address 2) ∷ m (sum_64 address 3) ∷ m (sum_64 address 4) ∷ m (sum_64 address 5) ∷ m (sum_64 address 6) ∷ m (sum_64 address 7) ∷ [])) b0
+    ∙ ap (λ v. from_le_bytes w64 (field number 0 8 ∷ v ∷ m (sum_64 address 2) ∷ m (sum_64 address 3) ∷ m (sum_64 address 4) ∷ m (sum_64 address 5) ∷ m (sum_64 address 6) ∷ m (sum_64 address 7) ∷ [])) b1
+    ∙ ap (λ v. from_le_bytes w64 (field number 0 8 ∷ field number 8 16 ∷ v ∷ m (sum_64 address 3) ∷ m (sum_64 address 4) ∷ m (sum_64 address 5) ∷ m (sum_64 address 6) ∷ m (sum_64 address 7) ∷ [])) b2
+    ∙ ap (λ v. from_le_bytes w64 (field number 0 8 ∷ field number 8 16 ∷ field number 16 24 ∷ v ∷ m (sum_64 address 4) ∷ m (sum_64 address 5) ∷ m (sum_64 address 6) ∷ m (sum_64 address 7) ∷ [])) b3
+    ∙ ap (λ v. from_le_bytes w64 (field number 0 8 ∷ field number 8 16 ∷ field number 16 24 ∷ field number 24 32 ∷ v ∷ m (sum_64 address 5) ∷ m (sum_64 address 6) ∷ m (sum_64 address 7) ∷ [])) b4
+    ∙ ap (λ v. from_le_bytes w64 (field number 0 8 ∷ field number 8 16 ∷ field number 16 24 ∷ field number 24 32 ∷ field number 32 40 ∷ v ∷ m (sum_64 address 6) ∷ m (sum_64 address 7) ∷ [])) b5
+    ∙ ap (λ v. from_le_bytes w64 (field number 0 8 ∷ field number 8 16 ∷ field number 16 24 ∷ field number 24 32 ∷ field number 32 40 ∷ field number 40 48 ∷ v ∷ m (sum_64 address 7) ∷ [])) b6
+    ∙ ap (λ v. from_le_bytes w64 (field number 0 8 ∷ field number 8 16 ∷ field number 16 24 ∷ field number 24 32 ∷ field number 32 40 ∷ field number 40 48 ∷ field number 48 56 ∷ v ∷ [])) b7
+    ∙ n
+
+-- a word whose bytes are the same
+same_loaded : (m n : ℕ → ℕ) (word : ℕ) → word < 2 ^ 64 → ((i : ℕ) → i < 8 → m (sum_64 word i) ≡ n (sum_64 word i))
+    → load_64 m word ≡ load_64 n word
+same_loaded m n word inside same =
+    let zero : sum_64 word 0 ≡ word = omega (arith, inside) in
+    let b0 : m word ≡ n word = subst (λ a. m a ≡ n a) zero (same 0 (omega arith)) in
+    ap (λ v. from_le_bytes w64 (v ∷ m (sum_64 word 1) ∷ m (sum_64 word 2) ∷ m (sum_64 word 3) ∷ m (sum_64 word 4) ∷ m (sum_64 word 5) ∷ m (sum_64 word 6) ∷ m (sum_64 word 7) ∷ [])) b0
+    ∙ ap (λ v. from_le_bytes w64 (n word ∷ v ∷ m (sum_64 word 2) ∷ m (sum_64 word 3) ∷ m (sum_64 word 4) ∷ m (sum_64 word 5) ∷ m (sum_64 word 6) ∷ m (sum_64 word 7) ∷ [])) (same 1 (omega arith))
+    ∙ ap (λ v. from_le_bytes w64 (n word ∷ n (sum_64 word 1) ∷ v ∷ m (sum_64 word 3) ∷ m (sum_64 word 4) ∷ m (sum_64 word 5) ∷ m (sum_64 word 6) ∷ m (sum_64 word 7) ∷ [])) (same 2 (omega arith))
+    ∙ ap (λ v. from_le_bytes w64 (n word ∷ n (sum_64 word 1) ∷ n (sum_64 word 2) ∷ v ∷ m (sum_64 word 4) ∷ m (sum_64 word 5) ∷ m (sum_64 word 6) ∷ m (sum_64 word 7) ∷ [])) (same 3 (omega arith))
+    ∙ ap (λ v. from_le_bytes w64 (n word ∷ n (sum_64 word 1) ∷ n (sum_64 word 2) ∷ n (sum_64 word 3) ∷ v ∷ m (sum_64 word 5) ∷ m (sum_64 word 6) ∷ m (sum_64 word 7) ∷ [])) (same 4 (omega arith))
+    ∙ ap (λ v. from_le_bytes w64 (n word ∷ n (sum_64 word 1) ∷ n (sum_64 word 2) ∷ n (sum_64 word 3) ∷ n (sum_64 word 4) ∷ v ∷ m (sum_64 word 6) ∷ m (sum_64 word 7) ∷ [])) (same 5 (omega arith))
+    ∙ ap (λ v. from_le_bytes w64 (n word ∷ n (sum_64 word 1) ∷ n (sum_64 word 2) ∷ n (sum_64 word 3) ∷ n (sum_64 word 4) ∷ n (sum_64 word 5) ∷ v ∷ m (sum_64 word 7) ∷ [])) (same 6 (omega arith))
+    ∙ ap (λ v. from_le_bytes w64 (n word ∷ n (sum_64 word 1) ∷ n (sum_64 word 2) ∷ n (sum_64 word 3) ∷ n (sum_64 word 4) ∷ n (sum_64 word 5) ∷ n (sum_64 word 6) ∷ v ∷ [])) (same 7 (omega arith))
+
+far : (d : ℕ) → 8 ≤ d → nat_lt d 8 ≡ false
+far d most = grind (arith, most)
+
+-- two numbers, one behind the other
+module _ (first second bottom : ℕ) (memory : ℕ → ℕ) (inside : bottom < 2 ^ 64) where
+  abbrev inner : ℕ → ℕ
+  inner = stored 8 first bottom memory
+
+  abbrev pub both : ℕ → ℕ
+  both = stored 8 second (sum_64 bottom 8) inner
+
+  pub off : (a : ℕ) → 16 ≤ difference_64 a bottom → both a ≡ memory a
+  off a most =
+      not_stored second (sum_64 bottom 8) inner a (far _ (omega (arith, most, inside)))
+      ∙ not_stored first bottom memory a (far _ (omega (arith, most)))
+
+  pub below : first < 2 ^ 64 → load_64 both bottom ≡ first
+  below small =
+      same_loaded both inner bottom inside
+      (λ i less. not_stored second (sum_64 bottom 8) inner (sum_64 bottom i) (far _ (omega (arith, inside, less))))
+      ∙ loads_stored first bottom memory small inside
+
+  pub above : second < 2 ^ 64 → load_64 both (sum_64 bottom 8) ≡ second
+  above small = loads_stored second (sum_64 bottom 8) inner small (omega arith)
+
+  pub apart : (word : ℕ) → word < 2 ^ 64 → ((i : ℕ) → i < 8 → 16 ≤ difference_64 (sum_64 word i) bottom)
+      → load_64 both word ≡ load_64 memory word
+  apart word small not_there = same_loaded both memory word small (λ i less. off (sum_64 word i) (not_there i less))
+
+-- ---- the header
+
+below_stack : (top : ℕ) → in_64_bits (pos top +ℤ negsuc 15) ≡ difference_64 top 16
+below_stack top = wrapped_is (pos top +ℤ negsuc 15) 1 (top + (2 ^ 64 - 16)) (omega (arith, ints))
+
+not_base : (n v m : ℕ) → (n == 31) ≡ false → cond (eqb n 31) v m ≡ m
+not_base n v m e = cond-false (eqb n 31) v m e
+
+pub resolves : RelativeAddresses → laws.Resolves
+resolves relative entry first inside below_word bounded within code is header is_header s at to_header small not_there =
+    let e = enters relative entry inside below_word code is s at in
+    let t = e.0 in
+    let gone = e.2 in
+    let places = header_places entry.header first in
+    let o = operands 4 16 places in
+    let p2 = is_header.3 in
+    let p3 = p2.3 in
+    let p4 = p3.3 in
+    let p5 = p4.3 in
+    let adrp_x16 = padded (code_of_words (0x90000010 ∷ [])) in
+    let ldr_x17 = padded (code_of_words (0xf9400211 ∷ [])) in
+    let add_x16 = padded (code_of_words (0x91000210 ∷ [])) in
+    let a = applies aarch64_name aarch64_row r.R_AARCH64_ADR_PREL_PG_HI21 (field_of 0 (aarch64_name r.R_AARCH64_ADR_PREL_PG_HI21)) o adrp_x16 p2.0 tt refl p2.2.1.0 p2.2.1.1 p2.2.1.2 in
+    let b = applies aarch64_name aarch64_row r.R_AARCH64_LDST64_ABS_LO12_NC (field_of 0 (aarch64_name r.R_AARCH64_LDST64_ABS_LO12_NC)) o ldr_x17 p3.0 tt refl p3.2.1.0 p3.2.1.1 p3.2.1.2 in
+    let c = applies aarch64_name aarch64_row r.R_AARCH64_ADD_ABS_LO12_NC (field_of 0 (aarch64_name r.R_AARCH64_ADD_ABS_LO12_NC)) o add_x16 p4.0 tt refl p4.2.1.0 p4.2.1.1 p4.2.1.2 in
+    let x = word_of p2.0 in
+    let y = word_of p3.0 in
+    let z = word_of p4.0 in
+    let addresses = are_addresses_at (record { field = field_of 0 (aarch64_name r.R_AARCH64_ADR_PREL_PG_HI21); target = Word; origin = 4; addend = pos 16 }) places bounded in
+    let is_adrp : IsAdrOf 1 16 x = adrp_after _ _ adrp_x16 p2.0 a.applied.written refl in
+    let is_ldr : IsOf ldr 17 16 y = of_registers refl refl (ldr_after _ _ ldr_x17 p3.0 b.applied.written refl) in
+    let is_add : IsOf add 16 16 z = of_registers refl refl (add_after _ _ add_x16 p4.0 c.applied.written refl) in
+    let third = sum_64 first 16 in
+    let l : IsAddress (page_and_offset LdSt 8 o x y) third = relative.0.4 o addresses o.place adrp_x16 p2.0 a.applied tt o.place ldr_x17 p3.0 b.applied tt in
+    let m : IsAddress (page_and_offset Add 1 o x z) third = relative.0.0 o addresses o.place adrp_x16 p2.0 a.applied tt o.place add_x16 p4.0 c.applied tt in
+    let bottom = difference_64 (t.registers 31) 16 in
+    let address = pair_address 0xa9bf7bf0 t in
+    let under : address ≡ bottom = below_stack (t.registers 31) in
+    let same_bottom : bottom ≡ difference_64 (s.registers 31) 16 = ap (λ n. difference_64 n 16) (gone.registers 31 refl) in
+    let h : State = go_on (pair_stored 0xa9bf7bf0 t) in
+    let here : h.pc ≡ o.place = ap (λ p. sum_64 p 4) gone.pc ∙ ap (λ p. sum_64 p 4) to_header in
+    let end = four o h x y z third is_adrp is_ldr is_add here l m in
+    let last : words 1 p4.1 ≡ 0xd61f0220 ∷ [] = ap (words 1) (p5.4 ∙ ap (λ p. take 8 p ++ p5.1) p5.2.1) in
+    let later : words 4 is_header.1 ≡ x ∷ y ∷ z ∷ 0xd61f0220 ∷ [] =
+    one_word p2.0 p2.1 is_header.1 p2.2.0 3 x (y ∷ z ∷ 0xd61f0220 ∷ []) p2.4 refl
+    (one_word p3.0 p3.1 p2.1 p3.2.0 2 y (z ∷ 0xd61f0220 ∷ []) p3.4 refl
+    (one_word p4.0 p4.1 p3.1 p4.2.0 1 z (0xd61f0220 ∷ []) p4.4 refl last)) in
+    let all : words 5 header ≡ 0xa9bf7bf0 ∷ x ∷ y ∷ z ∷ 0xd61f0220 ∷ [] =
+    ap (words 5) (is_header.4 ∙ ap (λ p. take 4 p ++ is_header.1) is_header.2.1) ∙ ap (λ w. 0xa9bf7bf0 ∷ w) later in
+    let ran : run (words 5 header) t ≡ Some end =
+    ap (λ ws. run ws t) all
+    ∙ run_more (λ s. s.pc) step 0xa9bf7bf0 x (y ∷ z ∷ 0xd61f0220 ∷ []) t h (Some end) refl refl
+    (runs o h x y z third is_adrp is_ldr is_add here l m) in
+    let stored_both : h.memory ≡ both (t.registers 16) (t.registers 30) bottom t.memory (omega arith) =
+    ap (λ b. stored 8 (t.registers 30) (sum_64 b 8) (stored 8 (t.registers 16) b t.memory)) under in
+    let in_memory : end.memory ≡ both (t.registers 16) (t.registers 30) bottom t.memory (omega arith) =
+    memory_is o h x y z third is_adrp is_ldr is_add here l m ∙ stored_both in
+    let stack : end.registers 31 ≡ bottom = others o h x y z third is_adrp is_ldr is_add here l m 31 refl ∙ under in
+    let asked : Asks entry third s end =
+    record {
+      pc =
+          pc_is o h x y z third is_adrp is_ldr is_add here l m
+          ∙ x17_is o h x y z third is_adrp is_ldr is_add here l m
+          ∙ ap (λ m. load_64 m third) stored_both
+          ∙ apart (t.registers 16) (t.registers 30) bottom t.memory (omega arith) third (omega arith)
+          (λ i less. subst (λ b. 16 ≤ difference_64 (sum_64 third i) b) (sym same_bottom) (not_there i less))
+          ∙ ap (λ m. load_64 m third) gone.memory;
+      x16 = x16_is o h x y z third is_adrp is_ldr is_add here l m;
+      stack = stack ∙ same_bottom;
+      registers = λ n e.
+          others o h x y z third is_adrp is_ldr is_add here l m n (left_false (n == 16 || n == 17) (n == 31) e)
+          ∙ not_base n address (t.registers n) (right_false (n == 16 || n == 17) (n == 31) e)
+          ∙ gone.registers n (left_false (n == 16 || n == 17) (n == 31) e);
+      word =
+          ap (load_64 end.memory) stack ∙ ap (λ m. load_64 m bottom) in_memory
+          ∙ below (t.registers 16) (t.registers 30) bottom t.memory (omega arith) (subst (λ n. n < 2 ^ 64) (sym gone.x16) below_word)
+          ∙ gone.x16;
+      link =
+          ap (λ a. load_64 end.memory (sum_64 a 8)) stack ∙ ap (λ m. load_64 m (sum_64 bottom 8)) in_memory
+          ∙ above (t.registers 16) (t.registers 30) bottom t.memory (omega arith) (subst (λ n. n < 2 ^ 64) (sym (gone.registers 30 refl)) small)
+          ∙ gone.registers 30 refl;
+      memory = λ a most.
+          ap (λ m. m a) in_memory
+          ∙ off (t.registers 16) (t.registers 30) bottom t.memory (omega arith) a (subst (λ b. 16 ≤ difference_64 a b) stack most)
+          ∙ ap (λ m. m a) gone.memory;
+      thread_pointer = pointer_is o h x y z third is_adrp is_ldr is_add here l m ∙ gone.thread_pointer;
+    } in
+    subst (λ end. IsSomeAnd end (λ t. (t.pc ≡ entry.header)
+    × IsSomeAnd (run (words 5 header) t) (Asks entry third s))) (sym e.1)
+    (gone.pc ∙ to_header, subst (λ end. IsSomeAnd end (Asks entry third s)) (sym ran) asked)

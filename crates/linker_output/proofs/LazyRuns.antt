@@ -1,0 +1,65 @@
+-- Runs of words, and the words of a lazy PLT's code.
+use Rattle.std.proofs.Common.{◌≡◌, ℕ, ◌^◌, ◌<◌, ◌≤◌, suc, Bool, true, false, refl, sym, ◌∙◌, ap, arith}
+use Rattle.std.proofs.Common.{List, ◌∷◌, ◌++◌, eqb, Some, None, Option, take, drop, length}
+use Rattle.std.specs.Prelude.{◌||◌}
+use Rattle.std.proofs.lemmas.Bool.{eq-eqb, cond-true}
+use Rattle.std.proofs.lemmas.List.{drop_at, take_at, length-take}
+use Rattle.linker_elf.specs.Value.{sum_64}
+use Rattle.linker_laws.specs.Schemes.{AreAddresses}
+use Rattle.linker_output.proofs.StubWords.{word, front_word}
+use Rattle.linker_output.specs.LazyPlt.{operands_at, target_at}
+use Rattle.linker_output.specs.LazyRuns.{words, run_by, continue_by}
+use Rattle.linker_output.specs.declared.lazy_plt.LazyEntry.{LazyEntry}
+use Rattle.linker_output.specs.declared.lazy_plt.LazyField.{LazyField}
+
+pub run_more : {S : Type 0} (pc : S → ℕ) (step : ℕ → S → Option S) (x y : ℕ) (rest : List ℕ)
+    (s t : S) (end : Option S) → step x s ≡ Some t → pc t ≡ sum_64 (pc s) 4
+    → run_by pc step (y ∷ rest) t ≡ end → run_by pc step (x ∷ y ∷ rest) s ≡ end
+run_more pc step x y rest s t end first on then =
+    ap (continue_by pc (sum_64 (pc s) 4) (λ e. run_by pc step (y ∷ rest) e)) first
+    ∙ cond-true (eqb (pc t) (sum_64 (pc s) 4)) (run_by pc step (y ∷ rest) t) None (eq-eqb (pc t) (sum_64 (pc s) 4) on)
+    ∙ then
+
+pub left_false : (a b : Bool) → (a || b) ≡ false → a ≡ false
+left_false true b e = cc
+left_false false b e = refl
+
+pub right_false : (a b : Bool) → (a || b) ≡ false → b ≡ false
+right_false true b e = cc
+right_false false b e = e
+
+-- ---- code that begins with a piece
+
+module _ (piece others code : List ℕ) (len : length piece ≡ 8) where
+  pub behind : (n : ℕ) → n ≤ 8 → code ≡ take n piece ++ others → drop n code ≡ others
+  behind n most is =
+      ap (drop n) is ∙ drop_at (take n piece) others n (length-take n piece ∙ omega (arith, most, len))
+
+  first_four : code ≡ take 4 piece ++ others → take 4 code ≡ take 4 piece
+  first_four is =
+      ap (take 4) is ∙ take_at (take 4 piece) others 4 (length-take 4 piece ∙ omega (arith, len))
+
+  pub word_of_piece : code ≡ take 4 piece ++ others → word code ≡ word piece
+  word_of_piece is =
+      sym (front_word code) ∙ ap word (first_four is) ∙ front_word piece
+
+  -- a piece of a word
+  pub one_word : (n w : ℕ) (ws : List ℕ) → code ≡ take 4 piece ++ others → word piece ≡ w
+      → words n others ≡ ws → words (suc n) code ≡ w ∷ ws
+  one_word n w ws is first rest =
+      ap (λ v. v ∷ words n (drop 4 code)) (word_of_piece is ∙ first)
+      ∙ ap (λ l. w ∷ words n l) (behind 4 (omega arith) is) ∙ ap (λ l. w ∷ l) rest
+
+-- ---- operands
+
+pub are_addresses_at : (field : LazyField) (entry : LazyEntry) → target_at field.target entry < 2 ^ 64
+    → AreAddresses (operands_at field entry)
+are_addresses_at field entry small =
+    record {
+      symbol = small;
+      place = omega arith;
+      got_entry = small;
+      got_base = omega arith;
+      plt_entry = small;
+      tls_base = omega arith;
+    }

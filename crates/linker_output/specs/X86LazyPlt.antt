@@ -1,0 +1,89 @@
+-- x86-64: entries go to the address that their word has, and by the header to the dynamic linker's
+-- resolver (Intel 64 and IA-32 Architectures Software Developer's Manual, volume 2, "JMP", "PUSH";
+-- x86-64 psABI, "Procedure Linkage Table").
+use Rattle.std.specs.Prelude.{◌≡◌, ◌==◌, ◌&&◌, ◌≤◌, ◌^◌, ◌<◌, ℕ, zero, suc, List, ◌∷◌, false, drop, Option, Some, None}
+use Rattle.std.specs.Prelude.{IsSomeAnd, if◌then◌else◌}
+use Rattle.linker_elf.specs.Relocate.{number_of_bytes}
+use Rattle.linker_elf.specs.Value.{sum_64, difference_64}
+use Rattle.linker_laws.specs.X86Machine as machine
+use Rattle.linker_laws.specs.X86Machine.{State, load, store_8, with_register, extended, is_relative, reg_of}
+use Rattle.linker_output.specs.LazyPlt.{IsCode, header_places}
+use Rattle.linker_output.specs.LazyPlts.{x86_64_entry, x86_64_header}
+use Rattle.linker_output.specs.LazyRuns.{or_else}
+use Rattle.linker_output.specs.declared.lazy_plt.LazyEntry.{LazyEntry}
+use Rattle.linker_utils.specs.declared.elf.Architecture.TheVariants.{X86_64}
+
+-- ---- "PUSH"
+
+-- 8 bytes are stored below the stack pointer
+abbrev pub pushed : ℕ → ℕ → State → State
+pushed number next s =
+    let top = difference_64 (s.register 4) 8 in
+    record s {
+      ip = next;
+      register = with_register 4 top s.register;
+      memory = store_8 top number s.memory;
+    }
+
+-- by 68, of 32 bits, sign-extended; by ff /6, of 8 bytes so far from the next instruction
+abbrev pub further : List ℕ → State → Option State
+further (opcode ∷ m ∷ rest) s =
+    if opcode == 0x68
+    then Some (pushed (extended (number_of_bytes 4 (m ∷ rest))) (sum_64 s.ip 5) s)
+    else (if (opcode == 0xff) && (is_relative m && (reg_of m == 6))
+    then Some (pushed (load 8 s (sum_64 (sum_64 s.ip 6) (extended (number_of_bytes 4 rest)))) (sum_64 s.ip 6) s)
+    else None)
+further bytes s = None
+
+abbrev pub step : List ℕ → State → Option State
+step bytes s = or_else (further bytes s) (machine.step bytes s)
+
+abbrev pub and_then : (State → Option State) → Option State → Option State
+and_then rest None = None
+and_then rest (Some s) = rest s
+
+-- so many instructions of code, from the one at the state's address on, whose first byte has an address
+abbrev pub run : ℕ → List ℕ → ℕ → State → Option State
+run zero code start s = Some s
+run (suc n) code start s =
+    and_then (run n code start) (step (drop (difference_64 s.ip start) code) s)
+
+-- ---- the laws
+
+-- Nothing but the instruction pointer changes.
+abbrev pub Enters : Type 0
+Enters =
+    (entry : LazyEntry) → entry.address < 2 ^ 64 → entry.word < 2 ^ 64
+    → (code : List ℕ) → IsCode X86_64 x86_64_entry entry code
+    → (s : State) → s.ip ≡ entry.address
+    → step code s ≡ Some (record s { ip = load 8 s entry.word })
+
+-- It goes to the resolver, whose address the third word has, with the second word and above it the index
+-- on the stack, and changes nothing else.
+pub record Asks (number first : ℕ) (s t : State) : Type 0 where
+  pub ip : t.ip ≡ load 8 s (sum_64 first 16)
+  pub stack : t.register 4 ≡ difference_64 (s.register 4) 16
+  pub registers : (n : ℕ) → (n == 4) ≡ false → t.register n ≡ s.register n
+  pub object : load 8 t (t.register 4) ≡ load 8 s (sum_64 first 8)
+  pub index : load 8 t (sum_64 (t.register 4) 8) ≡ number
+  pub memory : (a : ℕ) → 16 ≤ difference_64 a (t.register 4) → t.memory a ≡ s.memory a
+  pub flags : t.flags ≡ s.flags
+  pub fs : t.fs ≡ s.fs
+
+-- the 8 bytes of a word aren't among the 16 below the stack pointer
+abbrev pub IsOffStack : ℕ → State → Type 0
+IsOffStack word s =
+    (i : ℕ) → i < 8 → 16 ≤ difference_64 (sum_64 word i) (difference_64 (s.register 4) 16)
+
+-- The word of the entry has the address behind the entry's first instruction, and the second and the
+-- third word aren't on the stack.
+abbrev pub Resolves : Type 0
+Resolves =
+    (entry : LazyEntry) (first : ℕ) → entry.address < 2 ^ 64 → entry.word < 2 ^ 64 → first < 2 ^ 64
+    → entry.header < 2 ^ 64 → entry.index < 2 ^ 64
+    → (code : List ℕ) → IsCode X86_64 x86_64_entry entry code
+    → (header : List ℕ) → IsCode X86_64 x86_64_header (header_places entry.header first) header
+    → (s : State) → s.ip ≡ entry.address → load 8 s entry.word ≡ sum_64 entry.address 6
+    → IsOffStack (sum_64 first 8) s → IsOffStack (sum_64 first 16) s
+    → IsSomeAnd (run 3 code entry.address s) (λ t. (t.ip ≡ entry.header)
+    × IsSomeAnd (run 2 header entry.header t) (Asks entry.index first s))

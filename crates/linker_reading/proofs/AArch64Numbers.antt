@@ -1,0 +1,53 @@
+-- What an instruction of AArch64 holds: without the sign that a read gives; and what a move moves.
+use Rattle.std.proofs.Common.{◌≡◌, ℕ, suc, ◌-◌, ◌*◌, ◌%◌, ◌^◌, ◌<◌, refl}
+use Rattle.std.proofs.Common.{◌∙◌, ap, arith, negsuc}
+use Rattle.std.proofs.Common.{Bool, true, false, zero, if◌then◌else◌}
+use Rattle.std.specs.Int.{w64, cast_unsigned}
+use Rattle.std.proofs.Math.Nat.{mod-eq_of_lt}
+use Rattle.linker_base.specs.Bits.{field}
+use Rattle.linker_base.specs.Form.{place_sum}
+use Rattle.linker_base.proofs.Fields.{signed_bits}
+use Rattle.linker_base.proofs.Immediates.{place_sum_below}
+use Rattle.linker_elf.specs.AArch64.{aarch64_form, moved_value, shift_of}
+use Rattle.linker_elf.specs.declared.aarch64.forms.AArch64Instruction.TheVariants.{Movkz, LdSt}
+use Rattle.linker_elf.specs.declared.elf.RelocationInstruction.TheVariants.{AArch64}
+use Rattle.linker_reading.specs.Reading.{number_held}
+
+pub movkz_held : (x number result : ℕ) → number ≡ cast_unsigned w64 ((aarch64_form Movkz).reading x)
+    → result ≡ number % 2 ^ 16 → result ≡ cast_unsigned w64 (number_held (AArch64 Movkz) x)
+movkz_held x number result is low =
+    let sum = place_sum ((aarch64_form Movkz).places x) x in
+    low ∙ ap (λ y. y % 2 ^ 16) is
+    ∙ signed_bits 16 sum (place_sum_below ((aarch64_form Movkz).places x) 16 x refl refl)
+    (omega arith)
+
+pub ldst_held : (x number result : ℕ) → number ≡ cast_unsigned w64 ((aarch64_form LdSt).reading x)
+    → result ≡ number % 2 ^ 12 → result ≡ cast_unsigned w64 (number_held (AArch64 LdSt) x)
+ldst_held x number result is low =
+    let sum = place_sum ((aarch64_form LdSt).places x) x in
+    low ∙ ap (λ y. y % 2 ^ 12) is
+    ∙ signed_bits 12 sum (place_sum_below ((aarch64_form LdSt).places x) 12 x refl refl)
+    (omega arith)
+
+-- ---- moves of 16 bits
+
+moved_below : (f s : ℕ) → f < 2 ^ 16 → s < 4 → f * 2 ^ (16 * s) < 2 ^ 64
+moved_below f zero small few = omega (arith, small)
+moved_below f (suc zero) small few = omega (arith, small)
+moved_below f (suc (suc zero)) small few = omega (arith, small)
+moved_below f (suc (suc (suc zero))) small few = omega (arith, small)
+moved_below f (suc (suc (suc (suc s)))) small few = absurd (omega (arith, few))
+
+-- MOVN complements its bits, and MOVZ does not.
+pub moved_held : (x : ℕ) (negative : Bool)
+    → (if negative then 2 ^ 64 - 1 - field x 5 21 * 2 ^ shift_of x % 2 ^ 64
+    else field x 5 21 * 2 ^ shift_of x % 2 ^ 64)
+    ≡ cast_unsigned w64 (moved_value negative (field x 5 21) (shift_of x))
+moved_held x true =
+    ap (λ y. 2 ^ 64 - 1 - y) (mod-eq_of_lt (moved_below (field x 5 21) (field x 21 23) (omega arith) (omega arith)))
+    ∙ complement (field x 5 21 * 2 ^ shift_of x)
+  where
+    complement : (k : ℕ) → 2 ^ 64 - 1 - k ≡ cast_unsigned w64 (negsuc k)
+    complement k = omega arith
+moved_held x false =
+    mod-eq_of_lt (moved_below (field x 5 21) (field x 21 23) (omega arith) (omega arith))

@@ -1,0 +1,19 @@
+-- What is recognised of LoongArch.
+use Rattle.linker_elf.specs.LoongArchRelocations.{loongarch_name, loongarch_row}
+use Rattle.linker_elf.specs.declared.loongarch64.relocations.LoongArch64Relocation.{LoongArch64Relocation}
+use Rattle.linker_loongarch64.specs.LoongArchRewrites.{LoongArchApplies, loongarch_entries}
+use Rattle.linker_loongarch64.specs.declared.rewrites.RelaxationKind.TheVariants as of_loongarch
+use Rattle.linker_loongarch64.specs.declared.rewrites.RelaxationKind.{RelaxationKind as LoongArchKind}
+use Rattle.linker_reading.specs.Recognised.{Recogniser}
+use Rattle.linker_utils.specs.declared.architecture.Relaxation.TheVariants as relaxations
+
+abbrev pub loongarch : Recogniser LoongArchKind LoongArch64Relocation
+loongarch =
+    record {
+      entries = λ name original o. loongarch_entries name;
+      applies = LoongArchApplies;
+      no_op = of_loongarch.NoOp;
+      row = loongarch_row;
+      elf_name = loongarch_name;
+      relaxation = relaxations.LoongArch64;
+    }

@@ -1,0 +1,27 @@
+-- What is recognised of x86-64.
+use Rattle.std.specs.Prelude.{ℕ, ◌-◌, List, slice_index}
+use Rattle.linker_elf.specs.Choices.{Applies}
+use Rattle.linker_elf.specs.X86Relocations.{x86_64_name, x86_64_row}
+use Rattle.linker_elf.specs.declared.x86_64.relocations.X86_64Relocation.{X86_64Relocation}
+use Rattle.linker_reading.specs.Recognised.{Recogniser}
+use Rattle.linker_utils.specs.declared.architecture.Relaxation.TheVariants as relaxations
+use Rattle.linker_x86_64.specs.X86Rewrites.{Table, IsAskedFor as IsAskedForByX86, x86_64_after, x86_64_table}
+use Rattle.linker_x86_64.specs.declared.rewrites.RelaxationKind.TheVariants as of_x86_64
+use Rattle.linker_x86_64.specs.declared.rewrites.RelaxationKind.{RelaxationKind as X86Kind}
+
+-- by the opcode two bytes before the offset
+abbrev pub x86_64_table_at : X86_64Relocation → List ℕ → ℕ → Table
+x86_64_table_at name original o = x86_64_table name (slice_index original (o - 2))
+
+abbrev pub x86_64 : Recogniser X86Kind X86_64Relocation
+x86_64 =
+    record {
+      entries = λ name original o. (x86_64_table_at name original o).entries;
+      applies = λ name original o.
+          Applies (IsAskedForByX86 (x86_64_table_at name original o).instructions) x86_64_row
+          x86_64_after original o;
+      no_op = of_x86_64.NoOp;
+      row = x86_64_row;
+      elf_name = x86_64_name;
+      relaxation = relaxations.X86_64;
+    }

@@ -1,0 +1,35 @@
+-- What a write of the value of a relocation of x86-64 leaves is what is recognised.
+use Rattle.std.specs.Prelude.{◌≡◌, ◌≤◌, ℕ, List, ◌++◌, length, take, drop, ℤ, Some}
+use Rattle.linker_base.specs.Rewrite.{CanRewrite, rewritten, offset_after}
+use Rattle.linker_elf.specs.Relocate.{WritesRow}
+use Rattle.linker_elf.specs.X86Relocations.{x86_64_row}
+use Rattle.linker_elf.specs.declared.elf.RelocationKindInfo.{RelocationKindInfo}
+use Rattle.linker_elf.specs.declared.elf.choice.Choice.{Choice}
+use Rattle.linker_elf.specs.declared.x86_64.relocations.X86_64Relocation.{X86_64Relocation}
+use Rattle.linker_reading.specs.FieldsOfBytes.{AreSameButFor}
+use Rattle.linker_reading.specs.Recognised.{IsLeft}
+use Rattle.linker_reading.specs.declared.recognise.fields.FieldBits.{FieldBits}
+use Rattle.linker_utils.specs.declared.architecture.Relaxation.TheVariants.{X86_64}
+use Rattle.linker_x86_64.specs.X86Rewrites.{x86_64_rewrite}
+use Rattle.linker_x86_64.specs.declared.rewrites.RelaxationKind.{RelaxationKind}
+
+-- a write changes bits of the row's field only
+abbrev pub WritesField : RelocationKindInfo → Type 0
+WritesField row =
+    (v : ℤ) (before after : List ℕ) → WritesRow row v before after → AreSameButFor row before after
+
+-- Where the rewrite of a choice is applied, and then the value of the relocation after it written
+-- at the offset after it, the choice leaves these bytes, whatever else is ignored.
+abbrev pub X86WrittenIsLeft : Type 0
+X86WrittenIsLeft =
+    (c : Choice RelaxationKind X86_64Relocation) (row : RelocationKindInfo) (original : List ℕ) (o : ℕ) (v : ℤ)
+    (written : List ℕ) (others : List FieldBits)
+    → x86_64_row c.relocation ≡ Some row
+    → CanRewrite (x86_64_rewrite c.kind) original o
+    → offset_after (x86_64_rewrite c.kind) o ≤ length (rewritten (x86_64_rewrite c.kind) original o)
+    → WritesRow row v
+    (drop (offset_after (x86_64_rewrite c.kind) o) (rewritten (x86_64_rewrite c.kind) original o))
+    written
+    → IsLeft (X86_64 c.kind) (x86_64_row c.relocation) original o others
+    (take (offset_after (x86_64_rewrite c.kind) o) (rewritten (x86_64_rewrite c.kind) original o)
+    ++ written)

@@ -1,0 +1,35 @@
+//! What an instruction of LoongArch holds.
+
+ghost use Rattle.std.specs.Prelude.{◌≡◌, ◌≤◌, length};
+ghost use Rattle.std.specs.Int.{byte_len, cast_unsigned, w64};
+ghost use Rattle.linker_base.specs.Form.{window_of};
+ghost use Rattle.linker_elf.specs.LoongArch.{loongarch_form};
+ghost use Rattle.linker_reading.specs.Reading.{number_held};
+
+use linker_base::bit_misc::BitExtraction;
+use linker_base::utils::{u32_from_slice, u64_from_slice};
+use linker_elf::elf::{InstructionForm, LoongArch64Instruction, RelocationInstruction};
+
+/// What an instruction, or a pair, holds, in two's complement.
+#[inline(always)]
+pub(super) fn number(insn: LoongArch64Instruction, bytes: &[u8]) -> u64
+    requires { byte_len (loongarch_form insn).window ≤ length bytes.now }
+    ensures { result ≡ cast_unsigned w64
+        (number_held (RelocationInstruction.LoongArch64 insn)
+        (window_of (loongarch_form insn) bytes.now)) }
+{
+    match insn {
+        LoongArch64Instruction::Shift5 => insn.read(bytes).0.low_bits_signed(20),
+        LoongArch64Instruction::Shift10 => {
+            let word = u32_from_slice(bytes) as u64;
+            word.extract_bit_range(10..26).low_bits_signed(16)
+        }
+        LoongArch64Instruction::Call36 => {
+            let pair = u64_from_slice(bytes);
+            let high = pair.extract_bit_range(5..25).low_bits_signed(20);
+            let low = pair.extract_bit_range(42..58).low_bits_signed(16);
+            high.wrapping_mul(1 << 16).wrapping_add(low)
+        }
+        _ => insn.read(bytes).0,
+    }
+}

@@ -1,0 +1,204 @@
+-- Relocations that stay as they are by their code, or as calls by their symbol.
+use Rattle.std.proofs.Common.{◌≡◌, ℕ, ◌∙◌, ◌⊎◌, inl, inr, ◌||◌, eqb, not, List, sym, subst, refl, Bool, true, false, true≢false, Option, Some, None}
+use Rattle.std.specs.Prelude.{slice_get}
+use Rattle.std.proofs.lemmas.Bool.{and_parts, eqb-true, cases_Bool}
+use Rattle.linker_aarch64.specs.AArch64Rewrites.{IsAArch64Choice}
+use Rattle.linker_aarch64.specs.declared.rewrites.RelaxationKind.TheVariants as aarch64_kinds
+use Rattle.linker_elf.specs.AArch64Relocations.{aarch64_name}
+use Rattle.linker_elf.specs.Choices.{choice}
+use Rattle.linker_elf.specs.ElfNames.{IsNameOf, code_of}
+use Rattle.linker_elf.specs.Ppc64Relocations.{ppc64_name}
+use Rattle.linker_elf.specs.declared.aarch64.relocations.AArch64Relocation.{AArch64Relocation}
+use Rattle.linker_elf.specs.declared.aarch64.relocations.AArch64Relocation.TheVariants as aarch64
+use Rattle.linker_elf.specs.declared.elf.choice.Choice.{Choice}
+use Rattle.linker_elf.specs.declared.elf.choice.LinkFacts.{LinkFacts}
+use Rattle.linker_elf.specs.declared.ppc64.relocations.Ppc64Relocation.{Ppc64Relocation}
+use Rattle.linker_elf.specs.declared.ppc64.relocations.Ppc64Relocation.TheVariants as ppc64
+use Rattle.linker_ppc64.specs.Ppc64Rewrites.{IsPpc64Choice}
+use Rattle.linker_ppc64.specs.declared.rewrites.RelaxationKind.TheVariants as ppc64_kinds
+use Rattle.linker_rewriting.specs.Candidates.{IsCandidateWith}
+use Rattle.linker_rewriting.specs.Decisions.{IsDecidedAlone}
+use Rattle.linker_rewriting.specs.Facts.{Setting, setting, facts_of, facts_by}
+use Rattle.linker_rewriting.specs.Groups.{IsScopeIn}
+use Rattle.linker_rewriting.specs.Inner.Calls.{is_weak_zero, changes_toc, aarch64_keeps, ppc64_keeps, IsLeft}
+use Rattle.linker_rewriting.specs.Sequences.{is_marked_at}
+use Rattle.linker_rewriting.specs.declared.decisions.Decision.TheVariants.{Kept}
+use Rattle.linker_rewriting.specs.declared.facts.OutputFacts.{OutputFacts}
+use Rattle.linker_rewriting.specs.declared.facts.SymbolFacts.{SymbolFacts}
+use Rattle.linker_rewriting.specs.declared.groups.KeptGroups.{KeptGroups}
+use Rattle.linker_rewriting.specs.declared.groups.Scope.{Scope}
+use Rattle.linker_rewriting.specs.declared.groups.Scope.TheVariants.{Unlisted, Alone}
+use Rattle.linker_rewriting.specs.declared.phases.Phase.{Phase}
+use Rattle.linker_rewriting.specs.declared.phases.Phase.TheVariants.{Early, ThreadOffsets, GotLoads, Distances}
+use Rattle.linker_section.specs.declared.facts.Addresses.{Addresses}
+use Rattle.linker_section.specs.declared.facts.Symbol.{Symbol}
+use Rattle.linker_section.specs.declared.relocations.Rela.{Rela}
+use Rattle.linker_utils.specs.declared.architecture.Relaxation.{Relaxation}
+use Rattle.linker_utils.specs.declared.architecture.Relaxation.TheVariants as relaxations
+use Rattle.linker_utils.specs.declared.elf.Architecture.{Architecture}
+use Rattle.linker_utils.specs.declared.elf.Architecture.TheVariants.{AArch64, RiscV, LoongArch64, Ppc64, X86_64}
+
+not_both : (x : Bool) → x ≡ true → x ≡ false → ⊥
+not_both x is isnt = true≢false (sym is ∙ isnt)
+
+not_held : (x : Bool) → not x ≡ true → x ≡ false
+not_held true is = absurd (true≢false (sym is))
+not_held false is = refl
+
+-- ---- AArch64
+
+abbrev aarch64_left : ℕ → Choice Relaxation ℕ
+aarch64_left code = record { kind = relaxations.AArch64 aarch64_kinds.NoOp; relocation = code }
+
+-- a call with a name has no rewrite where its symbol has no use for one
+aarch64_none : (output : OutputFacts) (symbols : List SymbolFacts) (addresses : Addresses)
+    (values : List Symbol) (bytes section : List ℕ) (n : ℕ) (r : Rela) (name : AArch64Relocation)
+    → IsNameOf aarch64_name r.code name
+    → ((facts : LinkFacts) → facts.is_undefined_weak ≡ false
+    → IsAArch64Choice name section r.offset facts (choice aarch64_kinds.NoOp name))
+    → (marked : Bool) (symbol : Option SymbolFacts) → is_weak_zero symbol ≡ false
+    → IsCandidateWith (setting AArch64 Early output symbols addresses values) bytes section n r
+    (facts_by Early output addresses values r r marked symbol) None
+aarch64_none output symbols addresses values bytes section n r name is_name unchanged marked None isnt = refl
+aarch64_none output symbols addresses values bytes section n r name is_name unchanged marked (Some symbol) isnt = (
+  aarch64_left r.code,
+  record {
+    name = name;
+    named = choice aarch64_kinds.NoOp name;
+    is_name = is_name;
+    is_choice = unchanged (facts_of output symbol r.addend) isnt;
+    kind_is = refl;
+    code_is = sym is_name.code_is;
+  },
+  inl (refl, refl),
+)
+
+call_stays : (section : List ℕ) (o : ℕ) (facts : LinkFacts) → facts.is_undefined_weak ≡ false
+    → IsAArch64Choice aarch64.R_AARCH64_CALL26 section o facts (choice aarch64_kinds.NoOp aarch64.R_AARCH64_CALL26)
+call_stays section o facts isnt = inr ((λ applies. not_both facts.is_undefined_weak (applies.1.0) isnt), refl)
+
+jump_stays : (section : List ℕ) (o : ℕ) (facts : LinkFacts) → facts.is_undefined_weak ≡ false
+    → IsAArch64Choice aarch64.R_AARCH64_JUMP26 section o facts (choice aarch64_kinds.NoOp aarch64.R_AARCH64_JUMP26)
+jump_stays section o facts isnt = inr ((λ applies. not_both facts.is_undefined_weak (applies.1.0) isnt), refl)
+
+aarch64_decided : (output : OutputFacts) (symbols : List SymbolFacts) (addresses : Addresses)
+    (values : List Symbol) (kept : List KeptGroups) (bytes section : List ℕ) (n : ℕ) (r : Rela)
+    (scope : Scope) → IsScopeIn AArch64 Early r.code scope
+    → aarch64_keeps (slice_get symbols r.symbol) r.code ≡ true
+    → IsDecidedAlone (setting AArch64 Early output symbols addresses values) kept bytes section n r Kept
+aarch64_decided output symbols addresses values kept bytes section n r scope of keeps =
+    let symbol = slice_get symbols r.symbol in
+    let marked = is_marked_at AArch64 bytes n r in
+    let is_call = eqb r.code (code_of (aarch64_name aarch64.R_AARCH64_CALL26)) in
+    let is_jump = eqb r.code (code_of (aarch64_name aarch64.R_AARCH64_JUMP26)) in
+    let parts = and_parts (is_call || is_jump) (not (is_weak_zero symbol)) keeps in
+    let isnt = not_held (is_weak_zero symbol) (parts.1) in
+    elim (cases_Bool is_call) [
+      | inl call ↦
+          let same : of.name ≡ aarch64.R_AARCH64_CALL26 = of.is_name.named aarch64.R_AARCH64_CALL26 tt (sym (eqb-true r.code _ call)) in
+          let named : IsNameOf aarch64_name r.code aarch64.R_AARCH64_CALL26 = subst (IsNameOf aarch64_name r.code) same of.is_name in (
+            Alone,
+            record { name = aarch64.R_AARCH64_CALL26; is_name = named; value_is = refl },
+            (None, aarch64_none output symbols addresses values bytes section n r aarch64.R_AARCH64_CALL26 named (call_stays section r.offset) marked symbol isnt, refl),
+          )
+      | inr other ↦
+          let jump : is_jump ≡ true = subst (λ b. (b || is_jump) ≡ true) other (parts.0) in
+          let same : of.name ≡ aarch64.R_AARCH64_JUMP26 = of.is_name.named aarch64.R_AARCH64_JUMP26 tt (sym (eqb-true r.code _ jump)) in
+          let named : IsNameOf aarch64_name r.code aarch64.R_AARCH64_JUMP26 = subst (IsNameOf aarch64_name r.code) same of.is_name in (
+            Alone,
+            record { name = aarch64.R_AARCH64_JUMP26; is_name = named; value_is = refl },
+            (None, aarch64_none output symbols addresses values bytes section n r aarch64.R_AARCH64_JUMP26 named (jump_stays section r.offset) marked symbol isnt, refl),
+          )
+    ]
+
+-- ---- PowerPC64
+
+abbrev ppc64_left : ℕ → Choice Relaxation ℕ
+ppc64_left code = record { kind = relaxations.Ppc64 ppc64_kinds.NoOp; relocation = code }
+
+-- a call with a name has no rewrite where its symbol has no use for one
+ppc64_none : (output : OutputFacts) (symbols : List SymbolFacts) (addresses : Addresses)
+    (values : List Symbol) (bytes section : List ℕ) (n : ℕ) (r : Rela) (name : Ppc64Relocation)
+    → IsNameOf ppc64_name r.code name
+    → ((facts : LinkFacts) → facts.may_change_toc ≡ false
+    → IsPpc64Choice name section r.offset facts (choice ppc64_kinds.NoOp name))
+    → (marked : Bool) (symbol : Option SymbolFacts) → changes_toc symbol ≡ false
+    → IsCandidateWith (setting Ppc64 Early output symbols addresses values) bytes section n r
+    (facts_by Early output addresses values r r marked symbol) None
+ppc64_none output symbols addresses values bytes section n r name is_name unchanged marked None isnt = refl
+ppc64_none output symbols addresses values bytes section n r name is_name unchanged marked (Some symbol) isnt = (
+  ppc64_left r.code,
+  record {
+    name = name;
+    named = choice ppc64_kinds.NoOp name;
+    is_name = is_name;
+    is_choice = unchanged (facts_of output symbol r.addend) isnt;
+    kind_is = refl;
+    code_is = sym is_name.code_is;
+  },
+  inl (refl, refl),
+)
+
+branch_stays : (section : List ℕ) (o : ℕ) (facts : LinkFacts) → facts.may_change_toc ≡ false
+    → IsPpc64Choice ppc64.R_PPC64_REL24 section o facts (choice ppc64_kinds.NoOp ppc64.R_PPC64_REL24)
+branch_stays section o facts isnt = inr ((λ applies. not_both facts.may_change_toc (applies.1.0) isnt), refl)
+
+ppc64_decided : (output : OutputFacts) (symbols : List SymbolFacts) (addresses : Addresses)
+    (values : List Symbol) (kept : List KeptGroups) (bytes section : List ℕ) (n : ℕ) (r : Rela)
+    (scope : Scope) → IsScopeIn Ppc64 Early r.code scope
+    → ppc64_keeps (slice_get symbols r.symbol) r.code ≡ true
+    → IsDecidedAlone (setting Ppc64 Early output symbols addresses values) kept bytes section n r Kept
+ppc64_decided output symbols addresses values kept bytes section n r scope of keeps =
+    let symbol = slice_get symbols r.symbol in
+    let marked = is_marked_at Ppc64 bytes n r in
+    let is_call = eqb r.code (code_of (ppc64_name ppc64.R_PPC64_REL24)) in
+    let parts = and_parts is_call (not (changes_toc symbol)) keeps in
+    let isnt = not_held (changes_toc symbol) (parts.1) in
+    let same : of.name ≡ ppc64.R_PPC64_REL24 = of.is_name.named ppc64.R_PPC64_REL24 tt (sym (eqb-true r.code _ (parts.0))) in
+    let named : IsNameOf ppc64_name r.code ppc64.R_PPC64_REL24 = subst (IsNameOf ppc64_name r.code) same of.is_name in (
+      Alone,
+      record { name = ppc64.R_PPC64_REL24; is_name = named; value_is = refl },
+      (None, ppc64_none output symbols addresses values bytes section n r ppc64.R_PPC64_REL24 named (branch_stays section r.offset) marked symbol isnt, refl),
+    )
+
+-- ---- of any architecture
+
+by_code : (s : Setting) (kept : List KeptGroups) (bytes section : List ℕ) (n : ℕ) (r : Rela)
+    (scope : Scope) → IsScopeIn s.architecture s.phase r.code scope
+    → ((scope ≡ Unlisted) ⊎ (false ≡ true)) → IsDecidedAlone s kept bytes section n r Kept
+by_code s kept bytes section n r scope of (inl is) =
+    (Unlisted, subst (IsScopeIn s.architecture s.phase r.code) is of, refl)
+by_code s kept bytes section n r scope of (inr is) = absurd (true≢false (sym is))
+
+by_call : (s : Setting) (kept : List KeptGroups) (bytes section : List ℕ) (n : ℕ) (r : Rela)
+    (scope : Scope) (keeps : Bool) → IsScopeIn s.architecture s.phase r.code scope
+    → (keeps ≡ true → IsDecidedAlone s kept bytes section n r Kept)
+    → ((scope ≡ Unlisted) ⊎ (keeps ≡ true)) → IsDecidedAlone s kept bytes section n r Kept
+by_call s kept bytes section n r scope keeps of call (inl is) = by_code s kept bytes section n r scope of (inl is)
+by_call s kept bytes section n r scope keeps of call (inr is) = call is
+
+pub left_decided : (architecture : Architecture) (phase : Phase) (output : OutputFacts)
+    (symbols : List SymbolFacts) (addresses : Addresses) (values : List Symbol)
+    (kept : List KeptGroups) (bytes section : List ℕ) (n : ℕ) (r : Rela)
+    → IsLeft architecture phase symbols r
+    → IsDecidedAlone (setting architecture phase output symbols addresses values) kept bytes section n r Kept
+left_decided AArch64 Early output symbols addresses values kept bytes section n r left =
+    by_call (setting AArch64 Early output symbols addresses values) kept bytes section n r (left.0)
+    (aarch64_keeps (slice_get symbols r.symbol) r.code) (left.1)
+    (aarch64_decided output symbols addresses values kept bytes section n r (left.0) (left.1)) (left.2)
+left_decided Ppc64 Early output symbols addresses values kept bytes section n r left =
+    by_call (setting Ppc64 Early output symbols addresses values) kept bytes section n r (left.0)
+    (ppc64_keeps (slice_get symbols r.symbol) r.code) (left.1)
+    (ppc64_decided output symbols addresses values kept bytes section n r (left.0) (left.1)) (left.2)
+left_decided RiscV Early output symbols addresses values kept bytes section n r left =
+    by_code (setting RiscV Early output symbols addresses values) kept bytes section n r (left.0) (left.1) (left.2)
+left_decided LoongArch64 Early output symbols addresses values kept bytes section n r left =
+    by_code (setting LoongArch64 Early output symbols addresses values) kept bytes section n r (left.0) (left.1) (left.2)
+left_decided X86_64 Early output symbols addresses values kept bytes section n r left =
+    by_code (setting X86_64 Early output symbols addresses values) kept bytes section n r (left.0) (left.1) (left.2)
+left_decided architecture ThreadOffsets output symbols addresses values kept bytes section n r left =
+    by_code (setting architecture ThreadOffsets output symbols addresses values) kept bytes section n r (left.0) (left.1) (left.2)
+left_decided architecture GotLoads output symbols addresses values kept bytes section n r left =
+    by_code (setting architecture GotLoads output symbols addresses values) kept bytes section n r (left.0) (left.1) (left.2)
+left_decided architecture Distances output symbols addresses values kept bytes section n r left =
+    by_code (setting architecture Distances output symbols addresses values) kept bytes section n r (left.0) (left.1) (left.2)

@@ -1,0 +1,75 @@
+//! Calls that stay as they are before addresses are known, by what is known of their symbol. Most
+//! calls do, so that this is asked before what else a rewrite is chosen by.
+
+ghost use Rattle.std.specs.Prelude.{◌≡◌, slice_get};
+ghost use Rattle.linker_rewriting.specs.Inner.Calls.{is_weak_zero, changes_toc, aarch64_keeps};
+ghost use Rattle.linker_rewriting.specs.Inner.Calls.{ppc64_keeps, keeps_call};
+
+use crate::facts::{SymbolFacts, may_change_toc};
+use crate::phases::Phase;
+use linker_section::relocations::Rela;
+use linker_utils::aarch64::AArch64Relocation;
+use linker_utils::elf::Architecture;
+use linker_utils::ppc64::Ppc64Relocation;
+
+/// Whether the symbol at an index is undefined and weak.
+#[inline(always)]
+fn is_weak_zero(symbols: &[SymbolFacts], symbol: u32) -> bool
+    ensures { result ≡ is_weak_zero (slice_get symbols.now symbol) }
+{
+    match symbols.get(symbol as usize) {
+        Some(symbol) => symbol.is_undefined_weak,
+        None => false,
+    }
+}
+
+/// Whether a call of the symbol at an index may return with another TOC pointer.
+#[inline(always)]
+fn changes_toc(symbols: &[SymbolFacts], symbol: u32) -> bool
+    ensures { result ≡ changes_toc (slice_get symbols.now symbol) }
+{
+    match symbols.get(symbol as usize) {
+        Some(symbol) => may_change_toc(symbol),
+        None => false,
+    }
+}
+
+/// Whether a relocation of AArch64 is of a branch that is no `nop`: only one to what is undefined and
+/// weak becomes one.
+#[inline(always)]
+fn aarch64_keeps(symbols: &[SymbolFacts], relocation: &Rela) -> bool
+    ensures { result ≡ aarch64_keeps (slice_get symbols.now relocation.now.symbol)
+        relocation.now.code }
+{
+    let is_call = relocation.code == AArch64Relocation::R_AARCH64_CALL26.elf_code();
+    let is_branch = is_call || relocation.code == AArch64Relocation::R_AARCH64_JUMP26.elf_code();
+    is_branch && !is_weak_zero(symbols, relocation.symbol)
+}
+
+/// Whether a relocation of PowerPC64 is of a call that returns with the same TOC pointer.
+#[inline(always)]
+fn ppc64_keeps(symbols: &[SymbolFacts], relocation: &Rela) -> bool
+    ensures { result ≡ ppc64_keeps (slice_get symbols.now relocation.now.symbol)
+        relocation.now.code }
+{
+    let is_call = relocation.code == Ppc64Relocation::R_PPC64_REL24.elf_code();
+    is_call && !changes_toc(symbols, relocation.symbol)
+}
+
+/// Whether a relocation is of a call that stays as it is, by its symbol.
+#[inline(always)]
+pub(crate) fn keeps_call(
+    architecture: Architecture,
+    phase: Phase,
+    symbols: &[SymbolFacts],
+    relocation: &Rela,
+) -> bool
+    ensures { result ≡ keeps_call phase architecture
+        (slice_get symbols.now relocation.now.symbol) relocation.now.code }
+{
+    match (phase, architecture) {
+        (Phase::Early, Architecture::AArch64) => aarch64_keeps(symbols, relocation),
+        (Phase::Early, Architecture::Ppc64) => ppc64_keeps(symbols, relocation),
+        _ => false,
+    }
+}

@@ -1,0 +1,132 @@
+-- An address of LoongArch that stays long can be written in a run of less than 2 GiB less 8 KiB.
+use Rattle.std.proofs.Common.{◌≡◌, ℕ, ◌+◌, ◌-◌, ◌%◌, ◌^◌, ◌<◌, ◌≤◌, ◌∙◌, true, false, List, length, take, drop, refl, ap, sym, subst, inr, ⊎_elim, arith, pos, ◌-ℤ◌, Some}
+use Rattle.std.specs.Int.{w64, cast_signed}
+use Rattle.std.proofs.lemmas.Bool.{cases_lt}
+use Rattle.std.proofs.lemmas.Int.{ints, to_z_pos}
+use Rattle.std.proofs.lemmas.List.{length-take, length-drop}
+use Rattle.linker_base.proofs.Bits.{cast_negative}
+use Rattle.linker_elf.specs.Elf.{IsWithin, bit_bounds}
+use Rattle.linker_elf.specs.LoongArch.{page}
+use Rattle.linker_elf.specs.Value.{sum_64, difference_64}
+use Rattle.linker_elf.specs.declared.elf.RelocationInstruction.TheVariants.{LoongArch64 as OfLoongArch}
+use Rattle.linker_elf.specs.declared.elf.RelocationSize.TheVariants.{BitMasking}
+use Rattle.linker_elf.specs.declared.elf.Sign.TheVariants.{Signed}
+use Rattle.linker_elf.specs.declared.loongarch64.forms.LoongArch64Instruction.TheVariants.{Shift5, Shift10}
+use Rattle.linker_elf.specs.declared.loongarch64.relocations.LoongArch64Relocation.TheVariants.{R_LARCH_PCALA_HI20, R_LARCH_PCALA_LO12}
+use Rattle.linker_elf.proofs.Reached.{holds}
+use Rattle.linker_elf.proofs.RowsFit.{loongarch_fits}
+use Rattle.linker_runs.specs.declared.relaxation.Item.{Item}
+use Rattle.linker_runs.specs.declared.relaxation.Item.TheVariants.{Site, Aligned}
+use Rattle.linker_runs.specs.declared.shapes.loongarch64.TheConstants.{CALL36, PCALA}
+use Rattle.linker_runs.specs.Relaxing.{offset_of, target_of, item_at, freed_before, choice_of, place_of}
+use Rattle.linker_runs.specs.Sites.{IsOutOfReach}
+use Rattle.linker_runs.specs.LoongArchSites.{IsCall36At, IsPcalaAt, high_template, low_template, ArePagesNear, IsAddressOutOfReach, LoongArchCause, far_from_branch, far_from_call, far_from_pcaddi, far_from_pair, far_pages, far_high, far_low}
+use Rattle.linker_runs.specs.Origins.{HasItsInstructions}
+use Rattle.linker_runs.specs.declared.packing.Machine.TheVariants.{LoongArch64}
+use Rattle.linker_runs.specs.declared.packing.ItemError.{ItemError}
+use Rattle.linker_runs.specs.declared.packing.ItemError.TheVariants.{Overlaps, OutOfSection, DeletedOutside, NotItsFirstBytes, NotItsInstructions, NoShape, OutOfReach}
+use Rattle.linker_runs.proofs.LoongArch.{not_both, no_jirl}
+use Rattle.linker_runs.specs.Writable.{HasShapesOf, IsNearAddress, NearAddressesAreWritable}
+use Rattle.linker_runs.proofs.RiscVLongCalls.{whole}
+use Rattle.linker_runs.proofs.LoongArchCalls36.{shapes_differ}
+use Rattle.linker_runs.proofs.LongSites.{IsLongSite, LongCause, long_sites}
+
+none : {A : Type 0} → false ≡ true → A
+none e = cc
+
+-- ---- the distance of the pages
+
+-- the pages of two numbers, and what their distance is modulo 2 ^ 64
+module _ (a b : ℕ) where
+  abbrev distance : ℕ
+  distance = difference_64 (page (b % 2 ^ 64)) (page (a % 2 ^ 64))
+
+  up : page a ≤ page b → page b - page a < 2 ^ 63 → distance ≡ page b - page a
+  up above small = omega arith
+
+  down : page b < page a → page a - page b ≤ 2 ^ 63 → distance ≡ 2 ^ 64 - (page a - page b)
+  down below small = omega arith
+
+  near : page b - page a < 2 ^ 31 → page a - page b ≤ 2 ^ 31 → IsWithin (Some (bit_bounds 32 Signed)) (cast_signed w64 distance)
+  near high low = ⊎_elim
+      (λ (less : page b < page a).
+      let e : cast_signed w64 distance ≡ pos (page b) -ℤ pos (page a) =
+      ap (cast_signed w64) (down less (omega arith)) ∙ cast_negative (2 ^ 64 - (page a - page b)) (omega arith) (omega arith) ∙ omega (arith, ints) in
+      subst (IsWithin (Some (bit_bounds 32 Signed))) (sym e) (omega (arith, ints), omega (arith, ints)))
+      (λ (more : page a ≤ page b).
+      let e : cast_signed w64 distance ≡ pos (page b - page a) =
+      ap (cast_signed w64) (up more (omega arith)) ∙ to_z_pos w64 (page b - page a) (omega arith) in
+      subst (IsWithin (Some (bit_bounds 32 Signed))) (sym e) (omega (arith, ints), omega (arith, ints)))
+      (cases_lt (page b) (page a))
+
+-- ---- the pair
+
+module _ (section : List ℕ) (o start from to : ℕ) (here : IsPcalaAt section o) (there : o + 8 ≤ length section) (low : from < 2 ^ 31 - 2 ^ 13) (high : to < 2 ^ 31 - 2 ^ 13) where
+  pages_near : ArePagesNear (sum_64 start from) (sum_64 start to)
+  pages_near =
+      let rounded : sum_64 (sum_64 (sum_64 start to) 0) 0x800 ≡ (start + to + 0x800) % 2 ^ 64 = omega arith in
+      subst (λ n. IsWithin (Some (bit_bounds 32 Signed)) (cast_signed w64 (difference_64 (page n) (page (sum_64 start from))))) (sym rounded)
+      (near (start + from) (start + to + 0x800) (omega arith) (omega arith))
+
+  high_near : IsOutOfReach (high_template section o) (sum_64 start from) (sum_64 start to) → ⊥
+  high_near far =
+      let v = cast_signed w64 (difference_64 (page (sum_64 (sum_64 (sum_64 start to) 0) 0x800)) (page (sum_64 start from))) in
+      far v refl
+      (record { supported = refl; long = long; aligned = (whole v, tt, λ e. none e); reached = (tt, holds (BitMasking (record { start = 12; end = 32 }) (OfLoongArch Shift5)) v (take 4 (drop o section)) (loongarch_fits R_LARCH_PCALA_HI20), tt) })
+    where
+      long : 4 ≤ length (take 4 (drop o section))
+      long = let a = length-take 4 (drop o section) in let b = length-drop o section in omega arith
+
+  low_near : IsOutOfReach (low_template section o) (sum_64 (sum_64 start from) 4) (sum_64 start to) → ⊥
+  low_near far =
+      let v = cast_signed w64 (sum_64 (sum_64 (sum_64 start to) 0) 0) in
+      far v refl
+      (record {
+        supported = refl;
+        long = long;
+        aligned = (whole v, tt, λ e. none (sym (no_jirl section o here) ∙ e));
+        reached = (tt, holds (BitMasking (record { start = 0; end = 12 }) (OfLoongArch Shift10)) v (take 4 (drop (o + 4) section)) (loongarch_fits R_LARCH_PCALA_LO12), tt);
+      })
+    where
+      long : 4 ≤ length (take 4 (drop (o + 4) section))
+      long = let a = length-take 4 (drop (o + 4) section) in let b = length-drop (o + 4) section in omega arith
+
+  pair_near : IsAddressOutOfReach section o (sum_64 start from) (sum_64 start to) → ⊥
+  pair_near (far_pages out) = out pages_near
+  pair_near (far_high out) = high_near out
+  pair_near (far_low out) = low_near out
+
+  long_not : (error : ItemError) → LoongArchCause section o 8 (sum_64 start from) (sum_64 start to) error → ⊥
+  long_not NotItsInstructions cause = cause (inr here)
+  long_not NoShape cause = cause.2 refl
+  long_not OutOfReach (far_from_branch call _ far) = not_both section o call here
+  long_not OutOfReach (far_from_call call _ far) = not_both section o call here
+  long_not OutOfReach (far_from_pcaddi _ four far) = omega arith
+  long_not OutOfReach (far_from_pair _ _ far) = pair_near far
+  long_not Overlaps cause = cause
+  long_not OutOfSection cause = cause
+  long_not DeletedOutside cause = cause
+  long_not NotItsFirstBytes cause = cause
+
+is_long : (item : Item) → HasShapesOf PCALA item → IsLongSite item
+is_long (Site site) shapes = (subst (λ t. 0 < t.count) (sym shapes) (omega arith), ap (λ t. t.longest) shapes)
+is_long (Aligned alignment) shapes = shapes
+
+module _ (bytes : List ℕ) (base start here there : ℕ) where
+  address_not : (item : Item) → IsNearAddress item → HasItsInstructions LoongArch64 bytes base item
+      → (error : ItemError) → LongCause LoongArch64 bytes base start item (offset_of item - here) (target_of item - there) error → ⊥
+  address_not (Aligned alignment) near has error cause = cause
+  address_not (Site site) near has error cause =
+      long_not bytes (site.offset - base) start (site.offset - here) (target_of (Site site) - there) pair (omega (arith, has.1, has.2)) (let b = near.offset in omega arith) (let b = near.target in omega arith) error cause
+    where
+      pair : IsPcalaAt bytes (site.offset - base)
+      pair = ⊎_elim
+          (λ (is : IsCall36At bytes (site.offset - base) × (site.shapes ≡ CALL36)). absurd (shapes_differ (sym is.1 ∙ near.shapes)))
+          (λ (is : IsPcalaAt bytes (site.offset - base) × (site.shapes ≡ PCALA)). is.0)
+          has.3
+
+pub near_addresses : NearAddressesAreWritable
+near_addresses start base items shapes kept freed bytes are is i within near has =
+    let before = freed_before start items (choice_of shapes) in
+    long_sites LoongArch64 start base items shapes kept freed bytes are is i within (is_long (item_at items i) near.shapes) has
+    (address_not bytes base start (before i) (before (place_of items (target_of (item_at items i)))) (item_at items i) near has)

@@ -1,0 +1,131 @@
+-- A call of LoongArch that stays long can be written in a run of less than 128 GiB less 128 KiB.
+use Rattle.std.proofs.Common.{◌≡◌, ℕ, zero, suc, ◌+◌, ◌-◌, ◌*◌, ◌%◌, ◌^◌, ◌<◌, ◌≤◌, ◌∙◌, true, false, List, length, take, drop, refl, ap, sym, subst, inl, ⊎_elim, arith, pos, negsuc, ◌-ℤ◌, mul_assoc}
+use Rattle.std.proofs.lemmas.Bool.{cases_lt}
+use Rattle.std.proofs.lemmas.Int.{ints}
+use Rattle.std.proofs.lemmas.List.{length-take, length-drop}
+use Rattle.linker_elf.specs.Relocate.{IsAligned}
+use Rattle.linker_elf.specs.Value.{sum_64}
+use Rattle.linker_elf.specs.declared.loongarch64.relocations.LoongArch64Relocation.TheVariants.{R_LARCH_CALL36}
+use Rattle.linker_elf.proofs.RowsFit.{loongarch_fits}
+use Rattle.linker_runs.specs.declared.relaxation.Item.{Item}
+use Rattle.linker_runs.specs.declared.relaxation.Item.TheVariants.{Site, Aligned}
+use Rattle.linker_runs.specs.declared.shapes.loongarch64.TheConstants.{CALL36, PCALA}
+use Rattle.linker_runs.specs.Relaxing.{offset_of, target_of, item_at, short_shape, freed_before, choice_of, place_of}
+use Rattle.linker_runs.specs.Choosing.{run_granularity}
+use Rattle.linker_runs.specs.Inner.Validity.{ItemSuits}
+use Rattle.linker_runs.proofs.Choices.{place_is}
+use Rattle.linker_runs.proofs.Frees.{exact_frees}
+use Rattle.linker_runs.proofs.Multiples.{Multiple, multiple_of, no_rest}
+use Rattle.linker_runs.proofs.Nearer.{Frees}
+use Rattle.linker_runs.proofs.Units.{item_suits}
+use Rattle.linker_runs.specs.Sites.{IsOutOfReach}
+use Rattle.linker_runs.specs.LoongArchSites.{IsCall36At, IsPcalaAt, call_template, LoongArchCause, far_from_branch, far_from_call, far_from_pcaddi, far_from_pair}
+use Rattle.linker_runs.specs.Origins.{HasItsInstructions}
+use Rattle.linker_runs.specs.declared.packing.Machine.TheVariants.{LoongArch64}
+use Rattle.linker_runs.specs.declared.packing.ItemError.{ItemError}
+use Rattle.linker_runs.specs.declared.packing.ItemError.TheVariants.{Overlaps, OutOfSection, DeletedOutside, NotItsFirstBytes, NotItsInstructions, NoShape, OutOfReach}
+use Rattle.linker_runs.proofs.LoongArch.{not_both}
+use Rattle.linker_runs.specs.Writable.{HasShapesOf, IsNearCall36, NearCalls36AreWritable}
+use Rattle.linker_runs.proofs.LongSites.{IsLongSite, LongCause, long_sites}
+use Rattle.linker_runs.proofs.Distances.{not_rejected}
+
+none : {A : Type 0} → false ≡ true → A
+none e = cc
+
+-- ---- distances in units of 4 bytes
+
+in_words : (to from : ℕ) → to % 4 ≡ 0 → from % 4 ≡ 0 → IsAligned 4 (pos to -ℤ pos from)
+in_words to from a b = ⊎_elim
+    (λ (down : to < from).
+    let d : pos to -ℤ pos from ≡ negsuc (from - to - 1) = omega (arith, ints) in
+    let e : 3 - (from - to - 1) % 4 ≡ 0 = omega arith in
+    rw d (ap pos e))
+    (λ (up : from ≤ to).
+    let d : pos to -ℤ pos from ≡ pos (to - from) = omega (arith, ints) in
+    let e : (to - from) % 4 ≡ 0 = omega arith in
+    rw d (ap pos e))
+    (cases_lt to from)
+
+freed_units : (u : ℕ) (items : List Item) (freed : ℕ → ℕ) → Frees u items freed → (i : ℕ) → i ≤ length items → Multiple u (freed i)
+freed_units u items freed f zero within = (0, f.none ∙ omega arith)
+freed_units u items freed f (suc i) within =
+    let rest = freed_units u items freed f i (omega arith) in
+    let next = f.step i (omega arith) in
+    let z : suc i ≡ i + 1 = omega arith in
+    let e = ap freed z in
+    let r = rest.1 in
+    let n = next.1 in
+    (rest.0 + next.0, omega arith)
+
+words_of : (u x : ℕ) → u % 4 ≡ 0 → Multiple u x → x % 4 ≡ 0
+words_of u x four m =
+    let q = multiple_of 4 u four in
+    no_rest 4 x (m.0 * q.0, m.1 ∙ ap (λ y. m.0 * y) q.1 ∙ sym (mul_assoc m.0 q.0 4))
+
+differ : (a b : ℕ) → a ≡ 134217728 → b ≡ 2097152 → a ≡ b → ⊥
+differ a b e f g = omega arith
+
+pub shapes_differ : CALL36 ≡ PCALA → ⊥
+shapes_differ e = differ (short_shape CALL36 0).max_backward (short_shape PCALA 0).max_backward refl refl (ap (λ t. (short_shape t 0).max_backward) e)
+
+-- ---- the call
+
+module _ (section : List ℕ) (o start from to : ℕ) (here : IsCall36At section o) (there : o + 8 ≤ length section) (low : from < 2 ^ 37 - 2 ^ 17) (high : to < 2 ^ 37 - 2 ^ 17)
+    (from_words : from % 4 ≡ 0) (to_words : to % 4 ≡ 0) where
+  call_near : IsOutOfReach (call_template section o) (sum_64 start from) (sum_64 start to) → ⊥
+  call_near far =
+      not_rejected start from to _ (take 8 (drop o section)) (loongarch_fits R_LARCH_CALL36) long (λ v. tt) (λ v e. none e)
+      (λ v w. (omega (arith, ints, w.0), omega (arith, ints, w.1))) refl
+      (record { supported = refl; within = (omega (arith, ints), omega (arith, ints)); encoded = tt; aligned = in_words to from to_words from_words }) far
+    where
+      long : 8 ≤ length (take 8 (drop o section))
+      long = let a = length-take 8 (drop o section) in let b = length-drop o section in omega arith
+
+  long_not : (error : ItemError) → LoongArchCause section o 8 (sum_64 start from) (sum_64 start to) error → ⊥
+  long_not NotItsInstructions cause = cause (inl here)
+  long_not NoShape cause = cause.2 refl
+  long_not OutOfReach (far_from_branch _ four far) = omega arith
+  long_not OutOfReach (far_from_call _ _ far) = call_near far
+  long_not OutOfReach (far_from_pcaddi pair _ far) = not_both section o here pair
+  long_not OutOfReach (far_from_pair pair _ far) = not_both section o here pair
+  long_not Overlaps cause = cause
+  long_not OutOfSection cause = cause
+  long_not DeletedOutside cause = cause
+  long_not NotItsFirstBytes cause = cause
+
+is_long : (item : Item) → HasShapesOf CALL36 item → IsLongSite item
+is_long (Site site) shapes = (subst (λ t. 0 < t.count) (sym shapes) (omega arith), ap (λ t. t.longest) shapes)
+is_long (Aligned alignment) shapes = shapes
+
+module _ (bytes : List ℕ) (base start u here there : ℕ) where
+  call_not : (item : Item) → IsNearCall36 item → HasItsInstructions LoongArch64 bytes base item → ItemSuits u start item → Multiple u here → Multiple u there
+      → (error : ItemError) → LongCause LoongArch64 bytes base start item (offset_of item - here) (target_of item - there) error → ⊥
+  call_not (Aligned alignment) near has suits m n error cause = cause
+  call_not (Site site) near has suits m n error cause =
+      long_not bytes (site.offset - base) start (site.offset - here) (target_of (Site site) - there) call (omega (arith, has.1, has.2)) (let b = near.offset in omega arith) (let b = near.target in omega arith) from_words to_words error cause
+    where
+      words : u % 4 ≡ 0
+      words = subst (λ t. u % (short_shape t 0).granularity ≡ 0) near.shapes (suits.units 0 (is_long (Site site) near.shapes).0)
+
+      call : IsCall36At bytes (site.offset - base)
+      call = ⊎_elim
+          (λ (is : IsCall36At bytes (site.offset - base) × (site.shapes ≡ CALL36)). is.0)
+          (λ (is : IsPcalaAt bytes (site.offset - base) × (site.shapes ≡ PCALA)). absurd (shapes_differ (sym near.shapes ∙ is.1)))
+          has.3
+
+      from_words : (site.offset - here) % 4 ≡ 0
+      from_words = let a = words_of u here words m in let b = near.offset_in_words in omega arith
+
+      to_words : (target_of (Site site) - there) % 4 ≡ 0
+      to_words = let a = words_of u there words n in let b = near.target_in_words in omega arith
+
+pub near_calls_36 : NearCalls36AreWritable
+near_calls_36 start base items shapes kept freed bytes are is i within near has =
+    let item = item_at items i in
+    let frees = exact_frees start items (choice_of shapes) are in
+    let before = freed_before start items (choice_of shapes) in
+    let p = place_of items (target_of item) in
+    let u = run_granularity items in
+    long_sites LoongArch64 start base items shapes kept freed bytes are is i within (is_long item near.shapes) has
+    (call_not bytes base start u (before i) (before p) item near has (item_suits start items are i within) (freed_units u items before frees i (omega (arith, within)))
+    (freed_units u items before frees p (place_is start items are.in_order (target_of item)).within))

@@ -1,0 +1,24 @@
+-- The reaches of calls and addresses of LoongArch are those of the rows of what they become.
+use Rattle.std.proofs.Common.{refl}
+use Rattle.std.specs.Prelude.{IsSomeAnd}
+use Rattle.linker_elf.specs.LoongArchRelocations.{loongarch_row}
+use Rattle.linker_elf.specs.declared.loongarch64.relocations.LoongArch64Relocation.TheVariants.{R_LARCH_B26, R_LARCH_PCREL20_S2}
+use Rattle.linker_runs.specs.declared.shapes.loongarch64.TheConstants.{CALL36, PCALA}
+use Rattle.linker_runs.specs.Reaches.{IsOfRow, LoongArchShapesAreOfRows}
+use Rattle.linker_runs.specs.Relaxing.{short_shape}
+use Rattle.linker_runs.proofs.Reaches.{one, fourth_reach}
+
+branch : IsSomeAnd (loongarch_row R_LARCH_B26) (IsOfRow (short_shape CALL36 0))
+branch = record {
+  len = refl;
+  reach = fourth_reach 4 134217728 _ refl refl refl (λ v. tt);
+}
+
+pcaddi : IsSomeAnd (loongarch_row R_LARCH_PCREL20_S2) (IsOfRow (short_shape PCALA 0))
+pcaddi = record {
+  len = refl;
+  reach = fourth_reach 4 2097152 _ refl refl refl (λ v. tt);
+}
+
+pub loongarch_shapes : LoongArchShapesAreOfRows
+loongarch_shapes = (one CALL36 _ refl refl branch, one PCALA _ refl refl pcaddi)

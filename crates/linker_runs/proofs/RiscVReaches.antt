@@ -1,0 +1,28 @@
+-- The reaches of calls of RISC-V are those of the rows of what they become.
+use Rattle.std.proofs.Common.{refl, arith}
+use Rattle.std.specs.Prelude.{IsSomeAnd}
+use Rattle.linker_elf.specs.RiscVRelocations.{riscv_row}
+use Rattle.linker_elf.specs.declared.riscv64.relocations.RiscVRelocation.TheVariants.{R_RISCV_JAL, R_RISCV_RVC_JUMP}
+use Rattle.linker_runs.specs.declared.shapes.riscv64.TheConstants.{CALL, TAIL_C, CALL_WITHOUT_C}
+use Rattle.linker_runs.specs.Reaches.{IsOfRow, RiscVShapesAreOfRows}
+use Rattle.linker_runs.specs.Relaxing.{short_shape}
+use Rattle.linker_runs.proofs.Reaches.{one, two, even_reach}
+
+jal : IsSomeAnd (riscv_row R_RISCV_JAL) (IsOfRow (short_shape CALL 0))
+jal = record {
+  len = refl;
+  reach = even_reach 4 524288 _ refl refl refl (λ v. tt) (omega arith);
+}
+
+c_j : IsSomeAnd (riscv_row R_RISCV_RVC_JUMP) (IsOfRow (short_shape TAIL_C 0))
+c_j = record {
+  len = refl;
+  reach = even_reach 2 1024 _ refl refl refl (λ v. tt) (omega arith);
+}
+
+pub riscv_shapes : RiscVShapesAreOfRows
+riscv_shapes = (
+  one CALL _ refl refl jal,
+  two TAIL_C _ _ refl refl c_j jal,
+  one CALL_WITHOUT_C _ refl refl jal,
+)

@@ -1,0 +1,75 @@
+-- Calls of RISC-V that a relaxation made shorter can be written.
+use Rattle.std.proofs.Common.{◌≡◌, ℕ, ◌+◌, ◌*◌, ◌^◌, ◌<◌, ◌≤◌, ◌∙◌, true, List, [], refl, ap, subst, ⊎_elim, arith, None}
+use Rattle.std.specs.Prelude.{IsSomeAnd}
+use Rattle.std.specs.Int.{w32, to_le_bytes}
+use Rattle.std.proofs.lemmas.Bool.{cases_lt}
+use Rattle.std.proofs.lemmas.Int.{ints}
+use Rattle.linker_elf.specs.Value.{sum_64}
+use Rattle.linker_elf.specs.declared.riscv64.relocations.RiscVRelocation.TheVariants.{R_RISCV_JAL, R_RISCV_RVC_JUMP}
+use Rattle.linker_elf.proofs.RowsFit.{riscv_fits}
+use Rattle.linker_riscv64.specs.RiscVCalls.{link_register}
+use Rattle.linker_riscv64.specs.RiscVRewrites.{tail_to_cj}
+use Rattle.linker_riscv64.specs.declared.calls.LinkRegister.TheVariants.{OfJalr}
+use Rattle.linker_runs.specs.declared.relaxation.Shapes.{Shapes}
+use Rattle.linker_runs.specs.declared.shapes.riscv64.TheConstants.{CALL, TAIL_C}
+use Rattle.linker_runs.specs.Relaxing.{short_shape, is_reached}
+use Rattle.linker_runs.proofs.RiscVReaches.{riscv_shapes}
+use Rattle.linker_runs.specs.Sites.{IsOutOfReach}
+use Rattle.linker_runs.specs.RiscVSites.{riscv_template, RiscVCause}
+use Rattle.linker_runs.specs.Origins.{HasRiscVShapes}
+use Rattle.linker_runs.specs.declared.packing.ItemError.{ItemError}
+use Rattle.linker_runs.specs.declared.packing.ItemError.TheVariants.{Overlaps, OutOfSection, DeletedOutside, NotItsFirstBytes, NotItsInstructions, NoShape, OutOfReach}
+use Rattle.linker_runs.proofs.Distances.{none, not_rejected}
+
+module _ (section : List ℕ) (o start from to : ℕ) where
+  jal_near : is_reached (short_shape CALL 0) from to ≡ true → IsSomeAnd (riscv_template section o 4) (λ t. IsOutOfReach t (sum_64 start from) (sum_64 start to)) → ⊥
+  jal_near reached far =
+      not_rejected start from to _ (to_le_bytes w32 (0x6f + link_register OfJalr section o * 2 ^ 7)) (riscv_fits R_RISCV_JAL) (omega arith) (λ v. tt) (λ v e. none e)
+      (λ v w. (omega (arith, ints, w.0), omega (arith, ints, w.1))) refl
+      ((((riscv_shapes.0).each 0 (omega arith)).reach from to).0 reached) far
+
+  cj_near : link_register OfJalr section o ≡ 0 → is_reached (short_shape TAIL_C 0) from to ≡ true → IsSomeAnd (riscv_template section o 2) (λ t. IsOutOfReach t (sum_64 start from) (sum_64 start to)) → ⊥
+  cj_near link reached far =
+      not_rejected start from to _ (tail_to_cj []) (riscv_fits R_RISCV_RVC_JUMP) (omega arith) (λ v. tt) (λ v e. none e)
+      (λ v w. (omega (arith, ints, w.0), omega (arith, ints, w.1))) refl
+      ((((riscv_shapes.1).each 0 (omega arith)).reach from to).0 reached) (rw link at far)
+
+  pub riscv_not : (kept : ℕ) (shapes : Shapes) (k : ℕ) → HasRiscVShapes section o shapes → k < shapes.count → kept ≡ (short_shape shapes k).kept → is_reached (short_shape shapes k) from to ≡ true
+      → (error : ItemError) → RiscVCause section o kept (sum_64 start from) (sum_64 start to) error → ⊥
+  riscv_not kept shapes k has short len reached error cause = ⊎_elim
+      (λ (call : shapes ≡ CALL).
+      let below : k < 1 = subst (λ s. k < s.count) call short in
+      let first : k ≡ 0 = omega arith in
+      jal_only (len ∙ ap (λ s. (short_shape s k).kept) call ∙ ap (λ n. (short_shape CALL n).kept) first)
+      (subst (λ n. is_reached (short_shape CALL n) from to ≡ true) first (subst (λ s. is_reached (short_shape s k) from to ≡ true) call reached)) error cause)
+      (λ (tail : (shapes ≡ TAIL_C) × (link_register OfJalr section o ≡ 0)).
+      let below : k < 2 = subst (λ s. k < s.count) tail.0 short in
+      let same = len ∙ ap (λ s. (short_shape s k).kept) tail.0 in
+      let near = subst (λ s. is_reached (short_shape s k) from to ≡ true) tail.0 reached in
+      ⊎_elim
+      (λ (later : 0 < k).
+      let second : k ≡ 1 = omega arith in
+      jal_only (same ∙ ap (λ n. (short_shape TAIL_C n).kept) second) (subst (λ n. is_reached (short_shape TAIL_C n) from to ≡ true) second near) error cause)
+      (λ (least : k ≤ 0).
+      let first : k ≡ 0 = omega arith in
+      cj_only tail.1 (same ∙ ap (λ n. (short_shape TAIL_C n).kept) first) (subst (λ n. is_reached (short_shape TAIL_C n) from to ≡ true) first near) error cause)
+      (cases_lt 0 k))
+      has.1
+    where
+      jal_only : kept ≡ 4 → is_reached (short_shape CALL 0) from to ≡ true → (error : ItemError) → RiscVCause section o kept (sum_64 start from) (sum_64 start to) error → ⊥
+      jal_only four near NotItsInstructions cause = cause has.0
+      jal_only four near NoShape cause = let no = subst (λ n. riscv_template section o n ≡ None) four cause.1 in cc
+      jal_only four near OutOfReach cause = jal_near near (subst (λ n. IsSomeAnd (riscv_template section o n) (λ t. IsOutOfReach t (sum_64 start from) (sum_64 start to))) four cause.1)
+      jal_only four near Overlaps cause = cause
+      jal_only four near OutOfSection cause = cause
+      jal_only four near DeletedOutside cause = cause
+      jal_only four near NotItsFirstBytes cause = cause
+
+      cj_only : link_register OfJalr section o ≡ 0 → kept ≡ 2 → is_reached (short_shape TAIL_C 0) from to ≡ true → (error : ItemError) → RiscVCause section o kept (sum_64 start from) (sum_64 start to) error → ⊥
+      cj_only link two near NotItsInstructions cause = cause has.0
+      cj_only link two near NoShape cause = let no = subst (λ n. riscv_template section o n ≡ None) two cause.1 in let none = rw link at no in cc
+      cj_only link two near OutOfReach cause = cj_near link near (subst (λ n. IsSomeAnd (riscv_template section o n) (λ t. IsOutOfReach t (sum_64 start from) (sum_64 start to))) two cause.1)
+      cj_only link two near Overlaps cause = cause
+      cj_only link two near OutOfSection cause = cause
+      cj_only link two near DeletedOutside cause = cause
+      cj_only link two near NotItsFirstBytes cause = cause

@@ -1,0 +1,33 @@
+use Rattle.std.proofs.Common.{◌≡◌, ◌+◌, ◌<◌, ◌≤◌, ◌∙◌, ap, map, subst, sym, length, ⊎_elim, arith}
+use Rattle.std.proofs.lemmas.Bool.{both_ways, cases_lt}
+use Rattle.std.proofs.lemmas.List.{length-map}
+use Rattle.linker_runs.specs.Relaxing.{offset_of, end_of}
+use Rattle.linker_runs.specs.RewrittenItems.{deleted_at}
+use Rattle.linker_runs.specs.SectionItems.{Makes}
+use Rattle.linker_runs.proofs.Listed.{put_made}
+use Rattle.linker_runs.proofs.items.rewritten.list_item.Goals as goal
+
+pub returns-clause-listed : goal.returns-clause-listed
+returns-clause-listed g c = λ m s rs len is before.
+    let f = g.I.AsItem.item in
+    let ds = map g.L.AsDeletion.deletion c.args.deleted.now in
+    let base = c.args.base in
+    let all = c.list_deletions-all in
+    let item = c.args.item.now in
+    let x = c.from_item.result in
+    let after = c.offset-4.result + c.len.result in
+    let i = c.args.index in
+    let so_far = all.ensures.listed m s rs i len (omega arith) before in
+    let count = length-map c.args.deleted.now g.L.AsDeletion.deletion in
+    let there : f x ≡ item = c.from_item.ensures.item in
+    let made : Makes m s base rs i (f x) = subst (Makes m s base rs i) (sym there) is in
+    let behind : all.result.end ≤ offset_of (f x) = omega (arith, c.if-offset-all.false, c.offset-3.ensures, ap offset_of there) in
+    let end : after ≡ end_of item = omega (arith, c.offset-4.ensures, c.len.ensures) in
+    let next : all.result.gone < length c.args.deleted.now → after ≤ base + (deleted_at ds all.result.gone).0 = λ more. ⊎_elim
+    (λ (cut : base + (deleted_at ds all.result.gone).0 < after). absurd (both_ways c.is_cut.result c.if-is_cut.false (c.is_cut.ensures.1 (more, omega (arith, cut, end)))))
+    (λ (clear : after ≤ base + (deleted_at ds all.result.gone).0). clear)
+    (cases_lt (base + (deleted_at ds all.result.gone).0) after) in
+    put_made f g.I.AsItem.is_written (record { machine = m; section = s; base = base; relocations = rs; deletions = ds }) i all.result.gone all.result.count all.result.end after all.new.out all.new.makers x so_far
+    (omega (arith, so_far.few, all.ensures.range.1, c.requires.index, c.requires.room, all.auto.out))
+    (omega (arith, so_far.few, all.ensures.range.1, c.requires.index, c.requires.makers, all.auto.makers))
+    made c.from_item.ensures.form behind (end ∙ sym (ap end_of there)) (λ more. next (omega (arith, more, count)))

@@ -1,0 +1,26 @@
+-- The items of a section that was rewritten, listed so far.
+use Rattle.std.specs.Prelude.{ℕ, ◌+◌, ◌<◌, ◌≤◌, List, length, take, map, All}
+use Rattle.linker_runs.specs.declared.relaxation.Item.{Item}
+use Rattle.linker_runs.specs.declared.items.Relocation.{Relocation}
+use Rattle.linker_runs.specs.declared.packing.Machine.{Machine}
+use Rattle.linker_runs.specs.SectionItems.{Makes}
+use Rattle.linker_runs.specs.RewrittenItems.{AreListed, deleted_at}
+
+-- A section with its relocations and what is deleted of it.
+pub record Rewritten : Type 0 where
+  pub machine : Machine
+  pub section : List ℕ
+  pub base : ℕ
+  pub relocations : List Relocation
+  pub deletions : List (ℕ × ℕ)
+
+-- The first `count` elements of two arrays are the items that the relocations below i and the
+-- deletions below g make, and their makers. The last ends at `end`, and no other deletion begins
+-- below that.
+pub record AreListedIn {A : Type 0} (f : A → Item) (IsWritten : A → Type 0) (s : Rewritten)
+    (i g count end : ℕ) (out : List A) (makers : List ℕ) : Type 0 where
+  pub few : count ≤ i + g
+  pub listed : AreListed (Makes s.machine s.section s.base s.relocations) s.base
+      (length s.relocations) s.deletions i g end (map f (take count out)) (take count makers)
+  pub form : All IsWritten (take count out)
+  pub next : g < length s.deletions → end ≤ s.base + (deleted_at s.deletions g).0

@@ -1,0 +1,21 @@
+use Rattle.std.proofs.Common.{◌-◌, sym, arith, true≢false, inl, inr}
+use Rattle.std.proofs.lemmas.Bool.{cases_eq}
+use Rattle.linker_section.proofs.relocations.is_ascending.Goals as goal
+
+pub returns-then-offset-least : goal.returns-then-offset-least
+returns-then-offset-least c = (
+  (λ is. absurd (true≢false (sym is))),
+  (λ ascending.
+      let k = c.loop-index.index in
+      let test = c.if-offset-least.true in
+      let e = c.offset_at-offset.ensures in
+      let n = c.relocations_len-index-end.ensures in
+      let t = c.loop-index-test.true in
+      elim (cases_eq k 0) [
+        | inl first ↦ let z = c.loop-index.invariant.first first in absurd (omega (arith, test, z))
+        | inr some ↦
+            let reached = c.loop-index.invariant.reached (k - 1) (omega (arith, some)) in
+            let a = ascending (k - 1) k (omega arith) (omega (arith, t, n)) in
+            absurd (omega (arith, test, e, reached, a))
+      ]),
+)

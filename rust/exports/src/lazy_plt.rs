@@ -1,0 +1,127 @@
+// Made by tools/erase of crates/linker_utils_c/src/lazy_plt.rt.
+//! Lazy PLTs: the code of headers and entries, and what their words hold at first.
+
+use crate::relocate::status_of;
+use crate::status::Status;
+use linker_utils::output::{LazyEntry, LazyPlt};
+use linker_utils::output::StubError;
+use linker_utils::elf::Architecture;
+
+/// Lengths of a lazy PLT, in bytes, and how many words `.got.plt` has before those of entries.
+#[repr(C)]
+#[derive(Clone, Copy)]
+pub struct LazyPltNumbers {
+    /// The header's length.
+    pub header_len: u64,
+    /// An entry's length.
+    pub entry_len: u64,
+    /// What addresses of the header and of entries are multiples of.
+    pub alignment: u64,
+    /// How many words there are before those of entries.
+    pub header_words: u64,
+}
+
+/// Writes the lengths of a lazy PLT, as those of `LazyPlt`. `UnknownArchitecture`.
+pub fn linker_utils_lazy_plt(machine: u16, plt: &mut LazyPltNumbers) -> u32 {
+    let Some(architecture) = Architecture::from_machine(machine) else {
+        return Status::UnknownArchitecture.number();
+    };
+    *plt = numbers_in(LazyPlt::of(architecture));
+    Status::Success.number()
+}
+
+/// The lengths of a lazy PLT.
+fn numbers_in(plt: &LazyPlt) -> LazyPltNumbers {
+    LazyPltNumbers {
+        header_len: plt.header_len(),
+        entry_len: plt.entry_len(),
+        alignment: plt.alignment,
+        header_words: plt.header_words.len() as u64,
+    }
+}
+
+/// The status of code that is written or not.
+fn status_in(written: Result<(), StubError>) -> u32 {
+    match written {
+        Ok(()) => Status::Success.number(),
+        Err(StubError::Missing) => Status::UnknownStub.number(),
+        Err(StubError::TooShort) => Status::TooShort.number(),
+        Err(StubError::Field(error)) => status_of(Err(error)),
+    }
+}
+
+/// Writes the header of a lazy PLT that stands at an address, of the `.got.plt` at `words`, to the
+/// beginning of `bytes`, as `LazyPlt::write_header`. The first that applies of `UnknownArchitecture`;
+/// `TooShort`; and where a field doesn't reach the error of the first such field, as
+/// `linker_utils_relocate`. Then `bytes` are unchanged.
+pub fn linker_utils_write_lazy_header_nonnull(
+    machine: u16,
+    header: u64,
+    words: u64,
+    bytes: &mut [u8],
+) -> u32 {
+    let Some(architecture) = Architecture::from_machine(machine) else {
+        return Status::UnknownArchitecture.number();
+    };
+    put_header(LazyPlt::of(architecture), header, words, bytes)
+}
+
+fn put_header(plt: &LazyPlt, header: u64, words: u64, bytes: &mut [u8]) -> u32 {
+    status_in(plt.write_header(header, words, bytes))
+}
+
+/// Writes an entry of a lazy PLT to the beginning of `bytes`, as `LazyPlt::write_entry`. The first that
+/// applies of `UnknownArchitecture`; `TooShort`; and where a field doesn't reach the error of the first
+/// such field, as `linker_utils_relocate`. Then `bytes` are unchanged.
+pub fn linker_utils_write_lazy_entry_nonnull(
+    machine: u16,
+    entry: &LazyEntry,
+    bytes: &mut [u8],
+) -> u32 {
+    let Some(architecture) = Architecture::from_machine(machine) else {
+        return Status::UnknownArchitecture.number();
+    };
+    put_entry(LazyPlt::of(architecture), entry, bytes)
+}
+
+fn put_entry(plt: &LazyPlt, entry: &LazyEntry, bytes: &mut [u8]) -> u32 {
+    status_in(plt.write_entry(entry, bytes))
+}
+
+/// Writes what a word at the begin of `.got.plt` holds, as `LazyPlt::header_word`. The first that
+/// applies of `UnknownArchitecture`; `NotProvided`, of an index that is too large.
+pub fn linker_utils_lazy_header_word(
+    machine: u16,
+    index: usize,
+    dynamic: u64,
+    header: u64,
+    word: &mut u64,
+) -> u32 {
+    let Some(architecture) = Architecture::from_machine(machine) else {
+        return Status::UnknownArchitecture.number();
+    };
+    match LazyPlt::of(architecture).header_word(index, dynamic, header) {
+        Some(found) => {
+            *word = found;
+            Status::Success.number()
+        }
+        None => Status::NotProvided.number(),
+    }
+}
+
+/// What an entry's word holds at first, as `LazyPlt::entry_word`; 0 of a machine that isn't known.
+pub fn linker_utils_lazy_entry_word(
+    machine: u16,
+    entry: u64,
+    header: u64,
+    dynamic: u64,
+) -> u64 {
+    match Architecture::from_machine(machine) {
+        Some(architecture) => put_word(LazyPlt::of(architecture), entry, header, dynamic),
+        None => 0,
+    }
+}
+
+fn put_word(plt: &LazyPlt, entry: u64, header: u64, dynamic: u64) -> u64 {
+    plt.entry_word(entry, header, dynamic)
+}

@@ -1,0 +1,55 @@
+// Made by tools/erase of crates/linker_output/src/addresses.rt.
+//! Sections of objects in which compilers keep addresses, as the GOT does.
+
+use crate::linker_output::description::Target;
+
+/// The relocations of an instruction that loads an address, or of a half of it.
+#[derive(Debug, Clone, Copy, PartialEq, Eq)]
+pub struct WordLoad {
+    /// The code, `r_type` in ELF files, where the address is in a word of the section.
+    pub word: u32,
+    /// The code where it is in an entry of the GOT.
+    pub entry: u32,
+}
+
+/// A section of objects whose words are addresses that nothing changes. A linker may have
+/// instructions compute such an address, as it may with one that the GOT has.
+#[derive(Debug, Clone, Copy, PartialEq, Eq)]
+pub struct AddressSection {
+    /// Its name.
+    pub name: &'static str,
+    /// The instructions that refer to its words, and that a linker may rewrite or has to look at.
+    pub loads: &'static [WordLoad],
+}
+
+/// The code for an entry of the GOT in place of a code for a word.
+fn entry_in(loads: &[WordLoad], code: u32) -> Option<u32> {
+    for load in loads {
+        if load.word == code {
+            return Some(load.entry);
+        }
+    }
+    None
+}
+
+impl Target {
+    /// The code of the relocation that an instruction would have if the address were in an entry of the
+    /// GOT, by its code where that is in a word of `address_section`. With it `choose` says whether
+    /// the instruction can compute the address. None of other codes.
+    ///
+    /// ```
+    /// use linker_utils::output::Target;
+    /// use linker_utils::elf::Architecture;
+    ///
+    /// // R_PPC64_TOC16_HA and R_PPC64_GOT16_HA
+    /// assert_eq!(Target::of(Architecture::Ppc64).entry_code(50), Some(17));
+    /// assert_eq!(Target::of(Architecture::Ppc64).entry_code(10), None);
+    /// ```
+    #[must_use]
+    pub fn entry_code(&self, code: u32) -> Option<u32> {
+        match &self.address_section {
+            Some(section) => entry_in(section.loads, code),
+            None => None,
+        }
+    }
+}

@@ -1,0 +1,272 @@
+// Made by tools/erase of crates/linker_output/src/lazy_plt.rt.
+//! A lazy PLT: entries through which calls go to functions of other outputs, and a header through which
+//! the first call of each goes to the dynamic linker.
+//!
+//! An entry jumps to the address that its word of `.got.plt` has. Before the dynamic linker has looked up
+//! the function, that word leads on to the header, which jumps to the dynamic linker's resolver. Its
+//! address is in a word at the begin of `.got.plt`, where the dynamic linker puts it.
+
+use crate::linker_output::lazy_plts;
+use crate::linker_output::stubs::{StubError, StubField, write_field};
+use crate::linker_base::rewrite::overwrite;
+use crate::elf::{Architecture, Operands, RelocateError};
+
+/// What a field of a lazy PLT's code is computed from.
+#[derive(Debug, Clone, Copy, PartialEq, Eq)]
+pub enum LazyTarget {
+    /// The address of the entry's word, and in the header that of the first word of `.got.plt`.
+    Word,
+    /// The address of the header.
+    Header,
+    /// The entry's index.
+    Index,
+}
+
+/// A field of a lazy PLT's code.
+#[derive(Debug, Clone, Copy, PartialEq, Eq)]
+pub struct LazyField {
+    /// Its place in the piece of code, and the relocation whose value it takes.
+    pub field: StubField,
+    /// The address, or the number, that the value is computed from.
+    pub target: LazyTarget,
+    /// The offset, in the header or the entry, of the address that the value is relative to.
+    pub origin: u64,
+    /// The addend.
+    pub addend: i64,
+}
+
+/// A piece of code with at most one field.
+#[derive(Debug, Clone, Copy, PartialEq, Eq)]
+pub struct LazyPiece {
+    /// The code, in which the field is 0, and zeros behind it.
+    pub code: [u8; 8],
+    /// How many bytes of code there are, at most 8.
+    pub len: usize,
+    /// The field.
+    pub field: Option<LazyField>,
+}
+
+/// What a word of `.got.plt` holds before the dynamic linker changes it.
+#[derive(Debug, Clone, Copy, PartialEq, Eq)]
+pub enum LazyWord {
+    /// 0.
+    Zero,
+    /// The address of `.dynamic`.
+    Dynamic,
+    /// The address of the header.
+    Header,
+    /// The address so far above that of the entry.
+    Entry(u64),
+}
+
+/// The lazy PLT of an architecture.
+///
+/// The fields are public, so that a linker can describe one by a value of its own.
+#[derive(Clone, Copy)]
+pub struct LazyPlt {
+    /// The architecture whose relocations the fields have.
+    pub instructions: Architecture,
+    /// What the addresses of the header and of its entries are multiples of.
+    pub alignment: u64,
+    /// The header's code.
+    pub header: &'static [LazyPiece],
+    /// An entry's code.
+    pub entry: &'static [LazyPiece],
+    /// The first words of `.got.plt`, before those of the entries.
+    pub header_words: &'static [LazyWord],
+    /// The word of an entry. PowerPC64's the dynamic linker puts there itself, from `DT_PPC64_GLINK`,
+    /// which is 32 below the first entry: in an output its section has no contents.
+    pub word: LazyWord,
+}
+
+/// What an entry is written from.
+#[repr(C)]
+#[derive(Debug, Clone, Copy, PartialEq, Eq)]
+pub struct LazyEntry {
+    /// Its address.
+    pub address: u64,
+    /// The address of its word in `.got.plt`.
+    pub word: u64,
+    /// The address of the header.
+    pub header: u64,
+    /// The index of its relocation in `.rela.plt`.
+    pub index: u64,
+}
+
+impl LazyPiece {
+    /// How many bytes of code there are.
+    #[inline]
+    fn len(&self) -> usize {
+        self.len.min(8)
+    }
+}
+
+impl LazyField {
+    /// What the value of the field is computed from.
+    #[inline]
+    fn operands(&self, places: &LazyEntry) -> Operands {
+        let origin = places.address.wrapping_add(self.origin);
+        let target = match self.target {
+            LazyTarget::Word => places.word,
+            LazyTarget::Header => places.header,
+            LazyTarget::Index => places.index,
+        };
+        Operands {
+            got_entry: target,
+            got_base: origin,
+            tls_base: origin,
+            ..Operands::new(target, self.addend, origin)
+        }
+    }
+}
+
+/// The bytes of a piece with its field.
+fn piece_bytes(
+    architecture: Architecture,
+    piece: &LazyPiece,
+    places: &LazyEntry,
+) -> Result<[u8; 8], RelocateError> {
+    let mut code = piece.code;
+    if let Some(field) = &piece.field {
+        write_field(
+            architecture,
+            field.field,
+            &field.operands(places),
+            &mut code,
+        )?;
+    }
+    Ok(code)
+}
+
+/// How many bytes pieces have, or `u64::MAX` if those are more.
+fn len_of(pieces: &[LazyPiece]) -> u64 {
+    let Some((piece, others)) = pieces.split_first() else {
+        return 0;
+    };
+    len_of(others).saturating_add(piece.len() as u64)
+}
+
+/// Writes pieces one behind the other.
+fn write_pieces(
+    architecture: Architecture,
+    pieces: &[LazyPiece],
+    places: &LazyEntry,
+    at: u64,
+    out: &mut [u8],
+) -> Result<(), RelocateError> {
+    let Some((piece, others)) = pieces.split_first() else {
+        return Ok(());
+    };
+    let code = piece_bytes(architecture, piece, places)?;
+    write_pieces(architecture, others, places, at + piece.len() as u64, out)?;
+    overwrite(out, at, &code[..piece.len()]);
+    Ok(())
+}
+
+/// Writes a header or an entry.
+fn write_code(
+    architecture: Architecture,
+    pieces: &[LazyPiece],
+    places: &LazyEntry,
+    out: &mut [u8],
+) -> Result<(), StubError> {
+    if (out.len() as u64) < len_of(pieces) {
+        return Err(StubError::TooShort);
+    }
+    write_pieces(architecture, pieces, places, 0, out).map_err(StubError::Field)
+}
+
+impl LazyPlt {
+    /// The lazy PLT of an architecture.
+    ///
+    /// ```
+    /// use linker_utils::output::LazyPlt;
+    /// use linker_utils::elf::Architecture;
+    ///
+    /// let plt = LazyPlt::of(Architecture::X86_64);
+    /// assert_eq!((plt.header_len(), plt.entry_len(), plt.alignment), (16, 16, 16));
+    /// assert_eq!(plt.header_words.len(), 3);
+    /// ```
+    #[must_use]
+    pub fn of(architecture: Architecture) -> &'static LazyPlt {
+        match architecture {
+            Architecture::AArch64 => &lazy_plts::AARCH64,
+            Architecture::RiscV => &lazy_plts::RISCV64,
+            Architecture::LoongArch64 => &lazy_plts::LOONGARCH64,
+            Architecture::Ppc64 => &lazy_plts::PPC64,
+            Architecture::X86_64 => &lazy_plts::X86_64,
+        }
+    }
+
+    /// How many bytes the header has, or `u64::MAX` if those are more.
+    #[must_use]
+    pub fn header_len(&self) -> u64 {
+        len_of(self.header)
+    }
+
+    /// How many bytes an entry has, or `u64::MAX` if those are more.
+    #[must_use]
+    pub fn entry_len(&self) -> u64 {
+        len_of(self.entry)
+    }
+
+    /// Writes the header that stands at an address, of the `.got.plt` at `words`. Bytes behind the
+    /// header are left, and with an error all are.
+    pub fn write_header(&self, header: u64, words: u64, out: &mut [u8]) -> Result<(), StubError> {
+        let places = LazyEntry {
+            address: header,
+            word: words,
+            header,
+            index: 0,
+        };
+        write_code(self.instructions, self.header, &places, out)
+    }
+
+    /// Writes an entry. Bytes behind it are left, and with an error all are.
+    ///
+    /// ```
+    /// use linker_utils::output::{LazyEntry, LazyPlt};
+    /// use linker_utils::elf::Architecture;
+    ///
+    /// // `jmp *word(%rip)`, `push $2`, `jmp header`
+    /// let plt = LazyPlt::of(Architecture::X86_64);
+    /// let (address, header) = (0x1360, 0x1330);
+    /// let mut code = [0; 16];
+    /// plt.write_entry(&LazyEntry { address, word: 0x3448, header, index: 2 }, &mut code)?;
+    /// assert_eq!(code[..6], [0xff, 0x25, 0xe2, 0x20, 0, 0]);
+    /// assert_eq!(code[6..], [0x68, 2, 0, 0, 0, 0xe9, 0xc0, 0xff, 0xff, 0xff]);
+    /// assert_eq!(plt.entry_word(address, header, 0x2370), 0x1366);
+    /// # Ok::<(), linker_utils::output::StubError>(())
+    /// ```
+    pub fn write_entry(&self, entry: &LazyEntry, out: &mut [u8]) -> Result<(), StubError> {
+        write_code(self.instructions, self.entry, entry, out)
+    }
+
+    /// What a word at the begin of `.got.plt` holds, by the address of `.dynamic` and that of the
+    /// header. None for an index of a word behind those.
+    #[must_use]
+    pub fn header_word(&self, index: usize, dynamic: u64, header: u64) -> Option<u64> {
+        let word = self.header_words.get(index)?;
+        Some(word.value(header, header, dynamic))
+    }
+
+    /// What the word of the entry at an address holds until the function has been looked up, by the
+    /// address of the header and that of `.dynamic`.
+    #[must_use]
+    pub fn entry_word(&self, entry: u64, header: u64, dynamic: u64) -> u64 {
+        self.word.value(entry, header, dynamic)
+    }
+}
+
+impl LazyWord {
+    /// What it is at the addresses.
+    #[inline]
+    fn value(&self, entry: u64, header: u64, dynamic: u64) -> u64 {
+        match *self {
+            LazyWord::Zero => 0,
+            LazyWord::Dynamic => dynamic,
+            LazyWord::Header => header,
+            LazyWord::Entry(offset) => entry.wrapping_add(offset),
+        }
+    }
+}

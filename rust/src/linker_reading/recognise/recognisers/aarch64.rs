@@ -1,0 +1,18 @@
+// Made by tools/erase of crates/linker_reading/src/recognise/recognisers/aarch64.rt.
+//! What is recognised of AArch64.
+
+use crate::linker_reading::recognise::engine::RecognisedName;
+use crate::aarch64::{AArch64Relocation, RelaxationKind};
+use crate::architecture::Relaxation;
+
+impl RecognisedName for AArch64Relocation {
+    type Kind = RelaxationKind;
+
+    fn code(self) -> u32 {
+        self.elf_code()
+    }
+
+    fn relaxation(kind: Self::Kind) -> Relaxation {
+        Relaxation::AArch64(kind)
+    }
+}

@@ -1,0 +1,18 @@
+// Made by tools/erase of crates/linker_reading/src/recognise/recognisers/loongarch64.rt.
+//! What is recognised of LoongArch.
+
+use crate::linker_reading::recognise::engine::RecognisedName;
+use crate::architecture::Relaxation;
+use crate::loongarch64::{LoongArch64Relocation, RelaxationKind};
+
+impl RecognisedName for LoongArch64Relocation {
+    type Kind = RelaxationKind;
+
+    fn code(self) -> u32 {
+        self.elf_code()
+    }
+
+    fn relaxation(kind: Self::Kind) -> Relaxation {
+        Relaxation::LoongArch64(kind)
+    }
+}

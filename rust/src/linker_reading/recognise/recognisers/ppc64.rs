@@ -1,0 +1,18 @@
+// Made by tools/erase of crates/linker_reading/src/recognise/recognisers/ppc64.rt.
+//! What is recognised of PowerPC64.
+
+use crate::linker_reading::recognise::engine::RecognisedName;
+use crate::architecture::Relaxation;
+use crate::ppc64::{Ppc64Relocation, RelaxationKind};
+
+impl RecognisedName for Ppc64Relocation {
+    type Kind = RelaxationKind;
+
+    fn code(self) -> u32 {
+        self.elf_code()
+    }
+
+    fn relaxation(kind: Self::Kind) -> Relaxation {
+        Relaxation::Ppc64(kind)
+    }
+}

@@ -1,0 +1,18 @@
+// Made by tools/erase of crates/linker_reading/src/recognise/recognisers/riscv64.rt.
+//! What is recognised of RISC-V.
+
+use crate::linker_reading::recognise::engine::RecognisedName;
+use crate::architecture::Relaxation;
+use crate::riscv64::{RelaxationKind, RiscVRelocation};
+
+impl RecognisedName for RiscVRelocation {
+    type Kind = RelaxationKind;
+
+    fn code(self) -> u32 {
+        self.elf_code()
+    }
+
+    fn relaxation(kind: Self::Kind) -> Relaxation {
+        Relaxation::RiscV(kind)
+    }
+}

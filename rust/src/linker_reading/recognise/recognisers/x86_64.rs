@@ -1,0 +1,18 @@
+// Made by tools/erase of crates/linker_reading/src/recognise/recognisers/x86_64.rt.
+//! What is recognised of x86-64.
+
+use crate::linker_reading::recognise::engine::RecognisedName;
+use crate::architecture::Relaxation;
+use crate::x86_64::{RelaxationKind, X86_64Relocation};
+
+impl RecognisedName for X86_64Relocation {
+    type Kind = RelaxationKind;
+
+    fn code(self) -> u32 {
+        self.elf_code()
+    }
+
+    fn relaxation(kind: Self::Kind) -> Relaxation {
+        Relaxation::X86_64(kind)
+    }
+}

@@ -1,0 +1,59 @@
+// Made by tools/erase of crates/linker_rewriting/src/calls.rt.
+//! Calls that stay as they are before addresses are known, by what is known of their symbol. Most
+//! calls do, so that this is asked before what else a rewrite is chosen by.
+
+use crate::linker_rewriting::facts::{SymbolFacts, may_change_toc};
+use crate::linker_rewriting::phases::Phase;
+use crate::linker_section::relocations::Rela;
+use crate::aarch64::AArch64Relocation;
+use crate::elf::Architecture;
+use crate::ppc64::Ppc64Relocation;
+
+/// Whether the symbol at an index is undefined and weak.
+#[inline(always)]
+fn is_weak_zero(symbols: &[SymbolFacts], symbol: u32) -> bool {
+    match symbols.get(symbol as usize) {
+        Some(symbol) => symbol.is_undefined_weak,
+        None => false,
+    }
+}
+
+/// Whether a call of the symbol at an index may return with another TOC pointer.
+#[inline(always)]
+fn changes_toc(symbols: &[SymbolFacts], symbol: u32) -> bool {
+    match symbols.get(symbol as usize) {
+        Some(symbol) => may_change_toc(symbol),
+        None => false,
+    }
+}
+
+/// Whether a relocation of AArch64 is of a branch that is no `nop`: only one to what is undefined and
+/// weak becomes one.
+#[inline(always)]
+fn aarch64_keeps(symbols: &[SymbolFacts], relocation: &Rela) -> bool {
+    let is_call = relocation.code == AArch64Relocation::R_AARCH64_CALL26.elf_code();
+    let is_branch = is_call || relocation.code == AArch64Relocation::R_AARCH64_JUMP26.elf_code();
+    is_branch && !is_weak_zero(symbols, relocation.symbol)
+}
+
+/// Whether a relocation of PowerPC64 is of a call that returns with the same TOC pointer.
+#[inline(always)]
+fn ppc64_keeps(symbols: &[SymbolFacts], relocation: &Rela) -> bool {
+    let is_call = relocation.code == Ppc64Relocation::R_PPC64_REL24.elf_code();
+    is_call && !changes_toc(symbols, relocation.symbol)
+}
+
+/// Whether a relocation is of a call that stays as it is, by its symbol.
+#[inline(always)]
+pub(crate) fn keeps_call(
+    architecture: Architecture,
+    phase: Phase,
+    symbols: &[SymbolFacts],
+    relocation: &Rela,
+) -> bool {
+    match (phase, architecture) {
+        (Phase::Early, Architecture::AArch64) => aarch64_keeps(symbols, relocation),
+        (Phase::Early, Architecture::Ppc64) => ppc64_keeps(symbols, relocation),
+        _ => false,
+    }
+}

@@ -1,0 +1,288 @@
+//! Sections that phases of rewriting left shorter, as linkers pack them.
+
+use super::aligned;
+use linker_utils::elf::Architecture;
+use linker_utils::relaxation::DeltaSlice;
+use linker_utils::rewriting::{
+    Decision, KeptGroups, OutputFacts, Phase, SymbolFacts, rewrite_placed_section,
+    survey_placed_section,
+};
+use linker_utils::runs::items::{Relocation, RewrittenItemsError, rewritten_items_into};
+use linker_utils::runs::packing::Machine::{self, LoongArch64, RiscV64};
+use linker_utils::runs::packing::{pack_run, packed_run_len};
+use linker_utils::runs::relaxation::{Fault, Item, ItemFault, Site, first_faulty, relax};
+use linker_utils::runs::shapes::fixed;
+use linker_utils::section::{Addresses, Symbol, relocation_at};
+
+/// Where the section begins in its run, and where the run does.
+const BASE: u64 = 0x100;
+const START: u64 = 0xff00;
+
+/// A relocation: its offset, its type, its symbol and its addend.
+type Entry = (u64, u32, u32, i64);
+
+/// Symbol 1 is thread-local, at the thread pointer. Symbol 2 is `f`, symbol 3 the section's begin.
+fn is_in_run(symbol: u32, f: u64) -> Option<u64> {
+    match symbol {
+        2 => Some(BASE + f),
+        3 => Some(BASE),
+        _ => None,
+    }
+}
+
+/// The bytes of a section of relocations.
+fn table(entries: &[Entry]) -> Vec<u8> {
+    let mut bytes = Vec::new();
+    for &(offset, code, symbol, addend) in entries {
+        bytes.extend(offset.to_le_bytes());
+        bytes.extend((u64::from(code) | u64::from(symbol) << 32).to_le_bytes());
+        bytes.extend(addend.to_le_bytes());
+    }
+    bytes
+}
+
+/// The section after `Phase::ThreadOffsets`, its relocations and what is deleted.
+fn without_thread_offsets(
+    architecture: Architecture,
+    section: &[u8],
+    entries: &[Entry],
+) -> (Vec<u8>, Vec<u8>, Vec<(u64, u32)>) {
+    let output = OutputFacts { is_executable: true, is_fixed: true };
+    let facts = [SymbolFacts { is_local: true, ..SymbolFacts::default() }; 4];
+    let addresses =
+        Addresses { section: START + BASE, thread_origin: 0x20000, ..Addresses::default() };
+    let values = [Symbol { address: 0x20000, is_thread_local: true, ..Symbol::default() }; 4];
+    let (mut section, mut rela) = (section.to_vec(), table(entries));
+    let mut kept = [KeptGroups::default(); 4];
+    let phase = Phase::ThreadOffsets;
+    survey_placed_section(
+        architecture,
+        phase,
+        &output,
+        &facts,
+        &addresses,
+        &values,
+        &rela,
+        &section,
+        &mut kept,
+    );
+    let mut decisions = vec![Decision::Kept; entries.len()];
+    let mut deleted = vec![(0, 0); entries.len()];
+    let count = rewrite_placed_section(
+        architecture,
+        phase,
+        &output,
+        &facts,
+        &addresses,
+        &values,
+        &kept,
+        &mut rela,
+        &mut section,
+        &mut decisions,
+        &mut deleted,
+    );
+    deleted.truncate(count.unwrap());
+    (section, rela, deleted)
+}
+
+/// Requires that a section is rewritten, relaxed and packed so. `f` is where symbol 2 is in it.
+fn expect(
+    machine: Machine,
+    architecture: Architecture,
+    section: &[u8],
+    entries: &[Entry],
+    f: u64,
+    expected: &[u8],
+) {
+    let (section, rela, deleted) = without_thread_offsets(architecture, section, entries);
+    assert_eq!(deleted, [(8, 4), (12, 4)]);
+    let relocations: Vec<_> = (0..entries.len())
+        .map(|index| relocation_at(&rela, index).unwrap())
+        .map(|it| Relocation {
+            offset: it.offset,
+            code: it.code,
+            has_symbol: it.symbol != 0,
+            addend: it.addend,
+            target: is_in_run(it.symbol, f),
+            may_compress: true,
+        })
+        .collect();
+    let mut items = vec![aligned(0, 0, 1, None); relocations.len() + 2];
+    let mut makers = vec![0; relocations.len() + 2];
+    let count = rewritten_items_into(
+        machine,
+        &section,
+        BASE,
+        &relocations,
+        &deleted,
+        &mut items,
+        &mut makers,
+    )
+    .unwrap();
+    items.truncate(count);
+    for (item, &maker) in items.iter().zip(&makers) {
+        let offset = relocations.get(maker).map(|it| it.offset);
+        let offset = offset.unwrap_or_else(|| deleted[maker - relocations.len()].0);
+        assert_eq!(item.offset(), BASE + offset);
+    }
+    assert_eq!(first_faulty(&items, START), None);
+    let plan = relax(&items, START).unwrap();
+    let deltas = plan.deletions.deltas();
+    assert!(DeltaSlice::new(deltas).has_valid_deltas());
+    let mut packed = vec![0xee; packed_run_len(BASE, section.len(), deltas)];
+    pack_run(machine, &section, BASE, &items, deltas, START, &mut packed).unwrap();
+    assert_eq!(packed, expected);
+}
+
+/// `call f`, `lui a0, %tprel_hi(x)`, `add a0, a0, tp`, `lw a0, %tprel_lo(x)(a0)`, `call f`, the nops of
+/// `.p2align 4`, and `f: tail _start`, `ret`, as clang 19 assembles them.
+const RISC_V: [u8; 52] = [
+    0x97, 0x00, 0x00, 0x00, 0xe7, 0x80, 0x00, 0x00, 0x37, 0x05, 0x00, 0x00, 0x33, 0x05, 0x45, 0x00,
+    0x03, 0x25, 0x05, 0x00, 0x97, 0x00, 0x00, 0x00, 0xe7, 0x80, 0x00, 0x00, 0x01, 0x00, 0x13, 0x00,
+    0x00, 0x00, 0x13, 0x00, 0x00, 0x00, 0x13, 0x00, 0x00, 0x00, 0x17, 0x03, 0x00, 0x00, 0x67, 0x00,
+    0x03, 0x00, 0x82, 0x80,
+];
+
+const RISC_V_ENTRIES: [Entry; 13] = [
+    (0, 19, 2, 0),
+    (0, 51, 0, 0),
+    (8, 29, 1, 0),
+    (8, 51, 0, 0),
+    (12, 32, 1, 0),
+    (12, 51, 0, 0),
+    (16, 30, 1, 0),
+    (16, 51, 0, 0),
+    (20, 19, 2, 0),
+    (20, 51, 0, 0),
+    (28, 43, 0, 14),
+    (42, 19, 3, 0),
+    (42, 51, 0, 0),
+];
+
+#[test]
+fn riscv_sections_without_thread_offsets_are_packed_as_by_ld_lld() {
+    // ld.lld 19, at 0x10000
+    let expected = [
+        0xef, 0x00, 0x00, 0x01, 0x03, 0x25, 0x02, 0x00, 0xef, 0x00, 0x80, 0x00, 0x13, 0x00, 0x00,
+        0x00, 0xc5, 0xbf, 0x82, 0x80,
+    ];
+    expect(RiscV64, Architecture::RiscV, &RISC_V, &RISC_V_ENTRIES, 42, &expected);
+}
+
+/// `call36 f`, `lu12i.w $a0, %le_hi20_r(x)`, `add.d $a0, $a0, $tp`, `ld.w $a0, $a0, %le_lo12_r(x)`,
+/// `call36 f`, the nops of `.p2align 4`, and `f: la.pcrel $a0, f`, `ret`, as clang 19 assembles them.
+const LOONGARCH: [u32; 14] = [
+    0x1e000001, 0x4c000021, 0x14000004, 0x00108884, 0x28800084, 0x1e000001, 0x4c000021, 0x03400000,
+    0x03400000, 0x03400000, 0x1a000004, 0x02c00084, 0x4c000020, 0x03400000,
+];
+
+#[test]
+fn loongarch_sections_without_thread_offsets_are_packed() {
+    let section: Vec<u8> = LOONGARCH[..13].iter().flat_map(|word| word.to_le_bytes()).collect();
+    let relaxed = |offset, code, symbol| [(offset, code, symbol, 0), (offset, 100, 0, 0)];
+    let entries = [
+        relaxed(0, 110, 2),
+        relaxed(8, 121, 1),
+        relaxed(12, 122, 1),
+        relaxed(16, 123, 1),
+        relaxed(20, 110, 2),
+        [(28, 102, 0, 12), (40, 0, 0, 0)],
+        relaxed(40, 71, 2),
+        relaxed(44, 72, 2),
+    ]
+    .concat();
+    // `bl f`, `ld.w $a0, $tp, 0`, `bl f`, `nop`, `f: pcaddi $a0, 0`, `ret`, as clang 19 assembles them
+    let expected = [
+        0x00, 0x10, 0x00, 0x54, 0x44, 0x00, 0x80, 0x28, 0x00, 0x08, 0x00, 0x54, 0x00, 0x00, 0x40,
+        0x03, 0x04, 0x00, 0x00, 0x18, 0x20, 0x00, 0x00, 0x4c,
+    ];
+    expect(LoongArch64, Architecture::LoongArch64, &section, &entries, 40, &expected);
+}
+
+fn relocation(offset: u64, code: u32, addend: i64, target: Option<u64>) -> Relocation {
+    Relocation { offset, code, has_symbol: false, addend, target, may_compress: true }
+}
+
+/// The items of the RISC-V section with such deletions, and their makers.
+fn items_without(
+    relocations: &[Relocation],
+    deleted: &[(u64, u32)],
+) -> Result<(Vec<Item>, Vec<usize>), RewrittenItemsError> {
+    let room = relocations.len() + deleted.len();
+    let (mut items, mut makers) = (vec![aligned(0, 0, 1, None); room], vec![usize::MAX; room]);
+    let made =
+        rewritten_items_into(RiscV64, &RISC_V, BASE, relocations, deleted, &mut items, &mut makers);
+    let count = made?;
+    assert!(makers[count..].iter().all(|&maker| maker == usize::MAX));
+    items.truncate(count);
+    makers.truncate(count);
+    Ok((items, makers))
+}
+
+fn gone(offset: u64, len: u32) -> Item {
+    let offset = BASE + offset;
+    Item::Site(Site { offset, len, target: offset, shapes: fixed(0) })
+}
+
+#[test]
+fn deletions_stand_where_they_are() {
+    let relocations = [
+        relocation(0, 19, 0, Some(BASE)),
+        relocation(0, 51, 0, None),
+        relocation(28, 43, 14, None),
+    ];
+    let deleted = [(8, 4), (12, 4), (16, 0), (27, 1), (42, 10)];
+    let (items, makers) = items_without(&relocations, &deleted).unwrap();
+    assert_eq!(makers, [0, 3, 4, 5, 6, 2, 7]);
+    assert_eq!(items[1..5], [gone(8, 4), gone(12, 4), gone(16, 0), gone(27, 1)]);
+    assert_eq!(items[6], gone(42, 10));
+    // without relocations, and without deletions
+    let (items, makers) = items_without(&[], &deleted[..2]).unwrap();
+    assert_eq!((items, makers), (vec![gone(8, 4), gone(12, 4)], vec![0, 1]));
+    assert_eq!(items_without(&relocations, &[]).unwrap().1, [0, 2]);
+    assert_eq!(items_without(&[], &[]), Ok((vec![], vec![])));
+}
+
+#[test]
+fn deletions_that_overlap_are_named() {
+    use RewrittenItemsError::{Malformed, Misplaced, Overlaps};
+    let call = |offset| [relocation(offset, 19, 0, Some(BASE)), relocation(offset, 51, 0, None)];
+    let nops = [relocation(28, 43, 14, None)];
+    let at = call(20);
+    for (relocations, deleted, expected) in [
+        // deletions by themselves
+        (&at[..], &[(8, 4), (11, 4)][..], Misplaced(1)),
+        (&at, &[(8, 4), (4, 4)], Misplaced(1)),
+        (&at, &[(8, 4), (49, 4)], Misplaced(1)),
+        (&at, &[(53, 0)], Misplaced(0)),
+        (&at, &[(u64::MAX, 2)], Misplaced(0)),
+        // bytes of a call, of nops, and those around them
+        (&at, &[(16, 5)], Overlaps(0)),
+        (&at, &[(20, 1)], Overlaps(0)),
+        (&at, &[(27, 1)], Overlaps(0)),
+        (&at, &[(24, 0)], Overlaps(0)),
+        (&at, &[(16, 20)], Overlaps(0)),
+        (&nops, &[(41, 1)], Overlaps(0)),
+        // nops in a call, and calls that descend
+        (&[&at[..], &[relocation(24, 43, 4, None)]].concat(), &[], Overlaps(2)),
+        (&[call(20), call(0)].concat(), &[(8, 4)], Overlaps(2)),
+        // nops past the section's end come first
+        (&[relocation(40, 43, 14, None)], &[(8, 4), (4, 4)], Malformed(0)),
+    ] {
+        assert_eq!(items_without(relocations, deleted), Err(expected), "{deleted:?}");
+    }
+    for deleted in [[(16, 4)], [(28, 4)], [(20, 0)], [(28, 0)]] {
+        assert!(items_without(&at, &deleted).is_ok(), "{deleted:?}");
+    }
+}
+
+#[test]
+fn targets_inside_deleted_bytes_are_named() {
+    for (target, expected) in [(8, None), (9, Some(2)), (11, Some(2)), (12, None)] {
+        let relocations = [relocation(20, 19, 0, Some(BASE + target)), relocation(20, 51, 0, None)];
+        let (items, makers) = items_without(&relocations, &[(4, 2), (8, 4)]).unwrap();
+        assert_eq!(makers, [2, 3, 0]);
+        let fault = |index| ItemFault { index, fault: Fault::TargetInside };
+        assert_eq!(first_faulty(&items, START), expected.map(fault));
+    }
+}
