@@ -1,14 +1,16 @@
 -- The groups that stay, noted relocation by relocation.
 use Rattle.std.proofs.Common.{◌≡◌, ℕ, ◌+◌, inl, inr, ◌∙◌, List, ap, sym, subst, arith, refl, IsTrue, Option, None, Some, Bool, true, false}
+use Rattle.std.specs.Prelude.{slice_get}
 use Rattle.linker_rewriting.specs.Facts.{Setting, setting}
-use Rattle.linker_rewriting.specs.Groups.{IsScopeIn, stays_at, symbol_of_group}
-use Rattle.linker_rewriting.specs.Inner.Codes.{asks_for_mark}
-use Rattle.linker_rewriting.specs.Surveys.{AreKeptToo, IsGroupOf, IsOfThreads, IsKeeping, IsUnmarked, IsUnmarkedIn, StaysBy, AllStayIf, IsNoted, IsCause, IsSurveyedIn}
+use Rattle.linker_rewriting.specs.Groups.{stays_at, symbol_of_group}
+use Rattle.linker_rewriting.specs.Inner.Codes.{asks_for_mark, is_of_group, KeepsNone}
+use Rattle.linker_rewriting.specs.Surveys.{AreKeptToo, IsGroupOf, IsOfThreads, IsKeeping, IsUnmarked, IsUnmarkedIn, IsUnmarkedBy, HasRewrite, StaysBy, AllStayIf, IsNoted, IsCause, IsSurveyedIn}
 use Rattle.linker_rewriting.specs.declared.facts.OutputFacts.{OutputFacts}
 use Rattle.linker_rewriting.specs.declared.facts.SymbolFacts.{SymbolFacts}
 use Rattle.linker_rewriting.specs.declared.groups.Group.{Group}
 use Rattle.linker_rewriting.specs.declared.groups.KeptGroups.{KeptGroups}
-use Rattle.linker_rewriting.specs.declared.groups.Scope.TheVariants.{Unlisted}
+use Rattle.linker_rewriting.specs.declared.groups.Scope.{Scope}
+use Rattle.linker_rewriting.specs.declared.groups.Scope.TheVariants.{Grouped, Matched}
 use Rattle.linker_rewriting.specs.declared.phases.Phase.{Phase}
 use Rattle.linker_rewriting.specs.declared.phases.Phase.TheVariants.{Early, ThreadOffsets, GotLoads, Distances}
 use Rattle.linker_section.specs.Relocations.{relocation_in}
@@ -113,9 +115,10 @@ more_surveyed s bytes section before mid once after k group unmarked surveyed ke
 -- ---- a relocation that keeps none
 
 not_asked : (architecture : Architecture) (phase : Phase) (symbols : List SymbolFacts)
-    (bytes : List ℕ) (n : ℕ) (r : Rela) → asks_for_mark phase architecture ≡ false
+    (bytes : List ℕ) (n : ℕ) (r : Rela)
+    → asks_for_mark phase architecture (slice_get symbols r.symbol) ≡ false
     → IsUnmarkedIn phase architecture symbols bytes n r false
-not_asked Ppc64 Early symbols bytes n r is = absurd (let e : true ≡ false = is in cc)
+not_asked Ppc64 Early symbols bytes n r is = subst (λ b. IsUnmarkedBy b bytes n r false) (sym is) refl
 not_asked AArch64 Early symbols bytes n r is = refl
 not_asked RiscV Early symbols bytes n r is = refl
 not_asked LoongArch64 Early symbols bytes n r is = refl
@@ -123,6 +126,12 @@ not_asked X86_64 Early symbols bytes n r is = refl
 not_asked architecture ThreadOffsets symbols bytes n r is = refl
 not_asked architecture GotLoads symbols bytes n r is = refl
 not_asked architecture Distances symbols bytes n r is = refl
+
+of_no_group : (s : Setting) (bytes section : List ℕ) (n : ℕ) (r : Rela) (scope : Scope)
+    → is_of_group scope ≡ false → HasRewrite s bytes section n r scope
+of_no_group s bytes section n r (Grouped group) isnt = absurd (let e : true ≡ false = isnt in cc)
+of_no_group s bytes section n r (Matched group) isnt = absurd (let e : true ≡ false = isnt in cc)
+of_no_group s bytes section n r scope isnt = tt
 
 none_too : (kept : List KeptGroups) (IsAdded : Group → ℕ → Type 0)
     → ((group : Group) (symbol : ℕ) → IsAdded group symbol → ⊥) → AreKeptToo kept kept IsAdded
@@ -138,12 +147,13 @@ pub one_left : (architecture : Architecture) (phase : Phase) (output : OutputFac
     (symbols : List SymbolFacts) (addresses : Addresses) (values : List Symbol)
     (bytes section : List ℕ) (before mid : List KeptGroups) (k : ℕ)
     → IsSurveyedIn (setting architecture phase output symbols addresses values) bytes section before mid k
-    → IsScopeIn architecture phase (relocation_in bytes k).code Unlisted
-    → asks_for_mark phase architecture ≡ false
+    → KeepsNone architecture phase symbols (relocation_in bytes k)
     → IsSurveyedIn (setting architecture phase output symbols addresses values) bytes section before mid (k + 1)
-one_left architecture phase output symbols addresses values bytes section before mid k surveyed scope isnt =
-    more_surveyed (setting architecture phase output symbols addresses values) bytes section before mid mid mid k None false
-    surveyed (Unlisted, scope, tt)
-    (none_too mid (IsGroupOf None (relocation_in bytes k).symbol) (λ group symbol is. is))
-    (not_asked architecture phase symbols bytes k (relocation_in bytes k) isnt)
+one_left architecture phase output symbols addresses values bytes section before mid k surveyed none =
+    let s = setting architecture phase output symbols addresses values in
+    let r = relocation_in bytes k in
+    more_surveyed s bytes section before mid mid mid k None false surveyed
+    ((none.0).0, (none.0).1, of_no_group s bytes section k r ((none.0).0) ((none.0).2))
+    (none_too mid (IsGroupOf None r.symbol) (λ group symbol is. is))
+    (not_asked architecture phase symbols bytes k r (none.1))
     (none_too mid (IsOfThreads false) (λ group symbol is. let e : false ≡ true = is.0 in cc))

@@ -4,13 +4,14 @@ ghost use Rattle.std.specs.Prelude.{◌≡◌, ◌+◌, ◌<◌, ◌≤◌, ◌/
 ghost use Rattle.linker_section.specs.Relocations.{relocation_in};
 ghost use Rattle.linker_rewriting.specs.Candidates.{calls_tls_get_addr};
 ghost use Rattle.linker_rewriting.specs.Facts.{setting};
-ghost use Rattle.linker_rewriting.specs.Inner.Codes.{bit_of, table_of, KeepsNone};
+ghost use Rattle.linker_rewriting.specs.Inner.Codes.{group_bit_of, table_of, asks_for_mark};
+ghost use Rattle.linker_rewriting.specs.Inner.Codes.{KeepsNone};
 ghost use Rattle.linker_rewriting.specs.Surveys.{IsKeeping, IsMarked, IsUnmarkedIn, IsUnmarkedBy};
 ghost use Rattle.linker_rewriting.specs.Surveys.{AreKeptToo, IsGroup, IsGroupOf, IsOfThreads};
 ghost use Rattle.linker_rewriting.specs.Surveys.{IsSurveyed, IsSurveyedIn};
 
 use crate::candidates::{candidate, is_matched, is_tls_get_addr};
-use crate::codes::{bit_of, is_listed, table_of};
+use crate::codes::{group_bit_of, is_asked, table_of};
 use crate::facts::{NO_ADDRESSES, OutputFacts, SymbolFacts};
 use crate::groups::{Group, KeptGroups, Scope, marks_call, scope_in, symbol_of_group};
 use crate::phases::Phase;
@@ -164,28 +165,43 @@ fn is_unmarked(
     }
 }
 
-/// Whether the relocation with an index keeps no group by its code, and isn't asked for its mark.
+/// Whether a relocation is one that is asked for its mark: a use of `__tls_get_addr` on PowerPC64.
+#[inline(always)]
+fn asks_for_mark(
+    architecture: Architecture,
+    phase: Phase,
+    symbols: &[SymbolFacts],
+    relocation: &Rela,
+) -> bool
+    ensures { result ≡ asks_for_mark phase architecture
+        (slice_get symbols.now relocation.now.symbol) }
+{
+    match (phase, architecture) {
+        (Phase::Early, Architecture::Ppc64) => is_tls_get_addr(symbols, relocation.symbol),
+        _ => false,
+    }
+}
+
+/// Whether the relocation with an index is of no group by its code, and isn't asked for its mark.
 #[inline(always)]
 fn keeps_none(
     architecture: Architecture,
     phase: Phase,
     table: &'static [u8],
     bit: u8,
+    symbols: &[SymbolFacts],
     relocations: &[u8],
     index: usize,
 ) -> bool
     requires table { table.now ≡ table_of architecture }
-    requires bit { bit ≡ bit_of phase }
+    requires bit { bit ≡ group_bit_of phase }
     requires within { index < length relocations.now / 24 }
-    ensures { result ≡ true → KeepsNone architecture phase (relocation_in relocations.now index).code }
+    ensures { result ≡ true
+        → KeepsNone architecture phase symbols.now (relocation_in relocations.now index) }
 {
-    match (phase, architecture) {
-        (Phase::Early, Architecture::Ppc64) => false,
-        _ => {
-            let relocation = relocation_in(relocations, index);
-            !is_listed(architecture, phase, table, bit, relocation.code)
-        }
-    }
+    let relocation = relocation_in(relocations, index);
+    let asked = is_asked(architecture, phase, table, bit, relocation.code);
+    !asked && !asks_for_mark(architecture, phase, symbols, &relocation)
 }
 
 /// Notes which groups stay in a phase, by a section, as `survey` and `survey_placed_section` say.
@@ -205,9 +221,9 @@ fn survey_in(
         values.now) relocations.now section.now kept.old kept.new (length relocations.now / 24) }
 {
     let table = table_of(architecture);
-    let bit = bit_of(phase);
+    let bit = group_bit_of(phase);
     for index in 0..relocations_len(relocations) {
-        if keeps_none(architecture, phase, table, bit, relocations, index) {
+        if keeps_none(architecture, phase, table, bit, symbols, relocations, index) {
             continue;
         }
         let relocation = relocation_in(relocations, index);

@@ -2,7 +2,7 @@
 //! Which groups of an object stay as they are, since one of their instructions can't be rewritten.
 
 use crate::linker_rewriting::candidates::{candidate, is_matched, is_tls_get_addr};
-use crate::linker_rewriting::codes::{bit_of, is_listed, table_of};
+use crate::linker_rewriting::codes::{group_bit_of, is_asked, table_of};
 use crate::linker_rewriting::facts::{NO_ADDRESSES, OutputFacts, SymbolFacts};
 use crate::linker_rewriting::groups::{Group, KeptGroups, Scope, marks_call, scope_in, symbol_of_group};
 use crate::linker_rewriting::phases::Phase;
@@ -135,23 +135,34 @@ fn is_unmarked(
     }
 }
 
-/// Whether the relocation with an index keeps no group by its code, and isn't asked for its mark.
+/// Whether a relocation is one that is asked for its mark: a use of `__tls_get_addr` on PowerPC64.
+#[inline(always)]
+fn asks_for_mark(
+    architecture: Architecture,
+    phase: Phase,
+    symbols: &[SymbolFacts],
+    relocation: &Rela,
+) -> bool {
+    match (phase, architecture) {
+        (Phase::Early, Architecture::Ppc64) => is_tls_get_addr(symbols, relocation.symbol),
+        _ => false,
+    }
+}
+
+/// Whether the relocation with an index is of no group by its code, and isn't asked for its mark.
 #[inline(always)]
 fn keeps_none(
     architecture: Architecture,
     phase: Phase,
     table: &'static [u8],
     bit: u8,
+    symbols: &[SymbolFacts],
     relocations: &[u8],
     index: usize,
 ) -> bool {
-    match (phase, architecture) {
-        (Phase::Early, Architecture::Ppc64) => false,
-        _ => {
-            let relocation = relocation_in(relocations, index);
-            !is_listed(architecture, phase, table, bit, relocation.code)
-        }
-    }
+    let relocation = relocation_in(relocations, index);
+    let asked = is_asked(architecture, phase, table, bit, relocation.code);
+    !asked && !asks_for_mark(architecture, phase, symbols, &relocation)
 }
 
 /// Notes which groups stay in a phase, by a section, as `survey` and `survey_placed_section` say.
@@ -168,9 +179,9 @@ fn survey_in(
     kept: &mut [KeptGroups],
 ) {
     let table = table_of(architecture);
-    let bit = bit_of(phase);
+    let bit = group_bit_of(phase);
     for index in 0..relocations_len(relocations) {
-        if keeps_none(architecture, phase, table, bit, relocations, index) {
+        if keeps_none(architecture, phase, table, bit, symbols, relocations, index) {
             continue;
         }
         let relocation = relocation_in(relocations, index);

@@ -20,6 +20,6 @@ loop-index-preserved c =
 pub loop-index-preserved-then-keeps_none : goal.loop-index-preserved-then-keeps_none
 loop-index-preserved-then-keeps_none c =
     let a = c.args in
-    let none = c.keeps_none.ensures c.if-keeps_none.true in
     one_left a.architecture a.phase a.output.now a.symbols.now a.addresses.now a.values.now a.relocations.now a.section.now
-    a.kept.now c.loop-index.kept c.loop-index.index c.loop-index.invariant (none.0) (none.1)
+    a.kept.now c.loop-index.kept c.loop-index.index c.loop-index.invariant
+    (c.keeps_none.ensures c.if-keeps_none.true)
