@@ -13,6 +13,7 @@ pub mod LoongArchStubLaws
 pub mod Near
 pub mod Passed
 pub mod Ppc64LazyLaws
+pub mod Ppc64SaveLaws
 pub mod Ppc64StubLaws
 pub mod Products
 pub mod RiscVLazyLaws

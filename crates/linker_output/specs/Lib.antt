@@ -16,6 +16,7 @@ pub mod LoongArchStubs
 pub mod Placement
 pub mod Ppc64LazyPlt
 pub mod Ppc64Output
+pub mod Ppc64Saves
 pub mod Ppc64Stubs
 pub mod RiscVLazyPlt
 pub mod RiscVOutput

@@ -7,6 +7,7 @@
 
 ghost use Rattle.linker_output.specs.AArch64Stubs as aarch64_stubs;
 ghost use Rattle.linker_output.specs.LoongArchStubs as loongarch_stubs;
+ghost use Rattle.linker_output.specs.Ppc64Saves as ppc64_saves;
 ghost use Rattle.linker_output.specs.Ppc64Stubs as ppc64_stubs;
 ghost use Rattle.linker_output.specs.RiscVStubs as riscv_stubs;
 ghost use Rattle.linker_output.specs.Routes.{StubsServe};
@@ -37,6 +38,14 @@ pub fn ppc64()
 {
     linker_laws::relocations::ppc64();
 }
+
+/// PowerPC64's functions that save and restore registers 14 to 31, from any of them on, in their
+/// places below r1 or r12. The return address is behind r1, where it is saved too, and nothing else
+/// changes. The branch to the link register is defined with the laws.
+pub fn ppc64_saves()
+    ensures saves { ppc64_saves.SaveRegisters }
+    ensures restores { ppc64_saves.RestoreRegisters }
+{}
 
 /// RISC-V: t3 changes.
 pub fn riscv64()

@@ -8,6 +8,7 @@ use Rattle.std.specs.Int.{w64, leading_zeros}
 use Rattle.linker_base.specs.Bits.{field}
 use Rattle.linker_laws.specs.Ppc64Machine.{Formats, step_prefixed}
 use Rattle.linker_output.specs.Ppc64LazyPlt.{step}
+use Rattle.linker_output.specs.Ppc64Saves as saves
 use Rattle.linker_output.specs.Ppc64Stubs.{Counted, lifted}
 use Rattle.vectors.specs.Steps.{Executed, Group, Numbers, at, pc, made_low, before, memory_in}
 use Rattle.vectors.specs.Steps.{bytes_from, is_left}
@@ -88,8 +89,9 @@ ends_so e (Some c) =
 
 abbrev pub executed : Executed → Option Counted
 executed e =
+    if e.code == 0x4e800020 then saves.step formats e.code (begun e) else (
     if length_of e.code == 4 then step formats e.code (begun e)
-    else lifted (begun e) (step_prefixed formats e.code ((begun e).state))
+    else lifted (begun e) (step_prefixed formats e.code ((begun e).state)))
 
 -- Each instruction leaves what the emulator did.
 abbrev pub Agrees : Type 0

@@ -2248,4 +2248,47 @@ ppc64_groups =
     row 1683 0x78733be0 => (19, 0x278f) ∷
     row 1684 0x78420980 => (2, 0xaa6411317afc20) ∷
     []) ∷
+    -- blr
+    group 0x0 (
+    row 1685 0x4e800020 with (64, 0x200efc8eb) => (pc, 0x200efc8e8) ∷
+    row 1686 0x4e800020 with (64, 0xbbacc0) => (pc, 0xbbacc0) ∷
+    row 1687 0x4e800020 with (64, 0x1742dcc) => (pc, 0x1742dcc) ∷
+    row 1688 0x4e800020 with (64, 0x400b1f951) => (pc, 0x400b1f950) ∷
+    row 1689 0x4e800020 with (64, 0x2004ff5bd) => (pc, 0x2004ff5bc) ∷
+    row 1690 0x4e800020 with (64, 0x201868760) => (pc, 0x201868760) ∷
+    row 1691 0x4e800020 with (64, 0x200ff1c0f) => (pc, 0x200ff1c0c) ∷
+    row 1692 0x4e800020 with (64, 0x2004e9a1a) => (pc, 0x2004e9a18) ∷
+    row 1693 0x4e800020 with (64, 0x326842) => (pc, 0x326840) ∷
+    row 1694 0x4e800020 with (64, 0x40020a980) => (pc, 0x40020a980) ∷
+    row 1695 0x4e800020 with (64, 0x200b81fea) => (pc, 0x200b81fe8) ∷
+    row 1696 0x4e800020 with (64, 0x4012b6e7a) => (pc, 0x4012b6e78) ∷
+    row 1697 0x4e800020 with (64, 0x121133c) => (pc, 0x121133c) ∷
+    row 1698 0x4e800020 with (64, 0x200303967) => (pc, 0x200303964) ∷
+    row 1699 0x4e800020 with (64, 0x401256100) => (pc, 0x401256100) ∷
+    row 1700 0x4e800020 with (64, 0x1af85eb) => (pc, 0x1af85e8) ∷
+    row 1701 0x4e800020 with (64, 0xbf8981) => (pc, 0xbf8980) ∷
+    row 1702 0x4e800020 with (64, 0x200b33b61) => (pc, 0x200b33b60) ∷
+    row 1703 0x4e800020 with (64, 0x18849e7) => (pc, 0x18849e4) ∷
+    row 1704 0x4e800020 with (64, 0x20168f8de) => (pc, 0x20168f8dc) ∷
+    row 1705 0x4e800020 with (64, 0x14d9fe7) => (pc, 0x14d9fe4) ∷
+    row 1706 0x4e800020 with (64, 0x401a51519) => (pc, 0x401a51518) ∷
+    row 1707 0x4e800020 with (64, 0x401901abb) => (pc, 0x401901ab8) ∷
+    row 1708 0x4e800020 with (64, 0x20178f762) => (pc, 0x20178f760) ∷
+    row 1709 0x4e800020 with (64, 0x2001e686d) => (pc, 0x2001e686c) ∷
+    row 1710 0x4e800020 with (64, 0xe1ad87) => (pc, 0xe1ad84) ∷
+    row 1711 0x4e800020 with (64, 0x400abb4ed) => (pc, 0x400abb4ec) ∷
+    row 1712 0x4e800020 with (64, 0x200421767) => (pc, 0x200421764) ∷
+    row 1713 0x4e800020 with (64, 0x14877c) => (pc, 0x14877c) ∷
+    row 1714 0x4e800020 with (64, 0x40010d617) => (pc, 0x40010d614) ∷
+    row 1715 0x4e800020 with (64, 0x306ead) => (pc, 0x306eac) ∷
+    row 1716 0x4e800020 with (64, 0x401b1faa3) => (pc, 0x401b1faa0) ∷
+    row 1717 0x4e800020 with (64, 0xcd23d1) => (pc, 0xcd23d0) ∷
+    row 1718 0x4e800020 with (64, 0x1111040) => (pc, 0x1111040) ∷
+    row 1719 0x4e800020 with (64, 0x400665e6f) => (pc, 0x400665e6c) ∷
+    row 1720 0x4e800020 with (64, 0x40074a3fb) => (pc, 0x40074a3f8) ∷
+    row 1721 0x4e800020 with (64, 0x121af64) => (pc, 0x121af64) ∷
+    row 1722 0x4e800020 with (64, 0x1e762e) => (pc, 0x1e762c) ∷
+    row 1723 0x4e800020 with (64, 0x20171d2d6) => (pc, 0x20171d2d4) ∷
+    row 1724 0x4e800020 with (64, 0x7c1830) => (pc, 0x7c1830) ∷
+    []) ∷
     []

@@ -1,0 +1,576 @@
+-- PowerPC64's functions that save and restore registers.
+use Rattle.std.proofs.Common.{◌≡◌, ◌≢◌, ℕ, zero, suc, ◌+◌, ◌-◌, ◌*◌, ◌/◌, ◌%◌, ◌^◌, ◌<◌, ◌≤◌, Bool, true, false, refl, sym, ◌∙◌, ap, subst, arith}
+use Rattle.std.proofs.Common.{List, [], ◌∷◌, length, eqb, Some, Option, pos, negsuc, ◌+ℤ◌, ◌⊎◌, inl, inr}
+use Rattle.std.specs.Prelude.{◌&&◌, ⊤, codes, IsSomeAnd, nat_lt, nat_le, if◌then◌else◌}
+use Rattle.std.proofs.lemmas.Bool.{eqb-true, eq-eqb, ne_eqb, cond-true, cond-false, false≢true, lt-ltb, le-ltb, le-leb, lt-leb, cases_lt}
+use Rattle.std.proofs.lemmas.Int.{ints}
+use Rattle.linker_base.specs.Bits.{field}
+use Rattle.linker_base.specs.Form.{place_sum}
+use Rattle.linker_elf.specs.Value.{sum_64, difference_64}
+use Rattle.linker_laws.specs.Machine.{Memory, moved, loaded, stored}
+use Rattle.linker_laws.specs.Ppc64Machine.{State, Formats, write, write_float, store, go_on, with_number}
+use Rattle.linker_laws.proofs.RiscVMachine.{wrapped_is}
+use Rattle.linker_output.proofs.LazyRuns.{run_more}
+use Rattle.linker_output.specs.Layout.{Run, run_word}
+use Rattle.linker_output.specs.Ppc64Output.{of_registers, save_link, load_link, mtlr_0, blr}
+use Rattle.linker_output.specs.Ppc64Saves.{step, run, returned, words_from, word_or_0, code_for, slot, is_from, saved, restored}
+use Rattle.linker_output.specs.Ppc64Saves.{Saves, Returns, Returned, Restores, RestoresIntegers, RestoresFloats, integers, floats, nothing_more, return_address}
+use Rattle.linker_output.specs.Ppc64Saves as laws
+use Rattle.linker_output.specs.Ppc64Stubs.{Counted, with_state, moved_to_link}
+
+-- ---- what holds of each number below another
+
+abbrev Below : (ℕ → Type 0) → ℕ → Type 0
+Below P zero = ⊤
+Below P (suc n) = Below P n × P n
+
+below_at : (P : ℕ → Type 0) (n : ℕ) → Below P n → (i : ℕ) → i < n → P i
+below_at P zero all i less = absurd (omega (arith, less))
+below_at P (suc n) all i less =
+    elim (cases_lt i n) [
+      | inl under ↦ below_at P n (all.0) i under
+      | inr over ↦ subst P (let e : n ≡ i = omega (arith, less, over) in e) (all.1)
+    ]
+
+-- ---- runs over registers
+
+-- the instruction of a register, by its index
+abbrev word_at : Run → ℕ → ℕ
+word_at r i = (r.word + r.step * i) % 2 ^ 32
+
+-- what so many registers leave, up to the last
+abbrev pub after : (ℕ → Counted → Counted) → ℕ → Counted → Counted
+after one zero c = c
+after one (suc k) c = after one k (one (17 - k) c)
+
+module _ (f : Formats) (r : Run) (count : r.count ≡ 18) (y : ℕ) (ys : List ℕ) (last : words_from r 18 (length r.tail) ≡ y ∷ ys)
+    (one : ℕ → Counted → Counted) (steps : (i : ℕ) → i < 18 → (c : Counted) → step f (word_at r i) c ≡ Some (one i c))
+    (on : (i : ℕ) (c : Counted) → (one i c).state.pc ≡ sum_64 c.state.pc 4) where
+  abbrev code : ℕ → List ℕ
+  code zero = y ∷ ys
+  code (suc k) = word_at r (17 - k) ∷ code k
+
+  ran : (k : ℕ) → k ≤ 18 → (c : Counted) (end : Option Counted) → run f (y ∷ ys) (after one k c) ≡ end → run f (code k) c ≡ end
+  ran zero less c end e = e
+  ran (suc zero) less c end e =
+      run_more (λ c. c.state.pc) (step f) (word_at r 17) y ys c (one 17 c) end (steps 17 (omega arith) c) (on 17 c) e
+  ran (suc (suc k)) less c end e =
+      run_more (λ c. c.state.pc) (step f) (word_at r (17 - suc k)) (word_at r (17 - k)) (code k) c (one (17 - suc k) c) end
+      (steps (17 - suc k) (omega arith) c) (on (17 - suc k) c) (ran (suc k) (omega (arith, less)) (one (17 - suc k) c) end e)
+
+  found : (i : ℕ) → i < 18 → run_word r i ≡ Some (word_at r i)
+  found i less =
+      cond-true (nat_lt i r.count) (Some (word_at r i)) _
+      (ap (nat_lt i) count ∙ (let e : nat_lt i 18 ≡ true = grind (arith, less) in e))
+
+  words_are : (k : ℕ) → k ≤ 18 → words_from r (18 - k) (k + length r.tail) ≡ code k
+  words_are zero less = ap (words_from r 18) (let e : 0 + length r.tail ≡ length r.tail = omega arith in e) ∙ last
+  words_are (suc k) less =
+      let index : 18 - suc k ≡ 17 - k = omega arith in
+      let behind : 17 - k + 1 ≡ 18 - k = omega (arith, less) in
+      ap (λ j. words_from r (18 - suc k) j) (let e : suc k + length r.tail ≡ suc (k + length r.tail) = omega arith in e)
+      ∙ ap (λ i. words_from r i (suc (k + length r.tail))) index
+      ∙ ap (λ w. word_or_0 w ∷ words_from r (17 - k + 1) (k + length r.tail)) (found (17 - k) (omega arith))
+      ∙ ap (λ i. word_at r (17 - k) ∷ words_from r i (k + length r.tail)) behind
+      ∙ ap (λ l. word_at r (17 - k) ∷ l) (words_are k (omega (arith, less)))
+
+  pub runs : (n : ℕ) → 14 ≤ n → n < 32 → (c : Counted) (end : Option Counted) → run f (y ∷ ys) (after one (32 - n) c) ≡ end
+      → run f (code_for r n) c ≡ end
+  runs n most less c end e =
+      let index : n - 14 ≡ 18 - (32 - n) = omega (arith, most, less) in
+      ap (λ i. run f (words_from r i (32 - n + length r.tail)) c) index
+      ∙ ap (λ l. run f l c) (words_are (32 - n) (omega (arith, most)))
+      ∙ ran (32 - n) (omega (arith, most)) c end e
+
+-- ---- places
+
+slot_is : (base n : ℕ) → n < 32 → slot base n ≡ (base + (2 ^ 64 - 8 * (32 - n))) % 2 ^ 64
+slot_is base n less =
+    let few : suc (8 * (32 - n) - 1) ≡ 8 * (32 - n) = omega (arith, less) in
+    wrapped_is (pos base +ℤ negsuc (8 * (32 - n) - 1)) 1 (base + (2 ^ 64 - suc (8 * (32 - n) - 1))) (omega (arith, ints))
+    ∙ ap (λ m. (base + (2 ^ 64 - m)) % 2 ^ 64) few
+
+byte_of : (n : ℕ) → (ℕ → ℕ) → ℕ → ℕ
+byte_of n values d = field (values (n + d / 8)) (8 * (d % 8)) (8 * (d % 8) + 8)
+
+not_below : (d m : ℕ) → m ≤ d → nat_lt d m ≡ false
+not_below d m most = le-ltb d m most
+
+-- a register more below those from the next one on
+module _ (n : ℕ) (most : 14 ≤ n) (less : n < 32) (values : ℕ → ℕ) (base : ℕ) (memory : Memory) (a : ℕ) where
+  d : ℕ
+  d = difference_64 a (slot base n)
+
+  d2 : ℕ
+  d2 = difference_64 a (slot base (suc n))
+
+  abbrev pub more : ℕ → ℕ
+  more = stored 8 (values n) (slot base n) memory
+
+  next : n < 31 → d2 ≡ (d + (2 ^ 64 - 8)) % 2 ^ 64
+  unfolding d d2
+  next under =
+      let p = slot_is base n less in
+      let q = slot_is base (suc n) (omega (arith, under)) in
+      omega (arith, p, q, under)
+
+  in_first : d < 8 → more a ≡ byte_of n values d
+  unfolding d byte_of
+  in_first low =
+      let q : d / 8 ≡ 0 = omega (arith, low) in
+      let r : d % 8 ≡ d = omega (arith, low) in
+      cond-true (nat_lt d 8) (field (values n) (8 * d) (8 * d + 8)) (memory a) (lt-ltb d 8 low)
+      ∙ ap (λ k. field (values n) (8 * k) (8 * k + 8)) (sym r)
+      ∙ ap (λ k. field (values k) (8 * (d % 8)) (8 * (d % 8) + 8)) (let e : n ≡ n + d / 8 = omega (arith, q) in e)
+
+  not_first : 8 ≤ d → more a ≡ memory a
+  unfolding d
+  not_first high = cond-false (nat_lt d 8) (field (values n) (8 * d) (8 * d + 8)) (memory a) (not_below d 8 high)
+
+  in_others : d2 < 8 * (32 - suc n) → saved (suc n) values base more a ≡ byte_of (suc n) values d2
+  unfolding d2 byte_of
+  in_others low = cond-true (nat_lt d2 (8 * (32 - suc n))) (byte_of (suc n) values d2) (more a) (lt-ltb d2 (8 * (32 - suc n)) low)
+
+  not_others : 8 * (32 - suc n) ≤ d2 → saved (suc n) values base more a ≡ more a
+  unfolding d2 byte_of
+  not_others high = cond-false (nat_lt d2 (8 * (32 - suc n))) (byte_of (suc n) values d2) (more a) (not_below d2 (8 * (32 - suc n)) high)
+
+  in_all : d < 8 * (32 - n) → saved n values base memory a ≡ byte_of n values d
+  unfolding d byte_of
+  in_all low = cond-true (nat_lt d (8 * (32 - n))) (byte_of n values d) (memory a) (lt-ltb d (8 * (32 - n)) low)
+
+  not_all : 8 * (32 - n) ≤ d → saved n values base memory a ≡ memory a
+  unfolding d byte_of
+  not_all high = cond-false (nat_lt d (8 * (32 - n))) (byte_of n values d) (memory a) (not_below d (8 * (32 - n)) high)
+
+  small : d < 2 ^ 64
+  unfolding d
+  small = omega arith
+
+  same_byte : 8 ≤ d → d2 ≡ d - 8 → byte_of (suc n) values d2 ≡ byte_of n values d
+  unfolding byte_of
+  same_byte high is =
+      let which : suc n + d2 / 8 ≡ n + d / 8 = omega (arith, high, is) in
+      let bits : d2 % 8 ≡ d % 8 = omega (arith, high, is) in
+      ap (λ k. field (values k) (8 * (d2 % 8)) (8 * (d2 % 8) + 8)) which
+      ∙ ap (λ k. field (values (n + d / 8)) (8 * k) (8 * k + 8)) bits
+
+  -- of the last register there are no others
+  where_else : 8 ≤ d → 8 * (32 - suc n) ≤ d2 → (d < 8 * (32 - n) → n < 31 → ⊥)
+      → (n < 31 → d2 ≡ d - 8) → saved (suc n) values base more a ≡ saved n values base memory a
+  where_else high out never is = not_others out ∙ not_first high ∙ sym (not_all (none (cases_lt d (8 * (32 - n)))))
+    where
+      none : (d < 8 * (32 - n)) ⊎ (8 * (32 - n) ≤ d) → 8 * (32 - n) ≤ d
+      none (inr far) = far
+      none (inl near) = elim (cases_lt n 31) [
+        | inl under ↦ absurd (never near under)
+        | inr last ↦ omega (arith, near, high, last)
+      ]
+
+  pub one_saved : saved (suc n) values base more a ≡ saved n values base memory a
+  one_saved =
+      elim (cases_lt d 8) [
+        | inl low ↦
+            let out : 8 * (32 - suc n) ≤ d2 = elim (cases_lt n 31) [
+              | inl under ↦ (let e = next under in let s = small in omega (arith, e, low, s, most))
+              | inr last ↦ omega (arith, last)
+            ] in
+            not_others out ∙ in_first low ∙ sym (in_all (omega (arith, low, less)))
+        | inr high ↦
+            let moved_on : n < 31 → d2 ≡ d - 8 = λ under. (let e = next under in let s = small in omega (arith, e, high, s)) in
+            elim (cases_lt d2 (8 * (32 - suc n))) [
+              | inl others ↦
+                  let under : n < 31 = omega (arith, others) in
+                  let is = moved_on under in
+                  in_others others ∙ same_byte high is ∙ sym (in_all (omega (arith, others, is, high, under)))
+              | inr out ↦
+                  where_else high out (λ near under. (let is = moved_on under in omega (arith, near, out, is, high))) moved_on
+            ]
+      ]
+
+-- ---- what one register leaves
+
+-- a store, and loads
+abbrev place : ℕ → State → ℕ → ℕ
+place b s i = moved (s.registers b) (negsuc (143 - 8 * i))
+
+abbrev stores : ℕ → (State → ℕ → ℕ) → ℕ → Counted → Counted
+stores b values i c = with_state (go_on (store 8 (values c.state (14 + i)) (place b c.state i) c.state)) c
+
+abbrev loads : ℕ → ℕ → Counted → Counted
+loads b i c = with_state (go_on (write (14 + i) (loaded 8 c.state.memory (place b c.state i)) c.state)) c
+
+abbrev loads_float : ℕ → ℕ → Counted → Counted
+loads_float b i c = with_state (go_on (write_float (14 + i) (loaded 8 c.state.memory (place b c.state i)) c.state)) c
+
+-- the index of a register, and its place
+of_index : (k : ℕ) → k < 18 → 14 + (17 - k) ≡ 31 - k
+of_index k less = omega (arith, less)
+
+of_place : (k : ℕ) → k < 18 → 143 - 8 * (17 - k) ≡ 8 * (32 - (31 - k)) - 1
+of_place k less = omega (arith, less)
+
+-- ---- registers that are stored
+
+module _ (b : ℕ) (values : State → ℕ → ℕ) (keeps : (i : ℕ) (c : Counted) → values (stores b values i c).state ≡ values c.state) where
+  abbrev pub all : ℕ → Counted → Counted
+  all = after (stores b values)
+
+  pub stored_registers : (k : ℕ) (c : Counted) → (all k c).state.registers ≡ c.state.registers
+  stored_registers zero c = refl
+  stored_registers (suc k) c = stored_registers k (stores b values (17 - k) c)
+
+  pub stored_floats : (k : ℕ) (c : Counted) → (all k c).state.floats ≡ c.state.floats
+  stored_floats zero c = refl
+  stored_floats (suc k) c = stored_floats k (stores b values (17 - k) c)
+
+  pub stored_link : (k : ℕ) (c : Counted) → (all k c).state.link ≡ c.state.link
+  stored_link zero c = refl
+  stored_link (suc k) c = stored_link k (stores b values (17 - k) c)
+
+  pub stored_count : (k : ℕ) (c : Counted) → (all k c).count ≡ c.count
+  stored_count zero c = refl
+  stored_count (suc k) c = stored_count k (stores b values (17 - k) c)
+
+  saved_after : (k : ℕ) → k ≤ 18 → (c : Counted) (a : ℕ)
+      → (all k c).state.memory a ≡ saved (32 - k) (values c.state) (c.state.registers b) c.state.memory a
+  saved_after zero less c a =
+      sym (cond-false (nat_lt (difference_64 a (slot (c.state.registers b) 32)) 0) _ (c.state.memory a)
+      (not_below (difference_64 a (slot (c.state.registers b) 32)) 0 (omega arith)))
+  saved_after (suc k) less c a =
+      let n = 31 - k in
+      let within : k < 18 = omega (arith, less) in
+      let v = values c.state in
+      let base = c.state.registers b in
+      let m = c.state.memory in
+      let e1 : 32 - suc k ≡ n = omega (arith, less) in
+      let e2 : 32 - k ≡ suc n = omega (arith, less) in
+      saved_after k (omega (arith, less)) (stores b values (17 - k) c) a
+      ∙ ap (λ w. saved (32 - k) w base (stored 8 (v (14 + (17 - k))) (moved base (negsuc (143 - 8 * (17 - k)))) m) a) (keeps (17 - k) c)
+      ∙ ap (λ j. saved j v base (stored 8 (v (14 + (17 - k))) (moved base (negsuc (143 - 8 * (17 - k)))) m) a) e2
+      ∙ ap (λ j. saved (suc n) v base (stored 8 (v j) (moved base (negsuc (143 - 8 * (17 - k)))) m) a) (of_index k within)
+      ∙ ap (λ j. saved (suc n) v base (stored 8 (v n) (moved base (negsuc j)) m) a) (of_place k within)
+      ∙ one_saved n (omega (arith, less)) (omega arith) v base m a
+      ∙ ap (λ j. saved j v base m a) (sym e1)
+
+  pub saved_all : (n : ℕ) → 14 ≤ n → n < 32 → (c : Counted) (a : ℕ)
+      → (all (32 - n) c).state.memory a ≡ saved n (values c.state) (c.state.registers b) c.state.memory a
+  saved_all n most less c a =
+      saved_after (32 - n) (omega (arith, most)) c a
+      ∙ ap (λ j. saved j (values c.state) (c.state.registers b) c.state.memory a) (let e : 32 - (32 - n) ≡ n = omega (arith, less) in e)
+
+  -- back to the caller
+  pub returns : (n : ℕ) (c : Counted) (d : Counted) → d.state.pc ≡ (all (32 - n) c).state.link - (all (32 - n) c).state.link % 4
+      → d.state.link ≡ (all (32 - n) c).state.link → d.count ≡ (all (32 - n) c).count → Returns c d
+  returns n c d pc link count =
+      record {
+        pc = pc ∙ ap (λ l. l - l % 4) (stored_link (32 - n) c);
+        link = link ∙ stored_link (32 - n) c;
+        count = count ∙ stored_count (32 - n) c;
+      }
+
+  -- and the return address stored
+  pub with_address : (n : ℕ) → 14 ≤ n → n < 32 → (c : Counted)
+      → Saves b values return_address n c
+      (with_state (returned (go_on (store 8 ((all (32 - n) c).state.registers 0) (moved ((all (32 - n) c).state.registers 1) (pos 16)) (all (32 - n) c).state))) (all (32 - n) c))
+  with_address n most less c =
+      let e = all (32 - n) c in
+      record {
+        returns = returns n c (with_state (returned (go_on (store 8 (e.state.registers 0) (moved (e.state.registers 1) (pos 16)) e.state))) e) refl refl refl;
+        registers = λ m. ap (λ g. g m) (stored_registers (32 - n) c);
+        floats = λ m. ap (λ g. g m) (stored_floats (32 - n) c);
+        memory = λ a.
+            ap (λ g. stored 8 (g 0) (moved (g 1) (pos 16)) e.state.memory a) (stored_registers (32 - n) c)
+            ∙ ap (λ v. if nat_lt (difference_64 a (moved (c.state.registers 1) (pos 16))) 8
+            then field (c.state.registers 0) (8 * difference_64 a (moved (c.state.registers 1) (pos 16))) (8 * difference_64 a (moved (c.state.registers 1) (pos 16)) + 8)
+            else v) (saved_all n most less c a);
+      }
+
+  pub with_no_address : (n : ℕ) → 14 ≤ n → n < 32 → (c : Counted)
+      → Saves b values nothing_more n c (with_state (returned (all (32 - n) c).state) (all (32 - n) c))
+  with_no_address n most less c =
+      record {
+        returns = returns n c (with_state (returned (all (32 - n) c).state) (all (32 - n) c)) refl refl refl;
+        registers = λ m. ap (λ g. g m) (stored_registers (32 - n) c);
+        floats = λ m. ap (λ g. g m) (stored_floats (32 - n) c);
+        memory = saved_all n most less c;
+      }
+
+-- the ends of runs
+saves_address : (f : Formats) (e : Counted)
+    → run f (save_link ∷ blr ∷ []) e
+    ≡ Some (with_state (returned (go_on (store 8 (e.state.registers 0) (moved (e.state.registers 1) (pos 16)) e.state))) e)
+unfolding place_sum
+saves_address f e =
+    run_more (λ c. c.state.pc) (step f) save_link blr [] e
+    (with_state (go_on (store 8 (e.state.registers 0) (moved (e.state.registers 1) (pos 16)) e.state)) e)
+    (Some (with_state (returned (go_on (store 8 (e.state.registers 0) (moved (e.state.registers 1) (pos 16)) e.state))) e)) refl refl refl
+
+std_1 : (f : Formats) (i : ℕ) → i < 18 → (c : Counted) → step f ((0xf9c1ff70 + (2 ^ 21 + 8) * i) % 2 ^ 32) c ≡ Some (stores 1 integers i c)
+unfolding place_sum
+std_1 f i less =
+    below_at (λ i. (c : Counted) → step f ((0xf9c1ff70 + (2 ^ 21 + 8) * i) % 2 ^ 32) c ≡ Some (stores 1 integers i c)) 18
+    ((((((((((((((((((tt, λ c. refl), λ c. refl), λ c. refl), λ c. refl), λ c. refl), λ c. refl), λ c. refl), λ c. refl), λ c. refl), λ c. refl), λ c. refl), λ c. refl), λ c. refl), λ c. refl), λ c. refl), λ c. refl), λ c. refl), λ c. refl) i less
+
+std_12 : (f : Formats) (i : ℕ) → i < 18 → (c : Counted) → step f ((0xf9ccff70 + (2 ^ 21 + 8) * i) % 2 ^ 32) c ≡ Some (stores 12 integers i c)
+unfolding place_sum
+std_12 f i less =
+    below_at (λ i. (c : Counted) → step f ((0xf9ccff70 + (2 ^ 21 + 8) * i) % 2 ^ 32) c ≡ Some (stores 12 integers i c)) 18
+    ((((((((((((((((((tt, λ c. refl), λ c. refl), λ c. refl), λ c. refl), λ c. refl), λ c. refl), λ c. refl), λ c. refl), λ c. refl), λ c. refl), λ c. refl), λ c. refl), λ c. refl), λ c. refl), λ c. refl), λ c. refl), λ c. refl), λ c. refl) i less
+
+stfd_1 : (f : Formats) (i : ℕ) → i < 18 → (c : Counted) → step f ((0xd9c1ff70 + (2 ^ 21 + 8) * i) % 2 ^ 32) c ≡ Some (stores 1 floats i c)
+unfolding place_sum
+stfd_1 f i less =
+    below_at (λ i. (c : Counted) → step f ((0xd9c1ff70 + (2 ^ 21 + 8) * i) % 2 ^ 32) c ≡ Some (stores 1 floats i c)) 18
+    ((((((((((((((((((tt, λ c. refl), λ c. refl), λ c. refl), λ c. refl), λ c. refl), λ c. refl), λ c. refl), λ c. refl), λ c. refl), λ c. refl), λ c. refl), λ c. refl), λ c. refl), λ c. refl), λ c. refl), λ c. refl), λ c. refl), λ c. refl) i less
+
+ld_1 : (f : Formats) (i : ℕ) → i < 18 → (c : Counted) → step f ((0xe9c1ff70 + (2 ^ 21 + 8) * i) % 2 ^ 32) c ≡ Some (loads 1 i c)
+unfolding place_sum
+ld_1 f i less =
+    below_at (λ i. (c : Counted) → step f ((0xe9c1ff70 + (2 ^ 21 + 8) * i) % 2 ^ 32) c ≡ Some (loads 1 i c)) 18
+    ((((((((((((((((((tt, λ c. refl), λ c. refl), λ c. refl), λ c. refl), λ c. refl), λ c. refl), λ c. refl), λ c. refl), λ c. refl), λ c. refl), λ c. refl), λ c. refl), λ c. refl), λ c. refl), λ c. refl), λ c. refl), λ c. refl), λ c. refl) i less
+
+ld_12 : (f : Formats) (i : ℕ) → i < 18 → (c : Counted) → step f ((0xe9ccff70 + (2 ^ 21 + 8) * i) % 2 ^ 32) c ≡ Some (loads 12 i c)
+unfolding place_sum
+ld_12 f i less =
+    below_at (λ i. (c : Counted) → step f ((0xe9ccff70 + (2 ^ 21 + 8) * i) % 2 ^ 32) c ≡ Some (loads 12 i c)) 18
+    ((((((((((((((((((tt, λ c. refl), λ c. refl), λ c. refl), λ c. refl), λ c. refl), λ c. refl), λ c. refl), λ c. refl), λ c. refl), λ c. refl), λ c. refl), λ c. refl), λ c. refl), λ c. refl), λ c. refl), λ c. refl), λ c. refl), λ c. refl) i less
+
+lfd_1 : (f : Formats) (i : ℕ) → i < 18 → (c : Counted) → step f ((0xc9c1ff70 + (2 ^ 21 + 8) * i) % 2 ^ 32) c ≡ Some (loads_float 1 i c)
+unfolding place_sum
+lfd_1 f i less =
+    below_at (λ i. (c : Counted) → step f ((0xc9c1ff70 + (2 ^ 21 + 8) * i) % 2 ^ 32) c ≡ Some (loads_float 1 i c)) 18
+    ((((((((((((((((((tt, λ c. refl), λ c. refl), λ c. refl), λ c. refl), λ c. refl), λ c. refl), λ c. refl), λ c. refl), λ c. refl), λ c. refl), λ c. refl), λ c. refl), λ c. refl), λ c. refl), λ c. refl), λ c. refl), λ c. refl), λ c. refl) i less
+
+savegpr0 : (n : ℕ) → 14 ≤ n → n < 32 → (f : Formats) (c : Counted)
+    → IsSomeAnd (run f (code_for (of_registers (codes "_savegpr0_") 0xf9c1ff70 (save_link ∷ blr ∷ [])) n) c) (Saves 1 integers return_address n c)
+savegpr0 n most less f c =
+    subst (λ end. IsSomeAnd end (Saves 1 integers return_address n c))
+    (sym (runs f (of_registers (codes "_savegpr0_") 0xf9c1ff70 (save_link ∷ blr ∷ [])) refl save_link (blr ∷ []) refl (stores 1 integers) (std_1 f) (λ i c. refl) n most less c _ (saves_address f (after (stores 1 integers) (32 - n) c))))
+    (with_address 1 integers (λ i c. refl) n most less c)
+
+savegpr1 : (n : ℕ) → 14 ≤ n → n < 32 → (f : Formats) (c : Counted)
+    → IsSomeAnd (run f (code_for (of_registers (codes "_savegpr1_") 0xf9ccff70 (blr ∷ [])) n) c) (Saves 12 integers nothing_more n c)
+savegpr1 n most less f c =
+    subst (λ end. IsSomeAnd end (Saves 12 integers nothing_more n c))
+    (sym (runs f (of_registers (codes "_savegpr1_") 0xf9ccff70 (blr ∷ [])) refl blr [] refl (stores 12 integers) (std_12 f) (λ i c. refl) n most less c _ refl))
+    (with_no_address 12 integers (λ i c. refl) n most less c)
+
+savefpr : (n : ℕ) → 14 ≤ n → n < 32 → (f : Formats) (c : Counted)
+    → IsSomeAnd (run f (code_for (of_registers (codes "_savefpr_") 0xd9c1ff70 (save_link ∷ blr ∷ [])) n) c) (Saves 1 floats return_address n c)
+savefpr n most less f c =
+    subst (λ end. IsSomeAnd end (Saves 1 floats return_address n c))
+    (sym (runs f (of_registers (codes "_savefpr_") 0xd9c1ff70 (save_link ∷ blr ∷ [])) refl save_link (blr ∷ []) refl (stores 1 floats) (stfd_1 f) (λ i c. refl) n most less c _ (saves_address f (after (stores 1 floats) (32 - n) c))))
+    (with_address 1 floats (λ i c. refl) n most less c)
+
+pub saves_so : laws.SaveRegisters
+saves_so = (savegpr0, savegpr1, savefpr)
+
+-- ---- registers that are loaded
+
+never_both : (b : Bool) → b && false ≡ false
+never_both true = refl
+never_both false = refl
+
+-- there is none from 32 on
+none_from : (m : ℕ) → is_from 32 m ≡ false
+none_from m =
+    elim (cases_lt m 32) [
+      | inl under ↦ ap (λ b. b && nat_lt m 32) (lt-leb 32 m under)
+      | inr over ↦ ap (λ b. nat_le 32 m && b) (le-ltb m 32 over) ∙ never_both (nat_le 32 m)
+    ]
+
+-- another register than n
+same_from : (n m : ℕ) → m ≢ n → nat_le (suc n) m ≡ nat_le n m
+same_from n m differs =
+    elim (cases_lt m n) [
+      | inl under ↦ lt-leb (suc n) m (omega (arith, under)) ∙ sym (lt-leb n m under)
+      | inr over ↦ le-leb (suc n) m (omega (arith, over, differs)) ∙ sym (le-leb n m over)
+    ]
+
+one_restored : (n : ℕ) → n < 32 → (base : ℕ) (memory : Memory) (registers : ℕ → ℕ) (m : ℕ)
+    → restored (suc n) base memory (with_number n (loaded 8 memory (slot base n)) registers) m ≡ restored n base memory registers m
+one_restored n less base memory registers m =
+    by_test (eqb m n) refl
+  where
+    number : ℕ
+    number = loaded 8 memory (slot base n)
+
+    by_test : (b : Bool) → eqb m n ≡ b
+        → restored (suc n) base memory (with_number n (loaded 8 memory (slot base n)) registers) m ≡ restored n base memory registers m
+    by_test true e =
+        let is : m ≡ n = eqb-true m n e in
+        let out : is_from (suc n) m ≡ false = ap (λ b. b && nat_lt m 32) (lt-leb (suc n) m (omega (arith, is))) in
+        let in_place : is_from n m ≡ true =
+        ap (λ b. b && nat_lt m 32) (le-leb n m (omega (arith, is))) ∙ lt-ltb m 32 (omega (arith, is, less)) in
+        cond-false (is_from (suc n) m) (loaded 8 memory (slot base m)) (with_number n (loaded 8 memory (slot base n)) registers m) out
+        ∙ cond-true (eqb m n) (loaded 8 memory (slot base n)) (registers m) e
+        ∙ ap (λ k. loaded 8 memory (slot base k)) (sym is)
+        ∙ sym (cond-true (is_from n m) (loaded 8 memory (slot base m)) (registers m) in_place)
+    by_test false e =
+        let differs : m ≢ n = λ same. false≢true (sym e ∙ eq-eqb m n same) in
+        ap (λ v. if is_from (suc n) m then loaded 8 memory (slot base m) else v) (cond-false (eqb m n) (loaded 8 memory (slot base n)) (registers m) e)
+        ∙ ap (λ b. if b && nat_lt m 32 then loaded 8 memory (slot base m) else registers m) (same_from n m differs)
+
+-- by the registers, or by the floats
+module _ (b : ℕ) (low : b < 14) where
+  pub loaded_low : (k : ℕ) → k ≤ 18 → (c : Counted) (m : ℕ) → m < 14 → (after (loads b) k c).state.registers m ≡ c.state.registers m
+  loaded_low zero less c m under = refl
+  loaded_low (suc k) less c m under =
+      loaded_low k (omega (arith, less)) (loads b (17 - k) c) m under
+      ∙ cond-false (eqb m (14 + (17 - k))) _ (c.state.registers m) (ne_eqb m (14 + (17 - k)) (λ e. omega (arith, e, under)))
+
+  pub loaded_memory : (k : ℕ) (c : Counted) → (after (loads b) k c).state.memory ≡ c.state.memory
+  loaded_memory zero c = refl
+  loaded_memory (suc k) c = loaded_memory k (loads b (17 - k) c)
+
+  pub loaded_floats : (k : ℕ) (c : Counted) → (after (loads b) k c).state.floats ≡ c.state.floats
+  loaded_floats zero c = refl
+  loaded_floats (suc k) c = loaded_floats k (loads b (17 - k) c)
+
+  pub loaded_link : (k : ℕ) (c : Counted) → (after (loads b) k c).state.link ≡ c.state.link
+  loaded_link zero c = refl
+  loaded_link (suc k) c = loaded_link k (loads b (17 - k) c)
+
+  pub loaded_count : (k : ℕ) (c : Counted) → (after (loads b) k c).count ≡ c.count
+  loaded_count zero c = refl
+  loaded_count (suc k) c = loaded_count k (loads b (17 - k) c)
+
+  restored_after : (k : ℕ) → k ≤ 18 → (c : Counted) (m : ℕ)
+      → (after (loads b) k c).state.registers m ≡ restored (32 - k) (c.state.registers b) c.state.memory c.state.registers m
+  restored_after zero less c m = sym (cond-false (is_from 32 m) (loaded 8 c.state.memory (slot (c.state.registers b) m)) (c.state.registers m) (none_from m))
+  restored_after (suc k) less c m =
+      let n = 31 - k in
+      let within : k < 18 = omega (arith, less) in
+      let base = c.state.registers b in
+      let g = c.state.registers in
+      let h = c.state.memory in
+      let e1 : 32 - suc k ≡ n = omega (arith, less) in
+      let e2 : 32 - k ≡ suc n = omega (arith, less) in
+      let at = with_number (14 + (17 - k)) (loaded 8 h (moved base (negsuc (143 - 8 * (17 - k))))) g in
+      restored_after k (omega (arith, less)) (loads b (17 - k) c) m
+      ∙ ap (λ v. restored (32 - k) v h at m) (cond-false (eqb b (14 + (17 - k))) _ (g b) (ne_eqb b (14 + (17 - k)) (λ e. omega (arith, e, low))))
+      ∙ ap (λ j. restored j base h at m) e2
+      ∙ ap (λ j. restored (suc n) base h (with_number j (loaded 8 h (moved base (negsuc (143 - 8 * (17 - k))))) g) m) (of_index k within)
+      ∙ ap (λ j. restored (suc n) base h (with_number n (loaded 8 h (moved base (negsuc j))) g) m) (of_place k within)
+      ∙ one_restored n (omega arith) base h g m
+      ∙ ap (λ j. restored j base h g m) (sym e1)
+
+  pub restored_all : (n : ℕ) → 14 ≤ n → n < 32 → (c : Counted) (m : ℕ)
+      → (after (loads b) (32 - n) c).state.registers m ≡ restored n (c.state.registers b) c.state.memory c.state.registers m
+  restored_all n most less c m =
+      restored_after (32 - n) (omega (arith, most)) c m
+      ∙ ap (λ j. restored j (c.state.registers b) c.state.memory c.state.registers m) (let e : 32 - (32 - n) ≡ n = omega (arith, less) in e)
+
+pub float_registers : (k : ℕ) (c : Counted) → (after (loads_float 1) k c).state.registers ≡ c.state.registers
+float_registers zero c = refl
+float_registers (suc k) c = float_registers k (loads_float 1 (17 - k) c)
+
+pub float_memory : (k : ℕ) (c : Counted) → (after (loads_float 1) k c).state.memory ≡ c.state.memory
+float_memory zero c = refl
+float_memory (suc k) c = float_memory k (loads_float 1 (17 - k) c)
+
+pub float_count : (k : ℕ) (c : Counted) → (after (loads_float 1) k c).count ≡ c.count
+float_count zero c = refl
+float_count (suc k) c = float_count k (loads_float 1 (17 - k) c)
+
+floats_after : (k : ℕ) → k ≤ 18 → (c : Counted) (m : ℕ)
+    → (after (loads_float 1) k c).state.floats m ≡ restored (32 - k) (c.state.registers 1) c.state.memory c.state.floats m
+floats_after zero less c m = sym (cond-false (is_from 32 m) (loaded 8 c.state.memory (slot (c.state.registers 1) m)) (c.state.floats m) (none_from m))
+floats_after (suc k) less c m =
+    let n = 31 - k in
+    let within : k < 18 = omega (arith, less) in
+    let base = c.state.registers 1 in
+    let g = c.state.floats in
+    let h = c.state.memory in
+    let e1 : 32 - suc k ≡ n = omega (arith, less) in
+    let e2 : 32 - k ≡ suc n = omega (arith, less) in
+    let at = with_number (14 + (17 - k)) (loaded 8 h (moved base (negsuc (143 - 8 * (17 - k))))) g in
+    floats_after k (omega (arith, less)) (loads_float 1 (17 - k) c) m
+    ∙ ap (λ j. restored j base h at m) e2
+    ∙ ap (λ j. restored (suc n) base h (with_number j (loaded 8 h (moved base (negsuc (143 - 8 * (17 - k))))) g) m) (of_index k within)
+    ∙ ap (λ j. restored (suc n) base h (with_number n (loaded 8 h (moved base (negsuc j))) g) m) (of_place k within)
+    ∙ one_restored n (omega arith) base h g m
+    ∙ ap (λ j. restored j base h g m) (sym e1)
+
+-- ---- the ends of runs that load
+
+abbrev address_loaded : Counted → Counted
+address_loaded e = with_state (go_on (write 0 (loaded 8 e.state.memory (moved (e.state.registers 1) (pos 16))) e.state)) e
+
+abbrev address_moved : Counted → Counted
+address_moved e = with_state (moved_to_link 0 (address_loaded e).state) (address_loaded e)
+
+restores_address : (f : Formats) (e : Counted)
+    → run f (load_link ∷ mtlr_0 ∷ blr ∷ []) e ≡ Some (with_state (returned (address_moved e).state) (address_moved e))
+unfolding place_sum
+restores_address f e =
+    run_more (λ c. c.state.pc) (step f) load_link mtlr_0 (blr ∷ []) e (address_loaded e)
+    (Some (with_state (returned (address_moved e).state) (address_moved e))) refl refl
+    (run_more (λ c. c.state.pc) (step f) mtlr_0 blr [] (address_loaded e) (address_moved e)
+    (Some (with_state (returned (address_moved e).state) (address_moved e))) refl refl refl)
+
+-- the return address, by what is as it was
+is_returned : (n : ℕ) (c e : Counted) → e.state.memory ≡ c.state.memory → e.state.registers 1 ≡ c.state.registers 1
+    → e.count ≡ c.count → Returned n c (with_state (returned (address_moved e).state) (address_moved e))
+is_returned n c e memory base count =
+    let same : loaded 8 e.state.memory (moved (e.state.registers 1) (pos 16)) ≡ loaded 8 c.state.memory (moved (c.state.registers 1) (pos 16)) =
+    ap (λ h. loaded 8 h (moved (e.state.registers 1) (pos 16))) memory
+    ∙ ap (λ v. loaded 8 c.state.memory (moved v (pos 16))) base in
+    record {
+      pc = ap (λ l. l - l % 4) same;
+      link = same;
+      r0 = same;
+      count = count;
+      memory = λ a. ap (λ h. h a) memory;
+    }
+
+restgpr0 : (n : ℕ) → 14 ≤ n → n < 32 → (f : Formats) (c : Counted)
+    → IsSomeAnd (run f (code_for (of_registers (codes "_restgpr0_") 0xe9c1ff70 (load_link ∷ mtlr_0 ∷ blr ∷ [])) n) c) (RestoresIntegers n c)
+restgpr0 n most less f c =
+    subst (λ end. IsSomeAnd end (RestoresIntegers n c))
+    (sym (runs f (of_registers (codes "_restgpr0_") 0xe9c1ff70 (load_link ∷ mtlr_0 ∷ blr ∷ [])) refl load_link (mtlr_0 ∷ blr ∷ []) refl (loads 1) (ld_1 f) (λ i c. refl) n most less c _ (restores_address f (after (loads 1) (32 - n) c))))
+    (record {
+      returned =
+          is_returned n c (after (loads 1) (32 - n) c) (loaded_memory 1 (omega arith) (32 - n) c)
+          (loaded_low 1 (omega arith) (32 - n) (omega (arith, most)) c 1 (omega arith)) (loaded_count 1 (omega arith) (32 - n) c);
+      registers = λ m e.
+          cond-false (eqb m 0) _ ((after (loads 1) (32 - n) c).state.registers m) e ∙ restored_all 1 (omega arith) n most less c m;
+      floats = λ m. ap (λ g. g m) (loaded_floats 1 (omega arith) (32 - n) c);
+    })
+
+restgpr1 : (n : ℕ) → 14 ≤ n → n < 32 → (f : Formats) (c : Counted)
+    → IsSomeAnd (run f (code_for (of_registers (codes "_restgpr1_") 0xe9ccff70 (blr ∷ [])) n) c) (Restores n c)
+restgpr1 n most less f c =
+    subst (λ end. IsSomeAnd end (Restores n c))
+    (sym (runs f (of_registers (codes "_restgpr1_") 0xe9ccff70 (blr ∷ [])) refl blr [] refl (loads 12) (ld_12 f) (λ i c. refl) n most less c _ refl))
+    (record {
+      returns =
+          record {
+            pc = ap (λ l. l - l % 4) (loaded_link 12 (omega arith) (32 - n) c);
+            link = loaded_link 12 (omega arith) (32 - n) c;
+            count = loaded_count 12 (omega arith) (32 - n) c;
+          };
+      registers = restored_all 12 (omega arith) n most less c;
+      floats = λ m. ap (λ g. g m) (loaded_floats 12 (omega arith) (32 - n) c);
+      memory = λ a. ap (λ h. h a) (loaded_memory 12 (omega arith) (32 - n) c);
+    })
+
+restfpr : (n : ℕ) → 14 ≤ n → n < 32 → (f : Formats) (c : Counted)
+    → IsSomeAnd (run f (code_for (of_registers (codes "_restfpr_") 0xc9c1ff70 (load_link ∷ mtlr_0 ∷ blr ∷ [])) n) c) (RestoresFloats n c)
+restfpr n most less f c =
+    subst (λ end. IsSomeAnd end (RestoresFloats n c))
+    (sym (runs f (of_registers (codes "_restfpr_") 0xc9c1ff70 (load_link ∷ mtlr_0 ∷ blr ∷ [])) refl load_link (mtlr_0 ∷ blr ∷ []) refl (loads_float 1) (lfd_1 f) (λ i c. refl) n most less c _ (restores_address f (after (loads_float 1) (32 - n) c))))
+    (record {
+      returned =
+          is_returned n c (after (loads_float 1) (32 - n) c) (float_memory (32 - n) c)
+          (ap (λ g. g 1) (float_registers (32 - n) c)) (float_count (32 - n) c);
+      registers = λ m e.
+          cond-false (eqb m 0) _ ((after (loads_float 1) (32 - n) c).state.registers m) e ∙ ap (λ g. g m) (float_registers (32 - n) c);
+      floats = λ m.
+          floats_after (32 - n) (omega (arith, most)) c m
+          ∙ ap (λ j. restored j (c.state.registers 1) c.state.memory c.state.floats m) (let e : 32 - (32 - n) ≡ n = omega (arith, less) in e);
+    })
+
+pub restores_so : laws.RestoreRegisters
+restores_so = (restgpr0, restgpr1, restfpr)
