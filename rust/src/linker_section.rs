@@ -2,9 +2,11 @@
 //! The values of a section's relocations: relocations as a file has them, what each requires of a
 //! linker, and the value of each from what is known of symbols and of the output.
 
+mod ascending;
 mod codes;
 pub mod facts;
 mod fields;
+mod known;
 pub mod needed;
 mod order;
 mod quick;

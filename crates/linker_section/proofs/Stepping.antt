@@ -26,7 +26,7 @@ use Rattle.linker_section.specs.Inner.Claims.{is_clear_of, next_field, AreClaime
 use Rattle.linker_section.specs.Inner.Steps.{Ascends, IsInOrder, IsLimit, IsStopped, clear_in, field_of_row}
 use Rattle.linker_section.specs.Relocations.{relocation_in}
 use Rattle.linker_section.specs.Sections.{IsWritten, BeginsPair, IsPairWritten, IsFirstRejected}
-use Rattle.linker_section.specs.Values.{has_value, offset_at, IsAscending, IsValue}
+use Rattle.linker_section.specs.Values.{has_value, offset_at, IsValue}
 use Rattle.linker_section.specs.declared.facts.Addresses.{Addresses}
 use Rattle.linker_section.specs.declared.facts.Symbol.{Symbol}
 use Rattle.std.specs.Prelude.{Ok, IfNone}
@@ -237,16 +237,15 @@ drop_behind o w offset now after local window =
 
 pub ascends_one : (architecture : Architecture) (bytes before now after : List ℕ) (k : ℕ)
     (last : Field) (row : RelocationKindInfo) (v : ℤ) → Ascends architecture bytes before now k last
-    → IsAscending bytes → k < length bytes / 24 → length now ≡ length before
+    → last.offset ≤ offset_at bytes k → length now ≡ length before
     → IsRow architecture (relocation_in bytes k).code (Some row) → has_value row.kind ≡ true
     → clear_in None k (field_of_row row (offset_at bytes k) now) last ≡ true
     → IsWritten row v (offset_at bytes k) now after
     → Ascends architecture bytes before after (k + 1) (next_field (field_of_row row (offset_at bytes k) now) last)
-ascends_one architecture bytes before now after k last row v order ascending there same is_row has clear written =
+ascends_one architecture bytes before now after k last row v order below same is_row has clear written =
     let o = offset_at bytes k in
     let field = field_of_row row o now in
     let next = next_field field last in
-    let below = order.ascending k (omega arith) there in
     let is = clear_field architecture bytes before now k last row order same is_row has below clear in
     let alone = written_alone row v o now after written in
     let local = one_local row v o now after written in
@@ -260,10 +259,6 @@ ascends_one architecture bytes before now after k last row v order ascending the
           let at : i ≡ k = omega (arith, here) in
           let one : row ≡ other = one_info architecture _ row other is_row (subst (λ x. IsRow architecture (relocation_in bytes x).code (Some other)) at is_other) in
           subst (λ x. begins_pair x.size x.kind ≡ false) one (or_parts (begins_pair row.size row.kind) (ends_pair row.size row.kind) alone).0;
-      ascending = λ i from under. elim behind.is_one [
-        | inl is_last ↦ let a = order.ascending i (omega (arith, from)) under in let e = ap (λ f. f.offset) is_last in omega (arith, a, e)
-        | inr is_field ↦ let a = ascending k i (omega (arith, from)) under in let e = ap (λ f. f.offset) (is_field.0) in omega (arith, a, e)
-      ];
       inside = λ some. elim behind.is_one [
         | inl is_last ↦ let a = order.inside (let l = ap (λ f. f.len) is_last in omega (arith, some, l)) in
             let e = ap (λ f. f.offset) is_last in let l = ap (λ f. f.len) is_last in omega (arith, a, e, l)
@@ -304,7 +299,6 @@ ascends_mark architecture addresses bytes before now symbols k last order value 
           let at : i ≡ k = omega (arith, here) in
           unvalued_begins_none row.size row.kind
           (no_value architecture addresses bytes symbols (relocation_in bytes k) row value (subst (λ x. IsRow architecture (relocation_in bytes x).code (Some row)) at is_row));
-      ascending = λ i from under. order.ascending i (omega (arith, from)) under;
       inside = order.inside;
       behind = order.behind;
     }
@@ -321,7 +315,6 @@ first_order None architecture bytes before =
         others = λ i row seen. absurd (omega (arith, seen));
       };
       no_pair = λ i row here. absurd (omega (arith, here));
-      ascending = λ i from under. omega arith;
       inside = λ some. absurd (omega (arith, some));
       behind = λ offset from. refl;
     }
@@ -356,27 +349,21 @@ apart_now None architecture bytes before now k last is_limit order = order.apart
 apart_now (Some limit) architecture bytes before now k last is_limit order =
     fewer_apart architecture bytes before k limit order (is_limit.0)
 
-pub after_last : (limit : Option ℕ) (architecture : Architecture) (bytes before now : List ℕ)
-    (k : ℕ) (last : Field) → IsInOrder limit architecture bytes before now k last
-    → k < length bytes / 24 → IfNone limit (last.offset ≤ offset_at bytes k)
-after_last None architecture bytes before now k last order there = order.ascending k (omega arith) there
-after_last (Some limit) architecture bytes before now k last order there = tt
-
 not_limit : (k limit : ℕ) → not (eqb k limit) ≡ true → k ≡ limit → ⊥
 not_limit k limit clear = eqb-false k limit (not-true (eqb k limit) clear)
 
 pub apart_next : (limit : Option ℕ) (architecture : Architecture) (bytes before now : List ℕ)
     (k : ℕ) (last : Field) (row : RelocationKindInfo) → IsLimit architecture bytes before limit
     → IsInOrder limit architecture bytes before now k last → k < length bytes / 24
+    → IfNone limit (last.offset ≤ offset_at bytes k)
     → length now ≡ length before → IsRow architecture (relocation_in bytes k).code (Some row)
     → has_value row.kind ≡ true
     → clear_in limit k (field_of_row row (offset_at bytes k) now) last ≡ true
     → AreApart architecture bytes before (k + 1)
-apart_next None architecture bytes before now k last row is_limit order there same is_row has clear =
-    let below = order.ascending k (omega arith) there in
+apart_next None architecture bytes before now k last row is_limit order there below same is_row has clear =
     apart_after architecture bytes before now k last (field_of_row row (offset_at bytes k) now) row order below refl
     (clear_field architecture bytes before now k last row order same is_row has below clear)
-apart_next (Some limit) architecture bytes before now k last row is_limit order there same is_row has clear =
+apart_next (Some limit) architecture bytes before now k last row is_limit order there below same is_row has clear =
     let isnt = not_limit k limit clear in
     fewer_apart architecture bytes before (k + 1) limit (omega (arith, order, isnt)) (is_limit.0)
 
@@ -384,14 +371,15 @@ pub one_order : (limit : Option ℕ) (architecture : Architecture) (bytes before
     (k : ℕ) (last : Field) (row : RelocationKindInfo) (v : ℤ)
     → IsLimit architecture bytes before limit
     → IsInOrder limit architecture bytes before now k last → k < length bytes / 24
+    → IfNone limit (last.offset ≤ offset_at bytes k)
     → length now ≡ length before → IsRow architecture (relocation_in bytes k).code (Some row)
     → has_value row.kind ≡ true
     → clear_in limit k (field_of_row row (offset_at bytes k) now) last ≡ true
     → IsWritten row v (offset_at bytes k) now after
     → IsInOrder limit architecture bytes before after (k + 1) (next_field (field_of_row row (offset_at bytes k) now) last)
-one_order None architecture bytes before now after k last row v is_limit order there same is_row has clear written =
-    ascends_one architecture bytes before now after k last row v order is_limit there same is_row has clear written
-one_order (Some limit) architecture bytes before now after k last row v is_limit order there same is_row has clear written =
+one_order None architecture bytes before now after k last row v is_limit order there below same is_row has clear written =
+    ascends_one architecture bytes before now after k last row v order below same is_row has clear written
+one_order (Some limit) architecture bytes before now after k last row v is_limit order there below same is_row has clear written =
     let isnt = not_limit k limit clear in omega (arith, order, isnt)
 
 -- the field isn't clear
@@ -417,11 +405,12 @@ some_before architecture bytes before now k row same has some =
 pub overlap_now : (limit : Option ℕ) (architecture : Architecture) (bytes before now : List ℕ)
     (k : ℕ) (last : Field) (row : RelocationKindInfo) → IsLimit architecture bytes before limit
     → IsInOrder limit architecture bytes before now k last → k < length bytes / 24
+    → IfNone limit (last.offset ≤ offset_at bytes k)
     → length now ≡ length before → IsRow architecture (relocation_in bytes k).code (Some row)
     → has_value row.kind ≡ true
     → clear_in limit k (field_of_row row (offset_at bytes k) now) last ≡ false
     → IsOverlapped architecture bytes before k
-overlap_now None architecture bytes before now k last row is_limit order there same is_row has clear =
+overlap_now None architecture bytes before now k last row is_limit order there below same is_row has clear =
     let o = offset_at bytes k in
     let field = field_of_row row o now in
     let parts = or_parts (eqb field.len 0) (is_clear_of field last) clear in
@@ -429,7 +418,7 @@ overlap_now None architecture bytes before now k last row is_limit order there s
     let is_field : IsField architecture bytes before k row =
     record { is_row = is_row; some = some_before architecture bytes before now k row same has some } in
     let found = overlapped architecture bytes before (λ i. i < k) last k row field order.claimed is_field refl refl
-    (λ alone. sym (len_alone row (drop o now) has alone)) (order.ascending k (omega arith) there) (parts.1) in
+    (λ alone. sym (len_alone row (drop o now) has alone)) below (parts.1) in
     let at = found.0 in
     record {
       earlier = at.index;
@@ -441,7 +430,7 @@ overlap_now None architecture bytes before now k last row is_limit order there s
       overlap = found.1;
       apart = found.2 (λ begins next ends. true≢false (sym begins ∙ order.no_pair at.index at.row next at.is_field.is_row));
     }
-overlap_now (Some limit) architecture bytes before now k last row is_limit order there same is_row has clear =
+overlap_now (Some limit) architecture bytes before now k last row is_limit order there below same is_row has clear =
     let is = eqb-true k limit (not-false (eqb k limit) clear) in
     subst (IsOverlapped architecture bytes before) (sym is) (is_limit.1 (omega (arith, is, there)))
 
@@ -529,16 +518,15 @@ same_place architecture bytes before k row other same has begins ends =
 ascends_pair : (architecture : Architecture) (addresses : Addresses) (bytes before now after : List ℕ)
     (symbols : List Symbol) (k : ℕ) (last : Field) (row : RelocationKindInfo)
     → Ascends architecture bytes before now k last
-    → IsAscending bytes → k < length bytes / 24 → length now ≡ length before
+    → last.offset ≤ offset_at bytes k → length now ≡ length before
     → IsRow architecture (relocation_in bytes k).code (Some row) → has_value row.kind ≡ true
     → clear_in None k (field_of_row row (offset_at bytes k) now) last ≡ true
     → (pair : BeginsPair architecture bytes k)
     → IsPairWritten architecture addresses bytes symbols (relocation_in bytes k) (relocation_in bytes (k + 1)) now after
     → Ascends architecture bytes before after (k + 2) (next_field (field_of_row row (offset_at bytes k) now) last)
-ascends_pair architecture addresses bytes before now after symbols k last row order ascending there same is_row has clear pair written =
+ascends_pair architecture addresses bytes before now after symbols k last row order below same is_row has clear pair written =
     let o = offset_at bytes k in
     let field = field_of_row row o now in
-    let below = order.ascending k (omega arith) there in
     let is = clear_field architecture bytes before now k last row order same is_row has below clear in
     let begins = subst (λ x. begins_pair x.size x.kind ≡ true) (one_info architecture _ pair.row row pair.is_row is_row) pair.begins in
     let local = pair_local architecture addresses bytes symbols (relocation_in bytes k) (relocation_in bytes (k + 1)) now after written in
@@ -564,7 +552,6 @@ ascends_pair architecture addresses bytes before now after symbols k last row or
                 let at : i ≡ k + 1 = omega (arith, here) in
                 let one : pair.other ≡ other = one_info architecture _ pair.other other pair.is_other (subst (λ x. IsRow architecture (relocation_in bytes x).code (Some other)) at is_other) in
                 subst (λ x. begins_pair x.size x.kind ≡ false) one (ended_begins_none pair.other.size pair.other.kind pair.ends);
-            ascending = λ i from under. ascending k i (omega (arith, from)) under;
             inside = λ some. omega (arith, inside, len, same);
             behind = λ offset from. drop_behind o (uleb_len (take 10 (drop o now))) offset now after local (inl (omega (arith, from, len)))
                 ∙ order.behind offset (elim (clear_cases field last below clear) [
@@ -605,15 +592,16 @@ pub pair_order : (limit : Option ℕ) (architecture : Architecture) (addresses :
     (bytes before now after : List ℕ) (symbols : List Symbol) (k : ℕ) (last : Field)
     (row : RelocationKindInfo) → IsLimit architecture bytes before limit
     → IsInOrder limit architecture bytes before now k last → k < length bytes / 24
+    → IfNone limit (last.offset ≤ offset_at bytes k)
     → length now ≡ length before → IsRow architecture (relocation_in bytes k).code (Some row)
     → has_value row.kind ≡ true
     → clear_in limit k (field_of_row row (offset_at bytes k) now) last ≡ true
     → BeginsPair architecture bytes k
     → IsPairWritten architecture addresses bytes symbols (relocation_in bytes k) (relocation_in bytes (k + 1)) now after
     → IsInOrder limit architecture bytes before after (k + 2) (next_field (field_of_row row (offset_at bytes k) now) last)
-pair_order None architecture addresses bytes before now after symbols k last row is_limit order there same is_row has clear pair written =
-    ascends_pair architecture addresses bytes before now after symbols k last row order is_limit there same is_row has clear pair written
-pair_order (Some limit) architecture addresses bytes before now after symbols k last row is_limit order there same is_row has clear pair written =
+pair_order None architecture addresses bytes before now after symbols k last row is_limit order there below same is_row has clear pair written =
+    ascends_pair architecture addresses bytes before now after symbols k last row order below same is_row has clear pair written
+pair_order (Some limit) architecture addresses bytes before now after symbols k last row is_limit order there below same is_row has clear pair written =
     let isnt = not_limit k limit clear in
     elim (cases_eq limit (k + 1)) [
       | inl is ↦

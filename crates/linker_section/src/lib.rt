@@ -2,9 +2,11 @@
 //! linker, and the value of each from what is known of symbols and of the output.
 #![tactic(auto)]
 
+mod ascending;
 mod codes;
 pub mod facts;
 mod fields;
+mod known;
 pub mod needed;
 mod order;
 mod quick;

@@ -1,6 +1,6 @@
 //! Relocations in any order: the first whose field overlaps that of an earlier one.
 
-ghost use Rattle.std.specs.Prelude.{◌≡◌, ◌<◌, ◌≤◌, ◌+◌, ◌/◌, ◌↔◌, IsTrue, IfSome, IfNone, Some};
+ghost use Rattle.std.specs.Prelude.{◌≡◌, ◌<◌, ◌≤◌, ◌+◌, ◌/◌, IfSome, IfNone, Some};
 ghost use Rattle.std.specs.Prelude.{true, false, length};
 ghost use Rattle.linker_elf.specs.declared.elf.RelocationKindInfo.{RelocationKindInfo};
 ghost use Rattle.linker_section.specs.Fields.{IsField, AreApart};
@@ -8,28 +8,12 @@ ghost use Rattle.linker_section.specs.Inner.Claims.{HasField};
 ghost use Rattle.linker_section.specs.Inner.Order.{place_of, AreIndexes, IsOrder, IsOverlappedBelow};
 ghost use Rattle.linker_section.specs.Inner.Steps.{IsLimit};
 ghost use Rattle.linker_section.specs.Sections.{BeginsPair};
-ghost use Rattle.linker_section.specs.Values.{IsAscending};
 
 use crate::fields::Field;
 use crate::relocations::{relocation_at, relocation_in, relocations_len};
 use crate::sections::{field_at, second_of_pair};
-use crate::values::{has_value, offset_at};
+use crate::values::has_value;
 use linker_utils::elf::{Architecture, RelocationKind};
-
-/// Whether relocations ascend by offset.
-pub(crate) fn is_ascending(relocations: &[u8]) -> bool
-    ensures { IsTrue result ↔ IsAscending relocations.now }
-{
-    let mut least = 0;
-    for index in 0..relocations_len(relocations) {
-        let offset = offset_at(relocations, index);
-        if offset < least {
-            return false;
-        }
-        least = offset;
-    }
-    true
-}
 
 /// The least index of a relocation whose field overlaps that of an earlier one with which it
 /// doesn't compose; as many as there are relocations if there is none. `order` is memory for its

@@ -6,7 +6,7 @@
 ghost use Rattle.std.specs.Prelude.{◌≡◌, ◌&&◌, ◌==◌, ◌%◌, ◌/◌, ◌<◌, true, length, Some, IfSome};
 ghost use Rattle.linker_section.specs.Inner.Codes.{class_by, entry_by, is_plain, is_ppc64};
 ghost use Rattle.linker_section.specs.Inner.Codes.{IsNumberOf, SaysNeeds, SaysWay};
-ghost use Rattle.linker_section.specs.Inner.Quick.{IsLookedUp, IsHighValue, HasHighValue};
+ghost use Rattle.linker_section.specs.Inner.Quick.{IsHighValue, HasHighValue};
 ghost use Rattle.linker_section.specs.Inner.Quick.{IsPlainValue, IsQuickValue};
 ghost use Rattle.linker_section.specs.Needed.{entry_of};
 ghost use Rattle.linker_section.specs.Relocations.{relocation_in};
@@ -14,10 +14,10 @@ ghost use Rattle.linker_section.specs.Values.{address_of, entry_address, is_ppc6
 ghost use Rattle.linker_section.specs.Values.{offset_at, operands_with, target_of};
 ghost use Rattle.linker_utils.specs.Architectures.{IsRow};
 
-use crate::codes::{HIGH, LOW, NO_ENTRY, PLAIN, number_of, way_of};
+use crate::codes::{HIGH, LOW, NO_ENTRY, PLAIN, way_of};
 use crate::facts::{Addresses, Symbol};
 use crate::needed::entry_by;
-use crate::relocations::{Rela, relocation_in, relocations_len};
+use crate::relocations::Rela;
 use crate::values::{entry_address, local_entry, target_of};
 use linker_utils::elf::{Architecture, Operands, Row};
 
@@ -28,33 +28,6 @@ pub(crate) struct HighPart {
     pub(crate) offset: u64,
     /// Its value.
     pub(crate) value: i64,
-}
-
-/// The row and the number of a code.
-#[inline(always)]
-fn look_up(architecture: Architecture, code: u32) -> Option<(Row, u16)>
-    ensures { IsLookedUp architecture code result }
-{
-    match architecture.row(code) {
-        Some(row) => Some((row, number_of(architecture, code))),
-        None => None,
-    }
-}
-
-/// Those of the relocation at an index; none behind the last one.
-#[inline(always)]
-pub(crate) fn look_up_at(
-    architecture: Architecture,
-    relocations: &[u8],
-    index: usize,
-) -> Option<(Row, u16)>
-    ensures { IsLookedUp architecture (relocation_in relocations.now index).code result }
-{
-    if index < relocations_len(relocations) {
-        look_up(architecture, relocation_in(relocations, index).code)
-    } else {
-        None
-    }
 }
 
 /// The address of a symbol's entry that the number of a code says. By itself, since most relocations
@@ -251,13 +224,21 @@ pub(crate) fn quick_value(
         relocation.now row.now) }
 {
     let way = way_of(number);
-    if way == PLAIN || way == HIGH {
+    if way == PLAIN || (way == HIGH && matches!(architecture, Architecture::RiscV)) {
         plain_value(architecture, addresses, symbols, number, row, relocation)
     } else if way == LOW && matches!(architecture, Architecture::RiscV) {
         value_of_high(addresses, symbols, relocation, high)
     } else {
         None
     }
+}
+
+/// A high part. By itself, so that nothing is copied where there is none.
+#[inline(never)]
+fn new_high(offset: u64, value: i64) -> HighPart
+    ensures { result ≡ record { offset = offset; value = value } }
+{
+    HighPart { offset, value }
 }
 
 /// The last high part behind a relocation among those of its section, with the value that
@@ -287,7 +268,7 @@ pub(crate) fn high_behind(
         (IsHighValue architecture _addresses.now _relocations.now _symbols.now) }
 {
     if way_of(number) == HIGH && matches!(architecture, Architecture::RiscV) {
-        Some(HighPart { offset, value })
+        Some(new_high(offset, value))
     } else {
         high
     }

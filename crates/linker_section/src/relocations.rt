@@ -1,8 +1,9 @@
 //! Relocations as ELF files have them.
 
-ghost use Rattle.std.specs.Prelude.{◌≡◌, ◌+◌, ◌≤◌, ◌<◌, ◌/◌, length, drop};
+ghost use Rattle.std.specs.Prelude.{◌≡◌, ◌+◌, ◌*◌, ◌≤◌, ◌<◌, ◌/◌, ◌↔◌, ℕ, IsTrue, length, drop};
 ghost use Rattle.std.specs.Int.{w32, w64, from_le_bytes};
 ghost use Rattle.linker_section.specs.Relocations.{relocation_of, relocation_in, relocation_at};
+ghost use Rattle.linker_section.specs.Values.{offset_at, IsAscending};
 
 use linker_base::utils::{u32_from_slice, u64_from_slice};
 
@@ -42,7 +43,7 @@ fn u64_at(bytes: &[u8], at: usize) -> u64
 
 /// The relocation that 24 bytes are.
 #[inline(always)]
-fn relocation_of(entry: &[u8]) -> Rela
+pub(crate) fn relocation_of(entry: &[u8]) -> Rela
     requires { length entry.now ≡ 24 }
     ensures { result ≡ relocation_of entry.now }
 {
@@ -67,6 +68,15 @@ pub fn relocations_len(relocations: &[u8]) -> usize
     ensures { result ≡ length relocations.now / 24 }
 {
     relocations.len() / RELA_LEN
+}
+
+/// The relocations from an index on, which is at most `relocations_len`.
+#[inline(always)]
+pub(crate) fn relocations_from(relocations: &[u8], index: usize) -> &[u8]
+    requires { index ≤ length relocations.now / 24 }
+    ensures { result.now ≡ drop (index * 24) relocations.now }
+{
+    &relocations[index * RELA_LEN..]
 }
 
 /// The relocation at an index below `relocations_len`, as `relocation_at` says.
@@ -106,4 +116,72 @@ pub fn relocation_at(relocations: &[u8], index: usize) -> Option<Rela>
     } else {
         None
     }
+}
+
+/// The offset of the relocation at an index.
+#[inline(always)]
+pub(crate) fn offset_at(relocations: &[u8], index: usize) -> u64
+    requires { index < length relocations.now / 24 }
+    ensures { result ≡ offset_at relocations.now index }
+{
+    relocation_in(relocations, index).offset
+}
+
+/// Whether relocations ascend by offset, those at one offset in any order.
+///
+/// ```
+/// use linker_section::relocations::is_ascending;
+///
+/// // of three relocations the second is at 4, and the third at 0
+/// let mut relocations = [0; 72];
+/// relocations[24] = 4;
+/// assert!(is_ascending(&relocations[..48]));
+/// assert!(!is_ascending(&relocations));
+/// ```
+pub fn is_ascending(relocations: &[u8]) -> bool
+    ensures { IsTrue result ↔ IsAscending relocations.now }
+{
+    let mut least = 0;
+    for index in 0..relocations_len(relocations) {
+        let offset = offset_at(relocations, index);
+        if offset < least {
+            return false;
+        }
+        least = offset;
+    }
+    true
+}
+
+/// The index of the first relocation from an offset on, among relocations that ascend by offset; as many
+/// as there are if all are before it. It is found by a search in log n steps.
+///
+/// ```
+/// use linker_section::relocations::first_from;
+///
+/// // relocations at 0, 4 and 8
+/// let mut relocations = [0; 72];
+/// (relocations[24], relocations[48]) = (4, 8);
+/// assert_eq!(first_from(&relocations, 4), 1);
+/// assert_eq!(first_from(&relocations, 5), 2);
+/// assert_eq!(first_from(&relocations, 9), 3);
+/// ```
+pub fn first_from(relocations: &[u8], at: u64) -> usize
+    ensures within { result ≤ length relocations.now / 24 }
+    ensures before { IsAscending relocations.now
+        → (k : ℕ) → k < result → offset_at relocations.now k < at }
+    ensures behind { IsAscending relocations.now
+        → (k : ℕ) → result ≤ k → k < length relocations.now / 24
+        → at ≤ offset_at relocations.now k }
+{
+    let mut low = 0;
+    let mut high = relocations_len(relocations);
+    while low < high {
+        let middle = low + (high - low) / 2;
+        if offset_at(relocations, middle) < at {
+            low = middle + 1;
+        } else {
+            high = middle;
+        }
+    }
+    low
 }

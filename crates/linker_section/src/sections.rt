@@ -9,19 +9,19 @@ ghost use Rattle.linker_section.specs.Sections.{IsWrittenAt, IsRowValue, IsNumbe
 ghost use Rattle.linker_section.specs.Sections.{IsNumberWrittenAt, AreAllRelocated, IsFirstRejected};
 ghost use Rattle.linker_section.specs.Sections.{BeginsPair, HasValue};
 ghost use Rattle.linker_section.specs.Inner.Steps.{IsLimit, IsStopped, IsSecond, clear_in, field_of_row};
-ghost use Rattle.linker_section.specs.Inner.Quick.{IsLookedUp, IsHighValue};
-ghost use Rattle.linker_section.specs.Inner.Steps.{IsPairOutcome, Reached, IsStep, IsQuickStep};
+ghost use Rattle.linker_section.specs.Inner.Saved.{Restores};
+ghost use Rattle.linker_section.specs.Inner.Steps.{IsPairOutcome, Reached, IsStep};
 ghost use Rattle.linker_section.specs.Values.{has_value, offset_at, IsAscending};
 ghost use Rattle.linker_section.specs.WrittenFields.{AreWritten, CanBeWritten, IsFirstFault};
 ghost use Rattle.linker_utils.specs.Architectures.{IsRow};
 ghost use Rattle.linker_elf.specs.declared.elf.RelocationKindInfo.{RelocationKindInfo};
 
+use crate::ascending::write_ascending_of;
 use crate::codes::number_of;
 use crate::facts::{Addresses, Symbol};
 use crate::fields::{Field, begins_pair, ends_pair, is_of_pair, uleb_len};
-use crate::order::{first_overlap, is_ascending};
-use crate::quick::{HighPart, high_behind, look_up_at, quick_value};
-use crate::relocations::{Rela, relocation_in, relocations_len};
+use crate::order::first_overlap;
+use crate::relocations::{Rela, is_ascending, relocation_in, relocations_len};
 use crate::saved::{restore, word_at};
 use crate::values::{ValueError, value_of};
 use linker_base::utils::{self, Uleb128Error};
@@ -52,7 +52,12 @@ pub struct SectionError {
 
 /// Writes a value to the bytes from an offset on.
 #[inline(always)]
-fn write_at(row: &Row, value: i64, offset: u64, section: &mut [u8]) -> Result<(), RelocateError>
+pub(crate) fn write_at(
+    row: &Row,
+    value: i64,
+    offset: u64,
+    section: &mut [u8],
+) -> Result<(), RelocateError>
     ensures { IsWrittenAt row.now value offset section.old section.new result }
 {
     if (section.len() as u64) < offset {
@@ -271,27 +276,27 @@ fn relocate_pair(
 
 /// Where the values of a section's relocations stopped to be written.
 #[derive(Drop)]
-struct Stopped {
+pub(crate) struct Stopped {
     /// Below which index the bytes are kept that were there before.
-    count: usize,
+    pub(crate) count: usize,
     /// Why.
-    error: SectionError,
+    pub(crate) error: SectionError,
 }
 
 /// How far the values of a section's relocations are written.
 #[derive(Clone, Copy)]
-struct Step {
+pub(crate) struct Step {
     /// The index of the next relocation.
-    index: usize,
+    pub(crate) index: usize,
     /// The last field.
-    last: Field,
+    pub(crate) last: Field,
 }
 
 /// Writes the value of the relocation at an index, and where it is the first of a pair the number of
 /// both, and keeps the bytes that were there before. By itself, since most values are written by
 /// `write_quickly`.
 #[inline(never)]
-fn write_one(
+pub(crate) fn write_one(
     architecture: Architecture,
     addresses: &Addresses,
     relocations: &[u8],
@@ -357,10 +362,16 @@ fn write_one(
 }
 
 /// The field before the first.
-const NO_FIELD: Field = Field {
+pub(crate) const NO_FIELD: Field = Field {
     offset: 0,
     len: 0,
     kind: RelocationKind::None,
+};
+
+/// The step before the first.
+pub(crate) const FIRST_STEP: Step = Step {
+    index: 0,
+    last: NO_FIELD,
 };
 
 /// Writes the values of a section's relocations in their order, and keeps the bytes that were there
@@ -411,188 +422,45 @@ fn write_in_any_order(
     Ok(())
 }
 
-/// Writes the value of the relocation at an index, if it is found and accepted with few tests, and
-/// keeps the bytes that were there before. Returns its field and the last high part, and else changes
-/// no byte of the section.
-#[inline(always)]
-fn write_quickly(
+/// The same as `write_in_any_order`, where the values of the relocations below a count are written: they
+/// are put back first.
+fn write_again(
     architecture: Architecture,
     addresses: &Addresses,
     relocations: &[u8],
     symbols: &[Symbol],
-    found: Option<(Row, u16)>,
-    high: Option<HighPart>,
-    index: usize,
-    last: &Field,
-    section: &mut [u8],
-    memory: &mut [u64],
-) -> Option<(Field, Option<HighPart>)>
-    requires within { index < length relocations.now / 24 }
-    requires room { length relocations.now / 24 ≤ length memory.old }
-    requires after { last.now.offset ≤ offset_at relocations.now index }
-    requires found { IsLookedUp architecture (relocation_in relocations.now index).code found }
-    requires high { IfSome high
-        (IsHighValue architecture addresses.now relocations.now symbols.now) }
-    ensures len { length memory.new ≡ length memory.old }
-    ensures high { IfSome result (λ next. IfSome (next.1)
-        (IsHighValue architecture addresses.now relocations.now symbols.now)) }
-    ensures step { (before : List ℕ)
-        → Reached architecture addresses.now relocations.now symbols.now None before section.old
-        memory.old index last.now
-        → IsQuickStep architecture addresses.now relocations.now symbols.now before index last.now
-        section.new memory.new result }
-{
-    let Some((row, number)) = found else {
-        return None;
-    };
-    let relocation = relocation_in(relocations, index);
-    let Some(value) = quick_value(
-        architecture,
-        addresses,
-        relocations,
-        symbols,
-        number,
-        &row,
-        &relocation,
-        high,
-    ) else {
-        return None;
-    };
-    let offset = relocation.offset;
-    let field = Field {
-        offset,
-        len: row.window(),
-        kind: row.kind(),
-    };
-    if !field.is_clear_of(last) {
-        return None;
-    }
-    memory[index] = word_at(section, offset);
-    if write_at(&row, value, offset, section).is_err() {
-        return None;
-    }
-    let high = high_behind(
-        architecture,
-        addresses,
-        relocations,
-        symbols,
-        number,
-        &row,
-        index,
-        offset,
-        value,
-        high,
-    );
-    Some((field, high))
-}
-
-/// The same as `write_in_any_order`, of relocations that ascend by offset. What the code of the next
-/// one means is looked up before a value is written: so a processor knows early which formula it has.
-#[inline(always)]
-fn write_ascending(
-    architecture: Architecture,
-    addresses: &Addresses,
-    relocations: &[u8],
-    symbols: &[Symbol],
+    count: usize,
     section: &mut [u8],
     memory: &mut [u64],
 ) -> Result<(), Stopped>
     requires memory { length relocations.now / 24 ≤ length memory.old }
-    requires ascending { IsAscending relocations.now }
+    requires within { count ≤ length relocations.now / 24 }
     ensures len { length memory.new ≡ length memory.old }
-    ensures ok { OnOk result (AreAllRelocated architecture addresses.now relocations.now
-        symbols.now section.old section.new) }
-    ensures err { IfErr result (IsStopped architecture addresses.now relocations.now symbols.now
-        section.old section.new memory.new) }
+    ensures ok { (before : List ℕ)
+        → Restores architecture relocations.now memory.old count section.old before
+        → OnOk result (AreAllRelocated architecture addresses.now relocations.now symbols.now
+        before section.new) }
+    ensures err { (before : List ℕ)
+        → Restores architecture relocations.now memory.old count section.old before
+        → IfErr result (IsStopped architecture addresses.now relocations.now symbols.now before
+        section.new memory.new) }
 {
-    let len = relocations_len(relocations);
-    let mut last = NO_FIELD;
-    let mut high = None;
-    let mut index = 0;
-    let mut found = look_up_at(architecture, relocations, 0);
-    while index < len {
-        let next = look_up_at(architecture, relocations, index + 1);
-        if let Some((field, part)) = write_quickly(
-            architecture,
-            addresses,
-            relocations,
-            symbols,
-            found,
-            high,
-            index,
-            &last,
-            section,
-            memory,
-        ) {
-            last = field;
-            high = part;
-            index += 1;
-            found = next;
-            continue;
-        }
-        match write_one(
-            architecture,
-            addresses,
-            relocations,
-            symbols,
-            None,
-            index,
-            last,
-            section,
-            memory,
-        ) {
-            Ok(step) => {
-                index = step.index;
-                last = step.last;
-                found = look_up_at(architecture, relocations, index);
-            }
-            Err(error) => {
-                let count = index;
-                return Err(Stopped { count, error });
-            }
-        }
-    }
-    Ok(())
-}
-
-/// A call for an architecture, which is compiled for each by itself.
-macro_rules! of_each {
-    ($architecture:ident, $call:ident($($given:ident),*)) => {
-        match $architecture {
-            Architecture::AArch64 => $call(Architecture::AArch64, $($given),*),
-            Architecture::RiscV => $call(Architecture::RiscV, $($given),*),
-            Architecture::LoongArch64 => $call(Architecture::LoongArch64, $($given),*),
-            Architecture::Ppc64 => $call(Architecture::Ppc64, $($given),*),
-            Architecture::X86_64 => $call(Architecture::X86_64, $($given),*),
-        }
-    };
-}
-
-/// The same as `write_ascending`, by code of the architecture's own.
-fn write_ascending_of(
-    architecture: Architecture,
-    addresses: &Addresses,
-    relocations: &[u8],
-    symbols: &[Symbol],
-    section: &mut [u8],
-    memory: &mut [u64],
-) -> Result<(), Stopped>
-    requires memory { length relocations.now / 24 ≤ length memory.old }
-    requires ascending { IsAscending relocations.now }
-    ensures len { length memory.new ≡ length memory.old }
-    ensures ok { OnOk result (AreAllRelocated architecture addresses.now relocations.now
-        symbols.now section.old section.new) }
-    ensures err { IfErr result (IsStopped architecture addresses.now relocations.now symbols.now
-        section.old section.new memory.new) }
-{
-    of_each!(
+    restore(architecture, relocations, count, memory, section);
+    let order = &mut memory[..relocations_len(relocations)];
+    let limit = first_overlap(architecture, relocations, section, order);
+    write_in_any_order(
         architecture,
-        write_ascending(addresses, relocations, symbols, section, memory)
+        addresses,
+        relocations,
+        symbols,
+        limit,
+        section,
+        memory,
     )
 }
 
 /// Writes the values of a section's relocations, in whichever order these are, and keeps the bytes
-/// that were there before.
+/// that were there before. Whether they ascend by offset is seen as they are written.
 fn write_values(
     architecture: Architecture,
     addresses: &Addresses,
@@ -608,24 +476,33 @@ fn write_values(
     ensures err { IfErr result (IsStopped architecture addresses.now relocations.now symbols.now
         section.old section.new memory.new) }
 {
-    if is_ascending(relocations) {
-        return write_ascending_of(
-            architecture,
-            addresses,
-            relocations,
-            symbols,
-            section,
-            memory,
-        );
-    }
-    let order = &mut memory[..relocations_len(relocations)];
-    let limit = first_overlap(architecture, relocations, section, order);
-    write_in_any_order(
+    let count = match write_ascending_of(
         architecture,
         addresses,
         relocations,
         symbols,
-        limit,
+        section,
+        memory,
+    ) {
+        Ok(count) => {
+            if count == relocations_len(relocations) {
+                return Ok(());
+            }
+            count
+        }
+        Err(stopped) => {
+            if is_ascending(relocations) {
+                return Err(stopped);
+            }
+            stopped.count
+        }
+    };
+    write_again(
+        architecture,
+        addresses,
+        relocations,
+        symbols,
+        count,
         section,
         memory,
     )

@@ -1,6 +1,6 @@
 //! The value of a relocation, by what a linker knows of symbols and of the output.
 
-ghost use Rattle.std.specs.Prelude.{◌≡◌, ◌<◌, ◌≤◌, ◌/◌, ℕ, length, Some, IfSome};
+ghost use Rattle.std.specs.Prelude.{◌≡◌, ◌<◌, ◌/◌, Some, IfSome};
 ghost use Rattle.linker_section.specs.Inner.Codes.{SaysNeeds};
 ghost use Rattle.linker_section.specs.Needed.{entry_of, may_use_stub};
 ghost use Rattle.linker_section.specs.Relocations.{relocation_in};
@@ -10,14 +10,14 @@ ghost use Rattle.linker_section.specs.Values.{is_relative, is_offset, weak_addre
 ghost use Rattle.linker_section.specs.Values.{defined_or_weak, target_of, operands_with};
 ghost use Rattle.linker_section.specs.Values.{operands_by, operands_of, has_value, own_value};
 ghost use Rattle.linker_section.specs.Values.{names_label, is_auipc, is_high_kind, is_high_part};
-ghost use Rattle.linker_section.specs.Values.{offset_at, IsAscending, IsHighPartAt, low_operands};
+ghost use Rattle.linker_section.specs.Values.{IsHighPartAt, low_operands};
 ghost use Rattle.linker_section.specs.Values.{low_value, IsValueBy, IsValue};
 ghost use Rattle.linker_utils.specs.Architectures.{IsRow};
 
 use crate::codes::number_of;
 use crate::facts::{Addresses, Symbol};
 use crate::needed::{Entry, EntryClass, class_of_kind, entry_by, loads_plt_word, may_use_stub};
-use crate::relocations::{Rela, relocation_in, relocations_len};
+use crate::relocations::{Rela, first_from, relocation_in, relocations_len};
 use linker_utils::elf::{
     Architecture, Operands, RelocationInstruction, RelocationKind, RelocationKindInfo,
     RelocationSize, RiscVInstruction,
@@ -439,37 +439,6 @@ fn is_high_part(low: RelocationKind, info: &RelocationKindInfo) -> bool
     ensures { result ≡ is_high_part low (Some info.now) }
 {
     is_auipc(info.size) && is_high_kind(low, info.kind)
-}
-
-/// The offset of the relocation at an index.
-#[inline(always)]
-pub(crate) fn offset_at(relocations: &[u8], index: usize) -> u64
-    requires { index < length relocations.now / 24 }
-    ensures { result ≡ offset_at relocations.now index }
-{
-    relocation_in(relocations, index).offset
-}
-
-/// The index of the first relocation from an offset on, among relocations that ascend.
-fn first_from(relocations: &[u8], at: u64) -> usize
-    ensures within { result ≤ length relocations.now / 24 }
-    ensures before { IsAscending relocations.now
-        → (k : ℕ) → k < result → offset_at relocations.now k < at }
-    ensures behind { IsAscending relocations.now
-        → (k : ℕ) → result ≤ k → k < length relocations.now / 24
-        → at ≤ offset_at relocations.now k }
-{
-    let mut low = 0;
-    let mut high = relocations_len(relocations);
-    while low < high {
-        let middle = low + (high - low) / 2;
-        if offset_at(relocations, middle) < at {
-            low = middle + 1;
-        } else {
-            high = middle;
-        }
-    }
-    low
 }
 
 /// The high part at an offset of low parts of a kind, among relocations that ascend.

@@ -4,21 +4,8 @@
 use crate::linker_section::fields::Field;
 use crate::linker_section::relocations::{relocation_at, relocation_in, relocations_len};
 use crate::linker_section::sections::{field_at, second_of_pair};
-use crate::linker_section::values::{has_value, offset_at};
+use crate::linker_section::values::has_value;
 use crate::elf::{Architecture, RelocationKind};
-
-/// Whether relocations ascend by offset.
-pub(crate) fn is_ascending(relocations: &[u8]) -> bool {
-    let mut least = 0;
-    for index in 0..relocations_len(relocations) {
-        let offset = offset_at(relocations, index);
-        if offset < least {
-            return false;
-        }
-        least = offset;
-    }
-    true
-}
 
 /// The least index of a relocation whose field overlaps that of an earlier one with which it
 /// doesn't compose; as many as there are relocations if there is none. `order` is memory for its

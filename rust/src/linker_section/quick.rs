@@ -4,10 +4,10 @@
 //! Few tests find them, so that a section's values take little more time than the formulas. Where
 //! these return nothing, `value_of` says what the value is, and why there is none.
 
-use crate::linker_section::codes::{HIGH, LOW, NO_ENTRY, PLAIN, number_of, way_of};
+use crate::linker_section::codes::{HIGH, LOW, NO_ENTRY, PLAIN, way_of};
 use crate::linker_section::facts::{Addresses, Symbol};
 use crate::linker_section::needed::entry_by;
-use crate::linker_section::relocations::{Rela, relocation_in, relocations_len};
+use crate::linker_section::relocations::Rela;
 use crate::linker_section::values::{entry_address, local_entry, target_of};
 use crate::elf::{Architecture, Operands, Row};
 
@@ -18,29 +18,6 @@ pub(crate) struct HighPart {
     pub(crate) offset: u64,
     /// Its value.
     pub(crate) value: i64,
-}
-
-/// The row and the number of a code.
-#[inline(always)]
-fn look_up(architecture: Architecture, code: u32) -> Option<(Row, u16)> {
-    match architecture.row(code) {
-        Some(row) => Some((row, number_of(architecture, code))),
-        None => None,
-    }
-}
-
-/// Those of the relocation at an index; none behind the last one.
-#[inline(always)]
-pub(crate) fn look_up_at(
-    architecture: Architecture,
-    relocations: &[u8],
-    index: usize,
-) -> Option<(Row, u16)> {
-    if index < relocations_len(relocations) {
-        look_up(architecture, relocation_in(relocations, index).code)
-    } else {
-        None
-    }
 }
 
 /// The address of a symbol's entry that the number of a code says. By itself, since most relocations
@@ -198,13 +175,19 @@ pub(crate) fn quick_value(
     high: Option<HighPart>,
 ) -> Option<i64> {
     let way = way_of(number);
-    if way == PLAIN || way == HIGH {
+    if way == PLAIN || (way == HIGH && matches!(architecture, Architecture::RiscV)) {
         plain_value(architecture, addresses, symbols, number, row, relocation)
     } else if way == LOW && matches!(architecture, Architecture::RiscV) {
         value_of_high(addresses, symbols, relocation, high)
     } else {
         None
     }
+}
+
+/// A high part. By itself, so that nothing is copied where there is none.
+#[inline(never)]
+fn new_high(offset: u64, value: i64) -> HighPart {
+    HighPart { offset, value }
 }
 
 /// The last high part behind a relocation among those of its section, with the value that
@@ -223,7 +206,7 @@ pub(crate) fn high_behind(
     high: Option<HighPart>,
 ) -> Option<HighPart> {
     if way_of(number) == HIGH && matches!(architecture, Architecture::RiscV) {
-        Some(HighPart { offset, value })
+        Some(new_high(offset, value))
     } else {
         high
     }

@@ -33,7 +33,7 @@ fn u64_at(bytes: &[u8], at: usize) -> u64 {
 
 /// The relocation that 24 bytes are.
 #[inline(always)]
-fn relocation_of(entry: &[u8]) -> Rela {
+pub(crate) fn relocation_of(entry: &[u8]) -> Rela {
     Rela {
         offset: u64_from_slice(entry),
         code: u32_at(entry, 8),
@@ -54,6 +54,12 @@ fn relocation_of(entry: &[u8]) -> Rela {
 #[inline(always)]
 pub fn relocations_len(relocations: &[u8]) -> usize {
     relocations.len() / RELA_LEN
+}
+
+/// The relocations from an index on, which is at most `relocations_len`.
+#[inline(always)]
+pub(crate) fn relocations_from(relocations: &[u8], index: usize) -> &[u8] {
+    &relocations[index * RELA_LEN..]
 }
 
 /// The relocation at an index below `relocations_len`, as `relocation_at` says.
@@ -89,4 +95,62 @@ pub fn relocation_at(relocations: &[u8], index: usize) -> Option<Rela> {
     } else {
         None
     }
+}
+
+/// The offset of the relocation at an index.
+#[inline(always)]
+pub(crate) fn offset_at(relocations: &[u8], index: usize) -> u64 {
+    relocation_in(relocations, index).offset
+}
+
+/// Whether relocations ascend by offset, those at one offset in any order.
+///
+/// ```
+/// use linker_utils::section::is_ascending;
+///
+/// // of three relocations the second is at 4, and the third at 0
+/// let mut relocations = [0; 72];
+/// relocations[24] = 4;
+/// assert!(is_ascending(&relocations[..48]));
+/// assert!(!is_ascending(&relocations));
+/// ```
+#[must_use]
+pub fn is_ascending(relocations: &[u8]) -> bool {
+    let mut least = 0;
+    for index in 0..relocations_len(relocations) {
+        let offset = offset_at(relocations, index);
+        if offset < least {
+            return false;
+        }
+        least = offset;
+    }
+    true
+}
+
+/// The index of the first relocation from an offset on, among relocations that ascend by offset; as many
+/// as there are if all are before it. It is found by a search in log n steps.
+///
+/// ```
+/// use linker_utils::section::first_from;
+///
+/// // relocations at 0, 4 and 8
+/// let mut relocations = [0; 72];
+/// (relocations[24], relocations[48]) = (4, 8);
+/// assert_eq!(first_from(&relocations, 4), 1);
+/// assert_eq!(first_from(&relocations, 5), 2);
+/// assert_eq!(first_from(&relocations, 9), 3);
+/// ```
+#[must_use]
+pub fn first_from(relocations: &[u8], at: u64) -> usize {
+    let mut low = 0;
+    let mut high = relocations_len(relocations);
+    while low < high {
+        let middle = low + (high - low) / 2;
+        if offset_at(relocations, middle) < at {
+            low = middle + 1;
+        } else {
+            high = middle;
+        }
+    }
+    low
 }

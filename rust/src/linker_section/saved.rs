@@ -6,15 +6,26 @@ use crate::linker_section::relocations::relocation_in;
 use crate::linker_base::utils::u64_from_slice;
 use crate::elf::{Architecture, Row};
 
+/// The 8 bytes from an offset on as a word; none where there are fewer.
+#[inline(always)]
+pub(crate) fn whole_word_at(section: &[u8], offset: u64) -> Option<u64> {
+    if section.len() as u64 <= offset {
+        return None;
+    }
+    let rest = &section[offset as usize..];
+    if rest.len() < 8 {
+        None
+    } else {
+        Some(u64_from_slice(rest))
+    }
+}
+
 /// The 8 bytes from an offset on, or fewer at the end of the section, as a word.
 #[inline(always)]
 pub(crate) fn word_at(section: &[u8], offset: u64) -> u64 {
-    let len = section.len() as u64;
-    // one comparison: the last offset with 8 bytes is found once for all relocations
-    if offset < len.saturating_sub(7) {
-        u64_from_slice(&section[offset as usize..][..8])
-    } else {
-        last_word_at(section, offset)
+    match whole_word_at(section, offset) {
+        Some(word) => word,
+        None => last_word_at(section, offset),
     }
 }
 

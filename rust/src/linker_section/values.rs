@@ -4,7 +4,7 @@
 use crate::linker_section::codes::number_of;
 use crate::linker_section::facts::{Addresses, Symbol};
 use crate::linker_section::needed::{Entry, EntryClass, class_of_kind, entry_by, loads_plt_word, may_use_stub};
-use crate::linker_section::relocations::{Rela, relocation_in, relocations_len};
+use crate::linker_section::relocations::{Rela, first_from, relocation_in, relocations_len};
 use crate::elf::{
     Architecture, Operands, RelocationInstruction, RelocationKind, RelocationKindInfo,
     RelocationSize, RiscVInstruction,
@@ -365,27 +365,6 @@ fn is_high_kind(low: RelocationKind, kind: RelocationKind) -> bool {
 #[inline(always)]
 fn is_high_part(low: RelocationKind, info: &RelocationKindInfo) -> bool {
     is_auipc(info.size) && is_high_kind(low, info.kind)
-}
-
-/// The offset of the relocation at an index.
-#[inline(always)]
-pub(crate) fn offset_at(relocations: &[u8], index: usize) -> u64 {
-    relocation_in(relocations, index).offset
-}
-
-/// The index of the first relocation from an offset on, among relocations that ascend.
-fn first_from(relocations: &[u8], at: u64) -> usize {
-    let mut low = 0;
-    let mut high = relocations_len(relocations);
-    while low < high {
-        let middle = low + (high - low) / 2;
-        if offset_at(relocations, middle) < at {
-            low = middle + 1;
-        } else {
-            high = middle;
-        }
-    }
-    low
 }
 
 /// The high part at an offset of low parts of a kind, among relocations that ascend.

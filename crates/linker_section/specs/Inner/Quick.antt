@@ -1,5 +1,6 @@
 -- Values that are found by the numbers of codes, with few tests.
-use Rattle.std.specs.Prelude.{◌≡◌, ℕ, ◌<◌, true, false, ℤ, List, slice_get, Option, Some, None, Ok, ⊤}
+use Rattle.std.specs.Prelude.{◌≡◌, ℕ, ◌%◌, ◌<◌, slice_index_or, true, false, ℤ, List, slice_get, Option, Some, IfSome, Ok}
+use Rattle.std.specs.List.{All}
 use Rattle.linker_elf.specs.Relocate.{window_len}
 use Rattle.linker_elf.specs.Value.{difference_64, value_of}
 use Rattle.linker_elf.specs.declared.elf.RelocationKind.TheVariants.{RelativeRiscVLow12}
@@ -11,6 +12,7 @@ use Rattle.linker_section.specs.Sections.{HasValue}
 use Rattle.linker_section.specs.Values.{has_value, low_operands, operands_of, IsHighPart}
 use Rattle.linker_section.specs.declared.facts.Addresses.{Addresses}
 use Rattle.linker_section.specs.declared.facts.Symbol.{Symbol}
+use Rattle.linker_section.specs.declared.known.KnownCode.{KnownCode}
 use Rattle.linker_section.specs.declared.quick.HighPart.{HighPart}
 use Rattle.linker_section.specs.declared.relocations.Rela.{Rela}
 use Rattle.linker_utils.specs.Architectures.{IsRow}
@@ -22,9 +24,17 @@ pub record AreOf (architecture : Architecture) (code : ℕ) (found : RelocationK
   pub is_row : IsRow architecture code (Some (found.0))
   pub is_number : IsNumberOf architecture code (found.1)
 
-abbrev pub IsLookedUp : Architecture → ℕ → Option (RelocationKindInfo × ℕ) → Type 0
-IsLookedUp architecture code None = ⊤
-IsLookedUp architecture code (Some found) = AreOf architecture code found
+-- what is kept of a code is its row and its number
+abbrev pub IsKnown : Architecture → KnownCode → Type 0
+IsKnown architecture known =
+    IfSome known.row (λ row. AreOf architecture known.code (row, known.number))
+
+abbrev pub AreKnown : Architecture → List KnownCode → Type 0
+AreKnown architecture known = All (IsKnown architecture) known
+
+-- a code is kept at its low 6 bits
+abbrev pub IsThere : ℕ → List KnownCode → Type 0
+IsThere code known = (d : KnownCode) → (slice_index_or known (code % 64) d).code ≡ code
 
 -- the operands of a relocation give a value
 pub record IsPlainValue (architecture : Architecture) (addresses : Addresses)

@@ -1,15 +1,16 @@
 -- What is known of a section while values are written to it.
-use Rattle.std.specs.Prelude.{◌≡◌, ℕ, ◌+◌, ◌/◌, ◌<◌, ◌≤◌, ◌==◌, ◌||◌, Bool, not, List, length, drop}
-use Rattle.std.specs.Prelude.{◌⊎◌, true, false, Option, Some, None, Result, Ok, Err}
+use Rattle.std.specs.Prelude.{◌≡◌, ℕ, ◌≢◌, ◌+◌, ◌/◌, ◌<◌, ◌≤◌, ◌==◌, ◌||◌, Bool, not, List, length, drop}
+use Rattle.std.specs.Prelude.{◌⊎◌, ⊤, true, false, Option, Some, None, Result, Ok, Err}
 use Rattle.linker_base.specs.declared.utils.Uleb128Error.{Uleb128Error}
+use Rattle.linker_elf.specs.Relocate.{window_len}
 use Rattle.linker_elf.specs.declared.elf.RelocationKindInfo.{RelocationKindInfo}
 use Rattle.linker_section.specs.Fields.{AreApart, IsOverlapped, begins_pair, ends_pair, field_len}
 use Rattle.linker_section.specs.Inner.Claims.{AreClaimed, is_clear_of}
 use Rattle.linker_section.specs.Inner.Saved.{Restores}
 use Rattle.linker_section.specs.Relocations.{relocation_in}
 use Rattle.linker_section.specs.Sections.{IsFirstRejected, IsPairWritten, IsPairRejected}
-use Rattle.linker_section.specs.Sections.{AreRelocated}
-use Rattle.linker_section.specs.Values.{IsAscending, IsValue, offset_at}
+use Rattle.linker_section.specs.Sections.{AreRelocated, AreAllRelocated}
+use Rattle.linker_section.specs.Values.{IsValue, offset_at}
 use Rattle.linker_section.specs.declared.facts.Addresses.{Addresses}
 use Rattle.linker_section.specs.declared.facts.Symbol.{Symbol}
 use Rattle.linker_section.specs.declared.fields.Field.{Field}
@@ -33,9 +34,9 @@ abbrev pub clear_in : Option ℕ → ℕ → Field → Field → Bool
 clear_in None i field last = field.len == 0 || is_clear_of field last
 clear_in (Some limit) i field last = not (i == limit)
 
--- why that index, or none
+-- why that index
 abbrev pub IsLimit : Architecture → List ℕ → List ℕ → Option ℕ → Type 0
-IsLimit architecture bytes section None = IsAscending bytes
+IsLimit architecture bytes section None = ⊤
 IsLimit architecture bytes section (Some limit) =
     AreApart architecture bytes section limit
     × (limit < length bytes / 24 → IsOverlapped architecture bytes section limit)
@@ -74,7 +75,6 @@ pub record Ascends (architecture : Architecture) (bytes before now : List ℕ) (
   pub no_pair : (i : ℕ) (row : RelocationKindInfo) → i + 1 ≡ k
       → IsRow architecture (relocation_in bytes i).code (Some row)
       → begins_pair row.size row.kind ≡ false
-  pub ascending : (i : ℕ) → k ≤ i → i < length bytes / 24 → last.offset ≤ offset_at bytes i
   pub inside : 0 < last.len → last.offset + last.len ≤ length before
   pub behind : (offset : ℕ) → last.offset + last.len ≤ offset → drop offset now ≡ drop offset before
 
@@ -113,10 +113,53 @@ IsStep architecture addresses bytes symbols limit before i now memory (Err error
     IsStopped architecture addresses bytes symbols before now memory
     (record { count = i; error = error })
 
--- one more value is written, or nothing is changed
+-- the field of a relocation that has a field of its own
+pub record IsOwnField (architecture : Architecture) (bytes : List ℕ) (i : ℕ) (field : Field)
+    : Type 0 where
+  pub row : RelocationKindInfo
+  pub is_row : IsRow architecture (relocation_in bytes i).code (Some row)
+  pub is_field : field ≡ record { offset = offset_at bytes i; len = window_len row; kind = row.kind }
+
+-- one more value is written, whose field ends at an offset, or nothing is changed
 abbrev pub IsQuickStep : Architecture → Addresses → List ℕ → List Symbol → List ℕ → ℕ → Field
-    → List ℕ → List ℕ → Option (Field × Option HighPart) → Type 0
+    → List ℕ → List ℕ → Option (ℕ × Option HighPart) → Type 0
 IsQuickStep architecture addresses bytes symbols before i last now memory None =
     Reached architecture addresses bytes symbols None before now memory i last
 IsQuickStep architecture addresses bytes symbols before i last now memory (Some next) =
-    Reached architecture addresses bytes symbols None before now memory (i + 1) (next.0)
+    (field : Field) × IsOwnField architecture bytes i field × (field.offset + field.len ≡ next.0)
+    × Reached architecture addresses bytes symbols None before now memory (i + 1) field
+
+-- The last field before an index is that of a step, or where the step was another, that of the
+-- relocation before.
+pub record IsLastOf (architecture : Architecture) (bytes : List ℕ) (i : ℕ) (step : Step)
+    (last : Field) : Type 0 where
+  pub same : step.index ≡ i → last ≡ step.last
+  pub own : step.index ≢ i → (k : ℕ) → k + 1 ≡ i → IsOwnField architecture bytes k last
+
+-- The values of relocations below an index are written whose fields ascend, and none of these has a
+-- byte from an offset on.
+pub record IsFront (architecture : Architecture) (addresses : Addresses) (bytes : List ℕ)
+    (symbols : List Symbol) (before now memory : List ℕ) (i : ℕ) (step : Step) (end : ℕ)
+    : Type 0 where
+  pub last : Field
+  pub reached : Reached architecture addresses bytes symbols None before now memory i last
+  pub is_last : IsLastOf architecture bytes i step last
+  pub within : last.offset + last.len ≤ end
+
+-- more values are written, or there is one that can't be, or a relocation is before the last field
+abbrev pub IsSlowStep : Architecture → Addresses → List ℕ → List Symbol → List ℕ → ℕ
+    → List ℕ → List ℕ → Result (Option Step) SectionError → Type 0
+IsSlowStep architecture addresses bytes symbols before i now memory (Ok None) =
+    Restores architecture bytes memory i now before
+IsSlowStep architecture addresses bytes symbols before i now memory (Ok (Some step)) =
+    IsStep architecture addresses bytes symbols None before i now memory (Ok step)
+IsSlowStep architecture addresses bytes symbols before i now memory (Err error) =
+    IsStep architecture addresses bytes symbols None before i now memory (Err error)
+
+-- the values below an index are written, and the bytes before can be put back
+pub record AreWrittenBelow (architecture : Architecture) (addresses : Addresses) (bytes : List ℕ)
+    (symbols : List Symbol) (before now memory : List ℕ) (count : ℕ) : Type 0 where
+  pub within : count ≤ length bytes / 24
+  pub restores : Restores architecture bytes memory count now before
+  pub all : count ≡ length bytes / 24
+      → AreAllRelocated architecture addresses bytes symbols before now

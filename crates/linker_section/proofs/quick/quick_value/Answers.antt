@@ -15,8 +15,8 @@ plain_value-requires-clause-way c =
     let a = c.args in
     says_way a.architecture a.relocation.now.code a.number a.row.now c.requires.number c.requires.row
 
-pub returns-then-way-eq-HIGH : goal.returns-then-way-eq-HIGH
-returns-then-way-eq-HIGH c =
+pub returns-then-matches : goal.returns-then-matches
+returns-then-matches c =
     let a = c.args in
     let way = says_way a.architecture a.relocation.now.code a.number a.row.now c.requires.number c.requires.row in
     let plain : is_plain a.number ≡ true = search rules in
@@ -24,8 +24,8 @@ returns-then-way-eq-HIGH c =
     (λ v is. plain_quick a.architecture a.addresses.now a._relocations.now a.symbols.now a.relocation.now a.row.now a.number v c.requires.row way plain is)
     c.plain_value.ensures
 
-pub returns-then-matches : goal.returns-then-matches
-returns-then-matches c =
+pub returns-then-matches-2 : goal.returns-then-matches-2
+returns-then-matches-2 c =
     let a = c.args in
     let way = says_way a.architecture a.relocation.now.code a.number a.row.now c.requires.number c.requires.row in
     let low : is_low a.number ≡ true = eq-eqb (a.number / 256) 3 (sym c.way_of-way.ensures ∙ c.if-way-eq-LOW.true) in

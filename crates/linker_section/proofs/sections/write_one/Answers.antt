@@ -97,7 +97,7 @@ returns-clause-step c before inv =
         relocated = AreRelocated.one inv.relocated has written;
         restores = one_restores a.architecture bytes memory before section c.write_at.new.section i c.word_at.result row (found.1) (omega (arith, there, room)) has.is_row written saved inv.restores;
         order = subst (IsInOrder a.limit a.architecture bytes before c.write_at.new.section (i + 1)) (sym (c.or-last.ensures ∙ ap (λ f. next_field f last) field_is))
-            (one_order a.limit a.architecture bytes before section c.write_at.new.section i last row (found.1) inv.is_limit inv.order there inv.same_length has.is_row some clear written);
+            (one_order a.limit a.architecture bytes before section c.write_at.new.section i last row (found.1) inv.is_limit inv.order there c.requires.after inv.same_length has.is_row some clear written);
         same_length = local ∙ inv.same_length;
       },
     )
@@ -160,7 +160,7 @@ returns-then-not-is_clear-clause-step c before inv =
       is_next = inl refl;
       now = section;
       relocated = inv.relocated;
-      cause = overlap_now a.limit a.architecture bytes before section i last row inv.is_limit inv.order there inv.same_length has.is_row some unclear;
+      cause = overlap_now a.limit a.architecture bytes before section i last row inv.is_limit inv.order there c.requires.after inv.same_length has.is_row some unclear;
     })
 
 pub relocate_pair-requires-clause-value : goal.relocate_pair-requires-clause-value
@@ -224,7 +224,7 @@ returns-in-Err-write_at-clause-step c before inv =
       now = section;
       relocated = inv.relocated;
       cause = (
-        apart_next a.limit a.architecture bytes before section i last row inv.is_limit inv.order there inv.same_length has.is_row some clear,
+        apart_next a.limit a.architecture bytes before section i last row inv.is_limit inv.order there c.requires.after inv.same_length has.is_row some clear,
         record { row = row; value = found.1; has_value = has; rejected = rejected.0; alone = alone },
       );
     }))
@@ -266,7 +266,7 @@ returns-in-Some-clause-step c before inv =
         relocated = AreRelocated.pair inv.relocated written;
         restores = pair_restores a.architecture a.addresses.now bytes memory before section c.relocate_pair.new.section a.symbols.now i c.word_at.result c.word_at-in-Some.result row (omega (arith, under, room)) long has.is_row pair written saved saved_next inv.restores;
         order = subst (IsInOrder a.limit a.architecture bytes before c.relocate_pair.new.section (i + 2)) (sym (c.or-last.ensures ∙ ap (λ f. next_field f last) field_is))
-            (pair_order a.limit a.architecture a.addresses.now bytes before section c.relocate_pair.new.section a.symbols.now i last row inv.is_limit inv.order there inv.same_length has.is_row some clear pair written);
+            (pair_order a.limit a.architecture a.addresses.now bytes before section c.relocate_pair.new.section a.symbols.now i last row inv.is_limit inv.order there c.requires.after inv.same_length has.is_row some clear pair written);
         same_length = local.same_length ∙ inv.same_length;
       },
     )
@@ -299,7 +299,7 @@ returns-in-Err-relocate_pair-clause-step c before inv =
     let under = pair.within in
     let outcome = subst (IsPairOutcome a.architecture a.addresses.now bytes a.symbols.now i section c.relocate_pair.new.section) c.in-Err-relocate_pair.is c.relocate_pair.ensures in
     let stopped : Stopped = record { count = i; error = c.in-Err-relocate_pair.error } in
-    let next = apart_next a.limit a.architecture bytes before section i last row inv.is_limit inv.order there inv.same_length has.is_row some clear in
+    let next = apart_next a.limit a.architecture bytes before section i last row inv.is_limit inv.order there c.requires.after inv.same_length has.is_row some clear in
     subst (λ now. IsStopped a.architecture a.addresses.now bytes a.symbols.now before now (set (set memory i c.word_at.result) (i + 1) c.word_at-in-Some.result) stopped) (sym (outcome.0))
     (stop a.architecture a.addresses.now bytes before section memory _ a.symbols.now i _ inv.within
     (λ j below. set_above (set memory i c.word_at.result) i (i + 1) c.word_at-in-Some.result (omega arith) j below ∙ set_above memory i i c.word_at.result (omega arith) j below) inv.restores

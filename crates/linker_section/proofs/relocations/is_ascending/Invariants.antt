@@ -1,6 +1,6 @@
 use Rattle.std.proofs.Common.{◌≡◌, ℕ, ◌+◌, ◌≤◌, ◌<◌}
 use Rattle.linker_section.specs.Values.{offset_at}
-use Rattle.linker_section.proofs.order.is_ascending.Given as goal
+use Rattle.linker_section.proofs.relocations.is_ascending.Given as goal
 
 abbrev pub invariant-loop-index : goal.invariant-loop-index
 invariant-loop-index l = record {

@@ -1,6 +1,6 @@
 use Rattle.std.proofs.Common.{◌-◌, sym, arith, true≢false, inl, inr}
 use Rattle.std.proofs.lemmas.Bool.{cases_eq}
-use Rattle.linker_section.proofs.order.is_ascending.Goals as goal
+use Rattle.linker_section.proofs.relocations.is_ascending.Goals as goal
 
 pub returns-then-offset-least : goal.returns-then-offset-least
 returns-then-offset-least c = (

@@ -1,6 +1,6 @@
 use Rattle.std.proofs.Common.{ℕ, ◌≤◌, ◌<◌, ◌-◌, ◌/◌, length}
 use Rattle.linker_section.specs.Values.{offset_at, IsAscending}
-use Rattle.linker_section.proofs.values.first_from.Given as goal
+use Rattle.linker_section.proofs.relocations.first_from.Given as goal
 
 abbrev pub invariant-loop-low : goal.invariant-loop-low
 invariant-loop-low l = record {

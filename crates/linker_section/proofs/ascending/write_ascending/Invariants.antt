@@ -1,0 +1,20 @@
+use Rattle.std.proofs.Common.{◌≡◌, ◌-◌, ◌*◌, ◌/◌, ◌≤◌, length, drop}
+use Rattle.std.specs.Prelude.{IfSome}
+use Rattle.linker_section.specs.Inner.Quick.{AreKnown, IsHighValue}
+use Rattle.linker_section.specs.Inner.Steps.{IsFront}
+use Rattle.linker_section.proofs.ascending.write_ascending.Given as goal
+
+abbrev pub invariant-loop-entry : goal.invariant-loop-entry
+invariant-loop-entry l = record {
+  front : IsFront l.architecture l.addresses l.relocations l.symbols l.fn.section l.section l.memory
+      l.index l.step l.end;
+  room : length l.memory ≡ length l.fn.memory;
+  rest : l.rest ≡ drop (l.index * 24) l.relocations;
+  within : l.index ≤ length l.relocations / 24;
+  behind : l.step.index ≤ l.index;
+  known : AreKnown l.architecture l.known;
+  high : IfSome l.high (IsHighValue l.architecture l.addresses l.relocations l.symbols);
+}
+
+abbrev pub decreases-loop-entry : goal.decreases-loop-entry
+decreases-loop-entry l = length l.relocations / 24 - l.index

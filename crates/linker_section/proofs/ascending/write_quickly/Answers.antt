@@ -1,0 +1,68 @@
+use Rattle.std.proofs.Common.{◌<◌, ◌^◌, ◌∙◌, refl, sym, ap, subst, arith, rules, length, set, FitsSigned, to_z, of_z, None}
+use Rattle.std.specs.Int.{w64}
+use Rattle.std.proofs.lemmas.Int.{to_z-of_z}
+use Rattle.linker_elf.specs.Relocate.{window_len}
+use Rattle.linker_section.proofs.Local.{one_local}
+use Rattle.linker_section.proofs.Reaching.{is_written, not_written, reached_kept, reached_quickly}
+use Rattle.linker_section.specs.Inner.Quick.{IsQuickValue}
+use Rattle.linker_section.specs.Inner.Saved.{IsSavedAt}
+use Rattle.linker_section.specs.Inner.Steps.{Reached}
+use Rattle.linker_section.specs.Sections.{IsWritten, IsWrittenAt}
+use Rattle.linker_section.specs.Values.{offset_at}
+use Rattle.linker_section.specs.declared.fields.Field.{Field}
+use Rattle.linker_section.proofs.ascending.write_quickly.Goals as goal
+
+pub returns-then-is_err-clause-step : goal.returns-then-is_err-clause-step
+returns-then-is_err-clause-step c before last within reached =
+    let a = c.args in
+    let section = a.section.now in
+    let memory = set a.memory.now a.index c.in-Some-whole_word_at.word in
+    let same = not_written c.in-Some.row _ a.relocation.now.offset section c.write_at.new.section c.write_at.result
+    (sym c.is_err.ensures.value ∙ c.if-is_err.true) c.write_at.ensures in
+    subst (λ now. Reached a.architecture a.addresses.now a.relocations.now a.symbols.now None before now memory a.index last) (sym same)
+    (reached_kept a.architecture a.addresses.now a.relocations.now a.symbols.now None before section a.memory.now a.index c.in-Some-whole_word_at.word last reached)
+
+pub overflow_add-result : goal.overflow_add-result
+overflow_add-result c =
+    let a = c.args in
+    let section = a.section.now in
+    let row = c.in-Some.row in
+    let written = is_written row _ a.relocation.now.offset section c.write_at.new.section c.write_at.result
+    (sym c.is_err.ensures.value ∙ c.if-is_err.false) c.write_at.ensures in
+    let local = one_local row _ a.relocation.now.offset section c.write_at.new.section written in
+    let inside = local.inside in
+    let long : length section < 2 ^ 63 = search rules in
+    let window = c.window.ensures in
+    omega (arith, inside, long, window)
+
+pub returns-clause-step : goal.returns-clause-step
+returns-clause-step c before last within reached =
+    let a = c.args in
+    let i = a.index in
+    let bytes = a.relocations.now in
+    let section = a.section.now in
+    let after = c.write_at.new.section in
+    let row = c.in-Some.row in
+    let word = c.in-Some-whole_word_at.word in
+    let v = c.in-Some-quick_value.value in
+    let o = offset_at bytes i in
+    let there = c.requires.within in
+    let room = c.requires.room in
+    let same = c.requires.is in
+    let offset = ap (λ r. r.offset) same in
+    let front = c.if-offset-end.false in
+    let window = c.window.ensures in
+    let value = subst (λ r. IsQuickValue a.architecture a.addresses.now bytes a.symbols.now r row v) same c.in-Some-quick_value.ensures in
+    let fits : FitsSigned w64 v = search rules in
+    let saved = subst (λ r. IsSavedAt r.offset section word) same c.in-Some-whole_word_at.ensures.some in
+    let written : IsWritten row v o section after =
+    is_written row v o section after c.write_at.result (sym c.is_err.ensures.value ∙ c.if-is_err.false)
+    (subst (λ x. IsWrittenAt row x o section after c.write_at.result) (to_z-of_z w64 v fits)
+    (subst (λ r. IsWrittenAt row (to_z w64 (of_z w64 v)) r.offset section after c.write_at.result) same c.write_at.ensures)) in
+    let field : Field = record { offset = o; len = window_len row; kind = row.kind } in (
+      field,
+      record { row = row; is_row = value.has.is_row; is_field = refl },
+      (omega (arith, offset, window)),
+      reached_quickly a.architecture a.addresses.now bytes a.symbols.now before section after a.memory.now i word last row v
+          there (omega (arith, there, room)) value (omega (arith, within, front, offset)) saved written reached,
+    )

@@ -1,0 +1,268 @@
+//! The values of relocations that ascend by offset, written.
+
+ghost use Rattle.std.specs.Prelude.{◌≡◌, ◌≤◌, ◌<◌, ◌+◌, ◌/◌, ℕ, List, length, IfErr, IfSome, None};
+ghost use Rattle.std.specs.Prelude.{IfOk};
+ghost use Rattle.linker_section.specs.Inner.Quick.{IsKnown, IsHighValue};
+ghost use Rattle.linker_section.specs.Inner.Steps.{IsFront, IsLastOf, IsQuickStep, IsSlowStep};
+ghost use Rattle.linker_section.specs.Inner.Steps.{IsStopped, Reached, AreWrittenBelow};
+ghost use Rattle.linker_section.specs.Relocations.{relocation_in};
+ghost use Rattle.linker_section.specs.declared.fields.Field.{Field};
+
+use crate::facts::{Addresses, Symbol};
+use crate::fields::Field;
+use crate::known::{KnownCode, learn, no_codes, place_of};
+use crate::quick::{HighPart, high_behind, quick_value};
+use crate::relocations::{
+    RELA_LEN, Rela, offset_at, relocation_in, relocation_of, relocations_from,
+};
+use crate::saved::whole_word_at;
+use crate::sections::{FIRST_STEP, NO_FIELD, SectionError, Step, Stopped, write_at, write_one};
+use linker_utils::elf::Architecture;
+
+/// Writes the value of the relocation at an index, if it is found and accepted with few tests, and
+/// keeps the bytes that were there before. Its offset has to be `end` at least, where the fields
+/// before it end. Returns where its own ends, and the last high part; and else changes no byte of the
+/// section.
+#[inline(always)]
+fn write_quickly(
+    architecture: Architecture,
+    addresses: &Addresses,
+    relocations: &[u8],
+    symbols: &[Symbol],
+    relocation: &Rela,
+    known: &KnownCode,
+    high: Option<HighPart>,
+    index: usize,
+    end: u64,
+    section: &mut [u8],
+    memory: &mut [u64],
+) -> Option<(u64, Option<HighPart>)>
+    requires within { index < length relocations.now / 24 }
+    requires room { length relocations.now / 24 ≤ length memory.old }
+    requires is { relocation.now ≡ relocation_in relocations.now index }
+    requires known { IsKnown architecture known.now }
+    requires code { known.now.code ≡ relocation.now.code }
+    requires high { IfSome high
+        (IsHighValue architecture addresses.now relocations.now symbols.now) }
+    ensures len { length memory.new ≡ length memory.old }
+    ensures high { IfSome result (λ next. IfSome (next.1)
+        (IsHighValue architecture addresses.now relocations.now symbols.now)) }
+    ensures step { (before : List ℕ) (last : Field) → last.offset + last.len ≤ end
+        → Reached architecture addresses.now relocations.now symbols.now None before section.old
+        memory.old index last
+        → IsQuickStep architecture addresses.now relocations.now symbols.now before index last
+        section.new memory.new result }
+{
+    let offset = relocation.offset;
+    if offset < end {
+        return None;
+    }
+    let Some(row) = &known.row else {
+        return None;
+    };
+    let number = known.number;
+    let Some(value) = quick_value(
+        architecture,
+        addresses,
+        relocations,
+        symbols,
+        number,
+        row,
+        relocation,
+        high,
+    ) else {
+        return None;
+    };
+    let Some(word) = whole_word_at(section, offset) else {
+        return None;
+    };
+    memory[index] = word;
+    if write_at(row, value, offset, section).is_err() {
+        return None;
+    }
+    let high = high_behind(
+        architecture,
+        addresses,
+        relocations,
+        symbols,
+        number,
+        row,
+        index,
+        offset,
+        value,
+        high,
+    );
+    Some((offset + row.window() as u64, high))
+}
+
+/// The last field before a relocation: that of a step, or where others were written quickly since, that
+/// of the relocation before.
+fn last_field(architecture: Architecture, relocations: &[u8], index: usize, step: &Step) -> Field
+    requires within { index < length relocations.now / 24 }
+    requires behind { step.now.index ≤ index }
+    ensures { (field : Field) → IsLastOf architecture relocations.now index step.now field
+        → result ≡ field }
+{
+    if step.index == index {
+        return step.last;
+    }
+    let relocation = relocation_in(relocations, index - 1);
+    match architecture.row(relocation.code) {
+        Some(row) => Field {
+            offset: relocation.offset,
+            len: row.window(),
+            kind: row.kind(),
+        },
+        None => NO_FIELD,
+    }
+}
+
+/// The same as `write_one`, of the relocation behind those that were written quickly since a step. None
+/// where it is before the last field.
+#[inline(never)]
+fn write_slowly(
+    architecture: Architecture,
+    addresses: &Addresses,
+    relocations: &[u8],
+    symbols: &[Symbol],
+    index: usize,
+    step: &Step,
+    section: &mut [u8],
+    memory: &mut [u64],
+) -> Result<Option<Step>, SectionError>
+    requires within { index < length relocations.now / 24 }
+    requires room { length relocations.now / 24 ≤ length memory.old }
+    requires behind { step.now.index ≤ index }
+    ensures len { length memory.new ≡ length memory.old }
+    ensures step { (before : List ℕ) (end : ℕ)
+        → IsFront architecture addresses.now relocations.now symbols.now before section.old
+        memory.old index step.now end
+        → IsSlowStep architecture addresses.now relocations.now symbols.now before index
+        section.new memory.new result }
+{
+    let last = last_field(architecture, relocations, index, step);
+    if offset_at(relocations, index) < last.offset {
+        return Ok(None);
+    }
+    match write_one(
+        architecture,
+        addresses,
+        relocations,
+        symbols,
+        None,
+        index,
+        last,
+        section,
+        memory,
+    ) {
+        Ok(step) => Ok(Some(step)),
+        Err(error) => Err(error),
+    }
+}
+
+/// The same as `write_in_any_order`, of relocations whose fields ascend by offset. Returns how many
+/// are written: fewer than there are, where the next one is before the last field.
+#[inline(always)]
+fn write_ascending(
+    architecture: Architecture,
+    addresses: &Addresses,
+    relocations: &[u8],
+    symbols: &[Symbol],
+    section: &mut [u8],
+    memory: &mut [u64],
+) -> Result<usize, Stopped>
+    requires memory { length relocations.now / 24 ≤ length memory.old }
+    ensures len { length memory.new ≡ length memory.old }
+    ensures ok { IfOk result (AreWrittenBelow architecture addresses.now relocations.now
+        symbols.now section.old section.new memory.new) }
+    ensures err { IfErr result (IsStopped architecture addresses.now relocations.now symbols.now
+        section.old section.new memory.new) }
+{
+    let mut known = no_codes(architecture);
+    let mut step = FIRST_STEP;
+    let mut end = 0;
+    let mut high = None;
+    let mut index = 0;
+    let mut rest = relocations;
+    while let Some((entry, behind)) = rest.split_first_chunk::<RELA_LEN>() {
+        let relocation = relocation_of(entry);
+        learn(architecture, relocation.code, &mut known);
+        if let Some((own_end, part)) = write_quickly(
+            architecture,
+            addresses,
+            relocations,
+            symbols,
+            &relocation,
+            &known[place_of(relocation.code)],
+            high,
+            index,
+            end,
+            section,
+            memory,
+        ) {
+            end = own_end;
+            high = part;
+            index += 1;
+            rest = behind;
+            continue;
+        }
+        match write_slowly(
+            architecture,
+            addresses,
+            relocations,
+            symbols,
+            index,
+            &step,
+            section,
+            memory,
+        ) {
+            Ok(Some(next)) => {
+                step = next;
+                index = step.index;
+                end = step.last.offset + step.last.len as u64;
+                rest = relocations_from(relocations, index);
+            }
+            Ok(None) => return Ok(index),
+            Err(error) => return Err(Stopped {
+                count: index,
+                error,
+            }),
+        }
+    }
+    Ok(index)
+}
+
+/// A call for an architecture, which is compiled for each by itself.
+macro_rules! of_each {
+    ($architecture:ident, $call:ident($($given:ident),*)) => {
+        match $architecture {
+            Architecture::AArch64 => $call(Architecture::AArch64, $($given),*),
+            Architecture::RiscV => $call(Architecture::RiscV, $($given),*),
+            Architecture::LoongArch64 => $call(Architecture::LoongArch64, $($given),*),
+            Architecture::Ppc64 => $call(Architecture::Ppc64, $($given),*),
+            Architecture::X86_64 => $call(Architecture::X86_64, $($given),*),
+        }
+    };
+}
+
+/// The same as `write_ascending`, by code of the architecture's own.
+pub(crate) fn write_ascending_of(
+    architecture: Architecture,
+    addresses: &Addresses,
+    relocations: &[u8],
+    symbols: &[Symbol],
+    section: &mut [u8],
+    memory: &mut [u64],
+) -> Result<usize, Stopped>
+    requires memory { length relocations.now / 24 ≤ length memory.old }
+    ensures len { length memory.new ≡ length memory.old }
+    ensures ok { IfOk result (AreWrittenBelow architecture addresses.now relocations.now
+        symbols.now section.old section.new memory.new) }
+    ensures err { IfErr result (IsStopped architecture addresses.now relocations.now symbols.now
+        section.old section.new memory.new) }
+{
+    of_each!(
+        architecture,
+        write_ascending(addresses, relocations, symbols, section, memory)
+    )
+}

@@ -1,0 +1,216 @@
+// Made by tools/erase of crates/linker_section/src/ascending.rt.
+//! The values of relocations that ascend by offset, written.
+
+use crate::linker_section::facts::{Addresses, Symbol};
+use crate::linker_section::fields::Field;
+use crate::linker_section::known::{KnownCode, learn, no_codes, place_of};
+use crate::linker_section::quick::{HighPart, high_behind, quick_value};
+use crate::linker_section::relocations::{
+    RELA_LEN, Rela, offset_at, relocation_in, relocation_of, relocations_from,
+};
+use crate::linker_section::saved::whole_word_at;
+use crate::linker_section::sections::{FIRST_STEP, NO_FIELD, SectionError, Step, Stopped, write_at, write_one};
+use crate::elf::Architecture;
+
+/// Writes the value of the relocation at an index, if it is found and accepted with few tests, and
+/// keeps the bytes that were there before. Its offset has to be `end` at least, where the fields
+/// before it end. Returns where its own ends, and the last high part; and else changes no byte of the
+/// section.
+#[inline(always)]
+fn write_quickly(
+    architecture: Architecture,
+    addresses: &Addresses,
+    relocations: &[u8],
+    symbols: &[Symbol],
+    relocation: &Rela,
+    known: &KnownCode,
+    high: Option<HighPart>,
+    index: usize,
+    end: u64,
+    section: &mut [u8],
+    memory: &mut [u64],
+) -> Option<(u64, Option<HighPart>)> {
+    let offset = relocation.offset;
+    if offset < end {
+        return None;
+    }
+    let Some(row) = &known.row else {
+        return None;
+    };
+    let number = known.number;
+    let Some(value) = quick_value(
+        architecture,
+        addresses,
+        relocations,
+        symbols,
+        number,
+        row,
+        relocation,
+        high,
+    ) else {
+        return None;
+    };
+    let Some(word) = whole_word_at(section, offset) else {
+        return None;
+    };
+    memory[index] = word;
+    if write_at(row, value, offset, section).is_err() {
+        return None;
+    }
+    let high = high_behind(
+        architecture,
+        addresses,
+        relocations,
+        symbols,
+        number,
+        row,
+        index,
+        offset,
+        value,
+        high,
+    );
+    Some((offset + row.window() as u64, high))
+}
+
+/// The last field before a relocation: that of a step, or where others were written quickly since, that
+/// of the relocation before.
+fn last_field(architecture: Architecture, relocations: &[u8], index: usize, step: &Step) -> Field {
+    if step.index == index {
+        return step.last;
+    }
+    let relocation = relocation_in(relocations, index - 1);
+    match architecture.row(relocation.code) {
+        Some(row) => Field {
+            offset: relocation.offset,
+            len: row.window(),
+            kind: row.kind(),
+        },
+        None => NO_FIELD,
+    }
+}
+
+/// The same as `write_one`, of the relocation behind those that were written quickly since a step. None
+/// where it is before the last field.
+#[inline(never)]
+fn write_slowly(
+    architecture: Architecture,
+    addresses: &Addresses,
+    relocations: &[u8],
+    symbols: &[Symbol],
+    index: usize,
+    step: &Step,
+    section: &mut [u8],
+    memory: &mut [u64],
+) -> Result<Option<Step>, SectionError> {
+    let last = last_field(architecture, relocations, index, step);
+    if offset_at(relocations, index) < last.offset {
+        return Ok(None);
+    }
+    match write_one(
+        architecture,
+        addresses,
+        relocations,
+        symbols,
+        None,
+        index,
+        last,
+        section,
+        memory,
+    ) {
+        Ok(step) => Ok(Some(step)),
+        Err(error) => Err(error),
+    }
+}
+
+/// The same as `write_in_any_order`, of relocations whose fields ascend by offset. Returns how many
+/// are written: fewer than there are, where the next one is before the last field.
+#[inline(always)]
+fn write_ascending(
+    architecture: Architecture,
+    addresses: &Addresses,
+    relocations: &[u8],
+    symbols: &[Symbol],
+    section: &mut [u8],
+    memory: &mut [u64],
+) -> Result<usize, Stopped> {
+    let mut known = no_codes(architecture);
+    let mut step = FIRST_STEP;
+    let mut end = 0;
+    let mut high = None;
+    let mut index = 0;
+    let mut rest = relocations;
+    while let Some((entry, behind)) = rest.split_first_chunk::<RELA_LEN>() {
+        let relocation = relocation_of(entry);
+        learn(architecture, relocation.code, &mut known);
+        if let Some((own_end, part)) = write_quickly(
+            architecture,
+            addresses,
+            relocations,
+            symbols,
+            &relocation,
+            &known[place_of(relocation.code)],
+            high,
+            index,
+            end,
+            section,
+            memory,
+        ) {
+            end = own_end;
+            high = part;
+            index += 1;
+            rest = behind;
+            continue;
+        }
+        match write_slowly(
+            architecture,
+            addresses,
+            relocations,
+            symbols,
+            index,
+            &step,
+            section,
+            memory,
+        ) {
+            Ok(Some(next)) => {
+                step = next;
+                index = step.index;
+                end = step.last.offset + step.last.len as u64;
+                rest = relocations_from(relocations, index);
+            }
+            Ok(None) => return Ok(index),
+            Err(error) => return Err(Stopped {
+                count: index,
+                error,
+            }),
+        }
+    }
+    Ok(index)
+}
+
+/// A call for an architecture, which is compiled for each by itself.
+macro_rules! of_each {
+    ($architecture:ident, $call:ident($($given:ident),*)) => {
+        match $architecture {
+            Architecture::AArch64 => $call(Architecture::AArch64, $($given),*),
+            Architecture::RiscV => $call(Architecture::RiscV, $($given),*),
+            Architecture::LoongArch64 => $call(Architecture::LoongArch64, $($given),*),
+            Architecture::Ppc64 => $call(Architecture::Ppc64, $($given),*),
+            Architecture::X86_64 => $call(Architecture::X86_64, $($given),*),
+        }
+    };
+}
+
+/// The same as `write_ascending`, by code of the architecture's own.
+pub(crate) fn write_ascending_of(
+    architecture: Architecture,
+    addresses: &Addresses,
+    relocations: &[u8],
+    symbols: &[Symbol],
+    section: &mut [u8],
+    memory: &mut [u64],
+) -> Result<usize, Stopped> {
+    of_each!(
+        architecture,
+        write_ascending(addresses, relocations, symbols, section, memory)
+    )
+}

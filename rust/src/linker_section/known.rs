@@ -1,0 +1,126 @@
+// Made by tools/erase of crates/linker_section/src/known.rt.
+//! What codes of relocations mean, kept once it is looked up, since a section has relocations of few
+//! types.
+
+use crate::linker_section::codes::{NO_ROW, number_of};
+use crate::elf::{Architecture, Row};
+
+/// The row and the number of a code that was looked up.
+pub(crate) struct KnownCode {
+    /// The code.
+    pub(crate) code: u32,
+    /// Its number.
+    pub(crate) number: u16,
+    /// Its row, if it has one.
+    pub(crate) row: Option<Row>,
+}
+
+/// Codes that were looked up, each at its low 6 bits.
+pub(crate) type KnownCodes = [KnownCode; 64];
+
+/// A place for one of them.
+macro_rules! none {
+    () => {
+        KnownCode {
+            code: 0,
+            number: NO_ROW,
+            row: None,
+        }
+    };
+}
+
+/// None of them.
+#[inline(always)]
+pub(crate) fn no_codes(architecture: Architecture) -> KnownCodes {
+    [
+        none!(),
+        none!(),
+        none!(),
+        none!(),
+        none!(),
+        none!(),
+        none!(),
+        none!(),
+        none!(),
+        none!(),
+        none!(),
+        none!(),
+        none!(),
+        none!(),
+        none!(),
+        none!(),
+        none!(),
+        none!(),
+        none!(),
+        none!(),
+        none!(),
+        none!(),
+        none!(),
+        none!(),
+        none!(),
+        none!(),
+        none!(),
+        none!(),
+        none!(),
+        none!(),
+        none!(),
+        none!(),
+        none!(),
+        none!(),
+        none!(),
+        none!(),
+        none!(),
+        none!(),
+        none!(),
+        none!(),
+        none!(),
+        none!(),
+        none!(),
+        none!(),
+        none!(),
+        none!(),
+        none!(),
+        none!(),
+        none!(),
+        none!(),
+        none!(),
+        none!(),
+        none!(),
+        none!(),
+        none!(),
+        none!(),
+        none!(),
+        none!(),
+        none!(),
+        none!(),
+        none!(),
+        none!(),
+        none!(),
+        none!(),
+    ]
+}
+
+/// Where a code is kept.
+#[inline(always)]
+pub(crate) fn place_of(code: u32) -> usize {
+    (code % 64) as usize
+}
+
+/// What a code means. By itself, since most codes are looked up once.
+#[inline(never)]
+fn look_up(architecture: Architecture, code: u32) -> KnownCode {
+    KnownCode {
+        code,
+        number: number_of(architecture, code),
+        row: architecture.row(code),
+    }
+}
+
+/// Keeps what a code means, unless it is there.
+#[inline(always)]
+pub(crate) fn learn(architecture: Architecture, code: u32, known: &mut KnownCodes) {
+    let place = place_of(code);
+    if known[place].code != code {
+        known[place] = look_up(architecture, code);
+    }
+}
