@@ -54,9 +54,8 @@ enum { RANK_HEADERS, RANK_FIXED, RANK_CODE, RANK_TLS, RANK_TLS_BSS, RANK_ARRAYS,
 struct run {
     uint64_t start;
     struct linker_utils_delta *deltas;
-    uint32_t *firsts; /* of each block of bytes: how many deltas are before it */
-    size_t deltas_len, firsts_len;
-    unsigned block; /* the exponent of two of its length */
+    struct linker_utils_block_head *heads; /* of the deltas */
+    size_t deltas_len, heads_len;
 };
 
 /* A section of the linked file. Offsets in it count from before bytes are deleted. */
@@ -76,7 +75,8 @@ struct output {
     const struct output *link;
     uint64_t element;                   /* how many bytes an element has; 0 where it has none */
     struct relocation *relocations;
-    size_t relocations_len, relocations_room;
+    struct linker_utils_deletion *deleted; /* by rewrites, in their order */
+    size_t relocations_len, relocations_room, deleted_len, deleted_room;
 };
 
 struct object {
@@ -93,7 +93,7 @@ struct object {
     size_t len, sections_len, symbols_len, resolved_len;
     uint32_t flags; /* `e_flags` */
     struct linker_utils_kept_groups *kept; /* by symbol, which groups of instructions stay */
-    bool is_threaded;                      /* it mentions thread-local symbols */
+    bool is_threaded, is_compressed; /* it mentions thread-local symbols; has the shortest instructions */
 };
 
 struct section {
@@ -172,7 +172,7 @@ struct relocation {
     struct entry *entry;
     uint64_t offset; /* in the output */
     int64_t addend;
-    uint32_t type, index, deleted; /* index: of its symbol in the object; deleted: bytes there */
+    uint32_t type, index; /* of its symbol in the object */
     bool may_use_stub;
     bool is_kept; /* of a word that instructions load: one of them can't compute what it has */
 };
@@ -245,7 +245,7 @@ struct output *own_section(const char *name, uint64_t flags, bool has_bytes);
 struct relocation *add_relocations(struct output *o, size_t len);
 uint64_t code_unit(void), make_room(struct output *o, uint64_t align, uint64_t len);
 uint64_t address_of(const struct output *o, uint64_t offset);
-void place_outputs(void), index_deltas(struct run *run), set_addresses(void);
+void place_outputs(void), set_addresses(void);
 void add_section(struct section *s), reserve_outputs(void), copy_section(struct section *s), sort_outputs(void);
 
 void rewrite_phases(uint32_t first, uint32_t last), rewrite_placed(void), require_all(void);

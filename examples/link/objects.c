@@ -148,6 +148,7 @@ static void read_object(const char *path, const uint8_t *bytes, size_t len) {
     objects_end = &o->next;
     read_heads(o, ET_REL, "not a relocatable object of little-endian ELF64");
     if (o == objects) machine_flags = o->flags;
+    o->is_compressed = linker_utils_code_unit(machine, o->flags) < linker_utils_code_unit(machine, 0);
     demand(o, !linker_utils_join_flags(machine, machine_flags, o->flags, &machine_flags),
            "of another ABI than those before it");
     for (size_t i = 0; i < o->sections_len; i++)

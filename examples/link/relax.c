@@ -4,15 +4,6 @@
  * each distance is known exactly. */
 #include "link.h"
 
-/* Whether objects with such flags have shorter instructions than others. */
-static bool is_compressed(uint32_t flags) {
-    static uint32_t asked;
-    static bool is;
-    if (flags != asked) is = linker_utils_code_unit(machine, flags) < linker_utils_code_unit(machine, 0);
-    asked = flags;
-    return is;
-}
-
 /* What the library is told of a relocation: its target, if that is in the same run. Between a
  * symbol in code and what is some bytes behind it code may become shorter. */
 static struct linker_utils_rela seen(const struct output *o,
@@ -22,7 +13,7 @@ static struct linker_utils_rela seen(const struct output *o,
     struct linker_utils_rela seen = {
         .offset = r->offset, .addend = r->addend, .r_type = r->type,
         .has_symbol = r->section && s != *r->section->object->symbols,
-        .may_compress = r->section && is_compressed(r->section->object->flags)};
+        .may_compress = r->section && r->section->object->is_compressed};
     if (!relaxes || !to || to->run != o->run || to->flags & SHF_TLS || (to->shrinks && r->addend))
         return seen;
     uint64_t offset = (s->offset == END ? to->len : s->offset) + (uint64_t)r->addend;
@@ -31,35 +22,30 @@ static struct linker_utils_rela seen(const struct output *o,
     return seen;
 }
 
-/* Adds the items of a section to those of its run, each with its relocation. */
+/* Ends with an error of a relocation, or where that is null of what is named. */
+static void check_all(uint32_t status, const struct relocation *r, const char *name) {
+    if (r) check(r, status);
+    if (status) fail("%s can't be relaxed: %s", name, linker_utils_status_text(status));
+}
+
+/* Adds the items of a section to those of its run, each with its relocation, or null for a deletion
+ * that is decided. */
 static size_t add_items(struct output *o, struct linker_utils_item *items, struct relocation **of) {
-    size_t all = o->relocations_len, found_len = 0, len = 0, at = SIZE_MAX;
+    size_t all = o->relocations_len, most = all + o->deleted_len, at = SIZE_MAX;
     struct linker_utils_rela *relocations = take(all, sizeof *relocations);
-    size_t *makers = take(all, sizeof *makers);
+    size_t *makers = take(most, sizeof *makers);
     for (size_t i = 0; i < all; i++) {
         __builtin_prefetch(o->relocations[i + 8 < all ? i + 8 : i].symbol);
         relocations[i] = seen(o, &o->relocations[i]);
     }
-    uint32_t status = linker_utils_section_items(machine, o->bytes, o->len, o->base, relocations, all,
-                                                 items, all, makers, all, &found_len, &at);
-    if (status && at < all) check(&o->relocations[at], status);
-    if (status) fail("section %s: %s", o->name, linker_utils_status_text(status));
+    uint32_t status = linker_utils_rewritten_items(
+        machine, o->bytes, o->len, o->base, relocations, all, o->deleted, o->deleted_len, items, most,
+        makers, most, &o->items_len, &at);
+    check_all(status, at < all ? &o->relocations[at] : NULL, o->name);
+    for (size_t i = 0; i < o->items_len; i++)
+        of[i] = makers[i] < all ? &o->relocations[makers[i]] : NULL;
     give_back(relocations, all, sizeof *relocations);
-    for (size_t i = 0; i < all; i++) len += o->relocations[i].deleted > 0;
-    o->items_len = len += found_len;
-    for (size_t i = all; i-- > 0 && len;) { /* makes room between them from behind */
-        struct relocation *r = &o->relocations[i];
-        uint64_t offset = o->base + r->offset;
-        if (r->deleted)
-            items[--len] = (struct linker_utils_item){.offset = offset, .target = offset,
-                                                      .len = r->deleted,
-                                                      .kind = LINKER_UTILS_ITEM_SITE};
-        else if (found_len && makers[found_len - 1] == i)
-            items[--len] = items[--found_len];
-        else
-            continue;
-        of[len] = r;
-    }
+    give_back(makers, most, sizeof *makers);
     return o->items_len;
 }
 
@@ -72,7 +58,7 @@ static void pack(struct output *o, struct linker_utils_item *items, const uint64
     for (size_t i = 0; i < o->items_len; i++)
         if (kept[i] < items[i].len) {
             items[len] = items[i];
-            if (!of[i]->section)
+            if (of[i] && !of[i]->section)
                 items[len] = (struct linker_utils_item){
                     .offset = items[len].offset, .target = items[len].offset, .len = items[len].len,
                     .kind = LINKER_UTILS_ITEM_SITE, .shapes = {.longest = (uint32_t)kept[i]}};
@@ -83,8 +69,7 @@ static void pack(struct output *o, struct linker_utils_item *items, const uint64
     uint32_t status =
         linker_utils_pack_run(machine, o->bytes, o->len, o->base, items, len, run->deltas,
                               run->deltas_len, run->start, packed, packed_len, &at);
-    if (status && at < len) check(of[at], status);
-    if (status) fail("section %s: %s", o->name, linker_utils_status_text(status));
+    check_all(status, at < len ? of[at] : NULL, o->name);
     const struct relocation *end = o->relocations + o->relocations_len;
     for (size_t i = 0; i < len; i++) { /* what is at these has its values already */
         uint64_t past = items[i].offset - o->base + items[i].len;
@@ -105,7 +90,7 @@ static void relax_run(struct run *run) {
     for (size_t i = 0; i < outputs_len; i++) {
         const struct output *o = outputs[i];
         if (o->run != run) continue;
-        room += o->relocations_len + 1;
+        room += o->relocations_len + o->deleted_len + 1;
         shrinks |= o->shrinks;
         if (o->base + o->len > end) end = o->base + o->len;
     }
@@ -127,11 +112,12 @@ static void relax_run(struct run *run) {
     uint8_t *shapes = take(len, 1);
     uint32_t status = linker_utils_relax(items, len, run->start, shapes, len, kept, len, places,
                                          len, freed, len + 1, &at);
-    if (status && at < len && of[at]) check(of[at], status);
-    if (status) fail("the code can't be relaxed: %s", linker_utils_status_text(status));
+    check_all(status, at < len ? of[at] : NULL, "the code");
     run->deltas = take(len, sizeof *run->deltas);
     linker_utils_run_deltas(items, len, kept, len, run->deltas, len, &run->deltas_len);
-    index_deltas(run);
+    run->heads_len = linker_utils_deltas_block_count(run->deltas, run->deltas_len);
+    run->heads = take(run->heads_len, sizeof *run->heads);
+    linker_utils_deltas_heads(run->deltas, run->deltas_len, run->heads, run->heads_len);
     len = 0;
     for (size_t i = 0; i < outputs_len; i++) {
         struct output *o = outputs[i];
