@@ -15,9 +15,7 @@ struct dynamic_row {
     int64_t addend;
 };
 
-struct output *interpreter, *dynamic;
-struct output *rela;
-static struct output *dynsym, *dynstr, *hash_table, *versym, *verneed;
+struct output *interpreter, *dynamic, *rela, *dynsym, *dynstr, *hash_table, *versym, *verneed;
 static struct dynamic_row *rows;
 static size_t rows_len, rows_room, listed_len = 1, imports_len = 1, listed_room;
 static struct symbol **listed; /* by their numbers in the table */
@@ -25,32 +23,6 @@ static struct symbol **listed; /* by their numbers in the table */
 void add_row(struct output *o, uint64_t offset, uint32_t type, struct symbol *s, int64_t addend) {
     rows = grow(rows, rows_len + 1, &rows_room, sizeof *rows);
     rows[rows_len++] = (struct dynamic_row){o, offset, type, s, addend};
-}
-
-/* A table of the linked file, whose elements have so many bytes. */
-static struct output *own_table(const char *name, uint32_t type, uint64_t element,
-                                const struct output *link) {
-    struct output *o = own_section(name, SHF_ALLOC, true);
-    o->type = type;
-    o->element = element;
-    o->link = link;
-    return o;
-}
-
-/* The sections that dynamic outputs have, and the only one of them that static ones have too. */
-void make_tables(void) {
-    rela = own_table(is_dynamic ? ".rela.dyn" : ".rela_iplt", SHT_RELA, sizeof(Elf64_Rela), NULL);
-    if (!is_dynamic) return;
-    if (linked.is_executable) interpreter = own_section(".interp", SHF_ALLOC, true);
-    dynstr = own_table(".dynstr", SHT_STRTAB, 0, NULL);
-    dynsym = own_table(".dynsym", SHT_DYNSYM, sizeof(Elf64_Sym), dynstr);
-    dynsym->info = 1;
-    hash_table = own_table(".gnu.hash", SHT_GNU_HASH, 0, dynsym);
-    versym = own_table(".gnu.version", SHT_GNU_versym, 2, dynsym);
-    verneed = own_table(".gnu.version_r", SHT_GNU_verneed, 0, dynstr);
-    rela->link = dynsym;
-    dynamic = own_table(".dynamic", SHT_DYNAMIC, sizeof(Elf64_Dyn), dynstr);
-    dynamic->flags |= SHF_WRITE;
 }
 
 /* Whether nothing defines a weak symbol so far. Where code doesn't load its address that is 0. */
@@ -264,6 +236,7 @@ static void list_dynamic(void) {
     if (listed_len > imports_len)
         qsort(listed + imports_len, listed_len - imports_len, sizeof *listed, by_bucket);
     write_needed(2);
+    dynsym->info = 1;
     make_room(dynsym, 8, listed_len * sizeof(Elf64_Sym));
     for (size_t i = 1; i < listed_len; i++) {
         ((Elf64_Sym *)dynsym->bytes)[i].st_name = add_name(dynstr, listed[i]->name);
@@ -286,8 +259,7 @@ static void put_entry(int64_t tag, uint64_t value) {
 /* An array of functions: with priorities it is several sections, one behind the other. */
 static void put_array(int64_t tag, int64_t size, const char *name) {
     uint64_t start = UINT64_MAX, end = 0;
-    for (size_t i = 0; i < outputs_len; i++) {
-        const struct output *o = outputs[i];
+    EACH_OUTPUT(o) {
         if (!o->len || strncmp(o->name, name, strlen(name))) continue;
         if (o->address < start) start = o->address;
         if (o->address + o->len > end) end = o->address + o->len;

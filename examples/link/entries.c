@@ -103,13 +103,12 @@ static void require(struct relocation *r) {
 }
 
 void require_all(void) {
-    for (struct object *o = objects; o; o = o->next)
-        for (struct section *s = o->sections; s < o->sections + o->sections_len; s++)
-            for (size_t i = 0; i < s->relocations_len; i++) {
-                struct relocation *r = s->output->relocations + s->first + i;
-                if (i + 8 < s->relocations_len) __builtin_prefetch(r[8].symbol);
-                require(r);
-            }
+    EACH_SECTION(s)
+        for (size_t i = 0; i < s->relocations_len; i++) {
+            struct relocation *r = s->output->relocations + s->first + i;
+            if (i + 8 < s->relocations_len) __builtin_prefetch(r[8].symbol);
+            require(r);
+        }
 }
 
 /* An indirect function's address is that of its stub, which goes to the address in a slot. When the
@@ -208,8 +207,7 @@ bool add_thunks(void) {
     struct linker_utils_stub stub;
     struct linker_utils_route route;
     if (linker_utils_stub(machine, LINKER_UTILS_STUB_JUMP, &stub)) return false;
-    for (size_t i = 0; i < outputs_len; i++) {
-        struct output *o = outputs[i];
+    EACH_OUTPUT(o) {
         size_t len = o->flags & SHF_EXECINSTR ? o->relocations_len : 0;
         for (size_t j = 0; j < len; j++) {
             struct relocation *r = &o->relocations[j];

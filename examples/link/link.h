@@ -46,6 +46,12 @@
 enum { RANK_HEADERS, RANK_FIXED, RANK_CODE, RANK_TLS, RANK_TLS_BSS, RANK_ARRAYS, RANK_RELOCATED = 8,
        RANK_GOT, RANK_DATA = RANK_GOT + 2, RANK_SMALL_DATA, RANK_BSS };
 
+/* each section of the linked file, and each that objects have, in their order */
+#define EACH_OUTPUT(o) for (struct output *o, **o##_at = outputs; (o = *o##_at); o##_at++)
+#define EACH_SECTION(s)                                        \
+    for (struct object *s##_of = objects; s##_of; s##_of = s##_of->next) \
+        for (struct section *s = s##_of->sections; s < s##_of->sections + s##_of->sections_len; s++)
+
 #define fail(...) (fprintf(stderr, __VA_ARGS__), fputc('\n', stderr), exit(1))
 
 /* Sections that are relaxed together, one behind the other from `start` on: all of the linked file,
@@ -205,8 +211,9 @@ extern bool has_commons; /* whether one of them has no section yet */
 extern struct symbol *module_base; /* `_TLS_MODULE_BASE_`; null where no object requires it */
 extern struct library *libraries; /* in their order */
 extern struct linker_utils_dynamic_types types;
-extern struct output *outputs[256], *headers, *got, *stubs, *slots, *rela, *frames, *index_of;
-extern struct output *interpreter, *dynamic; /* null where there is none */
+extern struct output *outputs[257], *headers, /* (the last is null) */ *got, *stubs, *slots, *rela, *frames, *index_of;
+/* null where there is none: */
+extern struct output *interpreter, *dynamic, *dynsym, *dynstr, *hash_table, *versym, *verneed;
 extern size_t outputs_len;
 extern uint64_t span; /* of the linked file's addresses */
 extern struct tls tls;
@@ -241,7 +248,6 @@ bool is_first_group(const char *name);
 void list_symbol(struct symbol *s), list_symbols(void), define_symbols(void), place_symbol(struct symbol *s);
 
 struct output *output_of(const char *name);
-struct output *own_section(const char *name, uint64_t flags, bool has_bytes);
 struct relocation *add_relocations(struct output *o, size_t len);
 uint64_t code_unit(void), make_room(struct output *o, uint64_t align, uint64_t len);
 uint64_t address_of(const struct output *o, uint64_t offset);
@@ -257,7 +263,7 @@ bool is_defined(const struct symbol *s), is_here(const struct symbol *s);
 uint64_t add_slot(struct symbol *s, uint32_t type);
 uint64_t append(struct output *o, uint64_t align, const void *bytes, uint64_t len);
 uint32_t add_name(struct output *o, const char *text);
-void make_tables(void), bind_symbols(void), make_imports(void), make_dynamic(void);
+void bind_symbols(void), make_imports(void), make_dynamic(void);
 void import(struct relocation *r, const struct linker_utils_requirements *needs);
 void add_row(struct output *o, uint64_t offset, uint32_t type, struct symbol *s, int64_t addend);
 void fill_entry(const struct entry *e);
@@ -265,16 +271,12 @@ bool write_dynamic(void);
 struct linker_utils_got known_got(void);
 struct linker_utils_symbol known_symbol(const struct symbol *s);
 struct linker_utils_addresses addresses_of(uint64_t start);
+Elf64_Rela *relocations_of(const struct section *s, uint64_t start);
 struct alone alone_of(const struct output *o, const struct relocation *r);
 bool is_left_out(const struct relocation *r), is_undefined_weak(const struct symbol *s);
 bool is_thread_local(const struct symbol *s);
 Elf64_Sym symbol_of(const struct symbol *s);
 uint64_t read_frames(const struct section *s, const uint8_t *bytes, uint8_t *rows);
 void index_frames(void), write_file(const char *path, uint64_t entry, bool has_symbols);
-
-/* The offset of a relocation in its section, which is at an address. */
-static inline uint64_t offset_in(const struct section *s, const struct relocation *r, uint64_t start) {
-    return s->output->shrinks ? address_of(s->output, r->offset) - start : r->offset - s->offset;
-}
 
 #endif

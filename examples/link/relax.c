@@ -87,8 +87,7 @@ static void relax_run(struct run *run) {
     uint64_t end = 0;
     uint32_t unit = (uint32_t)code_unit();
     bool shrinks = false;
-    for (size_t i = 0; i < outputs_len; i++) {
-        const struct output *o = outputs[i];
+    EACH_OUTPUT(o) {
         if (o->run != run) continue;
         room += o->relocations_len + o->deleted_len + 1;
         shrinks |= o->shrinks;
@@ -97,8 +96,7 @@ static void relax_run(struct run *run) {
     if (!shrinks) return;
     struct linker_utils_item *items = take(room, sizeof *items);
     struct relocation **of = take(room, sizeof *of);
-    for (size_t i = 0; i < outputs_len; i++) {
-        struct output *o = outputs[i];
+    EACH_OUTPUT(o) {
         if (o->run != run) continue;
         if (o->before.len) items[len++] = o->before;
         if (o->shrinks) len += add_items(o, items + len, of + len);
@@ -119,8 +117,7 @@ static void relax_run(struct run *run) {
     run->heads = take(run->heads_len, sizeof *run->heads);
     linker_utils_deltas_heads(run->deltas, run->deltas_len, run->heads, run->heads_len);
     len = 0;
-    for (size_t i = 0; i < outputs_len; i++) {
-        struct output *o = outputs[i];
+    EACH_OUTPUT(o) {
         if (o->run != run) continue;
         len += o->before.len > 0;
         if (o->shrinks) pack(o, items + len, kept + len, of + len);
@@ -133,15 +130,13 @@ static void relax_run(struct run *run) {
 /* Relaxes all code. */
 void relax(void) {
     bool shrinks = has_short_offsets && relaxes;
-    for (size_t i = 0; i < outputs_len; i++) shrinks |= outputs[i]->shrinks;
+    EACH_OUTPUT(o) shrinks |= o->shrinks;
     uint32_t phase = LINKER_UTILS_PHASE_THREAD_OFFSETS;
     if (shrinks) rewrite_phases(phase, phase);
-    for (size_t i = 0; i < outputs_len; i++)
-        if (!outputs[i]->run->deltas) relax_run(outputs[i]->run);
+    EACH_OUTPUT(o) if (!o->run->deltas) relax_run(o->run);
     set_addresses();
     rewrite_placed();
-    for (size_t i = 0; i < outputs_len; i++) {
-        const struct output *o = outputs[i];
+    EACH_OUTPUT(o) {
         uint64_t align = o->flags & SHF_TLS && o->address == tls.image ? tls.align : o->align;
         uint64_t wanted = o->is_placed ? o->place : o->address;
         if (wanted % align || wanted != o->address)

@@ -243,7 +243,7 @@ void define_symbols(void) {
     define_runs();
     define("__bss_start", output_of(".bss"), 0);
     sort_outputs();
-    for (size_t i = 0; i < outputs_len; i++) define_end(outputs[i], false); /* the first counts */
+    EACH_OUTPUT(o) define_end(o, false); /* the first counts */
     for (size_t i = outputs_len; i > 0; i--) define_end(outputs[i - 1], true);
     define("_GLOBAL_OFFSET_TABLE_", got, 0);
     define_provided(false);
