@@ -113,20 +113,16 @@ static void make_copy(struct symbol *s) {
     }
 }
 
-/* Makes the stub to a function of another file, which goes to the address in a slot. If the stub is
- * the function's address other look-ups than of a jump slot find the stub itself; and else in a jump
- * slot a dynamic linker may put the entry for calls within a file. */
-static void make_import(struct symbol *s) {
-    s->stub = add_slot(s, s->is_canonical ? types.jump_slot : types.glob_dat);
-    if (!s->is_canonical) return;
-    s->output = stubs;
-    s->offset = s->stub;
-}
-
+/* Makes the copies of variables, and the stubs to functions of other files, which go to the address
+ * in a slot. If the stub is the function's address other look-ups than of a jump slot find the stub
+ * itself; and else in a jump slot a dynamic linker may put the entry for calls within a file. */
 void make_imports(void) {
     for (struct symbol *s = symbols; s; s = s->later) {
         if (s->is_copied && !s->output) make_copy(s);
-        if (s->has_stub) make_import(s);
+        if (s->has_stub) s->stub = add_slot(s, s->is_canonical ? types.jump_slot : types.glob_dat);
+        if (!s->has_stub || !s->is_canonical) continue;
+        s->output = stubs;
+        s->offset = s->stub;
     }
 }
 
@@ -256,6 +252,14 @@ static void put_entry(int64_t tag, uint64_t value) {
     memcpy(dynamic->bytes + at, &entry, sizeof entry);
 }
 
+/* Where a table is that isn't empty, and where there are tags for them, its length and that of an element. */
+static void put_table(const struct output *o, int64_t tag, int64_t size, int64_t element) {
+    if (!o->len) return;
+    put_entry(tag, o->address);
+    if (size) put_entry(size, o->len);
+    if (element) put_entry(element, o->element);
+}
+
 /* An array of functions: with priorities it is several sections, one behind the other. */
 static void put_array(int64_t tag, int64_t size, const char *name) {
     uint64_t start = UINT64_MAX, end = 0;
@@ -275,7 +279,7 @@ static void put_function(int64_t tag, const char *name) {
 /* Makes the entries, or writes them once addresses are known. */
 static void put_entries(void) {
     static uint32_t name;
-    uint64_t relative = 0, flags = DF_BIND_NOW;
+    uint64_t flags = DF_BIND_NOW;
     if (own_name && !name) name = add_name(dynstr, own_name);
     entries_len = 0;
     for (const struct library *l = libraries; l; l = l->next) put_entry(DT_NEEDED, l->name_at);
@@ -285,26 +289,15 @@ static void put_entries(void) {
     if (linked.is_executable) put_array(DT_PREINIT_ARRAY, DT_PREINIT_ARRAYSZ, ".preinit_array");
     put_array(DT_INIT_ARRAY, DT_INIT_ARRAYSZ, ".init_array");
     put_array(DT_FINI_ARRAY, DT_FINI_ARRAYSZ, ".fini_array");
-    put_entry(DT_GNU_HASH, hash_table->address);
-    put_entry(DT_STRTAB, dynstr->address);
-    put_entry(DT_STRSZ, dynstr->len);
-    put_entry(DT_SYMTAB, dynsym->address);
-    put_entry(DT_SYMENT, sizeof(Elf64_Sym));
-    for (const struct dynamic_row *row = rows; row < rows + rows_len; row++) {
-        relative += row->type == types.relative;
+    put_table(hash_table, DT_GNU_HASH, 0, 0);
+    put_table(dynstr, DT_STRTAB, DT_STRSZ, 0);
+    put_table(dynsym, DT_SYMTAB, 0, DT_SYMENT);
+    put_table(rela, DT_RELA, DT_RELASZ, DT_RELAENT);
+    put_table(versym, DT_VERSYM, 0, 0);
+    put_table(verneed, DT_VERNEED, 0, 0);
+    if (verneed->len) put_entry(DT_VERNEEDNUM, verneed->info);
+    for (const struct dynamic_row *row = rows; row < rows + rows_len; row++)
         if (!linked.is_executable && row->type == types.thread_offset) flags |= DF_STATIC_TLS;
-    }
-    if (rows_len) {
-        put_entry(DT_RELA, rela->address);
-        put_entry(DT_RELASZ, rela->len);
-        put_entry(DT_RELAENT, sizeof(Elf64_Rela));
-        put_entry(DT_RELACOUNT, relative);
-    }
-    if (verneed->len) {
-        put_entry(DT_VERSYM, versym->address);
-        put_entry(DT_VERNEED, verneed->address);
-        put_entry(DT_VERNEEDNUM, verneed->info);
-    }
     if (linked.is_executable) put_entry(DT_DEBUG, 0);
     put_entry(DT_FLAGS, flags);
     put_entry(DT_FLAGS_1, DF_1_NOW | (linked.is_executable && !linked.is_fixed ? DF_1_PIE : 0));

@@ -249,9 +249,29 @@ void place_outputs(void) {
     set_addresses();
 }
 
+/* Counts the deltas before each block of a run, so that few are searched for an offset. */
+void index_deltas(struct run *run) {
+    const struct linker_utils_delta *deltas = run->deltas;
+    uint64_t last = run->deltas_len ? deltas[run->deltas_len - 1].input_offset : 0;
+    while (last >> run->block > 2 * run->deltas_len) run->block++;
+    run->firsts_len = (size_t)(last >> run->block) + 2;
+    run->firsts = take(run->firsts_len, sizeof *run->firsts);
+    for (uint32_t i = 0, k = 0; i < run->firsts_len; run->firsts[i++] = k)
+        while (k < run->deltas_len && deltas[k].input_offset >> run->block < i) k++;
+}
+
 static uint64_t address_in(const struct run *run, uint64_t offset) {
-    return run->start + linker_utils_deltas_input_to_output_by_heads(
-                            run->deltas, run->deltas_len, run->heads, run->heads_len, offset);
+    if (!run->deltas_len) return run->start + offset;
+    uint64_t block = offset >> run->block;
+    size_t at = run->firsts[block < run->firsts_len ? block : run->firsts_len - 1], end = at + 16;
+    if (end > run->deltas_len) end = run->deltas_len;
+    while (at < end && run->deltas[at].input_offset < offset) at++;
+    if (at == end && end < run->deltas_len)
+        return run->start + linker_utils_deltas_input_to_output(run->deltas, run->deltas_len, offset);
+    if (!at) return run->start + offset;
+    const struct linker_utils_delta *before = &run->deltas[at - 1];
+    uint64_t past = offset - before->input_offset, bytes = before->bytes_deleted;
+    return run->start + offset - before->cumulative_deleted + (past < bytes ? bytes - past : 0);
 }
 
 /* Sets the addresses of the sections, by what the runs lose. */

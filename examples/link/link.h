@@ -60,8 +60,9 @@ enum { RANK_HEADERS, RANK_FIXED, RANK_CODE, RANK_TLS, RANK_TLS_BSS, RANK_ARRAYS,
 struct run {
     uint64_t start;
     struct linker_utils_delta *deltas;
-    struct linker_utils_block_head *heads; /* of the deltas */
-    size_t deltas_len, heads_len;
+    uint32_t *firsts; /* of each block of bytes: how many deltas are before it */
+    size_t deltas_len, firsts_len;
+    unsigned block; /* the exponent of two of its length */
 };
 
 /* A section of the linked file. Offsets in it count from before bytes are deleted. */
@@ -207,11 +208,10 @@ extern bool has_short_offsets; /* and PowerPC64's local-exec, which ld.lld leave
 extern struct object *objects; /* in the order in which they are read */
 extern struct symbol *symbols; /* all that objects mention, in their order */
 extern size_t symbols_len;
-extern bool has_commons; /* whether one of them has no section yet */
 extern struct symbol *module_base; /* `_TLS_MODULE_BASE_`; null where no object requires it */
 extern struct library *libraries; /* in their order */
 extern struct linker_utils_dynamic_types types;
-extern struct output *outputs[257], *headers, /* (the last is null) */ *got, *stubs, *slots, *rela, *frames, *index_of;
+extern struct output *outputs[257], *headers, *got, *stubs, *slots, *rela, *frames, *index_of;
 /* null where there is none: */
 extern struct output *interpreter, *dynamic, *dynsym, *dynstr, *hash_table, *versym, *verneed;
 extern size_t outputs_len;
@@ -251,7 +251,7 @@ struct output *output_of(const char *name);
 struct relocation *add_relocations(struct output *o, size_t len);
 uint64_t code_unit(void), make_room(struct output *o, uint64_t align, uint64_t len);
 uint64_t address_of(const struct output *o, uint64_t offset);
-void place_outputs(void), set_addresses(void);
+void place_outputs(void), index_deltas(struct run *run), set_addresses(void);
 void add_section(struct section *s), reserve_outputs(void), copy_section(struct section *s), sort_outputs(void);
 
 void rewrite_phases(uint32_t first, uint32_t last), rewrite_placed(void), require_all(void);
@@ -271,12 +271,16 @@ bool write_dynamic(void);
 struct linker_utils_got known_got(void);
 struct linker_utils_symbol known_symbol(const struct symbol *s);
 struct linker_utils_addresses addresses_of(uint64_t start);
-Elf64_Rela *relocations_of(const struct section *s, uint64_t start);
 struct alone alone_of(const struct output *o, const struct relocation *r);
 bool is_left_out(const struct relocation *r), is_undefined_weak(const struct symbol *s);
 bool is_thread_local(const struct symbol *s);
 Elf64_Sym symbol_of(const struct symbol *s);
 uint64_t read_frames(const struct section *s, const uint8_t *bytes, uint8_t *rows);
 void index_frames(void), write_file(const char *path, uint64_t entry, bool has_symbols);
+
+/* The offset of a relocation in its section, which is at an address. */
+static inline uint64_t offset_in(const struct section *s, const struct relocation *r, uint64_t start) {
+    return s->output->shrinks ? address_of(s->output, r->offset) - start : r->offset - s->offset;
+}
 
 #endif

@@ -142,7 +142,7 @@ int main(int argc, char **argv) {
     make_room(index_of, 4, index_len);
     define_symbols();
     if (is_dynamic) bind_symbols();
-    for (struct symbol *s = has_commons ? symbols : NULL; s; s = s->later) {
+    for (struct symbol *s = symbols; s; s = s->later) {
         if (s->elf.st_shndx != SHN_COMMON) continue; /* these are first in `.bss`, as in ld.lld */
         s->output = output_of(".bss");
         s->output->flags |= SHF_WRITE | SHF_ALLOC;

@@ -113,9 +113,7 @@ static void relax_run(struct run *run) {
     check_all(status, at < len ? of[at] : NULL, "the code");
     run->deltas = take(len, sizeof *run->deltas);
     linker_utils_run_deltas(items, len, kept, len, run->deltas, len, &run->deltas_len);
-    run->heads_len = linker_utils_deltas_block_count(run->deltas, run->deltas_len);
-    run->heads = take(run->heads_len, sizeof *run->heads);
-    linker_utils_deltas_heads(run->deltas, run->deltas_len, run->heads, run->heads_len);
+    index_deltas(run);
     len = 0;
     EACH_OUTPUT(o) {
         if (o->run != run) continue;

@@ -102,21 +102,6 @@ struct linker_utils_addresses addresses_of(uint64_t start) {
         .module_entry = module_entry ? address_of(got, module_entry->offset) : 0};
 }
 
-/* The relocations of a section that is at an address, without types and symbols, until the next call. */
-Elf64_Rela *relocations_of(const struct section *s, uint64_t start) {
-    static Elf64_Rela *elf;
-    static size_t room;
-    const struct relocation *r = s->output->relocations + s->first;
-    elf = grow(elf, s->relocations_len, &room, sizeof *elf);
-    for (size_t i = 0; i < s->relocations_len; i++) {
-        elf[i] = (Elf64_Rela){r[i].offset - s->offset, 0, r[i].addend};
-        if (!s->output->shrinks) continue;
-        bool is_same = i && r[i].offset == r[i - 1].offset;
-        elf[i].r_offset = is_same ? elf[i - 1].r_offset : address_of(s->output, r[i].offset) - start;
-    }
-    return elf;
-}
-
 /* A relocation by itself, by what is known of addresses so far. */
 struct alone alone_of(const struct output *o, const struct relocation *r) {
     return (struct alone){
@@ -173,19 +158,21 @@ static void relocate_section(const struct section *s) {
     const struct relocation *r = o->relocations + s->first;
     uint64_t start = address_of(o, s->offset), end = address_of(o, s->end), len = s->relocations_len;
     size_t size = len * sizeof(Elf64_Rela), at = 0;
-    static uint64_t *memory; /* for one section after another */
-    static size_t room;
-    Elf64_Rela *elf = relocations_of(s, start);
+    static Elf64_Rela *elf; /* these are for one section after another */
+    static uint64_t *memory;
+    static size_t rooms[2];
+    elf = grow(elf, len, &rooms[0], sizeof *elf);
     for (size_t i = len; i < 2 * len && s->first + i < o->relocations_len; i++) /* of the next section */
         __builtin_prefetch(r[i].entry ? (void *)r[i].entry : r[i].symbol);
     for (size_t i = 0; i < len; i++) {
         bool is_there = r[i].symbol->output || !is_left_out(&r[i]);
         bool has_value = row_of(&r[i])->kind && is_there && !change_number(o, &r[i]);
-        if (has_value) elf[i].r_info = ELF64_R_INFO(number_of(&r[i]), r[i].type);
+        elf[i] = (Elf64_Rela){offset_in(s, &r[i], start),
+                              has_value ? ELF64_R_INFO(number_of(&r[i]), r[i].type) : 0, r[i].addend};
     }
     const uint8_t *relocations = (const uint8_t *)elf;
     size_t memory_len = linker_utils_relocate_memory(relocations, size);
-    memory = grow(memory, memory_len, &room, sizeof *memory);
+    memory = grow(memory, memory_len, &rooms[1], sizeof *memory);
     struct linker_utils_addresses addresses = addresses_of(start);
     uint32_t status = linker_utils_relocate_section(
         machine, &addresses, relocations, size, table, table_len, o->bytes + (start - o->address),

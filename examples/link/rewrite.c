@@ -42,15 +42,17 @@ static void rewrite_in(uint32_t phase, struct section *s, bool is_survey) {
     static const struct section *surveyed; /* these are for one section after another */
     static Elf64_Rela *elf;
     static struct linker_utils_decision *decisions;
-    static size_t room;
+    static size_t rooms[2];
     struct output *to = s->output;
     uint64_t start = address_of(s->output, s->offset), size = address_of(s->output, s->end) - start;
     uint8_t *bytes = s->output->bytes + (start - s->output->address);
     struct relocation *r = s->output->relocations + s->first;
     struct linker_utils_addresses addresses = addresses_of(start);
-    if (s != surveyed) elf = relocations_of(s, start);
+    elf = grow(elf, len, &rooms[0], sizeof *elf);
     for (size_t i = 0; i < len && s != surveyed; i++)
-        elf[i].r_info = ELF64_R_INFO((uint64_t)r[i].index, is_hidden(&r[i]) ? 0 : r[i].type);
+        elf[i] = (Elf64_Rela){offset_in(s, &r[i], start),
+                              ELF64_R_INFO((uint64_t)r[i].index, is_hidden(&r[i]) ? 0 : r[i].type),
+                              r[i].addend};
     surveyed = is_survey ? s : NULL;
     if (is_survey) {
         linker_utils_survey_placed_section(machine, phase, &linked, facts, count, &addresses,
@@ -58,7 +60,7 @@ static void rewrite_in(uint32_t phase, struct section *s, bool is_survey) {
                                            size, o->kept, count);
         return;
     }
-    decisions = grow(decisions, len, &room, sizeof *decisions);
+    decisions = grow(decisions, len, &rooms[1], sizeof *decisions);
     to->deleted = grow(to->deleted, to->deleted_len + len, &to->deleted_room, sizeof *to->deleted);
     struct linker_utils_deletion *deleted = to->deleted + to->deleted_len;
     uint32_t status = linker_utils_rewrite_placed_section(
@@ -67,7 +69,7 @@ static void rewrite_in(uint32_t phase, struct section *s, bool is_survey) {
     check(&r[at < len ? at : 0], status);
     for (size_t i = 0; i < len; i++, r++) {
         if (decisions[i].fate == LINKER_UTILS_FATE_KEPT) continue;
-        r->offset += elf[i].r_offset - (address_of(to, r->offset) - start);
+        r->offset += elf[i].r_offset - offset_in(s, r, start);
         r->type = ELF64_R_TYPE(elf[i].r_info);
         r->addend = elf[i].r_addend;
         if (decisions[i].fate != LINKER_UTILS_FATE_REDIRECTED) continue;
