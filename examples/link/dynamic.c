@@ -95,8 +95,8 @@ static void make_copy(struct symbol *s) {
     bss->flags |= SHF_WRITE | SHF_ALLOC;
     uint64_t at = make_room(bss, import_align(s), s->there.st_size);
     add_row(bss, at, types.copy, s, 0);
-    for (size_t i = 0; i < l->len; i++) {
-        struct symbol *alias = l->symbols[i];
+    for (size_t i = 0; i < l->file.symbols_len; i++) {
+        struct symbol *alias = l->file.symbols[i];
         if (!alias || alias->library != l || alias->there.st_value != s->there.st_value ||
             alias->there.st_shndx != s->there.st_shndx || (alias->object && is_defined(alias)))
             continue;
@@ -127,9 +127,8 @@ void make_imports(void) {
 }
 
 /* Leaves an entry of the GOT to the dynamic linker, or what of it is not known here. */
-void fill_entry(const struct entry *e) {
+void fill_entry(struct symbol *s, const struct entry *e) {
     struct linker_utils_word_types words;
-    struct symbol *s = e->symbol;
     bool is_bound = !s || !s->is_imported;
     if (!is_dynamic || (is_bound && s && !is_here(s)) ||
         linker_utils_dynamic_words(machine, e->class, is_bound, linked.is_executable, &words) ||

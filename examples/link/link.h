@@ -131,12 +131,9 @@ struct version {
 /* A shared library. */
 struct library {
     struct library *next;
-    struct object file;
+    struct object file; /* a symbol of it is null where nothing can refer to it */
     const char *name;         /* as programs name it */
     struct version *versions; /* by number */
-    const Elf64_Sym *elf;
-    struct symbol **symbols; /* null where nothing can refer to one */
-    size_t len;
     uint32_t name_at; /* of its name in the linked file */
 };
 
@@ -165,9 +162,8 @@ struct symbol {
 
 /* An entry of the GOT. */
 struct entry {
-    struct entry *next, *later; /* of its symbol; in the GOT */
-    struct symbol *symbol;      /* null where it is that of the module */
-    int64_t addend;             /* on AArch64 and PowerPC64 the entry is of S + A */
+    struct entry *next; /* of its symbol */
+    int64_t addend;     /* on AArch64 and PowerPC64 the entry is of S + A */
     uint64_t offset;
     uint32_t class;  /* `enum linker_utils_entry_class` */
     uint32_t number; /* of its symbol with this entry, in the table that the library reads */
@@ -232,6 +228,7 @@ struct linker_utils_requirements needs_of(const struct relocation *r);
 void demand(const struct object *o, bool holds, const char *otherwise);
 void read_heads(struct object *o, uint16_t type, const char *otherwise);
 const uint8_t *bytes_of(const struct object *o, const Elf64_Shdr *head, size_t size, size_t *len);
+const char *text_at(const struct object *o, const char *section, uint64_t table, uint64_t at);
 const void *table_of(const struct object *o, const Elf64_Shdr *head, size_t size, size_t *len);
 void read_file(const char *path), load_member(struct archive *a, uint64_t offset);
 void read_library(struct object file);
@@ -266,7 +263,7 @@ uint32_t add_name(struct output *o, const char *text);
 void bind_symbols(void), make_imports(void), make_dynamic(void);
 void import(struct relocation *r, const struct linker_utils_requirements *needs);
 void add_row(struct output *o, uint64_t offset, uint32_t type, struct symbol *s, int64_t addend);
-void fill_entry(const struct entry *e);
+void fill_entry(struct symbol *s, const struct entry *e);
 bool write_dynamic(void);
 struct linker_utils_got known_got(void);
 struct linker_utils_symbol known_symbol(const struct symbol *s);
