@@ -150,12 +150,6 @@ uint32_t add_name(struct output *o, const char *text) {
     return (uint32_t)append(o, 1, text, strlen(text) + 1);
 }
 
-static uint32_t gnu_hash(const char *name) {
-    uint32_t hash = 5381;
-    for (; *name; name++) hash = hash * 33 + (unsigned char)*name;
-    return hash;
-}
-
 /* How many buckets the table of hashes has. */
 static uint32_t buckets_len(void) { return (uint32_t)(listed_len - imports_len) / 4 + 1; }
 
@@ -251,7 +245,7 @@ static void put_entry(int64_t tag, uint64_t value) {
     memcpy(dynamic->bytes + at, &entry, sizeof entry);
 }
 
-/* Where a table is that isn't empty, and where there are tags for them, its length and that of an element. */
+/* Where a table is that isn't empty; where there are tags for them, its length and an element's. */
 static void put_table(const struct output *o, int64_t tag, int64_t size, int64_t element) {
     if (!o->len) return;
     put_entry(tag, o->address);

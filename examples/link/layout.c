@@ -114,8 +114,8 @@ void add_section(struct section *s) {
     o->shrinks |= alignment_type() && has_bytes && is_code && !(head->sh_flags & SHF_TLS);
     if (has_bytes) o->room += head->sh_size + head->sh_addralign % MOST_ALIGN;
     o->relocations_room += 1 + (s->relocations ? s->relocations->sh_size / sizeof(Elf64_Rela) : 0);
-    if (o == frames)
-        index_of->len += 8 * read_frames(s, s->object->bytes + head->sh_offset, NULL);
+    uint64_t rows = o == frames ? read_frames(s, s->object->bytes + head->sh_offset, NULL) : 0;
+    if (rows) make_room(index_of, 4, 8 * rows + (index_of->len ? 0 : 12));
 }
 
 /* Makes room for all bytes and relocations that objects have, in one piece. */

@@ -227,14 +227,13 @@ struct linker_utils_requirements needs_of(const struct relocation *r);
 
 void demand(const struct object *o, bool holds, const char *otherwise);
 void read_heads(struct object *o, uint16_t type, const char *otherwise);
-const uint8_t *bytes_of(const struct object *o, const Elf64_Shdr *head, size_t size, size_t *len);
 const char *text_at(const struct object *o, const char *section, uint64_t table, uint64_t at);
 const void *table_of(const struct object *o, const Elf64_Shdr *head, size_t size, size_t *len);
 void read_file(const char *path), load_member(struct archive *a, uint64_t offset);
 void read_library(struct object file);
 uint64_t import_align(const struct symbol *s);
 
-uint32_t hash_of(const char *name);
+uint32_t gnu_hash(const char *name), hash_of(const char *name);
 void expect(uint32_t hash);
 struct symbol **global(const char *name), *resolve(struct symbol *s, uint32_t hash);
 int rank(const struct symbol *s);

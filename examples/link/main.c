@@ -137,9 +137,6 @@ int main(int argc, char **argv) {
     list_symbols();
     EACH_SECTION(s) add_section(s);
     reserve_outputs();
-    uint64_t index_len = index_of->len ? index_of->len + 12 : 0;
-    index_of->len = 0;
-    make_room(index_of, 4, index_len);
     define_symbols();
     if (is_dynamic) bind_symbols();
     for (struct symbol *s = symbols; s; s = s->later) {

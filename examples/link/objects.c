@@ -15,16 +15,11 @@ static const uint8_t *bytes_at(const struct object *o, uint64_t offset, uint64_t
     return o->bytes + offset;
 }
 
-/* The bytes of a table, and how many entries it has. */
-const uint8_t *bytes_of(const struct object *o, const Elf64_Shdr *head, size_t size, size_t *len) {
-    demand(o, head->sh_entsize == size && !(head->sh_size % size), "entries of another size");
-    *len = head->sh_size / size;
-    return bytes_at(o, head->sh_offset, head->sh_size);
-}
-
-/* A table; a copy of it where nothing aligns its entries in the file. */
+/* A table, and how many entries it has; a copy of it where nothing aligns them in the file. */
 const void *table_of(const struct object *o, const Elf64_Shdr *head, size_t size, size_t *len) {
-    const uint8_t *bytes = bytes_of(o, head, size, len);
+    demand(o, head->sh_entsize == size && !(head->sh_size % size), "entries of another size");
+    const uint8_t *bytes = bytes_at(o, head->sh_offset, head->sh_size);
+    *len = head->sh_size / size;
     return (uintptr_t)bytes % 8 ? memcpy(take(*len, size), bytes, head->sh_size) : bytes;
 }
 
@@ -135,7 +130,8 @@ void read_heads(struct object *o, uint16_t type, const char *otherwise) {
     o->sections = take(o->sections_len, sizeof *o->sections);
     for (size_t i = 0; i < o->sections_len; i++) {
         const Elf64_Shdr *s = &o->heads[i];
-        o->sections[i] = (struct section){o, text_at(o, "its sections", head.e_shstrndx, s->sh_name), .head = s,
+        const char *name = text_at(o, "its sections", head.e_shstrndx, s->sh_name);
+        o->sections[i] = (struct section){o, name, .head = s,
                                           .is_discarded = s->sh_flags & SHF_EXCLUDE};
         if (s->sh_type != SHT_NOBITS && (s->sh_offset > o->len || s->sh_size > o->len - s->sh_offset))
             fail("%s: %s: it ends too early", o->path, o->sections[i].name);

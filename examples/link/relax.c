@@ -54,16 +54,12 @@ static size_t add_items(struct output *o, struct linker_utils_item *items, struc
 static void pack(struct output *o, struct linker_utils_item *items, const uint64_t *kept,
                  struct relocation **of) {
     const struct run *run = o->run;
-    size_t len = 0, at = SIZE_MAX;
-    for (size_t i = 0; i < o->items_len; i++)
-        if (kept[i] < items[i].len) {
-            items[len] = items[i];
-            if (of[i] && !of[i]->section)
-                items[len] = (struct linker_utils_item){
-                    .offset = items[len].offset, .target = items[len].offset, .len = items[len].len,
-                    .kind = LINKER_UTILS_ITEM_SITE, .shapes = {.longest = (uint32_t)kept[i]}};
-            of[len++] = of[i];
-        }
+    size_t at = SIZE_MAX, len = o->items_len;
+    for (size_t i = 0; i < len; i++)
+        if (of[i] && !of[i]->section)
+            items[i] = (struct linker_utils_item){
+                .offset = items[i].offset, .target = items[i].offset, .len = items[i].len,
+                .kind = LINKER_UTILS_ITEM_SITE, .shapes = {.longest = (uint32_t)kept[i]}};
     size_t packed_len = linker_utils_packed_run_len(o->base, o->len, run->deltas, run->deltas_len);
     uint8_t *packed = take(packed_len, 1);
     uint32_t status =

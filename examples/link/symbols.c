@@ -22,10 +22,15 @@ static struct cell *cell_in(const struct table *t, uint32_t hash, const char *na
     return &t->cells[at];
 }
 
-uint32_t hash_of(const char *name) {
+/* What `.gnu.hash` has of a name. */
+uint32_t gnu_hash(const char *name) {
     uint32_t hash = 5381;
     for (; *name; name++) hash = hash * 33 + (unsigned char)*name;
-    hash *= 2654435769; /* 2^32 over the golden ratio */
+    return hash;
+}
+
+uint32_t hash_of(const char *name) {
+    uint32_t hash = gnu_hash(name) * 2654435769; /* 2^32 over the golden ratio */
     return hash ^ hash >> 15;
 }
 
