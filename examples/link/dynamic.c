@@ -318,8 +318,7 @@ static int by_symbol(const void *left, const void *right) {
     const Elf64_Rela *a = left, *b = right;
     uint32_t first = ELF64_R_TYPE(a->r_info), second = ELF64_R_TYPE(b->r_info);
     int by = order(first == types.irelative, second == types.irelative);
-    if (!by) by = order(second == types.relative, first == types.relative);
-    if (!by && first != types.relative) by = order(a->r_info, b->r_info);
+    if (!by) by = order(a->r_info, b->r_info);
     return by ? by : order(a->r_offset, b->r_offset);
 }
 
