@@ -215,31 +215,29 @@ static void define_base(const char *name, bool is_at_pointer) {
     base->elf.st_other = STV_HIDDEN;
 }
 
-/* The symbols that linkers provide for the machine: first the sections that they are in. */
-static void define_provided(bool only_sections) {
+/* The symbols that linkers provide for the machine. */
+static void define_provided(void) {
     struct linker_utils_provided_symbol symbol;
     char name[LINKER_UTILS_NAME_SIZE + 1];
     for (size_t i = 0, len; !linker_utils_provided_symbol(machine, i, (uint8_t *)name,
                                                           LINKER_UTILS_NAME_SIZE, &len, &symbol); i++) {
         name[len] = 0;
         bool is_in_data = symbol.place == LINKER_UTILS_PLACE_SMALL_DATA;
-        struct output *data = is_in_data && *global(name) ? output_of(".sdata") : NULL;
-        if (only_sections) continue;
         if (symbol.place == LINKER_UTILS_PLACE_THREAD_LOCAL) define_base(name, true);
-        else if (data || !is_in_data) define(name, is_in_data ? data : got, symbol.offset);
+        else define(name, is_in_data ? output_of(".sdata") : got, symbol.offset);
     }
 }
 
 void define_symbols(void) {
     output_of(".preinit_array"), output_of(".init_array"), output_of(".fini_array");
-    define_provided(true);
+    output_of(".sdata");
     define_runs();
     define("__bss_start", output_of(".bss"), 0);
     sort_outputs();
     EACH_OUTPUT(o) define_end(o, false); /* the first counts */
     for (size_t i = outputs_len; i > 0; i--) define_end(outputs[i - 1], true);
     define("_GLOBAL_OFFSET_TABLE_", got, 0);
-    define_provided(false);
+    define_provided();
     define_base("_TLS_MODULE_BASE_", false); /* also for other machines, as in ld.lld */
     define("_etext", last(RANK_CODE), END);
     define("etext", last(RANK_CODE), END);
