@@ -201,11 +201,12 @@ static int by_place(const void *left, const void *right) {
 /* Places the sections, first those that the command line places. One with other permissions begins
  * a new page, at the same offset in the page as the one before it ends. */
 void place_outputs(void) {
-    uint64_t page = linker_utils_page(machine), align = 1, kinds = 0, now, end = 0;
+    uint64_t page = linker_utils_page(machine), kinds = 0, now, end = 0;
     struct place p = {.run = NULL};
     const struct output *first = NULL; /* of thread-local storage */
     bool is_behind_placed = false, has_data = false;
-    EACH_OUTPUT(o) if (o->flags & SHF_TLS && o->align > align) align = o->align;
+    tls.align = 1;
+    EACH_OUTPUT(o) if (o->flags & SHF_TLS && o->align > tls.align) tls.align = o->align;
     qsort(outputs, outputs_len, sizeof *outputs, by_place);
     EACH_OUTPUT(o) {
         bool is_tls = o->flags & SHF_TLS;
@@ -231,7 +232,7 @@ void place_outputs(void) {
                 skip(&p, page);
                 kinds = now;
             }
-            uint64_t own = is_behind_placed ? MOST_ALIGN : is_tls ? align : o->align;
+            uint64_t own = is_behind_placed ? MOST_ALIGN : is_tls ? tls.align : o->align;
             bool is_first_data = is_dynamic && !has_data && o->len && o->rank >= RANK_DATA;
             has_data |= is_first_data; /* what is before it is protected */
             align_next(&p, o, is_first_data && page > own ? page : own);
@@ -277,7 +278,7 @@ static uint64_t address_in(const struct run *run, uint64_t offset) {
 /* Sets the addresses of the sections, by what the runs lose. */
 void set_addresses(void) {
     const struct output *first = NULL;
-    uint64_t align = 1, least = UINT64_MAX, most = 0;
+    uint64_t least = UINT64_MAX, most = 0;
     tls.image = tls.len = 0;
     EACH_OUTPUT(o) {
         o->address = address_in(o->run, o->base);
@@ -287,12 +288,10 @@ void set_addresses(void) {
         if (!first) tls.image = (first = o)->address;
         o->address = tls.image + (o->base - first->base);
         tls.len = o->address + o->len - tls.image;
-        if (o->align > align) align = o->align;
     }
     span = most - least;
-    tls.align = align;
-    uint64_t past = tls.image % align; /* (0 once code is shorter) */
-    linker_utils_origins(machine, tls.image - past, tls.len, align, &tls.origins);
+    uint64_t past = tls.image % tls.align; /* (0 once code is shorter) */
+    linker_utils_origins(machine, tls.image - past, tls.len, tls.align, &tls.origins);
     tls.origins.thread_pointer += past;
     tls.origins.module_block += past;
     bool is_at_pointer = tls.has_base && linked.is_executable;
