@@ -49,14 +49,14 @@ static size_t add_items(struct output *o, struct linker_utils_item *items, struc
     return o->items_len;
 }
 
-/* Writes a section anew: what becomes shorter, and without what it loses. What stays of the
- * linker's own gaps stays as it is, as of deletions that are decided. */
+/* Writes a section anew: what becomes shorter, and without what it loses. What loses nothing stays as
+ * it is, and so does what stays of the linker's own gaps. */
 static void pack(struct output *o, struct linker_utils_item *items, const uint64_t *kept,
                  struct relocation **of) {
     const struct run *run = o->run;
     size_t at = SIZE_MAX, len = o->items_len;
     for (size_t i = 0; i < len; i++)
-        if (of[i] && !of[i]->section)
+        if (kept[i] == items[i].len || (of[i] && !of[i]->section))
             items[i] = (struct linker_utils_item){
                 .offset = items[i].offset, .target = items[i].offset, .len = items[i].len,
                 .kind = LINKER_UTILS_ITEM_SITE, .shapes = {.longest = (uint32_t)kept[i]}};
