@@ -1,6 +1,9 @@
+pub mod AArch64Chosen
+pub mod AArch64Finals
 pub mod Chosen
 pub mod Fields
 pub mod Inner
+pub mod InstructionFields
 pub mod PlainRows
 pub mod PutBack
 pub mod X86Finals
