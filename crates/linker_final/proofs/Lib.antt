@@ -1,5 +1,7 @@
+pub mod AArch64Alone
 pub mod AArch64Chosen
-pub mod AArch64Finals
+pub mod AArch64Loads
+pub mod AArch64Written
 pub mod Chosen
 pub mod Fields
 pub mod Inner

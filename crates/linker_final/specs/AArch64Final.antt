@@ -1,20 +1,24 @@
 -- AArch64: in the final bytes of a section each rewritten load of an address from the GOT does what the
 -- object's does with the values of its relocations (ELF for the Arm 64-bit Architecture, "Relocation
 -- optimization").
-use Rattle.std.specs.Prelude.{◌≡◌, ◌≢◌, ◌⊎◌, ℕ, ◌+◌, ◌<◌, ◌≤◌, List, take, drop, Some, IsSomeAnd, slice_get, false}
+use Rattle.std.specs.Prelude.{◌≡◌, ◌≢◌, ◌⊎◌, ℕ, ◌+◌, ◌<◌, ◌≤◌, ◌==◌, List, [], ◌∷◌, take, drop, Some, IsSomeAnd}
+use Rattle.std.specs.Prelude.{slice_get, Bool, false}
+use Rattle.linker_aarch64.specs.AArch64Rewrites.{rd_of}
 use Rattle.linker_elf.specs.AArch64Relocations.{aarch64_name, aarch64_row}
 use Rattle.linker_elf.specs.ElfNames.{IsNameOf}
+use Rattle.linker_elf.specs.declared.aarch64.relocations.AArch64Relocation.{AArch64Relocation}
 use Rattle.linker_elf.specs.declared.aarch64.relocations.AArch64Relocation.TheVariants as names
 use Rattle.linker_elf.specs.declared.elf.RelocationKindInfo.{RelocationKindInfo}
 use Rattle.linker_elf.specs.declared.elf.choice.Choice.{Choice}
 use Rattle.linker_final.specs.Final.{Linked, IsLinked, count}
-use Rattle.linker_laws.specs.AArch64Machine.{State, load_64, RunAlike}
-use Rattle.linker_laws.specs.AArch64RewriteLaws.{IsRelocated, behind, pair}
-use Rattle.linker_laws.specs.Schemes.{AreAddresses, symbol_address}
+use Rattle.linker_laws.specs.AArch64Machine.{State, load_64, RunAlike, RunAlikeBut, next_pc}
+use Rattle.linker_laws.specs.AArch64RewriteLaws.{IsRelocated, Changes, AgreeBut, HasHigh, StepSo, behind, pair, thread_offset, with_register, without_register, word_of}
+use Rattle.linker_laws.specs.Schemes.{AreAddresses, plt_address, symbol_address}
 use Rattle.linker_rewriting.specs.Decisions.{decision_at, start_at, written_end_at}
 use Rattle.linker_rewriting.specs.declared.decisions.Decision.TheVariants.{Rewritten}
 use Rattle.linker_section.specs.Relocations.{relocation_in}
-use Rattle.linker_section.specs.Values.{operands_with}
+use Rattle.linker_section.specs.Fields.{IsField, field_end}
+use Rattle.linker_section.specs.Values.{offset_at, operands_with}
 use Rattle.linker_section.specs.declared.facts.Symbol.{Symbol}
 use Rattle.linker_utils.specs.declared.architecture.Relaxation.{Relaxation}
 use Rattle.linker_utils.specs.declared.elf.Architecture.TheVariants.{AArch64}
@@ -24,10 +28,21 @@ abbrev pub instruction_at : List ℕ → ℕ → List ℕ
 instruction_at bytes o = take 4 (drop o bytes)
 
 -- no rewrite of another relocation than the one at an index has a byte of the instruction at an offset
-abbrev pub IsOfNoOther : Linked → ℕ → ℕ → Type 0
-IsOfNoOther l i o =
+abbrev pub IsRewrittenByNoOther : Linked → ℕ → ℕ → Type 0
+IsRewrittenByNoOther l i o =
     (j at : ℕ) → j < count l → j ≢ i → o ≤ at → at < o + 4
     → (at < start_at l.relocations l.decisions j) ⊎ (written_end_at l.relocations l.decisions j ≤ at)
+
+-- nor has a field of another
+abbrev pub IsWrittenByNoOther : Linked → ℕ → ℕ → Type 0
+IsWrittenByNoOther l i o =
+    (j at : ℕ) → j < count l → j ≢ i → o ≤ at → at < o + 4
+    → (row : RelocationKindInfo)
+    → IsField l.setting.architecture l.relocations_after l.rewritten j row
+    → (at < offset_at l.relocations_after j)
+    ⊎ (field_end l.relocations_after l.rewritten j row ≤ at)
+
+-- ---- loads of addresses from the GOT
 
 -- The relocations at two indexes are those of an `adrp` and of the `ldr` behind it, of one S + A, and
 -- both are rewritten.
@@ -63,6 +78,56 @@ LoadsTheSame l i row =
     → RunAlike (pair adrp ldr)
     (pair (instruction_at l.final r.offset) (instruction_at l.final (r.offset + 4))) s
 
+-- ---- the halves of initial-exec
+
+-- Two states agree but for what high halves put in registers. The instruction of a relocation at an
+-- index is executed: in one of them the object's with the value of its relocation, and in the other the
+-- final bytes. Then they agree but for its register, which has the high part of the variable's offset.
+abbrev pub HighDoesTheSame : Linked → ℕ → RelocationKindInfo → Type 0
+HighDoesTheSame l i row =
+    let r = relocation_in l.relocations i in
+    let n = rd_of (word_of (instruction_at l.section r.offset)) in
+    (symbol : Symbol) → slice_get l.symbols r.symbol ≡ Some symbol
+    → (entry : ℕ) (s t : State) (c : Changes) (adrp : List ℕ)
+    → let operands = operands_with AArch64 l.addresses row symbol r entry in
+    AreAddresses operands → s.pc ≡ operands.place → AgreeBut c s t → n ≢ 31
+    → IsRelocated names.R_AARCH64_TLSIE_ADR_GOTTPREL_PAGE21 operands (instruction_at l.section r.offset)
+    adrp
+    → StepSo (word_of adrp) s (word_of (instruction_at l.final r.offset)) t
+    (λ u v. AgreeBut (with_register n c) u v × HasHigh n operands u v)
+
+-- From states whose register has that, and where the GOT's entry holds the offset, the low half leaves
+-- the offset in both.
+abbrev pub LowDoesTheSame : Linked → ℕ → RelocationKindInfo → Type 0
+LowDoesTheSame l i row =
+    let r = relocation_in l.relocations i in
+    let n = rd_of (word_of (instruction_at l.section r.offset)) in
+    (symbol : Symbol) → slice_get l.symbols r.symbol ≡ Some symbol
+    → (entry : ℕ) (s t : State) (c : Changes) (ldr : List ℕ)
+    → let operands = operands_with AArch64 l.addresses row symbol r entry in
+    AreAddresses operands → load_64 s.memory entry ≡ thread_offset operands
+    → HasHigh n operands s t → AgreeBut c s t
+    → IsRelocated names.R_AARCH64_TLSIE_LD64_GOTTPREL_LO12_NC operands
+    (instruction_at l.section r.offset) ldr
+    → StepSo (word_of ldr) s (word_of (instruction_at l.final r.offset)) t
+    (AgreeBut (without_register n c))
+
+-- ---- branches to undefined weak symbols
+
+-- A branch that goes on behind itself, by the value of its relocation, does so in the final bytes,
+-- where no other relocation has a field in it. Registers may differ that are named.
+abbrev pub BranchDoesTheSame : AArch64Relocation → (ℕ → Bool) → Linked → ℕ → RelocationKindInfo → Type 0
+BranchDoesTheSame name differing l i row =
+    let r = relocation_in l.relocations i in
+    IsWrittenByNoOther l i r.offset
+    → (symbol : Symbol) → slice_get l.symbols r.symbol ≡ Some symbol
+    → (s : State) (branch : List ℕ)
+    → let operands = operands_with AArch64 l.addresses row symbol r 0 in
+    AreAddresses operands → s.pc ≡ operands.place → plt_address operands ≡ next_pc s
+    → IsRelocated name operands (instruction_at l.section r.offset) branch
+    → RunAlikeBut differing (word_of branch ∷ [])
+    (word_of (instruction_at l.final r.offset) ∷ []) s
+
 -- ---- the laws
 
 -- of every load of an address from the GOT that a linker rewrites, where no other rewrite has a byte
@@ -71,5 +136,34 @@ abbrev pub GotLoads : Type 0
 GotLoads =
     (l : Linked) → IsLinked l → l.setting.architecture ≡ AArch64
     → (i j : ℕ) → AreOfLoad l i j
-    → IsOfNoOther l i (relocation_in l.relocations i).offset
+    → IsRewrittenByNoOther l i (relocation_in l.relocations i).offset
     → IsSomeAnd (aarch64_row names.R_AARCH64_ADR_GOT_PAGE) (LoadsTheSame l i)
+
+-- of each relocation of a name whose instruction is rewritten, with a row
+abbrev pub EachRewritten : AArch64Relocation → AArch64Relocation
+    → (Linked → ℕ → RelocationKindInfo → Type 0) → Type 0
+EachRewritten name of_row Holds =
+    (l : Linked) → IsLinked l → l.setting.architecture ≡ AArch64
+    → (i : ℕ) (chosen : Choice Relaxation ℕ) → i < count l
+    → IsNameOf aarch64_name (relocation_in l.relocations i).code name
+    → decision_at l.decisions i ≡ Rewritten chosen
+    → IsSomeAnd (aarch64_row of_row) (Holds l i)
+
+-- of every half of initial-exec: S is an offset of the thread's, as in the relocation after
+abbrev pub HighHalves : Type 0
+HighHalves =
+    EachRewritten names.R_AARCH64_TLSIE_ADR_GOTTPREL_PAGE21 names.R_AARCH64_TLSLE_MOVW_TPREL_G1
+    HighDoesTheSame
+
+abbrev pub LowHalves : Type 0
+LowHalves =
+    EachRewritten names.R_AARCH64_TLSIE_LD64_GOTTPREL_LO12_NC names.R_AARCH64_TLSLE_MOVW_TPREL_G1
+    LowDoesTheSame
+
+-- of every branch to an undefined weak symbol: `bl` also writes X30
+abbrev pub Branches : Type 0
+Branches =
+    EachRewritten names.R_AARCH64_JUMP26 names.R_AARCH64_JUMP26
+    (BranchDoesTheSame names.R_AARCH64_JUMP26 (λ _. false))
+    × EachRewritten names.R_AARCH64_CALL26 names.R_AARCH64_CALL26
+    (BranchDoesTheSame names.R_AARCH64_CALL26 (λ n. n == 30))

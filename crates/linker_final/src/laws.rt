@@ -15,10 +15,14 @@ pub fn x86_64()
     linker_laws::rewrites::x86_64();
 }
 
-/// AArch64: each load of an address from the GOT that became a sum of its page and the rest runs from
-/// every state in which the GOT's entry holds the address, and ends as the object's load does.
+/// AArch64: each load of an address from the GOT that became a sum of its page and the rest, each half of
+/// initial-exec that became a move, and each branch to an undefined weak symbol that became `nop` does in
+/// the final bytes what the object's does.
 pub fn aarch64()
     ensures got_loads { aarch64_final.GotLoads }
+    ensures high_halves { aarch64_final.HighHalves }
+    ensures low_halves { aarch64_final.LowHalves }
+    ensures branches { aarch64_final.Branches }
 {
     linker_laws::rewrites::aarch64();
 }

@@ -1,5 +1,13 @@
-use Rattle.linker_final.proofs.AArch64Finals.{joined}
+use Rattle.linker_final.proofs.AArch64Alone.{high_halves, low_halves, branches}
+use Rattle.linker_final.proofs.AArch64Loads.{joined}
 use Rattle.linker_final.proofs.laws.aarch64.Goals as goal
 
 pub returns : goal.returns
-returns c = record { got_loads = joined c.aarch64.ensures.laws }
+returns c =
+    let laws = c.aarch64.ensures.laws in
+    record {
+      got_loads = joined laws;
+      high_halves = high_halves laws;
+      low_halves = low_halves laws;
+      branches = branches laws;
+    }

@@ -25,7 +25,7 @@ use Rattle.linker_elf.specs.declared.elf.value.Operands.{Operands}
 use Rattle.linker_final.proofs.AArch64Chosen.{IsOfEntry, of_entry}
 use Rattle.linker_final.proofs.InstructionFields.{IsOfInstruction, applied}
 use Rattle.linker_final.proofs.PutBack.{same_windows}
-use Rattle.linker_final.specs.AArch64Final.{AreOfLoad, GotLoads, IsOfNoOther, LoadsTheSame, instruction_at}
+use Rattle.linker_final.specs.AArch64Final.{AreOfLoad, GotLoads, IsRewrittenByNoOther, LoadsTheSame, instruction_at}
 use Rattle.linker_final.specs.Final.{Linked, IsLinked, count}
 use Rattle.linker_laws.specs.AArch64RewriteLaws.{IsPair, IsRewritten, Laws, behind, word_of}
 use Rattle.linker_rewriting.specs.Decisions.{decision_at, start_at, written_end_at, start_by, written_end_by}
@@ -43,18 +43,9 @@ use Rattle.linker_utils.specs.Architectures.{IsRow, relaxation_rewrite}
 use Rattle.linker_utils.specs.declared.architecture.Relaxation.{Relaxation}
 use Rattle.linker_utils.specs.declared.architecture.Relaxation.TheVariants as relaxations
 use Rattle.linker_utils.specs.declared.elf.Architecture.TheVariants.{AArch64}
+use Rattle.linker_final.proofs.AArch64Written.{IsAfter, applied_there, becomes, rela, stays, with_operands, word_same}
 
--- ---- relocations that rewrites leave
-
--- of an instruction, which need no entry
-pub record IsAfter (name : AArch64Relocation) : Type 0 where
-  pub row : RelocationKindInfo
-  pub is : aarch64_row name ≡ Some row
-  pub named : IsNamed (aarch64_name name)
-  pub of : IsOfInstruction row
-  pub entryless : (addresses : Addresses) (symbol : Symbol) (r : Rela)
-      → operands_by AArch64 addresses row r symbol (entry_address addresses symbol (entry_of row r.addend symbol.is_thread_local))
-      ≡ Ok (operands_with AArch64 addresses row symbol r 0)
+-- ---- rows
 
 abbrev got_row : RelocationKindInfo
 got_row = paged_row entry_pages (signed_row 33 (insn_row GotRelative 12 33 Adr))
@@ -97,129 +88,6 @@ low_after =
       entryless = λ addresses symbol r. refl;
     }
 
--- ---- words
-
-word_same : (bytes : List ℕ) (o : ℕ) → word_of (drop o bytes) ≡ word_of (instruction_at bytes o)
-word_same bytes o =
-    same_window (BitMasking (record { start = 0; end = 12 }) (insns.AArch64 Add)) (drop o bytes) (take 4 (drop o bytes))
-    (sym (take-take 4 4 (drop o bytes) (omega arith)))
-
--- ---- one relocation
-
-abbrev rela : ℕ → ℕ → ℕ → ℤ → Rela
-rela offset code symbol addend = record { offset = offset; code = code; symbol = symbol; addend = addend }
-
--- the code of what is there has a row
-row_by : (l : Linked) → l.setting.architecture ≡ AArch64 → (r : Rela) (name : AArch64Relocation)
-    → (a : IsAfter name) → r.code ≡ code_of (aarch64_name name)
-    → (row : _) → IsRow l.setting.architecture r.code row → IsRow AArch64 r.code (Some a.row)
-row_by l aarch64 r name a code row is =
-    let there : IsRow AArch64 r.code row = subst (λ x. IsRow x r.code row) aarch64 is in
-    let same : there.name ≡ name = there.is_name.named name a.named (sym code) in
-    record {
-      name = there.name;
-      is_name = there.is_name;
-      value_is = sym (ap aarch64_row same ∙ a.is);
-    }
-
-row_in : (l : Linked) → l.setting.architecture ≡ AArch64 → (r : Rela) (name : AArch64Relocation)
-    → (a : IsAfter name) → r.code ≡ code_of (aarch64_name name)
-    → (found : _) → IsRowValue l.setting.architecture l.addresses l.relocations_after l.symbols r (Ok found)
-    → IsRow AArch64 r.code (Some a.row)
-row_in l aarch64 r name a code (Some one) has = row_by l aarch64 r name a code (Some (one.0)) has.is_row
-row_in l aarch64 r name a code None marked = row_by l aarch64 r name a code (marked.0) (marked.1)
-
-module _ (l : Linked) (linked : IsLinked l) (aarch64 : l.setting.architecture ≡ AArch64) (i : ℕ)
-    (chosen : Choice Relaxation ℕ) (below : i < count l)
-    (decided : decision_at l.decisions i ≡ Rewritten chosen)
-    (e : AArch64Entry) (kind_is : chosen.kind ≡ relaxations.AArch64 e.kind)
-    (code_is : chosen.relocation ≡ code_of (aarch64_name e.relocation))
-    (unmoved : (o : ℕ) → offset_after (aarch64_rewrite e.kind) o ≡ o)
-    (same_addend : (a : ℤ) → addend_after (aarch64_rewrite e.kind) a ≡ a)
-    (a : IsAfter e.relocation) (symbol : Symbol)
-    (is_symbol : slice_get l.symbols (relocation_in l.relocations i).symbol ≡ Some symbol) where
-  abbrev r : Rela
-  r = relocation_in l.relocations i
-
-  abbrev after : Rela
-  after = rela r.offset (code_of (aarch64_name e.relocation)) r.symbol r.addend
-
-  r_after : relocation_in l.relocations_after i ≡ after
-  r_after =
-      linked.relocations i below
-      ∙ (ap (λ d. relocation_after d r) decided
-      ∙ (ap (λ k. rela (offset_after (relaxation_rewrite k) r.offset) chosen.relocation r.symbol (addend_after (relaxation_rewrite k) r.addend)) kind_is
-      ∙ (ap (λ x. rela x chosen.relocation r.symbol (addend_after (aarch64_rewrite e.kind) r.addend)) (unmoved r.offset)
-      ∙ (ap (λ x. rela r.offset x r.symbol (addend_after (aarch64_rewrite e.kind) r.addend)) code_is
-      ∙ ap (λ x. rela r.offset (code_of (aarch64_name e.relocation)) r.symbol x) (same_addend r.addend)))))
-
-  within_after : i < length l.relocations_after / 24
-  within_after = subst (λ n. i < n / 24) (sym linked.as_many) below
-
-  abbrev operands : Operands
-  operands = operands_with AArch64 l.addresses a.row symbol after 0
-
-  taken : operands_of AArch64 l.addresses l.symbols a.row after ≡ Ok operands
-  taken = ap (operands_in AArch64 l.addresses a.row after) is_symbol ∙ a.entryless l.addresses symbol after
-
-  is_row : IsRow AArch64 (relocation_in l.relocations_after i).code (Some a.row)
-  is_row =
-      row_in l aarch64 (relocation_in l.relocations_after i) e.relocation a (ap (λ (x : Rela). x.code) r_after)
-      (linked.written.can.found i) (linked.written.can.are_found i within_after)
-
-  -- is applied to the bytes between
-  pub applied_there : IsApplied a.row operands (instruction_at l.rewritten r.offset) (instruction_at l.final r.offset)
-  applied_there =
-      subst (λ (x : Rela). IsApplied a.row operands (instruction_at l.rewritten x.offset) (instruction_at l.final x.offset)) r_after
-      (applied l.setting.architecture l.addresses l.relocations_after l.symbols l.rewritten l.final linked.written
-      i within_after a.row a.of (subst (λ x. IsRow x (relocation_in l.relocations_after i).code (Some a.row)) (sym aarch64) is_row)
-      operands
-      (subst (λ x. operands_of x l.addresses l.symbols a.row (relocation_in l.relocations_after i) ≡ Ok operands) (sym aarch64)
-      (subst (λ x. operands_of AArch64 l.addresses l.symbols a.row x ≡ Ok operands) (sym r_after) taken)))
-
-with_operands : (row : RelocationKindInfo) (o p : Operands) (old new : List ℕ)
-    → value_of row p ≡ value_of row o → IsApplied row o old new → IsApplied row p old new
-with_operands row o p old new same is =
-    record { value = is.value; value_is = same ∙ is.value_is; accepted = is.accepted; written = is.written }
-
--- ---- bytes
-
-module _ (l : Linked) (linked : IsLinked l) (i : ℕ) (chosen : Choice Relaxation ℕ) (below : i < count l)
-    (decided : decision_at l.decisions i ≡ Rewritten chosen) where
-  abbrev o : ℕ
-  o = (relocation_in l.relocations i).offset
-
-  -- an instruction that isn't changed
-  pub stays : chosen.kind ≡ relaxations.AArch64 kinds.NoOp → IsOfNoOther l i o
-      → o + 4 ≤ length l.section → instruction_at l.rewritten o ≡ instruction_at l.section o
-  stays kind_is alone inside =
-      let long = linked.same_length in
-      same_windows o 4 l.rewritten l.section (omega (arith, inside, long)) (sym long)
-      (λ at from less. linked.others at (λ j lj. elim (cases_eq j i) [
-        | inl same ↦ inr (subst (λ k. written_end_at l.relocations l.decisions k ≤ at) (sym same) (own at from))
-        | inr isnt ↦ alone j at lj isnt from less
-      ]))
-    where
-      own : (at : ℕ) → o ≤ at → written_end_at l.relocations l.decisions i ≤ at
-      own at from =
-          let end : written_end_at l.relocations l.decisions i ≡ o - 0 + 0 =
-          ap (λ d. written_end_by d o) decided
-          ∙ ap (λ k. o - (Rattle.linker_base.specs.RewriteWindow.window_of_rewrite (relaxation_rewrite k)).back + (Rattle.linker_base.specs.RewriteWindow.window_of_rewrite (relaxation_rewrite k)).len) kind_is in
-          omega (arith, end, from)
-
-  -- an `ldr` that becomes `add`
-  pub becomes_add : chosen.kind ≡ relaxations.AArch64 kinds.LdrToAdd
-      → IsRewritten kinds.LdrToAdd (instruction_at l.section o) (instruction_at l.rewritten o)
-  becomes_add kind_is =
-      let done : IsMade (relaxation_rewrite chosen.kind) o l.section l.rewritten =
-      subst (λ d. IsDone d o l.section l.rewritten) decided (linked.done i below) in
-      let made : IsMade (aarch64_rewrite kinds.LdrToAdd) o l.section l.rewritten =
-      subst (λ k. IsMade (relaxation_rewrite k) o l.section l.rewritten) kind_is done in
-      let here : IsRewritten kinds.LdrToAdd (drop o l.section) (drop o l.rewritten) =
-      subst (λ n. IsRewritten kinds.LdrToAdd (drop n l.section) (drop n l.rewritten)) (let e : o - 0 ≡ o = omega arith in e) made in
-      take-take 4 4 (drop o l.rewritten) (omega arith)
-      ∙ (here ∙ ap (rewrites_where is_ldr64 (λ word. 0x91000000 + field word 0 21)).bytes (sym (take-take 4 4 (drop o l.section) (omega arith))))
-
 -- ---- the operands of a pair
 
 module _ (addresses : Addresses) (symbol : Symbol) (is_there : symbol.is_undefined_weak ≡ false)
@@ -251,7 +119,7 @@ module _ (addresses : Addresses) (symbol : Symbol) (is_there : symbol.is_undefin
 -- ---- a pair
 
 module _ (laws : Laws) (l : Linked) (linked : IsLinked l) (aarch64 : l.setting.architecture ≡ AArch64)
-    (i j : ℕ) (of : AreOfLoad l i j) (alone : IsOfNoOther l i (relocation_in l.relocations i).offset) where
+    (i j : ℕ) (of : AreOfLoad l i j) (alone : IsRewrittenByNoOther l i (relocation_in l.relocations i).offset) where
   abbrev first : Rela
   first = relocation_in l.relocations i
 
@@ -313,7 +181,7 @@ module _ (laws : Laws) (l : Linked) (linked : IsLinked l) (aarch64 : l.setting.a
       (ap (slice_get l.symbols) of.same_symbol ∙ is_symbol))) in
       let added : IsRewritten kinds.LdrToAdd (instruction_at l.section (o + 4)) (instruction_at l.rewritten (o + 4)) =
       subst (λ n. IsRewritten kinds.LdrToAdd (instruction_at l.section n) (instruction_at l.rewritten n)) next
-      (becomes_add l linked j of.low_chosen of.low_below of.low_decided low_entry.kind_is) in
+      (becomes l linked j of.low_chosen of.low_below of.low_decided kinds.LdrToAdd is_ldr64 (λ word. 0x91000000 + field word 0 21) refl low_entry.kind_is) in
       laws.got w s (instruction_at l.section o) (instruction_at l.section (o + 4)) (instruction_at l.rewritten (o + 4))
       together holds added adrp ldr (instruction_at l.final o) (instruction_at l.final (o + 4))
       of_entry_page of_entry_low page_written low_written
