@@ -1,3 +1,4 @@
+pub mod AArch64Addresses
 pub mod AArch64Alone
 pub mod AArch64Chosen
 pub mod AArch64Loads

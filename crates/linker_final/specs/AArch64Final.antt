@@ -15,7 +15,7 @@ use Rattle.linker_laws.specs.AArch64Machine.{State, load_64, RunAlike, RunAlikeB
 use Rattle.linker_laws.specs.AArch64RewriteLaws.{IsRelocated, Changes, AgreeBut, HasHigh, StepSo, behind, pair, thread_offset, with_register, without_register, word_of}
 use Rattle.linker_laws.specs.Schemes.{AreAddresses, plt_address, symbol_address}
 use Rattle.linker_rewriting.specs.Decisions.{decision_at, start_at, written_end_at}
-use Rattle.linker_rewriting.specs.declared.decisions.Decision.TheVariants.{Rewritten}
+use Rattle.linker_rewriting.specs.declared.decisions.Decision.TheVariants.{Rewritten, TakenAlong}
 use Rattle.linker_section.specs.Relocations.{relocation_in}
 use Rattle.linker_section.specs.Fields.{IsField, field_end}
 use Rattle.linker_section.specs.Values.{offset_at, operands_with}
@@ -76,6 +76,41 @@ LoadsTheSame l i row =
     → IsRelocated names.R_AARCH64_LD64_GOT_LO12_NC (behind 4 operands)
     (instruction_at l.section (r.offset + 4)) ldr
     → RunAlike (pair adrp ldr)
+    (pair (instruction_at l.final r.offset) (instruction_at l.final (r.offset + 4))) s
+
+-- ---- addresses by `adr`
+
+-- The relocations at two indexes are those of an `adrp` and of the `add` behind it, of one S + A. The
+-- second is rewritten, which takes the first along.
+pub record AreOfAddress (l : Linked) (i j : ℕ) : Type 0 where
+  pub page_below : i < count l
+  pub low_below : j < count l
+  pub low :
+      IsNameOf aarch64_name (relocation_in l.relocations j).code names.R_AARCH64_ADD_ABS_LO12_NC
+  pub next : (relocation_in l.relocations j).offset ≡ (relocation_in l.relocations i).offset + 4
+  pub same_symbol : (relocation_in l.relocations j).symbol ≡ (relocation_in l.relocations i).symbol
+  pub same_addend : (relocation_in l.relocations j).addend ≡ (relocation_in l.relocations i).addend
+  pub page_decided : decision_at l.decisions i ≡ TakenAlong
+  pub low_chosen : Choice Relaxation ℕ
+  pub low_decided : decision_at l.decisions j ≡ Rewritten low_chosen
+
+-- the bytes of the two instructions from an offset on
+abbrev pub two_at : List ℕ → ℕ → List ℕ
+two_at bytes o = take 8 (drop o bytes)
+
+-- From any state before the `adrp` the final bytes of the pair, `nop` and `adr`, run and end as the
+-- object's with their relocations' values do. The symbol isn't an undefined weak one.
+abbrev pub MakesTheSame : Linked → ℕ → RelocationKindInfo → Type 0
+MakesTheSame l i row =
+    let r = relocation_in l.relocations i in
+    (symbol : Symbol) → slice_get l.symbols r.symbol ≡ Some symbol → symbol.is_undefined_weak ≡ false
+    → (s : State) (adrp add : List ℕ)
+    → let operands = operands_with AArch64 l.addresses row symbol r 0 in
+    AreAddresses operands → s.pc ≡ operands.place
+    → IsRelocated names.R_AARCH64_ADR_PREL_PG_HI21 operands (two_at l.section r.offset) adrp
+    → IsRelocated names.R_AARCH64_ADD_ABS_LO12_NC (behind 4 operands)
+    (instruction_at l.section (r.offset + 4)) add
+    → RunAlike (pair adrp add)
     (pair (instruction_at l.final r.offset) (instruction_at l.final (r.offset + 4))) s
 
 -- ---- the halves of initial-exec
@@ -167,3 +202,12 @@ Branches =
     (BranchDoesTheSame names.R_AARCH64_JUMP26 (λ _. false))
     × EachRewritten names.R_AARCH64_CALL26 names.R_AARCH64_CALL26
     (BranchDoesTheSame names.R_AARCH64_CALL26 (λ n. n == 30))
+
+-- of every address by two instructions that a linker makes by one, where no other relocation has a
+-- field in the first
+abbrev pub Addresses : Type 0
+Addresses =
+    (l : Linked) → IsLinked l → l.setting.architecture ≡ AArch64
+    → (i j : ℕ) → AreOfAddress l i j
+    → IsWrittenByNoOther l i (relocation_in l.relocations i).offset
+    → IsSomeAnd (aarch64_row names.R_AARCH64_ADR_PREL_PG_HI21) (MakesTheSame l i)

@@ -1,3 +1,4 @@
+use Rattle.linker_final.proofs.AArch64Addresses.{addresses}
 use Rattle.linker_final.proofs.AArch64Alone.{high_halves, low_halves, branches}
 use Rattle.linker_final.proofs.AArch64Loads.{joined}
 use Rattle.linker_final.proofs.laws.aarch64.Goals as goal
@@ -6,6 +7,7 @@ pub returns : goal.returns
 returns c =
     let laws = c.aarch64.ensures.laws in
     record {
+      addresses = addresses laws;
       got_loads = joined laws;
       high_halves = high_halves laws;
       low_halves = low_halves laws;
