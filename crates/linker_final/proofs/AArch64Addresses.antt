@@ -1,50 +1,39 @@
 -- Addresses of AArch64 that became one instruction do in the final bytes what the object's do.
-use Rattle.std.proofs.Common.{◌≡◌, ℕ, ℤ, pos, ◌+◌, ◌-◌, ◌/◌, ◌<◌, ◌≤◌, ◌⊎◌, List, [], ◌∷◌, length, take, drop, get_or, false, cond, refl, sym, ap, subst, ◌∙◌, inl, inr, arith, Some, None, Ok}
-use Rattle.std.proofs.lemmas.Bool.{cases_eq, cond-false}
-use Rattle.std.proofs.lemmas.List.{take-take, drop-drop, length-drop, length-take-le, ext_get_or, get_or-drop, get_or-take}
+use Rattle.std.proofs.Common.{◌≡◌, ℕ, ℤ, ◌+◌, ◌-◌, ◌≤◌, List, [], ◌∷◌, length, take, drop, false, cond, refl, sym, ap, subst, ◌∙◌, arith, Some}
+use Rattle.std.proofs.lemmas.Bool.{cond-false}
+use Rattle.std.proofs.lemmas.List.{take-take, drop-drop, drop-take}
 use Rattle.std.specs.Prelude.{slice_get}
-use Rattle.linker_aarch64.specs.AArch64Rewrites.{AArch64Entry, aarch64_entries, aarch64_rewrite, rewrites_where, is_ldr64, to_adr, nop_adr, IsAdd64, AreOfOneRegister}
+use Rattle.linker_aarch64.specs.AArch64Rewrites.{AArch64Entry, to_adr, nop_adr, IsAdd64, AreOfOneRegister}
 use Rattle.linker_aarch64.specs.declared.rewrites.RelaxationKind.TheVariants as kinds
-use Rattle.linker_base.specs.Bits.{field}
-use Rattle.linker_base.specs.Rewrite.{Rewrite, replaces, offset_after, addend_after, rewrite_window}
-use Rattle.linker_elf.specs.AArch64Relocations.{aarch64_name, aarch64_row, insn_row}
+use Rattle.linker_base.specs.Rewrite.{replaces}
+use Rattle.linker_elf.specs.AArch64Relocations.{aarch64_name, insn_row}
 use Rattle.linker_elf.specs.Applied.{IsApplied}
 use Rattle.linker_elf.specs.Choices.{entry}
-use Rattle.linker_elf.specs.ElfNames.{IsNamed, IsNameOf, code_of}
-use Rattle.linker_elf.specs.Rows.{paged_row, signed_row, place_pages, entry_pages}
+use Rattle.linker_elf.specs.ElfNames.{code_of}
+use Rattle.linker_elf.specs.Rows.{paged_row, signed_row, place_pages}
 use Rattle.linker_elf.specs.Value.{value_of, sum_64}
 use Rattle.linker_elf.specs.declared.aarch64.forms.AArch64Instruction.TheVariants.{Adr, Add}
-use Rattle.linker_elf.specs.declared.aarch64.relocations.AArch64Relocation.{AArch64Relocation}
 use Rattle.linker_elf.specs.declared.aarch64.relocations.AArch64Relocation.TheVariants as names
 use Rattle.linker_elf.specs.declared.elf.RelocationInstruction.TheVariants as insns
 use Rattle.linker_elf.specs.declared.elf.RelocationKind.TheVariants.{Relative}
 use Rattle.linker_elf.specs.declared.elf.RelocationKindInfo.{RelocationKindInfo}
 use Rattle.linker_elf.specs.declared.elf.RelocationSize.TheVariants.{BitMasking}
-use Rattle.linker_elf.specs.declared.elf.choice.Choice.{Choice}
 use Rattle.linker_elf.specs.declared.elf.value.Operands.{Operands}
 use Rattle.linker_final.proofs.AArch64Chosen.{IsOfEntry, of_entry}
-use Rattle.linker_final.proofs.InstructionFields.{IsOfInstruction, applied}
-use Rattle.linker_final.proofs.PutBack.{same_windows}
 use Rattle.linker_final.specs.AArch64Final.{AreOfAddress, Addresses as AddressesByAdr, IsWrittenByNoOther, MakesTheSame, instruction_at, two_at}
-use Rattle.linker_final.specs.Final.{Linked, IsLinked, count}
-use Rattle.linker_laws.specs.AArch64RewriteLaws.{BeginsRewritten, IsPair, IsRewritten, Laws, behind, word_of}
-use Rattle.linker_rewriting.specs.Decisions.{decision_at, start_at, written_end_at, start_by, written_end_by}
+use Rattle.linker_final.specs.Final.{Linked, IsLinked}
+use Rattle.linker_laws.specs.AArch64RewriteLaws.{IsPair, IsRelocated, IsRewritten, Laws, behind, pair, word_of}
 use Rattle.linker_rewriting.specs.Rewritten.{IsDone, IsMade, relocation_after}
-use Rattle.linker_rewriting.specs.declared.decisions.Decision.TheVariants.{Rewritten, TakenAlong}
 use Rattle.linker_section.proofs.Fronts.{same_window}
-use Rattle.linker_section.specs.Needed.{entry_of}
 use Rattle.linker_section.specs.Relocations.{relocation_in}
-use Rattle.linker_section.specs.Sections.{IsRowValue}
-use Rattle.linker_section.specs.Values.{operands_with, operands_by, operands_of, operands_in, entry_address, target_of, weak_address}
+use Rattle.linker_section.specs.Values.{operands_with}
 use Rattle.linker_section.specs.declared.facts.Addresses.{Addresses}
 use Rattle.linker_section.specs.declared.facts.Symbol.{Symbol}
 use Rattle.linker_section.specs.declared.relocations.Rela.{Rela}
-use Rattle.linker_utils.specs.Architectures.{IsRow, relaxation_rewrite}
-use Rattle.linker_utils.specs.declared.architecture.Relaxation.{Relaxation}
-use Rattle.linker_utils.specs.declared.architecture.Relaxation.TheVariants as relaxations
+use Rattle.linker_utils.specs.Architectures.{relaxation_rewrite}
 use Rattle.linker_utils.specs.declared.elf.Architecture.TheVariants.{AArch64}
 use Rattle.linker_final.proofs.AArch64Written.{IsAfter, applied_there, free_but, rela, unwritten, with_operands, word_same}
-
+use Rattle.linker_laws.specs.AArch64Machine.{RunAlike}
 
 -- ---- rows
 
@@ -73,23 +62,8 @@ adr_after =
 -- ---- two instructions
 
 -- the second of them
-second_same : (bytes : List ℕ) (o : ℕ) → o + 8 ≤ length bytes
-    → drop 4 (two_at bytes o) ≡ instruction_at bytes (o + 4)
-second_same bytes o inside =
-    let ld = length-drop o bytes in
-    let lt = length-take-le 8 (drop o bytes) (omega (arith, ld, inside)) in
-    let la = length-drop 4 (two_at bytes o) in
-    let l4 = length-drop (o + 4) bytes in
-    let lb = length-take-le 4 (drop (o + 4) bytes) (omega (arith, l4, inside)) in
-    ext_get_or 0 (drop 4 (two_at bytes o)) (instruction_at bytes (o + 4)) (omega (arith, la, lt, lb))
-    (λ k below.
-    let less : k < 4 = omega (arith, below, la, lt) in
-    get_or-drop 4 (two_at bytes o) k 0
-    ∙ (get_or-take 8 (drop o bytes) (4 + k) 0 (omega (arith, less))
-    ∙ (get_or-drop o bytes (4 + k) 0
-    ∙ (ap (λ n. get_or bytes n 0) (let e : o + (4 + k) ≡ o + 4 + k = omega arith in e)
-    ∙ (sym (get_or-drop (o + 4) bytes k 0)
-    ∙ sym (get_or-take 4 (drop (o + 4) bytes) k 0 less))))))
+second_same : (bytes : List ℕ) (o : ℕ) → drop 4 (two_at bytes o) ≡ instruction_at bytes (o + 4)
+second_same bytes o = drop-take 4 4 (drop o bytes) ∙ ap (take 4) (drop-drop 4 o bytes)
 
 first_same : (bytes : List ℕ) (o : ℕ) → word_of (two_at bytes o) ≡ word_of (instruction_at bytes o)
 first_same bytes o =
@@ -160,8 +134,6 @@ module _ (laws : Laws) (l : Linked) (linked : IsLinked l) (aarch64 : l.setting.a
       let inside = by.matches.1.1.0 in
       let code = code_of (aarch64_name names.R_AARCH64_ADR_PREL_LO21) in
       let section_long : o + 8 ≤ length l.section = omega (arith, inside, next) in
-      let rl = linked.same_length in
-      let rewritten_long : o + 8 ≤ length l.rewritten = omega (arith, section_long, rl) in
       let is_add : IsAdd64 (word_of (drop (o + 4) l.section)) =
       subst (λ n. IsAdd64 (word_of (drop n l.section))) next (by.matches.1.1.1.0) in
       let one : AreOfOneRegister (word_of (drop o l.section)) (word_of (drop (o + 4) l.section)) =
@@ -169,7 +141,7 @@ module _ (laws : Laws) (l : Linked) (linked : IsLinked l) (aarch64 : l.setting.a
       (subst (λ n. AreOfOneRegister (word_of (drop (second.offset - 4) l.section)) (word_of (drop n l.section))) next (by.matches.1.1.1.1)) in
       let word_first : word_of (drop o l.section) ≡ word_of (two_at l.section o) = word_same l.section o ∙ sym (first_same l.section o) in
       let word_second : word_of (drop (o + 4) l.section) ≡ word_of (drop 4 (two_at l.section o)) =
-      word_same l.section (o + 4) ∙ ap word_of (sym (second_same l.section o section_long)) in
+      word_same l.section (o + 4) ∙ ap word_of (sym (second_same l.section o)) in
       let together : IsPair IsAdd64 w s (two_at l.section o) (drop 4 (two_at l.section o)) =
       record {
         small = small;
@@ -179,15 +151,15 @@ module _ (laws : Laws) (l : Linked) (linked : IsLinked l) (aarch64 : l.setting.a
             (subst (λ x. AreOfOneRegister (word_of (drop o l.section)) x) word_second one);
         second_is = subst IsAdd64 word_second is_add;
       } in
-      let low : Rattle.linker_laws.specs.AArch64RewriteLaws.IsRelocated names.R_AARCH64_ADD_ABS_LO12_NC (behind 4 w) (drop 4 (two_at l.section o)) add =
-      subst (λ xs. Rattle.linker_laws.specs.AArch64RewriteLaws.IsRelocated names.R_AARCH64_ADD_ABS_LO12_NC (behind 4 w) xs add) (sym (second_same l.section o section_long)) of_low in
+      let low : IsRelocated names.R_AARCH64_ADD_ABS_LO12_NC (behind 4 w) (drop 4 (two_at l.section o)) add =
+      subst (λ xs. IsRelocated names.R_AARCH64_ADD_ABS_LO12_NC (behind 4 w) xs add) (sym (second_same l.section o)) of_low in
       let there : IsApplied adr_after.row (operands_with AArch64 l.addresses adr_after.row symbol (rela (o + 4) code second.symbol second.addend) 0) (instruction_at l.rewritten (o + 4)) (instruction_at l.final (o + 4)) =
       subst (λ n. IsApplied adr_after.row (operands_with AArch64 l.addresses adr_after.row symbol (rela n code second.symbol second.addend) 0) (instruction_at l.rewritten n) (instruction_at l.final n)) next
       (applied_there l linked aarch64 j of.low_chosen of.low_below of.low_decided e
       by.kind_is by.code_is (λ o. refl) (λ a. refl) adr_after symbol
       (ap (slice_get l.symbols) of.same_symbol ∙ is_symbol)) in
       let written : IsApplied adr_after.row (behind 4 w) (drop 4 (two_at l.rewritten o)) (instruction_at l.final (o + 4)) =
-      subst (λ xs. IsApplied adr_after.row (behind 4 w) xs (instruction_at l.final (o + 4))) (sym (second_same l.rewritten o rewritten_long))
+      subst (λ xs. IsApplied adr_after.row (behind 4 w) xs (instruction_at l.final (o + 4))) (sym (second_same l.rewritten o))
       (with_operands adr_after.row
       (operands_with AArch64 l.addresses adr_after.row symbol (rela (o + 4) code second.symbol second.addend) 0)
       (behind 4 w) (instruction_at l.rewritten (o + 4)) (instruction_at l.final (o + 4))
@@ -198,7 +170,7 @@ module _ (laws : Laws) (l : Linked) (linked : IsLinked l) (aarch64 : l.setting.a
       unwritten l linked o (omega (arith, section_long)) (free_but l linked aarch64 i o gone alone) in
       let word : word_of (two_at l.rewritten o) ≡ word_of (instruction_at l.final o) =
       first_same l.rewritten o ∙ ap word_of (sym stays) in
-      subst (λ x. Rattle.linker_laws.specs.AArch64Machine.RunAlike (Rattle.linker_laws.specs.AArch64RewriteLaws.pair adrp add) (x ∷ word_of (instruction_at l.final (o + 4)) ∷ []) s) word
+      subst (λ x. RunAlike (pair adrp add) (x ∷ word_of (instruction_at l.final (o + 4)) ∷ []) s) word
       (laws.address.0 w s (two_at l.section o) (two_at l.rewritten o) together made_two adrp add (instruction_at l.final (o + 4))
       of_page low written)
 

@@ -1,50 +1,33 @@
 -- Instructions of AArch64 that are rewritten each by itself do in the final bytes what the object's do.
-use Rattle.std.proofs.Common.{◌≡◌, ℕ, ℤ, pos, ◌+◌, ◌-◌, ◌/◌, ◌<◌, ◌≤◌, ◌⊎◌, List, [], ◌∷◌, length, take, drop, get_or, false, cond, refl, sym, ap, subst, ◌∙◌, inl, inr, arith, Some, None, Ok, Bool, true, eqb, IsSomeAnd}
-use Rattle.std.proofs.lemmas.Bool.{cases_eq, cond-false, eq-eqb}
-use Rattle.std.proofs.lemmas.List.{take-take}
-use Rattle.std.specs.Prelude.{slice_get}
-use Rattle.linker_aarch64.specs.AArch64Rewrites.{AArch64Entry, aarch64_entries, aarch64_rewrite, rewrites_where, is_ldr64, halves_to_local_exec, IsLdr64, IsIntoOwnSource, IsAdrp, nop, rd_of, rn_of}
+use Rattle.std.proofs.Common.{◌≡◌, ℕ, ◌+◌, ◌<◌, ◌≤◌, [], ◌∷◌, length, drop, false, refl, sym, ap, subst, ◌∙◌, Bool, true, eqb}
+use Rattle.std.proofs.lemmas.Bool.{eq-eqb}
+use Rattle.linker_aarch64.specs.AArch64Rewrites.{aarch64_entries, halves_to_local_exec, IsLdr64, IsIntoOwnSource, IsAdrp, IsAskedFor, nop, rd_of, rn_of}
 use Rattle.linker_aarch64.specs.declared.rewrites.RelaxationKind.TheVariants as kinds
-use Rattle.linker_base.specs.Bits.{field}
-use Rattle.linker_base.specs.Rewrite.{Rewrite, offset_after, addend_after, rewrite_window}
-use Rattle.linker_elf.specs.AArch64Relocations.{aarch64_name, aarch64_row, insn_row}
+use Rattle.linker_elf.specs.AArch64Relocations.{aarch64_name, insn_row}
 use Rattle.linker_elf.specs.Applied.{IsApplied}
 use Rattle.linker_elf.specs.Choices.{entry, weak_zero}
 use Rattle.linker_elf.specs.ElfNames.{IsNamed, IsNameOf, code_of}
 use Rattle.linker_elf.specs.Rows.{aligned_row, signed_row, thunkable_row}
-use Rattle.linker_elf.specs.Value.{value_of}
 use Rattle.linker_elf.specs.declared.aarch64.forms.AArch64Instruction.TheVariants.{JumpCall, Movnz, Movkz}
 use Rattle.linker_elf.specs.declared.aarch64.relocations.AArch64Relocation.{AArch64Relocation}
 use Rattle.linker_elf.specs.declared.aarch64.relocations.AArch64Relocation.TheVariants as names
 use Rattle.linker_elf.specs.declared.elf.RelocationInstruction.TheVariants as insns
 use Rattle.linker_elf.specs.declared.elf.RelocationKind.TheVariants.{PltRelative, TpOff}
 use Rattle.linker_elf.specs.declared.elf.RelocationKindInfo.{RelocationKindInfo}
-use Rattle.linker_elf.specs.declared.elf.RelocationSize.TheVariants.{BitMasking}
 use Rattle.linker_elf.specs.declared.elf.choice.Choice.{Choice}
-use Rattle.linker_elf.specs.declared.elf.value.Operands.{Operands}
-use Rattle.linker_final.proofs.AArch64Chosen.{IsOfEntry, of_entry}
-use Rattle.linker_final.proofs.InstructionFields.{IsOfInstruction, applied}
-use Rattle.linker_final.proofs.PutBack.{same_windows}
-use Rattle.linker_final.specs.AArch64Final.{EachRewritten, HighHalves, LowHalves, Branches, HighDoesTheSame, LowDoesTheSame, BranchDoesTheSame, instruction_at}
+use Rattle.linker_final.proofs.AArch64Chosen.{of_entry}
+use Rattle.linker_final.specs.AArch64Final.{HighHalves, LowHalves, Branches, BranchDoesTheSame, instruction_at}
 use Rattle.linker_final.specs.Final.{Linked, IsLinked, count}
 use Rattle.linker_laws.specs.AArch64RewriteLaws.{IsRewritten, Laws, BranchToNop, word_of}
-use Rattle.linker_rewriting.specs.Decisions.{decision_at, start_at, written_end_at, start_by, written_end_by}
-use Rattle.linker_rewriting.specs.Rewritten.{IsDone, IsMade, relocation_after}
+use Rattle.linker_rewriting.specs.Decisions.{decision_at}
+use Rattle.linker_rewriting.specs.Rewritten.{relocation_after}
 use Rattle.linker_rewriting.specs.declared.decisions.Decision.TheVariants.{Rewritten}
-use Rattle.linker_section.proofs.Fronts.{same_window}
-use Rattle.linker_section.specs.Needed.{entry_of}
 use Rattle.linker_section.specs.Relocations.{relocation_in}
-use Rattle.linker_section.specs.Sections.{IsRowValue}
-use Rattle.linker_section.specs.Values.{operands_with, operands_by, operands_of, operands_in, entry_address, target_of, weak_address}
-use Rattle.linker_section.specs.declared.facts.Addresses.{Addresses}
-use Rattle.linker_section.specs.declared.facts.Symbol.{Symbol}
+use Rattle.linker_section.specs.Values.{operands_with}
 use Rattle.linker_section.specs.declared.relocations.Rela.{Rela}
-use Rattle.linker_utils.specs.Architectures.{IsRow, relaxation_rewrite}
 use Rattle.linker_utils.specs.declared.architecture.Relaxation.{Relaxation}
-use Rattle.linker_utils.specs.declared.architecture.Relaxation.TheVariants as relaxations
 use Rattle.linker_utils.specs.declared.elf.Architecture.TheVariants.{AArch64}
-use Rattle.linker_final.proofs.AArch64Written.{IsAfter, applied_there, becomes, free_but, rela, r_after, unwritten, with_operands, word_same}
-
+use Rattle.linker_final.proofs.AArch64Written.{IsAfter, applied_there, becomes, free_but, rela, unwritten, with_operands, word_same}
 use Rattle.linker_laws.specs.AArch64Machine.{is_b, is_bl}
 
 -- ---- rows
@@ -90,12 +73,12 @@ low_after =
 -- ---- halves
 
 pub high_halves : Laws → HighHalves
-high_halves laws l linked aarch64 i chosen below is_name decided symbol is_symbol entry s t c adrp small at agree not_31 of_entry_there =
+high_halves laws l linked aarch64 i chosen below is_name decided symbol is_symbol got s t c adrp small at agree not_31 of_entry_there =
     let r = relocation_in l.relocations i in
     let o = r.offset in
-    let e = Rattle.linker_elf.specs.Choices.entry kinds.MovzXnLsl16 names.R_AARCH64_TLSLE_MOVW_TPREL_G1 halves_to_local_exec in
+    let e = entry kinds.MovzXnLsl16 names.R_AARCH64_TLSLE_MOVW_TPREL_G1 halves_to_local_exec in
     let by = of_entry l linked aarch64 i chosen below decided names.R_AARCH64_TLSIE_ADR_GOTTPREL_PAGE21 tt is_name e refl in
-    let w = operands_with AArch64 l.addresses high_after.row symbol r entry in
+    let w = operands_with AArch64 l.addresses high_after.row symbol r got in
     let written : IsApplied high_after.row w (instruction_at l.rewritten o) (instruction_at l.final o) =
     with_operands high_after.row
     (operands_with AArch64 l.addresses high_after.row symbol (rela o (code_of (aarch64_name names.R_AARCH64_TLSLE_MOVW_TPREL_G1)) r.symbol r.addend) 0)
@@ -108,12 +91,12 @@ high_halves laws l linked aarch64 i chosen below is_name decided symbol is_symbo
     adrp (instruction_at l.final o) of_entry_there written
 
 pub low_halves : Laws → LowHalves
-low_halves laws l linked aarch64 i chosen below is_name decided symbol is_symbol entry s t c ldr small holds high agree of_entry_there =
+low_halves laws l linked aarch64 i chosen below is_name decided symbol is_symbol got s t c ldr small holds high agree of_entry_there =
     let r = relocation_in l.relocations i in
     let o = r.offset in
-    let e = Rattle.linker_elf.specs.Choices.entry kinds.MovkXn names.R_AARCH64_TLSLE_MOVW_TPREL_G0_NC halves_to_local_exec in
+    let e = entry kinds.MovkXn names.R_AARCH64_TLSLE_MOVW_TPREL_G0_NC halves_to_local_exec in
     let by = of_entry l linked aarch64 i chosen below decided names.R_AARCH64_TLSIE_LD64_GOTTPREL_LO12_NC tt is_name e refl in
-    let w = operands_with AArch64 l.addresses high_after.row symbol r entry in
+    let w = operands_with AArch64 l.addresses high_after.row symbol r got in
     let written : IsApplied low_after.row w (instruction_at l.rewritten o) (instruction_at l.final o) =
     with_operands low_after.row
     (operands_with AArch64 l.addresses low_after.row symbol (rela o (code_of (aarch64_name names.R_AARCH64_TLSLE_MOVW_TPREL_G0_NC)) r.symbol r.addend) 0)
@@ -132,7 +115,7 @@ low_halves laws l linked aarch64 i chosen below is_name decided symbol is_symbol
 module _ (name : AArch64Relocation) (named : IsNamed (aarch64_name name))
     (entries : aarch64_entries name ≡ (entry kinds.ReplaceWithNop names.R_AARCH64_NONE (weak_zero ∷ []) ∷ []))
     (is_branch : ℕ → Bool) (differing : ℕ → Bool) (law : BranchToNop name is_branch differing)
-    (is_one : (l : Linked) (o : ℕ) → Rattle.linker_aarch64.specs.AArch64Rewrites.IsAskedFor name l.section o
+    (is_one : (l : Linked) (o : ℕ) → IsAskedFor name l.section o
     → (o + 4 ≤ length l.section) × (is_branch (word_of (drop o l.section)) ≡ true)) where
   pub branch_alike : (l : Linked) → IsLinked l → l.setting.architecture ≡ AArch64
       → (i : ℕ) (chosen : Choice Relaxation ℕ) → i < count l

@@ -90,11 +90,11 @@ module _ (l : Linked) (linked : IsLinked l) (aarch64 : l.setting.architecture �
       (subst (λ x. IsAArch64Choice x l.section r.offset c.facts h.named) same h.is_choice) in
       elim first [
         | inl this ↦ record {
-            kind_is = h.kind_is ∙ ap (λ (q : Choice RelaxationKind AArch64Relocation). relaxations.AArch64 q.kind) (this.1);
-            code_is = h.code_is ∙ ap (λ (q : Choice RelaxationKind AArch64Relocation). code_of (aarch64_name q.relocation)) (this.1);
-            matches = this.0.0.0;
-            asked = this.0.0.1;
-          }
+          kind_is = h.kind_is ∙ ap (λ (q : Choice RelaxationKind AArch64Relocation). relaxations.AArch64 q.kind) (this.1);
+          code_is = h.code_is ∙ ap (λ (q : Choice RelaxationKind AArch64Relocation). code_of (aarch64_name q.relocation)) (this.1);
+          matches = this.0.0.0;
+          asked = this.0.0.1;
+        }
         | inr other ↦
             absurd (c.changed (
               subst relaxation_no_op (sym (h.kind_is ∙ ap (λ (q : Choice RelaxationKind AArch64Relocation). relaxations.AArch64 q.kind) (other.1))) refl,

@@ -1,47 +1,31 @@
 -- Rewritten loads from the GOT of AArch64 do in the final bytes what the object's do.
-use Rattle.std.proofs.Common.{◌≡◌, ℕ, ℤ, pos, ◌+◌, ◌-◌, ◌/◌, ◌<◌, ◌≤◌, ◌⊎◌, List, [], ◌∷◌, length, take, drop, get_or, false, cond, refl, sym, ap, subst, ◌∙◌, inl, inr, arith, Some, None, Ok}
-use Rattle.std.proofs.lemmas.Bool.{cases_eq, cond-false}
-use Rattle.std.proofs.lemmas.List.{take-take}
+use Rattle.std.proofs.Common.{◌≡◌, ℕ, ℤ, ◌+◌, ◌-◌, drop, false, cond, refl, sym, ap, subst, ◌∙◌, arith}
+use Rattle.std.proofs.lemmas.Bool.{cond-false}
 use Rattle.std.specs.Prelude.{slice_get}
-use Rattle.linker_aarch64.specs.AArch64Rewrites.{AArch64Entry, aarch64_entries, aarch64_rewrite, rewrites_where, is_ldr64, to_address, IsLdr64, AreOfOneRegister}
+use Rattle.linker_aarch64.specs.AArch64Rewrites.{is_ldr64, to_address, IsLdr64, AreOfOneRegister}
 use Rattle.linker_aarch64.specs.declared.rewrites.RelaxationKind.TheVariants as kinds
 use Rattle.linker_base.specs.Bits.{field}
-use Rattle.linker_base.specs.Rewrite.{Rewrite, offset_after, addend_after, rewrite_window}
-use Rattle.linker_elf.specs.AArch64Relocations.{aarch64_name, aarch64_row, insn_row}
+use Rattle.linker_elf.specs.AArch64Relocations.{aarch64_name, insn_row}
 use Rattle.linker_elf.specs.Applied.{IsApplied}
 use Rattle.linker_elf.specs.Choices.{entry}
-use Rattle.linker_elf.specs.ElfNames.{IsNamed, IsNameOf, code_of}
+use Rattle.linker_elf.specs.ElfNames.{code_of}
 use Rattle.linker_elf.specs.Rows.{paged_row, signed_row, place_pages, entry_pages}
 use Rattle.linker_elf.specs.Value.{value_of}
 use Rattle.linker_elf.specs.declared.aarch64.forms.AArch64Instruction.TheVariants.{Adr, Add}
-use Rattle.linker_elf.specs.declared.aarch64.relocations.AArch64Relocation.{AArch64Relocation}
 use Rattle.linker_elf.specs.declared.aarch64.relocations.AArch64Relocation.TheVariants as names
 use Rattle.linker_elf.specs.declared.elf.RelocationInstruction.TheVariants as insns
 use Rattle.linker_elf.specs.declared.elf.RelocationKind.TheVariants.{Relative, AbsoluteLowPart, GotRelative}
 use Rattle.linker_elf.specs.declared.elf.RelocationKindInfo.{RelocationKindInfo}
-use Rattle.linker_elf.specs.declared.elf.RelocationSize.TheVariants.{BitMasking}
-use Rattle.linker_elf.specs.declared.elf.choice.Choice.{Choice}
 use Rattle.linker_elf.specs.declared.elf.value.Operands.{Operands}
 use Rattle.linker_final.proofs.AArch64Chosen.{IsOfEntry, of_entry}
-use Rattle.linker_final.proofs.InstructionFields.{IsOfInstruction, applied}
-use Rattle.linker_final.proofs.PutBack.{same_windows}
 use Rattle.linker_final.specs.AArch64Final.{AreOfLoad, GotLoads, IsRewrittenByNoOther, LoadsTheSame, instruction_at}
-use Rattle.linker_final.specs.Final.{Linked, IsLinked, count}
+use Rattle.linker_final.specs.Final.{Linked, IsLinked}
 use Rattle.linker_laws.specs.AArch64RewriteLaws.{IsPair, IsRewritten, Laws, behind, word_of}
-use Rattle.linker_rewriting.specs.Decisions.{decision_at, start_at, written_end_at, start_by, written_end_by}
-use Rattle.linker_rewriting.specs.Rewritten.{IsDone, IsMade, relocation_after}
-use Rattle.linker_rewriting.specs.declared.decisions.Decision.TheVariants.{Rewritten}
-use Rattle.linker_section.proofs.Fronts.{same_window}
-use Rattle.linker_section.specs.Needed.{entry_of}
 use Rattle.linker_section.specs.Relocations.{relocation_in}
-use Rattle.linker_section.specs.Sections.{IsRowValue}
-use Rattle.linker_section.specs.Values.{operands_with, operands_by, operands_of, operands_in, entry_address, target_of, weak_address}
+use Rattle.linker_section.specs.Values.{operands_with}
 use Rattle.linker_section.specs.declared.facts.Addresses.{Addresses}
 use Rattle.linker_section.specs.declared.facts.Symbol.{Symbol}
 use Rattle.linker_section.specs.declared.relocations.Rela.{Rela}
-use Rattle.linker_utils.specs.Architectures.{IsRow, relaxation_rewrite}
-use Rattle.linker_utils.specs.declared.architecture.Relaxation.{Relaxation}
-use Rattle.linker_utils.specs.declared.architecture.Relaxation.TheVariants as relaxations
 use Rattle.linker_utils.specs.declared.elf.Architecture.TheVariants.{AArch64}
 use Rattle.linker_final.proofs.AArch64Written.{IsAfter, applied_there, becomes, rela, stays, with_operands, word_same}
 
@@ -137,9 +121,9 @@ module _ (laws : Laws) (l : Linked) (linked : IsLinked l) (aarch64 : l.setting.a
       (entry kinds.LdrToAdd names.R_AARCH64_ADD_ABS_LO12_NC (to_address 4)) refl
 
   pub loads_the_same : LoadsTheSame l i got_row
-  loads_the_same symbol is_symbol is_there entry s adrp ldr small holds at of_entry_page of_entry_low =
+  loads_the_same symbol is_symbol is_there got s adrp ldr small holds at of_entry_page of_entry_low =
       let o = first.offset in
-      let w = operands_with AArch64 l.addresses got_row symbol first entry in
+      let w = operands_with AArch64 l.addresses got_row symbol first got in
       let next = of.next in
       let asked = low_entry.asked in
       let inside = asked.1.1.0 in
@@ -164,19 +148,19 @@ module _ (laws : Laws) (l : Linked) (linked : IsLinked l) (aarch64 : l.setting.a
       with_operands page_after.row
       (operands_with AArch64 l.addresses page_after.row symbol (rela o (code_of (aarch64_name names.R_AARCH64_ADR_PREL_PG_HI21)) first.symbol first.addend) 0)
       w (instruction_at l.section o) (instruction_at l.final o)
-      (page_value l.addresses symbol is_there first (code_of (aarch64_name names.R_AARCH64_ADR_PREL_PG_HI21)) entry)
+      (page_value l.addresses symbol is_there first (code_of (aarch64_name names.R_AARCH64_ADR_PREL_PG_HI21)) got)
       (subst (λ xs. IsApplied page_after.row (operands_with AArch64 l.addresses page_after.row symbol (rela o (code_of (aarch64_name names.R_AARCH64_ADR_PREL_PG_HI21)) first.symbol first.addend) 0) xs (instruction_at l.final o)) stayed
       (applied_there l linked aarch64 i of.page_chosen of.page_below of.page_decided
-      (Rattle.linker_elf.specs.Choices.entry kinds.NoOp names.R_AARCH64_ADR_PREL_PG_HI21 (to_address 0))
+      (entry kinds.NoOp names.R_AARCH64_ADR_PREL_PG_HI21 (to_address 0))
       page_entry.kind_is page_entry.code_is (λ o. refl) (λ a. refl) page_after symbol is_symbol)) in
       let low_written : IsApplied low_after.row (behind 4 w) (instruction_at l.rewritten (o + 4)) (instruction_at l.final (o + 4)) =
       with_operands low_after.row
       (operands_with AArch64 l.addresses low_after.row symbol (rela second.offset (code_of (aarch64_name names.R_AARCH64_ADD_ABS_LO12_NC)) second.symbol second.addend) 0)
       (behind 4 w) (instruction_at l.rewritten (o + 4)) (instruction_at l.final (o + 4))
-      (low_value l.addresses symbol is_there first (code_of (aarch64_name names.R_AARCH64_ADD_ABS_LO12_NC)) entry second.offset second.addend of.same_addend)
+      (low_value l.addresses symbol is_there first (code_of (aarch64_name names.R_AARCH64_ADD_ABS_LO12_NC)) got second.offset second.addend of.same_addend)
       (subst (λ n. IsApplied low_after.row (operands_with AArch64 l.addresses low_after.row symbol (rela second.offset (code_of (aarch64_name names.R_AARCH64_ADD_ABS_LO12_NC)) second.symbol second.addend) 0) (instruction_at l.rewritten n) (instruction_at l.final n)) next
       (applied_there l linked aarch64 j of.low_chosen of.low_below of.low_decided
-      (Rattle.linker_elf.specs.Choices.entry kinds.LdrToAdd names.R_AARCH64_ADD_ABS_LO12_NC (to_address 4))
+      (entry kinds.LdrToAdd names.R_AARCH64_ADD_ABS_LO12_NC (to_address 4))
       low_entry.kind_is low_entry.code_is (λ o. refl) (λ a. refl) low_after symbol
       (ap (slice_get l.symbols) of.same_symbol ∙ is_symbol))) in
       let added : IsRewritten kinds.LdrToAdd (instruction_at l.section (o + 4)) (instruction_at l.rewritten (o + 4)) =

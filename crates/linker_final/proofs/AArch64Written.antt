@@ -1,41 +1,37 @@
 -- Instructions of AArch64 and their relocations in the final bytes of a section.
-use Rattle.std.proofs.Common.{◌≡◌, ℕ, ℤ, pos, ◌+◌, ◌-◌, ◌/◌, ◌<◌, ◌≤◌, ◌⊎◌, List, [], ◌∷◌, length, take, drop, get_or, false, cond, refl, sym, ap, subst, ◌∙◌, inl, inr, arith, Option, Some, None, Ok, Bool, IsSomeAnd}
-use Rattle.std.proofs.lemmas.Bool.{cases_eq, cond-false}
+use Rattle.std.proofs.Common.{◌≡◌, ℕ, ℤ, ◌+◌, ◌-◌, ◌/◌, ◌<◌, ◌≤◌, List, length, take, drop, sym, ap, subst, ◌∙◌, inl, inr, arith, Option, Some, None, Ok, Bool, IsSomeAnd}
+use Rattle.std.proofs.lemmas.Bool.{cases_eq}
 use Rattle.std.proofs.lemmas.List.{take-take}
 use Rattle.std.specs.Prelude.{slice_get}
-use Rattle.linker_aarch64.specs.AArch64Rewrites.{AArch64Entry, aarch64_entries, aarch64_rewrite, rewrites_where, is_ldr64, to_address, IsLdr64, AreOfOneRegister}
+use Rattle.linker_aarch64.specs.AArch64Rewrites.{AArch64Entry, aarch64_rewrite, rewrites_where}
 use Rattle.linker_aarch64.specs.declared.rewrites.RelaxationKind.TheVariants as kinds
 use Rattle.linker_base.specs.Bits.{field}
-use Rattle.linker_base.specs.Rewrite.{Rewrite, offset_after, addend_after, rewrite_window}
-use Rattle.linker_elf.specs.AArch64Relocations.{aarch64_name, aarch64_row, insn_row}
+use Rattle.linker_base.specs.Rewrite.{offset_after, addend_after}
+use Rattle.linker_elf.specs.AArch64Relocations.{aarch64_name, aarch64_row}
 use Rattle.linker_elf.specs.Applied.{IsApplied}
-use Rattle.linker_elf.specs.Choices.{entry}
-use Rattle.linker_elf.specs.ElfNames.{IsNamed, IsNameOf, code_of}
-use Rattle.linker_elf.specs.Rows.{paged_row, signed_row, place_pages, entry_pages}
+use Rattle.linker_elf.specs.ElfNames.{IsNamed, code_of}
 use Rattle.linker_elf.specs.Value.{value_of}
-use Rattle.linker_elf.specs.declared.aarch64.forms.AArch64Instruction.TheVariants.{Adr, Add}
+use Rattle.linker_elf.specs.declared.aarch64.forms.AArch64Instruction.TheVariants.{Add}
 use Rattle.linker_elf.specs.declared.aarch64.relocations.AArch64Relocation.{AArch64Relocation}
 use Rattle.linker_elf.specs.declared.aarch64.relocations.AArch64Relocation.TheVariants as names
 use Rattle.linker_elf.specs.declared.elf.RelocationInstruction.TheVariants as insns
-use Rattle.linker_elf.specs.declared.elf.RelocationKind.TheVariants.{Relative, AbsoluteLowPart, GotRelative}
 use Rattle.linker_elf.specs.declared.elf.RelocationKindInfo.{RelocationKindInfo}
 use Rattle.linker_elf.specs.declared.elf.RelocationSize.TheVariants.{BitMasking}
 use Rattle.linker_elf.specs.declared.elf.choice.Choice.{Choice}
 use Rattle.linker_elf.specs.declared.elf.value.Operands.{Operands}
-use Rattle.linker_final.proofs.AArch64Chosen.{IsOfEntry, of_entry}
 use Rattle.linker_final.proofs.InstructionFields.{IsOfInstruction, applied}
 use Rattle.linker_final.proofs.PutBack.{same_windows}
-use Rattle.linker_final.specs.AArch64Final.{AreOfLoad, GotLoads, IsRewrittenByNoOther, IsWrittenByNoOther, LoadsTheSame, instruction_at}
+use Rattle.linker_final.specs.AArch64Final.{IsRewrittenByNoOther, IsWrittenByNoOther, instruction_at}
 use Rattle.linker_final.specs.Final.{Linked, IsLinked, count}
-use Rattle.linker_laws.specs.AArch64RewriteLaws.{IsPair, BeginsRewritten, IsRewritten, Laws, behind, word_of}
-use Rattle.linker_rewriting.specs.Decisions.{decision_at, start_at, written_end_at, start_by, written_end_by}
+use Rattle.linker_laws.specs.AArch64RewriteLaws.{BeginsRewritten, IsRewritten, word_of}
+use Rattle.linker_rewriting.specs.Decisions.{decision_at, written_end_at, written_end_by}
 use Rattle.linker_rewriting.specs.Rewritten.{IsDone, IsMade, relocation_after}
 use Rattle.linker_rewriting.specs.declared.decisions.Decision.TheVariants.{Rewritten}
 use Rattle.linker_section.proofs.Fronts.{same_window}
 use Rattle.linker_section.specs.Needed.{entry_of}
 use Rattle.linker_section.specs.Relocations.{relocation_in}
 use Rattle.linker_section.specs.Sections.{IsRowValue, IsInNoField}
-use Rattle.linker_section.specs.Values.{operands_with, operands_by, operands_of, operands_in, entry_address, offset_at, target_of, weak_address}
+use Rattle.linker_section.specs.Values.{operands_with, operands_by, operands_of, operands_in, entry_address, offset_at}
 use Rattle.linker_section.specs.declared.facts.Addresses.{Addresses}
 use Rattle.linker_section.specs.declared.facts.Symbol.{Symbol}
 use Rattle.linker_section.specs.declared.relocations.Rela.{Rela}
@@ -45,6 +41,7 @@ use Rattle.linker_utils.specs.declared.architecture.Relaxation.TheVariants as re
 use Rattle.linker_utils.specs.declared.elf.Architecture.TheVariants.{AArch64}
 use Rattle.linker_aarch64.specs.declared.rewrites.RelaxationKind.{RelaxationKind}
 use Rattle.linker_elf.specs.Rows.{bytes_row}
+use Rattle.linker_base.specs.RewriteWindow.{window_of_rewrite}
 use Rattle.linker_elf.specs.declared.elf.RelocationKind.TheVariants.{None as NoValue}
 use Rattle.linker_section.specs.Fields.{IsField, field_len}
 
@@ -167,7 +164,7 @@ module _ (l : Linked) (linked : IsLinked l) (i : ℕ) (chosen : Choice Relaxatio
       own at from =
           let end : written_end_at l.relocations l.decisions i ≡ o - 0 + 0 =
           ap (λ d. written_end_by d o) decided
-          ∙ ap (λ k. o - (Rattle.linker_base.specs.RewriteWindow.window_of_rewrite (relaxation_rewrite k)).back + (Rattle.linker_base.specs.RewriteWindow.window_of_rewrite (relaxation_rewrite k)).len) kind_is in
+          ∙ ap (λ k. o - (window_of_rewrite (relaxation_rewrite k)).back + (window_of_rewrite (relaxation_rewrite k)).len) kind_is in
           omega (arith, end, from)
 
   -- an instruction that becomes another

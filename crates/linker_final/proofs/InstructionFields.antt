@@ -1,5 +1,5 @@
 -- The relocation of an instruction in the final bytes of a section: it is applied to the bytes between.
-use Rattle.std.proofs.Common.{◌≡◌, ℕ, ◌/◌, ◌<◌, List, length, take, drop, true, false, cond, sym, ap, subst, ◌∙◌, arith, Ok, Some, None, IsSomeAnd}
+use Rattle.std.proofs.Common.{◌≡◌, ℕ, ◌/◌, ◌<◌, List, length, take, drop, true, false, cond, subst, ◌∙◌, arith, Ok, Some, IsSomeAnd}
 use Rattle.std.proofs.lemmas.Bool.{cond-true, cond-false}
 use Rattle.std.specs.Prelude.{⊤}
 use Rattle.linker_base.specs.declared.bit_misc.BitRange.{BitRange}
