@@ -109,16 +109,16 @@ module _ (laws : Laws) (l : Linked) (linked : IsLinked l) (aarch64 : l.setting.a
 
   by : IsOfEntry names.R_AARCH64_ADD_ABS_LO12_NC (entry kinds.AdrpAddToNopAdr names.R_AARCH64_ADR_PREL_LO21 to_adr) l.section second.offset of.low_chosen
   by =
-      of_entry l linked aarch64 j of.low_chosen of.low_below of.low_decided names.R_AARCH64_ADD_ABS_LO12_NC tt of.low
+      of_entry l linked aarch64 j of.low_chosen of.together.second_below of.low_decided names.R_AARCH64_ADD_ABS_LO12_NC tt of.low
       (entry kinds.AdrpAddToNopAdr names.R_AARCH64_ADR_PREL_LO21 to_adr) refl
 
   back : second.offset - 4 ≡ first.offset
-  back = let next = of.next in omega (arith, next)
+  back = let next = of.together.next in omega (arith, next)
 
   made_two : IsRewritten kinds.AdrpAddToNopAdr (two_at l.section first.offset) (two_at l.rewritten first.offset)
   made_two =
       let done : IsMade (relaxation_rewrite of.low_chosen.kind) second.offset l.section l.rewritten =
-      subst (λ d. IsDone d second.offset l.section l.rewritten) of.low_decided (linked.done j of.low_below) in
+      subst (λ d. IsDone d second.offset l.section l.rewritten) of.low_decided (linked.done j of.together.second_below) in
       let made : IsMade (Some (replaces 4 8 nop_adr)) second.offset l.section l.rewritten =
       subst (λ k. IsMade (relaxation_rewrite k) second.offset l.section l.rewritten) by.kind_is done in
       let here : two_at l.rewritten first.offset ≡ nop_adr (two_at l.section first.offset) =
@@ -130,7 +130,7 @@ module _ (laws : Laws) (l : Linked) (linked : IsLinked l) (aarch64 : l.setting.a
   makes_the_same symbol is_symbol is_there s adrp add small at of_page of_low =
       let o = first.offset in
       let w = operands_with AArch64 l.addresses page_row symbol first 0 in
-      let next = of.next in
+      let next = of.together.next in
       let inside = by.matches.1.1.0 in
       let code = code_of (aarch64_name names.R_AARCH64_ADR_PREL_LO21) in
       let section_long : o + 8 ≤ length l.section = omega (arith, inside, next) in
@@ -155,17 +155,17 @@ module _ (laws : Laws) (l : Linked) (linked : IsLinked l) (aarch64 : l.setting.a
       subst (λ xs. IsRelocated names.R_AARCH64_ADD_ABS_LO12_NC (behind 4 w) xs add) (sym (second_same l.section o)) of_low in
       let there : IsApplied adr_after.row (operands_with AArch64 l.addresses adr_after.row symbol (rela (o + 4) code second.symbol second.addend) 0) (instruction_at l.rewritten (o + 4)) (instruction_at l.final (o + 4)) =
       subst (λ n. IsApplied adr_after.row (operands_with AArch64 l.addresses adr_after.row symbol (rela n code second.symbol second.addend) 0) (instruction_at l.rewritten n) (instruction_at l.final n)) next
-      (applied_there l linked aarch64 j of.low_chosen of.low_below of.low_decided e
+      (applied_there l linked aarch64 j of.low_chosen of.together.second_below of.low_decided e
       by.kind_is by.code_is (λ o. refl) (λ a. refl) adr_after symbol
-      (ap (slice_get l.symbols) of.same_symbol ∙ is_symbol)) in
+      (ap (slice_get l.symbols) of.together.same_symbol ∙ is_symbol)) in
       let written : IsApplied adr_after.row (behind 4 w) (drop 4 (two_at l.rewritten o)) (instruction_at l.final (o + 4)) =
       subst (λ xs. IsApplied adr_after.row (behind 4 w) xs (instruction_at l.final (o + 4))) (sym (second_same l.rewritten o))
       (with_operands adr_after.row
       (operands_with AArch64 l.addresses adr_after.row symbol (rela (o + 4) code second.symbol second.addend) 0)
       (behind 4 w) (instruction_at l.rewritten (o + 4)) (instruction_at l.final (o + 4))
-      (adr_value l.addresses symbol is_there first code second.addend of.same_addend) there) in
+      (adr_value l.addresses symbol is_there first code second.addend of.together.same_addend) there) in
       let gone : (relocation_in l.relocations_after i).code ≡ 0 =
-      ap (λ (x : Rela). x.code) (linked.relocations i of.page_below ∙ ap (λ d. relocation_after d first) of.page_decided) in
+      ap (λ (x : Rela). x.code) (linked.relocations i of.together.first_below ∙ ap (λ d. relocation_after d first) of.page_decided) in
       let stays : instruction_at l.final o ≡ instruction_at l.rewritten o =
       unwritten l linked o (omega (arith, section_long)) (free_but l linked aarch64 i o gone alone) in
       let word : word_of (two_at l.rewritten o) ≡ word_of (instruction_at l.final o) =

@@ -112,19 +112,19 @@ module _ (laws : Laws) (l : Linked) (linked : IsLinked l) (aarch64 : l.setting.a
 
   page_entry : IsOfEntry names.R_AARCH64_ADR_GOT_PAGE (entry kinds.NoOp names.R_AARCH64_ADR_PREL_PG_HI21 (to_address 0)) l.section first.offset of.page_chosen
   page_entry =
-      of_entry l linked aarch64 i of.page_chosen of.page_below of.page_decided names.R_AARCH64_ADR_GOT_PAGE tt of.page
+      of_entry l linked aarch64 i of.page_chosen of.together.first_below of.page_decided names.R_AARCH64_ADR_GOT_PAGE tt of.page
       (entry kinds.NoOp names.R_AARCH64_ADR_PREL_PG_HI21 (to_address 0)) refl
 
   low_entry : IsOfEntry names.R_AARCH64_LD64_GOT_LO12_NC (entry kinds.LdrToAdd names.R_AARCH64_ADD_ABS_LO12_NC (to_address 4)) l.section second.offset of.low_chosen
   low_entry =
-      of_entry l linked aarch64 j of.low_chosen of.low_below of.low_decided names.R_AARCH64_LD64_GOT_LO12_NC tt of.low
+      of_entry l linked aarch64 j of.low_chosen of.together.second_below of.low_decided names.R_AARCH64_LD64_GOT_LO12_NC tt of.low
       (entry kinds.LdrToAdd names.R_AARCH64_ADD_ABS_LO12_NC (to_address 4)) refl
 
   pub loads_the_same : LoadsTheSame l i got_row
   loads_the_same symbol is_symbol is_there got s adrp ldr small holds at of_entry_page of_entry_low =
       let o = first.offset in
       let w = operands_with AArch64 l.addresses got_row symbol first got in
-      let next = of.next in
+      let next = of.together.next in
       let asked = low_entry.asked in
       let inside = asked.1.1.0 in
       let back : second.offset - 4 ≡ o = omega (arith, next) in
@@ -143,29 +143,29 @@ module _ (laws : Laws) (l : Linked) (linked : IsLinked l) (aarch64 : l.setting.a
         second_is = subst IsLdr64 (word_same l.section (o + 4)) is_ldr;
       } in
       let stayed : instruction_at l.rewritten o ≡ instruction_at l.section o =
-      stays l linked i of.page_chosen of.page_below of.page_decided page_entry.kind_is alone (omega (arith, inside, next)) in
+      stays l linked i of.page_chosen of.together.first_below of.page_decided page_entry.kind_is alone (omega (arith, inside, next)) in
       let page_written : IsApplied page_after.row w (instruction_at l.section o) (instruction_at l.final o) =
       with_operands page_after.row
       (operands_with AArch64 l.addresses page_after.row symbol (rela o (code_of (aarch64_name names.R_AARCH64_ADR_PREL_PG_HI21)) first.symbol first.addend) 0)
       w (instruction_at l.section o) (instruction_at l.final o)
       (page_value l.addresses symbol is_there first (code_of (aarch64_name names.R_AARCH64_ADR_PREL_PG_HI21)) got)
       (subst (λ xs. IsApplied page_after.row (operands_with AArch64 l.addresses page_after.row symbol (rela o (code_of (aarch64_name names.R_AARCH64_ADR_PREL_PG_HI21)) first.symbol first.addend) 0) xs (instruction_at l.final o)) stayed
-      (applied_there l linked aarch64 i of.page_chosen of.page_below of.page_decided
+      (applied_there l linked aarch64 i of.page_chosen of.together.first_below of.page_decided
       (entry kinds.NoOp names.R_AARCH64_ADR_PREL_PG_HI21 (to_address 0))
       page_entry.kind_is page_entry.code_is (λ o. refl) (λ a. refl) page_after symbol is_symbol)) in
       let low_written : IsApplied low_after.row (behind 4 w) (instruction_at l.rewritten (o + 4)) (instruction_at l.final (o + 4)) =
       with_operands low_after.row
       (operands_with AArch64 l.addresses low_after.row symbol (rela second.offset (code_of (aarch64_name names.R_AARCH64_ADD_ABS_LO12_NC)) second.symbol second.addend) 0)
       (behind 4 w) (instruction_at l.rewritten (o + 4)) (instruction_at l.final (o + 4))
-      (low_value l.addresses symbol is_there first (code_of (aarch64_name names.R_AARCH64_ADD_ABS_LO12_NC)) got second.offset second.addend of.same_addend)
+      (low_value l.addresses symbol is_there first (code_of (aarch64_name names.R_AARCH64_ADD_ABS_LO12_NC)) got second.offset second.addend of.together.same_addend)
       (subst (λ n. IsApplied low_after.row (operands_with AArch64 l.addresses low_after.row symbol (rela second.offset (code_of (aarch64_name names.R_AARCH64_ADD_ABS_LO12_NC)) second.symbol second.addend) 0) (instruction_at l.rewritten n) (instruction_at l.final n)) next
-      (applied_there l linked aarch64 j of.low_chosen of.low_below of.low_decided
+      (applied_there l linked aarch64 j of.low_chosen of.together.second_below of.low_decided
       (entry kinds.LdrToAdd names.R_AARCH64_ADD_ABS_LO12_NC (to_address 4))
       low_entry.kind_is low_entry.code_is (λ o. refl) (λ a. refl) low_after symbol
-      (ap (slice_get l.symbols) of.same_symbol ∙ is_symbol))) in
+      (ap (slice_get l.symbols) of.together.same_symbol ∙ is_symbol))) in
       let added : IsRewritten kinds.LdrToAdd (instruction_at l.section (o + 4)) (instruction_at l.rewritten (o + 4)) =
       subst (λ n. IsRewritten kinds.LdrToAdd (instruction_at l.section n) (instruction_at l.rewritten n)) next
-      (becomes l linked j of.low_chosen of.low_below of.low_decided kinds.LdrToAdd is_ldr64 (λ word. 0x91000000 + field word 0 21) refl low_entry.kind_is) in
+      (becomes l linked j of.low_chosen of.together.second_below of.low_decided kinds.LdrToAdd is_ldr64 (λ word. 0x91000000 + field word 0 21) refl low_entry.kind_is) in
       laws.got w s (instruction_at l.section o) (instruction_at l.section (o + 4)) (instruction_at l.rewritten (o + 4))
       together holds added adrp ldr (instruction_at l.final o) (instruction_at l.final (o + 4))
       of_entry_page of_entry_low page_written low_written

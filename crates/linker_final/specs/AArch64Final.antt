@@ -1,6 +1,6 @@
--- AArch64: in the final bytes of a section each rewritten load of an address from the GOT does what the
--- object's does with the values of its relocations (ELF for the Arm 64-bit Architecture, "Relocation
--- optimization").
+-- AArch64: in the final bytes of a section rewritten instructions do what the object's do with the values
+-- of their relocations (ELF for the Arm 64-bit Architecture, "Relocation optimization", and the sequences
+-- of thread-local storage).
 use Rattle.std.specs.Prelude.{◌≡◌, ◌≢◌, ◌⊎◌, ℕ, ◌+◌, ◌<◌, ◌≤◌, ◌==◌, List, [], ◌∷◌, take, drop, Some, IsSomeAnd}
 use Rattle.std.specs.Prelude.{slice_get, Bool, false}
 use Rattle.linker_aarch64.specs.AArch64Rewrites.{rd_of}
@@ -42,19 +42,23 @@ IsWrittenByNoOther l i o =
     → (at < offset_at l.relocations_after j)
     ⊎ (field_end l.relocations_after l.rewritten j row ≤ at)
 
--- ---- loads of addresses from the GOT
-
--- The relocations at two indexes are those of an `adrp` and of the `ldr` behind it, of one S + A, and
--- both are rewritten.
-pub record AreOfLoad (l : Linked) (i j : ℕ) : Type 0 where
-  pub page_below : i < count l
-  pub low_below : j < count l
-  pub page : IsNameOf aarch64_name (relocation_in l.relocations i).code names.R_AARCH64_ADR_GOT_PAGE
-  pub low :
-      IsNameOf aarch64_name (relocation_in l.relocations j).code names.R_AARCH64_LD64_GOT_LO12_NC
+-- The relocations at two indexes are of one S + A, and the second is of the instruction behind that of
+-- the first.
+pub record AreNext (l : Linked) (i j : ℕ) : Type 0 where
+  pub first_below : i < count l
+  pub second_below : j < count l
   pub next : (relocation_in l.relocations j).offset ≡ (relocation_in l.relocations i).offset + 4
   pub same_symbol : (relocation_in l.relocations j).symbol ≡ (relocation_in l.relocations i).symbol
   pub same_addend : (relocation_in l.relocations j).addend ≡ (relocation_in l.relocations i).addend
+
+-- ---- loads of addresses from the GOT
+
+-- They are those of an `adrp` and of the `ldr` behind it, and both are rewritten.
+pub record AreOfLoad (l : Linked) (i j : ℕ) : Type 0 where
+  pub together : AreNext l i j
+  pub page : IsNameOf aarch64_name (relocation_in l.relocations i).code names.R_AARCH64_ADR_GOT_PAGE
+  pub low :
+      IsNameOf aarch64_name (relocation_in l.relocations j).code names.R_AARCH64_LD64_GOT_LO12_NC
   pub page_chosen : Choice Relaxation ℕ
   pub page_decided : decision_at l.decisions i ≡ Rewritten page_chosen
   pub low_chosen : Choice Relaxation ℕ
@@ -80,16 +84,12 @@ LoadsTheSame l i row =
 
 -- ---- addresses by `adr`
 
--- The relocations at two indexes are those of an `adrp` and of the `add` behind it, of one S + A. The
--- second is rewritten, which takes the first along.
+-- They are those of an `adrp` and of the `add` behind it. The second is rewritten, which takes the first
+-- along.
 pub record AreOfAddress (l : Linked) (i j : ℕ) : Type 0 where
-  pub page_below : i < count l
-  pub low_below : j < count l
+  pub together : AreNext l i j
   pub low :
       IsNameOf aarch64_name (relocation_in l.relocations j).code names.R_AARCH64_ADD_ABS_LO12_NC
-  pub next : (relocation_in l.relocations j).offset ≡ (relocation_in l.relocations i).offset + 4
-  pub same_symbol : (relocation_in l.relocations j).symbol ≡ (relocation_in l.relocations i).symbol
-  pub same_addend : (relocation_in l.relocations j).addend ≡ (relocation_in l.relocations i).addend
   pub page_decided : decision_at l.decisions i ≡ TakenAlong
   pub low_chosen : Choice Relaxation ℕ
   pub low_decided : decision_at l.decisions j ≡ Rewritten low_chosen
