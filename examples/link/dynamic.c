@@ -15,9 +15,7 @@ struct dynamic_row {
     int64_t addend;
 };
 
-struct output *interpreter, *dynamic;
-struct output *rela;
-static struct output *dynsym, *dynstr, *hash_table, *versym, *verneed;
+struct output *interpreter, *dynamic, *rela, *dynsym, *dynstr, *hash_table, *versym, *verneed;
 static struct dynamic_row *rows;
 static size_t rows_len, rows_room, listed_len = 1, imports_len = 1, listed_room;
 static struct symbol **listed; /* by their numbers in the table */
@@ -25,32 +23,6 @@ static struct symbol **listed; /* by their numbers in the table */
 void add_row(struct output *o, uint64_t offset, uint32_t type, struct symbol *s, int64_t addend) {
     rows = grow(rows, rows_len + 1, &rows_room, sizeof *rows);
     rows[rows_len++] = (struct dynamic_row){o, offset, type, s, addend};
-}
-
-/* A table of the linked file, whose elements have so many bytes. */
-static struct output *own_table(const char *name, uint32_t type, uint64_t element,
-                                const struct output *link) {
-    struct output *o = own_section(name, SHF_ALLOC, true);
-    o->type = type;
-    o->element = element;
-    o->link = link;
-    return o;
-}
-
-/* The sections that dynamic outputs have, and the only one of them that static ones have too. */
-void make_tables(void) {
-    rela = own_table(is_dynamic ? ".rela.dyn" : ".rela_iplt", SHT_RELA, sizeof(Elf64_Rela), NULL);
-    if (!is_dynamic) return;
-    if (linked.is_executable) interpreter = own_section(".interp", SHF_ALLOC, true);
-    dynstr = own_table(".dynstr", SHT_STRTAB, 0, NULL);
-    dynsym = own_table(".dynsym", SHT_DYNSYM, sizeof(Elf64_Sym), dynstr);
-    dynsym->info = 1;
-    hash_table = own_table(".gnu.hash", SHT_GNU_HASH, 0, dynsym);
-    versym = own_table(".gnu.version", SHT_GNU_versym, 2, dynsym);
-    verneed = own_table(".gnu.version_r", SHT_GNU_verneed, 0, dynstr);
-    rela->link = dynsym;
-    dynamic = own_table(".dynamic", SHT_DYNAMIC, sizeof(Elf64_Dyn), dynstr);
-    dynamic->flags |= SHF_WRITE;
 }
 
 /* Whether nothing defines a weak symbol so far. Where code doesn't load its address that is 0. */
@@ -123,8 +95,8 @@ static void make_copy(struct symbol *s) {
     bss->flags |= SHF_WRITE | SHF_ALLOC;
     uint64_t at = make_room(bss, import_align(s), s->there.st_size);
     add_row(bss, at, types.copy, s, 0);
-    for (size_t i = 0; i < l->len; i++) {
-        struct symbol *alias = l->symbols[i];
+    for (size_t i = 0; i < l->file.symbols_len; i++) {
+        struct symbol *alias = l->file.symbols[i];
         if (!alias || alias->library != l || alias->there.st_value != s->there.st_value ||
             alias->there.st_shndx != s->there.st_shndx || (alias->object && is_defined(alias)))
             continue;
@@ -141,27 +113,22 @@ static void make_copy(struct symbol *s) {
     }
 }
 
-/* Makes the stub to a function of another file, which goes to the address in a slot. If the stub is
- * the function's address other look-ups than of a jump slot find the stub itself; and else in a jump
- * slot a dynamic linker may put the entry for calls within a file. */
-static void make_import(struct symbol *s) {
-    s->stub = add_slot(s, s->is_canonical ? types.jump_slot : types.glob_dat);
-    if (!s->is_canonical) return;
-    s->output = stubs;
-    s->offset = s->stub;
-}
-
+/* Makes the copies of variables, and the stubs to functions of other files, which go to the address
+ * in a slot. If the stub is the function's address other look-ups than of a jump slot find the stub
+ * itself; and else in a jump slot a dynamic linker may put the entry for calls within a file. */
 void make_imports(void) {
     for (struct symbol *s = symbols; s; s = s->later) {
         if (s->is_copied && !s->output) make_copy(s);
-        if (s->has_stub) make_import(s);
+        if (s->has_stub) s->stub = add_slot(s, s->is_canonical ? types.jump_slot : types.glob_dat);
+        if (!s->has_stub || !s->is_canonical) continue;
+        s->output = stubs;
+        s->offset = s->stub;
     }
 }
 
 /* Leaves an entry of the GOT to the dynamic linker, or what of it is not known here. */
-void fill_entry(const struct entry *e) {
+void fill_entry(struct symbol *s, const struct entry *e) {
     struct linker_utils_word_types words;
-    struct symbol *s = e->symbol;
     bool is_bound = !s || !s->is_imported;
     if (!is_dynamic || (is_bound && s && !is_here(s)) ||
         linker_utils_dynamic_words(machine, e->class, is_bound, linked.is_executable, &words) ||
@@ -181,12 +148,6 @@ uint64_t append(struct output *o, uint64_t align, const void *bytes, uint64_t le
 uint32_t add_name(struct output *o, const char *text) {
     if (!o->len) make_room(o, 1, 1); /* the first is empty */
     return (uint32_t)append(o, 1, text, strlen(text) + 1);
-}
-
-static uint32_t gnu_hash(const char *name) {
-    uint32_t hash = 5381;
-    for (; *name; name++) hash = hash * 33 + (unsigned char)*name;
-    return hash;
 }
 
 /* How many buckets the table of hashes has. */
@@ -264,6 +225,7 @@ static void list_dynamic(void) {
     if (listed_len > imports_len)
         qsort(listed + imports_len, listed_len - imports_len, sizeof *listed, by_bucket);
     write_needed(2);
+    dynsym->info = 1;
     make_room(dynsym, 8, listed_len * sizeof(Elf64_Sym));
     for (size_t i = 1; i < listed_len; i++) {
         ((Elf64_Sym *)dynsym->bytes)[i].st_name = add_name(dynstr, listed[i]->name);
@@ -283,11 +245,18 @@ static void put_entry(int64_t tag, uint64_t value) {
     memcpy(dynamic->bytes + at, &entry, sizeof entry);
 }
 
+/* Where a table is that isn't empty; where there are tags for them, its length and an element's. */
+static void put_table(const struct output *o, int64_t tag, int64_t size, int64_t element) {
+    if (!o->len) return;
+    put_entry(tag, o->address);
+    if (size) put_entry(size, o->len);
+    if (element) put_entry(element, o->element);
+}
+
 /* An array of functions: with priorities it is several sections, one behind the other. */
 static void put_array(int64_t tag, int64_t size, const char *name) {
     uint64_t start = UINT64_MAX, end = 0;
-    for (size_t i = 0; i < outputs_len; i++) {
-        const struct output *o = outputs[i];
+    EACH_OUTPUT(o) {
         if (!o->len || strncmp(o->name, name, strlen(name))) continue;
         if (o->address < start) start = o->address;
         if (o->address + o->len > end) end = o->address + o->len;
@@ -303,7 +272,7 @@ static void put_function(int64_t tag, const char *name) {
 /* Makes the entries, or writes them once addresses are known. */
 static void put_entries(void) {
     static uint32_t name;
-    uint64_t relative = 0, flags = DF_BIND_NOW;
+    uint64_t flags = DF_BIND_NOW;
     if (own_name && !name) name = add_name(dynstr, own_name);
     entries_len = 0;
     for (const struct library *l = libraries; l; l = l->next) put_entry(DT_NEEDED, l->name_at);
@@ -313,26 +282,15 @@ static void put_entries(void) {
     if (linked.is_executable) put_array(DT_PREINIT_ARRAY, DT_PREINIT_ARRAYSZ, ".preinit_array");
     put_array(DT_INIT_ARRAY, DT_INIT_ARRAYSZ, ".init_array");
     put_array(DT_FINI_ARRAY, DT_FINI_ARRAYSZ, ".fini_array");
-    put_entry(DT_GNU_HASH, hash_table->address);
-    put_entry(DT_STRTAB, dynstr->address);
-    put_entry(DT_STRSZ, dynstr->len);
-    put_entry(DT_SYMTAB, dynsym->address);
-    put_entry(DT_SYMENT, sizeof(Elf64_Sym));
-    for (const struct dynamic_row *row = rows; row < rows + rows_len; row++) {
-        relative += row->type == types.relative;
+    put_table(hash_table, DT_GNU_HASH, 0, 0);
+    put_table(dynstr, DT_STRTAB, DT_STRSZ, 0);
+    put_table(dynsym, DT_SYMTAB, 0, DT_SYMENT);
+    put_table(rela, DT_RELA, DT_RELASZ, DT_RELAENT);
+    put_table(versym, DT_VERSYM, 0, 0);
+    put_table(verneed, DT_VERNEED, 0, 0);
+    if (verneed->len) put_entry(DT_VERNEEDNUM, verneed->info);
+    for (const struct dynamic_row *row = rows; row < rows + rows_len; row++)
         if (!linked.is_executable && row->type == types.thread_offset) flags |= DF_STATIC_TLS;
-    }
-    if (rows_len) {
-        put_entry(DT_RELA, rela->address);
-        put_entry(DT_RELASZ, rela->len);
-        put_entry(DT_RELAENT, sizeof(Elf64_Rela));
-        put_entry(DT_RELACOUNT, relative);
-    }
-    if (verneed->len) {
-        put_entry(DT_VERSYM, versym->address);
-        put_entry(DT_VERNEED, verneed->address);
-        put_entry(DT_VERNEEDNUM, verneed->info);
-    }
     if (linked.is_executable) put_entry(DT_DEBUG, 0);
     put_entry(DT_FLAGS, flags);
     put_entry(DT_FLAGS_1, DF_1_NOW | (linked.is_executable && !linked.is_fixed ? DF_1_PIE : 0));
@@ -360,8 +318,7 @@ static int by_symbol(const void *left, const void *right) {
     const Elf64_Rela *a = left, *b = right;
     uint32_t first = ELF64_R_TYPE(a->r_info), second = ELF64_R_TYPE(b->r_info);
     int by = order(first == types.irelative, second == types.irelative);
-    if (!by) by = order(second == types.relative, first == types.relative);
-    if (!by && first != types.relative) by = order(a->r_info, b->r_info);
+    if (!by) by = order(a->r_info, b->r_info);
     return by ? by : order(a->r_offset, b->r_offset);
 }
 

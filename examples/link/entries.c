@@ -103,13 +103,12 @@ static void require(struct relocation *r) {
 }
 
 void require_all(void) {
-    for (struct object *o = objects; o; o = o->next)
-        for (struct section *s = o->sections; s < o->sections + o->sections_len; s++)
-            for (size_t i = 0; i < s->relocations_len; i++) {
-                struct relocation *r = s->output->relocations + s->first + i;
-                if (i + 8 < s->relocations_len) __builtin_prefetch(r[8].symbol);
-                require(r);
-            }
+    EACH_SECTION(s)
+        for (size_t i = 0; i < s->relocations_len; i++) {
+            struct relocation *r = s->output->relocations + s->first + i;
+            if (i + 8 < s->relocations_len) __builtin_prefetch(r[8].symbol);
+            require(r);
+        }
 }
 
 /* An indirect function's address is that of its stub, which goes to the address in a slot. When the
@@ -130,14 +129,9 @@ struct linker_utils_got known_got(void) {
     return known;
 }
 
-static struct entry *made, **made_end = &made; /* in the order of the GOT */
-
 static void make_entry(struct symbol *s, struct entry *e) {
-    e->symbol = s;
     e->offset = make_room(got, 8, 8 * linker_utils_entry_words(e->class));
-    fill_entry(e);
-    *made_end = e;
-    made_end = &e->later;
+    fill_entry(s, e);
 }
 
 /* Makes the stubs and the GOT. The local symbols' entries are the last. */
@@ -158,8 +152,7 @@ void make_entries(void) {
 
 /* The address that an entry is of. That of a weak thread-local variable that nothing defines is as in
  * ld.lld. */
-static uint64_t target_of(const struct entry *e) {
-    const struct symbol *s = e->symbol;
+static uint64_t target_of(const struct symbol *s, const struct entry *e) {
     uint64_t at = s ? address_of(s->output, s->offset) : 0;
     if (s && is_undefined_weak(s))
         at = e->class == LINKER_UTILS_ENTRY_THREAD_OFFSET   ? tls.origins.thread_pointer
@@ -168,14 +161,19 @@ static uint64_t target_of(const struct entry *e) {
     return at + (uint64_t)e->addend;
 }
 
+static void write_entry(const struct symbol *s, const struct entry *e) {
+    struct linker_utils_entry_words words;
+    if (!linker_utils_static_words(e->class, target_of(s, e), &tls.origins, &words))
+        memcpy(got->bytes + e->offset, &words, 8 * linker_utils_entry_words(e->class));
+}
+
 /* Writes the GOT. */
 void write_entries(void) {
     struct linker_utils_got known = known_got();
-    struct linker_utils_entry_words words;
     if (got->len && known.has_header) memcpy(got->bytes, &known.header, sizeof known.header);
-    for (const struct entry *e = made; e; e = e->later)
-        if (!linker_utils_static_words(e->class, target_of(e), &tls.origins, &words))
-            memcpy(got->bytes + e->offset, &words, 8 * linker_utils_entry_words(e->class));
+    for (const struct symbol *s = symbols; s; s = s->later)
+        for (const struct entry *e = s->entries; e; e = e->next) write_entry(s, e);
+    if (module_entry) write_entry(NULL, module_entry);
 }
 
 /* The symbol of a thunk in a section that goes to an address, which is so far above a symbol. */
@@ -208,8 +206,7 @@ bool add_thunks(void) {
     struct linker_utils_stub stub;
     struct linker_utils_route route;
     if (linker_utils_stub(machine, LINKER_UTILS_STUB_JUMP, &stub)) return false;
-    for (size_t i = 0; i < outputs_len; i++) {
-        struct output *o = outputs[i];
+    EACH_OUTPUT(o) {
         size_t len = o->flags & SHF_EXECINSTR ? o->relocations_len : 0;
         for (size_t j = 0; j < len; j++) {
             struct relocation *r = &o->relocations[j];

@@ -86,14 +86,12 @@ static int by_function(const void *left, const void *right) {
 /* Writes `.eh_frame_hdr`: where `.eh_frame` is, and the functions that it is of, sorted. */
 void index_frames(void) {
     uint64_t count = 0;
-    for (const struct object *o = objects; o && index_of->len; o = o->next)
-        for (const struct section *s = o->sections; s < o->sections + o->sections_len; s++)
-            if (s->output == frames)
-                count += read_frames(s, frames->bytes + s->offset,
-                                     index_of->bytes + 12 + 8 * count);
+    if (!index_of->len) return;
+    EACH_SECTION(s)
+        if (s->output == frames)
+            count += read_frames(s, frames->bytes + s->offset, index_of->bytes + 12 + 8 * count);
     uint32_t head[3] = {0x3b031b01, (uint32_t)(frames->address - index_of->address - 4),
                         (uint32_t)count};
-    if (!index_of->len) return;
     if ((int64_t)(frames->address - index_of->address - 4) != (int32_t)head[1])
         fail(".eh_frame_hdr doesn't reach .eh_frame");
     memcpy(index_of->bytes, head, sizeof head);

@@ -1,7 +1,7 @@
 /* Which sections the linked file has, what is in them, and where they are. */
 #include "link.h"
 
-struct output *outputs[256];
+struct output *outputs[257];
 size_t outputs_len;
 uint64_t span;
 
@@ -18,11 +18,9 @@ struct output *output_of(const char *name) {
         if (kinds[i][len - 1] == '.') priority = (unsigned)strtoul(name + len, NULL, 10);
         else if (!name[len] || name[len] == '.') kind = kinds[i];
     }
-    for (size_t i = 0; i < outputs_len; i++)
-        if (outputs[i]->name == kind) return outputs[i];
-    for (size_t i = 0; i < outputs_len; i++)
-        if (!strcmp(outputs[i]->name, kind)) return outputs[i];
-    if (outputs_len == sizeof outputs / sizeof *outputs) fail("too many sections");
+    EACH_OUTPUT(o) if (o->name == kind) return o;
+    EACH_OUTPUT(o) if (!strcmp(o->name, kind)) return o;
+    if (outputs_len + 1 == sizeof outputs / sizeof *outputs) fail("too many sections");
     struct output *o = outputs[outputs_len++] = take(1, sizeof *o);
     *o = (struct output){.name = kind, .align = 1, .priority = priority};
     return o;
@@ -53,7 +51,7 @@ static int by_rank(const void *left, const void *right) {
 }
 
 void sort_outputs(void) {
-    for (size_t i = 0; i < outputs_len; i++) outputs[i]->rank = rank_of(outputs[i]);
+    EACH_OUTPUT(o) o->rank = rank_of(o);
     qsort(outputs, outputs_len, sizeof *outputs, by_rank);
 }
 
@@ -116,14 +114,13 @@ void add_section(struct section *s) {
     o->shrinks |= alignment_type() && has_bytes && is_code && !(head->sh_flags & SHF_TLS);
     if (has_bytes) o->room += head->sh_size + head->sh_addralign % MOST_ALIGN;
     o->relocations_room += 1 + (s->relocations ? s->relocations->sh_size / sizeof(Elf64_Rela) : 0);
-    if (o == frames)
-        index_of->len += 8 * read_frames(s, s->object->bytes + head->sh_offset, NULL);
+    uint64_t rows = o == frames ? read_frames(s, s->object->bytes + head->sh_offset, NULL) : 0;
+    if (rows) make_room(index_of, 4, 8 * rows + (index_of->len ? 0 : 12));
 }
 
 /* Makes room for all bytes and relocations that objects have, in one piece. */
 void reserve_outputs(void) {
-    for (size_t i = 0; i < outputs_len; i++) {
-        struct output *o = outputs[i];
+    EACH_OUTPUT(o) {
         if (!o->bytes) o->bytes = take(o->room, 1);
         o->relocations = take(o->relocations_room, sizeof *o->relocations);
     }
@@ -208,11 +205,9 @@ void place_outputs(void) {
     struct place p = {.run = NULL};
     const struct output *first = NULL; /* of thread-local storage */
     bool is_behind_placed = false, has_data = false;
-    for (size_t i = 0; i < outputs_len; i++)
-        if (outputs[i]->flags & SHF_TLS && outputs[i]->align > align) align = outputs[i]->align;
+    EACH_OUTPUT(o) if (o->flags & SHF_TLS && o->align > align) align = o->align;
     qsort(outputs, outputs_len, sizeof *outputs, by_place);
-    for (size_t i = 0; i < outputs_len; i++) {
-        struct output *o = outputs[i];
+    EACH_OUTPUT(o) {
         bool is_tls = o->flags & SHF_TLS;
         o->before.len = 0;
         if (o->is_placed && o->place > UINT64_MAX / 4)
@@ -284,8 +279,7 @@ void set_addresses(void) {
     const struct output *first = NULL;
     uint64_t align = 1, least = UINT64_MAX, most = 0;
     tls.image = tls.len = 0;
-    for (size_t i = 0; i < outputs_len; i++) {
-        struct output *o = outputs[i];
+    EACH_OUTPUT(o) {
         o->address = address_in(o->run, o->base);
         least = o->address < least ? o->address : least;
         most = o->address + o->len > most ? o->address + o->len : most;

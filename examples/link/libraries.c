@@ -13,14 +13,8 @@ static const uint8_t *bytes_in(const struct library *l, const Elf64_Shdr *head, 
     return l->file.bytes + head->sh_offset + at;
 }
 
-/* A name in the section of names of another section. */
 static const char *name_in(const struct library *l, const Elf64_Shdr *head, uint64_t at) {
-    const struct object *o = &l->file;
-    const Elf64_Shdr *names = &o->heads[head->sh_link < o->sections_len ? head->sh_link : 0];
-    uint64_t len = names->sh_type == SHT_STRTAB && at < names->sh_size ? names->sh_size - at : 0;
-    if (!len || !memchr(o->bytes + names->sh_offset + at, 0, len))
-        fail("%s: %s: a name that is not there", o->path, o->sections[head - o->heads].name);
-    return (const char *)o->bytes + names->sh_offset + at;
+    return text_at(&l->file, l->file.sections[head - l->file.heads].name, head->sh_link, at);
 }
 
 /* The names of the versions that a library defines, by their numbers. The first is its own name. */
@@ -41,9 +35,9 @@ static void read_versions(struct library *l, const Elf64_Shdr *head) {
 /* Offers what a library defines, but for versions that only old programs ask for. */
 static void read_dynamic_symbols(struct library *l, const Elf64_Shdr *head,
                                  const Elf64_Shdr *versions) {
-    const Elf64_Sym *elf = l->elf = table_of(&l->file, head, sizeof *elf, &l->len);
-    l->symbols = take(l->len, sizeof *l->symbols);
-    for (size_t i = 0; i < l->len; i++, elf++) {
+    const Elf64_Sym *elf = table_of(&l->file, head, sizeof *elf, &l->file.symbols_len);
+    l->file.symbols = take(l->file.symbols_len, sizeof *l->file.symbols);
+    for (size_t i = 0; i < l->file.symbols_len; i++, elf++) {
         uint16_t version = VER_NDX_GLOBAL;
         if (versions) memcpy(&version, bytes_in(l, versions, 2 * i, 2), 2);
         const char *name = name_in(l, head, elf->st_name);
@@ -52,7 +46,7 @@ static void read_dynamic_symbols(struct library *l, const Elf64_Shdr *head,
         if (version > VER_NDX_GLOBAL && elf->st_shndx && !l->versions[version].name)
             fail("%s: %s: '%s' is of a version that is not there", l->file.path,
                  l->file.sections[head - l->file.heads].name, name);
-        l->symbols[i] = offer_import(name, elf->st_shndx ? l : NULL, elf, version);
+        l->file.symbols[i] = offer_import(name, elf->st_shndx ? l : NULL, elf, version);
     }
 }
 

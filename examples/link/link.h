@@ -46,6 +46,12 @@
 enum { RANK_HEADERS, RANK_FIXED, RANK_CODE, RANK_TLS, RANK_TLS_BSS, RANK_ARRAYS, RANK_RELOCATED = 8,
        RANK_GOT, RANK_DATA = RANK_GOT + 2, RANK_SMALL_DATA, RANK_BSS };
 
+/* each section of the linked file, and each that objects have, in their order */
+#define EACH_OUTPUT(o) for (struct output *o, **o##_at = outputs; (o = *o##_at); o##_at++)
+#define EACH_SECTION(s)                                        \
+    for (struct object *s##_of = objects; s##_of; s##_of = s##_of->next) \
+        for (struct section *s = s##_of->sections; s < s##_of->sections + s##_of->sections_len; s++)
+
 #define fail(...) (fprintf(stderr, __VA_ARGS__), fputc('\n', stderr), exit(1))
 
 /* Sections that are relaxed together, one behind the other from `start` on: all of the linked file,
@@ -76,7 +82,8 @@ struct output {
     const struct output *link;
     uint64_t element;                   /* how many bytes an element has; 0 where it has none */
     struct relocation *relocations;
-    size_t relocations_len, relocations_room;
+    struct linker_utils_deletion *deleted; /* by rewrites, in their order */
+    size_t relocations_len, relocations_room, deleted_len, deleted_room;
 };
 
 struct object {
@@ -93,7 +100,7 @@ struct object {
     size_t len, sections_len, symbols_len, resolved_len;
     uint32_t flags; /* `e_flags` */
     struct linker_utils_kept_groups *kept; /* by symbol, which groups of instructions stay */
-    bool is_threaded;                      /* it mentions thread-local symbols */
+    bool is_threaded, is_compressed; /* it mentions thread-local symbols; has the shortest instructions */
 };
 
 struct section {
@@ -124,12 +131,9 @@ struct version {
 /* A shared library. */
 struct library {
     struct library *next;
-    struct object file;
+    struct object file; /* a symbol of it is null where nothing can refer to it */
     const char *name;         /* as programs name it */
     struct version *versions; /* by number */
-    const Elf64_Sym *elf;
-    struct symbol **symbols; /* null where nothing can refer to one */
-    size_t len;
     uint32_t name_at; /* of its name in the linked file */
 };
 
@@ -158,9 +162,8 @@ struct symbol {
 
 /* An entry of the GOT. */
 struct entry {
-    struct entry *next, *later; /* of its symbol; in the GOT */
-    struct symbol *symbol;      /* null where it is that of the module */
-    int64_t addend;             /* on AArch64 and PowerPC64 the entry is of S + A */
+    struct entry *next; /* of its symbol */
+    int64_t addend;     /* on AArch64 and PowerPC64 the entry is of S + A */
     uint64_t offset;
     uint32_t class;  /* `enum linker_utils_entry_class` */
     uint32_t number; /* of its symbol with this entry, in the table that the library reads */
@@ -172,7 +175,7 @@ struct relocation {
     struct entry *entry;
     uint64_t offset; /* in the output */
     int64_t addend;
-    uint32_t type, index, deleted; /* index: of its symbol in the object; deleted: bytes there */
+    uint32_t type, index; /* of its symbol in the object */
     bool may_use_stub;
     bool is_kept; /* of a word that instructions load: one of them can't compute what it has */
 };
@@ -201,12 +204,12 @@ extern bool has_short_offsets; /* and PowerPC64's local-exec, which ld.lld leave
 extern struct object *objects; /* in the order in which they are read */
 extern struct symbol *symbols; /* all that objects mention, in their order */
 extern size_t symbols_len;
-extern bool has_commons; /* whether one of them has no section yet */
 extern struct symbol *module_base; /* `_TLS_MODULE_BASE_`; null where no object requires it */
 extern struct library *libraries; /* in their order */
 extern struct linker_utils_dynamic_types types;
-extern struct output *outputs[256], *headers, *got, *stubs, *slots, *rela, *frames, *index_of;
-extern struct output *interpreter, *dynamic; /* null where there is none */
+extern struct output *outputs[257], *headers, *got, *stubs, *slots, *rela, *frames, *index_of;
+/* null where there is none: */
+extern struct output *interpreter, *dynamic, *dynsym, *dynstr, *hash_table, *versym, *verneed;
 extern size_t outputs_len;
 extern uint64_t span; /* of the linked file's addresses */
 extern struct tls tls;
@@ -224,13 +227,13 @@ struct linker_utils_requirements needs_of(const struct relocation *r);
 
 void demand(const struct object *o, bool holds, const char *otherwise);
 void read_heads(struct object *o, uint16_t type, const char *otherwise);
-const uint8_t *bytes_of(const struct object *o, const Elf64_Shdr *head, size_t size, size_t *len);
+const char *text_at(const struct object *o, const char *section, uint64_t table, uint64_t at);
 const void *table_of(const struct object *o, const Elf64_Shdr *head, size_t size, size_t *len);
 void read_file(const char *path), load_member(struct archive *a, uint64_t offset);
 void read_library(struct object file);
 uint64_t import_align(const struct symbol *s);
 
-uint32_t hash_of(const char *name);
+uint32_t gnu_hash(const char *name), hash_of(const char *name);
 void expect(uint32_t hash);
 struct symbol **global(const char *name), *resolve(struct symbol *s, uint32_t hash);
 int rank(const struct symbol *s);
@@ -241,7 +244,6 @@ bool is_first_group(const char *name);
 void list_symbol(struct symbol *s), list_symbols(void), define_symbols(void), place_symbol(struct symbol *s);
 
 struct output *output_of(const char *name);
-struct output *own_section(const char *name, uint64_t flags, bool has_bytes);
 struct relocation *add_relocations(struct output *o, size_t len);
 uint64_t code_unit(void), make_room(struct output *o, uint64_t align, uint64_t len);
 uint64_t address_of(const struct output *o, uint64_t offset);
@@ -257,10 +259,10 @@ bool is_defined(const struct symbol *s), is_here(const struct symbol *s);
 uint64_t add_slot(struct symbol *s, uint32_t type);
 uint64_t append(struct output *o, uint64_t align, const void *bytes, uint64_t len);
 uint32_t add_name(struct output *o, const char *text);
-void make_tables(void), bind_symbols(void), make_imports(void), make_dynamic(void);
+void bind_symbols(void), make_imports(void), make_dynamic(void);
 void import(struct relocation *r, const struct linker_utils_requirements *needs);
 void add_row(struct output *o, uint64_t offset, uint32_t type, struct symbol *s, int64_t addend);
-void fill_entry(const struct entry *e);
+void fill_entry(struct symbol *s, const struct entry *e);
 bool write_dynamic(void);
 struct linker_utils_got known_got(void);
 struct linker_utils_symbol known_symbol(const struct symbol *s);

@@ -65,22 +65,34 @@ void check(const struct relocation *r, uint32_t status) {
 }
 
 /* A section that the linker itself fills. */
-struct output *own_section(const char *name, uint64_t flags, bool has_bytes) {
+static struct output *own_section(const char *name, uint64_t flags, uint32_t type, uint64_t element,
+                                  const struct output *link) {
     struct output *o = output_of(name);
-    o->flags = flags;
-    o->has_bytes = has_bytes;
+    o->flags = SHF_ALLOC | flags;
+    o->has_bytes = true;
+    o->type = type;
+    o->element = element;
+    o->link = link;
     return o;
 }
 
-/* The sections that the linker itself fills. */
 static void make_sections(void) {
-    got = own_section(".got", SHF_ALLOC | SHF_WRITE, false);
-    stubs = own_section(is_dynamic ? ".plt" : ".iplt", SHF_ALLOC | SHF_EXECINSTR, true);
-    slots = own_section(is_dynamic ? ".got.plt" : ".igot.plt", SHF_ALLOC | SHF_WRITE, true);
-    index_of = own_section(".eh_frame_hdr", SHF_ALLOC, true);
-    headers = own_section("the headers", SHF_ALLOC, true);
+    got = own_section(".got", SHF_WRITE, 0, 0, NULL);
+    got->has_bytes = false;
+    stubs = own_section(is_dynamic ? ".plt" : ".iplt", SHF_EXECINSTR, 0, 0, NULL);
+    slots = own_section(is_dynamic ? ".got.plt" : ".igot.plt", SHF_WRITE, 0, 0, NULL);
+    index_of = own_section(".eh_frame_hdr", 0, 0, 0, NULL);
+    headers = own_section("the headers", 0, 0, 0, NULL);
     frames = output_of(".eh_frame");
-    make_tables();
+    rela = own_section(is_dynamic ? ".rela.dyn" : ".rela_iplt", 0, SHT_RELA, sizeof(Elf64_Rela), NULL);
+    if (!is_dynamic) return;
+    if (linked.is_executable) interpreter = own_section(".interp", 0, 0, 0, NULL);
+    dynstr = own_section(".dynstr", 0, SHT_STRTAB, 0, NULL);
+    rela->link = dynsym = own_section(".dynsym", 0, SHT_DYNSYM, sizeof(Elf64_Sym), dynstr);
+    hash_table = own_section(".gnu.hash", 0, SHT_GNU_HASH, 0, dynsym);
+    versym = own_section(".gnu.version", 0, SHT_GNU_versym, 2, dynsym);
+    verneed = own_section(".gnu.version_r", 0, SHT_GNU_verneed, 0, dynstr);
+    dynamic = own_section(".dynamic", SHF_WRITE, SHT_DYNAMIC, sizeof(Elf64_Dyn), dynstr);
 }
 
 int main(int argc, char **argv) {
@@ -123,22 +135,17 @@ int main(int argc, char **argv) {
     if (!is_placed) make_room(headers, 8, HEADERS);
     linker_utils_dynamic_types(machine, &types);
     list_symbols();
-    for (struct object *o = objects; o; o = o->next)
-        for (size_t i = 0; i < o->sections_len; i++) add_section(&o->sections[i]);
+    EACH_SECTION(s) add_section(s);
     reserve_outputs();
-    uint64_t index_len = index_of->len ? index_of->len + 12 : 0;
-    index_of->len = 0;
-    make_room(index_of, 4, index_len);
     define_symbols();
     if (is_dynamic) bind_symbols();
-    for (struct symbol *s = has_commons ? symbols : NULL; s; s = s->later) {
+    for (struct symbol *s = symbols; s; s = s->later) {
         if (s->elf.st_shndx != SHN_COMMON) continue; /* these are first in `.bss`, as in ld.lld */
         s->output = output_of(".bss");
         s->output->flags |= SHF_WRITE | SHF_ALLOC;
         s->offset = make_room(s->output, s->elf.st_value, s->elf.st_size);
     }
-    for (struct object *o = objects; o; o = o->next)
-        for (size_t i = 0; i < o->sections_len; i++) copy_section(&o->sections[i]);
+    EACH_SECTION(s) copy_section(s);
     for (struct symbol *s = symbols; s; s = s->later) place_symbol(s);
     rewrite_phases(LINKER_UTILS_PHASE_EARLY, LINKER_UTILS_PHASE_EARLY);
     require_all();

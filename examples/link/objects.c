@@ -15,24 +15,20 @@ static const uint8_t *bytes_at(const struct object *o, uint64_t offset, uint64_t
     return o->bytes + offset;
 }
 
-/* The bytes of a table, and how many entries it has. */
-const uint8_t *bytes_of(const struct object *o, const Elf64_Shdr *head, size_t size, size_t *len) {
-    demand(o, head->sh_entsize == size && !(head->sh_size % size), "entries of another size");
-    *len = head->sh_size / size;
-    return bytes_at(o, head->sh_offset, head->sh_size);
-}
-
-/* A table; a copy of it where nothing aligns its entries in the file. */
+/* A table, and how many entries it has; a copy of it where nothing aligns them in the file. */
 const void *table_of(const struct object *o, const Elf64_Shdr *head, size_t size, size_t *len) {
-    const uint8_t *bytes = bytes_of(o, head, size, len);
+    demand(o, head->sh_entsize == size && !(head->sh_size % size), "entries of another size");
+    const uint8_t *bytes = bytes_at(o, head->sh_offset, head->sh_size);
+    *len = head->sh_size / size;
     return (uintptr_t)bytes % 8 ? memcpy(take(*len, size), bytes, head->sh_size) : bytes;
 }
 
-static const char *text_at(const struct object *o, uint64_t table, uint64_t at) {
+/* A name in a table of names, that a section refers to. */
+const char *text_at(const struct object *o, const char *section, uint64_t table, uint64_t at) {
     const Elf64_Shdr *head = &o->heads[table < o->sections_len ? table : 0];
-    demand(o, head->sh_type == SHT_STRTAB && at < head->sh_size, "a name that is not there");
-    const char *text = (const char *)bytes_at(o, head->sh_offset, head->sh_size);
-    demand(o, !text[head->sh_size - 1], "a name that does not end");
+    bool holds = head->sh_type == SHT_STRTAB && at < head->sh_size;
+    const char *text = holds ? (const char *)bytes_at(o, head->sh_offset, head->sh_size) : NULL;
+    if (!holds || text[head->sh_size - 1]) fail("%s: %s: a name that is not there", o->path, section);
     return text + at;
 }
 
@@ -48,7 +44,7 @@ static void read_group(struct object *o, const Elf64_Shdr *head, const char *sec
     Elf64_Sym symbol;
     uint64_t at = table.sh_offset + head->sh_info * sizeof symbol;
     memcpy(&symbol, bytes_at(o, at, sizeof symbol), sizeof symbol);
-    const char *name = text_at(o, table.sh_link, symbol.st_name);
+    const char *name = text_at(o, section, table.sh_link, symbol.st_name);
     bool is_kept = !(words[0] & GRP_COMDAT) || is_first_group(name);
     for (size_t i = 1; i < len; i++) {
         if (words[i] >= o->sections_len)
@@ -78,12 +74,13 @@ static void read_symbols(struct object *o, const Elf64_Shdr *head) {
     struct symbol *local = take(locals_len, sizeof *local);
     o->symbols = take(o->symbols_len, sizeof *o->symbols);
     o->hashes = take(o->symbols_len, sizeof *o->hashes);
-    if (o->symbols_len) o->names = text_at(o, head->sh_link, 0);
+    const char *section = o->sections[head - o->heads].name;
+    if (o->symbols_len) o->names = text_at(o, section, head->sh_link, 0);
     for (size_t i = 0; i < o->symbols_len; i++, elf++) {
         uint16_t at = elf->st_shndx;
         unsigned type = ELF64_ST_TYPE(elf->st_info), bind = ELF64_ST_BIND(elf->st_info);
         bool has_section = at < o->sections_len;
-        const char *name = text_at(o, head->sh_link, elf->st_name);
+        const char *name = text_at(o, section, head->sh_link, elf->st_name);
         if ((!has_section && at != SHN_ABS && at != SHN_COMMON) ||
             (bind == STB_LOCAL) != (i < head->sh_info) ||
             (at == SHN_COMMON && (bind == STB_LOCAL || type == STT_TLS)))
@@ -133,7 +130,8 @@ void read_heads(struct object *o, uint16_t type, const char *otherwise) {
     o->sections = take(o->sections_len, sizeof *o->sections);
     for (size_t i = 0; i < o->sections_len; i++) {
         const Elf64_Shdr *s = &o->heads[i];
-        o->sections[i] = (struct section){o, text_at(o, head.e_shstrndx, s->sh_name), .head = s,
+        const char *name = text_at(o, "its sections", head.e_shstrndx, s->sh_name);
+        o->sections[i] = (struct section){o, name, .head = s,
                                           .is_discarded = s->sh_flags & SHF_EXCLUDE};
         if (s->sh_type != SHT_NOBITS && (s->sh_offset > o->len || s->sh_size > o->len - s->sh_offset))
             fail("%s: %s: it ends too early", o->path, o->sections[i].name);
@@ -148,6 +146,7 @@ static void read_object(const char *path, const uint8_t *bytes, size_t len) {
     objects_end = &o->next;
     read_heads(o, ET_REL, "not a relocatable object of little-endian ELF64");
     if (o == objects) machine_flags = o->flags;
+    o->is_compressed = linker_utils_code_unit(machine, o->flags) < linker_utils_code_unit(machine, 0);
     demand(o, !linker_utils_join_flags(machine, machine_flags, o->flags, &machine_flags),
            "of another ABI than those before it");
     for (size_t i = 0; i < o->sections_len; i++)
@@ -194,23 +193,20 @@ void load_member(struct archive *a, uint64_t offset) {
     read_object(path, a->file.bytes + offset + 60, len);
 }
 
-static uint64_t big_endian(const uint8_t *bytes, size_t len) {
-    uint64_t number = 0;
-    for (size_t i = 0; i < len; i++) number = number << 8 | bytes[i];
-    return number;
+static uint32_t big_endian(const uint8_t *bytes) {
+    return (uint32_t)bytes[0] << 24 | (uint32_t)bytes[1] << 16 | (uint32_t)bytes[2] << 8 | bytes[3];
 }
 
 /* Offers what the index of an archive names. A member that is needed already is read at once. */
 static void read_archive(struct object file) {
     struct archive *a = take(1, sizeof *a);
     const uint8_t *index = NULL;
-    uint64_t index_len = 0, word = 4;
+    uint64_t index_len = 0;
     char name[17];
     *a = (struct archive){.file = file, .is_loaded = take(file.len / 2 + 1, 1)};
     for (uint64_t at = 8, i = 0; i < 2 && at < file.len; i++) { /* the special ones are first */
         uint64_t len = member_head(a, at, name);
-        if (!memcmp(name, "/ ", 2) || !memcmp(name, "/SYM64/ ", 8)) {
-            word = name[1] == 'S' ? 8 : 4;
+        if (!memcmp(name, "/ ", 2)) {
             index = file.bytes + at + 60;
             index_len = len;
         } else if (!memcmp(name, "// ", 3)) {
@@ -220,13 +216,13 @@ static void read_archive(struct object file) {
         at += 60 + len + len % 2;
     }
     if (file.len == 8) return;
-    demand(&a->file, index && index_len >= word, "an archive without an index");
-    uint64_t count = big_endian(index, word);
-    demand(&a->file, count <= (index_len - word) / word, "the index ends too early");
-    const char *text = (const char *)index + word * (count + 1);
+    demand(&a->file, index && index_len >= 4, "an archive without an index");
+    uint64_t count = big_endian(index);
+    demand(&a->file, count <= (index_len - 4) / 4, "the index ends too early");
+    const char *text = (const char *)index + 4 * (count + 1);
     for (uint64_t i = 1; i <= count; i++) {
         const char *next = memchr(text, 0, (size_t)((const char *)index + index_len - text));
-        uint64_t member = big_endian(index + word * i, word);
+        uint64_t member = big_endian(index + 4 * i);
         demand(&a->file, next, "the index ends too early");
         if (member % 2 || member >= file.len || file.len - member < 60 ||
             memcmp(file.bytes + member + 58, "`\n", 2))

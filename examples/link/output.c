@@ -94,8 +94,7 @@ static void put_symbols(uint64_t offset, Elf64_Ehdr *head, bool has_symbols) {
     put(offset, symbol_table.bytes, symbol_table.len);
     put(offset + symbol_table.len, strings.bytes, strings.len);
     heads[symbol_table.index].sh_link = strings.index;
-    for (size_t i = 0; i < outputs_len; i++)
-        if (outputs[i]->link) heads[outputs[i]->index].sh_link = outputs[i]->link->index;
+    EACH_OUTPUT(o) if (o->link) heads[o->index].sh_link = o->link->index;
     head->e_shoff = round_up(offset + symbol_table.len + strings.len, 8);
     head->e_shentsize = sizeof *heads;
     head->e_shnum = (uint16_t)heads_len;
@@ -124,8 +123,7 @@ static void write_parts(const char *path) {
  * headers and of its interpreter are the first. */
 static void add_dynamic_parts(void) {
     uint64_t start = 0, end = 0;
-    for (size_t i = 0; i < outputs_len; i++) {
-        const struct output *o = outputs[i];
+    EACH_OUTPUT(o) {
         if (!o->len || o->rank < RANK_TLS || o->rank == RANK_TLS_BSS) continue;
         uint64_t page = o->address & -linker_utils_page(machine);
         if (o->rank >= RANK_DATA) {
@@ -152,8 +150,7 @@ static void add_dynamic_parts(void) {
 static uint64_t put_sections(void) {
     uint64_t end = 0, offset = headers->len ? 0 : MOST_ALIGN, image = 0;
     uint64_t align = headers->len ? linker_utils_page(machine) : MOST_ALIGN;
-    for (size_t i = 0; i < outputs_len; i++) {
-        struct output *o = outputs[i];
+    EACH_OUTPUT(o) {
         uint64_t bytes = o->has_bytes ? o->len : 0;
         if (o->flags & SHF_TLS && bytes) image = o->address + o->len - tls.image;
         if (o->len && o != headers) add_head(o, offset);

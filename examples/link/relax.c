@@ -4,15 +4,6 @@
  * each distance is known exactly. */
 #include "link.h"
 
-/* Whether objects with such flags have shorter instructions than others. */
-static bool is_compressed(uint32_t flags) {
-    static uint32_t asked;
-    static bool is;
-    if (flags != asked) is = linker_utils_code_unit(machine, flags) < linker_utils_code_unit(machine, 0);
-    asked = flags;
-    return is;
-}
-
 /* What the library is told of a relocation: its target, if that is in the same run. Between a
  * symbol in code and what is some bytes behind it code may become shorter. */
 static struct linker_utils_rela seen(const struct output *o,
@@ -22,7 +13,7 @@ static struct linker_utils_rela seen(const struct output *o,
     struct linker_utils_rela seen = {
         .offset = r->offset, .addend = r->addend, .r_type = r->type,
         .has_symbol = r->section && s != *r->section->object->symbols,
-        .may_compress = r->section && is_compressed(r->section->object->flags)};
+        .may_compress = r->section && r->section->object->is_compressed};
     if (!relaxes || !to || to->run != o->run || to->flags & SHF_TLS || (to->shrinks && r->addend))
         return seen;
     uint64_t offset = (s->offset == END ? to->len : s->offset) + (uint64_t)r->addend;
@@ -31,35 +22,30 @@ static struct linker_utils_rela seen(const struct output *o,
     return seen;
 }
 
-/* Adds the items of a section to those of its run, each with its relocation. */
+/* Ends with an error of a relocation, or where that is null of what is named. */
+static void check_all(uint32_t status, const struct relocation *r, const char *name) {
+    if (r) check(r, status);
+    if (status) fail("%s can't be relaxed: %s", name, linker_utils_status_text(status));
+}
+
+/* Adds the items of a section to those of its run, each with its relocation, or null for a deletion
+ * that is decided. */
 static size_t add_items(struct output *o, struct linker_utils_item *items, struct relocation **of) {
-    size_t all = o->relocations_len, found_len = 0, len = 0, at = SIZE_MAX;
+    size_t all = o->relocations_len, most = all + o->deleted_len, at = SIZE_MAX;
     struct linker_utils_rela *relocations = take(all, sizeof *relocations);
-    size_t *makers = take(all, sizeof *makers);
+    size_t *makers = take(most, sizeof *makers);
     for (size_t i = 0; i < all; i++) {
         __builtin_prefetch(o->relocations[i + 8 < all ? i + 8 : i].symbol);
         relocations[i] = seen(o, &o->relocations[i]);
     }
-    uint32_t status = linker_utils_section_items(machine, o->bytes, o->len, o->base, relocations, all,
-                                                 items, all, makers, all, &found_len, &at);
-    if (status && at < all) check(&o->relocations[at], status);
-    if (status) fail("section %s: %s", o->name, linker_utils_status_text(status));
+    uint32_t status = linker_utils_rewritten_items(
+        machine, o->bytes, o->len, o->base, relocations, all, o->deleted, o->deleted_len, items, most,
+        makers, most, &o->items_len, &at);
+    check_all(status, at < all ? &o->relocations[at] : NULL, o->name);
+    for (size_t i = 0; i < o->items_len; i++)
+        of[i] = makers[i] < all ? &o->relocations[makers[i]] : NULL;
     give_back(relocations, all, sizeof *relocations);
-    for (size_t i = 0; i < all; i++) len += o->relocations[i].deleted > 0;
-    o->items_len = len += found_len;
-    for (size_t i = all; i-- > 0 && len;) { /* makes room between them from behind */
-        struct relocation *r = &o->relocations[i];
-        uint64_t offset = o->base + r->offset;
-        if (r->deleted)
-            items[--len] = (struct linker_utils_item){.offset = offset, .target = offset,
-                                                      .len = r->deleted,
-                                                      .kind = LINKER_UTILS_ITEM_SITE};
-        else if (found_len && makers[found_len - 1] == i)
-            items[--len] = items[--found_len];
-        else
-            continue;
-        of[len] = r;
-    }
+    give_back(makers, most, sizeof *makers);
     return o->items_len;
 }
 
@@ -68,23 +54,18 @@ static size_t add_items(struct output *o, struct linker_utils_item *items, struc
 static void pack(struct output *o, struct linker_utils_item *items, const uint64_t *kept,
                  struct relocation **of) {
     const struct run *run = o->run;
-    size_t len = 0, at = SIZE_MAX;
-    for (size_t i = 0; i < o->items_len; i++)
-        if (kept[i] < items[i].len) {
-            items[len] = items[i];
-            if (!of[i]->section)
-                items[len] = (struct linker_utils_item){
-                    .offset = items[len].offset, .target = items[len].offset, .len = items[len].len,
-                    .kind = LINKER_UTILS_ITEM_SITE, .shapes = {.longest = (uint32_t)kept[i]}};
-            of[len++] = of[i];
-        }
+    size_t at = SIZE_MAX, len = o->items_len;
+    for (size_t i = 0; i < len; i++)
+        if (of[i] && !of[i]->section)
+            items[i] = (struct linker_utils_item){
+                .offset = items[i].offset, .target = items[i].offset, .len = items[i].len,
+                .kind = LINKER_UTILS_ITEM_SITE, .shapes = {.longest = (uint32_t)kept[i]}};
     size_t packed_len = linker_utils_packed_run_len(o->base, o->len, run->deltas, run->deltas_len);
     uint8_t *packed = take(packed_len, 1);
     uint32_t status =
         linker_utils_pack_run(machine, o->bytes, o->len, o->base, items, len, run->deltas,
                               run->deltas_len, run->start, packed, packed_len, &at);
-    if (status && at < len) check(of[at], status);
-    if (status) fail("section %s: %s", o->name, linker_utils_status_text(status));
+    check_all(status, at < len ? of[at] : NULL, o->name);
     const struct relocation *end = o->relocations + o->relocations_len;
     for (size_t i = 0; i < len; i++) { /* what is at these has its values already */
         uint64_t past = items[i].offset - o->base + items[i].len;
@@ -102,18 +83,16 @@ static void relax_run(struct run *run) {
     uint64_t end = 0;
     uint32_t unit = (uint32_t)code_unit();
     bool shrinks = false;
-    for (size_t i = 0; i < outputs_len; i++) {
-        const struct output *o = outputs[i];
+    EACH_OUTPUT(o) {
         if (o->run != run) continue;
-        room += o->relocations_len + 1;
+        room += o->relocations_len + o->deleted_len + 1;
         shrinks |= o->shrinks;
         if (o->base + o->len > end) end = o->base + o->len;
     }
     if (!shrinks) return;
     struct linker_utils_item *items = take(room, sizeof *items);
     struct relocation **of = take(room, sizeof *of);
-    for (size_t i = 0; i < outputs_len; i++) {
-        struct output *o = outputs[i];
+    EACH_OUTPUT(o) {
         if (o->run != run) continue;
         if (o->before.len) items[len++] = o->before;
         if (o->shrinks) len += add_items(o, items + len, of + len);
@@ -127,14 +106,12 @@ static void relax_run(struct run *run) {
     uint8_t *shapes = take(len, 1);
     uint32_t status = linker_utils_relax(items, len, run->start, shapes, len, kept, len, places,
                                          len, freed, len + 1, &at);
-    if (status && at < len && of[at]) check(of[at], status);
-    if (status) fail("the code can't be relaxed: %s", linker_utils_status_text(status));
+    check_all(status, at < len ? of[at] : NULL, "the code");
     run->deltas = take(len, sizeof *run->deltas);
     linker_utils_run_deltas(items, len, kept, len, run->deltas, len, &run->deltas_len);
     index_deltas(run);
     len = 0;
-    for (size_t i = 0; i < outputs_len; i++) {
-        struct output *o = outputs[i];
+    EACH_OUTPUT(o) {
         if (o->run != run) continue;
         len += o->before.len > 0;
         if (o->shrinks) pack(o, items + len, kept + len, of + len);
@@ -147,15 +124,13 @@ static void relax_run(struct run *run) {
 /* Relaxes all code. */
 void relax(void) {
     bool shrinks = has_short_offsets && relaxes;
-    for (size_t i = 0; i < outputs_len; i++) shrinks |= outputs[i]->shrinks;
+    EACH_OUTPUT(o) shrinks |= o->shrinks;
     uint32_t phase = LINKER_UTILS_PHASE_THREAD_OFFSETS;
     if (shrinks) rewrite_phases(phase, phase);
-    for (size_t i = 0; i < outputs_len; i++)
-        if (!outputs[i]->run->deltas) relax_run(outputs[i]->run);
+    EACH_OUTPUT(o) if (!o->run->deltas) relax_run(o->run);
     set_addresses();
     rewrite_placed();
-    for (size_t i = 0; i < outputs_len; i++) {
-        const struct output *o = outputs[i];
+    EACH_OUTPUT(o) {
         uint64_t align = o->flags & SHF_TLS && o->address == tls.image ? tls.align : o->align;
         uint64_t wanted = o->is_placed ? o->place : o->address;
         if (wanted % align || wanted != o->address)

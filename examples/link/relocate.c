@@ -6,18 +6,16 @@ struct tls tls;
 /* Reads the relocations of a section. */
 void read_relocations(struct section *s) {
     const struct object *o = s->object;
-    const uint8_t *bytes = bytes_of(o, s->relocations, sizeof(Elf64_Rela), &s->relocations_len);
+    const Elf64_Rela *elf = table_of(o, s->relocations, sizeof *elf, &s->relocations_len);
     struct relocation *r = add_relocations(s->output, s->relocations_len);
     s->first = (size_t)(r - s->output->relocations);
-    for (size_t i = 0; i < s->relocations_len; i++) {
-        Elf64_Rela elf;
-        memcpy(&elf, bytes + i * sizeof elf, sizeof elf);
-        uint64_t index = ELF64_R_SYM(elf.r_info);
-        if (elf.r_offset > s->head->sh_size || index >= o->symbols_len)
+    for (size_t i = 0; i < s->relocations_len; i++, elf++) {
+        uint64_t index = ELF64_R_SYM(elf->r_info);
+        if (elf->r_offset > s->head->sh_size || index >= o->symbols_len)
             fail("%s: %s: a relocation is of no byte or no symbol", o->path, s->name);
         r[i] = (struct relocation){.section = s, .symbol = o->symbols[index],
-                                   .offset = s->offset + elf.r_offset, .addend = elf.r_addend,
-                                   .type = ELF64_R_TYPE(elf.r_info), .index = (uint32_t)index};
+                                   .offset = s->offset + elf->r_offset, .addend = elf->r_addend,
+                                   .type = ELF64_R_TYPE(elf->r_info), .index = (uint32_t)index};
     }
 }
 
@@ -189,7 +187,5 @@ static void relocate_section(const struct section *s) {
 
 /* Writes all values. */
 void relocate(void) {
-    for (const struct object *o = objects; o; o = o->next)
-        for (const struct section *s = o->sections; s < o->sections + o->sections_len; s++)
-            if (s->relocations_len) relocate_section(s);
+    EACH_SECTION(s) if (s->relocations_len) relocate_section(s);
 }

@@ -37,13 +37,13 @@ static void note_facts(struct object *o, const struct symbol *tls_get_addr) {
 /* Rewrites a section of an object in a phase, or notes which groups of it stay. */
 static void rewrite_in(uint32_t phase, struct section *s, bool is_survey) {
     const struct object *o = s->object;
-    size_t count = o->symbols_len, values_len = values ? count : 0, used = 0, at = 0, found = 0;
+    size_t count = o->symbols_len, values_len = values ? count : 0, used = 0, at = 0;
     size_t len = s->relocations_len;
     static const struct section *surveyed; /* these are for one section after another */
     static Elf64_Rela *elf;
     static struct linker_utils_decision *decisions;
-    static struct linker_utils_deletion *deleted;
-    static size_t rooms[3];
+    static size_t rooms[2];
+    struct output *to = s->output;
     uint64_t start = address_of(s->output, s->offset), size = address_of(s->output, s->end) - start;
     uint8_t *bytes = s->output->bytes + (start - s->output->address);
     struct relocation *r = s->output->relocations + s->first;
@@ -61,15 +61,14 @@ static void rewrite_in(uint32_t phase, struct section *s, bool is_survey) {
         return;
     }
     decisions = grow(decisions, len, &rooms[1], sizeof *decisions);
-    deleted = grow(deleted, len, &rooms[2], sizeof *deleted);
+    to->deleted = grow(to->deleted, to->deleted_len + len, &to->deleted_room, sizeof *to->deleted);
+    struct linker_utils_deletion *deleted = to->deleted + to->deleted_len;
     uint32_t status = linker_utils_rewrite_placed_section(
         machine, phase, &linked, facts, count, &addresses, values, values_len, o->kept, count,
         (uint8_t *)elf, len * sizeof *elf, bytes, size, decisions, len, deleted, len, &used, &at);
     check(&r[at < len ? at : 0], status);
     for (size_t i = 0; i < len; i++, r++) {
         if (decisions[i].fate == LINKER_UTILS_FATE_KEPT) continue;
-        if (found < used && elf[i].r_offset == deleted[found].offset)
-            r->deleted = deleted[found++].bytes;
         r->offset += elf[i].r_offset - offset_in(s, r, start);
         r->type = ELF64_R_TYPE(elf[i].r_info);
         r->addend = elf[i].r_addend;
@@ -77,7 +76,8 @@ static void rewrite_in(uint32_t phase, struct section *s, bool is_survey) {
         r->index = decisions[i].symbol;
         r->symbol = o->symbols[r->index];
     }
-    if (found < used) fail("%s: %s: other bytes are to be deleted", o->path, s->name);
+    for (size_t i = 0; i < used; i++) deleted[i].offset += s->offset;
+    to->deleted_len += used;
 }
 
 /* Whether compilers keep addresses in a section, beside the GOT. */
@@ -190,9 +190,7 @@ void rewrite_placed(void) {
     size_t used;
     bool has_words = !linker_utils_address_section(machine, name, sizeof name, &used);
     if (!relaxes) return;
-    for (struct object *o = has_words ? objects : NULL; o; o = o->next)
-        for (int is_survey = 1; is_survey >= 0; is_survey--)
-            for (struct section *s = o->sections; s < o->sections + o->sections_len; s++)
-                if (is_code(s)) rewrite_loads(s, is_survey);
+    for (int is_survey = has_words; has_words && is_survey >= 0; is_survey--)
+        EACH_SECTION(s) if (is_code(s)) rewrite_loads(s, is_survey);
     rewrite_phases(LINKER_UTILS_PHASE_GOT_LOADS, LINKER_UTILS_PHASE_DISTANCES);
 }

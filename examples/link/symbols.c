@@ -4,7 +4,6 @@
 
 struct symbol *symbols, *module_base;
 size_t symbols_len;
-bool has_commons;
 
 /* Symbols by their names. At most half of the cells are taken. */
 static struct table {
@@ -23,10 +22,15 @@ static struct cell *cell_in(const struct table *t, uint32_t hash, const char *na
     return &t->cells[at];
 }
 
-uint32_t hash_of(const char *name) {
+/* What `.gnu.hash` has of a name. */
+uint32_t gnu_hash(const char *name) {
     uint32_t hash = 5381;
     for (; *name; name++) hash = hash * 33 + (unsigned char)*name;
-    hash *= 2654435769; /* 2^32 over the golden ratio */
+    return hash;
+}
+
+uint32_t hash_of(const char *name) {
+    uint32_t hash = gnu_hash(name) * 2654435769; /* 2^32 over the golden ratio */
     return hash ^ hash >> 15;
 }
 
@@ -142,7 +146,6 @@ void list_symbol(struct symbol *s) {
     if (s->is_listed) return;
     s->is_listed = true;
     symbols_len++;
-    has_commons |= s->elf.st_shndx == SHN_COMMON;
     *end = s;
     end = &s->later;
 }
@@ -183,29 +186,21 @@ static void define_end(struct output *o, bool is_end) {
     define(name, o, is_end ? END : 0);
 }
 
-/* The functions of one run that objects refer to, and those behind them in the run: that of a
+/* The functions of runs of code that objects refer to, and those behind them in the run: that of a
  * number goes on to that of the next, and the last one to the instructions behind it. */
-static void define_run(size_t index, const char *prefix,
-                       const struct linker_utils_provided_run *run) {
-    char name[LINKER_UTILS_NAME_SIZE + 16];
-    bool is_made = false;
-    for (uint32_t i = 0, word; i < run->len; i++) {
-        snprintf(name, sizeof name, "%s%" PRIu32, prefix, run->first + i);
-        is_made |= i < run->count && define(name, stubs, stubs->len);
-        if (!is_made || linker_utils_provided_word(machine, index, i, &word)) continue;
-        uint64_t offset = make_room(stubs, sizeof word, sizeof word);
-        memcpy(stubs->bytes + offset, &word, sizeof word);
-    }
-}
-
 static void define_runs(void) {
+    uint8_t prefix[LINKER_UTILS_NAME_SIZE];
+    char name[LINKER_UTILS_NAME_SIZE + 16];
     struct linker_utils_provided_run run;
-    for (size_t i = 0;; i++) {
-        uint8_t prefix[LINKER_UTILS_NAME_SIZE + 1] = {0};
-        size_t used;
-        if (linker_utils_provided_run(machine, i, prefix, LINKER_UTILS_NAME_SIZE, &used, &run))
-            return;
-        define_run(i, (const char *)prefix, &run);
+    size_t len = 0;
+    for (size_t i = 0; !linker_utils_provided_run(machine, i, prefix, sizeof prefix, &len, &run); i++) {
+        bool is_made = false;
+        for (uint32_t at = 0, word; at < run.len; at++) {
+            snprintf(name, sizeof name, "%.*s%" PRIu32, (int)len, (char *)prefix, run.first + at);
+            is_made |= at < run.count && define(name, stubs, stubs->len);
+            if (is_made && !linker_utils_provided_word(machine, i, at, &word))
+                append(stubs, sizeof word, &word, sizeof word);
+        }
     }
 }
 
@@ -220,33 +215,29 @@ static void define_base(const char *name, bool is_at_pointer) {
     base->elf.st_other = STV_HIDDEN;
 }
 
-/* The symbols that linkers provide for the machine: first the sections that they are in. */
-static void define_provided(bool only_sections) {
+/* The symbols that linkers provide for the machine. */
+static void define_provided(void) {
     struct linker_utils_provided_symbol symbol;
-    for (size_t i = 0;; i++) {
-        char *name = take(LINKER_UTILS_NAME_SIZE + 1, 1);
-        size_t used;
-        if (linker_utils_provided_symbol(machine, i, (uint8_t *)name, LINKER_UTILS_NAME_SIZE, &used,
-                                         &symbol))
-            return;
+    char name[LINKER_UTILS_NAME_SIZE + 1];
+    for (size_t i = 0, len; !linker_utils_provided_symbol(machine, i, (uint8_t *)name,
+                                                          LINKER_UTILS_NAME_SIZE, &len, &symbol); i++) {
+        name[len] = 0;
         bool is_in_data = symbol.place == LINKER_UTILS_PLACE_SMALL_DATA;
-        struct output *data = is_in_data && *global(name) ? output_of(".sdata") : NULL;
-        if (only_sections) continue;
         if (symbol.place == LINKER_UTILS_PLACE_THREAD_LOCAL) define_base(name, true);
-        else if (data || !is_in_data) define(name, is_in_data ? data : got, symbol.offset);
+        else define(name, is_in_data ? output_of(".sdata") : got, symbol.offset);
     }
 }
 
 void define_symbols(void) {
     output_of(".preinit_array"), output_of(".init_array"), output_of(".fini_array");
-    define_provided(true);
+    output_of(".sdata");
     define_runs();
     define("__bss_start", output_of(".bss"), 0);
     sort_outputs();
-    for (size_t i = 0; i < outputs_len; i++) define_end(outputs[i], false); /* the first counts */
+    EACH_OUTPUT(o) define_end(o, false); /* the first counts */
     for (size_t i = outputs_len; i > 0; i--) define_end(outputs[i - 1], true);
     define("_GLOBAL_OFFSET_TABLE_", got, 0);
-    define_provided(false);
+    define_provided();
     define_base("_TLS_MODULE_BASE_", false); /* also for other machines, as in ld.lld */
     define("_etext", last(RANK_CODE), END);
     define("etext", last(RANK_CODE), END);
