@@ -24,8 +24,8 @@
     STATUS(ODD_DISTANCE, 12, "The distance is odd.") \
     STATUS(TOO_FAR, 13, "The distance is out of the range of `jal`.") \
     STATUS(INVALID_DELETIONS, 14, \
-           "The deletions do not ascend, one reaches past the next, or one ends past 2^64 - 1 or " \
-           "past the section.") \
+           "The deletions do not strictly ascend, one reaches past the next, or one ends past " \
+           "2^64 - 1 or past the section.") \
     STATUS(NOT_MERGEABLE, 15, \
            "Two deletions overlap or begin at one offset, or one ends past 2^64 - 1.") \
     STATUS(TOO_LARGE, 17, "The input offset would be past 2^64 - 1.") \

@@ -1,6 +1,12 @@
+pub mod AArch64Addresses
+pub mod AArch64Alone
+pub mod AArch64Chosen
+pub mod AArch64Loads
+pub mod AArch64Written
 pub mod Chosen
 pub mod Fields
 pub mod Inner
+pub mod InstructionFields
 pub mod PlainRows
 pub mod PutBack
 pub mod X86Finals

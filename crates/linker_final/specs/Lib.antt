@@ -1,2 +1,3 @@
+pub mod AArch64Final
 pub mod Final
 pub mod X86Final

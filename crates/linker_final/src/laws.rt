@@ -3,6 +3,7 @@
 //! Each joins what `rewrite_section` and `relocate_section` leave with the laws of single rewrites of
 //! `linker_laws`.
 
+ghost use Rattle.linker_final.specs.AArch64Final as aarch64_final;
 ghost use Rattle.linker_final.specs.X86Final as x86_64_final;
 
 /// x86-64: each instruction whose operand in the GOT became an address, a distance or an offset from
@@ -12,4 +13,17 @@ pub fn x86_64()
     ensures got_operands { x86_64_final.GotOperands }
 {
     linker_laws::rewrites::x86_64();
+}
+
+/// AArch64: each address by two instructions that became one, each load of an address from the GOT that
+/// became a sum of its page and the rest, each half of initial-exec that became a move, and each branch
+/// to an undefined weak symbol that became `nop` does in the final bytes what the object's does.
+pub fn aarch64()
+    ensures addresses { aarch64_final.Addresses }
+    ensures got_loads { aarch64_final.GotLoads }
+    ensures high_halves { aarch64_final.HighHalves }
+    ensures low_halves { aarch64_final.LowHalves }
+    ensures branches { aarch64_final.Branches }
+{
+    linker_laws::rewrites::aarch64();
 }

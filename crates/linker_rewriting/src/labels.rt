@@ -1,11 +1,11 @@
 //! Groups of one label of RISC-V: a high part, and the low parts whose symbol is the label at it.
 
-ghost use Rattle.std.specs.Prelude.{◌≡◌, ◌+◌, ◌<◌, ◌≤◌, ◌/◌, ℕ, length, IfSome, IsTrue, ◌↔◌, true};
+ghost use Rattle.std.specs.Prelude.{◌≡◌, ◌+◌, ◌<◌, ◌≤◌, ◌/◌, ℕ, length, IfSome, true};
 ghost use Rattle.std.specs.Prelude.{map, drop};
 ghost use Rattle.linker_base.specs.Rewrite.{CanRewrite};
 ghost use Rattle.linker_utils.specs.Architectures.{relaxation_rewrite, relaxation_deleted};
 ghost use Rattle.linker_section.specs.Relocations.{relocation_in};
-ghost use Rattle.linker_section.specs.Values.{IsAscending, offset_at};
+ghost use Rattle.linker_section.specs.Values.{IsAscending};
 ghost use Rattle.linker_rewriting.specs.Candidates.{deletes_within};
 ghost use Rattle.linker_rewriting.specs.Decisions.{decision_at};
 ghost use Rattle.linker_rewriting.specs.Facts.{setting};
@@ -23,7 +23,7 @@ use crate::phases::Phase;
 use crate::relocations::relocation_in;
 use crate::sequences::is_marked_at;
 use linker_section::facts::{Addresses, Symbol};
-use linker_section::relocations::{Rela, relocations_len};
+use linker_section::relocations::{Rela, first_from, is_ascending, relocations_len};
 use linker_utils::architecture::Relaxation;
 use linker_utils::elf::{Architecture, Choice, LinkFacts, Operands};
 use linker_utils::riscv64::RiscVRelocation;
@@ -37,52 +37,6 @@ fn high_code(phase: Phase) -> u32
         Phase::ThreadOffsets => RiscVRelocation::R_RISCV_TLSDESC_HI20.elf_code(),
         _ => RiscVRelocation::R_RISCV_GOT_HI20.elf_code(),
     }
-}
-
-/// The offset of the relocation with an index.
-#[inline(always)]
-fn offset_at(relocations: &[u8], index: usize) -> u64
-    requires { index < length relocations.now / 24 }
-    ensures { result ≡ offset_at relocations.now index }
-{
-    relocation_in(relocations, index).offset
-}
-
-/// Whether relocations ascend by offset.
-fn is_ascending(relocations: &[u8]) -> bool
-    ensures { IsTrue result ↔ IsAscending relocations.now }
-{
-    let mut least = 0;
-    for index in 0..relocations_len(relocations) {
-        let offset = offset_at(relocations, index);
-        if offset < least {
-            return false;
-        }
-        least = offset;
-    }
-    true
-}
-
-/// The index of the first relocation from an offset on, among relocations that ascend.
-fn first_from(relocations: &[u8], at: u64) -> usize
-    ensures within { result ≤ length relocations.now / 24 }
-    ensures before { IsAscending relocations.now
-        → (k : ℕ) → k < result → offset_at relocations.now k < at }
-    ensures behind { IsAscending relocations.now
-        → (k : ℕ) → result ≤ k → k < length relocations.now / 24
-        → at ≤ offset_at relocations.now k }
-{
-    let mut low = 0;
-    let mut high = relocations_len(relocations);
-    while low < high {
-        let middle = low + (high - low) / 2;
-        if offset_at(relocations, middle) < at {
-            low = middle + 1;
-        } else {
-            high = middle;
-        }
-    }
-    low
 }
 
 /// The index of the first relocation with a code at an offset, among relocations that ascend.

@@ -31,8 +31,8 @@ pub enum Status {
     OddDistance = 12,
     /// The distance is out of the range of `jal`.
     TooFar,
-    /// The deletions do not ascend, one reaches past the next, or one ends past 2^64 - 1 or past the
-    /// section.
+    /// The deletions do not strictly ascend, one reaches past the next, or one ends past 2^64 - 1 or
+    /// past the section.
     InvalidDeletions,
     /// Two deletions overlap or begin at one offset, or one ends past 2^64 - 1.
     NotMergeable,

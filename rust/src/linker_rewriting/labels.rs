@@ -9,7 +9,7 @@ use crate::linker_rewriting::phases::Phase;
 use crate::linker_rewriting::relocations::relocation_in;
 use crate::linker_rewriting::sequences::is_marked_at;
 use crate::linker_section::facts::{Addresses, Symbol};
-use crate::linker_section::relocations::{Rela, relocations_len};
+use crate::linker_section::relocations::{Rela, first_from, is_ascending, relocations_len};
 use crate::architecture::Relaxation;
 use crate::elf::{Architecture, Choice, LinkFacts, Operands};
 use crate::riscv64::RiscVRelocation;
@@ -21,40 +21,6 @@ fn high_code(phase: Phase) -> u32 {
         Phase::ThreadOffsets => RiscVRelocation::R_RISCV_TLSDESC_HI20.elf_code(),
         _ => RiscVRelocation::R_RISCV_GOT_HI20.elf_code(),
     }
-}
-
-/// The offset of the relocation with an index.
-#[inline(always)]
-fn offset_at(relocations: &[u8], index: usize) -> u64 {
-    relocation_in(relocations, index).offset
-}
-
-/// Whether relocations ascend by offset.
-fn is_ascending(relocations: &[u8]) -> bool {
-    let mut least = 0;
-    for index in 0..relocations_len(relocations) {
-        let offset = offset_at(relocations, index);
-        if offset < least {
-            return false;
-        }
-        least = offset;
-    }
-    true
-}
-
-/// The index of the first relocation from an offset on, among relocations that ascend.
-fn first_from(relocations: &[u8], at: u64) -> usize {
-    let mut low = 0;
-    let mut high = relocations_len(relocations);
-    while low < high {
-        let middle = low + (high - low) / 2;
-        if offset_at(relocations, middle) < at {
-            low = middle + 1;
-        } else {
-            high = middle;
-        }
-    }
-    low
 }
 
 /// The index of the first relocation with a code at an offset, among relocations that ascend.

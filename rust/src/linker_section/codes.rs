@@ -156,8 +156,7 @@ pub(crate) fn number_of(architecture: Architecture, code: u32) -> u16 {
         Architecture::Ppc64 => number_in(PPC64, code),
         Architecture::X86_64 => number_in(X86_64, code),
     };
-    let has_row = architecture.row(code).is_some();
-    debug_assert!(has_row == (number != NO_ROW));
+    debug_assert!(architecture.row(code).is_some() == (number != NO_ROW));
     number
 }
 

@@ -1,0 +1,178 @@
+-- Addresses of AArch64 that became one instruction do in the final bytes what the object's do.
+use Rattle.std.proofs.Common.{◌≡◌, ℕ, ℤ, ◌+◌, ◌-◌, ◌≤◌, List, [], ◌∷◌, length, take, drop, false, cond, refl, sym, ap, subst, ◌∙◌, arith, Some}
+use Rattle.std.proofs.lemmas.Bool.{cond-false}
+use Rattle.std.proofs.lemmas.List.{take-take, drop-drop, drop-take}
+use Rattle.std.specs.Prelude.{slice_get}
+use Rattle.linker_aarch64.specs.AArch64Rewrites.{AArch64Entry, to_adr, nop_adr, IsAdd64, AreOfOneRegister}
+use Rattle.linker_aarch64.specs.declared.rewrites.RelaxationKind.TheVariants as kinds
+use Rattle.linker_base.specs.Rewrite.{replaces}
+use Rattle.linker_elf.specs.AArch64Relocations.{aarch64_name, insn_row}
+use Rattle.linker_elf.specs.Applied.{IsApplied}
+use Rattle.linker_elf.specs.Choices.{entry}
+use Rattle.linker_elf.specs.ElfNames.{code_of}
+use Rattle.linker_elf.specs.Rows.{paged_row, signed_row, place_pages}
+use Rattle.linker_elf.specs.Value.{value_of, sum_64}
+use Rattle.linker_elf.specs.declared.aarch64.forms.AArch64Instruction.TheVariants.{Adr, Add}
+use Rattle.linker_elf.specs.declared.aarch64.relocations.AArch64Relocation.TheVariants as names
+use Rattle.linker_elf.specs.declared.elf.RelocationInstruction.TheVariants as insns
+use Rattle.linker_elf.specs.declared.elf.RelocationKind.TheVariants.{Relative}
+use Rattle.linker_elf.specs.declared.elf.RelocationKindInfo.{RelocationKindInfo}
+use Rattle.linker_elf.specs.declared.elf.RelocationSize.TheVariants.{BitMasking}
+use Rattle.linker_elf.specs.declared.elf.value.Operands.{Operands}
+use Rattle.linker_final.proofs.AArch64Chosen.{IsOfEntry, of_entry}
+use Rattle.linker_final.specs.AArch64Final.{AreOfAddress, Addresses as AddressesByAdr, IsWrittenByNoOther, MakesTheSame, instruction_at, two_at}
+use Rattle.linker_final.specs.Final.{Linked, IsLinked}
+use Rattle.linker_laws.specs.AArch64RewriteLaws.{IsPair, IsRelocated, IsRewritten, Laws, behind, pair, word_of}
+use Rattle.linker_rewriting.specs.Rewritten.{IsDone, IsMade, relocation_after}
+use Rattle.linker_section.proofs.Fronts.{same_window}
+use Rattle.linker_section.specs.Relocations.{relocation_in}
+use Rattle.linker_section.specs.Values.{operands_with}
+use Rattle.linker_section.specs.declared.facts.Addresses.{Addresses}
+use Rattle.linker_section.specs.declared.facts.Symbol.{Symbol}
+use Rattle.linker_section.specs.declared.relocations.Rela.{Rela}
+use Rattle.linker_utils.specs.Architectures.{relaxation_rewrite}
+use Rattle.linker_utils.specs.declared.elf.Architecture.TheVariants.{AArch64}
+use Rattle.linker_final.proofs.AArch64Written.{IsAfter, applied_there, free_but, rela, unwritten, with_operands, word_same}
+use Rattle.linker_laws.specs.AArch64Machine.{RunAlike}
+
+-- ---- rows
+
+abbrev page_row : RelocationKindInfo
+page_row = paged_row place_pages (signed_row 33 (insn_row Relative 12 33 Adr))
+
+abbrev adr_after : IsAfter names.R_AARCH64_ADR_PREL_LO21
+adr_after =
+    record {
+      row = signed_row 21 (insn_row Relative 0 21 Adr);
+      is = refl;
+      named = tt;
+      of = record {
+        bits = record { start = 0; end = 21 };
+        insn = insns.AArch64 Adr;
+        size = refl;
+        wide = refl;
+        valued = refl;
+        unlabelled = refl;
+        alone = refl;
+        some = λ o. tt;
+      };
+      entryless = λ addresses symbol r. refl;
+    }
+
+-- ---- two instructions
+
+-- the second of them
+second_same : (bytes : List ℕ) (o : ℕ) → drop 4 (two_at bytes o) ≡ instruction_at bytes (o + 4)
+second_same bytes o = drop-take 4 4 (drop o bytes) ∙ ap (take 4) (drop-drop 4 o bytes)
+
+first_same : (bytes : List ℕ) (o : ℕ) → word_of (two_at bytes o) ≡ word_of (instruction_at bytes o)
+first_same bytes o =
+    same_window (BitMasking (record { start = 0; end = 12 }) (insns.AArch64 Add)) (two_at bytes o) (instruction_at bytes o)
+    (take-take 4 8 (drop o bytes) (omega arith) ∙ sym (take-take 4 4 (drop o bytes) (omega arith)))
+
+-- ---- operands
+
+module _ (addresses : Addresses) (symbol : Symbol) (is_there : symbol.is_undefined_weak ≡ false)
+    (r : Rela) (code : ℕ) where
+  there : (weak : ℕ) → cond symbol.is_undefined_weak weak symbol.address ≡ symbol.address
+  there weak = cond-false symbol.is_undefined_weak weak symbol.address is_there
+
+  abbrev was : Operands
+  was = operands_with AArch64 addresses page_row symbol r 0
+
+  abbrev is : Operands
+  is = operands_with AArch64 addresses adr_after.row symbol (rela (r.offset + 4) code r.symbol r.addend) 0
+
+  place_same : sum_64 (sum_64 addresses.section r.offset) 4 ≡ sum_64 addresses.section (r.offset + 4)
+  place_same = omega arith
+
+  pub adr_value : (addend : ℤ) → addend ≡ r.addend
+      → value_of adr_after.row (behind 4 was)
+      ≡ value_of adr_after.row (operands_with AArch64 addresses adr_after.row symbol (rela (r.offset + 4) code r.symbol addend) 0)
+  adr_value addend same =
+      ap (λ x. value_of adr_after.row (record was { symbol = x; place = sum_64 (sum_64 addresses.section r.offset) 4 })) (there _ ∙ sym (there _))
+      ∙ (ap (λ x. value_of adr_after.row (record is { place = x })) place_same
+      ∙ ap (λ x. value_of adr_after.row (operands_with AArch64 addresses adr_after.row symbol (rela (r.offset + 4) code r.symbol x) 0)) (sym same))
+
+-- ---- a pair
+
+module _ (laws : Laws) (l : Linked) (linked : IsLinked l) (aarch64 : l.setting.architecture ≡ AArch64)
+    (i j : ℕ) (of : AreOfAddress l i j) (alone : IsWrittenByNoOther l i (relocation_in l.relocations i).offset) where
+  abbrev first : Rela
+  first = relocation_in l.relocations i
+
+  abbrev second : Rela
+  second = relocation_in l.relocations j
+
+  abbrev e : AArch64Entry
+  e = entry kinds.AdrpAddToNopAdr names.R_AARCH64_ADR_PREL_LO21 to_adr
+
+  by : IsOfEntry names.R_AARCH64_ADD_ABS_LO12_NC (entry kinds.AdrpAddToNopAdr names.R_AARCH64_ADR_PREL_LO21 to_adr) l.section second.offset of.low_chosen
+  by =
+      of_entry l linked aarch64 j of.low_chosen of.together.second_below of.low_decided names.R_AARCH64_ADD_ABS_LO12_NC tt of.low
+      (entry kinds.AdrpAddToNopAdr names.R_AARCH64_ADR_PREL_LO21 to_adr) refl
+
+  back : second.offset - 4 ≡ first.offset
+  back = let next = of.together.next in omega (arith, next)
+
+  made_two : IsRewritten kinds.AdrpAddToNopAdr (two_at l.section first.offset) (two_at l.rewritten first.offset)
+  made_two =
+      let done : IsMade (relaxation_rewrite of.low_chosen.kind) second.offset l.section l.rewritten =
+      subst (λ d. IsDone d second.offset l.section l.rewritten) of.low_decided (linked.done j of.together.second_below) in
+      let made : IsMade (Some (replaces 4 8 nop_adr)) second.offset l.section l.rewritten =
+      subst (λ k. IsMade (relaxation_rewrite k) second.offset l.section l.rewritten) by.kind_is done in
+      let here : two_at l.rewritten first.offset ≡ nop_adr (two_at l.section first.offset) =
+      subst (λ n. take 8 (drop n l.rewritten) ≡ nop_adr (take 8 (drop n l.section))) back made in
+      take-take 8 8 (drop first.offset l.rewritten) (omega arith)
+      ∙ (here ∙ ap nop_adr (sym (take-take 8 8 (drop first.offset l.section) (omega arith))))
+
+  pub makes_the_same : MakesTheSame l i page_row
+  makes_the_same symbol is_symbol is_there s adrp add small at of_page of_low =
+      let o = first.offset in
+      let w = operands_with AArch64 l.addresses page_row symbol first 0 in
+      let next = of.together.next in
+      let inside = by.matches.1.1.0 in
+      let code = code_of (aarch64_name names.R_AARCH64_ADR_PREL_LO21) in
+      let section_long : o + 8 ≤ length l.section = omega (arith, inside, next) in
+      let is_add : IsAdd64 (word_of (drop (o + 4) l.section)) =
+      subst (λ n. IsAdd64 (word_of (drop n l.section))) next (by.matches.1.1.1.0) in
+      let one : AreOfOneRegister (word_of (drop o l.section)) (word_of (drop (o + 4) l.section)) =
+      subst (λ n. AreOfOneRegister (word_of (drop n l.section)) (word_of (drop (o + 4) l.section))) back
+      (subst (λ n. AreOfOneRegister (word_of (drop (second.offset - 4) l.section)) (word_of (drop n l.section))) next (by.matches.1.1.1.1)) in
+      let word_first : word_of (drop o l.section) ≡ word_of (two_at l.section o) = word_same l.section o ∙ sym (first_same l.section o) in
+      let word_second : word_of (drop (o + 4) l.section) ≡ word_of (drop 4 (two_at l.section o)) =
+      word_same l.section (o + 4) ∙ ap word_of (sym (second_same l.section o)) in
+      let together : IsPair IsAdd64 w s (two_at l.section o) (drop 4 (two_at l.section o)) =
+      record {
+        small = small;
+        at = at;
+        one_register =
+            subst (λ x. AreOfOneRegister x (word_of (drop 4 (two_at l.section o)))) word_first
+            (subst (λ x. AreOfOneRegister (word_of (drop o l.section)) x) word_second one);
+        second_is = subst IsAdd64 word_second is_add;
+      } in
+      let low : IsRelocated names.R_AARCH64_ADD_ABS_LO12_NC (behind 4 w) (drop 4 (two_at l.section o)) add =
+      subst (λ xs. IsRelocated names.R_AARCH64_ADD_ABS_LO12_NC (behind 4 w) xs add) (sym (second_same l.section o)) of_low in
+      let there : IsApplied adr_after.row (operands_with AArch64 l.addresses adr_after.row symbol (rela (o + 4) code second.symbol second.addend) 0) (instruction_at l.rewritten (o + 4)) (instruction_at l.final (o + 4)) =
+      subst (λ n. IsApplied adr_after.row (operands_with AArch64 l.addresses adr_after.row symbol (rela n code second.symbol second.addend) 0) (instruction_at l.rewritten n) (instruction_at l.final n)) next
+      (applied_there l linked aarch64 j of.low_chosen of.together.second_below of.low_decided e
+      by.kind_is by.code_is (λ o. refl) (λ a. refl) adr_after symbol
+      (ap (slice_get l.symbols) of.together.same_symbol ∙ is_symbol)) in
+      let written : IsApplied adr_after.row (behind 4 w) (drop 4 (two_at l.rewritten o)) (instruction_at l.final (o + 4)) =
+      subst (λ xs. IsApplied adr_after.row (behind 4 w) xs (instruction_at l.final (o + 4))) (sym (second_same l.rewritten o))
+      (with_operands adr_after.row
+      (operands_with AArch64 l.addresses adr_after.row symbol (rela (o + 4) code second.symbol second.addend) 0)
+      (behind 4 w) (instruction_at l.rewritten (o + 4)) (instruction_at l.final (o + 4))
+      (adr_value l.addresses symbol is_there first code second.addend of.together.same_addend) there) in
+      let gone : (relocation_in l.relocations_after i).code ≡ 0 =
+      ap (λ (x : Rela). x.code) (linked.relocations i of.together.first_below ∙ ap (λ d. relocation_after d first) of.page_decided) in
+      let stays : instruction_at l.final o ≡ instruction_at l.rewritten o =
+      unwritten l linked o (omega (arith, section_long)) (free_but l linked aarch64 i o gone alone) in
+      let word : word_of (two_at l.rewritten o) ≡ word_of (instruction_at l.final o) =
+      first_same l.rewritten o ∙ ap word_of (sym stays) in
+      subst (λ x. RunAlike (pair adrp add) (x ∷ word_of (instruction_at l.final (o + 4)) ∷ []) s) word
+      (laws.address.0 w s (two_at l.section o) (two_at l.rewritten o) together made_two adrp add (instruction_at l.final (o + 4))
+      of_page low written)
+
+pub addresses : Laws → AddressesByAdr
+addresses laws l linked aarch64 i j of alone = makes_the_same laws l linked aarch64 i j of alone

@@ -1,0 +1,174 @@
+-- Rewritten loads from the GOT of AArch64 do in the final bytes what the object's do.
+use Rattle.std.proofs.Common.{◌≡◌, ℕ, ℤ, ◌+◌, ◌-◌, drop, false, cond, refl, sym, ap, subst, ◌∙◌, arith}
+use Rattle.std.proofs.lemmas.Bool.{cond-false}
+use Rattle.std.specs.Prelude.{slice_get}
+use Rattle.linker_aarch64.specs.AArch64Rewrites.{is_ldr64, to_address, IsLdr64, AreOfOneRegister}
+use Rattle.linker_aarch64.specs.declared.rewrites.RelaxationKind.TheVariants as kinds
+use Rattle.linker_base.specs.Bits.{field}
+use Rattle.linker_elf.specs.AArch64Relocations.{aarch64_name, insn_row}
+use Rattle.linker_elf.specs.Applied.{IsApplied}
+use Rattle.linker_elf.specs.Choices.{entry}
+use Rattle.linker_elf.specs.ElfNames.{code_of}
+use Rattle.linker_elf.specs.Rows.{paged_row, signed_row, place_pages, entry_pages}
+use Rattle.linker_elf.specs.Value.{value_of}
+use Rattle.linker_elf.specs.declared.aarch64.forms.AArch64Instruction.TheVariants.{Adr, Add}
+use Rattle.linker_elf.specs.declared.aarch64.relocations.AArch64Relocation.TheVariants as names
+use Rattle.linker_elf.specs.declared.elf.RelocationInstruction.TheVariants as insns
+use Rattle.linker_elf.specs.declared.elf.RelocationKind.TheVariants.{Relative, AbsoluteLowPart, GotRelative}
+use Rattle.linker_elf.specs.declared.elf.RelocationKindInfo.{RelocationKindInfo}
+use Rattle.linker_elf.specs.declared.elf.value.Operands.{Operands}
+use Rattle.linker_final.proofs.AArch64Chosen.{IsOfEntry, of_entry}
+use Rattle.linker_final.specs.AArch64Final.{AreOfLoad, GotLoads, IsRewrittenByNoOther, LoadsTheSame, instruction_at}
+use Rattle.linker_final.specs.Final.{Linked, IsLinked}
+use Rattle.linker_laws.specs.AArch64RewriteLaws.{IsPair, IsRewritten, Laws, behind, word_of}
+use Rattle.linker_section.specs.Relocations.{relocation_in}
+use Rattle.linker_section.specs.Values.{operands_with}
+use Rattle.linker_section.specs.declared.facts.Addresses.{Addresses}
+use Rattle.linker_section.specs.declared.facts.Symbol.{Symbol}
+use Rattle.linker_section.specs.declared.relocations.Rela.{Rela}
+use Rattle.linker_utils.specs.declared.elf.Architecture.TheVariants.{AArch64}
+use Rattle.linker_final.proofs.AArch64Written.{IsAfter, applied_there, becomes, rela, stays, with_operands, word_same}
+
+-- ---- rows
+
+abbrev got_row : RelocationKindInfo
+got_row = paged_row entry_pages (signed_row 33 (insn_row GotRelative 12 33 Adr))
+
+abbrev page_after : IsAfter names.R_AARCH64_ADR_PREL_PG_HI21
+page_after =
+    record {
+      row = paged_row place_pages (signed_row 33 (insn_row Relative 12 33 Adr));
+      is = refl;
+      named = tt;
+      of = record {
+        bits = record { start = 12; end = 33 };
+        insn = insns.AArch64 Adr;
+        size = refl;
+        wide = refl;
+        valued = refl;
+        unlabelled = refl;
+        alone = refl;
+        some = λ o. tt;
+      };
+      entryless = λ addresses symbol r. refl;
+    }
+
+abbrev low_after : IsAfter names.R_AARCH64_ADD_ABS_LO12_NC
+low_after =
+    record {
+      row = insn_row AbsoluteLowPart 0 12 Add;
+      is = refl;
+      named = tt;
+      of = record {
+        bits = record { start = 0; end = 12 };
+        insn = insns.AArch64 Add;
+        size = refl;
+        wide = refl;
+        valued = refl;
+        unlabelled = refl;
+        alone = refl;
+        some = λ o. tt;
+      };
+      entryless = λ addresses symbol r. refl;
+    }
+
+-- ---- the operands of a pair
+
+module _ (addresses : Addresses) (symbol : Symbol) (is_there : symbol.is_undefined_weak ≡ false)
+    (r : Rela) (code entry : ℕ) where
+  -- S of a symbol that isn't an undefined weak one
+  there : (weak : ℕ) → cond symbol.is_undefined_weak weak symbol.address ≡ symbol.address
+  there weak = cond-false symbol.is_undefined_weak weak symbol.address is_there
+
+  abbrev was : Operands
+  was = operands_with AArch64 addresses got_row symbol r entry
+
+  abbrev page_operands : Operands
+  page_operands = operands_with AArch64 addresses page_after.row symbol (rela r.offset code r.symbol r.addend) 0
+
+  abbrev low_operands : Operands
+  low_operands = operands_with AArch64 addresses low_after.row symbol (rela r.offset code r.symbol r.addend) 0
+
+  pub page_value : value_of page_after.row was ≡ value_of page_after.row page_operands
+  page_value =
+      ap (λ x. value_of page_after.row (record was { symbol = x })) (there _ ∙ sym (there _))
+
+  pub low_value : (offset : ℕ) (addend : ℤ) → addend ≡ r.addend
+      → value_of low_after.row (behind 4 was)
+      ≡ value_of low_after.row (operands_with AArch64 addresses low_after.row symbol (rela offset code r.symbol addend) 0)
+  low_value offset addend same =
+      ap (λ x. value_of low_after.row (record was { symbol = x })) (there _ ∙ sym (there _))
+      ∙ ap (λ x. value_of low_after.row (record low_operands { addend = x })) (sym same)
+
+-- ---- a pair
+
+module _ (laws : Laws) (l : Linked) (linked : IsLinked l) (aarch64 : l.setting.architecture ≡ AArch64)
+    (i j : ℕ) (of : AreOfLoad l i j) (alone : IsRewrittenByNoOther l i (relocation_in l.relocations i).offset) where
+  abbrev first : Rela
+  first = relocation_in l.relocations i
+
+  abbrev second : Rela
+  second = relocation_in l.relocations j
+
+  page_entry : IsOfEntry names.R_AARCH64_ADR_GOT_PAGE (entry kinds.NoOp names.R_AARCH64_ADR_PREL_PG_HI21 (to_address 0)) l.section first.offset of.page_chosen
+  page_entry =
+      of_entry l linked aarch64 i of.page_chosen of.together.first_below of.page_decided names.R_AARCH64_ADR_GOT_PAGE tt of.page
+      (entry kinds.NoOp names.R_AARCH64_ADR_PREL_PG_HI21 (to_address 0)) refl
+
+  low_entry : IsOfEntry names.R_AARCH64_LD64_GOT_LO12_NC (entry kinds.LdrToAdd names.R_AARCH64_ADD_ABS_LO12_NC (to_address 4)) l.section second.offset of.low_chosen
+  low_entry =
+      of_entry l linked aarch64 j of.low_chosen of.together.second_below of.low_decided names.R_AARCH64_LD64_GOT_LO12_NC tt of.low
+      (entry kinds.LdrToAdd names.R_AARCH64_ADD_ABS_LO12_NC (to_address 4)) refl
+
+  pub loads_the_same : LoadsTheSame l i got_row
+  loads_the_same symbol is_symbol is_there got s adrp ldr small holds at of_entry_page of_entry_low =
+      let o = first.offset in
+      let w = operands_with AArch64 l.addresses got_row symbol first got in
+      let next = of.together.next in
+      let asked = low_entry.asked in
+      let inside = asked.1.1.0 in
+      let back : second.offset - 4 ≡ o = omega (arith, next) in
+      let is_ldr : IsLdr64 (word_of (drop (o + 4) l.section)) =
+      subst (λ n. IsLdr64 (word_of (drop n l.section))) next (asked.1.1.1.0) in
+      let one : AreOfOneRegister (word_of (drop o l.section)) (word_of (drop (o + 4) l.section)) =
+      subst (λ n. AreOfOneRegister (word_of (drop n l.section)) (word_of (drop (o + 4) l.section))) back
+      (subst (λ n. AreOfOneRegister (word_of (drop (second.offset - 4) l.section)) (word_of (drop n l.section))) next (asked.1.1.1.1)) in
+      let together : IsPair IsLdr64 w s (instruction_at l.section o) (instruction_at l.section (o + 4)) =
+      record {
+        small = small;
+        at = at;
+        one_register =
+            subst (λ x. AreOfOneRegister x (word_of (instruction_at l.section (o + 4)))) (word_same l.section o)
+            (subst (λ x. AreOfOneRegister (word_of (drop o l.section)) x) (word_same l.section (o + 4)) one);
+        second_is = subst IsLdr64 (word_same l.section (o + 4)) is_ldr;
+      } in
+      let stayed : instruction_at l.rewritten o ≡ instruction_at l.section o =
+      stays l linked i of.page_chosen of.together.first_below of.page_decided page_entry.kind_is alone (omega (arith, inside, next)) in
+      let page_written : IsApplied page_after.row w (instruction_at l.section o) (instruction_at l.final o) =
+      with_operands page_after.row
+      (operands_with AArch64 l.addresses page_after.row symbol (rela o (code_of (aarch64_name names.R_AARCH64_ADR_PREL_PG_HI21)) first.symbol first.addend) 0)
+      w (instruction_at l.section o) (instruction_at l.final o)
+      (page_value l.addresses symbol is_there first (code_of (aarch64_name names.R_AARCH64_ADR_PREL_PG_HI21)) got)
+      (subst (λ xs. IsApplied page_after.row (operands_with AArch64 l.addresses page_after.row symbol (rela o (code_of (aarch64_name names.R_AARCH64_ADR_PREL_PG_HI21)) first.symbol first.addend) 0) xs (instruction_at l.final o)) stayed
+      (applied_there l linked aarch64 i of.page_chosen of.together.first_below of.page_decided
+      (entry kinds.NoOp names.R_AARCH64_ADR_PREL_PG_HI21 (to_address 0))
+      page_entry.kind_is page_entry.code_is (λ o. refl) (λ a. refl) page_after symbol is_symbol)) in
+      let low_written : IsApplied low_after.row (behind 4 w) (instruction_at l.rewritten (o + 4)) (instruction_at l.final (o + 4)) =
+      with_operands low_after.row
+      (operands_with AArch64 l.addresses low_after.row symbol (rela second.offset (code_of (aarch64_name names.R_AARCH64_ADD_ABS_LO12_NC)) second.symbol second.addend) 0)
+      (behind 4 w) (instruction_at l.rewritten (o + 4)) (instruction_at l.final (o + 4))
+      (low_value l.addresses symbol is_there first (code_of (aarch64_name names.R_AARCH64_ADD_ABS_LO12_NC)) got second.offset second.addend of.together.same_addend)
+      (subst (λ n. IsApplied low_after.row (operands_with AArch64 l.addresses low_after.row symbol (rela second.offset (code_of (aarch64_name names.R_AARCH64_ADD_ABS_LO12_NC)) second.symbol second.addend) 0) (instruction_at l.rewritten n) (instruction_at l.final n)) next
+      (applied_there l linked aarch64 j of.low_chosen of.together.second_below of.low_decided
+      (entry kinds.LdrToAdd names.R_AARCH64_ADD_ABS_LO12_NC (to_address 4))
+      low_entry.kind_is low_entry.code_is (λ o. refl) (λ a. refl) low_after symbol
+      (ap (slice_get l.symbols) of.together.same_symbol ∙ is_symbol))) in
+      let added : IsRewritten kinds.LdrToAdd (instruction_at l.section (o + 4)) (instruction_at l.rewritten (o + 4)) =
+      subst (λ n. IsRewritten kinds.LdrToAdd (instruction_at l.section n) (instruction_at l.rewritten n)) next
+      (becomes l linked j of.low_chosen of.together.second_below of.low_decided kinds.LdrToAdd is_ldr64 (λ word. 0x91000000 + field word 0 21) refl low_entry.kind_is) in
+      laws.got w s (instruction_at l.section o) (instruction_at l.section (o + 4)) (instruction_at l.rewritten (o + 4))
+      together holds added adrp ldr (instruction_at l.final o) (instruction_at l.final (o + 4))
+      of_entry_page of_entry_low page_written low_written
+
+pub joined : Laws → GotLoads
+joined laws l linked aarch64 i j of alone = loads_the_same laws l linked aarch64 i j of alone

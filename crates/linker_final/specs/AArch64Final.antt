@@ -1,0 +1,213 @@
+-- AArch64: in the final bytes of a section rewritten instructions do what the object's do with the values
+-- of their relocations (ELF for the Arm 64-bit Architecture, "Relocation optimization", and the sequences
+-- of thread-local storage).
+use Rattle.std.specs.Prelude.{◌≡◌, ◌≢◌, ◌⊎◌, ℕ, ◌+◌, ◌<◌, ◌≤◌, ◌==◌, List, [], ◌∷◌, take, drop, Some, IsSomeAnd}
+use Rattle.std.specs.Prelude.{slice_get, Bool, false}
+use Rattle.linker_aarch64.specs.AArch64Rewrites.{rd_of}
+use Rattle.linker_elf.specs.AArch64Relocations.{aarch64_name, aarch64_row}
+use Rattle.linker_elf.specs.ElfNames.{IsNameOf}
+use Rattle.linker_elf.specs.declared.aarch64.relocations.AArch64Relocation.{AArch64Relocation}
+use Rattle.linker_elf.specs.declared.aarch64.relocations.AArch64Relocation.TheVariants as names
+use Rattle.linker_elf.specs.declared.elf.RelocationKindInfo.{RelocationKindInfo}
+use Rattle.linker_elf.specs.declared.elf.choice.Choice.{Choice}
+use Rattle.linker_final.specs.Final.{Linked, IsLinked, count}
+use Rattle.linker_laws.specs.AArch64Machine.{State, load_64, RunAlike, RunAlikeBut, next_pc}
+use Rattle.linker_laws.specs.AArch64RewriteLaws.{IsRelocated, Changes, AgreeBut, HasHigh, StepSo, behind, pair, thread_offset, with_register, without_register, word_of}
+use Rattle.linker_laws.specs.Schemes.{AreAddresses, plt_address, symbol_address}
+use Rattle.linker_rewriting.specs.Decisions.{decision_at, start_at, written_end_at}
+use Rattle.linker_rewriting.specs.declared.decisions.Decision.TheVariants.{Rewritten, TakenAlong}
+use Rattle.linker_section.specs.Relocations.{relocation_in}
+use Rattle.linker_section.specs.Fields.{IsField, field_end}
+use Rattle.linker_section.specs.Values.{offset_at, operands_with}
+use Rattle.linker_section.specs.declared.facts.Symbol.{Symbol}
+use Rattle.linker_utils.specs.declared.architecture.Relaxation.{Relaxation}
+use Rattle.linker_utils.specs.declared.elf.Architecture.TheVariants.{AArch64}
+
+-- the bytes of the instruction at an offset
+abbrev pub instruction_at : List ℕ → ℕ → List ℕ
+instruction_at bytes o = take 4 (drop o bytes)
+
+-- no rewrite of another relocation than the one at an index has a byte of the instruction at an offset
+abbrev pub IsRewrittenByNoOther : Linked → ℕ → ℕ → Type 0
+IsRewrittenByNoOther l i o =
+    (j at : ℕ) → j < count l → j ≢ i → o ≤ at → at < o + 4
+    → (at < start_at l.relocations l.decisions j) ⊎ (written_end_at l.relocations l.decisions j ≤ at)
+
+-- nor has a field of another
+abbrev pub IsWrittenByNoOther : Linked → ℕ → ℕ → Type 0
+IsWrittenByNoOther l i o =
+    (j at : ℕ) → j < count l → j ≢ i → o ≤ at → at < o + 4
+    → (row : RelocationKindInfo)
+    → IsField l.setting.architecture l.relocations_after l.rewritten j row
+    → (at < offset_at l.relocations_after j)
+    ⊎ (field_end l.relocations_after l.rewritten j row ≤ at)
+
+-- The relocations at two indexes are of one S + A, and the second is of the instruction behind that of
+-- the first.
+pub record AreNext (l : Linked) (i j : ℕ) : Type 0 where
+  pub first_below : i < count l
+  pub second_below : j < count l
+  pub next : (relocation_in l.relocations j).offset ≡ (relocation_in l.relocations i).offset + 4
+  pub same_symbol : (relocation_in l.relocations j).symbol ≡ (relocation_in l.relocations i).symbol
+  pub same_addend : (relocation_in l.relocations j).addend ≡ (relocation_in l.relocations i).addend
+
+-- ---- loads of addresses from the GOT
+
+-- They are those of an `adrp` and of the `ldr` behind it, and both are rewritten.
+pub record AreOfLoad (l : Linked) (i j : ℕ) : Type 0 where
+  pub together : AreNext l i j
+  pub page : IsNameOf aarch64_name (relocation_in l.relocations i).code names.R_AARCH64_ADR_GOT_PAGE
+  pub low :
+      IsNameOf aarch64_name (relocation_in l.relocations j).code names.R_AARCH64_LD64_GOT_LO12_NC
+  pub page_chosen : Choice Relaxation ℕ
+  pub page_decided : decision_at l.decisions i ≡ Rewritten page_chosen
+  pub low_chosen : Choice Relaxation ℕ
+  pub low_decided : decision_at l.decisions j ≡ Rewritten low_chosen
+
+-- From any state before the `adrp` of a relocation at an index, where the entry at an address holds
+-- S + A, the final bytes of the pair run and end as the object's with their relocations' values do.
+-- The symbol isn't an undefined weak one.
+abbrev pub LoadsTheSame : Linked → ℕ → RelocationKindInfo → Type 0
+LoadsTheSame l i row =
+    let r = relocation_in l.relocations i in
+    (symbol : Symbol) → slice_get l.symbols r.symbol ≡ Some symbol → symbol.is_undefined_weak ≡ false
+    → (entry : ℕ) (s : State) (adrp ldr : List ℕ)
+    → let operands = operands_with AArch64 l.addresses row symbol r entry in
+    AreAddresses operands
+    → load_64 s.memory entry ≡ symbol_address operands
+    → s.pc ≡ operands.place
+    → IsRelocated names.R_AARCH64_ADR_GOT_PAGE operands (instruction_at l.section r.offset) adrp
+    → IsRelocated names.R_AARCH64_LD64_GOT_LO12_NC (behind 4 operands)
+    (instruction_at l.section (r.offset + 4)) ldr
+    → RunAlike (pair adrp ldr)
+    (pair (instruction_at l.final r.offset) (instruction_at l.final (r.offset + 4))) s
+
+-- ---- addresses by `adr`
+
+-- They are those of an `adrp` and of the `add` behind it. The second is rewritten, which takes the first
+-- along.
+pub record AreOfAddress (l : Linked) (i j : ℕ) : Type 0 where
+  pub together : AreNext l i j
+  pub low :
+      IsNameOf aarch64_name (relocation_in l.relocations j).code names.R_AARCH64_ADD_ABS_LO12_NC
+  pub page_decided : decision_at l.decisions i ≡ TakenAlong
+  pub low_chosen : Choice Relaxation ℕ
+  pub low_decided : decision_at l.decisions j ≡ Rewritten low_chosen
+
+-- the bytes of the two instructions from an offset on
+abbrev pub two_at : List ℕ → ℕ → List ℕ
+two_at bytes o = take 8 (drop o bytes)
+
+-- From any state before the `adrp` the final bytes of the pair, `nop` and `adr`, run and end as the
+-- object's with their relocations' values do. The symbol isn't an undefined weak one.
+abbrev pub MakesTheSame : Linked → ℕ → RelocationKindInfo → Type 0
+MakesTheSame l i row =
+    let r = relocation_in l.relocations i in
+    (symbol : Symbol) → slice_get l.symbols r.symbol ≡ Some symbol → symbol.is_undefined_weak ≡ false
+    → (s : State) (adrp add : List ℕ)
+    → let operands = operands_with AArch64 l.addresses row symbol r 0 in
+    AreAddresses operands → s.pc ≡ operands.place
+    → IsRelocated names.R_AARCH64_ADR_PREL_PG_HI21 operands (two_at l.section r.offset) adrp
+    → IsRelocated names.R_AARCH64_ADD_ABS_LO12_NC (behind 4 operands)
+    (instruction_at l.section (r.offset + 4)) add
+    → RunAlike (pair adrp add)
+    (pair (instruction_at l.final r.offset) (instruction_at l.final (r.offset + 4))) s
+
+-- ---- the halves of initial-exec
+
+-- Two states agree but for what high halves put in registers. The instruction of a relocation at an
+-- index is executed: in one of them the object's with the value of its relocation, and in the other the
+-- final bytes. Then they agree but for its register, which has the high part of the variable's offset.
+abbrev pub HighDoesTheSame : Linked → ℕ → RelocationKindInfo → Type 0
+HighDoesTheSame l i row =
+    let r = relocation_in l.relocations i in
+    let n = rd_of (word_of (instruction_at l.section r.offset)) in
+    (symbol : Symbol) → slice_get l.symbols r.symbol ≡ Some symbol
+    → (entry : ℕ) (s t : State) (c : Changes) (adrp : List ℕ)
+    → let operands = operands_with AArch64 l.addresses row symbol r entry in
+    AreAddresses operands → s.pc ≡ operands.place → AgreeBut c s t → n ≢ 31
+    → IsRelocated names.R_AARCH64_TLSIE_ADR_GOTTPREL_PAGE21 operands (instruction_at l.section r.offset)
+    adrp
+    → StepSo (word_of adrp) s (word_of (instruction_at l.final r.offset)) t
+    (λ u v. AgreeBut (with_register n c) u v × HasHigh n operands u v)
+
+-- From states whose register has that, and where the GOT's entry holds the offset, the low half leaves
+-- the offset in both.
+abbrev pub LowDoesTheSame : Linked → ℕ → RelocationKindInfo → Type 0
+LowDoesTheSame l i row =
+    let r = relocation_in l.relocations i in
+    let n = rd_of (word_of (instruction_at l.section r.offset)) in
+    (symbol : Symbol) → slice_get l.symbols r.symbol ≡ Some symbol
+    → (entry : ℕ) (s t : State) (c : Changes) (ldr : List ℕ)
+    → let operands = operands_with AArch64 l.addresses row symbol r entry in
+    AreAddresses operands → load_64 s.memory entry ≡ thread_offset operands
+    → HasHigh n operands s t → AgreeBut c s t
+    → IsRelocated names.R_AARCH64_TLSIE_LD64_GOTTPREL_LO12_NC operands
+    (instruction_at l.section r.offset) ldr
+    → StepSo (word_of ldr) s (word_of (instruction_at l.final r.offset)) t
+    (AgreeBut (without_register n c))
+
+-- ---- branches to undefined weak symbols
+
+-- A branch that goes on behind itself, by the value of its relocation, does so in the final bytes,
+-- where no other relocation has a field in it. Registers may differ that are named.
+abbrev pub BranchDoesTheSame : AArch64Relocation → (ℕ → Bool) → Linked → ℕ → RelocationKindInfo → Type 0
+BranchDoesTheSame name differing l i row =
+    let r = relocation_in l.relocations i in
+    IsWrittenByNoOther l i r.offset
+    → (symbol : Symbol) → slice_get l.symbols r.symbol ≡ Some symbol
+    → (s : State) (branch : List ℕ)
+    → let operands = operands_with AArch64 l.addresses row symbol r 0 in
+    AreAddresses operands → s.pc ≡ operands.place → plt_address operands ≡ next_pc s
+    → IsRelocated name operands (instruction_at l.section r.offset) branch
+    → RunAlikeBut differing (word_of branch ∷ [])
+    (word_of (instruction_at l.final r.offset) ∷ []) s
+
+-- ---- the laws
+
+-- of every load of an address from the GOT that a linker rewrites, where no other rewrite has a byte
+-- of the `adrp`
+abbrev pub GotLoads : Type 0
+GotLoads =
+    (l : Linked) → IsLinked l → l.setting.architecture ≡ AArch64
+    → (i j : ℕ) → AreOfLoad l i j
+    → IsRewrittenByNoOther l i (relocation_in l.relocations i).offset
+    → IsSomeAnd (aarch64_row names.R_AARCH64_ADR_GOT_PAGE) (LoadsTheSame l i)
+
+-- of each relocation of a name whose instruction is rewritten, with a row
+abbrev pub EachRewritten : AArch64Relocation → AArch64Relocation
+    → (Linked → ℕ → RelocationKindInfo → Type 0) → Type 0
+EachRewritten name of_row Holds =
+    (l : Linked) → IsLinked l → l.setting.architecture ≡ AArch64
+    → (i : ℕ) (chosen : Choice Relaxation ℕ) → i < count l
+    → IsNameOf aarch64_name (relocation_in l.relocations i).code name
+    → decision_at l.decisions i ≡ Rewritten chosen
+    → IsSomeAnd (aarch64_row of_row) (Holds l i)
+
+-- of every half of initial-exec: S is an offset of the thread's, as in the relocation after
+abbrev pub HighHalves : Type 0
+HighHalves =
+    EachRewritten names.R_AARCH64_TLSIE_ADR_GOTTPREL_PAGE21 names.R_AARCH64_TLSLE_MOVW_TPREL_G1
+    HighDoesTheSame
+
+abbrev pub LowHalves : Type 0
+LowHalves =
+    EachRewritten names.R_AARCH64_TLSIE_LD64_GOTTPREL_LO12_NC names.R_AARCH64_TLSLE_MOVW_TPREL_G1
+    LowDoesTheSame
+
+-- of every branch to an undefined weak symbol: `bl` also writes X30
+abbrev pub Branches : Type 0
+Branches =
+    EachRewritten names.R_AARCH64_JUMP26 names.R_AARCH64_JUMP26
+    (BranchDoesTheSame names.R_AARCH64_JUMP26 (λ _. false))
+    × EachRewritten names.R_AARCH64_CALL26 names.R_AARCH64_CALL26
+    (BranchDoesTheSame names.R_AARCH64_CALL26 (λ n. n == 30))
+
+-- of every address by two instructions that a linker makes by one, where no other relocation has a
+-- field in the first
+abbrev pub Addresses : Type 0
+Addresses =
+    (l : Linked) → IsLinked l → l.setting.architecture ≡ AArch64
+    → (i j : ℕ) → AreOfAddress l i j
+    → IsWrittenByNoOther l i (relocation_in l.relocations i).offset
+    → IsSomeAnd (aarch64_row names.R_AARCH64_ADR_PREL_PG_HI21) (MakesTheSame l i)
