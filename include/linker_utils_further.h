@@ -280,9 +280,10 @@ static inline uint32_t linker_utils_write_stub(uint16_t machine, uint32_t kind, 
  * to the address that its word of `.got.plt` has. That is the function's only once the dynamic linker
  * has looked it up; until then the word leads on to the header, which jumps to the dynamic linker. */
 struct linker_utils_lazy_plt {
-    uint64_t header_len, entry_len; /* in bytes */
-    uint64_t alignment;             /* what addresses of both are multiples of */
-    uint64_t header_words;          /* how many words `.got.plt` has before those of entries */
+    uint64_t header_len;   /* in bytes */
+    uint64_t entry_len;    /* in bytes */
+    uint64_t alignment;    /* what addresses of both are multiples of */
+    uint64_t header_words; /* how many words `.got.plt` has before those of entries */
 };
 
 /* The lazy PLT of an architecture, into `plt`. */

@@ -1286,7 +1286,8 @@ static struct buffer *stub_shape(void) {
     struct buffer *buffer = place(READ, 1, sizeof(struct linker_utils_stub_shape));
     *(struct linker_utils_stub_shape *)filled(buffer) = (struct linker_utils_stub_shape){
         .len = once_in(20) ? any_number() : 12, .unit = once_in(20) ? below(3) : 4,
-        .max_backward = 1 << 20, .max_forward = once_in(20) ? below(256) : 1 << 20};
+        .max_backward = once_in(4) ? below(256) : 1 << 20,
+        .max_forward = once_in(4) ? below(256) : 1 << 20};
     return buffer;
 }
 

@@ -265,6 +265,7 @@ fn element(kind: &str) -> String {
         "SymbolNumbers" => "ProvidedSymbol".to_string(),
         "RunNumbers" => "ProvidedRun".to_string(),
         "StubNumbers" => "Stub".to_string(),
+        "LazyPltNumbers" => "LazyPlt".to_string(),
         "RouteNumbers" => "Route".to_string(),
         other => other.to_string(),
     }
@@ -874,6 +875,7 @@ fn the_structs_are_those_of_the_library() {
         + &repository("crates/linker_rewriting/src/facts.rt")
         + &repository("crates/linker_rewriting/src/groups.rt")
         + &repository("crates/linker_output/src/got.rt")
+        + &repository("crates/linker_output/src/lazy_plt.rt")
         + &repository("crates/linker_output/src/placement.rt");
     for (name, of_library) in [
         ("linker_utils_deletion", "Deletion"),
