@@ -56,7 +56,6 @@ adr_after =
         alone = refl;
         some = λ o. tt;
       };
-      entryless = λ addresses symbol r. refl;
     }
 
 -- ---- two instructions
@@ -156,7 +155,7 @@ module _ (laws : Laws) (l : Linked) (linked : IsLinked l) (aarch64 : l.setting.a
       let there : IsApplied adr_after.row (operands_with AArch64 l.addresses adr_after.row symbol (rela (o + 4) code second.symbol second.addend) 0) (instruction_at l.rewritten (o + 4)) (instruction_at l.final (o + 4)) =
       subst (λ n. IsApplied adr_after.row (operands_with AArch64 l.addresses adr_after.row symbol (rela n code second.symbol second.addend) 0) (instruction_at l.rewritten n) (instruction_at l.final n)) next
       (applied_there l linked aarch64 j of.low_chosen of.together.second_below of.low_decided e
-      by.kind_is by.code_is (λ o. refl) (λ a. refl) adr_after symbol
+      by.kind_is by.code_is (λ o. refl) (λ a. refl) adr_after symbol 0 refl
       (ap (slice_get l.symbols) of.together.same_symbol ∙ is_symbol)) in
       let written : IsApplied adr_after.row (behind 4 w) (drop 4 (two_at l.rewritten o)) (instruction_at l.final (o + 4)) =
       subst (λ xs. IsApplied adr_after.row (behind 4 w) xs (instruction_at l.final (o + 4))) (sym (second_same l.rewritten o))

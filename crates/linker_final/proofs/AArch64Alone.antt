@@ -1,7 +1,7 @@
 -- Instructions of AArch64 that are rewritten each by itself do in the final bytes what the object's do.
-use Rattle.std.proofs.Common.{◌≡◌, ℕ, ◌+◌, ◌<◌, ◌≤◌, [], ◌∷◌, length, drop, false, refl, sym, ap, subst, ◌∙◌, Bool, true, eqb}
+use Rattle.std.proofs.Common.{◌≡◌, ℕ, ◌+◌, ◌<◌, ◌≤◌, [], ◌∷◌, length, drop, false, refl, subst, Bool, true, eqb}
 use Rattle.std.proofs.lemmas.Bool.{eq-eqb}
-use Rattle.linker_aarch64.specs.AArch64Rewrites.{aarch64_entries, halves_to_local_exec, IsLdr64, IsIntoOwnSource, IsAdrp, IsAskedFor, nop, rd_of, rn_of}
+use Rattle.linker_aarch64.specs.AArch64Rewrites.{aarch64_entries, halves_to_local_exec, IsLdr64, IsIntoOwnSource, IsAdrp, IsAskedFor, rd_of, rn_of}
 use Rattle.linker_aarch64.specs.declared.rewrites.RelaxationKind.TheVariants as kinds
 use Rattle.linker_elf.specs.AArch64Relocations.{aarch64_name, insn_row}
 use Rattle.linker_elf.specs.Applied.{IsApplied}
@@ -20,19 +20,17 @@ use Rattle.linker_final.specs.AArch64Final.{HighHalves, LowHalves, Branches, Bra
 use Rattle.linker_final.specs.Final.{Linked, IsLinked, count}
 use Rattle.linker_laws.specs.AArch64RewriteLaws.{IsRewritten, Laws, BranchToNop, word_of}
 use Rattle.linker_rewriting.specs.Decisions.{decision_at}
-use Rattle.linker_rewriting.specs.Rewritten.{relocation_after}
 use Rattle.linker_rewriting.specs.declared.decisions.Decision.TheVariants.{Rewritten}
 use Rattle.linker_section.specs.Relocations.{relocation_in}
 use Rattle.linker_section.specs.Values.{operands_with}
-use Rattle.linker_section.specs.declared.relocations.Rela.{Rela}
 use Rattle.linker_utils.specs.declared.architecture.Relaxation.{Relaxation}
 use Rattle.linker_utils.specs.declared.elf.Architecture.TheVariants.{AArch64}
-use Rattle.linker_final.proofs.AArch64Written.{IsAfter, applied_there, becomes, free_but, rela, unwritten, with_operands, word_same}
+use Rattle.linker_final.proofs.AArch64Written.{IsAfter, applied_there, becomes, becomes_nop, rela, with_operands, word_same}
 use Rattle.linker_laws.specs.AArch64Machine.{is_b, is_bl}
 
 -- ---- rows
 
-abbrev high_after : IsAfter names.R_AARCH64_TLSLE_MOVW_TPREL_G1
+abbrev pub high_after : IsAfter names.R_AARCH64_TLSLE_MOVW_TPREL_G1
 high_after =
     record {
       row = insn_row TpOff 16 32 Movnz;
@@ -48,10 +46,9 @@ high_after =
         alone = refl;
         some = λ o. tt;
       };
-      entryless = λ addresses symbol r. refl;
     }
 
-abbrev low_after : IsAfter names.R_AARCH64_TLSLE_MOVW_TPREL_G0_NC
+abbrev pub low_after : IsAfter names.R_AARCH64_TLSLE_MOVW_TPREL_G0_NC
 low_after =
     record {
       row = insn_row TpOff 0 16 Movkz;
@@ -67,7 +64,6 @@ low_after =
         alone = refl;
         some = λ o. tt;
       };
-      entryless = λ addresses symbol r. refl;
     }
 
 -- ---- halves
@@ -83,7 +79,7 @@ high_halves laws l linked aarch64 i chosen below is_name decided symbol is_symbo
     with_operands high_after.row
     (operands_with AArch64 l.addresses high_after.row symbol (rela o (code_of (aarch64_name names.R_AARCH64_TLSLE_MOVW_TPREL_G1)) r.symbol r.addend) 0)
     w (instruction_at l.rewritten o) (instruction_at l.final o) refl
-    (applied_there l linked aarch64 i chosen below decided e by.kind_is by.code_is (λ o. refl) (λ a. refl) high_after symbol is_symbol) in
+    (applied_there l linked aarch64 i chosen below decided e by.kind_is by.code_is (λ o. refl) (λ a. refl) high_after symbol 0 refl is_symbol) in
     let made : IsRewritten kinds.MovzXnLsl16 (instruction_at l.section o) (instruction_at l.rewritten o) =
     becomes l linked i chosen below decided kinds.MovzXnLsl16 (λ _. true) (λ word. 0xd2a00000 + rd_of word) refl by.kind_is in
     let is_adrp : IsAdrp (word_of (instruction_at l.section o)) = subst IsAdrp (word_same l.section o) (by.matches.1) in
@@ -101,7 +97,7 @@ low_halves laws l linked aarch64 i chosen below is_name decided symbol is_symbol
     with_operands low_after.row
     (operands_with AArch64 l.addresses low_after.row symbol (rela o (code_of (aarch64_name names.R_AARCH64_TLSLE_MOVW_TPREL_G0_NC)) r.symbol r.addend) 0)
     w (instruction_at l.rewritten o) (instruction_at l.final o) refl
-    (applied_there l linked aarch64 i chosen below decided e by.kind_is by.code_is (λ o. refl) (λ a. refl) low_after symbol is_symbol) in
+    (applied_there l linked aarch64 i chosen below decided e by.kind_is by.code_is (λ o. refl) (λ a. refl) low_after symbol 0 refl is_symbol) in
     let made : IsRewritten kinds.MovkXn (instruction_at l.section o) (instruction_at l.rewritten o) =
     becomes l linked i chosen below decided kinds.MovkXn (λ word. eqb (rn_of word) (rd_of word)) (λ word. 0xf2800000 + rd_of word) refl by.kind_is in
     let is_ldr : IsLdr64 (word_of (instruction_at l.section o)) = subst IsLdr64 (word_same l.section o) (by.matches.1.0) in
@@ -127,15 +123,8 @@ module _ (name : AArch64Relocation) (named : IsNamed (aarch64_name name))
       let o = r.offset in
       let by = of_entry l linked aarch64 i chosen below decided name named is_name (entry kinds.ReplaceWithNop names.R_AARCH64_NONE (weak_zero ∷ [])) entries in
       let one = is_one l o by.asked in
-      let code : (relocation_in l.relocations_after i).code ≡ 0 =
-      ap (λ (x : Rela). x.code)
-      (linked.relocations i below ∙ (ap (λ d. relocation_after d r) decided)) ∙ by.code_is in
-      let made : IsRewritten kinds.ReplaceWithNop (instruction_at l.section o) (instruction_at l.rewritten o) =
-      becomes l linked i chosen below decided kinds.ReplaceWithNop (λ _. true) (λ _. nop) refl by.kind_is in
-      let stays : instruction_at l.final o ≡ instruction_at l.rewritten o =
-      unwritten l linked o (one.0) (free_but l linked aarch64 i o code alone) in
       let final : IsRewritten kinds.ReplaceWithNop (instruction_at l.section o) (instruction_at l.final o) =
-      subst (IsRewritten kinds.ReplaceWithNop (instruction_at l.section o)) (sym stays) made in
+      becomes_nop l linked aarch64 i chosen below decided by.kind_is by.code_is (one.0) alone in
       let is : is_branch (word_of (instruction_at l.section o)) ≡ true =
       subst (λ word. is_branch word ≡ true) (word_same l.section o) (one.1) in
       law (operands_with AArch64 l.addresses row symbol r 0) s (instruction_at l.section o) (instruction_at l.final o)

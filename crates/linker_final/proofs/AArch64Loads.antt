@@ -50,7 +50,6 @@ page_after =
         alone = refl;
         some = λ o. tt;
       };
-      entryless = λ addresses symbol r. refl;
     }
 
 abbrev low_after : IsAfter names.R_AARCH64_ADD_ABS_LO12_NC
@@ -69,7 +68,6 @@ low_after =
         alone = refl;
         some = λ o. tt;
       };
-      entryless = λ addresses symbol r. refl;
     }
 
 -- ---- the operands of a pair
@@ -152,7 +150,7 @@ module _ (laws : Laws) (l : Linked) (linked : IsLinked l) (aarch64 : l.setting.a
       (subst (λ xs. IsApplied page_after.row (operands_with AArch64 l.addresses page_after.row symbol (rela o (code_of (aarch64_name names.R_AARCH64_ADR_PREL_PG_HI21)) first.symbol first.addend) 0) xs (instruction_at l.final o)) stayed
       (applied_there l linked aarch64 i of.page_chosen of.together.first_below of.page_decided
       (entry kinds.NoOp names.R_AARCH64_ADR_PREL_PG_HI21 (to_address 0))
-      page_entry.kind_is page_entry.code_is (λ o. refl) (λ a. refl) page_after symbol is_symbol)) in
+      page_entry.kind_is page_entry.code_is (λ o. refl) (λ a. refl) page_after symbol 0 refl is_symbol)) in
       let low_written : IsApplied low_after.row (behind 4 w) (instruction_at l.rewritten (o + 4)) (instruction_at l.final (o + 4)) =
       with_operands low_after.row
       (operands_with AArch64 l.addresses low_after.row symbol (rela second.offset (code_of (aarch64_name names.R_AARCH64_ADD_ABS_LO12_NC)) second.symbol second.addend) 0)
@@ -161,7 +159,7 @@ module _ (laws : Laws) (l : Linked) (linked : IsLinked l) (aarch64 : l.setting.a
       (subst (λ n. IsApplied low_after.row (operands_with AArch64 l.addresses low_after.row symbol (rela second.offset (code_of (aarch64_name names.R_AARCH64_ADD_ABS_LO12_NC)) second.symbol second.addend) 0) (instruction_at l.rewritten n) (instruction_at l.final n)) next
       (applied_there l linked aarch64 j of.low_chosen of.together.second_below of.low_decided
       (entry kinds.LdrToAdd names.R_AARCH64_ADD_ABS_LO12_NC (to_address 4))
-      low_entry.kind_is low_entry.code_is (λ o. refl) (λ a. refl) low_after symbol
+      low_entry.kind_is low_entry.code_is (λ o. refl) (λ a. refl) low_after symbol 0 refl
       (ap (slice_get l.symbols) of.together.same_symbol ∙ is_symbol))) in
       let added : IsRewritten kinds.LdrToAdd (instruction_at l.section (o + 4)) (instruction_at l.rewritten (o + 4)) =
       subst (λ n. IsRewritten kinds.LdrToAdd (instruction_at l.section n) (instruction_at l.rewritten n)) next

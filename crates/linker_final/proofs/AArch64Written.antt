@@ -1,9 +1,9 @@
 -- Instructions of AArch64 and their relocations in the final bytes of a section.
-use Rattle.std.proofs.Common.{◌≡◌, ℕ, ℤ, ◌+◌, ◌-◌, ◌/◌, ◌<◌, ◌≤◌, List, length, take, drop, sym, ap, subst, ◌∙◌, inl, inr, arith, Option, Some, None, Ok, Bool, IsSomeAnd}
+use Rattle.std.proofs.Common.{◌≡◌, ℕ, ℤ, ◌+◌, ◌-◌, ◌/◌, ◌<◌, ◌≤◌, List, length, take, drop, sym, ap, subst, ◌∙◌, inl, inr, arith, Option, Some, None, Ok, Bool, true, refl, IsSomeAnd}
 use Rattle.std.proofs.lemmas.Bool.{cases_eq}
 use Rattle.std.proofs.lemmas.List.{take-take}
 use Rattle.std.specs.Prelude.{slice_get}
-use Rattle.linker_aarch64.specs.AArch64Rewrites.{AArch64Entry, aarch64_rewrite, rewrites_where}
+use Rattle.linker_aarch64.specs.AArch64Rewrites.{AArch64Entry, aarch64_rewrite, nop, rewrites_where}
 use Rattle.linker_aarch64.specs.declared.rewrites.RelaxationKind.TheVariants as kinds
 use Rattle.linker_base.specs.Bits.{field}
 use Rattle.linker_base.specs.Rewrite.{offset_after, addend_after}
@@ -32,7 +32,6 @@ use Rattle.linker_section.specs.Needed.{entry_of}
 use Rattle.linker_section.specs.Relocations.{relocation_in}
 use Rattle.linker_section.specs.Sections.{IsRowValue, IsInNoField}
 use Rattle.linker_section.specs.Values.{operands_with, operands_by, operands_of, operands_in, entry_address, offset_at}
-use Rattle.linker_section.specs.declared.facts.Addresses.{Addresses}
 use Rattle.linker_section.specs.declared.facts.Symbol.{Symbol}
 use Rattle.linker_section.specs.declared.relocations.Rela.{Rela}
 use Rattle.linker_utils.specs.Architectures.{IsRow, relaxation_rewrite}
@@ -47,15 +46,12 @@ use Rattle.linker_section.specs.Fields.{IsField, field_len}
 
 -- ---- relocations that rewrites leave
 
--- of an instruction, which need no entry
+-- of an instruction
 pub record IsAfter (name : AArch64Relocation) : Type 0 where
   pub row : RelocationKindInfo
   pub is : aarch64_row name ≡ Some row
   pub named : IsNamed (aarch64_name name)
   pub of : IsOfInstruction row
-  pub entryless : (addresses : Addresses) (symbol : Symbol) (r : Rela)
-      → operands_by AArch64 addresses row r symbol (entry_address addresses symbol (entry_of row r.addend symbol.is_thread_local))
-      ≡ Ok (operands_with AArch64 addresses row symbol r 0)
 
 -- ---- words
 
@@ -96,7 +92,10 @@ module _ (l : Linked) (linked : IsLinked l) (aarch64 : l.setting.architecture �
     (code_is : chosen.relocation ≡ code_of (aarch64_name e.relocation))
     (unmoved : (o : ℕ) → offset_after (aarch64_rewrite e.kind) o ≡ o)
     (same_addend : (a : ℤ) → addend_after (aarch64_rewrite e.kind) a ≡ a)
-    (a : IsAfter e.relocation) (symbol : Symbol)
+    (a : IsAfter e.relocation) (symbol : Symbol) (got : ℕ)
+    (entry_is : operands_by AArch64 l.addresses a.row (rela (relocation_in l.relocations i).offset (code_of (aarch64_name e.relocation)) (relocation_in l.relocations i).symbol (relocation_in l.relocations i).addend) symbol
+    (entry_address l.addresses symbol (entry_of a.row (relocation_in l.relocations i).addend symbol.is_thread_local))
+    ≡ Ok (operands_with AArch64 l.addresses a.row symbol (rela (relocation_in l.relocations i).offset (code_of (aarch64_name e.relocation)) (relocation_in l.relocations i).symbol (relocation_in l.relocations i).addend) got))
     (is_symbol : slice_get l.symbols (relocation_in l.relocations i).symbol ≡ Some symbol) where
   abbrev r : Rela
   r = relocation_in l.relocations i
@@ -117,10 +116,10 @@ module _ (l : Linked) (linked : IsLinked l) (aarch64 : l.setting.architecture �
   within_after = subst (λ n. i < n / 24) (sym linked.as_many) below
 
   abbrev operands : Operands
-  operands = operands_with AArch64 l.addresses a.row symbol after 0
+  operands = operands_with AArch64 l.addresses a.row symbol after got
 
   taken : operands_of AArch64 l.addresses l.symbols a.row after ≡ Ok operands
-  taken = ap (operands_in AArch64 l.addresses a.row after) is_symbol ∙ a.entryless l.addresses symbol after
+  taken = ap (operands_in AArch64 l.addresses a.row after) is_symbol ∙ entry_is
 
   is_row : IsRow AArch64 (relocation_in l.relocations_after i).code (Some a.row)
   is_row =
@@ -227,3 +226,22 @@ free_but l linked aarch64 i p code alone at from less j row lj field =
           absurd (no_field l aarch64 i code row (subst (λ k. IsField l.setting.architecture l.relocations_after l.rewritten k row) same field))
       | inr isnt ↦ alone j at lj' isnt from less row field
     ]
+
+-- an instruction that becomes `nop`, whose relocation goes
+pub becomes_nop : (l : Linked) → IsLinked l → l.setting.architecture ≡ AArch64 → (i : ℕ)
+    → (chosen : Choice Relaxation ℕ) → i < count l → decision_at l.decisions i ≡ Rewritten chosen
+    → chosen.kind ≡ relaxations.AArch64 kinds.ReplaceWithNop → chosen.relocation ≡ 0
+    → (relocation_in l.relocations i).offset + 4 ≤ length l.section
+    → IsWrittenByNoOther l i (relocation_in l.relocations i).offset
+    → IsRewritten kinds.ReplaceWithNop (instruction_at l.section (relocation_in l.relocations i).offset)
+    (instruction_at l.final (relocation_in l.relocations i).offset)
+becomes_nop l linked aarch64 i chosen below decided kind_is code_is inside alone =
+    let r = relocation_in l.relocations i in
+    let o = r.offset in
+    let code : (relocation_in l.relocations_after i).code ≡ 0 =
+    ap (λ (x : Rela). x.code) (linked.relocations i below ∙ ap (λ d. relocation_after d r) decided) ∙ code_is in
+    let made : IsRewritten kinds.ReplaceWithNop (instruction_at l.section o) (instruction_at l.rewritten o) =
+    becomes l linked i chosen below decided kinds.ReplaceWithNop (λ _. true) (λ _. nop) refl kind_is in
+    let stays : instruction_at l.final o ≡ instruction_at l.rewritten o =
+    unwritten l linked o inside (free_but l linked aarch64 i o code alone) in
+    subst (IsRewritten kinds.ReplaceWithNop (instruction_at l.section o)) (sym stays) made

@@ -2,8 +2,10 @@
 -- of their relocations (ELF for the Arm 64-bit Architecture, "Relocation optimization", and the sequences
 -- of thread-local storage).
 use Rattle.std.specs.Prelude.{◌≡◌, ◌≢◌, ◌⊎◌, ℕ, ◌+◌, ◌<◌, ◌≤◌, ◌==◌, List, [], ◌∷◌, take, drop, Some, IsSomeAnd}
-use Rattle.std.specs.Prelude.{slice_get, Bool, false}
+use Rattle.std.specs.Prelude.{slice_get, Option, Bool, true, false, ◌^◌}
 use Rattle.linker_aarch64.specs.AArch64Rewrites.{rd_of}
+use Rattle.linker_aarch64.specs.declared.rewrites.RelaxationKind.TheVariants.{AdrpX0, LdrX0, MovkX0, MovzX0Lsl16}
+use Rattle.linker_aarch64.specs.declared.rewrites.RelaxationKind.{RelaxationKind}
 use Rattle.linker_elf.specs.AArch64Relocations.{aarch64_name, aarch64_row}
 use Rattle.linker_elf.specs.ElfNames.{IsNameOf}
 use Rattle.linker_elf.specs.declared.aarch64.relocations.AArch64Relocation.{AArch64Relocation}
@@ -12,15 +14,18 @@ use Rattle.linker_elf.specs.declared.elf.RelocationKindInfo.{RelocationKindInfo}
 use Rattle.linker_elf.specs.declared.elf.choice.Choice.{Choice}
 use Rattle.linker_final.specs.Final.{Linked, IsLinked, count}
 use Rattle.linker_laws.specs.AArch64Machine.{State, load_64, RunAlike, RunAlikeBut, next_pc}
+use Rattle.linker_laws.specs.AArch64RewriteLaws.{Descriptor, DescriptorOf, RunAlikeBehindCall, four, scratch}
 use Rattle.linker_laws.specs.AArch64RewriteLaws.{IsRelocated, Changes, AgreeBut, HasHigh, StepSo, behind, pair, thread_offset, with_register, without_register, word_of}
 use Rattle.linker_laws.specs.Schemes.{AreAddresses, plt_address, symbol_address}
 use Rattle.linker_rewriting.specs.Decisions.{decision_at, start_at, written_end_at}
 use Rattle.linker_rewriting.specs.declared.decisions.Decision.TheVariants.{Rewritten, TakenAlong}
 use Rattle.linker_section.specs.Relocations.{relocation_in}
 use Rattle.linker_section.specs.Fields.{IsField, field_end}
-use Rattle.linker_section.specs.Values.{offset_at, operands_with}
+use Rattle.linker_section.specs.Values.{is_there, offset_at, operands_with}
 use Rattle.linker_section.specs.declared.facts.Symbol.{Symbol}
+use Rattle.linker_section.specs.declared.needed.EntryClass.TheVariants.{ThreadOffset}
 use Rattle.linker_utils.specs.declared.architecture.Relaxation.{Relaxation}
+use Rattle.linker_utils.specs.declared.architecture.Relaxation.TheVariants as relaxations
 use Rattle.linker_utils.specs.declared.elf.Architecture.TheVariants.{AArch64}
 
 -- the bytes of the instruction at an offset
@@ -147,6 +152,67 @@ LowDoesTheSame l i row =
     → StepSo (word_of ldr) s (word_of (instruction_at l.final r.offset)) t
     (AgreeBut (without_register n c))
 
+-- ---- TLS descriptors
+
+-- The relocations at four indexes are those of the sequence of a TLS descriptor, and all are rewritten, the
+-- first two by two kinds.
+pub record AreOfDescriptor (l : Linked) (high low : RelaxationKind) (i j k m : ℕ) : Type 0 where
+  pub first : AreNext l i j
+  pub second : AreNext l j k
+  pub third : AreNext l k m
+  pub page : IsNameOf aarch64_name (relocation_in l.relocations i).code names.R_AARCH64_TLSDESC_ADR_PAGE21
+  pub load : IsNameOf aarch64_name (relocation_in l.relocations j).code names.R_AARCH64_TLSDESC_LD64_LO12
+  pub add : IsNameOf aarch64_name (relocation_in l.relocations k).code names.R_AARCH64_TLSDESC_ADD_LO12
+  pub call : IsNameOf aarch64_name (relocation_in l.relocations m).code names.R_AARCH64_TLSDESC_CALL
+  pub page_chosen : Choice Relaxation ℕ
+  pub page_decided : decision_at l.decisions i ≡ Rewritten page_chosen
+  pub page_kind : page_chosen.kind ≡ relaxations.AArch64 high
+  pub load_chosen : Choice Relaxation ℕ
+  pub load_decided : decision_at l.decisions j ≡ Rewritten load_chosen
+  pub load_kind : load_chosen.kind ≡ relaxations.AArch64 low
+  pub add_chosen : Choice Relaxation ℕ
+  pub add_decided : decision_at l.decisions k ≡ Rewritten add_chosen
+  pub call_chosen : Choice Relaxation ℕ
+  pub call_decided : decision_at l.decisions m ≡ Rewritten call_chosen
+
+-- From any state before the sequence, the object's instructions with their relocations' values run to
+-- the call, and the final bytes end as the called function returns.
+abbrev pub OffsetIsTheSame : Linked → ℕ → RelocationKindInfo → Type 0
+OffsetIsTheSame l i row =
+    let r = relocation_in l.relocations i in
+    let o = r.offset in
+    (symbol : Symbol) → slice_get l.symbols r.symbol ≡ Some symbol
+    → (call : State → Option State) (c : Changes) (entry : ℕ) (s : State) (adrp ldr add : List ℕ)
+    → let operands = operands_with AArch64 l.addresses row symbol r entry in
+    Descriptor call c operands s (instruction_at l.section o) (instruction_at l.section (o + 4))
+    (instruction_at l.section (o + 8)) (instruction_at l.section (o + 12))
+    → DescriptorOf operands (instruction_at l.section o) (instruction_at l.section (o + 4))
+    (instruction_at l.section (o + 8)) adrp ldr add
+    → RunAlikeBehindCall call (scratch (rd_of (word_of (instruction_at l.section (o + 4)))) c)
+    (four adrp ldr add (instruction_at l.section (o + 12)))
+    (four (instruction_at l.final o) (instruction_at l.final (o + 4)) (instruction_at l.final (o + 8))
+    (instruction_at l.final (o + 12))) s
+
+-- The same where the GOT's entry of the offset, which there is, holds it.
+abbrev pub LoadsOffset : Linked → ℕ → RelocationKindInfo → Type 0
+LoadsOffset l i row =
+    let r = relocation_in l.relocations i in
+    let o = r.offset in
+    (symbol : Symbol) → slice_get l.symbols r.symbol ≡ Some symbol
+    → is_there l.addresses symbol (record { class = ThreadOffset; addend = r.addend }) ≡ true
+    → symbol.thread_entry < 2 ^ 64
+    → (call : State → Option State) (c : Changes) (entry : ℕ) (s : State) (adrp ldr add : List ℕ)
+    → let operands = operands_with AArch64 l.addresses row symbol r entry in
+    load_64 s.memory symbol.thread_entry ≡ thread_offset operands
+    → Descriptor call c operands s (instruction_at l.section o) (instruction_at l.section (o + 4))
+    (instruction_at l.section (o + 8)) (instruction_at l.section (o + 12))
+    → DescriptorOf operands (instruction_at l.section o) (instruction_at l.section (o + 4))
+    (instruction_at l.section (o + 8)) adrp ldr add
+    → RunAlikeBehindCall call (scratch (rd_of (word_of (instruction_at l.section (o + 4)))) c)
+    (four adrp ldr add (instruction_at l.section (o + 12)))
+    (four (instruction_at l.final o) (instruction_at l.final (o + 4)) (instruction_at l.final (o + 8))
+    (instruction_at l.final (o + 12))) s
+
 -- ---- branches to undefined weak symbols
 
 -- A branch that goes on behind itself, by the value of its relocation, does so in the final bytes,
@@ -211,3 +277,19 @@ Addresses =
     → (i j : ℕ) → AreOfAddress l i j
     → IsWrittenByNoOther l i (relocation_in l.relocations i).offset
     → IsSomeAnd (aarch64_row names.R_AARCH64_ADR_PREL_PG_HI21) (MakesTheSame l i)
+
+-- of every sequence of a TLS descriptor that is rewritten by two kinds, where no other relocation has a
+-- field in the two instructions that become `nop`
+abbrev pub EachDescriptor : RelaxationKind → RelaxationKind
+    → (Linked → ℕ → RelocationKindInfo → Type 0) → Type 0
+EachDescriptor high low Holds =
+    (l : Linked) → IsLinked l → l.setting.architecture ≡ AArch64
+    → (i j k m : ℕ) → AreOfDescriptor l high low i j k m
+    → IsWrittenByNoOther l k (relocation_in l.relocations k).offset
+    → IsWrittenByNoOther l m (relocation_in l.relocations m).offset
+    → IsSomeAnd (aarch64_row names.R_AARCH64_TLSLE_MOVW_TPREL_G1) (Holds l i)
+
+-- for local-exec and for initial-exec
+abbrev pub Descriptors : Type 0
+Descriptors =
+    EachDescriptor MovzX0Lsl16 MovkX0 OffsetIsTheSame × EachDescriptor AdrpX0 LdrX0 LoadsOffset

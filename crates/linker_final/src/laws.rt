@@ -15,15 +15,18 @@ pub fn x86_64()
     linker_laws::rewrites::x86_64();
 }
 
-/// AArch64: each address by two instructions that became one, each load of an address from the GOT that
-/// became a sum of its page and the rest, each half of initial-exec that became a move, and each branch
-/// to an undefined weak symbol that became `nop` does in the final bytes what the object's does.
+/// AArch64: rewritten instructions do in the final bytes what the object's do. They are each address by
+/// two instructions that became one, each load of an address from the GOT that became a sum of its page
+/// and the rest, each half of initial-exec that became a move, each sequence of a TLS descriptor that
+/// became one of local-exec or of initial-exec, and each branch to an undefined weak symbol that became
+/// `nop`.
 pub fn aarch64()
     ensures addresses { aarch64_final.Addresses }
     ensures got_loads { aarch64_final.GotLoads }
     ensures high_halves { aarch64_final.HighHalves }
     ensures low_halves { aarch64_final.LowHalves }
     ensures branches { aarch64_final.Branches }
+    ensures descriptors { aarch64_final.Descriptors }
 {
     linker_laws::rewrites::aarch64();
 }

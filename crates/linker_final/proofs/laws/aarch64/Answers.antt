@@ -1,5 +1,6 @@
 use Rattle.linker_final.proofs.AArch64Addresses.{addresses}
 use Rattle.linker_final.proofs.AArch64Alone.{high_halves, low_halves, branches}
+use Rattle.linker_final.proofs.AArch64Descriptors.{descriptors}
 use Rattle.linker_final.proofs.AArch64Loads.{joined}
 use Rattle.linker_final.proofs.laws.aarch64.Goals as goal
 
@@ -12,4 +13,5 @@ returns c =
       high_halves = high_halves laws;
       low_halves = low_halves laws;
       branches = branches laws;
+      descriptors = descriptors laws;
     }
