@@ -66,7 +66,9 @@ pub mod section {
     #![doc = include_str!("../doc/section.md")]
     pub use crate::linker_section::facts::{Addresses, Symbol};
     pub use crate::linker_section::needed::{Entry, EntryClass, Requirements, needs};
-    pub use crate::linker_section::relocations::{RELA_LEN, Rela, relocation_at, relocations_len};
+    pub use crate::linker_section::relocations::{
+        RELA_LEN, Rela, first_from, is_ascending, relocation_at, relocations_len,
+    };
     pub use crate::linker_section::sections::{
         RelocationError, SectionError, memory_len, relocate_section,
     };
