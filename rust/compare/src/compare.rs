@@ -3,7 +3,8 @@
 
 use exports::*;
 use linker_utils::elf::{Operands, RelocationNumbers, RewriteWindow};
-use linker_utils::output::Origins;
+use linker_utils::output::{LazyEntry, Origins};
+use linker_utils::placement::{Branch, StubShape};
 use linker_utils::recognise::FieldBits;
 use linker_utils::relaxation::{BlockHead, Call, RelaxDelta};
 use linker_utils::rewriting::{KeptGroups, OutputFacts, SymbolFacts};
@@ -341,6 +342,9 @@ fields! {
 fields! { OutputFacts: is_executable, is_fixed, }
 fields! { KeptGroups: initial_exec, general_dynamic, local_dynamic, descriptor, got_load, }
 fields! { Origins: thread_pointer, module_block, }
+fields! { LazyEntry: address, word, header, index, }
+fields! { Branch: offset, target, max_backward, max_forward, }
+fields! { StubShape: len, unit, max_backward, max_forward, }
 fields! { Operands: symbol, addend, place, got_entry, got_base, plt_entry, symbol_size, tls_base, }
 fields! {
     RelocationNumbers: kind, form, mask, machine, is_bits, byte_size, first_bit, end_bit,
