@@ -1,15 +1,15 @@
 -- The rewrite of a decision is one that was chosen for its relocation.
-use Rattle.std.proofs.Common.{◌≡◌, ℕ, ℤ, ◌<◌, List, Bool, true, false, refl, sym, ap, subst, ◌∙◌, Option, Some, None}
+use Rattle.std.proofs.Common.{◌≡◌, ℕ, ℤ, ◌<◌, List, Bool, true, false, refl, sym, ap, subst, ◌∙◌, ◌⊎◌, inl, inr, Option, Some, None}
 use Rattle.std.specs.Prelude.{slice_get}
 use Rattle.linker_elf.specs.declared.elf.choice.Choice.{Choice}
 use Rattle.linker_elf.specs.declared.elf.choice.LinkFacts.{LinkFacts}
 use Rattle.linker_rewriting.specs.Candidates.{IsCandidate, IsCandidateWith}
-use Rattle.linker_rewriting.specs.Decisions.{AreDecidedIn, IsDecidedAfter, IsDecidedAlone, IsScopeDecision, IsGroupDecision, IsMatchedDecision, decision_at, decision_ahead, decision_of, is_taken}
+use Rattle.linker_rewriting.specs.Decisions.{AreDecidedIn, IsDecidedAfter, IsDecidedAlone, IsScopeDecision, IsGroupDecision, IsLabelDecision, IsMatchedDecision, decision_at, decision_ahead, decision_of, is_taken}
 use Rattle.linker_rewriting.specs.Facts.{Setting, link_facts, facts_by, facts_at, facts_with}
 use Rattle.linker_rewriting.specs.Groups.{IsScopeIn, group_stays}
 use Rattle.linker_rewriting.specs.Sequences.{is_marked_at}
 use Rattle.linker_rewriting.specs.declared.decisions.Decision.{Decision}
-use Rattle.linker_rewriting.specs.declared.decisions.Decision.TheVariants.{Kept, Rewritten, TakenAlong}
+use Rattle.linker_rewriting.specs.declared.decisions.Decision.TheVariants.{Kept, Rewritten, TakenAlong, Redirected}
 use Rattle.linker_rewriting.specs.declared.facts.OutputFacts.{OutputFacts}
 use Rattle.linker_rewriting.specs.declared.facts.SymbolFacts.{SymbolFacts}
 use Rattle.linker_rewriting.specs.declared.groups.KeptGroups.{KeptGroups}
@@ -96,55 +96,91 @@ of_candidate s bytes section n r chosen is =
 
 -- ---- decisions
 
-abbrev choice_in : Choice Relaxation ℕ → Decision → Choice Relaxation ℕ
-choice_in other (Rewritten chosen) = chosen
-choice_in other decision = other
+-- by which an instruction is rewritten
+abbrev pub choice_of : Decision → Option (Choice Relaxation ℕ)
+choice_of (Rewritten chosen) = Some chosen
+choice_of (Redirected chosen subject) = Some chosen
+choice_of decision = None
 
-module _ (s : Setting) (bytes section : List ℕ) (n : ℕ) (r : Rela) (chosen : Choice Relaxation ℕ) where
+abbrev choice_in : Choice Relaxation ℕ → Option (Choice Relaxation ℕ) → Choice Relaxation ℕ
+choice_in other None = other
+choice_in other (Some chosen) = chosen
+
+-- what becomes of a relocation alone or with its group
+pub record IsChosenAlone (s : Setting) (section : List ℕ) (r : Rela) (decision : Decision)
+    (mine : Choice Relaxation ℕ) : Type 0 where
+  pub chosen : IsChosen s section r mine
+  pub is : decision ≡ Rewritten mine
+
+-- and by its label
+pub record IsOfLabel (s : Setting) (bytes section : List ℕ) (n : ℕ) (r : Rela) (decision : Decision)
+    : Type 0 where
+  pub scope_is : IsScopeIn s.architecture s.phase r.code Labelled
+  pub label_is : IsLabelDecision s bytes section n r decision
+
+module _ (s : Setting) (bytes section : List ℕ) (n : ℕ) (r : Rela) (decision : Decision)
+    (chosen : Choice Relaxation ℕ) (by : choice_of decision ≡ Some chosen) where
+  isnt : (other : Decision) → choice_of other ≡ None → decision ≡ other → ⊥
+  isnt other none same = let e : Some chosen ≡ None = sym by ∙ (ap choice_of same ∙ none) in cc
+
   of_some : (mine : Choice Relaxation ℕ) → IsCandidate s bytes section n r (Some mine)
-      → Rewritten chosen ≡ Rewritten mine → IsChosen s section r chosen
+      → decision ≡ Rewritten mine → IsChosenAlone s section r decision chosen
   of_some mine is same =
-      of_candidate s bytes section n r chosen
-      (subst (λ c. IsCandidate s bytes section n r (Some c)) (sym (ap (choice_in chosen) same)) is)
+      let equal : mine ≡ chosen = ap (choice_in chosen) (sym (ap choice_of same) ∙ by) in
+      record {
+        chosen = of_candidate s bytes section n r chosen (subst (λ c. IsCandidate s bytes section n r (Some c)) equal is);
+        is = same ∙ ap Rewritten equal;
+      }
 
   of_option : (candidate : Option (Choice Relaxation ℕ)) → IsCandidate s bytes section n r candidate
-      → Rewritten chosen ≡ decision_of candidate → IsChosen s section r chosen
-  of_option None is same = absurd (let e : Rewritten chosen ≡ Kept = same in cc)
+      → decision ≡ decision_of candidate → IsChosenAlone s section r decision chosen
+  of_option None is same = absurd (isnt Kept refl same)
   of_option (Some mine) is same = of_some mine is same
 
-  of_group : (stays : Bool) → IsGroupDecision s bytes section n r stays (Rewritten chosen)
-      → IsChosen s section r chosen
-  of_group true is = absurd (let e : Rewritten chosen ≡ Kept = is in cc)
+  of_group : (stays : Bool) → IsGroupDecision s bytes section n r stays decision
+      → IsChosenAlone s section r decision chosen
+  of_group true is = absurd (isnt Kept refl is)
   of_group false is = of_some (is.0) (is.1) (is.2)
 
-  of_match : (stays : Bool) → IsMatchedDecision s bytes section n r stays (Rewritten chosen)
-      → IsChosen s section r chosen
-  of_match true is = absurd (let e : Rewritten chosen ≡ Kept = is in cc)
+  of_match : (stays : Bool) → IsMatchedDecision s bytes section n r stays decision
+      → IsChosenAlone s section r decision chosen
+  of_match true is = absurd (isnt Kept refl is)
   of_match false is = of_option (is.0) (is.1) (is.2)
 
-  of_ahead : (is_rewritten : Bool) → Rewritten chosen ≡ decision_ahead is_rewritten
-      → IsChosen s section r chosen
-  of_ahead true is = absurd (let e : Rewritten chosen ≡ TakenAlong = is in cc)
-  of_ahead false is = absurd (let e : Rewritten chosen ≡ Kept = is in cc)
+  of_ahead : (is_rewritten : Bool) → decision ≡ decision_ahead is_rewritten
+      → IsChosenAlone s section r decision chosen
+  of_ahead true is = absurd (isnt TakenAlong refl is)
+  of_ahead false is = absurd (isnt Kept refl is)
 
-  of_scope : (kept : List KeptGroups) (scope : Scope) → (scope ≡ Labelled → ⊥)
-      → IsScopeDecision s kept bytes section n r scope (Rewritten chosen) → IsChosen s section r chosen
-  of_scope kept Unlisted unlabelled is = absurd (let e : Rewritten chosen ≡ Kept = is in cc)
-  of_scope kept Alone unlabelled is = of_option (is.0) (is.1) (is.2)
-  of_scope kept (Grouped group) unlabelled is = of_group (group_stays kept group r.symbol) is
-  of_scope kept (Matched group) unlabelled is = of_match (group_stays kept group r.symbol) is
-  of_scope kept Labelled unlabelled is = absurd (unlabelled refl)
-  of_scope kept Ahead unlabelled is = of_ahead (is.0) (is.2)
+  of_scope : (kept : List KeptGroups) (scope : Scope) → IsScopeIn s.architecture s.phase r.code scope
+      → IsScopeDecision s kept bytes section n r scope decision
+      → IsChosenAlone s section r decision chosen ⊎ IsOfLabel s bytes section n r decision
+  of_scope kept Unlisted of is = absurd (isnt Kept refl is)
+  of_scope kept Alone of is = inl (of_option (is.0) (is.1) (is.2))
+  of_scope kept (Grouped group) of is = inl (of_group (group_stays kept group r.symbol) is)
+  of_scope kept (Matched group) of is = inl (of_match (group_stays kept group r.symbol) is)
+  of_scope kept Labelled of is = inr (record { scope_is = of; label_is = is })
+  of_scope kept Ahead of is = inl (of_ahead (is.0) (is.2))
 
-  of_decided : (kept : List KeptGroups) (taken : Bool)
-      → ((scope : Scope) → IsScopeIn s.architecture s.phase r.code scope → scope ≡ Labelled → ⊥)
-      → r ≡ relocation_in bytes n
-      → IsDecidedAfter s kept bytes section n taken (Rewritten chosen) → IsChosen s section r chosen
-  of_decided kept true unlabelled is_there is = absurd (let e : Rewritten chosen ≡ TakenAlong = is in cc)
-  of_decided kept false unlabelled is_there is =
-      let alone : IsDecidedAlone s kept bytes section n r (Rewritten chosen) =
-      subst (λ x. IsDecidedAlone s kept bytes section n x (Rewritten chosen)) (sym is_there) is in
-      of_scope kept (alone.0) (unlabelled (alone.0) (alone.1)) (alone.2)
+  of_decided : (kept : List KeptGroups) (taken : Bool) → r ≡ relocation_in bytes n
+      → IsDecidedAfter s kept bytes section n taken decision
+      → IsChosenAlone s section r decision chosen ⊎ IsOfLabel s bytes section n r decision
+  of_decided kept true is_there is = absurd (isnt TakenAlong refl is)
+  of_decided kept false is_there is =
+      let alone : IsDecidedAlone s kept bytes section n r decision =
+      subst (λ x. IsDecidedAlone s kept bytes section n x decision) (sym is_there) is in
+      of_scope kept (alone.0) (alone.1) (alone.2)
+
+-- alone or with its group, or by its label
+pub chosen_or_labelled : (s : Setting) (kept : List KeptGroups) (bytes section : List ℕ)
+    (decisions : List Decision) (limit n : ℕ) (decision : Decision) (chosen : Choice Relaxation ℕ)
+    → AreDecidedIn s kept bytes section decisions limit → n < limit
+    → decision_at decisions n ≡ decision → choice_of decision ≡ Some chosen
+    → IsChosenAlone s section (relocation_in bytes n) decision chosen
+    ⊎ IsOfLabel s bytes section n (relocation_in bytes n) decision
+chosen_or_labelled s kept bytes section decisions limit n decision chosen decided below is by =
+    of_decided s bytes section n (relocation_in bytes n) decision chosen by kept (is_taken decisions n) refl
+    (subst (IsDecidedAfter s kept bytes section n (is_taken decisions n)) is (decided n below))
 
 -- of a relocation whose scope is no label
 pub chosen_at : (s : Setting) (kept : List KeptGroups) (bytes section : List ℕ)
@@ -155,5 +191,7 @@ pub chosen_at : (s : Setting) (kept : List KeptGroups) (bytes section : List ℕ
     → scope ≡ Labelled → ⊥)
     → IsChosen s section (relocation_in bytes n) chosen
 chosen_at s kept bytes section decisions limit n chosen decided below is unlabelled =
-    of_decided s bytes section n (relocation_in bytes n) chosen kept (is_taken decisions n) unlabelled refl
-    (subst (IsDecidedAfter s kept bytes section n (is_taken decisions n)) is (decided n below))
+    elim (chosen_or_labelled s kept bytes section decisions limit n (Rewritten chosen) chosen decided below is refl) [
+      | inl alone ↦ alone.chosen
+      | inr label ↦ absurd (unlabelled Labelled label.scope_is refl)
+    ]

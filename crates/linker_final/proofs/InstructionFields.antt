@@ -10,7 +10,7 @@ use Rattle.linker_elf.specs.declared.elf.RelocationInstruction.{RelocationInstru
 use Rattle.linker_elf.specs.declared.elf.RelocationKindInfo.{RelocationKindInfo}
 use Rattle.linker_elf.specs.declared.elf.RelocationSize.TheVariants.{BitMasking}
 use Rattle.linker_elf.specs.declared.elf.value.Operands.{Operands}
-use Rattle.linker_final.proofs.PlainRows.{found_is}
+use Rattle.linker_final.proofs.PlainRows.{IsFoundOf, found_is}
 use Rattle.linker_section.specs.Fields.{field_len, is_of_pair, uleb_len}
 use Rattle.linker_section.specs.Relocations.{relocation_in}
 use Rattle.linker_section.specs.Values.{has_value, names_label, offset_at, operands_of}
@@ -34,24 +34,23 @@ pub record IsOfInstruction (row : RelocationKindInfo) : Type 0 where
 module _ (architecture : Architecture) (addresses : Addresses) (bytes : List ℕ)
     (symbols : List Symbol) (before after : List ℕ)
     (written : AreWritten architecture addresses bytes symbols before after)
-    (i : ℕ) (below : i < length bytes / 24) (row : RelocationKindInfo) (of : IsOfInstruction row)
-    (is_row : IsRow architecture (relocation_in bytes i).code (Some row)) (operands : Operands)
-    (taken : operands_of architecture addresses symbols row (relocation_in bytes i) ≡ Ok operands)
+    (i : ℕ) (below : i < length bytes / 24) (row : RelocationKindInfo) (bits : BitRange)
+    (insn : RelocationInstruction) (size : row.size ≡ BitMasking bits insn) (wide : window_len row ≡ 4)
+    (valued : has_value row.kind ≡ true) (alone : is_of_pair row ≡ false) (operands : Operands)
+    (mine : IsFoundOf row operands (written.can.found i))
   where
-    pub applied : IsApplied row operands (take 4 (drop (offset_at bytes i) before)) (take 4 (drop (offset_at bytes i) after))
-    applied =
+    pub applied_found : IsApplied row operands (take 4 (drop (offset_at bytes i) before)) (take 4 (drop (offset_at bytes i) after))
+    applied_found =
         let o = offset_at bytes i in
         let found = written.can.found in
-        let mine = found_is architecture addresses bytes symbols (relocation_in bytes i) row operands is_row
-        of.valued of.unlabelled taken (of.some operands) (found i) (written.can.are_found i below) in
         let v = mine.value in
         let len : field_len row (drop o before) ≡ 4 =
-        cond-true (has_value row.kind) (cond (is_of_pair row) (uleb_len (take 10 (drop o before))) (window_len row)) 0 of.valued
-        ∙ (cond-false (is_of_pair row) (uleb_len (take 10 (drop o before))) (window_len row) of.alone ∙ of.wide) in
+        cond-true (has_value row.kind) (cond (is_of_pair row) (uleb_len (take 10 (drop o before))) (window_len row)) 0 valued
+        ∙ (cond-false (is_of_pair row) (uleb_len (take 10 (drop o before))) (window_len row) alone ∙ wide) in
         let some : 0 < field_len row (drop o before) = omega (arith, len) in
-        let held = (written.fields i row v below mine.is some).value of.alone in
+        let held = (written.fields i row v below mine.is some).value alone in
         let writes : WritesRow row v (field_bytes bytes before i row before) (field_bytes bytes before i row after) =
-        subst (λ size. HoldsValue size row v (λ n. composed found bytes before o n (length bytes / 24)) (field_bytes bytes before i row before) (field_bytes bytes before i row after)) of.size held in
+        subst (λ size. HoldsValue size row v (λ n. composed found bytes before o n (length bytes / 24)) (field_bytes bytes before i row before) (field_bytes bytes before i row after)) size held in
         let there : WritesRow row v (take 4 (drop o before)) (take 4 (drop o after)) =
         subst (λ n. WritesRow row v (take n (drop o before)) (take n (drop o after))) len writes in
         record {
@@ -60,3 +59,17 @@ module _ (architecture : Architecture) (addresses : Addresses) (bytes : List ℕ
           accepted = there.accepted;
           written = there.written;
         }
+
+module _ (architecture : Architecture) (addresses : Addresses) (bytes : List ℕ)
+    (symbols : List Symbol) (before after : List ℕ)
+    (written : AreWritten architecture addresses bytes symbols before after)
+    (i : ℕ) (below : i < length bytes / 24) (row : RelocationKindInfo) (of : IsOfInstruction row)
+    (is_row : IsRow architecture (relocation_in bytes i).code (Some row)) (operands : Operands)
+    (taken : operands_of architecture addresses symbols row (relocation_in bytes i) ≡ Ok operands)
+  where
+    pub applied : IsApplied row operands (take 4 (drop (offset_at bytes i) before)) (take 4 (drop (offset_at bytes i) after))
+    applied =
+        applied_found architecture addresses bytes symbols before after written i below row of.bits of.insn of.size of.wide
+        of.valued of.alone operands
+        (found_is architecture addresses bytes symbols (relocation_in bytes i) row operands is_row
+        of.valued of.unlabelled taken (of.some operands) (written.can.found i) (written.can.are_found i below))

@@ -4,6 +4,7 @@
 //! `linker_laws`.
 
 ghost use Rattle.linker_final.specs.AArch64Final as aarch64_final;
+ghost use Rattle.linker_final.specs.RiscVFinal as riscv64_final;
 ghost use Rattle.linker_final.specs.X86Final as x86_64_final;
 
 /// x86-64: each instruction whose operand in the GOT became an address, a distance or an offset from
@@ -29,4 +30,18 @@ pub fn aarch64()
     ensures descriptors { aarch64_final.Descriptors }
 {
     linker_laws::rewrites::aarch64();
+}
+
+/// RISC-V: rewritten instructions do in the final bytes what the object's do. They are each load of an
+/// address from the GOT that became a sum of the place and the distance, each low part of an offset that
+/// is over the thread pointer, and each sequence of a TLS descriptor that became one of local-exec. What
+/// became a nop does nothing.
+pub fn riscv64()
+    ensures got_loads { riscv64_final.GotLoads }
+    ensures low_parts { riscv64_final.LowParts }
+    ensures descriptors { riscv64_final.Descriptors }
+    ensures short_descriptors { riscv64_final.ShortDescriptors }
+    ensures nops { riscv64_final.Nops }
+{
+    linker_laws::rewrites::riscv64();
 }

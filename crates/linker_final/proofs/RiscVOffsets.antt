@@ -1,0 +1,136 @@
+-- Low parts of RISC-V that became ones over the thread pointer do in the final bytes what the object's do.
+use Rattle.std.proofs.Common.{◌≡◌, ℕ, ◌+◌, ◌≤◌, [], ◌∷◌, length, refl, sym, ap, subst, ◌∙◌, arith, Option, Some, None, Ok, IsSomeAnd}
+use Rattle.std.specs.Prelude.{IsTrue}
+use Rattle.std.specs.Int.{w32, from_le_bytes}
+use Rattle.linker_elf.specs.Applied.{IsApplied}
+use Rattle.linker_elf.specs.Choices.{entry}
+use Rattle.linker_elf.specs.ElfNames.{code_of}
+use Rattle.linker_elf.specs.RiscVRelocations.{pair_row, riscv_name, riscv_row}
+use Rattle.linker_elf.specs.declared.elf.RelocationInstruction.TheVariants as insns
+use Rattle.linker_elf.specs.declared.elf.RelocationKind.TheVariants.{TpOff}
+use Rattle.linker_elf.specs.declared.riscv64.forms.RiscVInstruction.TheVariants.{IType, SType}
+use Rattle.linker_elf.specs.declared.riscv64.relocations.RiscVRelocation.{RiscVRelocation}
+use Rattle.linker_elf.specs.declared.riscv64.relocations.RiscVRelocation.TheVariants as names
+use Rattle.linker_final.proofs.AArch64Written.{rela, word_same}
+use Rattle.linker_final.proofs.InstructionFields.{IsOfInstruction}
+use Rattle.linker_final.proofs.RiscVChosen.{IsOfEntry, of_entry}
+use Rattle.linker_final.proofs.RiscVWritten.{IsAfter, applied_there, becomes, bytes_there, long_there, made_is, rewritten_after, word_bytes}
+use Rattle.linker_final.specs.AArch64Final.{instruction_at}
+use Rattle.linker_final.specs.Final.{AreBytes}
+use Rattle.linker_final.specs.RiscVFinal.{LowPartDoesTheSame, LowParts, LowPartsOf}
+use Rattle.linker_laws.specs.Machine.{Relocated}
+use Rattle.linker_laws.specs.RiscVMachine.{Action, action_of}
+use Rattle.linker_laws.specs.RiscVRewriteLaws.{Laws, action_at, after_rewrite, offset_row}
+use Rattle.linker_riscv64.specs.RiscVRewrites.{IsAskedFor, adds_low12, by_low_offset, funct3_of, opcode_of, riscv_entries, riscv_matches, tp, with_rs1}
+use Rattle.linker_riscv64.specs.declared.rewrites.RelaxationKind.TheVariants as kinds
+use Rattle.linker_rewriting.specs.Rewritten.{IsMade}
+use Rattle.linker_rewriting.specs.declared.decisions.Decision.TheVariants.{Rewritten}
+use Rattle.linker_section.specs.Needed.{entry_of}
+use Rattle.linker_section.specs.Relocations.{relocation_in}
+use Rattle.linker_section.specs.Values.{entry_address, operands_by, operands_with}
+use Rattle.linker_section.specs.declared.facts.Addresses.{Addresses}
+use Rattle.linker_section.specs.declared.facts.Symbol.{Symbol}
+use Rattle.linker_section.specs.declared.relocations.Rela.{Rela}
+use Rattle.linker_utils.specs.Architectures.{relaxation_rewrite}
+use Rattle.linker_utils.specs.declared.elf.Architecture.TheVariants.{RiscV}
+
+-- ---- rows
+
+abbrev pub low_i : IsAfter names.R_RISCV_TPREL_LO12_I
+low_i = record { row = pair_row TpOff 32 IType; is = refl; named = tt }
+
+abbrev pub of_low_i : IsOfInstruction (pair_row TpOff 32 IType)
+of_low_i =
+    record {
+      bits = record { start = 0; end = 32 };
+      insn = insns.RiscV IType;
+      size = refl;
+      wide = refl;
+      valued = refl;
+      unlabelled = refl;
+      alone = refl;
+      some = λ o. tt;
+    }
+
+abbrev low_s : IsAfter names.R_RISCV_TPREL_LO12_S
+low_s = record { row = pair_row TpOff 32 SType; is = refl; named = tt }
+
+abbrev of_low_s : IsOfInstruction (pair_row TpOff 32 SType)
+of_low_s =
+    record {
+      bits = record { start = 0; end = 32 };
+      insn = insns.RiscV SType;
+      size = refl;
+      wide = refl;
+      valued = refl;
+      unlabelled = refl;
+      alone = refl;
+      some = λ o. tt;
+    }
+
+-- ---- one instruction
+
+mapped : {A : Type 0} {P Q : A → Type 0} → ((x : A) → P x → Q x) → (value : Option A)
+    → IsSomeAnd value P → IsSomeAnd value Q
+mapped each None is = is
+mapped each (Some x) is = each x is
+
+abbrev by_word : ℕ → Option Action
+by_word word = action_of (opcode_of word) (funct3_of word)
+
+module _ (laws : Laws) (name : RiscVRelocation) (a : IsAfter name) (of : IsOfInstruction a.row)
+    (is_row : riscv_row name ≡ Some a.row)
+    (entries : riscv_entries name ≡ (entry kinds.BaseToTp name by_low_offset ∷ []))
+    (adds : (section : _) (o : ℕ) → IsAskedFor name kinds.BaseToTp section o → riscv_matches kinds.BaseToTp section o)
+    (no_entry : (addresses : Addresses) (r : Rela) (symbol : Symbol)
+    → operands_by RiscV addresses a.row r symbol
+    (entry_address addresses symbol (entry_of a.row r.addend symbol.is_thread_local))
+    ≡ Ok (operands_with RiscV addresses a.row symbol r 0)) where
+  pub low_parts_of : LowPartsOf name
+  low_parts_of l linked riscv i chosen below is_name decided =
+      let r = relocation_in l.relocations i in
+      let o = r.offset in
+      let instruction = instruction_at l.section o in
+      let by : IsOfEntry name (entry kinds.BaseToTp name by_low_offset) l.section o chosen =
+      of_entry l linked riscv i (Rewritten chosen) chosen below decided refl name a.named is_name
+      (entry kinds.BaseToTp name by_low_offset) entries in
+      let is = adds l.section o by.asked in
+      let inside : o + 4 ≤ length l.section = is.0 in
+      let long : length instruction ≡ 4 = long_there l.section o inside in
+      let matches : riscv_matches kinds.BaseToTp instruction 0 =
+      (omega (arith, long), subst (λ word. IsTrue (adds_low12 (opcode_of word) (funct3_of word))) (word_same l.section o) (is.1)) in
+      let made : instruction_at l.rewritten o ≡ after_rewrite kinds.BaseToTp instruction 0 =
+      becomes l linked i below (Rewritten chosen) decided (with_rs1 tp)
+      (λ done. subst (λ k. IsMade (relaxation_rewrite k) o l.section l.rewritten) by.kind_is done) inside in
+      let is_made = made_is (with_rs1 tp) instruction long in
+      let after = rela o (code_of (riscv_name name)) r.symbol r.addend in
+      let after_is : relocation_in l.relocations_after i ≡ after =
+      rewritten_after l linked i chosen below kinds.BaseToTp name by.kind_is by.code_is (λ o. refl) (λ a. refl) decided in
+      let sl = linked.same_length in
+      let fl = linked.written.same_length in
+      let final_inside : o + 4 ≤ length l.final = omega (arith, inside, sl, fl) in
+      subst (λ word. IsSomeAnd (by_word word) (λ action. offset_row action ≡ riscv_row name → IsSomeAnd (riscv_row name) (LowPartDoesTheSame l i action)))
+      (sym (word_same l.section o))
+      (mapped (λ action law is_of.
+      subst (λ q. IsSomeAnd q (LowPartDoesTheSame l i action)) (sym is_row)
+      (λ symbol is_symbol h k differs original low small new_small alike base stores of_original.
+      let x = operands_with RiscV l.addresses a.row symbol r 0 in
+      let written : IsApplied a.row x (instruction_at l.rewritten o) (instruction_at l.final o) =
+      applied_there l linked riscv i below name a after after_is refl of symbol 0 (no_entry l.addresses after symbol) is_symbol in
+      let there : IsApplied a.row x (after_rewrite kinds.BaseToTp instruction 0) (instruction_at l.final o) =
+      subst (λ xs. IsApplied a.row x xs (instruction_at l.final o)) made written in
+      let new : Relocated (offset_row action) x (after_rewrite kinds.BaseToTp instruction 0) (instruction_at l.final o) =
+      record {
+        applied = subst (λ q. IsSomeAnd q (λ row. IsApplied row x (after_rewrite kinds.BaseToTp instruction 0) (instruction_at l.final o))) (sym (is_of ∙ is_row)) there;
+        len = long_there l.final o final_inside ∙ sym (ap length is_made);
+        old_bytes = subst AreBytes (sym is_made) (word_bytes (with_rs1 tp (from_le_bytes w32 instruction)));
+        bytes = bytes_there l.final o linked.final_bytes;
+      } in
+      law x x refl low original (instruction_at l.final o) of_original new h k differs small new_small alike base stores))
+      (action_at instruction 0) (laws.low_offsets instruction 0 matches))
+
+pub low_parts : Laws → LowParts
+low_parts laws = (
+  low_parts_of laws names.R_RISCV_TPREL_LO12_I low_i of_low_i refl refl (λ section o asked. asked) (λ addresses r symbol. refl),
+  low_parts_of laws names.R_RISCV_TPREL_LO12_S low_s of_low_s refl refl (λ section o asked. asked) (λ addresses r symbol. refl),
+)

@@ -1,0 +1,16 @@
+use Rattle.linker_final.proofs.RiscVDescriptors.{descriptors, short_descriptors}
+use Rattle.linker_final.proofs.RiscVLoads.{joined}
+use Rattle.linker_final.proofs.RiscVNops.{nops}
+use Rattle.linker_final.proofs.RiscVOffsets.{low_parts}
+use Rattle.linker_final.proofs.laws.riscv64.Goals as goal
+
+pub returns : goal.returns
+returns c =
+    let laws = c.riscv64.ensures.laws in
+    record {
+      got_loads = joined laws;
+      low_parts = low_parts laws;
+      descriptors = descriptors laws;
+      short_descriptors = short_descriptors laws;
+      nops = nops laws;
+    }

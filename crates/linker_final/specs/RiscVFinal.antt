@@ -1,0 +1,208 @@
+-- RISC-V: in the final bytes of a section rewritten instructions do what the object's do with the
+-- values of their relocations (RISC-V ELF psABI, "PC-Relative Symbol Addresses", "Local-Exec TLS
+-- Relaxation", "TLS Descriptors -> Local Exec Relaxation").
+use Rattle.std.specs.Prelude.{◌≡◌, ◌≢◌, ℕ, ◌+◌, ◌<◌, ◌^◌, ◌==◌, Bool, List, [], ◌++◌, Some, Option}
+use Rattle.std.specs.Prelude.{IsSomeAnd, slice_get, ⊤}
+use Rattle.linker_elf.specs.ElfNames.{IsNameOf}
+use Rattle.linker_elf.specs.RiscVRelocations.{riscv_name, riscv_row}
+use Rattle.linker_elf.specs.Value.{sum_64, difference_64}
+use Rattle.linker_elf.specs.declared.elf.RelocationKindInfo.{RelocationKindInfo}
+use Rattle.linker_elf.specs.declared.elf.choice.Choice.{Choice}
+use Rattle.linker_elf.specs.declared.elf.value.Operands.{Operands}
+use Rattle.linker_elf.specs.declared.riscv64.relocations.RiscVRelocation.{RiscVRelocation}
+use Rattle.linker_elf.specs.declared.riscv64.relocations.RiscVRelocation.TheVariants as names
+use Rattle.linker_final.specs.AArch64Final.{IsRewrittenByNoOther, IsWrittenByNoOther}
+use Rattle.linker_final.specs.AArch64Final.{instruction_at}
+use Rattle.linker_final.specs.Final.{Linked, IsLinked, count}
+use Rattle.linker_laws.specs.Machine.{Relocated, but, loaded}
+use Rattle.linker_laws.specs.RiscVMachine.{Action, Hart, register, rs1_of, rs2_of}
+use Rattle.linker_laws.specs.RiscVRewriteLaws.{AreAlike, Changes, Descriptor, DescriptorOf}
+use Rattle.linker_laws.specs.RiscVRewriteLaws.{EndAsReturned, EndSo, GoOn, HaveGoneOn, IsLowOffset}
+use Rattle.linker_laws.specs.RiscVRewriteLaws.{StoresTheSame, action_at, differs_after}
+use Rattle.linker_laws.specs.RiscVRewriteLaws.{even_in_thread, no_register, of_entry, offset_row}
+use Rattle.linker_laws.specs.RiscVRewriteLaws.{scratch_of, word_of}
+use Rattle.linker_laws.specs.Schemes.{AreAddresses, entry_and_addend, symbol_address}
+use Rattle.linker_rewriting.specs.Decisions.{decision_at}
+use Rattle.linker_rewriting.specs.Labels.{IsHighIn}
+use Rattle.linker_rewriting.specs.declared.decisions.Decision.TheVariants.{Redirected, Rewritten}
+use Rattle.linker_rewriting.specs.declared.decisions.Subject.{Subject}
+use Rattle.linker_riscv64.specs.RiscVRewrites.{rd_of, tp}
+use Rattle.linker_riscv64.specs.declared.rewrites.RelaxationKind.{RelaxationKind}
+use Rattle.linker_riscv64.specs.declared.rewrites.RelaxationKind.TheVariants as kinds
+use Rattle.linker_section.specs.Relocations.{relocation_in}
+use Rattle.linker_section.specs.Values.{operands_with}
+use Rattle.linker_section.specs.declared.facts.Symbol.{Symbol}
+use Rattle.linker_utils.specs.declared.architecture.Relaxation.{Relaxation}
+use Rattle.linker_utils.specs.declared.architecture.Relaxation.TheVariants as relaxations
+use Rattle.linker_utils.specs.declared.elf.Architecture.TheVariants.{RiscV}
+
+-- ---- loads of addresses from the GOT
+
+-- The relocations at two indexes are those of an `auipc` and of the `ld` behind it. The symbol of
+-- the second labels the `auipc`. Both are rewritten.
+pub record AreOfLoad (l : Linked) (i j : ℕ) : Type 0 where
+  pub first_below : i < count l
+  pub second_below : j < count l
+  pub next : (relocation_in l.relocations j).offset ≡ (relocation_in l.relocations i).offset + 4
+  pub high : IsNameOf riscv_name (relocation_in l.relocations i).code names.R_RISCV_GOT_HI20
+  pub low : IsNameOf riscv_name (relocation_in l.relocations j).code names.R_RISCV_PCREL_LO12_I
+  pub label : Symbol
+  pub label_is : slice_get l.symbols (relocation_in l.relocations j).symbol ≡ Some label
+  pub labels : difference_64 label.address l.addresses.section
+      ≡ (relocation_in l.relocations i).offset
+  pub high_chosen : Choice Relaxation ℕ
+  pub high_decided : decision_at l.decisions i ≡ Rewritten high_chosen
+  pub low_chosen : Choice Relaxation ℕ
+  pub low_decided : decision_at l.decisions j ≡ Rewritten low_chosen
+
+-- Two harts are alike before the `auipc` of a relocation at an index, and the entry at an address
+-- holds S + A. One runs the object's pair with the values of its relocations, and the other the
+-- final bytes. They end alike, but for the register of the `auipc`, unless the `ld` writes it. The
+-- `ld` is over that register, which isn't x0.
+abbrev pub LoadsTheSame : Linked → ℕ → RelocationKindInfo → Type 0
+LoadsTheSame l i row =
+    let r = relocation_in l.relocations i in
+    let auipc = instruction_at l.section r.offset in
+    let ld = instruction_at l.section (r.offset + 4) in
+    let base = rd_of (word_of auipc) in
+    rs1_of (word_of ld) ≡ base → base ≢ 0
+    → (symbol : Symbol) → slice_get l.symbols r.symbol ≡ Some symbol
+    → (entry : ℕ) (h k : Hart) (auipc_of ld_of : List ℕ)
+    → let operands = operands_with RiscV l.addresses row symbol r entry in
+    AreAddresses operands
+    → loaded 8 h.memory (entry_and_addend operands) ≡ symbol_address operands
+    → h.pc ≡ operands.place → k.pc ≡ operands.place → AreAlike no_register h k
+    → Relocated (riscv_row names.R_RISCV_GOT_HI20) operands auipc auipc_of
+    → Relocated (riscv_row names.R_RISCV_PCREL_LO12_I) (of_entry operands) ld ld_of
+    → EndSo 2 (auipc_of ++ ld_of) h 2
+    (instruction_at l.final r.offset ++ instruction_at l.final (r.offset + 4)) k
+    (HaveGoneOn (but (rd_of (word_of ld)) (λ n. n == base)) (sum_64 operands.place 8)
+    (sum_64 operands.place 8))
+
+-- ---- low parts of offsets from the thread pointer
+
+-- An instruction that adds the low part of an offset to a register, which has the thread pointer's
+-- number. The offset is a number of 12 bits. Two harts are alike but for some registers, each at
+-- its own place. One executes the object's with the value of its relocation, and the other the
+-- final bytes, and both compute the same.
+abbrev pub LowPartDoesTheSame : Linked → ℕ → Action → RelocationKindInfo → Type 0
+LowPartDoesTheSame l i action row =
+    let r = relocation_in l.relocations i in
+    let word = word_of (instruction_at l.section r.offset) in
+    (symbol : Symbol) → slice_get l.symbols r.symbol ≡ Some symbol
+    → (h k : Hart) (differs : ℕ → Bool) (original : List ℕ)
+    → let operands = operands_with RiscV l.addresses row symbol r 0 in
+    IsLowOffset operands → h.pc < 2 ^ 64 → k.pc < 2 ^ 64 → AreAlike differs h k
+    → register h (rs1_of word) ≡ register k tp → StoresTheSame action (rs2_of word) h k
+    → Relocated (offset_row action) operands (instruction_at l.section r.offset) original
+    → EndSo 1 original h 1 (instruction_at l.final r.offset) k (λ a b.
+    AreAlike (differs_after action differs (rd_of word)) a b
+    × GoOn action (rd_of word) (even_in_thread (register k tp) operands) (sum_64 h.pc 4)
+    (sum_64 k.pc 4) a b)
+
+-- ---- TLS descriptors
+
+-- The relocation at an index has a name, and is so many bytes behind the high part of a TLS
+-- descriptor, that at another index, which its symbol labels. It is rewritten by a kind, and gets
+-- the symbol of the high part.
+pub record IsOfDescriptor (l : Linked) (high : ℕ) (name : RiscVRelocation) (distance : ℕ)
+    (kind : RelaxationKind) (n : ℕ) : Type 0 where
+  pub below : n < count l
+  pub name_is : IsNameOf riscv_name (relocation_in l.relocations n).code name
+  pub behind : (relocation_in l.relocations n).offset
+      ≡ (relocation_in l.relocations high).offset + distance
+  pub labels : IsHighIn l.setting l.relocations (relocation_in l.relocations n) (Some high)
+  pub chosen : Choice Relaxation ℕ
+  pub subject : Subject
+  pub decided : decision_at l.decisions n ≡ Redirected chosen subject
+  pub kind_is : chosen.kind ≡ relaxations.RiscV kind
+
+-- Two harts are alike, one before the sequence whose high part is at an index, and one wherever its
+-- last instructions are. The first runs the object's sequence with the values of its relocations to
+-- the call. The second runs so many instructions of the final bytes, which are some distance behind
+-- the high part, and ends as the function returns to the first. What is said of the operands holds.
+abbrev pub OffsetIsTheSame : ℕ → (ℕ → List ℕ) → (Operands → Type 0) → Linked → ℕ
+    → RelocationKindInfo → Type 0
+OffsetIsTheSame n behind Said l high row =
+    let r = relocation_in l.relocations high in
+    let o = r.offset in
+    let auipc = instruction_at l.section o in
+    let ld = instruction_at l.section (o + 4) in
+    let addi = instruction_at l.section (o + 8) in
+    let jalr = instruction_at l.section (o + 12) in
+    (symbol : Symbol) → slice_get l.symbols r.symbol ≡ Some symbol
+    → (call : Hart → Option Hart) (c : Changes) (entry : ℕ) (h k : Hart)
+    → (auipc_of ld_of addi_of : List ℕ)
+    → let operands = operands_with RiscV l.addresses row symbol r entry in
+    Said operands → Descriptor call c operands h auipc ld addi jalr
+    → DescriptorOf operands auipc ld addi auipc_of ld_of addi_of
+    → k.pc < 2 ^ 64 → AreAlike no_register h k
+    → EndAsReturned call (scratch_of auipc ld c) (auipc_of ++ ld_of ++ addi_of ++ jalr) h n
+    (behind o) k
+
+-- The final bytes of an instruction of a descriptor, which became a nop, change nothing but the pc.
+abbrev pub DoesNothing : Linked → ℕ → Type 0
+DoesNothing l i =
+    let o = (relocation_in l.relocations i).offset in
+    (h k : Hart) (differs : ℕ → Bool) → h.pc < 2 ^ 64 → AreAlike differs h k
+    → EndSo 1 (instruction_at l.final o) h 0 [] k (HaveGoneOn differs (sum_64 h.pc 4) k.pc)
+
+-- ---- the laws
+
+-- of every load of an address from the GOT that a linker rewrites, where no other rewrite has a
+-- byte of the `auipc`
+abbrev pub GotLoads : Type 0
+GotLoads =
+    (l : Linked) → IsLinked l → l.setting.architecture ≡ RiscV
+    → (i j : ℕ) → AreOfLoad l i j
+    → IsRewrittenByNoOther l i (relocation_in l.relocations i).offset
+    → IsSomeAnd (riscv_row names.R_RISCV_GOT_HI20) (LoadsTheSame l i)
+
+-- of every low part with a relocation of a name whose instruction is rewritten, and is one that the
+-- relocation is of: a store with that of stores
+abbrev pub LowPartsOf : RiscVRelocation → Type 0
+LowPartsOf name =
+    (l : Linked) → IsLinked l → l.setting.architecture ≡ RiscV
+    → (i : ℕ) (chosen : Choice Relaxation ℕ) → i < count l
+    → IsNameOf riscv_name (relocation_in l.relocations i).code name
+    → decision_at l.decisions i ≡ Rewritten chosen
+    → IsSomeAnd (action_at l.section (relocation_in l.relocations i).offset) (λ action.
+    offset_row action ≡ riscv_row name
+    → IsSomeAnd (riscv_row name) (LowPartDoesTheSame l i action))
+
+abbrev pub LowParts : Type 0
+LowParts = LowPartsOf names.R_RISCV_TPREL_LO12_I × LowPartsOf names.R_RISCV_TPREL_LO12_S
+
+-- of every sequence of a TLS descriptor whose last two instructions became those of local-exec, and
+-- of every one whose last alone did, where the offset is a number of 12 bits
+abbrev pub Descriptors : Type 0
+Descriptors =
+    (l : Linked) → IsLinked l → l.setting.architecture ≡ RiscV → (high add call : ℕ)
+    → IsOfDescriptor l high names.R_RISCV_TLSDESC_ADD_LO12 8 kinds.AddiToLui add
+    → IsOfDescriptor l high names.R_RISCV_TLSDESC_CALL 12 kinds.CallToAddi call
+    → IsSomeAnd (riscv_row names.R_RISCV_TPREL_LO12_I) (OffsetIsTheSame 2
+    (λ o. instruction_at l.final (o + 8) ++ instruction_at l.final (o + 12)) (λ _. ⊤) l high)
+
+abbrev pub ShortDescriptors : Type 0
+ShortDescriptors =
+    (l : Linked) → IsLinked l → l.setting.architecture ≡ RiscV → (high call : ℕ)
+    → IsOfDescriptor l high names.R_RISCV_TLSDESC_CALL 12 kinds.CallToAddiZero call
+    → IsSomeAnd (riscv_row names.R_RISCV_TPREL_LO12_I) (OffsetIsTheSame 1
+    (λ o. instruction_at l.final (o + 12)) IsLowOffset l high)
+
+-- of every instruction of a descriptor that became a nop, where no other relocation has a field in
+-- it
+abbrev pub NopsOf : RiscVRelocation → Type 0
+NopsOf name =
+    (l : Linked) → IsLinked l → l.setting.architecture ≡ RiscV
+    → (i : ℕ) (chosen : Choice Relaxation ℕ) (subject : Subject) → i < count l
+    → IsNameOf riscv_name (relocation_in l.relocations i).code name
+    → decision_at l.decisions i ≡ Redirected chosen subject
+    → chosen.kind ≡ relaxations.RiscV kinds.ReplaceWithLongNop
+    → IsWrittenByNoOther l i (relocation_in l.relocations i).offset
+    → DoesNothing l i
+
+abbrev pub Nops : Type 0
+Nops =
+    NopsOf names.R_RISCV_TLSDESC_HI20 × NopsOf names.R_RISCV_TLSDESC_LOAD_LO12
+    × NopsOf names.R_RISCV_TLSDESC_ADD_LO12
