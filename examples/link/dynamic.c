@@ -33,7 +33,7 @@ static bool may_be_absent(const struct symbol *s) {
 /* Says which symbols other files define, and which they may see. What another file may replace is
  * referred to as if that defined it. */
 void bind_symbols(void) {
-    for (struct symbol *s = symbols; s; s = s->later) {
+    EACH_SYMBOL(s) {
         unsigned visibility = ELF64_ST_VISIBILITY(s->elf.st_other);
         bool is_default = visibility == STV_DEFAULT, is_shared = !linked.is_executable;
         if (s->library && is_thread_local(s) != (ELF64_ST_TYPE(s->there.st_info) == STT_TLS))
@@ -53,33 +53,33 @@ void bind_symbols(void) {
 }
 
 /* How a relocation reaches a symbol of another file, or one of this file wherever it is loaded. */
-void import(struct relocation *r, const struct linker_utils_requirements *needs) {
-    struct symbol *s = r->symbol;
-    uint32_t kind = row_of(r)->kind, type = ELF64_ST_TYPE(s->there.st_info);
+void import(struct section *in, Elf64_Rela *r, const struct linker_utils_requirements *needs) {
+    struct symbol *s = symbol_at(in, r);
+    uint32_t kind = kind_of(in, r)->row.kind, type = ELF64_ST_TYPE(s->there.st_info);
     bool is_in_module = kind == LINKER_UTILS_KIND_DTP_OFF;
     bool is_difference = kind >= LINKER_UTILS_KIND_ABSOLUTE_SET && kind < LINKER_UTILS_KIND_RELATIVE;
     bool is_imported = s->is_imported && !((is_in_module || is_difference) && is_defined(s));
-    bool is_word = needs->is_word && r->section->output->flags & SHF_WRITE;
-    if (!is_dynamic || needs->entry_class || is_left_out(r) || kind == LINKER_UTILS_KIND_NONE ||
-        kind == LINKER_UTILS_KIND_ALIGNMENT || kind == LINKER_UTILS_KIND_TLS_DESC_CALL)
+    bool is_word = needs->is_word && in->output->flags & SHF_WRITE;
+    if (needs->entry_class || kind == LINKER_UTILS_KIND_ALIGNMENT ||
+        kind == LINKER_UTILS_KIND_TLS_DESC_CALL)
         return;
     if (kind == LINKER_UTILS_KIND_TP_OFF ? is_imported || !linked.is_executable
                                          : is_in_module && is_imported)
-        fail("%s can't reach '%s' from such an output", place_of(r), s->name);
+        fail("%s can't reach '%s' from such an output", place_of(in, r), s->name);
     if (!is_imported) {
         if (linked.is_fixed || !needs->depends_on_load || !is_here(s)) return;
         if (!is_word)
-            fail("%s depends on where the output is loaded, to '%s'", place_of(r), s->name);
-        add_row(r->section->output, r->offset, types.relative, s, r->addend);
+            fail("%s depends on where the output is loaded, to '%s'", place_of(in, r), s->name);
+        add_row(in->output, in->offset + r->r_offset, types.relative, s, r->r_addend);
     } else if (needs->may_use_stub) {
         s->has_stub = true;
     } else if (is_word) {
-        add_row(r->section->output, r->offset, types.word, s, r->addend);
+        add_row(in->output, in->offset + r->r_offset, types.word, s, r->r_addend);
     } else if (!linked.is_executable) {
-        fail("%s can't reach '%s', which another file may replace", place_of(r), s->name);
+        fail("%s can't reach '%s', which another file may replace", place_of(in, r), s->name);
     } else if (!may_be_absent(s)) {
         if (ELF64_ST_VISIBILITY(s->there.st_other) == STV_PROTECTED)
-            fail("%s can't replace the protected '%s' of %s", place_of(r), s->name,
+            fail("%s can't replace the protected '%s' of %s", place_of(in, r), s->name,
                  s->library->file.path);
         if (type == STT_FUNC) s->has_stub = s->is_canonical = true;
         else s->is_copied = true;
@@ -117,7 +117,7 @@ static void make_copy(struct symbol *s) {
  * in a slot. If the stub is the function's address other look-ups than of a jump slot find the stub
  * itself; and else in a jump slot a dynamic linker may put the entry for calls within a file. */
 void make_imports(void) {
-    for (struct symbol *s = symbols; s; s = s->later) {
+    EACH_SYMBOL(s) {
         if (s->is_copied && !s->output) make_copy(s);
         if (s->has_stub) s->stub = add_slot(s, s->is_canonical ? types.jump_slot : types.glob_dat);
         if (!s->has_stub || !s->is_canonical) continue;
@@ -136,18 +136,6 @@ void fill_entry(struct symbol *s, const struct entry *e) {
         return;
     if (words.first) add_row(got, e->offset, words.first, s, e->addend);
     if (words.second) add_row(got, e->offset + 8, words.second, s, e->addend);
-}
-
-/* Adds bytes at a section's end, and returns where they are. */
-uint64_t append(struct output *o, uint64_t align, const void *bytes, uint64_t len) {
-    uint64_t at = make_room(o, align, len);
-    memcpy(o->bytes + at, bytes, len);
-    return at;
-}
-
-uint32_t add_name(struct output *o, const char *text) {
-    if (!o->len) make_room(o, 1, 1); /* the first is empty */
-    return (uint32_t)append(o, 1, text, strlen(text) + 1);
 }
 
 /* How many buckets the table of hashes has. */
@@ -215,7 +203,7 @@ static bool has_version(const struct symbol *s) {
 static void list_dynamic(void) {
     for (int is_import = 1; is_import >= 0; is_import--) {
         imports_len = is_import ? 1 : listed_len;
-        for (struct symbol *s = symbols; s; s = s->later) {
+        EACH_SYMBOL(s) {
             if (!is_in_table(s, is_import)) continue;
             listed = grow(listed, listed_len + 1, &listed_room, sizeof *listed);
             listed[listed_len++] = s;

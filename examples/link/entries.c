@@ -9,26 +9,26 @@ struct linker_utils_dynamic_types types;
 /* Code that the linker adds, and where it goes: to the address in a word, or to its target. It is
  * written once addresses are known. */
 struct stub {
-    struct output *output;
-    uint64_t offset;
+    struct section part;
+    struct stub *before;
     const struct output *target;
     uint64_t target_offset;
     const char *name;
     uint32_t kind; /* `enum linker_utils_stub_kind` */
 };
 
-static struct stub *added;
-static size_t added_len, added_room;
+static struct stub *added; /* the last */
 
 /* Adds a stub to a section, and returns the offset of its entry. */
 static uint64_t add_stub(struct output *o, uint32_t kind, const char *name,
                          const struct output *target, uint64_t target_offset) {
     struct linker_utils_stub stub;
+    struct stub *s = take(1, sizeof *s);
     if (linker_utils_stub(machine, kind, &stub)) fail("there is no stub to '%s'", name);
-    added = grow(added, added_len + 1, &added_room, sizeof *added);
-    uint64_t offset = make_room(o, 8, stub.len);
-    added[added_len++] = (struct stub){o, offset, target, target_offset, name, kind};
-    return offset + stub.entry;
+    *s = (struct stub){{.output = o, .len = stub.len}, added, target, target_offset, name, kind};
+    add_part_of(o, &s->part, 8);
+    added = s;
+    return s->part.offset + stub.entry;
 }
 
 /* Adds a stub that goes to the address in a word, and a dynamic relocation of the word. Returns the
@@ -41,74 +41,83 @@ uint64_t add_slot(struct symbol *s, uint32_t type) {
 
 /* Writes all stubs. */
 void write_stubs(void) {
-    for (const struct stub *s = added; s < added + added_len; s++) {
-        uint64_t place = address_of(s->output, s->offset), at = place - s->output->address;
+    for (const struct stub *s = added; s; s = s->before) {
+        struct output *o = s->part.output;
+        uint64_t place = address_of(o, s->part.offset), at = place - o->address;
         uint64_t target = address_of(s->target, s->target_offset);
-        uint32_t status = linker_utils_write_stub(machine, s->kind, place, target,
-                                                  s->output->bytes + at, s->output->len - at);
+        uint32_t status = linker_utils_write_stub(machine, s->kind, place, target, o->bytes + at,
+                                                  o->len - at);
         if (status) fail("a stub to '%s': %s", s->name, linker_utils_status_text(status));
     }
 }
 
-/* The entry of the GOT that a relocation requires; one of the module serves all. */
-static struct entry *entry_of(const struct relocation *r,
-                              const struct linker_utils_requirements *needs) {
-    bool is_module = needs->entry_class == LINKER_UTILS_ENTRY_MODULE;
-    struct entry **at = is_module ? &module_entry : &r->symbol->entries;
+/* Gives a relocation another index of a symbol, with what the symbol's entries have for an addend. */
+static void refer(struct object *o, Elf64_Rela *r, struct symbol *to, int64_t addend) {
+    size_t at = o->symbols_len++, others_len = o->symbols_len - o->mentions_len;
+    o->symbols = grow(o->symbols, o->symbols_len, &o->symbols_room, sizeof *o->symbols);
+    o->addends = grow(o->addends, others_len, &o->addends_room, sizeof *o->addends);
+    o->symbols[at] = to;
+    o->addends[others_len - 1] = addend;
+    r->r_info = ELF64_R_INFO((uint64_t)at, type_of(r));
+}
+
+/* Adds the entry of the GOT that a relocation requires, once; one of the module serves all. */
+static void add_entry(struct section *s, Elf64_Rela *r, const struct linker_utils_requirements *needs) {
+    struct symbol *to = symbol_at(s, r);
+    struct entry **at = &to->entries;
+    if (needs->entry_class == LINKER_UTILS_ENTRY_MODULE) at = &module_entry;
     if (!is_dynamic && needs->entry_class == LINKER_UTILS_ENTRY_DESCRIPTOR)
-        fail("%s is not supported", place_of(r));
+        fail("%s is not supported", place_of(s, r));
     while (*at && ((*at)->class != needs->entry_class || (*at)->addend != needs->entry_addend))
         at = &(*at)->next;
     if (!*at) *at = take(1, sizeof **at);
     (*at)->class = needs->entry_class;
     (*at)->addend = needs->entry_addend;
     got->has_bytes = true;
-    return *at;
+    if (needs->entry_addend) refer(s->object, r, to, needs->entry_addend);
 }
 
 /* Where a branch to a function whose address is in a word enters its stub, counted from the stub's own
  * entry. Where a stub can't restore what the branch's code needs, as where glibc's startup code jumps
  * to `__libc_start_main`, it enters as any other. */
-static int64_t entered_at(const struct relocation *r) {
-    const struct section *s = r->section;
+static int64_t entered_at(const struct section *s, const Elf64_Rela *r) {
     struct linker_utils_stub stub;
     struct linker_utils_route route;
-    Elf64_Rela elf = {r->offset - s->offset, r->type, 0};
-    uint32_t status = linker_utils_route_by_word(machine, 0, (const uint8_t *)&elf, sizeof elf, 0,
-                                                 s->output->bytes + s->offset, s->head->sh_size, &route);
+    uint32_t status = linker_utils_route_by_word(machine, 0, (const uint8_t *)r, sizeof *r, 0,
+                                                 s->output->bytes + s->offset, s->len, &route);
     if (status == LINKER_UTILS_NO_ROOM) return 0;
-    check(r, status);
-    check(r, linker_utils_stub(machine, route.kind, &stub));
+    check(s, r, status);
+    check(s, r, linker_utils_stub(machine, route.kind, &stub));
     return (int64_t)(route.entry - stub.entry);
 }
 
 /* Notes what a relocation requires. A descriptor of a group that doesn't stay is rewritten later. */
-static void require(struct relocation *r) {
-    struct object *o = r->section->object;
-    struct symbol *s = r->symbol;
-    uint32_t kind = row_of(r)->kind;
-    if (s != *o->symbols && kind && !is_defined(s) && rank(s) == 1 && !s->is_imported)
-        fail("%s: undefined symbol '%s'", place_of(r), s->name);
-    if (kind == LINKER_UTILS_KIND_ALIGNMENT && !r->section->output->shrinks)
-        fail("%s is not supported", place_of(r));
-    struct linker_utils_requirements needs = needs_of(r);
+static void require(struct section *s, Elf64_Rela *r) {
+    struct symbol *to = symbol_at(s, r);
+    const struct kind *kind = kind_of(s, r);
+    uint64_t index = ELF64_R_SYM(r->r_info);
+    uint16_t at = to->elf.st_shndx;
+    if (kind->row.kind == LINKER_UTILS_KIND_NONE) return;
+    if (index && !is_defined(to) && rank(to) == 1 && !to->is_imported)
+        fail("%s: undefined symbol '%s'", place_of(s, r), to->name);
+    if (!to->output && at && at < SHN_LORESERVE)
+        fail("%s: '%s' is in a section that is left out", place_of(s, r), to->name);
+    if (kind->row.kind == LINKER_UTILS_KIND_ALIGNMENT && !s->output->shrinks)
+        fail("%s is not supported", place_of(s, r));
+    struct linker_utils_requirements needs = needs_of(s, r);
     bool is_rewritten = needs.entry_class == LINKER_UTILS_ENTRY_DESCRIPTOR && linked.is_executable &&
-                        !s->is_imported && !o->kept[r->index].descriptor;
-    r->may_use_stub = needs.may_use_stub;
-    r->section->has_loads |= needs.entry_class == LINKER_UTILS_ENTRY_ADDRESS;
-    if (needs.entry_class && !is_rewritten) r->entry = entry_of(r, &needs);
-    if (kind && is_ifunc(s)) s->needs_stub = true;
-    if (is_dynamic) import(r, &needs);
-    if (needs.may_use_stub && (is_ifunc(s) || s->is_imported)) r->addend += entered_at(r);
+                        !to->is_imported && !kept[index].descriptor;
+    s->has_loads |= needs.entry_class == LINKER_UTILS_ENTRY_ADDRESS;
+    s->has_numbers |= kind->role != LINKER_UTILS_ROLE_NONE;
+    if (needs.entry_class && !is_rewritten) add_entry(s, r, &needs);
+    if (is_ifunc(to)) to->needs_stub = true;
+    if (is_dynamic) import(s, r, &needs);
+    if (needs.may_use_stub && (is_ifunc(to) || to->is_imported)) r->r_addend += entered_at(s, r);
 }
 
-void require_all(void) {
-    EACH_SECTION(s)
-        for (size_t i = 0; i < s->relocations_len; i++) {
-            struct relocation *r = s->output->relocations + s->first + i;
-            if (i + 8 < s->relocations_len) __builtin_prefetch(r[8].symbol);
-            require(r);
-        }
+/* Notes what an object requires. */
+void require_all(struct object *o) {
+    EACH_SECTION_OF(o, s) EACH_RELOCATION(s, r) require(s, r);
 }
 
 /* An indirect function's address is that of its stub, which goes to the address in a slot. When the
@@ -139,7 +148,7 @@ void make_entries(void) {
     if (got->has_bytes && known_got().has_header) make_room(got, 8, 8);
     bool has_locals = false;
     for (int locals = 0; locals <= has_locals; locals++) {
-        for (struct symbol *s = symbols; s; s = s->later) {
+        EACH_SYMBOL(s) {
             bool is_local = ELF64_ST_BIND(s->elf.st_info) == STB_LOCAL;
             has_locals |= is_local && (s->needs_stub || s->entries);
             if (locals != is_local) continue;
@@ -150,20 +159,16 @@ void make_entries(void) {
     if (module_entry) make_entry(NULL, module_entry);
 }
 
-/* The address that an entry is of. That of a weak thread-local variable that nothing defines is as in
- * ld.lld. */
-static uint64_t target_of(const struct symbol *s, const struct entry *e) {
+/* Writes an entry by the address that it is of. That of a weak thread-local variable that nothing
+ * defines is as in ld.lld. */
+static void write_entry(const struct symbol *s, const struct entry *e) {
+    struct linker_utils_entry_words words;
     uint64_t at = s ? address_of(s->output, s->offset) : 0;
     if (s && is_undefined_weak(s))
         at = e->class == LINKER_UTILS_ENTRY_THREAD_OFFSET   ? tls.origins.thread_pointer
              : e->class == LINKER_UTILS_ENTRY_MODULE_OFFSET ? tls.image
                                                             : 0;
-    return at + (uint64_t)e->addend;
-}
-
-static void write_entry(const struct symbol *s, const struct entry *e) {
-    struct linker_utils_entry_words words;
-    if (!linker_utils_static_words(e->class, target_of(s, e), &tls.origins, &words))
+    if (!linker_utils_static_words(e->class, at + (uint64_t)e->addend, &tls.origins, &words))
         memcpy(got->bytes + e->offset, &words, 8 * linker_utils_entry_words(e->class));
 }
 
@@ -171,7 +176,7 @@ static void write_entry(const struct symbol *s, const struct entry *e) {
 void write_entries(void) {
     struct linker_utils_got known = known_got();
     if (got->len && known.has_header) memcpy(got->bytes, &known.header, sizeof known.header);
-    for (const struct symbol *s = symbols; s; s = s->later)
+    EACH_SYMBOL(s)
         for (const struct entry *e = s->entries; e; e = e->next) write_entry(s, e);
     if (module_entry) write_entry(NULL, module_entry);
 }
@@ -189,41 +194,43 @@ static struct symbol *thunk_to(struct output *o, struct symbol *s, uint64_t abov
     return s->thunks = t;
 }
 
-/* Whether a branch reaches a function of this file, which expects no more than others, wherever
- * both are. */
-static bool is_near(const struct relocation *r) {
-    const struct symbol *s = r->symbol;
-    struct linker_utils_relocation_reach reach;
-    check(r, linker_utils_reach(machine, r->type, &reach));
-    return s->output && s->offset <= s->output->len && !s->has_stub && !r->addend &&
-           !(s->elf.st_other & ~3) && (!reach.has_range || span < (uint64_t)reach.max / 2);
+/* Whether a branch of a kind reaches a function of this file wherever both are. */
+static bool is_near(const struct kind *kind, const Elf64_Rela *r, const struct symbol *to) {
+    return to->output && to->offset <= to->output->len && !to->has_stub && !r->r_addend &&
+           (!kind->reach.has_range || span < (uint64_t)kind->reach.max / 2);
 }
 
-/* Adds a thunk for each branch in code that doesn't reach its target, or whose function expects other
- * registers. Whether it has added one: then addresses change. */
+/* Has a branch in code go by a thunk, if it doesn't reach its target, or its function expects other
+ * registers. Whether it has added one. The answer of what is near is asked for once. */
+static bool add_thunk(struct section *s, Elf64_Rela *r, const struct linker_utils_stub *stub) {
+    struct kind *kind = kind_of(s, r);
+    struct symbol *to = symbol_at(s, r);
+    struct output *o = s->output;
+    if (!kind->needs[0].may_use_stub || to->is_thunk) return false;
+    bool *is_direct = &kind->is_direct[to->elf.st_other & ~3], near = is_near(kind, r, to);
+    if (near && *is_direct) return false;
+    struct linker_utils_route route;
+    Elf64_Rela one = {r->r_offset, ELF64_R_INFO(UINT64_C(1), type_of(r)), r->r_addend};
+    struct linker_utils_symbol known[2] = {{.address = 0}, known_symbol(to, 0)};
+    struct linker_utils_addresses addresses = addresses_of(address_of(o, s->offset));
+    uint32_t status = linker_utils_route_at(machine, &addresses, (const uint8_t *)&one, sizeof one, known,
+                                            2, 0, o->bytes + s->offset, s->len, &route);
+    if (status == LINKER_UTILS_NO_ROOM) check(s, r, status);
+    *is_direct |= near && !status && !route.is_by_stub;
+    if (status || !route.is_by_stub) return false;
+    uint64_t from = to->has_stub ? known[1].stub : known[1].address;
+    refer(s->object, r, thunk_to(o, to, route.target - from), 0);
+    r->r_addend = (int64_t)(route.entry - stub->entry);
+    return true;
+}
+
+/* Adds the thunks of all branches. Whether there are more: then addresses change. */
 bool add_thunks(void) {
     bool has_added = false;
     struct linker_utils_stub stub;
-    struct linker_utils_route route;
     if (linker_utils_stub(machine, LINKER_UTILS_STUB_JUMP, &stub)) return false;
-    EACH_OUTPUT(o) {
-        size_t len = o->flags & SHF_EXECINSTR ? o->relocations_len : 0;
-        for (size_t j = 0; j < len; j++) {
-            struct relocation *r = &o->relocations[j];
-            if (!r->may_use_stub || r->symbol->is_thunk || is_left_out(r) || is_near(r)) continue;
-            struct alone a = alone_of(o, r);
-            uint32_t status = linker_utils_route_at(machine, &a.addresses, (const uint8_t *)&a.elf,
-                                                    sizeof a.elf, a.known, 2, 0, o->bytes, o->len,
-                                                    &route);
-            if (status == LINKER_UTILS_NO_ROOM) check(r, status);
-            if (status || !route.is_by_stub) continue;
-            uint64_t from = r->symbol->has_stub ? a.known[1].stub : a.known[1].address;
-            struct symbol *thunk = thunk_to(o, r->symbol, route.target - from);
-            r = &o->relocations[j]; /* they may have moved */
-            r->symbol = thunk;
-            r->addend = (int64_t)(route.entry - stub.entry);
-            has_added = true;
-        }
-    }
+    EACH_SECTION(s)
+        if (s->output && s->output->flags & SHF_EXECINSTR)
+            EACH_RELOCATION(s, r) has_added |= add_thunk(s, r, &stub);
     return has_added;
 }

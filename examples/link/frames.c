@@ -48,7 +48,7 @@ static int32_t in_index(const struct section *s, uint64_t address) {
 /* Counts the records of functions in a section of unwind information. If there is a table, writes a
  * row for each: the function's address and that of its record. */
 uint64_t read_frames(const struct section *s, const uint8_t *bytes, uint8_t *rows) {
-    uint64_t count = 0, len = s->head->sh_size;
+    uint64_t count = 0, len = s->len;
     uint8_t *is_cie = rows ? take(len, 1) : NULL; /* whether one begins at an offset */
     uint32_t size, back, cie_len;
     for (uint64_t at = 0, next; at + 4 <= len; at = next) {

@@ -55,40 +55,23 @@ void sort_outputs(void) {
     qsort(outputs, outputs_len, sizeof *outputs, by_rank);
 }
 
-struct relocation *add_relocations(struct output *o, size_t len) {
-    o->relocations = grow(o->relocations, o->relocations_len + len + 1, &o->relocations_room,
-                          sizeof *o->relocations);
-    o->relocations_len += len;
-    return o->relocations + o->relocations_len - len;
-}
-
 /* How many bytes the shortest instruction has. */
 uint64_t code_unit(void) { return linker_utils_code_unit(machine, machine_flags); }
 
-/* The relocation at nops that an alignment may not need; 0 where code doesn't become shorter. */
-static uint32_t alignment_type(void) {
-    static uint32_t found, next = 1;
-    struct linker_utils_relocation_info info;
-    for (; next < 256; next++)
-        if (!linker_utils_relocation(machine, next, &info) && info.kind == LINKER_UTILS_KIND_ALIGNMENT)
-            found = next;
-    return found;
+/* Whether code may become shorter. */
+static bool may_shrink(void) {
+    size_t len, at;
+    return !linker_utils_section_items(machine, NULL, 0, 0, NULL, 0, NULL, 0, NULL, 0, &len, &at);
 }
 
 /* The offset of new room at a section's end. Gaps in code have instructions that trap, or zeros, as
- * ld.lld's; where code shrinks they are as long as may be needed, and a relocation cuts them. */
+ * ld.lld's; where code shrinks they are as long as may be needed. */
 uint64_t make_room(struct output *o, uint64_t align, uint64_t len) {
-    uint64_t start = o->len, offset = align ? round_up(start, align) : start;
-    uint64_t unit = o->shrinks ? code_unit() : 0;
-    if (len > MOST_BYTES || offset + len > MOST_BYTES) fail("section %s is too large", o->name);
+    uint64_t start = o->len, offset = start, unit = o->shrinks && start ? code_unit() : MOST_ALIGN;
     if (align & (align - 1) || align > MOST_ALIGN) fail("section %s can't be aligned so", o->name);
-    if (o->shrinks && start && align > unit) {
-        offset = round_up(start, unit);
-        *add_relocations(o, 1) = (struct relocation){
-            .offset = offset, .addend = (int64_t)(align - unit),
-            .type = alignment_type()};
-        offset += align - unit;
-    }
+    o->gap = align > unit ? align - unit : 0;
+    if (align) offset = o->gap ? round_up(start, unit) + o->gap : round_up(start, align);
+    if (len > MOST_BYTES || offset + len > MOST_BYTES) fail("section %s is too large", o->name);
     if (align > o->align) o->align = align;
     o->len = offset + len;
     if (!o->has_bytes) return offset;
@@ -98,43 +81,60 @@ uint64_t make_room(struct output *o, uint64_t align, uint64_t len) {
     return offset;
 }
 
+/* Adds bytes at a section's end, and returns where they are. */
+uint64_t append(struct output *o, uint64_t align, const void *bytes, uint64_t len) {
+    uint64_t at = make_room(o, align, len);
+    if (len) memcpy(o->bytes + at, bytes, len);
+    return at;
+}
+
+uint32_t add_name(struct output *o, const char *text) {
+    if (!o->len) make_room(o, 1, 1); /* the first is empty */
+    return (uint32_t)append(o, 1, text, strlen(text) + 1);
+}
+
 /* Says which section a section goes into, and what that one is like. */
 void add_section(struct section *s) {
     const Elf64_Shdr *head = s->head;
     if (!(head->sh_flags & SHF_ALLOC) || head->sh_type == SHT_NOTE || s->is_discarded) return;
     bool has_bytes = head->sh_type != SHT_NOBITS, is_code = head->sh_flags & SHF_EXECINSTR;
     struct output *o = s->output = output_of(s->name);
-    if (o == got || o == slots || o == stubs || o == rela || o == index_of || o == headers ||
-        (!has_bytes && (s->relocations || o == frames)))
+    if (o->is_own || (!has_bytes && (s->table || o == frames)))
         fail("%s: a section %s is not supported", s->object->path, s->name);
     if (o->flags && (o->flags ^ head->sh_flags) & SHF_TLS)
         fail("%s: %s is thread-local, and elsewhere it is not", s->object->path, s->name);
     o->flags |= head->sh_flags;
     o->has_bytes |= has_bytes;
-    o->shrinks |= alignment_type() && has_bytes && is_code && !(head->sh_flags & SHF_TLS);
-    if (has_bytes) o->room += head->sh_size + head->sh_addralign % MOST_ALIGN;
-    o->relocations_room += 1 + (s->relocations ? s->relocations->sh_size / sizeof(Elf64_Rela) : 0);
+    o->shrinks |= may_shrink() && has_bytes && is_code && !(head->sh_flags & SHF_TLS);
+    s->len = head->sh_size;
+    if (has_bytes) o->room += s->len + head->sh_addralign % MOST_ALIGN;
     uint64_t rows = o == frames ? read_frames(s, s->object->bytes + head->sh_offset, NULL) : 0;
     if (rows) make_room(index_of, 4, 8 * rows + (index_of->len ? 0 : 12));
 }
 
-/* Makes room for all bytes and relocations that objects have, in one piece. */
-void reserve_outputs(void) {
-    EACH_OUTPUT(o) {
-        if (!o->bytes) o->bytes = take(o->room, 1);
-        o->relocations = take(o->relocations_room, sizeof *o->relocations);
-    }
+/* Adds a part to the end of a section. */
+void add_part_of(struct output *o, struct section *s, uint64_t align) {
+    s->offset = make_room(o, align, s->len);
+    s->gap = (uint32_t)o->gap;
+    if (!o->shrinks) return;
+    *(o->last ? &o->last->behind : &o->first) = s;
+    o->last = s;
 }
 
 /* Copies a section to where it goes. The unwind information has no gaps: they would end it. */
 void copy_section(struct section *s) {
     struct output *o = s->output;
     if (!o) return;
-    s->offset = make_room(o, o == frames ? 1 : s->head->sh_addralign, s->head->sh_size);
-    s->end = s->offset + s->head->sh_size;
-    if (s->head->sh_type != SHT_NOBITS && s->head->sh_size)
-        memcpy(o->bytes + s->offset, s->object->bytes + s->head->sh_offset, s->head->sh_size);
-    if (s->relocations) read_relocations(s);
+    add_part_of(o, s, o == frames ? 1 : s->head->sh_addralign);
+    if (s->head->sh_type != SHT_NOBITS && s->len)
+        memcpy(o->bytes + s->offset, s->object->bytes + s->head->sh_offset, s->len);
+    if (s->table) read_relocations(s);
+}
+
+/* An alignment, of so many bytes, whose offset is that in its run. */
+struct linker_utils_item alignment_item(uint64_t at, uint64_t align, uint64_t len) {
+    return (struct linker_utils_item){.offset = at, .target = at, .alignment = align,
+                                      .len = (uint32_t)len, .kind = LINKER_UTILS_ITEM_ALIGNMENT};
 }
 
 /* Where the next section goes: its offset in a run, and the least and the greatest address that it
@@ -167,9 +167,7 @@ static void align_next(struct place *p, struct output *o, uint64_t align) {
         uint64_t address = p->run->start + p->at;
         if (align < unit) align = unit;
         len = round_up(address + align - unit, unit) - address;
-        o->before = (struct linker_utils_item){.offset = p->at, .target = p->at, .alignment = align,
-                                               .len = (uint32_t)len,
-                                               .kind = LINKER_UTILS_ITEM_ALIGNMENT};
+        o->before = alignment_item(p->at, align, len);
     }
     p->at += len;
     p->low = round_up(p->low, align);
@@ -250,29 +248,10 @@ void place_outputs(void) {
     set_addresses();
 }
 
-/* Counts the deltas before each block of a run, so that few are searched for an offset. */
-void index_deltas(struct run *run) {
-    const struct linker_utils_delta *deltas = run->deltas;
-    uint64_t last = run->deltas_len ? deltas[run->deltas_len - 1].input_offset : 0;
-    while (last >> run->block > 2 * run->deltas_len) run->block++;
-    run->firsts_len = (size_t)(last >> run->block) + 2;
-    run->firsts = take(run->firsts_len, sizeof *run->firsts);
-    for (uint32_t i = 0, k = 0; i < run->firsts_len; run->firsts[i++] = k)
-        while (k < run->deltas_len && deltas[k].input_offset >> run->block < i) k++;
-}
-
+/* The address of what was at an offset of a run. */
 static uint64_t address_in(const struct run *run, uint64_t offset) {
-    if (!run->deltas_len) return run->start + offset;
-    uint64_t block = offset >> run->block;
-    size_t at = run->firsts[block < run->firsts_len ? block : run->firsts_len - 1], end = at + 16;
-    if (end > run->deltas_len) end = run->deltas_len;
-    while (at < end && run->deltas[at].input_offset < offset) at++;
-    if (at == end && end < run->deltas_len)
-        return run->start + linker_utils_deltas_input_to_output(run->deltas, run->deltas_len, offset);
-    if (!at) return run->start + offset;
-    const struct linker_utils_delta *before = &run->deltas[at - 1];
-    uint64_t past = offset - before->input_offset, bytes = before->bytes_deleted;
-    return run->start + offset - before->cumulative_deleted + (past < bytes ? bytes - past : 0);
+    return run->start + linker_utils_deltas_input_to_output_by_heads(
+                            run->deltas, run->deltas_len, run->heads, run->heads_len, offset);
 }
 
 /* Sets the addresses of the sections, by what the runs lose. */

@@ -15,19 +15,17 @@
  * - frames.c: the table of unwind information
  * - output.c: the file with its symbols
  *
- * The first error ends it, and of memory it frees only what is large. */
+ * Relocations stay as objects have them, ELF's own, in a copy of each section's: the library reads
+ * and rewrites them there. The first error ends the linker, and of memory it frees only what is
+ * large. */
 #ifndef LINK_H
 #define LINK_H
 
 #include <elf.h>
-#include <fcntl.h>
 #include <inttypes.h>
 #include <stdio.h>
 #include <stdlib.h>
 #include <string.h>
-#include <sys/mman.h>
-#include <sys/stat.h>
-#include <unistd.h>
 
 #include "linker_utils.h"
 
@@ -46,11 +44,14 @@
 enum { RANK_HEADERS, RANK_FIXED, RANK_CODE, RANK_TLS, RANK_TLS_BSS, RANK_ARRAYS, RANK_RELOCATED = 8,
        RANK_GOT, RANK_DATA = RANK_GOT + 2, RANK_SMALL_DATA, RANK_BSS };
 
-/* each section of the linked file, and each that objects have, in their order */
+/* each section of the linked file, each that objects have, and each symbol, in their order */
 #define EACH_OUTPUT(o) for (struct output *o, **o##_at = outputs; (o = *o##_at); o##_at++)
-#define EACH_SECTION(s)                                        \
-    for (struct object *s##_of = objects; s##_of; s##_of = s##_of->next) \
-        for (struct section *s = s##_of->sections; s < s##_of->sections + s##_of->sections_len; s++)
+#define EACH_OBJECT(o) for (struct object *o = objects; o; o = o->next)
+#define EACH_SECTION_OF(o, s) for (struct section *s = o->sections; s < o->sections + o->sections_len; s++)
+#define EACH_SECTION(s) EACH_OBJECT(s##_of) EACH_SECTION_OF(s##_of, s)
+#define EACH_SYMBOL(s) for (struct symbol *s = symbols; s; s = s->later)
+#define EACH_RELOCATION(s, r) \
+    for (Elf64_Rela *r = s->relocations; r < s->relocations + s->relocations_len; r++)
 
 #define fail(...) (fprintf(stderr, __VA_ARGS__), fputc('\n', stderr), exit(1))
 
@@ -60,30 +61,29 @@ enum { RANK_HEADERS, RANK_FIXED, RANK_CODE, RANK_TLS, RANK_TLS_BSS, RANK_ARRAYS,
 struct run {
     uint64_t start;
     struct linker_utils_delta *deltas;
-    uint32_t *firsts; /* of each block of bytes: how many deltas are before it */
-    size_t deltas_len, firsts_len;
-    unsigned block; /* the exponent of two of its length */
+    struct linker_utils_block_head *heads; /* of the deltas */
+    size_t deltas_len, heads_len;
 };
 
 /* A section of the linked file. Offsets in it count from before bytes are deleted. */
 struct output {
     const char *name;
-    uint64_t flags, align, len, room;
+    uint64_t flags, align, len;
+    size_t room;
     uint64_t place, address; /* by the command line; and at last, or if all bytes stayed */
     uint8_t *bytes;
     struct run *run;
     uint64_t base;                   /* its offset in the run */
     struct linker_utils_item before; /* the alignment before it; of length 0 where there is none */
-    size_t items_len;                /* in it */
     bool has_bytes, is_placed, shrinks; /* in the file; by the command line; code that relaxes */
+    bool is_own;                        /* the linker's own: no object has a part of it */
     unsigned rank, priority;            /* its place among the others */
     uint16_t index;                     /* of its header; 0 where it has none */
     uint32_t type, info;                /* in its header, as these two; of ordinary bytes if 0 */
     const struct output *link;
     uint64_t element;                   /* how many bytes an element has; 0 where it has none */
-    struct relocation *relocations;
-    struct linker_utils_deletion *deleted; /* by rewrites, in their order */
-    size_t relocations_len, relocations_room, deleted_len, deleted_room;
+    struct section *first, *last;       /* of its parts, where it shrinks */
+    uint64_t gap;                       /* and the alignment before what is at its end */
 };
 
 struct object {
@@ -91,34 +91,33 @@ struct object {
     const char *path;
     const uint8_t *bytes;
     const Elf64_Shdr *heads;
-    struct section *sections; /* one for each head */
-    struct symbol **symbols;   /* as all objects say */
+    struct section *sections;  /* one for each head */
+    struct symbol **symbols;   /* as all objects say; behind its own those that relocations get */
+    int64_t *addends;          /* of the entries in the GOT, of those behind its own */
     const Elf64_Sym *mentions; /* as it says itself */
     const char *names;         /* of these */
     uint32_t *hashes;          /* of the names of the global ones */
     struct object *below;      /* in the stack of those that are being read */
-    size_t len, sections_len, symbols_len, resolved_len;
-    uint32_t flags; /* `e_flags` */
-    struct linker_utils_kept_groups *kept; /* by symbol, which groups of instructions stay */
+    size_t len, sections_len, symbols_len, mentions_len, resolved_len, symbols_room, addends_room;
+    uint32_t flags;                  /* `e_flags` */
     bool is_threaded, is_compressed; /* it mentions thread-local symbols; has the shortest instructions */
 };
 
+/* A section of an object, or code that the linker adds. */
 struct section {
-    struct object *object;
+    struct object *object; /* null where the linker itself adds it */
     const char *name;
-    const Elf64_Shdr *head, *relocations; /* null where it has none */
-    struct output *output;                /* null where it is left out */
-    uint64_t offset, end;                 /* in the output */
-    size_t first, relocations_len;        /* of its relocations, in those of the output */
+    const Elf64_Shdr *head, *table; /* of its relocations: null where it has none */
+    struct output *output;          /* null where it is left out */
+    struct section *behind;         /* the next one in code that shrinks */
+    uint64_t offset, len;           /* in the output */
+    Elf64_Rela *relocations;        /* their offsets count from the section */
+    struct linker_utils_deletion *deleted; /* by rewrites, in their order */
+    bool *kept_words; /* by relocations: instructions that load the word can't compute what it has */
+    uint32_t relocations_len, deleted_len, first_item, items_len;
+    uint32_t gap;      /* before it, where code shrinks */
     bool is_discarded; /* SHF_EXCLUDE, or of a group that an earlier object has too */
-    bool has_loads;    /* of addresses in the GOT */
-};
-
-struct archive {
-    struct object file;
-    const char *names; /* the long names of members */
-    size_t names_len;
-    bool *is_loaded; /* by half of a member's offset */
+    bool has_loads, has_numbers; /* of addresses in the GOT; ULEB128 ones that are added to */
 };
 
 /* A version of a library. */
@@ -144,7 +143,7 @@ struct symbol {
     Elf64_Sym elf;
     struct symbol *later;  /* as objects mention them */
     struct entry *entries; /* in the GOT */
-    uint32_t number;       /* in the table that the library reads; 0 where it isn't there yet */
+    uint32_t dynamic;      /* in the table of dynamic symbols */
     uint16_t version;      /* in its library */
     bool is_listed : 1, needs_stub : 1, is_thunk : 1; /* (an indirect function that is used needs one) */
     bool is_imported : 1, is_exported : 1; /* other files define it, or may replace it; or may see it */
@@ -157,7 +156,6 @@ struct symbol {
     struct library *library; /* the first that defines it; null where none does */
     Elf64_Sym there;         /* as that has it */
     uint64_t stub;           /* to a function of another file, where `has_stub` */
-    uint32_t dynamic;        /* in the table of dynamic symbols */
 };
 
 /* An entry of the GOT. */
@@ -165,26 +163,16 @@ struct entry {
     struct entry *next; /* of its symbol */
     int64_t addend;     /* on AArch64 and PowerPC64 the entry is of S + A */
     uint64_t offset;
-    uint32_t class;  /* `enum linker_utils_entry_class` */
-    uint32_t number; /* of its symbol with this entry, in the table that the library reads */
+    uint32_t class;     /* `enum linker_utils_entry_class` */
 };
 
-struct relocation {
-    struct section *section; /* null where the linker itself adds it */
-    struct symbol *symbol;
-    struct entry *entry;
-    uint64_t offset; /* in the output */
-    int64_t addend;
-    uint32_t type, index; /* of its symbol in the object */
-    bool may_use_stub;
-    bool is_kept; /* of a word that instructions load: one of them can't compute what it has */
-};
-
-/* A relocation by itself, of the second of two symbols, and what is known of both. */
-struct alone {
-    Elf64_Rela elf;
-    struct linker_utils_symbol known[2];
-    struct linker_utils_addresses addresses;
+/* What the library says of a type of relocations, asked once for each. */
+struct kind {
+    struct linker_utils_relocation_info row;
+    struct linker_utils_relocation_reach reach;
+    struct linker_utils_requirements needs[2]; /* without an addend; of a thread-local symbol */
+    enum linker_utils_role role;               /* at a ULEB128 number */
+    bool is_known, is_direct[256]; /* by `st_other`: a branch that reaches a symbol needs no thunk */
 };
 
 /* The TLS segment: where its image is, its length and alignment, and what offsets count from. */
@@ -214,25 +202,37 @@ extern size_t outputs_len;
 extern uint64_t span; /* of the linked file's addresses */
 extern struct tls tls;
 extern struct entry *module_entry; /* of the GOT; null where no relocation requires it */
+extern struct linker_utils_kept_groups *kept; /* which groups of the last object stay */
 
 static inline int order(uint64_t a, uint64_t b) { return a < b ? -1 : a > b; }
 
-void *take(uint64_t count, size_t size), *grow(void *array, size_t need, size_t *room, size_t size);
-void give_back(void *memory, uint64_t count, size_t size);
-uint64_t round_up(uint64_t at, uint64_t align);
-const char *place_of(const struct relocation *r);
-void check(const struct relocation *r, uint32_t status);
-const struct linker_utils_relocation_info *row_of(const struct relocation *r);
-struct linker_utils_requirements needs_of(const struct relocation *r);
+static inline uint32_t type_of(const Elf64_Rela *r) { return ELF64_R_TYPE(r->r_info); }
 
+static inline struct symbol *symbol_at(const struct section *s, const Elf64_Rela *r) {
+    return s->object->symbols[ELF64_R_SYM(r->r_info)];
+}
+
+static inline void set_type(Elf64_Rela *r, uint32_t type) {
+    r->r_info = ELF64_R_INFO(ELF64_R_SYM(r->r_info), type);
+}
+
+/* main.c */
+void *zeros(uint64_t count, size_t size), *take(uint64_t count, size_t size);
+void *grow(void *array, size_t need, size_t *room, size_t size);
+uint64_t round_up(uint64_t at, uint64_t align);
+
+/* objects.c */
 void demand(const struct object *o, bool holds, const char *otherwise);
 void read_heads(struct object *o, uint16_t type, const char *otherwise);
 const char *text_at(const struct object *o, const char *section, uint64_t table, uint64_t at);
 const void *table_of(const struct object *o, const Elf64_Shdr *head, size_t size, size_t *len);
 void read_file(const char *path), load_member(struct archive *a, uint64_t offset);
+
+/* libraries.c */
 void read_library(struct object file);
 uint64_t import_align(const struct symbol *s);
 
+/* symbols.c */
 uint32_t gnu_hash(const char *name), hash_of(const char *name);
 void expect(uint32_t hash);
 struct symbol **global(const char *name), *resolve(struct symbol *s, uint32_t hash);
@@ -241,42 +241,56 @@ void offer(const char *name, struct archive *a, uint64_t member);
 struct symbol *offer_import(const char *name, struct library *l, const Elf64_Sym *elf,
                             uint16_t version);
 bool is_first_group(const char *name);
-void list_symbol(struct symbol *s), list_symbols(void), define_symbols(void), place_symbol(struct symbol *s);
-
-struct output *output_of(const char *name);
-struct relocation *add_relocations(struct output *o, size_t len);
-uint64_t code_unit(void), make_room(struct output *o, uint64_t align, uint64_t len);
-uint64_t address_of(const struct output *o, uint64_t offset);
-void place_outputs(void), index_deltas(struct run *run), set_addresses(void);
-void add_section(struct section *s), reserve_outputs(void), copy_section(struct section *s), sort_outputs(void);
-
-void rewrite_phases(uint32_t first, uint32_t last), rewrite_placed(void), require_all(void);
-void make_entries(void);
-void read_relocations(struct section *s), write_entries(void), write_stubs(void), relax(void);
-void relocate(void);
-bool is_of_addresses(const char *name), is_ifunc(const struct symbol *s), add_thunks(void);
+void list_symbol(struct symbol *s), list_symbols(void), define_symbols(void);
+void place_common(struct symbol *s), place_symbol(struct symbol *s);
+bool is_thread_local(const struct symbol *s), is_undefined_weak(const struct symbol *s);
 bool is_defined(const struct symbol *s), is_here(const struct symbol *s);
-uint64_t add_slot(struct symbol *s, uint32_t type);
+bool is_ifunc(const struct symbol *s);
+
+/* layout.c */
+struct output *output_of(const char *name);
+uint64_t code_unit(void), make_room(struct output *o, uint64_t align, uint64_t len);
 uint64_t append(struct output *o, uint64_t align, const void *bytes, uint64_t len);
 uint32_t add_name(struct output *o, const char *text);
+void add_part_of(struct output *o, struct section *s, uint64_t align);
+struct linker_utils_item alignment_item(uint64_t at, uint64_t align, uint64_t len);
+uint64_t address_of(const struct output *o, uint64_t offset);
+void place_outputs(void), set_addresses(void);
+void add_section(struct section *s), copy_section(struct section *s), sort_outputs(void);
+bool is_of_addresses(const char *name);
+
+/* relocate.c */
+const char *place_of(const struct section *s, const Elf64_Rela *r);
+void check(const struct section *s, const Elf64_Rela *r, uint32_t status);
+void read_relocations(struct section *s);
+struct kind *kind_of(const struct section *s, const Elf64_Rela *r);
+struct linker_utils_requirements needs_of(const struct section *s, const Elf64_Rela *r);
+struct linker_utils_got known_got(void);
+struct linker_utils_symbol known_symbol(const struct symbol *s, int64_t addend);
+struct linker_utils_addresses addresses_of(uint64_t start);
+void relocate_object(struct object *o, const struct linker_utils_symbol *values);
+
+/* rewrite.c */
+void rewrite_object(struct object *o, uint32_t first, uint32_t last);
+void relocate(void);
+
+/* entries.c */
+void require_all(struct object *o), make_entries(void), write_entries(void), write_stubs(void);
+bool add_thunks(void);
+uint64_t add_slot(struct symbol *s, uint32_t type);
+
+/* dynamic.c */
 void bind_symbols(void), make_imports(void), make_dynamic(void);
-void import(struct relocation *r, const struct linker_utils_requirements *needs);
+void import(struct section *s, Elf64_Rela *r, const struct linker_utils_requirements *needs);
 void add_row(struct output *o, uint64_t offset, uint32_t type, struct symbol *s, int64_t addend);
 void fill_entry(struct symbol *s, const struct entry *e);
 bool write_dynamic(void);
-struct linker_utils_got known_got(void);
-struct linker_utils_symbol known_symbol(const struct symbol *s);
-struct linker_utils_addresses addresses_of(uint64_t start);
-struct alone alone_of(const struct output *o, const struct relocation *r);
-bool is_left_out(const struct relocation *r), is_undefined_weak(const struct symbol *s);
-bool is_thread_local(const struct symbol *s);
-Elf64_Sym symbol_of(const struct symbol *s);
-uint64_t read_frames(const struct section *s, const uint8_t *bytes, uint8_t *rows);
-void index_frames(void), write_file(const char *path, uint64_t entry, bool has_symbols);
 
-/* The offset of a relocation in its section, which is at an address. */
-static inline uint64_t offset_in(const struct section *s, const struct relocation *r, uint64_t start) {
-    return s->output->shrinks ? address_of(s->output, r->offset) - start : r->offset - s->offset;
-}
+/* relax.c, frames.c, output.c */
+void relax(void);
+uint64_t read_frames(const struct section *s, const uint8_t *bytes, uint8_t *rows);
+void index_frames(void);
+Elf64_Sym symbol_of(const struct symbol *s);
+void write_file(const char *path, uint64_t entry, bool has_symbols);
 
 #endif

@@ -12,120 +12,112 @@ uint16_t machine;
 uint32_t machine_flags;
 bool relaxes = true, has_short_offsets = false;
 
-/* How much of a block so many elements take; 0 where they are too large for that. */
-static size_t len_in_block(uint64_t count, size_t size) {
-    return count < BLOCK / 16 / size ? (count * size + 16) & ~(size_t)15 : 0;
-}
+static const char *path; /* of the output */
+static bool has_symbols = true, is_placed = false;
 
-/* Memory that is all zeros. */
-void *take(uint64_t count, size_t size) {
-    static uint8_t *block;
-    static size_t left;
-    size_t len = len_in_block(count, size);
-    if (len > left) block = take(left = BLOCK, 1);
-    void *memory = len ? block : calloc(count ? count : 1, size);
+/* An array that is all zeros, which may be freed. */
+void *zeros(uint64_t count, size_t size) {
+    void *memory = calloc(count ? count : 1, size);
     if (!memory) fail("out of memory");
-    if (len) block += len;
-    left -= len;
     return memory;
 }
 
-/* Gives back what was taken, if it is large. */
-void give_back(void *memory, uint64_t count, size_t size) {
-    if (BLOCK && !len_in_block(count, size)) free(memory);
+/* The same for good, what is small in a block with others. */
+void *take(uint64_t count, size_t size) {
+    static uint8_t *block;
+    static size_t left;
+    if (count >= BLOCK / 16 / size) return zeros(count, size);
+    size_t len = (count * size + 15) & ~(size_t)15;
+    if (len > left) block = zeros(left = BLOCK, 1);
+    left -= len;
+    return (block += len) - len;
 }
 
-/* An array with room for so many elements: twice as many where it has to grow. */
+/* An array with room for so many elements: at first for as many as `room` says, and twice as many where
+ * it has to grow. */
 void *grow(void *array, size_t need, size_t *room, size_t size) {
-    if (need <= *room) return array;
-    void *more = take(2 * need, size);
+    if (array && need <= *room) return array;
+    size_t most = need <= *room ? *room : 2 * need;
+    void *more = zeros(most, size);
     if (array) memcpy(more, array, *room * size);
-    if (array) give_back(array, *room, size);
-    *room = 2 * need;
+    free(array);
+    *room = most;
     return more;
 }
 
 uint64_t round_up(uint64_t at, uint64_t align) { return (at + align - 1) & ~(align - 1); }
 
-/* Where a relocation is, and its name, as "b.o: .text+0x1c: R_RISCV_JAL". */
-const char *place_of(const struct relocation *r) {
-    static char text[4096];
-    uint8_t name[LINKER_UTILS_NAME_SIZE];
-    size_t len = 0;
-    linker_utils_relocation_name(machine, r->type, name, sizeof name, &len);
-    uint64_t offset = r->section ? r->offset - r->section->offset : r->offset;
-    snprintf(text, sizeof text, "%s: %s+0x%" PRIx64 ": %.*s",
-             r->section ? r->section->object->path : "the linker's own code and tables",
-             r->section ? r->section->name : "", offset, (int)len, (const char *)name);
-    return text;
-}
-
-void check(const struct relocation *r, uint32_t status) {
-    if (status) fail("%s: %s", place_of(r), linker_utils_status_text(status));
-}
-
-/* A section that the linker itself fills. */
-static struct output *own_section(const char *name, uint64_t flags, uint32_t type, uint64_t element,
-                                  const struct output *link) {
-    struct output *o = output_of(name);
-    o->flags = SHF_ALLOC | flags;
-    o->has_bytes = true;
-    o->type = type;
-    o->element = element;
-    o->link = link;
-    return o;
-}
-
+/* Makes the sections that the linker itself fills. */
 static void make_sections(void) {
-    got = own_section(".got", SHF_WRITE, 0, 0, NULL);
-    got->has_bytes = false;
-    stubs = own_section(is_dynamic ? ".plt" : ".iplt", SHF_EXECINSTR, 0, 0, NULL);
-    slots = own_section(is_dynamic ? ".got.plt" : ".igot.plt", SHF_WRITE, 0, 0, NULL);
-    index_of = own_section(".eh_frame_hdr", 0, 0, 0, NULL);
-    headers = own_section("the headers", 0, 0, 0, NULL);
+    const struct {
+        struct output **made;
+        const char *name;
+        uint64_t flags, element;
+        uint32_t type;
+        struct output **link;
+    } own[] = {
+        {&stubs, is_dynamic ? ".plt" : ".iplt", SHF_EXECINSTR, 0, 0, NULL},
+        {&slots, is_dynamic ? ".got.plt" : ".igot.plt", SHF_WRITE, 0, 0, NULL},
+        {&index_of, ".eh_frame_hdr", 0, 0, 0, NULL},
+        {&headers, "the headers", 0, 0, 0, NULL},
+        {&got, ".got", SHF_WRITE, 0, 0, NULL},
+        {&rela, is_dynamic ? ".rela.dyn" : ".rela_iplt", 0, sizeof(Elf64_Rela), SHT_RELA, &dynsym},
+        /* for a dynamic linker, the last one in an executable: */
+        {&dynstr, ".dynstr", 0, 0, SHT_STRTAB, NULL},
+        {&dynsym, ".dynsym", 0, sizeof(Elf64_Sym), SHT_DYNSYM, &dynstr},
+        {&hash_table, ".gnu.hash", 0, 0, SHT_GNU_HASH, &dynsym},
+        {&versym, ".gnu.version", 0, sizeof(Elf64_Half), SHT_GNU_versym, &dynsym},
+        {&verneed, ".gnu.version_r", 0, 0, SHT_GNU_verneed, &dynstr},
+        {&dynamic, ".dynamic", SHF_WRITE, sizeof(Elf64_Dyn), SHT_DYNAMIC, &dynstr},
+        {&interpreter, ".interp", 0, 0, 0, NULL}};
+    int len = !is_dynamic ? 6 : !linked.is_executable ? 12 : 13;
+    for (int i = 0; i < len; i++) {
+        struct output *o = *own[i].made = output_of(own[i].name);
+        o->flags = SHF_ALLOC | own[i].flags;
+        o->has_bytes = own[i].made != &got;
+        o->is_own = true;
+        o->element = own[i].element;
+        o->type = own[i].type;
+    }
+    for (int i = 0; i < len; i++) (*own[i].made)->link = own[i].link ? *own[i].link : NULL;
     frames = output_of(".eh_frame");
-    rela = own_section(is_dynamic ? ".rela.dyn" : ".rela_iplt", 0, SHT_RELA, sizeof(Elf64_Rela), NULL);
-    if (!is_dynamic) return;
-    if (linked.is_executable) interpreter = own_section(".interp", 0, 0, 0, NULL);
-    dynstr = own_section(".dynstr", 0, SHT_STRTAB, 0, NULL);
-    rela->link = dynsym = own_section(".dynsym", 0, SHT_DYNSYM, sizeof(Elf64_Sym), dynstr);
-    hash_table = own_section(".gnu.hash", 0, SHT_GNU_HASH, 0, dynsym);
-    versym = own_section(".gnu.version", 0, SHT_GNU_versym, 2, dynsym);
-    verneed = own_section(".gnu.version_r", 0, SHT_GNU_verneed, 0, dynstr);
-    dynamic = own_section(".dynamic", SHF_WRITE, SHT_DYNAMIC, sizeof(Elf64_Dyn), dynstr);
+}
+
+/* Reads the arguments, and the files that they name. */
+static void read_arguments(int argc, char **argv) {
+    static const struct {
+        const char *name;
+        bool *set, value;
+    } switches[] = {{"-s", &has_symbols, false}, {"--no-relax", &relaxes, false},
+                    {"--short-offsets", &has_short_offsets, true}, {"-pie", &linked.is_fixed, false},
+                    {"-shared", &linked.is_fixed, false}, {"-shared", &linked.is_executable, false}};
+    for (int i = 1, end = 0; i < argc; i++) {
+        const char *it = argv[i], *next = argv[i + 1] ? argv[i + 1] : "";
+        uint64_t address;
+        bool is_switch = false;
+        for (size_t k = 0; k < sizeof switches / sizeof *switches; k++) {
+            if (strcmp(it, switches[k].name)) continue;
+            *switches[k].set = switches[k].value;
+            is_switch = true;
+        }
+        if (is_switch) continue;
+        if (sscanf(it, "--section-start=%*[^=]%n=%" SCNx64, &end, &address) == 1) {
+            argv[i][end] = 0;
+            struct output *placed = output_of(it + strlen("--section-start="));
+            placed->place = address;
+            is_placed = placed->is_placed = true;
+        } else if (!strcmp(it, "-z") && (!strcmp(next, "now") || !strcmp(next, "relro"))) {
+            i++; /* all outputs are so */
+        } else if ((!strcmp(it, "-o") || !strcmp(it, "-soname")) && argv[i + 1]) {
+            *(it[1] == 'o' ? &path : &own_name) = argv[++i];
+        } else {
+            read_file(it);
+        }
+    }
 }
 
 int main(int argc, char **argv) {
-    const char *path = NULL;
-    uint64_t address;
-    bool is_placed = false, has_symbols = true;
-    for (int i = 1, end = 0; i < argc; i++) {
-        if (sscanf(argv[i], "--section-start=%*[^=]%n=%" SCNx64, &end, &address) == 1) {
-            argv[i][end] = 0;
-            struct output *placed = output_of(argv[i] + strlen("--section-start="));
-            placed->place = address;
-            is_placed = placed->is_placed = true;
-        } else if (!strcmp(argv[i], "-s")) {
-            has_symbols = false;
-        } else if (!strcmp(argv[i], "--no-relax")) {
-            relaxes = false;
-        } else if (!strcmp(argv[i], "--short-offsets")) {
-            has_short_offsets = true;
-        } else if (!strcmp(argv[i], "-pie")) {
-            linked.is_fixed = false;
-        } else if (!strcmp(argv[i], "-shared")) {
-            linked.is_fixed = linked.is_executable = false;
-        } else if (!strcmp(argv[i], "-soname") && argv[i + 1]) {
-            own_name = argv[++i];
-        } else if (!strcmp(argv[i], "-z") && argv[i + 1] &&
-                   (!strcmp(argv[i + 1], "now") || !strcmp(argv[i + 1], "relro"))) {
-            i++; /* all outputs are so */
-        } else if (!strcmp(argv[i], "-o") && argv[i + 1]) {
-            path = argv[++i];
-        } else {
-            read_file(argv[i]);
-        }
-    }
+    read_arguments(argc, argv);
     is_dynamic = libraries || !linked.is_fixed;
     if (is_dynamic && is_placed) fail("--section-start is for static executables");
     make_sections();
@@ -136,19 +128,15 @@ int main(int argc, char **argv) {
     linker_utils_dynamic_types(machine, &types);
     list_symbols();
     EACH_SECTION(s) add_section(s);
-    reserve_outputs();
     define_symbols();
     if (is_dynamic) bind_symbols();
-    for (struct symbol *s = symbols; s; s = s->later) {
-        if (s->elf.st_shndx != SHN_COMMON) continue; /* these are first in `.bss`, as in ld.lld */
-        s->output = output_of(".bss");
-        s->output->flags |= SHF_WRITE | SHF_ALLOC;
-        s->offset = make_room(s->output, s->elf.st_value, s->elf.st_size);
-    }
+    EACH_SYMBOL(s) place_common(s); /* these are first in `.bss`, as in ld.lld */
     EACH_SECTION(s) copy_section(s);
-    for (struct symbol *s = symbols; s; s = s->later) place_symbol(s);
-    rewrite_phases(LINKER_UTILS_PHASE_EARLY, LINKER_UTILS_PHASE_EARLY);
-    require_all();
+    EACH_SYMBOL(s) place_symbol(s);
+    EACH_OBJECT(o) {
+        rewrite_object(o, LINKER_UTILS_PHASE_EARLY, LINKER_UTILS_PHASE_EARLY);
+        require_all(o);
+    }
     if (is_dynamic) make_imports();
     make_entries();
     make_dynamic();

@@ -1,5 +1,17 @@
 /* Objects, archives and groups. Everything that is read of a file is checked to be in it. */
+#include <fcntl.h>
+#include <sys/mman.h>
+#include <sys/stat.h>
+#include <unistd.h>
+
 #include "link.h"
+
+struct archive {
+    struct object file;
+    const char *names; /* the long names of members */
+    size_t names_len;
+    bool *is_loaded; /* by half of a member's offset */
+};
 
 struct object *objects;
 static struct object **objects_end = &objects;
@@ -69,10 +81,11 @@ static struct symbol *mention(const struct object *o, size_t i) {
 
 static void read_symbols(struct object *o, const Elf64_Shdr *head) {
     demand(o, !o->symbols, "two tables of symbols");
-    const Elf64_Sym *elf = o->mentions = table_of(o, head, sizeof *elf, &o->symbols_len);
+    const Elf64_Sym *elf = o->mentions = table_of(o, head, sizeof *elf, &o->mentions_len);
+    o->symbols_len = o->symbols_room = o->mentions_len;
     size_t locals_len = head->sh_info < o->symbols_len ? head->sh_info : o->symbols_len;
     struct symbol *local = take(locals_len, sizeof *local);
-    o->symbols = take(o->symbols_len, sizeof *o->symbols);
+    o->symbols = zeros(o->symbols_len, sizeof *o->symbols);
     o->hashes = take(o->symbols_len, sizeof *o->hashes);
     const char *section = o->sections[head - o->heads].name;
     if (o->symbols_len) o->names = text_at(o, section, head->sh_link, 0);
@@ -154,9 +167,9 @@ static void read_object(const char *path, const uint8_t *bytes, size_t len) {
     for (const Elf64_Shdr *s = o->heads; s < o->heads + o->sections_len; s++) {
         if (s->sh_type == SHT_SYMTAB) read_symbols(o, s);
         if (s->sh_type != SHT_RELA && s->sh_type != SHT_REL) continue;
-        if (s->sh_info >= o->sections_len || o->sections[s->sh_info].relocations)
+        if (s->sh_info >= o->sections_len || o->sections[s->sh_info].table)
             fail("%s: relocations of no section, or twice of one", path);
-        o->sections[s->sh_info].relocations = s;
+        o->sections[s->sh_info].table = s;
     }
 }
 

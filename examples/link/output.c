@@ -1,4 +1,6 @@
 /* The file, with its segments, section headers and symbols. */
+#include <sys/stat.h>
+
 #include "link.h"
 
 struct output *headers;
@@ -76,7 +78,7 @@ static void put_symbols(uint64_t offset, Elf64_Ehdr *head, bool has_symbols) {
     symbol_table.bytes = take(symbol_table.room, 1);
     make_room(&symbol_table, 8, sizeof(Elf64_Sym));
     for (int is_global = 0; has_symbols && is_global < 2; is_global++) {
-        for (const struct symbol *s = symbols; s; s = s->later) {
+        EACH_SYMBOL(s) {
             uint16_t at = s->elf.st_shndx;
             if (is_global == is_local(s) || !*s->name ||
                 (at && at < SHN_LORESERVE && !s->output) ||

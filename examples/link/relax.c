@@ -4,121 +4,150 @@
  * each distance is known exactly. */
 #include "link.h"
 
+/* Of the run that is relaxed: its items, how many bytes of each stay, and of those of a section the
+ * indexes of their relocations. */
+static struct linker_utils_item *items;
+static uint64_t *stay;
+static size_t *makers, items_len;
+
 /* What the library is told of a relocation: its target, if that is in the same run. Between a
  * symbol in code and what is some bytes behind it code may become shorter. */
-static struct linker_utils_rela seen(const struct output *o,
-                                                   const struct relocation *r) {
-    const struct symbol *s = r->symbol; /* null where the linker aligns a section */
-    const struct output *to = s && !(s->is_imported && is_defined(s)) ? s->output : NULL;
+static struct linker_utils_rela seen(const struct section *s, const Elf64_Rela *r) {
+    const struct symbol *to = symbol_at(s, r);
+    const struct output *o = to->is_imported && is_defined(to) ? NULL : to->output;
     struct linker_utils_rela seen = {
-        .offset = r->offset, .addend = r->addend, .r_type = r->type,
-        .has_symbol = r->section && s != *r->section->object->symbols,
-        .may_compress = r->section && r->section->object->is_compressed};
-    if (!relaxes || !to || to->run != o->run || to->flags & SHF_TLS || (to->shrinks && r->addend))
+        .offset = r->r_offset, .addend = r->r_addend, .r_type = type_of(r),
+        .has_symbol = ELF64_R_SYM(r->r_info) > 0, .may_compress = s->object->is_compressed};
+    if (!relaxes || !o || o->run != s->output->run || o->flags & SHF_TLS || (o->shrinks && r->r_addend))
         return seen;
-    uint64_t offset = (s->offset == END ? to->len : s->offset) + (uint64_t)r->addend;
-    seen.has_target = offset <= to->len;
-    seen.target = to->base + offset;
+    uint64_t offset = (to->offset == END ? o->len : to->offset) + (uint64_t)r->r_addend;
+    seen.has_target = offset <= o->len;
+    seen.target = o->base + offset;
     return seen;
 }
 
-/* Ends with an error of a relocation, or where that is null of what is named. */
-static void check_all(uint32_t status, const struct relocation *r, const char *name) {
-    if (r) check(r, status);
-    if (status) fail("%s can't be relaxed: %s", name, linker_utils_status_text(status));
+/* Ends with an error of a relocation, if there is one with this index, or of a whole section. */
+static void check_items(const struct section *s, size_t at, uint32_t status) {
+    if (at < s->relocations_len) check(s, &s->relocations[at], status);
+    if (status) fail("%s can't be relaxed: %s", s->output->name, linker_utils_status_text(status));
 }
 
-/* Adds the items of a section to those of its run, each with its relocation, or null for a deletion
- * that is decided. */
-static size_t add_items(struct output *o, struct linker_utils_item *items, struct relocation **of) {
-    size_t all = o->relocations_len, most = all + o->deleted_len, at = SIZE_MAX;
-    struct linker_utils_rela *relocations = take(all, sizeof *relocations);
-    size_t *makers = take(most, sizeof *makers);
-    for (size_t i = 0; i < all; i++) {
-        __builtin_prefetch(o->relocations[i + 8 < all ? i + 8 : i].symbol);
-        relocations[i] = seen(o, &o->relocations[i]);
-    }
+/* Adds the items of a section of code to those of its run, behind the alignment before it. */
+static void add_items(struct section *s) {
+    static struct linker_utils_rela *relocations; /* of one section after another */
+    static size_t room;
+    const struct output *o = s->output;
+    size_t all = s->relocations_len, most = all + s->deleted_len, len = 0, at = SIZE_MAX;
+    uint64_t base = o->base + s->offset;
+    if (s->gap) items[items_len++] = alignment_item(base - s->gap, s->gap + code_unit(), s->gap);
+    relocations = grow(relocations, all, &room, sizeof *relocations);
+    for (size_t i = 0; i < all; i++) relocations[i] = seen(s, &s->relocations[i]);
     uint32_t status = linker_utils_rewritten_items(
-        machine, o->bytes, o->len, o->base, relocations, all, o->deleted, o->deleted_len, items, most,
-        makers, most, &o->items_len, &at);
-    check_all(status, at < all ? &o->relocations[at] : NULL, o->name);
-    for (size_t i = 0; i < o->items_len; i++)
-        of[i] = makers[i] < all ? &o->relocations[makers[i]] : NULL;
-    give_back(relocations, all, sizeof *relocations);
-    give_back(makers, most, sizeof *makers);
-    return o->items_len;
+        machine, o->bytes + s->offset, s->len, base, relocations, all, s->deleted, s->deleted_len,
+        items + items_len, most, makers + items_len, most, &len, &at);
+    check_items(s, at, status);
+    s->first_item = (uint32_t)items_len;
+    s->items_len = (uint32_t)len;
+    items_len += len;
+}
+
+/* Moves the relocations of a section to where their bytes are, by its items. */
+static void move_relocations(struct section *s) {
+    uint64_t base = s->output->base + s->offset, lost = 0, last = 0;
+    size_t i = s->first_item, end = i + s->items_len;
+    EACH_RELOCATION(s, r) {
+        if (r->r_offset < last) i = s->first_item, lost = 0;
+        last = r->r_offset;
+        for (; i < end && items[i].offset + stay[i] < base + last; i++) lost += items[i].len - stay[i];
+        r->r_offset -= lost;
+    }
 }
 
 /* Writes a section anew: what becomes shorter, and without what it loses. What loses nothing stays as
- * it is, and so does what stays of the linker's own gaps. */
-static void pack(struct output *o, struct linker_utils_item *items, const uint64_t *kept,
-                 struct relocation **of) {
+ * it is. Returns how long it is then. */
+static size_t pack(struct section *s, uint8_t *to) {
+    const struct output *o = s->output;
     const struct run *run = o->run;
-    size_t at = SIZE_MAX, len = o->items_len;
-    for (size_t i = 0; i < len; i++)
-        if (kept[i] == items[i].len || (of[i] && !of[i]->section))
+    size_t first = s->first_item, len = s->items_len, at = SIZE_MAX;
+    uint64_t base = o->base + s->offset;
+    const Elf64_Rela *end = s->relocations + s->relocations_len;
+    for (size_t i = first; i < first + len; i++) {
+        uint64_t past = items[i].offset - base + items[i].len;
+        if (stay[i] == items[i].len)
             items[i] = (struct linker_utils_item){
                 .offset = items[i].offset, .target = items[i].offset, .len = items[i].len,
-                .kind = LINKER_UTILS_ITEM_SITE, .shapes = {.longest = (uint32_t)kept[i]}};
-    size_t packed_len = linker_utils_packed_run_len(o->base, o->len, run->deltas, run->deltas_len);
-    uint8_t *packed = take(packed_len, 1);
-    uint32_t status =
-        linker_utils_pack_run(machine, o->bytes, o->len, o->base, items, len, run->deltas,
-                              run->deltas_len, run->start, packed, packed_len, &at);
-    check_all(status, at < len ? of[at] : NULL, o->name);
-    const struct relocation *end = o->relocations + o->relocations_len;
-    for (size_t i = 0; i < len; i++) { /* what is at these has its values already */
-        uint64_t past = items[i].offset - o->base + items[i].len;
-        for (struct relocation *r = of[i]; items[i].shapes.count && r < end && r->offset < past; r++)
-            r->type = 0;
+                .kind = LINKER_UTILS_ITEM_SITE, .shapes = {.longest = items[i].len}};
+        if (!items[i].shapes.count) continue; /* else what is there gets its value here */
+        for (Elf64_Rela *r = s->relocations + makers[i]; r < end && r->r_offset < past; r++) set_type(r, 0);
     }
-    give_back(o->bytes, o->room, 1);
+    size_t packed_len = linker_utils_packed_run_len(base, s->len, run->deltas, run->deltas_len);
+    uint32_t status = linker_utils_pack_run(machine, o->bytes + s->offset, s->len, base, items + first, len,
+                                            run->deltas, run->deltas_len, run->start, to, packed_len, &at);
+    check_items(s, at < len ? makers[first + at] : SIZE_MAX, status);
+    move_relocations(s);
+    return packed_len;
+}
+
+/* Writes code anew, with what stays of the gaps between its parts. */
+static void pack_output(struct output *o) {
+    uint8_t *packed = zeros(o->len, 1), *to = packed;
+    uint64_t from = 0;
+    for (struct section *s = o->first; s; s = s->behind) {
+        uint64_t len = s->offset - s->gap - from + (s->gap ? stay[s->first_item - 1] : 0);
+        memcpy(to, o->bytes + from, len);
+        to += len;
+        to += pack(s, to);
+        from = s->offset + s->len;
+    }
+    free(o->bytes);
     o->bytes = packed;
-    o->len = o->room = packed_len;
+    o->len = (uint64_t)(to - packed);
 }
 
 /* Relaxes the sections of a run. */
 static void relax_run(struct run *run) {
-    size_t room = 1, len = 0, at = SIZE_MAX;
-    uint64_t end = 0;
-    uint32_t unit = (uint32_t)code_unit();
+    size_t room = 1, at = SIZE_MAX;
+    uint64_t end = 0, unit = code_unit();
     bool shrinks = false;
     EACH_OUTPUT(o) {
         if (o->run != run) continue;
-        room += o->relocations_len + o->deleted_len + 1;
+        for (const struct section *s = o->first; s; s = s->behind)
+            room += s->relocations_len + s->deleted_len + 1;
+        room++;
         shrinks |= o->shrinks;
         if (o->base + o->len > end) end = o->base + o->len;
     }
     if (!shrinks) return;
-    struct linker_utils_item *items = take(room, sizeof *items);
-    struct relocation **of = take(room, sizeof *of);
+    items = zeros(room, sizeof *items);
+    makers = zeros(room, sizeof *makers);
+    items_len = 0;
     EACH_OUTPUT(o) {
         if (o->run != run) continue;
-        if (o->before.len) items[len++] = o->before;
-        if (o->shrinks) len += add_items(o, items + len, of + len);
+        if (o->before.len) items[items_len++] = o->before;
+        for (struct section *s = o->first; s; s = s->behind) add_items(s);
     }
     /* one more at the end, which says the unit of the code where there is no site */
-    items[len++] = (struct linker_utils_item){
-        .offset = end, .target = end, .len = unit, .kind = LINKER_UTILS_ITEM_SITE,
-        .shapes = {.shorter = {{.max_forward = 1, .granularity = unit}}, .longest = unit, .count = 1}};
-    uint64_t *kept = take(len, sizeof *kept), *freed = take(len + 1, sizeof *freed);
-    size_t *places = take(len, sizeof *places);
-    uint8_t *shapes = take(len, 1);
-    uint32_t status = linker_utils_relax(items, len, run->start, shapes, len, kept, len, places,
-                                         len, freed, len + 1, &at);
-    check_all(status, at < len ? of[at] : NULL, "the code");
-    run->deltas = take(len, sizeof *run->deltas);
-    linker_utils_run_deltas(items, len, kept, len, run->deltas, len, &run->deltas_len);
-    index_deltas(run);
-    len = 0;
-    EACH_OUTPUT(o) {
-        if (o->run != run) continue;
-        len += o->before.len > 0;
-        if (o->shrinks) pack(o, items + len, kept + len, of + len);
-        len += o->items_len;
-    }
-    give_back(items, room, sizeof *items);
-    give_back(of, room, sizeof *of);
+    items[items_len++] = (struct linker_utils_item){
+        .offset = end, .target = end, .len = (uint32_t)unit, .kind = LINKER_UTILS_ITEM_SITE,
+        .shapes = {.shorter = {{.max_forward = 1, .granularity = (uint32_t)unit}},
+                   .longest = (uint32_t)unit, .count = 1}};
+    size_t len = items_len, *places = zeros(len, sizeof *places);
+    uint64_t *freed = zeros(len + 1, sizeof *freed);
+    uint8_t *shapes = zeros(len, 1);
+    stay = zeros(len, sizeof *stay);
+    uint32_t status = linker_utils_relax(items, len, run->start, shapes, len, stay, len, places, len, freed,
+                                         len + 1, &at);
+    EACH_SECTION(s)
+        if (status && s->output && s->output->run == run && at - s->first_item < s->items_len)
+            check_items(s, makers[at], status);
+    if (status) fail("the code can't be relaxed: %s", linker_utils_status_text(status));
+    run->deltas = zeros(len, sizeof *run->deltas);
+    linker_utils_run_deltas(items, len, stay, len, run->deltas, len, &run->deltas_len);
+    run->heads_len = linker_utils_deltas_block_count(run->deltas, run->deltas_len);
+    run->heads = zeros(run->heads_len, sizeof *run->heads);
+    linker_utils_deltas_heads(run->deltas, run->deltas_len, run->heads, run->heads_len);
+    EACH_OUTPUT(o) if (o->run == run && o->shrinks) pack_output(o);
+    free(items), free(makers), free(stay), free(places), free(freed), free(shapes);
 }
 
 /* Relaxes all code. */
@@ -126,10 +155,9 @@ void relax(void) {
     bool shrinks = has_short_offsets && relaxes;
     EACH_OUTPUT(o) shrinks |= o->shrinks;
     uint32_t phase = LINKER_UTILS_PHASE_THREAD_OFFSETS;
-    if (shrinks) rewrite_phases(phase, phase);
+    if (shrinks) EACH_OBJECT(o) rewrite_object(o, phase, phase);
     EACH_OUTPUT(o) if (!o->run->deltas) relax_run(o->run);
     set_addresses();
-    rewrite_placed();
     EACH_OUTPUT(o) {
         uint64_t align = o->flags & SHF_TLS && o->address == tls.image ? tls.align : o->align;
         uint64_t wanted = o->is_placed ? o->place : o->address;

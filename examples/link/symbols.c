@@ -22,6 +22,25 @@ static struct cell *cell_in(const struct table *t, uint32_t hash, const char *na
     return &t->cells[at];
 }
 
+bool is_defined(const struct symbol *s) { return s->elf.st_shndx != SHN_UNDEF; }
+
+bool is_thread_local(const struct symbol *s) { return ELF64_ST_TYPE(s->elf.st_info) == STT_TLS; }
+
+bool is_ifunc(const struct symbol *s) {
+    return ELF64_ST_TYPE(s->elf.st_info) == STT_GNU_IFUNC && is_defined(s) && !s->is_imported;
+}
+
+bool is_undefined_weak(const struct symbol *s) {
+    return !is_defined(s) && ELF64_ST_BIND(s->elf.st_info) == STB_WEAK && !s->is_imported;
+}
+
+/* Whether a rewrite may take where a symbol is: in the linked file, or, of a weak thread-local
+ * variable that nothing defines, at the thread pointer. */
+bool is_here(const struct symbol *s) {
+    if (!is_defined(s)) return is_thread_local(s) && is_undefined_weak(s);
+    return s->output || s == module_base || s->elf.st_shndx != SHN_ABS;
+}
+
 /* What `.gnu.hash` has of a name. */
 uint32_t gnu_hash(const char *name) {
     uint32_t hash = 5381;
@@ -43,10 +62,10 @@ void expect(uint32_t hash) {
 static struct symbol **find(struct table *t, const char *name, uint32_t hash) {
     if (2 * t->taken >= t->len) {
         struct table more = {.len = t->len ? 4 * t->len : 1 << 12, .taken = t->taken};
-        more.cells = take(more.len, sizeof *more.cells);
+        more.cells = zeros(more.len, sizeof *more.cells);
         for (size_t i = 0; i < t->len; i++)
             if (t->cells[i].symbol) *cell_in(&more, t->cells[i].hash, NULL) = t->cells[i];
-        if (t->len) give_back(t->cells, t->len, sizeof *t->cells);
+        free(t->cells);
         *t = more;
     }
     struct cell *cell = cell_in(t, hash, name);
@@ -79,10 +98,6 @@ int rank(const struct symbol *s) {
 /* Loads the member that defines a symbol, if one is needed and an archive has it. */
 static void want(const struct symbol *s) {
     if (s->object && s->archive && rank(s) == 1) load_member(s->archive, s->member);
-}
-
-bool is_thread_local(const struct symbol *s) {
-    return ELF64_ST_TYPE(s->elf.st_info) == STT_TLS;
 }
 
 /* The global symbol of a name, after what one more object says of it. */
@@ -151,7 +166,7 @@ void list_symbol(struct symbol *s) {
 }
 
 void list_symbols(void) {
-    for (struct object *o = objects; o; o = o->next)
+    EACH_OBJECT(o)
         for (size_t i = 0; i < o->symbols_len; i++) list_symbol(o->symbols[i]);
 }
 
@@ -248,6 +263,14 @@ void define_symbols(void) {
     if (headers->len) define("__ehdr_start", headers, 0);
     if (headers->len) define("__executable_start", headers, 0);
     if (headers->len) define("__dso_handle", headers, 0); /* of each module another one */
+}
+
+/* Makes room for a common symbol. */
+void place_common(struct symbol *s) {
+    if (s->elf.st_shndx != SHN_COMMON) return;
+    s->output = output_of(".bss");
+    s->output->flags |= SHF_WRITE | SHF_ALLOC;
+    s->offset = make_room(s->output, s->elf.st_value, s->elf.st_size);
 }
 
 /* Where a symbol is that an object defines. */

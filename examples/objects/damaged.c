@@ -31,6 +31,7 @@ static void *guarded_calloc(size_t count, size_t size) {
 }
 
 #define calloc guarded_calloc
+#define free(block) ((void)(block))
 #endif
 #define BLOCK ((size_t)0)
 
@@ -54,6 +55,7 @@ static void *read_block(size_t len, int file) {
 #include "../link/symbols.c"
 #undef main
 #undef calloc
+#undef free
 #undef mmap
 
 #define MOST ((size_t)1 << 20)
