@@ -5,11 +5,18 @@ pub mod AArch64Descriptors
 pub mod AArch64Loads
 pub mod AArch64Written
 pub mod Chosen
+pub mod Early
 pub mod Entries
 pub mod Fields
 pub mod Inner
 pub mod InstructionFields
 pub mod Labels
+pub mod LoongArchAlone
+pub mod LoongArchChosen
+pub mod LoongArchDescriptors
+pub mod LoongArchLoads
+pub mod LoongArchPairs
+pub mod LoongArchWritten
 pub mod PlainRows
 pub mod PutBack
 pub mod RiscVChosen
@@ -18,6 +25,7 @@ pub mod RiscVLoads
 pub mod RiscVNops
 pub mod RiscVOffsets
 pub mod RiscVWritten
+pub mod Written
 pub mod X86Finals
 pub mod X86Lawful
 pub mod X86Names

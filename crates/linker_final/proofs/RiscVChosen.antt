@@ -7,7 +7,7 @@ use Rattle.linker_elf.specs.declared.elf.choice.Choice.{Choice}
 use Rattle.linker_elf.specs.declared.elf.choice.LinkFacts.{LinkFacts}
 use Rattle.linker_elf.specs.declared.riscv64.relocations.RiscVRelocation.{RiscVRelocation}
 use Rattle.linker_final.proofs.Chosen.{choice_of, chosen_or_labelled}
-use Rattle.linker_final.proofs.Entries.{IsOfOne, of_first}
+use Rattle.linker_final.proofs.Entries.{IsOfApplied, of_first}
 use Rattle.linker_final.specs.Final.{Linked, IsLinked, count}
 use Rattle.linker_riscv64.specs.RiscVRewrites.{AppliesToRiscV, IsAskedFor, IsRiscVChoice, RiscVEntry, riscv_entries}
 use Rattle.linker_riscv64.specs.declared.rewrites.RelaxationKind.{RelaxationKind}
@@ -127,7 +127,7 @@ of_named : (name : RiscVRelocation) (section : List ℕ) (o : ℕ) (facts : Link
     (chosen : Choice Relaxation ℕ) (named : Choice RelaxationKind RiscVRelocation)
     → chosen.kind ≡ relaxations.RiscV named.kind
     → chosen.relocation ≡ code_of (riscv_name named.relocation) → (es : List RiscVEntry)
-    → IsOfOne (AppliesToRiscV (IsAskedFor name) section o facts) es named
+    → IsOfApplied (AppliesToRiscV (IsAskedFor name) section o facts) es named
     → IsOfSome name es section o chosen
 of_named name section o facts chosen named kind_is code_is [] nothing = absurd nothing
 of_named name section o facts chosen named kind_is code_is (e ∷ es) (inl this) =

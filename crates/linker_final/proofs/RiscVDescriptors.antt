@@ -15,12 +15,12 @@ use Rattle.linker_elf.specs.declared.elf.value.Operands.{Operands}
 use Rattle.linker_elf.specs.declared.riscv64.forms.RiscVInstruction.TheVariants.{UType}
 use Rattle.linker_elf.specs.declared.riscv64.relocations.RiscVRelocation.{RiscVRelocation}
 use Rattle.linker_elf.specs.declared.riscv64.relocations.RiscVRelocation.TheVariants as names
-use Rattle.linker_final.proofs.AArch64Written.{rela, with_operands}
+use Rattle.linker_final.proofs.Written.{rela, with_operands}
 use Rattle.linker_final.proofs.InstructionFields.{IsOfInstruction}
 use Rattle.linker_final.proofs.RiscVChosen.{IsOfSome, of_some, of_subject}
 use Rattle.linker_final.proofs.RiscVOffsets.{low_i, of_low_i}
 use Rattle.linker_final.proofs.RiscVWritten.{IsAfter, applied_there, becomes, bytes_there, long_there, made_is, redirected_after, word_bytes}
-use Rattle.linker_final.specs.AArch64Final.{instruction_at}
+use Rattle.linker_final.specs.Final.{instruction_at}
 use Rattle.linker_final.specs.Final.{AreBytes, Linked, IsLinked}
 use Rattle.linker_final.specs.RiscVFinal.{Descriptors, IsOfDescriptor, ShortDescriptors}
 use Rattle.linker_laws.specs.Machine.{Relocated}
@@ -98,7 +98,7 @@ short_becomes section o chosen kind (inr (inr (inr nothing))) = absurd nothing
 abbrev high_tp : IsAfter names.R_RISCV_TPREL_HI20
 high_tp = record { row = pair_row TpOff 32 UType; is = refl; named = tt }
 
-abbrev of_high_tp : IsOfInstruction (pair_row TpOff 32 UType)
+abbrev of_high_tp : IsOfInstruction 4 (pair_row TpOff 32 UType)
 of_high_tp =
     record {
       bits = record { start = 0; end = 32 };
@@ -121,7 +121,7 @@ module _ (l : Linked) (linked : IsLinked l) (riscv : l.setting.architecture ≡ 
     (new : ℕ → ℕ) (rewrites : riscv_rewrite kind ≡ Some (rewrites_word new))
     (unmoved : (o : ℕ) → offset_after (riscv_rewrite kind) o ≡ o)
     (same_addend : (a : ℤ) → addend_after (riscv_rewrite kind) a ≡ a)
-    (a : IsAfter after_name) (is_row : riscv_row after_name ≡ Some a.row) (of_row : IsOfInstruction a.row)
+    (a : IsAfter after_name) (is_row : riscv_row after_name ≡ Some a.row) (of_row : IsOfInstruction 4 a.row)
     (symbol : Symbol) (is_symbol : slice_get l.symbols (relocation_in l.relocations high).symbol ≡ Some symbol)
     (x : Operands) where
   abbrev first : Rela

@@ -16,12 +16,12 @@ use Rattle.linker_elf.specs.declared.elf.RelocationKindInfo.{RelocationKindInfo}
 use Rattle.linker_elf.specs.declared.elf.value.Operands.{Operands}
 use Rattle.linker_elf.specs.declared.riscv64.forms.RiscVInstruction.TheVariants.{UType, IType}
 use Rattle.linker_elf.specs.declared.riscv64.relocations.RiscVRelocation.TheVariants as names
-use Rattle.linker_final.proofs.AArch64Written.{rela, word_same}
+use Rattle.linker_final.proofs.Written.{rela, word_same}
 use Rattle.linker_final.proofs.InstructionFields.{IsOfInstruction, applied_found}
 use Rattle.linker_final.proofs.Labels.{low_found}
 use Rattle.linker_final.proofs.RiscVChosen.{IsOfEntry, of_entry}
 use Rattle.linker_final.proofs.RiscVWritten.{IsAfter, applied_there, becomes, bytes_there, long_there, made_is, rewritten_after, row_after, stays, within_after, word_bytes}
-use Rattle.linker_final.specs.AArch64Final.{IsRewrittenByNoOther, instruction_at}
+use Rattle.linker_final.specs.Final.{IsRewrittenByNoOther, instruction_at}
 use Rattle.linker_final.specs.Final.{AreBytes, Linked, IsLinked}
 use Rattle.linker_final.specs.RiscVFinal.{AreOfLoad, GotLoads, LoadsTheSame}
 use Rattle.linker_laws.specs.Machine.{Relocated, but}
@@ -49,7 +49,7 @@ got_row = pair_row formulas.GotRelative 32 UType
 abbrev high_after : IsAfter names.R_RISCV_PCREL_HI20
 high_after = record { row = pair_row formulas.Relative 32 UType; is = refl; named = tt }
 
-abbrev of_high : IsOfInstruction (pair_row formulas.Relative 32 UType)
+abbrev of_high : IsOfInstruction 4 (pair_row formulas.Relative 32 UType)
 of_high =
     record {
       bits = record { start = 0; end = 32 };
@@ -162,7 +162,7 @@ module _ (laws : Laws) (l : Linked) (linked : IsLinked l) (riscv : l.setting.arc
         let bits : BitRange = record { start = 0; end = 32 } in
         subst (λ (x : Rela). IsApplied low_after.row operands (instruction_at l.rewritten x.offset) (instruction_at l.final x.offset)) low_is
         (applied_found l.setting.architecture l.addresses bytes l.symbols l.rewritten l.final linked.written
-        j within' low_after.row bits (insns.RiscV IType) refl refl refl refl operands
+        j within' 4 (omega arith) low_after.row bits (insns.RiscV IType) refl refl refl refl operands
         (low_found l.setting.architecture l.addresses bytes l.symbols l.rewritten linked.written.can.apart
         i within high_after.row is_row refl operands taken (relocation_in bytes j) low_after.row low_row refl refl
         of.label label_is (of.labels ∙ sym at_high) tt (linked.written.can.found j) (linked.written.can.are_found j within')))

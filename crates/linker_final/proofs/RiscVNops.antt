@@ -1,20 +1,17 @@
 -- Instructions of RISC-V's TLS descriptors that became nops do nothing in the final bytes.
-use Rattle.std.proofs.Common.{◌≡◌, ℕ, ◌+◌, ◌/◌, ◌<◌, ◌≤◌, List, [], length, drop, refl, sym, ap, subst, ◌∙◌, inl, inr, arith, Option, Some, None}
-use Rattle.std.proofs.lemmas.Bool.{cases_eq}
+use Rattle.std.proofs.Common.{◌≡◌, ℕ, List, [], refl, sym, ap, subst, ◌∙◌, inl, inr, arith}
 use Rattle.linker_elf.specs.ElfNames.{IsNamed}
 use Rattle.linker_elf.specs.RiscVRelocations.{riscv_name, riscv_relocation}
 use Rattle.linker_elf.specs.Rows.{bytes_row}
 use Rattle.linker_elf.specs.declared.elf.RelocationKind.TheVariants.{None as NoValue}
-use Rattle.linker_elf.specs.declared.elf.RelocationKindInfo.{RelocationKindInfo}
 use Rattle.linker_elf.specs.declared.elf.choice.Choice.{Choice}
 use Rattle.linker_elf.specs.declared.riscv64.relocations.RiscVRelocation.{RiscVRelocation}
 use Rattle.linker_elf.specs.declared.riscv64.relocations.RiscVRelocation.TheVariants as names
-use Rattle.linker_final.proofs.AArch64Written.{unwritten}
 use Rattle.linker_final.proofs.RiscVChosen.{IsOfSome, of_some}
 use Rattle.linker_final.proofs.RiscVDescriptors.{Becomes, same_kind}
 use Rattle.linker_final.proofs.RiscVWritten.{becomes, long_there, redirected_after}
-use Rattle.linker_final.specs.AArch64Final.{IsWrittenByNoOther, instruction_at}
-use Rattle.linker_final.specs.Final.{Linked, IsLinked, count}
+use Rattle.linker_final.proofs.Written.{IsRowOf, by_name, unwritten_without}
+use Rattle.linker_final.specs.Final.{Linked, instruction_at}
 use Rattle.linker_final.specs.RiscVFinal.{Nops, NopsOf}
 use Rattle.linker_laws.specs.RiscVRewriteLaws.{EndSo, HaveGoneOn, Laws, after_rewrite}
 use Rattle.linker_elf.specs.Value.{sum_64}
@@ -22,10 +19,7 @@ use Rattle.linker_riscv64.specs.RiscVRewrites.{riscv_entries}
 use Rattle.linker_riscv64.specs.declared.rewrites.RelaxationKind.TheVariants as kinds
 use Rattle.linker_rewriting.specs.Rewritten.{IsMade}
 use Rattle.linker_rewriting.specs.declared.decisions.Decision.TheVariants.{Redirected}
-use Rattle.linker_section.specs.Fields.{IsField, field_len}
 use Rattle.linker_section.specs.Relocations.{relocation_in}
-use Rattle.linker_section.specs.Sections.{IsInNoField}
-use Rattle.linker_section.specs.Values.{offset_at}
 use Rattle.linker_section.specs.declared.relocations.Rela.{Rela}
 use Rattle.linker_utils.specs.Architectures.{IsRow, relaxation_rewrite}
 use Rattle.linker_utils.specs.declared.architecture.Relaxation.{Relaxation}
@@ -71,38 +65,12 @@ add_becomes section o chosen kind (inr (inr (inr (inl this)))) =
     absurd (let e : kinds.ReplaceWithLongNop ≡ kinds.AddiToAuipc = same_kind chosen.kind kinds.ReplaceWithLongNop kinds.AddiToAuipc kind this.kind_is in cc)
 add_becomes section o chosen kind (inr (inr (inr (inr (nothing))))) = absurd nothing
 
--- ---- bytes that no relocation writes
-
-abbrev of_row : RelocationKindInfo → Option RelocationKindInfo → RelocationKindInfo
-of_row other None = other
-of_row other (Some row) = row
-
--- a relocation of no type has no field
-no_field : (l : Linked) → l.setting.architecture ≡ RiscV → (j : ℕ)
-    → (relocation_in l.relocations_after j).code ≡ 0 → (row : RelocationKindInfo)
-    → IsField l.setting.architecture l.relocations_after l.rewritten j row → ⊥
-no_field l riscv j code row field =
-    let there : IsRow RiscV (relocation_in l.relocations_after j).code (Some row) =
-    subst (λ x. IsRow x (relocation_in l.relocations_after j).code (Some row)) riscv field.is_row in
-    let same : there.name ≡ names.R_RISCV_NONE = there.is_name.named names.R_RISCV_NONE tt (sym code) in
-    let is : Some row ≡ Some (bytes_row NoValue 0) =
-    there.value_is ∙ ap (λ (n : RiscVRelocation). (riscv_relocation n).row) same in
-    let row_is : row ≡ bytes_row NoValue 0 = ap (of_row row) is in
-    let some : 0 < field_len (bytes_row NoValue 0) (drop (offset_at l.relocations_after j) l.rewritten) =
-    subst (λ x. 0 < field_len x (drop (offset_at l.relocations_after j) l.rewritten)) row_is field.some in
-    absurd (omega (arith, some))
-
-free_but : (l : Linked) → IsLinked l → l.setting.architecture ≡ RiscV → (i p : ℕ)
-    → (relocation_in l.relocations_after i).code ≡ 0 → IsWrittenByNoOther l i p
-    → (at : ℕ) → p ≤ at → at < p + 4
-    → IsInNoField l.setting.architecture l.relocations_after l.rewritten (length l.relocations_after / 24) at
-free_but l linked riscv i p code alone at from less j row lj field =
-    let lj' : j < count l = subst (λ n. j < n / 24) linked.as_many lj in
-    elim (cases_eq j i) [
-      | inl same ↦
-          absurd (no_field l riscv i code row (subst (λ k. IsField l.setting.architecture l.relocations_after l.rewritten k row) same field))
-      | inr isnt ↦ alone j at lj' isnt from less row field
-    ]
+-- the code of no type has no value
+none_has_no_value : (l : Linked) → l.setting.architecture ≡ RiscV
+    → IsRowOf l.setting.architecture 0 (bytes_row NoValue 0)
+none_has_no_value l riscv found there =
+    by_name riscv_name (λ (n : RiscVRelocation). (riscv_relocation n).row) names.R_RISCV_NONE tt found
+    (subst (λ x. IsRow x 0 found) riscv there)
 
 -- ---- nops
 
@@ -125,7 +93,7 @@ module _ (laws : Laws) (name : RiscVRelocation) (named : IsNamed (riscv_name nam
         becomes l linked i below (Redirected chosen subject) decided (λ _. 0x13)
         (λ done. subst (λ k. IsMade (relaxation_rewrite k) o l.section l.rewritten) kind_is done) inside in
         let left : instruction_at l.final o ≡ after_rewrite kinds.ReplaceWithLongNop instruction 0 =
-        unwritten l linked o inside (free_but l linked riscv i o code alone) ∙ made in
+        unwritten_without l linked i o (none_has_no_value l riscv) code inside alone ∙ made in
         let long = long_there l.section o inside in
         subst (λ code. EndSo 1 code h 0 [] k (HaveGoneOn differs (sum_64 h.pc 4) k.pc)) (sym left)
         (laws.nops instruction 0 (omega (arith, long), tt) [] h k differs small alike)

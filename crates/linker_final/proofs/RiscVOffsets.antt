@@ -11,11 +11,11 @@ use Rattle.linker_elf.specs.declared.elf.RelocationKind.TheVariants.{TpOff}
 use Rattle.linker_elf.specs.declared.riscv64.forms.RiscVInstruction.TheVariants.{IType, SType}
 use Rattle.linker_elf.specs.declared.riscv64.relocations.RiscVRelocation.{RiscVRelocation}
 use Rattle.linker_elf.specs.declared.riscv64.relocations.RiscVRelocation.TheVariants as names
-use Rattle.linker_final.proofs.AArch64Written.{rela, word_same}
+use Rattle.linker_final.proofs.Written.{rela, word_same}
 use Rattle.linker_final.proofs.InstructionFields.{IsOfInstruction}
 use Rattle.linker_final.proofs.RiscVChosen.{IsOfEntry, of_entry}
 use Rattle.linker_final.proofs.RiscVWritten.{IsAfter, applied_there, becomes, bytes_there, long_there, made_is, rewritten_after, word_bytes}
-use Rattle.linker_final.specs.AArch64Final.{instruction_at}
+use Rattle.linker_final.specs.Final.{instruction_at}
 use Rattle.linker_final.specs.Final.{AreBytes}
 use Rattle.linker_final.specs.RiscVFinal.{LowPartDoesTheSame, LowParts, LowPartsOf}
 use Rattle.linker_laws.specs.Machine.{Relocated}
@@ -39,7 +39,7 @@ use Rattle.linker_utils.specs.declared.elf.Architecture.TheVariants.{RiscV}
 abbrev pub low_i : IsAfter names.R_RISCV_TPREL_LO12_I
 low_i = record { row = pair_row TpOff 32 IType; is = refl; named = tt }
 
-abbrev pub of_low_i : IsOfInstruction (pair_row TpOff 32 IType)
+abbrev pub of_low_i : IsOfInstruction 4 (pair_row TpOff 32 IType)
 of_low_i =
     record {
       bits = record { start = 0; end = 32 };
@@ -55,7 +55,7 @@ of_low_i =
 abbrev low_s : IsAfter names.R_RISCV_TPREL_LO12_S
 low_s = record { row = pair_row TpOff 32 SType; is = refl; named = tt }
 
-abbrev of_low_s : IsOfInstruction (pair_row TpOff 32 SType)
+abbrev of_low_s : IsOfInstruction 4 (pair_row TpOff 32 SType)
 of_low_s =
     record {
       bits = record { start = 0; end = 32 };
@@ -78,7 +78,7 @@ mapped each (Some x) is = each x is
 abbrev by_word : ℕ → Option Action
 by_word word = action_of (opcode_of word) (funct3_of word)
 
-module _ (laws : Laws) (name : RiscVRelocation) (a : IsAfter name) (of : IsOfInstruction a.row)
+module _ (laws : Laws) (name : RiscVRelocation) (a : IsAfter name) (of : IsOfInstruction 4 a.row)
     (is_row : riscv_row name ≡ Some a.row)
     (entries : riscv_entries name ≡ (entry kinds.BaseToTp name by_low_offset ∷ []))
     (adds : (section : _) (o : ℕ) → IsAskedFor name kinds.BaseToTp section o → riscv_matches kinds.BaseToTp section o)

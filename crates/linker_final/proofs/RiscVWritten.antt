@@ -13,10 +13,10 @@ use Rattle.linker_elf.specs.RiscVRelocations.{riscv_name, riscv_relocation}
 use Rattle.linker_elf.specs.declared.elf.RelocationKindInfo.{RelocationKindInfo}
 use Rattle.linker_elf.specs.declared.elf.choice.Choice.{Choice}
 use Rattle.linker_elf.specs.declared.riscv64.relocations.RiscVRelocation.{RiscVRelocation}
-use Rattle.linker_final.proofs.AArch64Written.{rela}
+use Rattle.linker_final.proofs.Written.{rela}
 use Rattle.linker_final.proofs.InstructionFields.{IsOfInstruction, applied}
 use Rattle.linker_final.proofs.PutBack.{same_windows}
-use Rattle.linker_final.specs.AArch64Final.{IsRewrittenByNoOther, instruction_at}
+use Rattle.linker_final.specs.Final.{IsRewrittenByNoOther, instruction_at}
 use Rattle.linker_final.specs.Final.{AreBytes, Linked, IsLinked, count}
 use Rattle.linker_rewriting.specs.Decisions.{decision_at, window_of, written_end_at, written_end_by}
 use Rattle.linker_rewriting.specs.Rewritten.{IsDone, IsMade, relocation_after}
@@ -137,7 +137,7 @@ module _ (l : Linked) (linked : IsLinked l) (riscv : l.setting.architecture ≡ 
       (linked.written.can.found i) (linked.written.can.are_found i within_after)
 
   -- is applied to the bytes between
-  pub applied_there : (of : IsOfInstruction a.row) (symbol : Symbol) (got : ℕ)
+  pub applied_there : (of : IsOfInstruction 4 a.row) (symbol : Symbol) (got : ℕ)
       → operands_by RiscV l.addresses a.row after symbol
       (entry_address l.addresses symbol (entry_of a.row after.addend symbol.is_thread_local))
       ≡ Ok (operands_with RiscV l.addresses a.row symbol after got)
@@ -150,7 +150,7 @@ module _ (l : Linked) (linked : IsLinked l) (riscv : l.setting.architecture ≡ 
       ap (operands_in RiscV l.addresses a.row after) is_symbol ∙ entry_is in
       subst (λ (x : Rela). IsApplied a.row operands (instruction_at l.rewritten x.offset) (instruction_at l.final x.offset)) after_is
       (applied l.setting.architecture l.addresses l.relocations_after l.symbols l.rewritten l.final linked.written
-      i within_after a.row of (subst (λ x. IsRow x (relocation_in l.relocations_after i).code (Some a.row)) (sym riscv) row_after)
+      i within_after 4 (omega arith) a.row of (subst (λ x. IsRow x (relocation_in l.relocations_after i).code (Some a.row)) (sym riscv) row_after)
       operands
       (subst (λ x. operands_of x l.addresses l.symbols a.row (relocation_in l.relocations_after i) ≡ Ok operands) (sym riscv)
       (subst (λ x. operands_of RiscV l.addresses l.symbols a.row x ≡ Ok operands) (sym after_is) taken)))

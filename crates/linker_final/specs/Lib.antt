@@ -1,4 +1,5 @@
 pub mod AArch64Final
 pub mod Final
+pub mod LoongArchFinal
 pub mod RiscVFinal
 pub mod X86Final

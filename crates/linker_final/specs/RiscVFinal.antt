@@ -11,8 +11,8 @@ use Rattle.linker_elf.specs.declared.elf.choice.Choice.{Choice}
 use Rattle.linker_elf.specs.declared.elf.value.Operands.{Operands}
 use Rattle.linker_elf.specs.declared.riscv64.relocations.RiscVRelocation.{RiscVRelocation}
 use Rattle.linker_elf.specs.declared.riscv64.relocations.RiscVRelocation.TheVariants as names
-use Rattle.linker_final.specs.AArch64Final.{IsRewrittenByNoOther, IsWrittenByNoOther}
-use Rattle.linker_final.specs.AArch64Final.{instruction_at}
+use Rattle.linker_final.specs.Final.{IsRewrittenByNoOther, IsWrittenByNoOther}
+use Rattle.linker_final.specs.Final.{instruction_at}
 use Rattle.linker_final.specs.Final.{Linked, IsLinked, count}
 use Rattle.linker_laws.specs.Machine.{Relocated, but, loaded}
 use Rattle.linker_laws.specs.RiscVMachine.{Action, Hart, register, rs1_of, rs2_of}

@@ -4,6 +4,7 @@
 //! `linker_laws`.
 
 ghost use Rattle.linker_final.specs.AArch64Final as aarch64_final;
+ghost use Rattle.linker_final.specs.LoongArchFinal as loongarch64_final;
 ghost use Rattle.linker_final.specs.RiscVFinal as riscv64_final;
 ghost use Rattle.linker_final.specs.X86Final as x86_64_final;
 
@@ -44,4 +45,18 @@ pub fn riscv64()
     ensures nops { riscv64_final.Nops }
 {
     linker_laws::rewrites::riscv64();
+}
+
+/// LoongArch: rewritten instructions do in the final bytes what the object's do. They are each load of
+/// an address from the GOT that became a sum of its page and the rest, each half of initial-exec that
+/// became a half of local-exec, each instruction of a TLS descriptor that became one of local-exec or
+/// of initial-exec, and each low part of local-exec over the thread pointer.
+pub fn loongarch64()
+    ensures got_loads { loongarch64_final.GotLoads }
+    ensures high_halves { loongarch64_final.HighHalves }
+    ensures low_halves { loongarch64_final.LowHalves }
+    ensures descriptors { loongarch64_final.Descriptors }
+    ensures low_parts { loongarch64_final.LowParts }
+{
+    linker_laws::rewrites::loongarch64();
 }

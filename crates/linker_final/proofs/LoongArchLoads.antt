@@ -1,0 +1,187 @@
+-- Rewritten loads from the GOT of LoongArch do in the final bytes what the object's do.
+use Rattle.std.proofs.Common.{◌≡◌, ℕ, ℤ, ◌+◌, drop, List, refl, sym, ap, subst, ◌∙◌, arith, inl, inr}
+use Rattle.std.specs.Prelude.{slice_get}
+use Rattle.linker_base.specs.Bits.{field}
+use Rattle.linker_elf.specs.Applied.{IsApplied}
+use Rattle.linker_elf.specs.Choices.{entry}
+use Rattle.linker_elf.specs.ElfNames.{code_of}
+use Rattle.linker_elf.specs.LoongArchRelocations.{loongarch_name, low_row, rounded_row}
+use Rattle.linker_elf.specs.Rows.{paged_row, place_pages, entry_pages}
+use Rattle.linker_elf.specs.Value.{value_of}
+use Rattle.linker_elf.specs.declared.elf.RelocationInstruction.TheVariants as insns
+use Rattle.linker_elf.specs.declared.elf.RelocationKind.TheVariants.{Relative, AbsoluteLowPart, GotRelative}
+use Rattle.linker_elf.specs.declared.elf.RelocationKindInfo.{RelocationKindInfo}
+use Rattle.linker_elf.specs.declared.elf.choice.Choice.{Choice}
+use Rattle.linker_elf.specs.declared.loongarch64.forms.LoongArch64Instruction.TheVariants.{Shift5, Shift10}
+use Rattle.linker_elf.specs.declared.loongarch64.relocations.LoongArch64Relocation.TheVariants as names
+use Rattle.linker_final.proofs.Early.{isnt}
+use Rattle.linker_final.proofs.LoongArchChosen.{IsByTable, IsEntry, by_table, entry_by}
+use Rattle.linker_final.proofs.LoongArchPairs.{AreOfLoad, load_of}
+use Rattle.linker_final.proofs.LoongArchWritten.{IsAfter, applied_there, becomes}
+use Rattle.linker_final.proofs.Written.{rela, stays, with_operands, word_same}
+use Rattle.linker_final.specs.Final.{Linked, IsLinked, IsRewrittenByNoOther, instruction_at}
+use Rattle.linker_final.specs.LoongArchFinal.{GotLoads, LoadsTheSame}
+use Rattle.linker_laws.specs.LoongArchRewriteLaws.{IsPair, IsRewritten, Laws, behind, word_of}
+use Rattle.linker_loongarch64.specs.LoongArchRewrites.{AreOfOneRegister, IsLd, bound_by_pages}
+use Rattle.linker_loongarch64.specs.declared.rewrites.RelaxationKind.TheVariants as kinds
+use Rattle.linker_rewriting.specs.Facts.{Setting}
+use Rattle.linker_section.specs.Relocations.{relocation_in}
+use Rattle.linker_section.specs.Values.{operands_with}
+use Rattle.linker_section.specs.declared.facts.Addresses.{Addresses}
+use Rattle.linker_section.specs.declared.facts.Symbol.{Symbol}
+use Rattle.linker_section.specs.declared.relocations.Rela.{Rela}
+use Rattle.linker_utils.specs.Architectures.{relaxation_rewrite}
+use Rattle.linker_utils.specs.declared.architecture.Relaxation.{Relaxation}
+use Rattle.linker_utils.specs.declared.elf.Architecture.TheVariants.{LoongArch64}
+
+-- ---- rows
+
+abbrev got_row : RelocationKindInfo
+got_row = paged_row entry_pages (rounded_row GotRelative)
+
+abbrev page_after : IsAfter names.R_LARCH_PCALA_HI20
+page_after =
+    record {
+      row = paged_row place_pages (rounded_row Relative);
+      is = refl;
+      named = tt;
+      of = record {
+        bits = record { start = 12; end = 32 };
+        insn = insns.LoongArch64 Shift5;
+        size = refl;
+        wide = refl;
+        valued = refl;
+        unlabelled = refl;
+        alone = refl;
+        some = λ o. tt;
+      };
+    }
+
+abbrev low_after : IsAfter names.R_LARCH_PCALA_LO12
+low_after =
+    record {
+      row = low_row AbsoluteLowPart;
+      is = refl;
+      named = tt;
+      of = record {
+        bits = record { start = 0; end = 12 };
+        insn = insns.LoongArch64 Shift10;
+        size = refl;
+        wide = refl;
+        valued = refl;
+        unlabelled = refl;
+        alone = refl;
+        some = λ o. tt;
+      };
+    }
+
+-- ---- operands
+
+-- the low part is that of the first one's S + A, wherever the second one is
+low_value : (addresses : Addresses) (symbol : Symbol) (r : Rela) (got offset code index : ℕ) (addend : ℤ)
+    → addend ≡ r.addend
+    → value_of low_after.row (behind 4 (operands_with LoongArch64 addresses got_row symbol r got))
+    ≡ value_of low_after.row (operands_with LoongArch64 addresses low_after.row symbol (rela offset code index addend) 0)
+low_value addresses symbol r got offset code index addend same =
+    ap (λ x. value_of low_after.row (operands_with LoongArch64 addresses low_after.row symbol (rela offset code index x) 0)) (sym same)
+
+-- ---- entries
+
+page_entry : (section : List ℕ) (o : ℕ) (chosen : Choice Relaxation ℕ)
+    → IsByTable names.R_LARCH_GOT_PC_HI20 section o chosen
+    → IsEntry kinds.NoOp names.R_LARCH_PCALA_HI20 names.R_LARCH_GOT_PC_HI20 section o chosen
+page_entry section o chosen by =
+    elim by.one [
+      | inl near ↦ isnt by.facts.is_relaxable (by.early refl).unmarked (near.meant.1.1.1.0)
+      | inr rest ↦ elim rest [
+        | inl this ↦
+            entry_by names.R_LARCH_GOT_PC_HI20 section o chosen by.facts
+            (entry kinds.NoOp names.R_LARCH_PCALA_HI20 (bound_by_pages 0)) this
+        | inr nothing ↦ absurd nothing
+      ]
+    ]
+
+low_entry : (section : List ℕ) (o : ℕ) (chosen : Choice Relaxation ℕ)
+    → IsByTable names.R_LARCH_GOT_PC_LO12 section o chosen
+    → IsEntry kinds.LdToAddi names.R_LARCH_PCALA_LO12 names.R_LARCH_GOT_PC_LO12 section o chosen
+low_entry section o chosen by =
+    elim by.one [
+      | inl near ↦ isnt by.facts.is_relaxable (by.early refl).unmarked (near.meant.1.1.1.0)
+      | inr rest ↦ elim rest [
+        | inl this ↦
+            entry_by names.R_LARCH_GOT_PC_LO12 section o chosen by.facts
+            (entry kinds.LdToAddi names.R_LARCH_PCALA_LO12 (bound_by_pages 4)) this
+        | inr last ↦ elim last [
+          | inl of_entry ↦ isnt by.facts.is_relaxable (by.early refl).unmarked (of_entry.meant.1.0)
+          | inr nothing ↦ absurd nothing
+        ]
+      ]
+    ]
+
+-- ---- a pair
+
+module _ (laws : Laws) (l : Linked) (linked : IsLinked l) (loongarch : l.setting.architecture ≡ LoongArch64)
+    (i j : ℕ) (of : AreOfLoad l i j) (alone : IsRewrittenByNoOther l i (relocation_in l.relocations i).offset) where
+  abbrev first : Rela
+  first = relocation_in l.relocations i
+
+  abbrev second : Rela
+  second = relocation_in l.relocations j
+
+  page : IsEntry kinds.NoOp names.R_LARCH_PCALA_HI20 names.R_LARCH_GOT_PC_HI20 l.section first.offset of.page_chosen
+  page =
+      page_entry l.section first.offset of.page_chosen
+      (by_table l linked loongarch i of.page_chosen of.page_below of.page_decided names.R_LARCH_GOT_PC_HI20 tt of.page)
+
+  low : IsEntry kinds.LdToAddi names.R_LARCH_PCALA_LO12 names.R_LARCH_GOT_PC_LO12 l.section second.offset of.low_chosen
+  low =
+      low_entry l.section second.offset of.low_chosen
+      (by_table l linked loongarch j of.low_chosen of.low_below of.low_decided names.R_LARCH_GOT_PC_LO12 tt of.low)
+
+  pub loads_the_same : LoadsTheSame l i got_row
+  loads_the_same symbol is_symbol got s pcala ld small holds at loads fits =
+      let o = first.offset in
+      let w = operands_with LoongArch64 l.addresses got_row symbol first got in
+      let next = of.next in
+      let there = page.asked in
+      let together : IsPair IsLd w s (instruction_at l.section o) (instruction_at l.section (o + 4)) =
+      record {
+        small = small;
+        at = at;
+        one_register =
+            subst (λ x. AreOfOneRegister x (word_of (instruction_at l.section (o + 4)))) (word_same l.section o)
+            (subst (λ x. AreOfOneRegister (word_of (drop o l.section)) x) (word_same l.section (o + 4)) there.one_register);
+        second_is = subst IsLd (word_same l.section (o + 4)) there.second;
+      } in
+      let within = there.within in
+      let stayed : instruction_at l.rewritten o ≡ instruction_at l.section o =
+      stays l linked i of.page_chosen of.page_below of.page_decided (ap relaxation_rewrite page.kind_is) alone (omega (arith, within)) in
+      let page_code = code_of (loongarch_name names.R_LARCH_PCALA_HI20) in
+      let low_code = code_of (loongarch_name names.R_LARCH_PCALA_LO12) in
+      let page_written : IsApplied page_after.row w (instruction_at l.section o) (instruction_at l.final o) =
+      with_operands page_after.row
+      (operands_with LoongArch64 l.addresses page_after.row symbol (rela o page_code first.symbol first.addend) 0)
+      w (instruction_at l.section o) (instruction_at l.final o) refl
+      (subst (λ xs. IsApplied page_after.row (operands_with LoongArch64 l.addresses page_after.row symbol (rela o page_code first.symbol first.addend) 0) xs (instruction_at l.final o)) stayed
+      (applied_there l linked loongarch i of.page_chosen of.page_below of.page_decided kinds.NoOp page.kind_is
+      names.R_LARCH_PCALA_HI20 page.code_is page_after symbol 0 refl is_symbol)) in
+      let low_written : IsApplied low_after.row (behind 4 w) (instruction_at l.rewritten (o + 4)) (instruction_at l.final (o + 4)) =
+      subst (λ n. IsApplied low_after.row (behind 4 w) (instruction_at l.rewritten n) (instruction_at l.final n)) next
+      (with_operands low_after.row
+      (operands_with LoongArch64 l.addresses low_after.row symbol (rela second.offset low_code second.symbol second.addend) 0)
+      (behind 4 w) (instruction_at l.rewritten second.offset) (instruction_at l.final second.offset)
+      (low_value l.addresses symbol first got second.offset low_code second.symbol second.addend of.same_addend)
+      (applied_there l linked loongarch j of.low_chosen of.low_below of.low_decided kinds.LdToAddi low.kind_is
+      names.R_LARCH_PCALA_LO12 low.code_is low_after symbol 0 refl
+      (ap (slice_get l.symbols) of.same_symbol ∙ is_symbol))) in
+      let added : IsRewritten kinds.LdToAddi (instruction_at l.section (o + 4)) (instruction_at l.rewritten (o + 4)) =
+      subst (λ n. IsRewritten kinds.LdToAddi (instruction_at l.section n) (instruction_at l.rewritten n)) next
+      (becomes l linked loongarch j of.low_chosen of.low_below of.low_decided kinds.LdToAddi low.kind_is
+      (λ word. 0x02c00000 + field word 0 22) refl) in
+      laws.got w s (instruction_at l.section o) (instruction_at l.section (o + 4)) (instruction_at l.rewritten (o + 4))
+      together holds added pcala ld (instruction_at l.final o) (instruction_at l.final (o + 4)) loads fits page_written low_written
+
+pub got_loads : Laws → GotLoads
+got_loads laws l linked setting i chosen below is_name decided alone =
+    loads_the_same laws l linked (ap (λ (x : Setting). x.architecture) setting) i (i + 2)
+    (load_of l linked setting i chosen below is_name decided) alone
