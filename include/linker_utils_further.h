@@ -530,6 +530,37 @@ uint32_t linker_utils_rewrite_window(uint16_t machine, uint32_t rewrite, uint8_t
 uint32_t linker_utils_next_modifier(uint16_t machine, uint32_t rewrite, uint8_t opcode_len,
                                     uint32_t *modifier);
 
+/* ---- Kept facts: values that are written only where choices of rewrites would read what they read. */
+
+/* What choices read of a symbol and of the output; 0 where nothing is kept. An object has an array of
+ * these by the indexes that its relocations name. */
+struct linker_utils_kept_facts {
+    uint16_t bits;
+};
+
+/* Keeps what choices read of the output and of each symbol of an object. A linker calls it with the
+ * facts that it passes to `linker_utils_survey` and `linker_utils_rewrite_section`.
+ * LINKER_UTILS_DIFFERENT_LENGTHS where `kept_len` isn't `symbols_len`: nothing is written then. */
+static inline uint32_t linker_utils_keep_facts(
+    const struct linker_utils_output_facts *output, const struct linker_utils_symbol_facts *symbols,
+    size_t symbols_len, struct linker_utils_kept_facts *kept, size_t kept_len);
+
+/* Writes the values of a section whose instructions were rewritten, as
+ * `linker_utils_relocate_section`, or none of them. `output` and `facts` are those that hold now, and
+ * `kept` those of `linker_utils_keep_facts` when rewrites were chosen. So a symbol that was local then,
+ * and isn't any more, doesn't get code that bypasses its entry of the GOT.
+ *
+ * LINKER_UTILS_UNKNOWN_ARCHITECTURE; LINKER_UTILS_SHORT_MEMORY; LINKER_UTILS_FACTS_CHANGED, and
+ * `faulty` is the first relocation of whose symbol other facts are kept, or none; else the statuses of
+ * `linker_utils_relocate_section`. The section is unchanged with each of them. */
+static inline uint32_t linker_utils_relocate_rewritten_section(
+    uint16_t machine, const struct linker_utils_output_facts *output,
+    const struct linker_utils_symbol_facts *facts, size_t facts_len,
+    const struct linker_utils_kept_facts *kept, size_t kept_len,
+    const struct linker_utils_addresses *addresses, const uint8_t *relocations,
+    size_t relocations_len, const struct linker_utils_symbol *symbols, size_t symbols_len,
+    uint8_t *section, size_t section_len, uint64_t *memory, size_t memory_len, size_t *faulty);
+
 /* ---- Sequences of instructions. */
 
 /* AArch64: writes the four instructions, in 16 bytes, that load a number into register `rd`.

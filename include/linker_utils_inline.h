@@ -263,6 +263,44 @@ static inline uint32_t linker_utils_rewrite_placed_section(
         faulty ? faulty : &ignored);
 }
 
+uint32_t linker_utils_keep_facts_nonnull(const struct linker_utils_output_facts *output,
+                                         const struct linker_utils_symbol_facts *symbols,
+                                         size_t symbols_len, struct linker_utils_kept_facts *kept,
+                                         size_t kept_len);
+static inline uint32_t linker_utils_keep_facts(const struct linker_utils_output_facts *output,
+                                               const struct linker_utils_symbol_facts *symbols,
+                                               size_t symbols_len,
+                                               struct linker_utils_kept_facts *kept,
+                                               size_t kept_len) {
+    return linker_utils_keep_facts_nonnull(
+        output, LINKER_UTILS_SLICE(const struct linker_utils_symbol_facts, symbols), symbols_len,
+        LINKER_UTILS_SLICE(struct linker_utils_kept_facts, kept), kept_len);
+}
+
+uint32_t linker_utils_relocate_rewritten_section_nonnull(
+    uint16_t machine, const struct linker_utils_output_facts *output,
+    const struct linker_utils_symbol_facts *facts, size_t facts_len,
+    const struct linker_utils_kept_facts *kept, size_t kept_len,
+    const struct linker_utils_addresses *addresses, const uint8_t *relocations,
+    size_t relocations_len, const struct linker_utils_symbol *symbols, size_t symbols_len,
+    uint8_t *section, size_t section_len, uint64_t *memory, size_t memory_len, size_t *faulty);
+static inline uint32_t linker_utils_relocate_rewritten_section(
+    uint16_t machine, const struct linker_utils_output_facts *output,
+    const struct linker_utils_symbol_facts *facts, size_t facts_len,
+    const struct linker_utils_kept_facts *kept, size_t kept_len,
+    const struct linker_utils_addresses *addresses, const uint8_t *relocations,
+    size_t relocations_len, const struct linker_utils_symbol *symbols, size_t symbols_len,
+    uint8_t *section, size_t section_len, uint64_t *memory, size_t memory_len, size_t *faulty) {
+    size_t ignored;
+    return linker_utils_relocate_rewritten_section_nonnull(
+        machine, output, LINKER_UTILS_SLICE(const struct linker_utils_symbol_facts, facts),
+        facts_len, LINKER_UTILS_SLICE(const struct linker_utils_kept_facts, kept), kept_len, addresses,
+        LINKER_UTILS_SLICE(const uint8_t, relocations), relocations_len,
+        LINKER_UTILS_SLICE(const struct linker_utils_symbol, symbols), symbols_len,
+        LINKER_UTILS_SLICE(uint8_t, section), section_len, LINKER_UTILS_SLICE(uint64_t, memory),
+        memory_len, faulty ? faulty : &ignored);
+}
+
 uint32_t linker_utils_dynamic_name_nonnull(
     uint16_t machine, uint32_t r_type, uint8_t *name, size_t name_len, size_t *name_used);
 static inline uint32_t linker_utils_dynamic_name(

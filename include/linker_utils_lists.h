@@ -139,7 +139,9 @@
            "with a unit for each boundary, are not.") \
     STATUS(NO_BOUNDARY, 77, \
            "The branch reaches neither its target nor a boundary for a stub.") \
-    STATUS(STUB_TOO_FAR, 78, "A stub of the target does not reach it.")
+    STATUS(STUB_TOO_FAR, 78, "A stub of the target does not reach it.") \
+    STATUS(FACTS_CHANGED, 79, \
+           "The facts of the relocation's symbol, or of the output, are not those that were kept.")
 
 enum linker_utils_status {
 #define LINKER_UTILS_STATUS(name, number, text) LINKER_UTILS_##name = number,

@@ -164,6 +164,52 @@ fn by_export(input: &Input) -> Side<'_> {
     })
 }
 
+/// The same where what choices read of symbols is as kept.
+fn by_kept(input: &Input) -> Side<'_> {
+    let needed = sathunne::relocate_memory(&input.relocations);
+    let mut memory = vec![0; needed];
+    let output = sathunne::OutputFacts::default();
+    let facts = vec![sathunne::SymbolFacts::default(); input.symbols.len()];
+    let kept = sathunne::keep_facts(&output, &facts).expect("memory");
+    Side::writes(input.section.clone(), move |section| {
+        // SAFETY: a slice's pointer and length are its own, and a reference is of one value.
+        let status = unsafe {
+            linker_utils_relocate_rewritten_section_nonnull(
+                input.machine,
+                &output,
+                facts.as_ptr(),
+                facts.len(),
+                kept.as_ptr(),
+                kept.len(),
+                &input.addresses,
+                input.relocations.as_ptr(),
+                input.relocations.len(),
+                input.symbols.as_ptr(),
+                input.symbols.len(),
+                section.as_mut_ptr(),
+                section.len(),
+                memory.as_mut_ptr(),
+                memory.len(),
+                &mut 0,
+            )
+        };
+        assert_eq!(status, 0);
+    })
+}
+
+/// What choices read of many symbols, kept.
+fn kept() -> Side<'static> {
+    let output = sathunne::OutputFacts::default();
+    let facts = [sathunne::SymbolFacts::default(); 1000];
+    let mut kept = [sathunne::KeptFacts::default(); 1000];
+    Side::number(move || {
+        let (from, to) = (facts.as_ptr(), kept.as_mut_ptr());
+        // SAFETY: a slice's pointer and length are its own, and a reference is of one value.
+        let status = unsafe { linker_utils_keep_facts_nonnull(&output, from, 1000, to, 1000) };
+        u64::from(status) + u64::from(kept[999].bits)
+    })
+}
+
 /// The same by two calls of the library's for each, whose operands are there already.
 fn by_exports(input: &Input) -> Side<'_> {
     let as_given = |of: &Operands| sathunne::Operands {
@@ -308,7 +354,17 @@ pub fn sections(report: &mut Report) {
         ];
         report.line(name_of(input.machine), input.count(), true, sides);
     }
+    report.heading(
+        "The same by `linker_utils_relocate_rewritten_section`",
+        Beside::Other("without kept facts"),
+    );
+    for input in &inputs {
+        let sides = [Some(by_kept(input)), Some(by_export(input)), None, None];
+        report.line(name_of(input.machine), input.count(), true, sides);
+    }
     report.heading("What relocations require, and values", Beside::Nothing);
+    let name = "`linker_utils_keep_facts`, a symbol";
+    report.line(name, 1000, true, [Some(kept()), None, None, None]);
     for input in &inputs {
         requirements(report, input);
         values(report, input);

@@ -892,6 +892,58 @@ static void call_survey(void) {
     finish_with(status, 0 OR(UNKNOWN_ARCHITECTURE));
 }
 
+#define KEPT_FACTS(buffer) (buffer)->given, LEN(buffer, struct linker_utils_kept_facts)
+
+static void call_keep_facts(void) {
+    struct buffer *facts = output_facts(), *known = symbol_facts(any_len(8));
+    size_t symbols_len = LEN(known, struct linker_utils_symbol_facts);
+    size_t count = once_in(8) ? any_len(8) : symbols_len;
+    struct buffer *kept = place(WRITTEN, count, sizeof(struct linker_utils_kept_facts));
+    uint32_t status = CALL(keep_facts, facts->given, FACTS(known), KEPT_FACTS(kept));
+    expect((status == LINKER_UTILS_OK) == (count == symbols_len), "other lengths");
+    const struct linker_utils_kept_facts *now = filled(kept);
+    for (size_t i = 0; i < count && status == LINKER_UTILS_OK; i++)
+        expect(now[i].bits >> 15 == 1, "nothing is kept");
+    finish_with(status, 0 OR(DIFFERENT_LENGTHS));
+}
+
+/* What is kept of an object's symbols, sometimes of others or of fewer. */
+static struct buffer *kept_facts(struct buffer *output, struct buffer *known) {
+    size_t count = LEN(known, struct linker_utils_symbol_facts);
+    struct buffer *buffer = place(READ, count, sizeof(struct linker_utils_kept_facts));
+    struct linker_utils_kept_facts *at = filled(buffer);
+    expect(linker_utils_keep_facts(filled(output), filled(known), count, at, count) == 0,
+           "nothing is kept");
+    for (size_t i = 0; i < count; i++)
+        if (once_in(64)) at[i].bits = (uint16_t)any_number();
+    return buffer;
+}
+
+static void call_relocate_rewritten_section(void) {
+    uint16_t machine = any_machine();
+    struct buffer *section = bytes(WRITTEN, any_section_len());
+    struct buffer *known = symbols(any_len(8)), *where = addresses();
+    size_t symbols_len = LEN(known, struct linker_utils_symbol);
+    struct buffer *output = output_facts(), *facts = symbol_facts(symbols_len);
+    struct buffer *kept = kept_facts(output, facts);
+    struct buffer *given = relocations(READ, machine, section->len, symbols_len);
+    size_t needed = given->len / 24;
+    bool is_short = needed > 0 && once_in(16);
+    size_t count = is_short ? below(needed) : needed + (once_in(4) ? below(4) : 0);
+    struct buffer *memory = place(SCRATCH, count, sizeof(uint64_t));
+    size_t *faulty = any_faulty();
+    uint32_t status = CALL(relocate_rewritten_section, machine, output->given, FACTS(facts),
+                           KEPT_FACTS(kept), where->given, given->given, given->len, SYMBOLS(known),
+                           section->given, section->len, memory->given, count, faulty);
+    expect_status(status, 0 NO_VALUE_AT NOT_RELOCATED OR(ULEB128_ENDED) OR(ULEB128_TOO_LARGE)
+                              OR(DOES_NOT_FIT) OR(OVERLAPS) OR(SHORT_MEMORY) OR(FACTS_CHANGED));
+    expect((status == LINKER_UTILS_SHORT_MEMORY) <= is_short, "the memory is long enough");
+    bool is_of_entry = status != LINKER_UTILS_OK && status != LINKER_UTILS_UNKNOWN_ARCHITECTURE &&
+                       status != LINKER_UTILS_SHORT_MEMORY;
+    finish_faulty(faulty, is_of_entry, needed);
+    finish(status == LINKER_UTILS_OK);
+}
+
 /* Room for as many elements as are needed, and sometimes for more or fewer. */
 static size_t any_room(size_t needed, bool *is_short) {
     *is_short = needed > 0 && once_in(16);
@@ -2195,7 +2247,8 @@ static void (*const all[])(void) = {
     call_choose, call_relocation_fits, call_is_unchanged, call_rewrite_window,
     call_next_modifier, call_relocation, call_relocation_name, call_value, call_reach, call_relocate,
     call_relocate_all, call_needs, call_value_at, call_relocate_section, call_survey,
-    call_rewrite_section, call_has_rewrites, call_survey_placed_section,
+    call_rewrite_section, call_has_rewrites, call_survey_placed_section, call_keep_facts,
+    call_relocate_rewritten_section,
     call_rewrite_placed_section, call_dynamic_types, call_dynamic_name, call_dynamic_words,
     call_entry_words, call_origins, call_static_words, call_got, call_join_flags,
     call_output_facts, call_interpreter, call_address_section, call_entry_relocation,

@@ -439,6 +439,14 @@ pub struct KeptGroups {
     pub got_load: bool,
 }
 
+/// What choices of rewrites read of a symbol and of the output, as `struct linker_utils_kept_facts` in
+/// `include/linker_utils_further.h` explains.
+#[repr(C)]
+#[derive(Debug, Clone, Copy, Default, PartialEq, Eq)]
+pub struct KeptFacts {
+    pub bits: u16,
+}
+
 /// What becomes of a relocation and of its instruction, as `enum linker_utils_fate` in
 /// `include/linker_utils.h` explains.
 #[derive(Debug, Clone, Copy, PartialEq, Eq)]
@@ -1240,6 +1248,60 @@ pub fn rewrite_placed_section(
             .collect(),
         deleted,
     ))
+}
+
+/// What choices of rewrites read of an object's symbols and of the output. The error is
+/// `OutOfMemory`.
+pub fn keep_facts(output: &OutputFacts, symbols: &[SymbolFacts]) -> Result<Vec<KeptFacts>, Status> {
+    let (mut kept, len) = (Vec::new(), symbols.len());
+    kept.try_reserve_exact(len).map_err(|_| Status::OutOfMemory)?;
+    kept.resize(len, KeptFacts::default());
+    let status = unsafe {
+        raw::linker_utils_keep_facts_nonnull(output, symbols.as_ptr(), len, kept.as_mut_ptr(), len)
+    };
+    result_of(status, kept)
+}
+
+/// The facts that hold when values are written, and those that were kept when rewrites were chosen.
+#[derive(Debug, Clone, Copy)]
+pub struct Facts<'a> {
+    pub output: &'a OutputFacts,
+    pub symbols: &'a [SymbolFacts],
+    pub kept: &'a [KeptFacts],
+}
+
+/// Writes the values of a section whose instructions were rewritten, as `relocate_section`, where the
+/// facts are those that were kept. The entry at fault is the first relocation of whose symbol other
+/// facts are kept, or whose value can't be written.
+pub fn relocate_rewritten_section(
+    architecture: Architecture,
+    facts: &Facts,
+    addresses: &Addresses,
+    relocations: &[u8],
+    symbols: &[Symbol],
+    section: &mut [u8],
+    memory: &mut [u64],
+) -> Result<(), ArrayError> {
+    result_over(|faulty| unsafe {
+        raw::linker_utils_relocate_rewritten_section_nonnull(
+            architecture.machine(),
+            facts.output,
+            facts.symbols.as_ptr(),
+            facts.symbols.len(),
+            facts.kept.as_ptr(),
+            facts.kept.len(),
+            addresses,
+            relocations.as_ptr(),
+            relocations.len(),
+            symbols.as_ptr(),
+            symbols.len(),
+            section.as_mut_ptr(),
+            section.len(),
+            memory.as_mut_ptr(),
+            memory.len(),
+            faulty,
+        )
+    })
 }
 
 /// The types of the dynamic relocations of an architecture.

@@ -2,7 +2,7 @@
 //! requires of pointers and counts, and does, is said there. No pointer to a slice may be null.
 
 pub use crate::{Addresses, BlockHead, Call, Deletion, Delta, FieldBits, FieldValue, Item, Operands};
-pub use crate::{KeptGroups, OutputFacts, Relocation, RewriteWindow, Rela, Shape, Shapes, Symbol};
+pub use crate::{KeptFacts, KeptGroups, OutputFacts, Relocation, RewriteWindow, Rela, Shape, Shapes, Symbol};
 pub use crate::{Branch, DynamicTypes, LazyEntry, LazyPlt, Origins, PlacedStub, Stub, StubShape, SymbolFacts};
 use std::ffi::c_char;
 
@@ -378,6 +378,31 @@ extern "C" {
         deleted: *mut Deletion,
         deleted_len: usize,
         deleted_used: *mut usize,
+        faulty: *mut usize,
+    ) -> u32;
+    pub fn linker_utils_keep_facts_nonnull(
+        output: *const OutputFacts,
+        symbols: *const SymbolFacts,
+        symbols_len: usize,
+        kept: *mut KeptFacts,
+        kept_len: usize,
+    ) -> u32;
+    pub fn linker_utils_relocate_rewritten_section_nonnull(
+        machine: u16,
+        output: *const OutputFacts,
+        facts: *const SymbolFacts,
+        facts_len: usize,
+        kept: *const KeptFacts,
+        kept_len: usize,
+        addresses: *const Addresses,
+        relocations: *const u8,
+        relocations_len: usize,
+        symbols: *const Symbol,
+        symbols_len: usize,
+        section: *mut u8,
+        section_len: usize,
+        memory: *mut u64,
+        memory_len: usize,
         faulty: *mut usize,
     ) -> u32;
     pub fn linker_utils_dynamic_types(machine: u16, types: *mut DynamicTypes) -> u32;

@@ -123,6 +123,7 @@ fn type_of_c(text: &str) -> String {
         "struct linker_utils_symbol_facts" => "SymbolFacts",
         "struct linker_utils_output_facts" => "OutputFacts",
         "struct linker_utils_kept_groups" => "KeptGroups",
+        "struct linker_utils_kept_facts" => "KeptFacts",
         "struct linker_utils_decision" => "Decision",
         "struct linker_utils_dynamic_types" => "DynamicTypes",
         "struct linker_utils_word_types" => "WordTypes",
@@ -423,6 +424,7 @@ fn c_element(kind: &str, element: &str) -> String {
         "Symbol" => "struct linker_utils_symbol".to_string(),
         "SymbolFacts" => "struct linker_utils_symbol_facts".to_string(),
         "KeptGroups" => "struct linker_utils_kept_groups".to_string(),
+        "KeptFacts" => "struct linker_utils_kept_facts".to_string(),
         "Decision" => "struct linker_utils_decision".to_string(),
         "FieldBits" => "struct linker_utils_window_bits".to_string(),
         "Recognised" => "struct linker_utils_recognised".to_string(),
@@ -832,6 +834,7 @@ fn the_structs_are_those_of_the_library() {
         "linker_utils_kept_groups": KeptGroups {
             initial_exec, general_dynamic, local_dynamic, descriptor, got_load,
         }
+        "linker_utils_kept_facts": KeptFacts { bits, }
         "linker_utils_decision": raw::Decision {
             addend, symbol, rewrite, relocation, machine, fate, opcode_len,
         }
@@ -874,6 +877,7 @@ fn the_structs_are_those_of_the_library() {
         + &repository("crates/linker_section/src/facts.rt")
         + &repository("crates/linker_rewriting/src/facts.rt")
         + &repository("crates/linker_rewriting/src/groups.rt")
+        + &repository("crates/linker_rewriting/src/kept.rt")
         + &repository("crates/linker_output/src/got.rt")
         + &repository("crates/linker_output/src/lazy_plt.rt")
         + &repository("crates/linker_output/src/placement.rt");
@@ -899,6 +903,7 @@ fn the_structs_are_those_of_the_library() {
         ("linker_utils_symbol_facts", "SymbolFacts"),
         ("linker_utils_output_facts", "OutputFacts"),
         ("linker_utils_kept_groups", "KeptGroups"),
+        ("linker_utils_kept_facts", "KeptFacts"),
         ("linker_utils_decision", "DecisionNumbers"),
         ("linker_utils_dynamic_types", "DynamicCodes"),
         ("linker_utils_word_types", "WordCodes"),

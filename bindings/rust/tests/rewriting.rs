@@ -220,3 +220,56 @@ fn a_rewritten_load_leads_to_its_symbol() {
     assert_eq!(destination(&none, &original, 3, &operands), Err(Status::NoAddress));
     assert_eq!(destination(&found[0], &[0; 65], 3, &operands), Err(Status::WindowTooLong));
 }
+
+#[test]
+fn values_are_written_where_facts_are_as_kept() {
+    // addr32 call f, R_X86_64_PC32, which was call *f@GOTPCREL(%rip)
+    let relocations = relas(&[(2, 2, 1, -4)]);
+    let call = [0x67, 0xe8, 0, 0, 0, 0];
+    let addresses = Addresses {
+        section: 0x401000,
+        ..Addresses::default()
+    };
+    let at = [0, 0x402005, 0, 0].map(|address| Symbol {
+        address,
+        ..Symbol::default()
+    });
+    let kept = keep_facts(&EXECUTABLE, &symbols()).unwrap();
+    assert_eq!(kept.len(), 4);
+    assert_eq!((kept[0], kept[1] == kept[0]), (kept[3], false));
+    let written = |output: &OutputFacts, symbols: &[SymbolFacts], kept: &[KeptFacts]| {
+        let facts = Facts {
+            output,
+            symbols,
+            kept,
+        };
+        let (mut section, mut memory) = (call, [0]);
+        let (code, memory) = (&mut section, &mut memory);
+        let done = relocate_rewritten_section(
+            X86_64, &facts, &addresses, &relocations, &at, code, memory,
+        );
+        (done, section)
+    };
+    let changed = |index| {
+        let index = Some(index);
+        let status = Status::FactsChanged;
+        (Err(ArrayError { status, index }), call)
+    };
+    let done = written(&EXECUTABLE, &symbols(), &kept);
+    assert_eq!(done, (Ok(()), [0x67, 0xe8, 0xff, 0x0f, 0, 0]));
+    // another definition may replace f, the output is loaded anywhere, nothing is kept of f
+    let mut others = symbols();
+    others[1].is_local = false;
+    assert_eq!(written(&EXECUTABLE, &others, &kept), changed(0));
+    let anywhere = OutputFacts {
+        is_fixed: false,
+        ..EXECUTABLE
+    };
+    assert_eq!(written(&anywhere, &symbols(), &kept), changed(0));
+    assert_eq!(written(&EXECUTABLE, &symbols(), &kept[..1]), changed(0));
+    assert_eq!(written(&EXECUTABLE, &symbols(), &[KeptFacts::default(); 4]), changed(0));
+    // of another symbol
+    others = symbols();
+    others[3].is_local = true;
+    assert_eq!(written(&EXECUTABLE, &others, &kept).0, Ok(()));
+}

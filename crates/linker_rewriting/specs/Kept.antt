@@ -1,6 +1,6 @@
 -- What choices of rewrites read of symbols and of the output, kept until values are written.
 use Rattle.std.specs.Prelude.{◌≡◌, ℕ, ◌+◌, ◌*◌, ◌/◌, ◌<◌, ◌^◌, ℤ, Bool, true, false, List, length}
-use Rattle.std.specs.Prelude.{slice_get, Option, Some, None}
+use Rattle.std.specs.Prelude.{slice_get, Option, Some, None, Unit}
 use Rattle.linker_rewriting.specs.Facts.{facts_of, placed_facts}
 use Rattle.linker_rewriting.specs.declared.facts.OutputFacts.{OutputFacts}
 use Rattle.linker_rewriting.specs.declared.facts.SymbolFacts.{SymbolFacts}
@@ -9,6 +9,7 @@ use Rattle.linker_rewriting.specs.declared.kept.WritingError.{WritingError}
 use Rattle.linker_rewriting.specs.declared.kept.WritingError.TheVariants.{Changed, Section}
 use Rattle.linker_rewriting.specs.declared.phases.Phase.{Phase}
 use Rattle.linker_section.specs.Relocations.{relocation_in}
+use Rattle.linker_section.specs.Sections.{IsFirstRejected}
 use Rattle.linker_section.specs.WrittenFields.{IsFirstFault}
 use Rattle.linker_section.specs.declared.facts.Addresses.{Addresses}
 use Rattle.linker_section.specs.declared.facts.Symbol.{Symbol}
@@ -68,6 +69,13 @@ IsWritingCause architecture output facts kept addresses bytes symbols section (C
 IsWritingCause architecture output facts kept addresses bytes symbols section (Section error) =
     AreAsKept output facts kept bytes (length bytes / 24)
     × IsFirstFault architecture addresses bytes symbols section error
+
+-- where a value isn't written it is the first that can't be
+abbrev pub IsRejectedOrChanged : Architecture → Addresses → List ℕ → List Symbol → List ℕ
+    → WritingError → Type 0
+IsRejectedOrChanged architecture addresses bytes symbols section (Changed n) = Unit
+IsRejectedOrChanged architecture addresses bytes symbols section (Section error) =
+    IsFirstRejected architecture addresses bytes symbols section error
 
 -- ---- what they tell
 

@@ -2,7 +2,8 @@
 
 ghost use Rattle.std.specs.Prelude.{◌≡◌, ◌≤◌, ◌<◌, ◌*◌, ◌/◌, ◌^◌, ◌↔◌, length, IsTrue, IfErr, IfSome, IfNone, OnOk};
 ghost use Rattle.linker_rewriting.specs.Kept.{AreAsKept, AreKept, IsAsKept, IsFirstChanged};
-ghost use Rattle.linker_rewriting.specs.Kept.{IsWritingCause, bit_if, kept_facts};
+ghost use Rattle.linker_rewriting.specs.Kept.{IsWritingCause, IsRejectedOrChanged, bit_if, kept_facts};
+ghost use Rattle.linker_section.specs.Sections.{AreAllRelocated};
 ghost use Rattle.linker_section.specs.Relocations.{relocation_in};
 ghost use Rattle.linker_section.specs.WrittenFields.{AreWritten};
 
@@ -176,8 +177,12 @@ pub fn relocate_rewritten_section(
     requires memory { length relocations.now / 24 ≤ length memory.old }
     ensures kept { OnOk result (AreAsKept output.now facts.now kept.now relocations.now
         (length relocations.now / 24)) }
+    ensures ok { OnOk result (AreAllRelocated architecture addresses.now relocations.now symbols.now
+        section.old section.new) }
     ensures fields { OnOk result (AreWritten architecture addresses.now relocations.now symbols.now
         section.old section.new) }
+    ensures rejected { IfErr result (IsRejectedOrChanged architecture addresses.now relocations.now
+        symbols.now section.old) }
     ensures cause { IfErr result (IsWritingCause architecture output.now facts.now kept.now
         addresses.now relocations.now symbols.now section.old) }
     ensures unchanged { IfErr result (λ _. section.new ≡ section.old) }

@@ -6,6 +6,7 @@ pub mod FirstBytes
 pub mod Inner
 pub mod LoongArchItems
 pub mod LoongArchSites
+pub mod Machines
 pub mod Origins
 pub mod Packing
 pub mod Reaches

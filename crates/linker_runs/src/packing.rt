@@ -6,6 +6,7 @@ ghost use Rattle.std.specs.Prelude.{List, IsTrue, IfOk, IfErr, OnOk, OnErr, IfSo
 ghost use Rattle.linker_base.specs.Deletions.{rank};
 ghost use Rattle.linker_base.specs.Deltas.{deletions_of};
 ghost use Rattle.linker_base.specs.Listed.{AreValidDeltas};
+ghost use Rattle.linker_runs.specs.Machines.{machine_of};
 ghost use Rattle.linker_runs.specs.Relaxing.{offset_of, end_of};
 ghost use Rattle.linker_runs.specs.Packing.{section_of, kept_len, packed_offset, is_fixed};
 ghost use Rattle.linker_runs.specs.Packing.{IsInside, StayWhole, KeepsEnd};
@@ -29,6 +30,7 @@ use crate::packing::code::Code;
 use crate::relaxation::{Item, Site};
 use linker_base::packing::{Position, copy_kept, position_from, position_near, position_of};
 use linker_base::relaxation::{DeltaSlice, RelaxDelta};
+use linker_utils::elf::Architecture;
 
 /// The architecture of a section's code.
 #[derive(Debug, Clone, Copy, PartialEq, Eq)]
@@ -37,6 +39,20 @@ pub enum Machine {
     RiscV64,
     /// LoongArch of 64 bits.
     LoongArch64,
+}
+
+impl Machine {
+    /// The machine of an architecture, if its code can become shorter.
+    #[inline]
+    pub fn of(architecture: Architecture) -> Option<Machine>
+        ensures { result ≡ machine_of architecture }
+    {
+        match architecture {
+            Architecture::RiscV => Some(Machine::RiscV64),
+            Architecture::LoongArch64 => Some(Machine::LoongArch64),
+            Architecture::AArch64 | Architecture::Ppc64 | Architecture::X86_64 => None,
+        }
+    }
 }
 
 /// Why an item isn't written.

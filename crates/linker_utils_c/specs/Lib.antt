@@ -1,6 +1,7 @@
 pub mod Choices
 pub mod Deltas
 pub mod Forms
+pub mod Kept
 pub mod LazyPlt
 pub mod Output
 pub mod PackRuns

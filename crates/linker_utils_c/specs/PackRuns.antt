@@ -2,12 +2,11 @@
 use Rattle.std.specs.Prelude.{◌≡◌, ◌⊎◌, ℕ, List, [], ◌∷◌, Option, None, Some}
 use Rattle.linker_utils.specs.Machines.{architecture_of}
 use Rattle.linker_utils.specs.declared.elf.Architecture.{Architecture}
-use Rattle.linker_utils.specs.declared.elf.Architecture.TheVariants as architectures
 use Rattle.linker_runs.specs.declared.relaxation.Item.{Item}
 use Rattle.linker_runs.specs.declared.packing.Machine.{Machine}
-use Rattle.linker_runs.specs.declared.packing.Machine.TheVariants as machines
 use Rattle.linker_runs.specs.declared.packing.ItemError.{ItemError}
 use Rattle.linker_runs.specs.declared.packing.ItemError.TheVariants as errors
+use Rattle.linker_runs.specs.Machines.{machine_of}
 use Rattle.linker_runs.specs.Origins.{HasItsInstructions}
 use Rattle.linker_runs.specs.Packing.{Section, IsPackedRun, IsFirstRejected}
 use Rattle.linker_utils_c.specs.declared.status.Status.{Status}
@@ -21,9 +20,8 @@ use Rattle.linker_utils_c.specs.Status.{code}
 
 -- the machine of an architecture whose sections are packed
 abbrev pub packed_as : Option Architecture → Option Machine
-packed_as (Some architectures.RiscV) = Some machines.RiscV64
-packed_as (Some architectures.LoongArch64) = Some machines.LoongArch64
-packed_as other = None
+packed_as None = None
+packed_as (Some architecture) = machine_of architecture
 
 -- the same by e_machine
 abbrev pub packing_machine : ℕ → Option Machine

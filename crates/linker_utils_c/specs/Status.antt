@@ -43,7 +43,7 @@ use Rattle.linker_utils_c.specs.declared.status.Status.TheVariants.{DifferentFla
 use Rattle.linker_utils_c.specs.declared.status.Status.TheVariants.{UnknownStub, UnknownPhase, NotABranch, NoRoom}
 use Rattle.linker_utils_c.specs.declared.status.Status.TheVariants.{StubWithoutLength, NoTarget}
 use Rattle.linker_utils_c.specs.declared.status.Status.TheVariants.{CodeTooLong, NoBoundary}
-use Rattle.linker_utils_c.specs.declared.status.Status.TheVariants.{StubTooFar}
+use Rattle.linker_utils_c.specs.declared.status.Status.TheVariants.{StubTooFar, FactsChanged}
 
 abbrev pub code : Status → ℕ
 code Success = 0
@@ -123,6 +123,7 @@ code NoTarget = 75
 code CodeTooLong = 76
 code NoBoundary = 77
 code StubTooFar = 78
+code FactsChanged = 79
 
 -- the status is one of these
 abbrev pub IsOneOf : List Status → ℕ → Type 0

@@ -6,6 +6,7 @@ mod choices;
 mod deltas;
 mod forms;
 mod heads;
+mod kept;
 mod lazy_plt;
 mod merges;
 mod output;

@@ -23,11 +23,7 @@ use linker_utils::relaxation::RelaxDelta;
 pub(crate) fn packing_machine(machine: u16) -> Option<Machine>
     ensures { result ≡ packing_machine machine }
 {
-    match Architecture::from_machine(machine) {
-        Some(Architecture::RiscV) => Some(Machine::RiscV64),
-        Some(Architecture::LoongArch64) => Some(Machine::LoongArch64),
-        _ => None,
-    }
+    Machine::of(Architecture::from_machine(machine)?)
 }
 
 #[inline]

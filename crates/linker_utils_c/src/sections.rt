@@ -162,7 +162,7 @@ pub extern "C" fn linker_utils_relocate_memory_nonnull(relocations: &[u8]) -> us
 
 /// Why a relocation's value isn't written.
 #[inline(always)]
-fn status_of_error(error: RelocationError) -> u32
+pub(crate) fn status_of_error(error: RelocationError) -> u32
     ensures { result ≡ code (relocation_status error) }
 {
     match error {

@@ -7,7 +7,7 @@ use linker_utils::output::{LazyEntry, Origins};
 use linker_utils::placement::{Branch, StubShape};
 use linker_utils::recognise::FieldBits;
 use linker_utils::relaxation::{BlockHead, Call, RelaxDelta};
-use linker_utils::rewriting::{KeptGroups, OutputFacts, SymbolFacts};
+use linker_utils::rewriting::{KeptFacts, KeptGroups, OutputFacts, SymbolFacts};
 use linker_utils::runs::relaxation::{Shape, Shapes};
 use linker_utils::runs::shapes::{fixed, loongarch64, riscv64};
 use linker_utils::section::{Addresses, Symbol};
@@ -341,6 +341,7 @@ fields! {
 }
 fields! { OutputFacts: is_executable, is_fixed, }
 fields! { KeptGroups: initial_exec, general_dynamic, local_dynamic, descriptor, got_load, }
+fields! { KeptFacts: bits, }
 fields! { Origins: thread_pointer, module_block, }
 fields! { LazyEntry: address, word, header, index, }
 fields! { Branch: offset, target, max_backward, max_forward, }

@@ -34,6 +34,7 @@ use linker_utils::placement::StubShape;
 use linker_utils::recognise::FieldBits;
 use linker_utils::relaxation::BlockHead;
 use linker_utils::relaxation::RelaxDelta;
+use linker_utils::rewriting::KeptFacts;
 use linker_utils::rewriting::KeptGroups;
 use linker_utils::rewriting::OutputFacts;
 use linker_utils::rewriting::SymbolFacts;
@@ -480,6 +481,60 @@ unsafe extern "C" fn linker_utils_deltas_output_to_input_by_heads_nonnull(
             from_raw_parts(heads, heads_len),
             output_offset,
             &mut *input_offset,
+        )
+    }
+}
+
+#[unsafe(no_mangle)]
+unsafe extern "C" fn linker_utils_keep_facts_nonnull(
+    output: *const OutputFacts,
+    symbols: *const SymbolFacts,
+    symbols_len: usize,
+    kept: *mut KeptFacts,
+    kept_len: usize,
+) -> u32 {
+    // SAFETY: the arguments are as the head of the header says.
+    unsafe {
+        crate::kept::linker_utils_keep_facts_nonnull(
+            &*output,
+            from_raw_parts(symbols, symbols_len),
+            from_raw_parts_mut(kept, kept_len),
+        )
+    }
+}
+
+#[unsafe(no_mangle)]
+unsafe extern "C" fn linker_utils_relocate_rewritten_section_nonnull(
+    machine: u16,
+    output: *const OutputFacts,
+    facts: *const SymbolFacts,
+    facts_len: usize,
+    kept: *const KeptFacts,
+    kept_len: usize,
+    addresses: *const Addresses,
+    relocations: *const u8,
+    relocations_len: usize,
+    symbols: *const Symbol,
+    symbols_len: usize,
+    section: *mut u8,
+    section_len: usize,
+    memory: *mut u64,
+    memory_len: usize,
+    faulty: *mut usize,
+) -> u32 {
+    // SAFETY: the arguments are as the head of the header says.
+    unsafe {
+        crate::kept::linker_utils_relocate_rewritten_section_nonnull(
+            machine,
+            &*output,
+            from_raw_parts(facts, facts_len),
+            from_raw_parts(kept, kept_len),
+            &*addresses,
+            from_raw_parts(relocations, relocations_len),
+            from_raw_parts(symbols, symbols_len),
+            from_raw_parts_mut(section, section_len),
+            from_raw_parts_mut(memory, memory_len),
+            &mut *faulty,
         )
     }
 }

@@ -24,6 +24,7 @@ pub mod choices;
 pub mod deltas;
 pub mod forms;
 pub mod heads;
+pub mod kept;
 pub mod lazy_plt;
 pub mod merges;
 pub mod output;

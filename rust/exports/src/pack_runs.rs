@@ -11,11 +11,7 @@ use linker_utils::relaxation::RelaxDelta;
 /// The machine whose code becomes shorter, by `e_machine`.
 #[inline]
 pub(crate) fn packing_machine(machine: u16) -> Option<Machine> {
-    match Architecture::from_machine(machine) {
-        Some(Architecture::RiscV) => Some(Machine::RiscV64),
-        Some(Architecture::LoongArch64) => Some(Machine::LoongArch64),
-        _ => None,
-    }
+    Machine::of(Architecture::from_machine(machine)?)
 }
 
 #[inline]

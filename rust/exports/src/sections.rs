@@ -126,7 +126,7 @@ pub fn linker_utils_relocate_memory_nonnull(relocations: &[u8]) -> usize {
 
 /// Why a relocation's value isn't written.
 #[inline(always)]
-fn status_of_error(error: RelocationError) -> u32 {
+pub(crate) fn status_of_error(error: RelocationError) -> u32 {
     match error {
         RelocationError::Value(error) => value_status_of(error).number(),
         RelocationError::Overlaps => Status::Overlaps.number(),

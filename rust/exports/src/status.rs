@@ -167,6 +167,8 @@ pub enum Status {
     NoBoundary,
     /// A stub of the target does not reach it.
     StubTooFar,
+    /// The facts of the relocation's symbol, or of the output, are not those that were kept.
+    FactsChanged,
 }
 
 impl Status {

@@ -10,6 +10,7 @@ use crate::linker_runs::packing::code::Code;
 use crate::linker_runs::relaxation::{Item, Site};
 use crate::linker_base::packing::{Position, copy_kept, position_from, position_near, position_of};
 use crate::linker_base::relaxation::{DeltaSlice, RelaxDelta};
+use linker_utils::elf::Architecture;
 
 /// The architecture of a section's code.
 #[derive(Debug, Clone, Copy, PartialEq, Eq)]
@@ -18,6 +19,19 @@ pub enum Machine {
     RiscV64,
     /// LoongArch of 64 bits.
     LoongArch64,
+}
+
+impl Machine {
+    /// The machine of an architecture, if its code can become shorter.
+    #[must_use]
+    #[inline]
+    pub fn of(architecture: Architecture) -> Option<Machine> {
+        match architecture {
+            Architecture::RiscV => Some(Machine::RiscV64),
+            Architecture::LoongArch64 => Some(Machine::LoongArch64),
+            Architecture::AArch64 | Architecture::Ppc64 | Architecture::X86_64 => None,
+        }
+    }
 }
 
 /// Why an item isn't written.

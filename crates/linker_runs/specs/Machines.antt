@@ -1,0 +1,11 @@
+-- Architectures whose code can become shorter.
+use Rattle.std.specs.Prelude.{Option, None, Some}
+use Rattle.linker_runs.specs.declared.packing.Machine.{Machine}
+use Rattle.linker_runs.specs.declared.packing.Machine.TheVariants as machines
+use Rattle.linker_utils.specs.declared.elf.Architecture.{Architecture}
+use Rattle.linker_utils.specs.declared.elf.Architecture.TheVariants as architectures
+
+abbrev pub machine_of : Architecture → Option Machine
+machine_of architectures.RiscV = Some machines.RiscV64
+machine_of architectures.LoongArch64 = Some machines.LoongArch64
+machine_of other = None

@@ -1,0 +1,45 @@
+-- Values that are written where choices of rewrites would read what they read, in the numbers that C
+-- sees.
+use Rattle.std.specs.Prelude.{◌≡◌, ℕ, ◌<◌, ◌≤◌, List, length, Result, Ok, Err, Unit}
+use Rattle.linker_rewriting.specs.Kept.{AreAsKept, IsFirstChanged}
+use Rattle.linker_rewriting.specs.declared.facts.OutputFacts.{OutputFacts}
+use Rattle.linker_rewriting.specs.declared.facts.SymbolFacts.{SymbolFacts}
+use Rattle.linker_rewriting.specs.declared.kept.KeptFacts.{KeptFacts}
+use Rattle.linker_rewriting.specs.declared.kept.WritingError.{WritingError}
+use Rattle.linker_rewriting.specs.declared.kept.WritingError.TheVariants.{Changed, Section}
+use Rattle.linker_section.specs.declared.facts.Addresses.{Addresses}
+use Rattle.linker_section.specs.declared.facts.Symbol.{Symbol}
+use Rattle.linker_utils.specs.declared.elf.Architecture.{Architecture}
+use Rattle.linker_utils_c.specs.Sections.{room_of, IsSectionOutcome}
+use Rattle.linker_utils_c.specs.Status.{code}
+use Rattle.linker_utils_c.specs.declared.status.Status.TheVariants.{FactsChanged, ShortMemory}
+
+-- All facts are as kept, and all values are written or none is; or the index is that of the first
+-- relocation of which other facts hold, and none is.
+abbrev pub IsRewrittenOutcome : Architecture → OutputFacts → List SymbolFacts → List KeptFacts
+    → Addresses → List ℕ → List Symbol → List ℕ → List ℕ → ℕ → ℕ → ℕ → Result Unit WritingError
+    → Type 0
+IsRewrittenOutcome architecture output facts kept addresses bytes symbols before after old_faulty
+    faulty status (Ok u) =
+    AreAsKept output facts kept bytes (room_of bytes)
+    × IsSectionOutcome architecture addresses bytes symbols before after old_faulty faulty status
+    (Ok u)
+IsRewrittenOutcome architecture output facts kept addresses bytes symbols before after old_faulty
+    faulty status (Err (Changed n)) =
+    (status ≡ code FactsChanged) × (faulty ≡ n) × (after ≡ before)
+    × IsFirstChanged output facts kept bytes n
+IsRewrittenOutcome architecture output facts kept addresses bytes symbols before after old_faulty
+    faulty status (Err (Section error)) =
+    AreAsKept output facts kept bytes (room_of bytes)
+    × IsSectionOutcome architecture addresses bytes symbols before after old_faulty faulty status
+    (Err error)
+
+pub record IsRewrittenReturned (architecture : Architecture) (output : OutputFacts)
+    (facts : List SymbolFacts) (kept : List KeptFacts) (addresses : Addresses) (bytes : List ℕ)
+    (symbols : List Symbol) (before after memory : List ℕ) (old_faulty faulty status : ℕ) : Type 0
+  where
+    pub short : length memory < room_of bytes → (status ≡ code ShortMemory) × (after ≡ before)
+        × (faulty ≡ old_faulty)
+    pub long : room_of bytes ≤ length memory → (outcome : Result Unit WritingError)
+        × IsRewrittenOutcome architecture output facts kept addresses bytes symbols before after
+        old_faulty faulty status outcome

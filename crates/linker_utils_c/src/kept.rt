@@ -1,0 +1,89 @@
+//! What choices of rewrites read of symbols, kept until values are written.
+
+ghost use Rattle.std.specs.Prelude.{◌≡◌, ◌≢◌, length, IfSome, IfNone};
+ghost use Rattle.linker_rewriting.specs.Kept.{AreKept};
+ghost use Rattle.linker_utils.specs.Machines.{architecture_of};
+ghost use Rattle.linker_utils_c.specs.Kept.{IsRewrittenReturned};
+ghost use Rattle.linker_utils_c.specs.Status.{code};
+
+use crate::sections::status_of_error;
+use crate::status::Status;
+use linker_rewriting::facts::{OutputFacts, SymbolFacts};
+use linker_rewriting::kept::{KeptFacts, WritingError, keep_facts, relocate_rewritten_section};
+use linker_section::facts::{Addresses, Symbol};
+use linker_section::sections::memory_len;
+use linker_utils::elf::Architecture;
+
+/// Keeps what choices of rewrites read of an object's symbols and of the output, as `keep_facts` of
+/// `linker_rewriting`. The error is `DifferentLengths`.
+#[unsafe(no_mangle)]
+pub extern "C" fn linker_utils_keep_facts_nonnull(
+    output: &OutputFacts,
+    symbols: &[SymbolFacts],
+    kept: &mut [KeptFacts],
+) -> u32
+    ensures kept { length kept.old ≡ length symbols.now
+        → (result ≡ code Status.Success) × AreKept output.now symbols.now kept.new }
+    ensures different_lengths { length kept.old ≢ length symbols.now
+        → (result ≡ code Status.DifferentLengths) × (kept.new ≡ kept.old) }
+{
+    if kept.len() != symbols.len() {
+        return Status::DifferentLengths.number();
+    }
+    keep_facts(output, symbols, kept);
+    Status::Success.number()
+}
+
+/// Writes the values of a section whose instructions were rewritten, as `relocate_rewritten_section`
+/// of `linker_rewriting`, or none of them. The first that applies of `UnknownArchitecture`;
+/// `ShortMemory`, where `memory` has fewer elements than `linker_utils_relocate_memory`;
+/// `FactsChanged`, with the first such relocation at `faulty`; and why the relocation at `faulty`
+/// can't be written.
+#[unsafe(no_mangle)]
+pub extern "C" fn linker_utils_relocate_rewritten_section_nonnull(
+    machine: u16,
+    output: &OutputFacts,
+    facts: &[SymbolFacts],
+    kept: &[KeptFacts],
+    addresses: &Addresses,
+    relocations: &[u8],
+    symbols: &[Symbol],
+    section: &mut [u8],
+    memory: &mut [u64],
+    faulty: &mut usize,
+) -> u32
+    ensures known { IfSome (architecture_of machine) (λ architecture.
+        IsRewrittenReturned architecture output.now facts.now kept.now addresses.now relocations.now
+        symbols.now section.old section.new memory.old faulty.old faulty.new result) }
+    ensures unknown { IfNone (architecture_of machine)
+        ((result ≡ code Status.UnknownArchitecture) × (section.new ≡ section.old)
+        × (faulty.new ≡ faulty.old)) }
+{
+    let Some(architecture) = Architecture::from_machine(machine) else {
+        return Status::UnknownArchitecture.number();
+    };
+    if memory.len() < memory_len(relocations) {
+        return Status::ShortMemory.number();
+    }
+    match relocate_rewritten_section(
+        architecture,
+        output,
+        facts,
+        kept,
+        addresses,
+        relocations,
+        symbols,
+        section,
+        memory,
+    ) {
+        Ok(()) => Status::Success.number(),
+        Err(WritingError::Changed(index)) => {
+            *faulty = index;
+            Status::FactsChanged.number()
+        }
+        Err(WritingError::Section(error)) => {
+            *faulty = error.index;
+            status_of_error(error.error)
+        }
+    }
+}

@@ -1,0 +1,70 @@
+// Made by tools/erase of crates/linker_utils_c/src/kept.rt.
+//! What choices of rewrites read of symbols, kept until values are written.
+
+use crate::sections::status_of_error;
+use crate::status::Status;
+use linker_utils::rewriting::{OutputFacts, SymbolFacts};
+use linker_utils::rewriting::{KeptFacts, WritingError, keep_facts, relocate_rewritten_section};
+use linker_utils::section::{Addresses, Symbol};
+use linker_utils::section::memory_len;
+use linker_utils::elf::Architecture;
+
+/// Keeps what choices of rewrites read of an object's symbols and of the output, as `keep_facts` of
+/// `linker_rewriting`. The error is `DifferentLengths`.
+pub fn linker_utils_keep_facts_nonnull(
+    output: &OutputFacts,
+    symbols: &[SymbolFacts],
+    kept: &mut [KeptFacts],
+) -> u32 {
+    if kept.len() != symbols.len() {
+        return Status::DifferentLengths.number();
+    }
+    keep_facts(output, symbols, kept);
+    Status::Success.number()
+}
+
+/// Writes the values of a section whose instructions were rewritten, as `relocate_rewritten_section`
+/// of `linker_rewriting`, or none of them. The first that applies of `UnknownArchitecture`;
+/// `ShortMemory`, where `memory` has fewer elements than `linker_utils_relocate_memory`;
+/// `FactsChanged`, with the first such relocation at `faulty`; and why the relocation at `faulty`
+/// can't be written.
+pub fn linker_utils_relocate_rewritten_section_nonnull(
+    machine: u16,
+    output: &OutputFacts,
+    facts: &[SymbolFacts],
+    kept: &[KeptFacts],
+    addresses: &Addresses,
+    relocations: &[u8],
+    symbols: &[Symbol],
+    section: &mut [u8],
+    memory: &mut [u64],
+    faulty: &mut usize,
+) -> u32 {
+    let Some(architecture) = Architecture::from_machine(machine) else {
+        return Status::UnknownArchitecture.number();
+    };
+    if memory.len() < memory_len(relocations) {
+        return Status::ShortMemory.number();
+    }
+    match relocate_rewritten_section(
+        architecture,
+        output,
+        facts,
+        kept,
+        addresses,
+        relocations,
+        symbols,
+        section,
+        memory,
+    ) {
+        Ok(()) => Status::Success.number(),
+        Err(WritingError::Changed(index)) => {
+            *faulty = index;
+            Status::FactsChanged.number()
+        }
+        Err(WritingError::Section(error)) => {
+            *faulty = error.index;
+            status_of_error(error.error)
+        }
+    }
+}
