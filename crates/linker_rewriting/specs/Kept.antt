@@ -1,6 +1,6 @@
 -- What choices of rewrites read of symbols and of the output, kept until values are written.
 use Rattle.std.specs.Prelude.{◌≡◌, ℕ, ◌+◌, ◌*◌, ◌/◌, ◌<◌, ◌^◌, ℤ, Bool, true, false, List, length}
-use Rattle.std.specs.Prelude.{slice_get, Option, Some, None, Unit}
+use Rattle.std.specs.Prelude.{slice_get, Option, Some, None}
 use Rattle.linker_rewriting.specs.Facts.{facts_of, placed_facts}
 use Rattle.linker_rewriting.specs.declared.facts.OutputFacts.{OutputFacts}
 use Rattle.linker_rewriting.specs.declared.facts.SymbolFacts.{SymbolFacts}
