@@ -1,7 +1,7 @@
 -- Addresses of AArch64 that became one instruction do in the final bytes what the object's do.
-use Rattle.std.proofs.Common.{◌≡◌, ℕ, ℤ, ◌+◌, ◌-◌, ◌≤◌, List, [], ◌∷◌, length, take, drop, false, cond, refl, sym, ap, subst, ◌∙◌, arith, Some}
+use Rattle.std.proofs.Common.{◌≡◌, ℕ, ℤ, ◌+◌, ◌-◌, ◌≤◌, [], ◌∷◌, length, take, drop, false, cond, refl, sym, ap, subst, ◌∙◌, arith, Some}
 use Rattle.std.proofs.lemmas.Bool.{cond-false}
-use Rattle.std.proofs.lemmas.List.{take-take, drop-drop, drop-take}
+use Rattle.std.proofs.lemmas.List.{take-take}
 use Rattle.std.specs.Prelude.{slice_get}
 use Rattle.linker_aarch64.specs.AArch64Rewrites.{AArch64Entry, to_adr, nop_adr, IsAdd64, AreOfOneRegister}
 use Rattle.linker_aarch64.specs.declared.rewrites.RelaxationKind.TheVariants as kinds
@@ -12,19 +12,17 @@ use Rattle.linker_elf.specs.Choices.{entry}
 use Rattle.linker_elf.specs.ElfNames.{code_of}
 use Rattle.linker_elf.specs.Rows.{paged_row, signed_row, place_pages}
 use Rattle.linker_elf.specs.Value.{value_of, sum_64}
-use Rattle.linker_elf.specs.declared.aarch64.forms.AArch64Instruction.TheVariants.{Adr, Add}
+use Rattle.linker_elf.specs.declared.aarch64.forms.AArch64Instruction.TheVariants.{Adr}
 use Rattle.linker_elf.specs.declared.aarch64.relocations.AArch64Relocation.TheVariants as names
 use Rattle.linker_elf.specs.declared.elf.RelocationInstruction.TheVariants as insns
 use Rattle.linker_elf.specs.declared.elf.RelocationKind.TheVariants.{Relative}
 use Rattle.linker_elf.specs.declared.elf.RelocationKindInfo.{RelocationKindInfo}
-use Rattle.linker_elf.specs.declared.elf.RelocationSize.TheVariants.{BitMasking}
 use Rattle.linker_elf.specs.declared.elf.value.Operands.{Operands}
 use Rattle.linker_final.proofs.AArch64Chosen.{IsOfEntry, of_entry}
-use Rattle.linker_final.specs.AArch64Final.{AreOfAddress, Addresses as AddressesByAdr, IsWrittenByNoOther, MakesTheSame, instruction_at, two_at}
-use Rattle.linker_final.specs.Final.{Linked, IsLinked}
+use Rattle.linker_final.specs.AArch64Final.{AreOfAddress, Addresses as AddressesByAdr, MakesTheSame}
+use Rattle.linker_final.specs.Final.{Linked, IsLinked, IsWrittenByNoOther, instruction_at, two_at}
 use Rattle.linker_laws.specs.AArch64RewriteLaws.{IsPair, IsRelocated, IsRewritten, Laws, behind, pair, word_of}
 use Rattle.linker_rewriting.specs.Rewritten.{IsDone, IsMade, relocation_after}
-use Rattle.linker_section.proofs.Fronts.{same_window}
 use Rattle.linker_section.specs.Relocations.{relocation_in}
 use Rattle.linker_section.specs.Values.{operands_with}
 use Rattle.linker_section.specs.declared.facts.Addresses.{Addresses}
@@ -32,7 +30,8 @@ use Rattle.linker_section.specs.declared.facts.Symbol.{Symbol}
 use Rattle.linker_section.specs.declared.relocations.Rela.{Rela}
 use Rattle.linker_utils.specs.Architectures.{relaxation_rewrite}
 use Rattle.linker_utils.specs.declared.elf.Architecture.TheVariants.{AArch64}
-use Rattle.linker_final.proofs.AArch64Written.{IsAfter, applied_there, free_but, rela, unwritten, with_operands, word_same}
+use Rattle.linker_final.proofs.AArch64Written.{IsAfter, applied_there, unwritten}
+use Rattle.linker_final.proofs.Written.{first_same, rela, second_same, with_operands, word_same}
 use Rattle.linker_laws.specs.AArch64Machine.{RunAlike}
 
 -- ---- rows
@@ -57,17 +56,6 @@ adr_after =
         some = λ o. tt;
       };
     }
-
--- ---- two instructions
-
--- the second of them
-second_same : (bytes : List ℕ) (o : ℕ) → drop 4 (two_at bytes o) ≡ instruction_at bytes (o + 4)
-second_same bytes o = drop-take 4 4 (drop o bytes) ∙ ap (take 4) (drop-drop 4 o bytes)
-
-first_same : (bytes : List ℕ) (o : ℕ) → word_of (two_at bytes o) ≡ word_of (instruction_at bytes o)
-first_same bytes o =
-    same_window (BitMasking (record { start = 0; end = 12 }) (insns.AArch64 Add)) (two_at bytes o) (instruction_at bytes o)
-    (take-take 4 8 (drop o bytes) (omega arith) ∙ sym (take-take 4 4 (drop o bytes) (omega arith)))
 
 -- ---- operands
 
@@ -130,14 +118,14 @@ module _ (laws : Laws) (l : Linked) (linked : IsLinked l) (aarch64 : l.setting.a
       let o = first.offset in
       let w = operands_with AArch64 l.addresses page_row symbol first 0 in
       let next = of.together.next in
-      let inside = by.matches.1.1.0 in
+      let inside = by.meant.matches.1.1.0 in
       let code = code_of (aarch64_name names.R_AARCH64_ADR_PREL_LO21) in
       let section_long : o + 8 ≤ length l.section = omega (arith, inside, next) in
       let is_add : IsAdd64 (word_of (drop (o + 4) l.section)) =
-      subst (λ n. IsAdd64 (word_of (drop n l.section))) next (by.matches.1.1.1.0) in
+      subst (λ n. IsAdd64 (word_of (drop n l.section))) next (by.meant.matches.1.1.1.0) in
       let one : AreOfOneRegister (word_of (drop o l.section)) (word_of (drop (o + 4) l.section)) =
       subst (λ n. AreOfOneRegister (word_of (drop n l.section)) (word_of (drop (o + 4) l.section))) back
-      (subst (λ n. AreOfOneRegister (word_of (drop (second.offset - 4) l.section)) (word_of (drop n l.section))) next (by.matches.1.1.1.1)) in
+      (subst (λ n. AreOfOneRegister (word_of (drop (second.offset - 4) l.section)) (word_of (drop n l.section))) next (by.meant.matches.1.1.1.1)) in
       let word_first : word_of (drop o l.section) ≡ word_of (two_at l.section o) = word_same l.section o ∙ sym (first_same l.section o) in
       let word_second : word_of (drop (o + 4) l.section) ≡ word_of (drop 4 (two_at l.section o)) =
       word_same l.section (o + 4) ∙ ap word_of (sym (second_same l.section o)) in
@@ -166,7 +154,7 @@ module _ (laws : Laws) (l : Linked) (linked : IsLinked l) (aarch64 : l.setting.a
       let gone : (relocation_in l.relocations_after i).code ≡ 0 =
       ap (λ (x : Rela). x.code) (linked.relocations i of.together.first_below ∙ ap (λ d. relocation_after d first) of.page_decided) in
       let stays : instruction_at l.final o ≡ instruction_at l.rewritten o =
-      unwritten l linked o (omega (arith, section_long)) (free_but l linked aarch64 i o gone alone) in
+      unwritten l linked aarch64 i o gone (omega (arith, section_long)) alone in
       let word : word_of (two_at l.rewritten o) ≡ word_of (instruction_at l.final o) =
       first_same l.rewritten o ∙ ap word_of (sym stays) in
       subst (λ x. RunAlike (pair adrp add) (x ∷ word_of (instruction_at l.final (o + 4)) ∷ []) s) word

@@ -16,8 +16,8 @@ use Rattle.linker_elf.specs.declared.elf.RelocationKind.TheVariants.{PltRelative
 use Rattle.linker_elf.specs.declared.elf.RelocationKindInfo.{RelocationKindInfo}
 use Rattle.linker_elf.specs.declared.elf.choice.Choice.{Choice}
 use Rattle.linker_final.proofs.AArch64Chosen.{of_entry}
-use Rattle.linker_final.specs.AArch64Final.{HighHalves, LowHalves, Branches, BranchDoesTheSame, instruction_at}
-use Rattle.linker_final.specs.Final.{Linked, IsLinked, count}
+use Rattle.linker_final.specs.AArch64Final.{HighHalves, LowHalves, Branches, BranchDoesTheSame}
+use Rattle.linker_final.specs.Final.{Linked, IsLinked, count, instruction_at}
 use Rattle.linker_laws.specs.AArch64RewriteLaws.{IsRewritten, Laws, BranchToNop, word_of}
 use Rattle.linker_rewriting.specs.Decisions.{decision_at}
 use Rattle.linker_rewriting.specs.declared.decisions.Decision.TheVariants.{Rewritten}
@@ -25,7 +25,8 @@ use Rattle.linker_section.specs.Relocations.{relocation_in}
 use Rattle.linker_section.specs.Values.{operands_with}
 use Rattle.linker_utils.specs.declared.architecture.Relaxation.{Relaxation}
 use Rattle.linker_utils.specs.declared.elf.Architecture.TheVariants.{AArch64}
-use Rattle.linker_final.proofs.AArch64Written.{IsAfter, applied_there, becomes, becomes_nop, rela, with_operands, word_same}
+use Rattle.linker_final.proofs.AArch64Written.{IsAfter, applied_there, becomes, becomes_nop}
+use Rattle.linker_final.proofs.Written.{rela, with_operands, word_same}
 use Rattle.linker_laws.specs.AArch64Machine.{is_b, is_bl}
 
 -- ---- rows
@@ -82,7 +83,7 @@ high_halves laws l linked aarch64 i chosen below is_name decided symbol is_symbo
     (applied_there l linked aarch64 i chosen below decided e by.kind_is by.code_is (λ o. refl) (λ a. refl) high_after symbol 0 refl is_symbol) in
     let made : IsRewritten kinds.MovzXnLsl16 (instruction_at l.section o) (instruction_at l.rewritten o) =
     becomes l linked i chosen below decided kinds.MovzXnLsl16 (λ _. true) (λ word. 0xd2a00000 + rd_of word) refl by.kind_is in
-    let is_adrp : IsAdrp (word_of (instruction_at l.section o)) = subst IsAdrp (word_same l.section o) (by.matches.1) in
+    let is_adrp : IsAdrp (word_of (instruction_at l.section o)) = subst IsAdrp (word_same l.section o) (by.meant.matches.1) in
     laws.high_half w s t c (instruction_at l.section o) (instruction_at l.rewritten o) small at agree is_adrp not_31 made
     adrp (instruction_at l.final o) of_entry_there written
 
@@ -100,8 +101,8 @@ low_halves laws l linked aarch64 i chosen below is_name decided symbol is_symbol
     (applied_there l linked aarch64 i chosen below decided e by.kind_is by.code_is (λ o. refl) (λ a. refl) low_after symbol 0 refl is_symbol) in
     let made : IsRewritten kinds.MovkXn (instruction_at l.section o) (instruction_at l.rewritten o) =
     becomes l linked i chosen below decided kinds.MovkXn (λ word. eqb (rn_of word) (rd_of word)) (λ word. 0xf2800000 + rd_of word) refl by.kind_is in
-    let is_ldr : IsLdr64 (word_of (instruction_at l.section o)) = subst IsLdr64 (word_same l.section o) (by.matches.1.0) in
-    let own : IsIntoOwnSource (word_of (instruction_at l.section o)) = subst IsIntoOwnSource (word_same l.section o) (by.matches.1.1) in
+    let is_ldr : IsLdr64 (word_of (instruction_at l.section o)) = subst IsLdr64 (word_same l.section o) (by.meant.matches.1.0) in
+    let own : IsIntoOwnSource (word_of (instruction_at l.section o)) = subst IsIntoOwnSource (word_same l.section o) (by.meant.matches.1.1) in
     laws.low_half w s t c (instruction_at l.section o) (instruction_at l.rewritten o) small is_ldr own holds high agree made
     ldr (instruction_at l.final o) of_entry_there written
 
@@ -122,7 +123,7 @@ module _ (name : AArch64Relocation) (named : IsNamed (aarch64_name name))
       let r = relocation_in l.relocations i in
       let o = r.offset in
       let by = of_entry l linked aarch64 i chosen below decided name named is_name (entry kinds.ReplaceWithNop names.R_AARCH64_NONE (weak_zero ∷ [])) entries in
-      let one = is_one l o by.asked in
+      let one = is_one l o by.meant.asked in
       let final : IsRewritten kinds.ReplaceWithNop (instruction_at l.section o) (instruction_at l.final o) =
       becomes_nop l linked aarch64 i chosen below decided by.kind_is by.code_is (one.0) alone in
       let is : is_branch (word_of (instruction_at l.section o)) ≡ true =

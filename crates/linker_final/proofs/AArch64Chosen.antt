@@ -1,16 +1,14 @@
 -- The rewrite that is chosen for a relocation of AArch64 with one entry in its table.
-use Rattle.std.proofs.Common.{◌≡◌, ℕ, ◌<◌, List, [], ◌∷◌, true, false, refl, sym, ap, subst, ◌∙◌, inl, inr, ◌⊎◌}
-use Rattle.linker_aarch64.specs.AArch64Rewrites.{AArch64Entry, AArch64Applies, IsAArch64Choice, IsAskedFor, aarch64_entries, aarch64_matches}
-use Rattle.linker_aarch64.specs.declared.rewrites.RelaxationKind.{RelaxationKind}
+use Rattle.std.proofs.Common.{◌≡◌, ℕ, ◌<◌, List, [], ◌∷◌, true, false, refl, sym, ap, subst, ◌∙◌}
+use Rattle.linker_aarch64.specs.AArch64Rewrites.{AArch64Entry, AArch64Applies, IsAskedFor, aarch64_entries, aarch64_matches}
 use Rattle.linker_aarch64.specs.declared.rewrites.RelaxationKind.TheVariants as kinds
 use Rattle.linker_elf.specs.AArch64Relocations.{aarch64_name}
-use Rattle.linker_elf.specs.Choices.{IsFirst, choice}
-use Rattle.linker_elf.specs.ElfNames.{IsNamed, IsNameOf, code_of}
+use Rattle.linker_elf.specs.ElfNames.{IsNamed, IsNameOf}
 use Rattle.linker_elf.specs.declared.aarch64.relocations.AArch64Relocation.{AArch64Relocation}
 use Rattle.linker_elf.specs.declared.aarch64.relocations.AArch64Relocation.TheVariants as names
 use Rattle.linker_elf.specs.declared.elf.choice.Choice.{Choice}
-use Rattle.linker_elf.specs.declared.elf.choice.LinkFacts.{LinkFacts}
 use Rattle.linker_final.proofs.Chosen.{chosen_at}
+use Rattle.linker_final.proofs.Entries.{IsOfEntry as IsOfEntryIn, IsOfOne as IsOfOneIn, of_entry as of_entry_in, of_one as of_one_in}
 use Rattle.linker_final.specs.Final.{Linked, IsLinked, count}
 use Rattle.linker_rewriting.specs.Decisions.{decision_at}
 use Rattle.linker_rewriting.specs.Groups.{IsScopeIn, aarch64_scope, aarch64_scope_in}
@@ -21,7 +19,7 @@ use Rattle.linker_rewriting.specs.declared.groups.Scope.TheVariants.{Labelled}
 use Rattle.linker_rewriting.specs.declared.phases.Phase.{Phase}
 use Rattle.linker_rewriting.specs.declared.phases.Phase.TheVariants as phases
 use Rattle.linker_section.specs.Relocations.{relocation_in}
-use Rattle.linker_utils.specs.Architectures.{IsArchitectureChoice, relaxation_no_op}
+use Rattle.linker_utils.specs.Architectures.{IsArchitectureChoice}
 use Rattle.linker_utils.specs.declared.architecture.Relaxation.{Relaxation}
 use Rattle.linker_utils.specs.declared.architecture.Relaxation.TheVariants as relaxations
 use Rattle.linker_utils.specs.declared.elf.Architecture.TheVariants.{AArch64}
@@ -66,35 +64,17 @@ unlabelled phase code scope is labelled =
 
 -- ---- the entry
 
-pub record IsOfEntry (name : AArch64Relocation) (e : AArch64Entry) (section : List ℕ) (o : ℕ)
-    (chosen : Choice Relaxation ℕ) : Type 0 where
-  pub kind_is : chosen.kind ≡ relaxations.AArch64 e.kind
-  pub code_is : chosen.relocation ≡ code_of (aarch64_name e.relocation)
-  pub matches : aarch64_matches e.kind section o
-  pub asked : IsAskedFor name section o
+-- what an entry is meant for is there, and what the relocation requires
+pub record IsMeant (name : AArch64Relocation) (section : List ℕ) (o : ℕ) (e : AArch64Entry) : Type 0
+  where
+    pub matches : aarch64_matches e.kind section o
+    pub asked : IsAskedFor name section o
 
--- one of some entries
+abbrev pub IsOfEntry : AArch64Relocation → AArch64Entry → List ℕ → ℕ → Choice Relaxation ℕ → Type 0
+IsOfEntry name e section o = IsOfEntryIn aarch64_name relaxations.AArch64 (IsMeant name section o) e
+
 abbrev pub IsOfOne : AArch64Relocation → List AArch64Entry → List ℕ → ℕ → Choice Relaxation ℕ → Type 0
-IsOfOne name [] section o chosen = ⊥
-IsOfOne name (e ∷ es) section o chosen = IsOfEntry name e section o chosen ⊎ IsOfOne name es section o chosen
-
-module _ (name : AArch64Relocation) (section : List ℕ) (o : ℕ) (facts : LinkFacts)
-    (chosen : Choice Relaxation ℕ) (named : Choice RelaxationKind AArch64Relocation)
-    (kind_is : chosen.kind ≡ relaxations.AArch64 named.kind)
-    (code_is : chosen.relocation ≡ code_of (aarch64_name named.relocation))
-    (changed : named ≡ choice kinds.NoOp name → ⊥) where
-  by_first : (es : List AArch64Entry)
-      → IsFirst (AArch64Applies name section o facts) es (choice kinds.NoOp name) named
-      → IsOfOne name es section o chosen
-  by_first [] is = absurd (changed is)
-  by_first (e ∷ es) (inl this) =
-      inl (record {
-        kind_is = kind_is ∙ ap (λ (q : Choice RelaxationKind AArch64Relocation). relaxations.AArch64 q.kind) (this.1);
-        code_is = code_is ∙ ap (λ (q : Choice RelaxationKind AArch64Relocation). code_of (aarch64_name q.relocation)) (this.1);
-        matches = this.0.0.0;
-        asked = this.0.0.1;
-      })
-  by_first (e ∷ es) (inr other) = inr (by_first es (other.1))
+IsOfOne name es section o = IsOfOneIn aarch64_name relaxations.AArch64 (IsMeant name section o) es
 
 module _ (l : Linked) (linked : IsLinked l) (aarch64 : l.setting.architecture ≡ AArch64) (i : ℕ)
     (chosen : Choice Relaxation ℕ) (below : i < count l)
@@ -107,21 +87,14 @@ module _ (l : Linked) (linked : IsLinked l) (aarch64 : l.setting.architecture �
         let r = relocation_in l.relocations i in
         let c = chosen_at l.setting l.kept l.relocations l.section l.decisions (count l) i chosen linked.decided below decided
         (λ scope is. unlabelled l.setting.phase r.code scope (subst (λ x. IsScopeIn x l.setting.phase r.code scope) aarch64 is)) in
-        let h = subst (λ x. IsArchitectureChoice x r.code l.section r.offset c.facts chosen) aarch64 c.is_choice in
-        let same : h.name ≡ name = h.is_name.named name named is_name.code_is in
-        by_first name l.section r.offset c.facts chosen h.named h.kind_is h.code_is
-        (λ e. c.changed (
-          subst relaxation_no_op (sym (h.kind_is ∙ ap (λ (q : Choice RelaxationKind AArch64Relocation). relaxations.AArch64 q.kind) e)) refl,
-          h.code_is ∙ (ap (λ (q : Choice RelaxationKind AArch64Relocation). code_of (aarch64_name q.relocation)) e ∙ is_name.code_is),
-        ))
-        (aarch64_entries name)
-        (subst (λ x. IsAArch64Choice x l.section r.offset c.facts h.named) same h.is_choice)
+        of_one_in aarch64_name relaxations.AArch64 (IsMeant name l.section r.offset) chosen
+        (λ n. AArch64Applies n l.section r.offset c.facts) aarch64_entries kinds.NoOp refl r.code name named is_name
+        (λ e applies. record { matches = applies.0.0; asked = applies.0.1 })
+        (subst (λ x. IsArchitectureChoice x r.code l.section r.offset c.facts chosen) aarch64 c.is_choice) c.changed
 
     -- the only one
     pub of_entry : (e : AArch64Entry) → aarch64_entries name ≡ (e ∷ [])
         → IsOfEntry name e l.section (relocation_in l.relocations i).offset chosen
-    of_entry e entries =
-        elim (subst (λ es. IsOfOne name es l.section (relocation_in l.relocations i).offset chosen) entries of_one) [
-          | inl this ↦ this
-          | inr nothing ↦ absurd nothing
-        ]
+    of_entry e only =
+        of_entry_in aarch64_name relaxations.AArch64 (IsMeant name l.section (relocation_in l.relocations i).offset) chosen
+        e (aarch64_entries name) only of_one

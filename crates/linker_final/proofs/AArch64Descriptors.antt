@@ -18,8 +18,10 @@ use Rattle.linker_elf.specs.declared.aarch64.relocations.AArch64Relocation.TheVa
 use Rattle.linker_elf.specs.declared.elf.choice.Choice.{Choice}
 use Rattle.linker_final.proofs.AArch64Alone.{high_after, low_after}
 use Rattle.linker_final.proofs.AArch64Chosen.{IsOfOne, of_one}
-use Rattle.linker_final.proofs.AArch64Written.{IsAfter, applied_there, becomes, becomes_nop, rela, with_operands}
-use Rattle.linker_final.specs.AArch64Final.{Descriptors, EachDescriptor, LoadsOffset, OffsetIsTheSame, instruction_at}
+use Rattle.linker_final.proofs.AArch64Written.{IsAfter, applied_there, becomes, becomes_nop}
+use Rattle.linker_final.proofs.Written.{rela, with_operands}
+use Rattle.linker_final.specs.AArch64Final.{Descriptors, EachDescriptor, LoadsOffset, OffsetIsTheSame}
+use Rattle.linker_final.specs.Final.{instruction_at}
 use Rattle.linker_laws.specs.AArch64RewriteLaws.{IsRewritten, Laws, behind, with_entry}
 use Rattle.linker_section.specs.Relocations.{relocation_in}
 use Rattle.linker_section.specs.Values.{is_there, operands_by, operands_with}
@@ -68,18 +70,18 @@ add_erased : (section : List ℕ) (o : ℕ) (chosen : Choice Relaxation ℕ)
     → IsOfOne names.R_AARCH64_TLSDESC_ADD_LO12 (aarch64_entries names.R_AARCH64_TLSDESC_ADD_LO12) section o chosen
     → IsErased section o chosen
 add_erased section o chosen (inl this) =
-    record { kind_is = this.kind_is; code_is = this.code_is; inside = this.matches.0 }
+    record { kind_is = this.kind_is; code_is = this.code_is; inside = this.meant.matches.0 }
 add_erased section o chosen (inr (inl this)) =
-    record { kind_is = this.kind_is; code_is = this.code_is; inside = this.matches.0 }
+    record { kind_is = this.kind_is; code_is = this.code_is; inside = this.meant.matches.0 }
 add_erased section o chosen (inr (inr nothing)) = absurd nothing
 
 call_erased : (section : List ℕ) (o : ℕ) (chosen : Choice Relaxation ℕ)
     → IsOfOne names.R_AARCH64_TLSDESC_CALL (aarch64_entries names.R_AARCH64_TLSDESC_CALL) section o chosen
     → IsErased section o chosen
 call_erased section o chosen (inl this) =
-    record { kind_is = this.kind_is; code_is = this.code_is; inside = this.matches.0 }
+    record { kind_is = this.kind_is; code_is = this.code_is; inside = this.meant.matches.0 }
 call_erased section o chosen (inr (inl this)) =
-    record { kind_is = this.kind_is; code_is = this.code_is; inside = this.matches.0 }
+    record { kind_is = this.kind_is; code_is = this.code_is; inside = this.meant.matches.0 }
 call_erased section o chosen (inr (inr nothing)) = absurd nothing
 
 -- ---- the sequence

@@ -18,16 +18,18 @@ use Rattle.linker_elf.specs.declared.elf.RelocationKind.TheVariants.{Relative, A
 use Rattle.linker_elf.specs.declared.elf.RelocationKindInfo.{RelocationKindInfo}
 use Rattle.linker_elf.specs.declared.elf.value.Operands.{Operands}
 use Rattle.linker_final.proofs.AArch64Chosen.{IsOfEntry, of_entry}
-use Rattle.linker_final.specs.AArch64Final.{AreOfLoad, GotLoads, IsRewrittenByNoOther, LoadsTheSame, instruction_at}
-use Rattle.linker_final.specs.Final.{Linked, IsLinked}
+use Rattle.linker_final.specs.AArch64Final.{AreOfLoad, GotLoads, LoadsTheSame}
+use Rattle.linker_final.specs.Final.{Linked, IsLinked, IsRewrittenByNoOther, instruction_at}
 use Rattle.linker_laws.specs.AArch64RewriteLaws.{IsPair, IsRewritten, Laws, behind, word_of}
 use Rattle.linker_section.specs.Relocations.{relocation_in}
 use Rattle.linker_section.specs.Values.{operands_with}
 use Rattle.linker_section.specs.declared.facts.Addresses.{Addresses}
 use Rattle.linker_section.specs.declared.facts.Symbol.{Symbol}
 use Rattle.linker_section.specs.declared.relocations.Rela.{Rela}
+use Rattle.linker_utils.specs.Architectures.{relaxation_rewrite}
 use Rattle.linker_utils.specs.declared.elf.Architecture.TheVariants.{AArch64}
-use Rattle.linker_final.proofs.AArch64Written.{IsAfter, applied_there, becomes, rela, stays, with_operands, word_same}
+use Rattle.linker_final.proofs.AArch64Written.{IsAfter, applied_there, becomes}
+use Rattle.linker_final.proofs.Written.{rela, stays, with_operands, word_same}
 
 -- ---- rows
 
@@ -123,7 +125,7 @@ module _ (laws : Laws) (l : Linked) (linked : IsLinked l) (aarch64 : l.setting.a
       let o = first.offset in
       let w = operands_with AArch64 l.addresses got_row symbol first got in
       let next = of.together.next in
-      let asked = low_entry.asked in
+      let asked = low_entry.meant.asked in
       let inside = asked.1.1.0 in
       let back : second.offset - 4 ≡ o = omega (arith, next) in
       let is_ldr : IsLdr64 (word_of (drop (o + 4) l.section)) =
@@ -141,7 +143,7 @@ module _ (laws : Laws) (l : Linked) (linked : IsLinked l) (aarch64 : l.setting.a
         second_is = subst IsLdr64 (word_same l.section (o + 4)) is_ldr;
       } in
       let stayed : instruction_at l.rewritten o ≡ instruction_at l.section o =
-      stays l linked i of.page_chosen of.together.first_below of.page_decided page_entry.kind_is alone (omega (arith, inside, next)) in
+      stays l linked i of.page_chosen of.together.first_below of.page_decided (ap relaxation_rewrite page_entry.kind_is) alone (omega (arith, inside, next)) in
       let page_written : IsApplied page_after.row w (instruction_at l.section o) (instruction_at l.final o) =
       with_operands page_after.row
       (operands_with AArch64 l.addresses page_after.row symbol (rela o (code_of (aarch64_name names.R_AARCH64_ADR_PREL_PG_HI21)) first.symbol first.addend) 0)

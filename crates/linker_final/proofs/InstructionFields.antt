@@ -20,39 +20,44 @@ use Rattle.linker_section.specs.declared.facts.Symbol.{Symbol}
 use Rattle.linker_utils.specs.Architectures.{IsRow}
 use Rattle.linker_utils.specs.declared.elf.Architecture.{Architecture}
 
--- of an instruction of 4 bytes
-pub record IsOfInstruction (row : RelocationKindInfo) : Type 0 where
+-- of an instruction of n bytes
+pub record IsOfInstruction (n : ℕ) (row : RelocationKindInfo) : Type 0 where
   pub bits : BitRange
   pub insn : RelocationInstruction
   pub size : row.size ≡ BitMasking bits insn
-  pub wide : window_len row ≡ 4
+  pub wide : window_len row ≡ n
   pub valued : has_value row.kind ≡ true
   pub unlabelled : names_label row.size row.kind ≡ false
   pub alone : is_of_pair row ≡ false
   pub some : (o : Operands) → IsSomeAnd (value_of row o) (λ _. ⊤)
 
+pub instruction_len : (n : ℕ) (row : RelocationKindInfo) → IsOfInstruction n row → (bytes : List ℕ)
+    → field_len row bytes ≡ n
+instruction_len n row of bytes =
+    cond-true (has_value row.kind) (cond (is_of_pair row) (uleb_len (take 10 bytes)) (window_len row)) 0 of.valued
+    ∙ (cond-false (is_of_pair row) (uleb_len (take 10 bytes)) (window_len row) of.alone ∙ of.wide)
+
 module _ (architecture : Architecture) (addresses : Addresses) (bytes : List ℕ)
     (symbols : List Symbol) (before after : List ℕ)
     (written : AreWritten architecture addresses bytes symbols before after)
-    (i : ℕ) (below : i < length bytes / 24) (row : RelocationKindInfo) (of : IsOfInstruction row)
+    (i : ℕ) (below : i < length bytes / 24) (n : ℕ) (wide : 0 < n) (row : RelocationKindInfo)
+    (of : IsOfInstruction n row)
     (is_row : IsRow architecture (relocation_in bytes i).code (Some row)) (operands : Operands)
     (taken : operands_of architecture addresses symbols row (relocation_in bytes i) ≡ Ok operands)
   where
-    pub applied : IsApplied row operands (take 4 (drop (offset_at bytes i) before)) (take 4 (drop (offset_at bytes i) after))
+    pub applied : IsApplied row operands (take n (drop (offset_at bytes i) before)) (take n (drop (offset_at bytes i) after))
     applied =
         let o = offset_at bytes i in
         let found = written.can.found in
         let mine = found_is architecture addresses bytes symbols (relocation_in bytes i) row operands is_row
         of.valued of.unlabelled taken (of.some operands) (found i) (written.can.are_found i below) in
         let v = mine.value in
-        let len : field_len row (drop o before) ≡ 4 =
-        cond-true (has_value row.kind) (cond (is_of_pair row) (uleb_len (take 10 (drop o before))) (window_len row)) 0 of.valued
-        ∙ (cond-false (is_of_pair row) (uleb_len (take 10 (drop o before))) (window_len row) of.alone ∙ of.wide) in
-        let some : 0 < field_len row (drop o before) = omega (arith, len) in
+        let len : field_len row (drop o before) ≡ n = instruction_len n row of (drop o before) in
+        let some : 0 < field_len row (drop o before) = omega (arith, len, wide) in
         let held = (written.fields i row v below mine.is some).value of.alone in
         let writes : WritesRow row v (field_bytes bytes before i row before) (field_bytes bytes before i row after) =
         subst (λ size. HoldsValue size row v (λ n. composed found bytes before o n (length bytes / 24)) (field_bytes bytes before i row before) (field_bytes bytes before i row after)) of.size held in
-        let there : WritesRow row v (take 4 (drop o before)) (take 4 (drop o after)) =
+        let there : WritesRow row v (take n (drop o before)) (take n (drop o after)) =
         subst (λ n. WritesRow row v (take n (drop o before)) (take n (drop o after))) len writes in
         record {
           value = v;

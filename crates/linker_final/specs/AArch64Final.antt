@@ -1,7 +1,7 @@
 -- AArch64: in the final bytes of a section rewritten instructions do what the object's do with the values
 -- of their relocations (ELF for the Arm 64-bit Architecture, "Relocation optimization", and the sequences
 -- of thread-local storage).
-use Rattle.std.specs.Prelude.{◌≡◌, ◌≢◌, ◌⊎◌, ℕ, ◌+◌, ◌<◌, ◌≤◌, ◌==◌, List, [], ◌∷◌, take, drop, Some, IsSomeAnd}
+use Rattle.std.specs.Prelude.{◌≡◌, ◌≢◌, ℕ, ◌+◌, ◌<◌, ◌==◌, List, [], ◌∷◌, Some, IsSomeAnd}
 use Rattle.std.specs.Prelude.{slice_get, Option, Bool, true, false, ◌^◌}
 use Rattle.linker_aarch64.specs.AArch64Rewrites.{rd_of}
 use Rattle.linker_aarch64.specs.declared.rewrites.RelaxationKind.TheVariants.{AdrpX0, LdrX0, MovkX0, MovzX0Lsl16}
@@ -12,40 +12,21 @@ use Rattle.linker_elf.specs.declared.aarch64.relocations.AArch64Relocation.{AArc
 use Rattle.linker_elf.specs.declared.aarch64.relocations.AArch64Relocation.TheVariants as names
 use Rattle.linker_elf.specs.declared.elf.RelocationKindInfo.{RelocationKindInfo}
 use Rattle.linker_elf.specs.declared.elf.choice.Choice.{Choice}
-use Rattle.linker_final.specs.Final.{Linked, IsLinked, count}
+use Rattle.linker_final.specs.Final.{Linked, IsLinked, count, instruction_at, two_at}
+use Rattle.linker_final.specs.Final.{IsRewrittenByNoOther, IsWrittenByNoOther}
 use Rattle.linker_laws.specs.AArch64Machine.{State, load_64, RunAlike, RunAlikeBut, next_pc}
 use Rattle.linker_laws.specs.AArch64RewriteLaws.{Descriptor, DescriptorOf, RunAlikeBehindCall, four, scratch}
 use Rattle.linker_laws.specs.AArch64RewriteLaws.{IsRelocated, Changes, AgreeBut, HasHigh, StepSo, behind, pair, thread_offset, with_register, without_register, word_of}
 use Rattle.linker_laws.specs.Schemes.{AreAddresses, plt_address, symbol_address}
-use Rattle.linker_rewriting.specs.Decisions.{decision_at, start_at, written_end_at}
+use Rattle.linker_rewriting.specs.Decisions.{decision_at}
 use Rattle.linker_rewriting.specs.declared.decisions.Decision.TheVariants.{Rewritten, TakenAlong}
 use Rattle.linker_section.specs.Relocations.{relocation_in}
-use Rattle.linker_section.specs.Fields.{IsField, field_end}
-use Rattle.linker_section.specs.Values.{is_there, offset_at, operands_with}
+use Rattle.linker_section.specs.Values.{is_there, operands_with}
 use Rattle.linker_section.specs.declared.facts.Symbol.{Symbol}
 use Rattle.linker_section.specs.declared.needed.EntryClass.TheVariants.{ThreadOffset}
 use Rattle.linker_utils.specs.declared.architecture.Relaxation.{Relaxation}
 use Rattle.linker_utils.specs.declared.architecture.Relaxation.TheVariants as relaxations
 use Rattle.linker_utils.specs.declared.elf.Architecture.TheVariants.{AArch64}
-
--- the bytes of the instruction at an offset
-abbrev pub instruction_at : List ℕ → ℕ → List ℕ
-instruction_at bytes o = take 4 (drop o bytes)
-
--- no rewrite of another relocation than the one at an index has a byte of the instruction at an offset
-abbrev pub IsRewrittenByNoOther : Linked → ℕ → ℕ → Type 0
-IsRewrittenByNoOther l i o =
-    (j at : ℕ) → j < count l → j ≢ i → o ≤ at → at < o + 4
-    → (at < start_at l.relocations l.decisions j) ⊎ (written_end_at l.relocations l.decisions j ≤ at)
-
--- nor has a field of another
-abbrev pub IsWrittenByNoOther : Linked → ℕ → ℕ → Type 0
-IsWrittenByNoOther l i o =
-    (j at : ℕ) → j < count l → j ≢ i → o ≤ at → at < o + 4
-    → (row : RelocationKindInfo)
-    → IsField l.setting.architecture l.relocations_after l.rewritten j row
-    → (at < offset_at l.relocations_after j)
-    ⊎ (field_end l.relocations_after l.rewritten j row ≤ at)
 
 -- The relocations at two indexes are of one S + A, and the second is of the instruction behind that of
 -- the first.
@@ -98,10 +79,6 @@ pub record AreOfAddress (l : Linked) (i j : ℕ) : Type 0 where
   pub page_decided : decision_at l.decisions i ≡ TakenAlong
   pub low_chosen : Choice Relaxation ℕ
   pub low_decided : decision_at l.decisions j ≡ Rewritten low_chosen
-
--- the bytes of the two instructions from an offset on
-abbrev pub two_at : List ℕ → ℕ → List ℕ
-two_at bytes o = take 8 (drop o bytes)
 
 -- From any state before the `adrp` the final bytes of the pair, `nop` and `adr`, run and end as the
 -- object's with their relocations' values do. The symbol isn't an undefined weak one.

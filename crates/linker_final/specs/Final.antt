@@ -99,6 +99,31 @@ AreAlone l i start end =
     → (at < offset_at l.relocations_after j)
     ⊎ (field_end l.relocations_after l.rewritten j row ≤ at))
 
+-- ---- instructions of 4 bytes
+
+-- the bytes of one at an offset
+abbrev pub instruction_at : List ℕ → ℕ → List ℕ
+instruction_at bytes o = take 4 (drop o bytes)
+
+-- those of two from an offset on
+abbrev pub two_at : List ℕ → ℕ → List ℕ
+two_at bytes o = take 8 (drop o bytes)
+
+-- no rewrite of another relocation than the one at an index has a byte of the instruction at an offset
+abbrev pub IsRewrittenByNoOther : Linked → ℕ → ℕ → Type 0
+IsRewrittenByNoOther l i o =
+    (j at : ℕ) → j < count l → j ≢ i → o ≤ at → at < o + 4
+    → (at < start_at l.relocations l.decisions j) ⊎ (written_end_at l.relocations l.decisions j ≤ at)
+
+-- nor has a field of another
+abbrev pub IsWrittenByNoOther : Linked → ℕ → ℕ → Type 0
+IsWrittenByNoOther l i o =
+    (j at : ℕ) → j < count l → j ≢ i → o ≤ at → at < o + 4
+    → (row : RelocationKindInfo)
+    → IsField l.setting.architecture l.relocations_after l.rewritten j row
+    → (at < offset_at l.relocations_after j)
+    ⊎ (field_end l.relocations_after l.rewritten j row ≤ at)
+
 -- bytes with so many of others, from a start on
 abbrev pub put_back : ℕ → ℕ → List ℕ → List ℕ → List ℕ
 put_back start len others bytes =

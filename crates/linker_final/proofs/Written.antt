@@ -1,0 +1,244 @@
+-- Instructions and their relocations in the bytes that rewrites leave, and in the final bytes.
+use Rattle.std.proofs.Common.{◌≡◌, ℕ, ℤ, ◌+◌, ◌-◌, ◌/◌, ◌<◌, ◌≤◌, ◌⊎◌, List, length, take, drop, sym, ap, subst, ◌∙◌, refl, inl, inr, arith, Option, Some, None, Ok}
+use Rattle.std.proofs.lemmas.Bool.{cases_eq}
+use Rattle.std.proofs.lemmas.List.{take-take, drop-drop, drop-take}
+use Rattle.std.specs.Int.{w32, from_le_bytes}
+use Rattle.std.specs.Prelude.{slice_get}
+use Rattle.linker_base.specs.Rewrite.{Rewrite, addend_after, offset_after}
+use Rattle.linker_base.specs.RewriteWindow.{window_of_rewrite}
+use Rattle.linker_elf.specs.Applied.{IsApplied}
+use Rattle.linker_elf.specs.ElfNames.{ElfName, IsNamed, code_of}
+use Rattle.linker_elf.specs.Rows.{bytes_row}
+use Rattle.linker_elf.specs.Value.{value_of}
+use Rattle.linker_elf.specs.declared.aarch64.forms.AArch64Instruction.TheVariants.{Add}
+use Rattle.linker_elf.specs.declared.elf.RelocationInstruction.TheVariants.{AArch64}
+use Rattle.linker_elf.specs.declared.elf.RelocationKind.TheVariants.{None as NoValue}
+use Rattle.linker_elf.specs.declared.elf.RelocationKindInfo.{RelocationKindInfo}
+use Rattle.linker_elf.specs.declared.elf.RelocationSize.TheVariants.{BitMasking}
+use Rattle.linker_elf.specs.declared.elf.choice.Choice.{Choice}
+use Rattle.linker_elf.specs.declared.elf.value.Operands.{Operands}
+use Rattle.linker_final.proofs.InstructionFields.{IsOfInstruction, applied, instruction_len}
+use Rattle.linker_final.proofs.PutBack.{same_windows}
+use Rattle.linker_final.specs.Final.{Linked, IsLinked, IsRewrittenByNoOther, IsWrittenByNoOther, count, instruction_at, two_at}
+use Rattle.linker_rewriting.specs.Decisions.{decision_at, written_end_at, written_end_by}
+use Rattle.linker_rewriting.specs.Rewritten.{IsDone, IsMade, relocation_after}
+use Rattle.linker_rewriting.specs.declared.decisions.Decision.TheVariants.{Rewritten}
+use Rattle.linker_section.proofs.Fronts.{same_window}
+use Rattle.linker_section.specs.Fields.{IsField, field_end, field_len}
+use Rattle.linker_section.specs.Needed.{entry_of}
+use Rattle.linker_section.specs.Relocations.{relocation_in}
+use Rattle.linker_section.specs.Sections.{IsInNoField, IsRowValue}
+use Rattle.linker_section.specs.Values.{entry_address, offset_at, operands_by, operands_in, operands_of, operands_with}
+use Rattle.linker_section.specs.declared.facts.Symbol.{Symbol}
+use Rattle.linker_section.specs.declared.relocations.Rela.{Rela}
+use Rattle.linker_utils.specs.Architectures.{IsOf, IsRow, relaxation_rewrite}
+use Rattle.linker_utils.specs.declared.architecture.Relaxation.{Relaxation}
+use Rattle.linker_utils.specs.declared.elf.Architecture.{Architecture}
+
+-- ---- words
+
+pub word_same : (bytes : List ℕ) (o : ℕ)
+    → from_le_bytes w32 (drop o bytes) ≡ from_le_bytes w32 (instruction_at bytes o)
+word_same bytes o =
+    same_window (BitMasking (record { start = 0; end = 12 }) (AArch64 Add)) (drop o bytes) (take 4 (drop o bytes))
+    (sym (take-take 4 4 (drop o bytes) (omega arith)))
+
+-- of two instructions
+
+pub first_same : (bytes : List ℕ) (o : ℕ)
+    → from_le_bytes w32 (two_at bytes o) ≡ from_le_bytes w32 (instruction_at bytes o)
+first_same bytes o =
+    same_window (BitMasking (record { start = 0; end = 12 }) (AArch64 Add)) (two_at bytes o) (instruction_at bytes o)
+    (take-take 4 8 (drop o bytes) (omega arith) ∙ sym (take-take 4 4 (drop o bytes) (omega arith)))
+
+pub second_same : (bytes : List ℕ) (o : ℕ) → drop 4 (two_at bytes o) ≡ instruction_at bytes (o + 4)
+second_same bytes o = drop-take 4 4 (drop o bytes) ∙ ap (take 4) (drop-drop 4 o bytes)
+
+-- ---- rows
+
+-- what the code of a name means
+pub by_name : {N A : Type 0} (elf : N → ElfName) (meaning : N → A) (name : N) → IsNamed (elf name)
+    → (value : A) → IsOf elf meaning (code_of (elf name)) value → value ≡ meaning name
+by_name elf meaning name named value is =
+    is.value_is ∙ ap meaning (is.is_name.named name named refl)
+
+-- a code has no other row
+abbrev pub IsRowOf : Architecture → ℕ → RelocationKindInfo → Type 0
+IsRowOf architecture code row =
+    (found : Option RelocationKindInfo) → IsRow architecture code found → found ≡ Some row
+
+row_in : (l : Linked) (r : Rela) (row : RelocationKindInfo) → IsRowOf l.setting.architecture r.code row
+    → (found : _) → IsRowValue l.setting.architecture l.addresses l.relocations_after l.symbols r (Ok found)
+    → IsRow l.setting.architecture r.code (Some row)
+row_in l r row only (Some one) has =
+    subst (λ x. IsRow l.setting.architecture r.code x) (only (Some (one.0)) has.is_row) has.is_row
+row_in l r row only None marked =
+    subst (λ x. IsRow l.setting.architecture r.code x) (only (marked.0) (marked.1)) (marked.1)
+
+-- ---- relocations that rewrites leave
+
+abbrev pub rela : ℕ → ℕ → ℕ → ℤ → Rela
+rela offset code symbol addend = record { offset = offset; code = code; symbol = symbol; addend = addend }
+
+pub with_operands : (row : RelocationKindInfo) (o p : Operands) (old new : List ℕ)
+    → value_of row p ≡ value_of row o → IsApplied row o old new → IsApplied row p old new
+with_operands row o p old new same is =
+    record { value = is.value; value_is = same ∙ is.value_is; accepted = is.accepted; written = is.written }
+
+module _ (l : Linked) (linked : IsLinked l) (i : ℕ) (below : i < count l) (n : ℕ) (some : 0 < n)
+    (row : RelocationKindInfo) (of : IsOfInstruction n row)
+    (after : Rela) (is_after : relocation_in l.relocations_after i ≡ after)
+    (only : IsRowOf l.setting.architecture after.code row)
+    (symbol : Symbol) (is_symbol : slice_get l.symbols after.symbol ≡ Some symbol) (got : ℕ)
+    (entry_is : operands_by l.setting.architecture l.addresses row after symbol
+    (entry_address l.addresses symbol (entry_of row after.addend symbol.is_thread_local))
+    ≡ Ok (operands_with l.setting.architecture l.addresses row symbol after got)) where
+  abbrev operands : Operands
+  operands = operands_with l.setting.architecture l.addresses row symbol after got
+
+  within : i < length l.relocations_after / 24
+  within = subst (λ n. i < n / 24) (sym linked.as_many) below
+
+  there : IsRow l.setting.architecture (relocation_in l.relocations_after i).code (Some row)
+  there =
+      row_in l (relocation_in l.relocations_after i) row
+      (subst (λ (x : Rela). IsRowOf l.setting.architecture x.code row) (sym is_after) only)
+      (linked.written.can.found i) (linked.written.can.are_found i within)
+
+  -- is applied to the bytes between
+  pub applied_after : IsApplied row operands (take n (drop after.offset l.rewritten)) (take n (drop after.offset l.final))
+  applied_after =
+      subst (λ (x : Rela). IsApplied row operands (take n (drop x.offset l.rewritten)) (take n (drop x.offset l.final))) is_after
+      (applied l.setting.architecture l.addresses l.relocations_after l.symbols l.rewritten l.final linked.written
+      i within n some row of there operands
+      (subst (λ x. operands_of l.setting.architecture l.addresses l.symbols row x ≡ Ok operands) (sym is_after)
+      (ap (operands_in l.setting.architecture l.addresses row after) is_symbol ∙ entry_is)))
+
+-- ---- bytes that rewrites leave
+
+module _ (l : Linked) (linked : IsLinked l) (i : ℕ) (chosen : Choice Relaxation ℕ) (below : i < count l)
+    (decided : decision_at l.decisions i ≡ Rewritten chosen) where
+  abbrev r : Rela
+  r = relocation_in l.relocations i
+
+  pub relocation_is : (rewrite : Option Rewrite) (code : ℕ) → relaxation_rewrite chosen.kind ≡ rewrite
+      → chosen.relocation ≡ code
+      → relocation_in l.relocations_after i
+      ≡ rela (offset_after rewrite r.offset) code r.symbol (addend_after rewrite r.addend)
+  relocation_is rewrite code is code_is =
+      linked.relocations i below
+      ∙ (ap (λ d. relocation_after d r) decided
+      ∙ (ap (λ q. rela (offset_after q r.offset) chosen.relocation r.symbol (addend_after q r.addend)) is
+      ∙ ap (λ x. rela (offset_after rewrite r.offset) x r.symbol (addend_after rewrite r.addend)) code_is))
+
+  -- what a rewrite leaves of its window, which begins at the relocation
+  pub made_there : (made : Rewrite) → relaxation_rewrite chosen.kind ≡ Some made → made.back ≡ 0
+      → take made.len (take made.len (drop r.offset l.rewritten))
+      ≡ made.bytes (take made.len (take made.len (drop r.offset l.section)))
+  made_there made is back =
+      let o = r.offset in
+      let done : IsMade (relaxation_rewrite chosen.kind) o l.section l.rewritten =
+      subst (λ d. IsDone d o l.section l.rewritten) decided (linked.done i below) in
+      let there : IsMade (Some made) o l.section l.rewritten =
+      subst (λ q. IsMade q o l.section l.rewritten) is done in
+      let here : take made.len (drop o l.rewritten) ≡ made.bytes (take made.len (drop o l.section)) =
+      subst (λ n. take made.len (drop n l.rewritten) ≡ made.bytes (take made.len (drop n l.section)))
+      (let e : o - made.back ≡ o = omega (arith, back) in e) there in
+      take-take made.len made.len (drop o l.rewritten) (omega arith)
+      ∙ (here ∙ ap made.bytes (sym (take-take made.len made.len (drop o l.section) (omega arith))))
+
+  -- an instruction that isn't changed
+  pub stays : relaxation_rewrite chosen.kind ≡ None → IsRewrittenByNoOther l i r.offset
+      → r.offset + 4 ≤ length l.section
+      → instruction_at l.rewritten r.offset ≡ instruction_at l.section r.offset
+  stays is alone inside =
+      let long = linked.same_length in
+      same_windows r.offset 4 l.rewritten l.section (omega (arith, inside, long)) (sym long)
+      (λ at from less. linked.others at (λ j lj. elim (cases_eq j i) [
+        | inl same ↦ inr (subst (λ k. written_end_at l.relocations l.decisions k ≤ at) (sym same) (own at from))
+        | inr isnt ↦ alone j at lj isnt from less
+      ]))
+    where
+      own : (at : ℕ) → r.offset ≤ at → written_end_at l.relocations l.decisions i ≤ at
+      own at from =
+          let end : written_end_at l.relocations l.decisions i ≡ r.offset - 0 + 0 =
+          ap (λ d. written_end_by d r.offset) decided
+          ∙ ap (λ q. r.offset - (window_of_rewrite q).back + (window_of_rewrite q).len) is in
+          omega (arith, end, from)
+
+-- ---- bytes that no relocation writes
+
+-- those of an instruction stay
+unwritten : (l : Linked) → IsLinked l → (p : ℕ) → p + 4 ≤ length l.section
+    → ((at : ℕ) → p ≤ at → at < p + 4
+    → IsInNoField l.setting.architecture l.relocations_after l.rewritten (length l.relocations_after / 24) at)
+    → instruction_at l.final p ≡ instruction_at l.rewritten p
+unwritten l linked p inside free =
+    let fl = linked.written.same_length in
+    let rl = linked.same_length in
+    same_windows p 4 l.final l.rewritten (omega (arith, inside, fl, rl)) (sym fl)
+    (λ at from less. linked.written.others at (free at from less))
+
+-- The field of a relocation is apart from an instruction.
+abbrev pub IsApart : Linked → ℕ → ℕ → Type 0
+IsApart l i p =
+    (row : RelocationKindInfo) → IsField l.setting.architecture l.relocations_after l.rewritten i row
+    → (p + 4 ≤ offset_at l.relocations_after i) ⊎ (field_end l.relocations_after l.rewritten i row ≤ p)
+
+-- no other relocation has one in it
+pub unwritten_but : (l : Linked) → IsLinked l → (i p : ℕ) → p + 4 ≤ length l.section → IsApart l i p
+    → IsWrittenByNoOther l i p → instruction_at l.final p ≡ instruction_at l.rewritten p
+unwritten_but l linked i p inside apart alone =
+    unwritten l linked p inside
+    (λ at from less j row lj field. elim (cases_eq j i) [
+      | inl same ↦
+          subst (λ k. (at < offset_at l.relocations_after k) ⊎ (field_end l.relocations_after l.rewritten k row ≤ at)) (sym same)
+          (elim (apart row (subst (λ k. IsField l.setting.architecture l.relocations_after l.rewritten k row) same field)) [
+            | inl ahead ↦ inl (omega (arith, ahead, less))
+            | inr behind ↦ inr (omega (arith, behind, from))
+          ])
+      | inr isnt ↦ alone j at (subst (λ n. j < n / 24) linked.as_many lj) isnt from less row field
+    ])
+
+abbrev of_row : RelocationKindInfo → Option RelocationKindInfo → RelocationKindInfo
+of_row other None = other
+of_row other (Some row) = row
+
+module _ (l : Linked) (i : ℕ) (after : Rela) (is_after : relocation_in l.relocations_after i ≡ after)
+    (row : RelocationKindInfo) (only : IsRowOf l.setting.architecture after.code row) where
+  same_row : (other : RelocationKindInfo)
+      → IsField l.setting.architecture l.relocations_after l.rewritten i other → other ≡ row
+  same_row other field =
+      ap (of_row other)
+      (only (Some other) (subst (λ (x : Rela). IsRow l.setting.architecture x.code (Some other)) is_after field.is_row))
+
+  -- one without a value has no field
+  pub apart_without : row ≡ bytes_row NoValue 0 → (p : ℕ) → IsApart l i p
+  apart_without is p other field =
+      let some : 0 < field_len (bytes_row NoValue 0) (drop (offset_at l.relocations_after i) l.rewritten) =
+      subst (λ x. 0 < field_len x (drop (offset_at l.relocations_after i) l.rewritten)) (same_row other field ∙ is) field.some in
+      absurd (omega (arith, some))
+
+  -- one of an instruction has that
+  pub apart_with : (n : ℕ) → IsOfInstruction n row → (p : ℕ)
+      → (p + 4 ≤ after.offset) ⊎ (after.offset + n ≤ p) → IsApart l i p
+  apart_with n of p beside other field =
+      let offset : offset_at l.relocations_after i ≡ after.offset = ap (λ (x : Rela). x.offset) is_after in
+      let len : field_len other (drop (offset_at l.relocations_after i) l.rewritten) ≡ n =
+      ap (λ x. field_len x (drop (offset_at l.relocations_after i) l.rewritten)) (same_row other field)
+      ∙ instruction_len n row of (drop (offset_at l.relocations_after i) l.rewritten) in
+      elim beside [
+        | inl ahead ↦ inl (omega (arith, ahead, offset))
+        | inr behind ↦ inr (omega (arith, behind, offset, len))
+      ]
+
+-- an instruction stays that no other relocation writes, where the own one is of no type
+pub unwritten_without : (l : Linked) → IsLinked l → (i p : ℕ)
+    → IsRowOf l.setting.architecture 0 (bytes_row NoValue 0)
+    → (relocation_in l.relocations_after i).code ≡ 0 → p + 4 ≤ length l.section
+    → IsWrittenByNoOther l i p → instruction_at l.final p ≡ instruction_at l.rewritten p
+unwritten_without l linked i p none gone inside alone =
+    unwritten_but l linked i p inside
+    (apart_without l i (relocation_in l.relocations_after i) refl (bytes_row NoValue 0)
+    (subst (λ x. IsRowOf l.setting.architecture x (bytes_row NoValue 0)) (sym gone) none) refl p)
+    alone
