@@ -18,6 +18,14 @@ pub mod LoongArchLoads
 pub mod LoongArchPairs
 pub mod LoongArchWritten
 pub mod PlainRows
+pub mod Ppc64Arguments
+pub mod Ppc64Calls
+pub mod Ppc64Chosen
+pub mod Ppc64Halves
+pub mod Ppc64Loads
+pub mod Ppc64Near
+pub mod Ppc64Offsets
+pub mod Ppc64Written
 pub mod PutBack
 pub mod RiscVChosen
 pub mod RiscVDescriptors

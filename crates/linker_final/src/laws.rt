@@ -5,6 +5,7 @@
 
 ghost use Rattle.linker_final.specs.AArch64Final as aarch64_final;
 ghost use Rattle.linker_final.specs.LoongArchFinal as loongarch64_final;
+ghost use Rattle.linker_final.specs.Ppc64Final as ppc64_final;
 ghost use Rattle.linker_final.specs.RiscVFinal as riscv64_final;
 ghost use Rattle.linker_final.specs.X86Final as x86_64_final;
 
@@ -59,4 +60,21 @@ pub fn loongarch64()
     ensures low_parts { loongarch64_final.LowParts }
 {
     linker_laws::rewrites::loongarch64();
+}
+
+/// PowerPC64: rewritten instructions do in the final bytes what the object's do. They are each `nop`
+/// behind a call that restores the TOC pointer, each high and low half of an address near the TOC
+/// pointer and near the thread pointer, each instruction of initial-exec, of general-dynamic and of
+/// local-dynamic TLS, and each load of an address from the GOT that became a sum.
+pub fn ppc64()
+    ensures calls { ppc64_final.Calls }
+    ensures toc_halves { ppc64_final.TocHalves }
+    ensures thread_halves { ppc64_final.ThreadHalves }
+    ensures initial_exec { ppc64_final.InitialExec }
+    ensures general_dynamic { ppc64_final.GeneralDynamic }
+    ensures local_dynamic { ppc64_final.LocalDynamic }
+    ensures near_arguments { ppc64_final.NearArguments }
+    ensures loads { ppc64_final.Loads }
+{
+    linker_laws::rewrites::ppc64();
 }

@@ -1,0 +1,104 @@
+-- Calls of PowerPC64 that may change the TOC pointer do in the final bytes what the object's do.
+use Rattle.std.proofs.Common.{◌≡◌, ℕ, ◌+◌, ◌*◌, ◌^◌, ◌<◌, ◌≤◌, List, [], ◌∷◌, length, drop, take, refl, sym, ap, subst, ◌∙◌, arith, inl, inr, Some}
+use Rattle.std.proofs.lemmas.Bool.{cases_lt}
+use Rattle.std.proofs.lemmas.List.{get_or_past, length-drop, take-take}
+use Rattle.std.proofs.lemmas.List.Elements.{All-drop, All-take, All-get_or}
+use Rattle.std.proofs.lemmas.Nat.{le_bytes_4}
+use Rattle.std.specs.Prelude.{IsTrue}
+use Rattle.std.specs.Int.{w32, to_le_bytes, byte_at}
+use Rattle.linker_base.specs.Rewrite.{replaces}
+use Rattle.linker_elf.specs.Applied.{IsApplied}
+use Rattle.linker_elf.specs.Choices.{changed_toc, entry}
+use Rattle.linker_elf.specs.Value.{sum_64}
+use Rattle.linker_elf.specs.declared.ppc64.relocations.Ppc64Relocation.TheVariants as names
+use Rattle.linker_final.proofs.Ppc64Chosen.{of_entry}
+use Rattle.linker_final.proofs.Ppc64Written.{after_is, applied_there, becomes, call_after, row_of}
+use Rattle.linker_final.proofs.PutBack.{window_length}
+use Rattle.linker_final.proofs.Written.{apart_with, first_same, second_same, unwritten_but, with_operands, word_same}
+use Rattle.linker_final.specs.Final.{AreBytes, instruction_at, two_at}
+use Rattle.linker_final.specs.Ppc64Final.{Calls, offset_of}
+use Rattle.linker_laws.proofs.Words.{word_below}
+use Rattle.linker_laws.specs.Machine.{loaded}
+use Rattle.linker_laws.specs.Ppc64Machine.{go_on, step, write}
+use Rattle.linker_laws.specs.Ppc64RewriteLaws.{IsRewritten, Laws, word_of}
+use Rattle.linker_ppc64.specs.Ppc64Rewrites.{is_call, restores_toc, two_words}
+use Rattle.linker_ppc64.specs.declared.rewrites.RelaxationKind.TheVariants as kinds
+use Rattle.linker_section.specs.Relocations.{relocation_in}
+use Rattle.linker_section.specs.Values.{operands_with}
+use Rattle.linker_utils.specs.declared.elf.Architecture.TheVariants.{Ppc64}
+
+-- ---- the bytes of the call
+
+first_bytes : (a : ℕ) → a < 2 ^ 32 → take 4 (two_words a 0xe8410018) ≡ to_le_bytes w32 a
+first_bytes a small =
+    let n = a + 0xe8410018 * 2 ^ 32 in
+    let e0 : byte_at 0 n ≡ byte_at 0 a = omega (arith, small) in
+    let e1 : byte_at 1 n ≡ byte_at 1 a = omega (arith, small) in
+    let e2 : byte_at 2 n ≡ byte_at 2 a = omega (arith, small) in
+    let e3 : byte_at 3 n ≡ byte_at 3 a = omega (arith, small) in
+    ap (λ x. x ∷ byte_at 1 n ∷ byte_at 2 n ∷ byte_at 3 n ∷ []) e0
+    ∙ (ap (λ x. byte_at 0 a ∷ x ∷ byte_at 2 n ∷ byte_at 3 n ∷ []) e1
+    ∙ (ap (λ x. byte_at 0 a ∷ byte_at 1 a ∷ x ∷ byte_at 3 n ∷ []) e2
+    ∙ ap (λ x. byte_at 0 a ∷ byte_at 1 a ∷ byte_at 2 a ∷ x ∷ []) e3))
+
+-- the `bl` stays
+call_stays : (before after : List ℕ) (o : ℕ) → AreBytes before → o + 4 ≤ length before
+    → take 8 (two_at after o) ≡ restores_toc (take 8 (two_at before o))
+    → instruction_at after o ≡ instruction_at before o
+call_stays before after o small inside made =
+    let there = All-take (λ b. b < 2 ^ 8) 4 (drop o before) (All-drop (λ b. b < 2 ^ 8) o before small) in
+    let long : length (instruction_at before o) ≡ 4 = window_length o 4 before inside in
+    let a = word_of (take 8 (two_at before o)) in
+    let same : a ≡ word_of (instruction_at before o) =
+    ap word_of (take-take 8 8 (drop o before) (omega arith)) ∙ first_same before o in
+    let below : word_of (instruction_at before o) < 2 ^ 32 = word_below (instruction_at before o) there (omega (arith, long)) in
+    sym (take-take 4 8 (drop o after) (omega arith))
+    ∙ (ap (take 4) (sym (take-take 8 8 (drop o after) (omega arith)) ∙ made)
+    ∙ (first_bytes a (omega (arith, same, below))
+    ∙ le_bytes_4 (instruction_at before o) a long
+    (λ i. elim (cases_lt i 4) [
+      | inl less ↦ All-get_or (λ b. b < 2 ^ 8) (instruction_at before o) i 0 (omega (arith, less, long)) there
+      | inr most ↦ subst (λ y. y < 256) (sym (get_or_past (instruction_at before o) i 0 (omega (arith, long, most)))) (omega arith)
+    ]) same))
+
+-- ---- the theorem
+
+pub calls : Laws → Calls
+calls laws l linked ppc64 i chosen below is_name decided symbol got is_symbol small =
+    let w = operands_with Ppc64 l.addresses call_after.row symbol (relocation_in l.relocations i) got in
+    let o = offset_of l i in
+    let name = names.R_PPC64_REL24 in
+    let kind = kinds.NopToRestoreToc in
+    let by = of_entry l linked ppc64 i chosen below decided name tt is_name (entry kind name (changed_toc ∷ [])) refl in
+    let meant = by.meant in
+    let made : IsRewritten kind (two_at l.section o) (two_at l.rewritten o) =
+    becomes l linked ppc64 i chosen below decided kind by.kind_is (replaces 0 8 restores_toc) refl refl in
+    let stays : instruction_at l.rewritten o ≡ instruction_at l.section o =
+    call_stays l.section l.rewritten o linked.section_bytes (meant.0) made in
+    let first : word_of (two_at l.section o) ≡ word_of (drop o l.section) =
+    first_same l.section o ∙ sym (word_same l.section o) in
+    let second : word_of (drop 4 (two_at l.section o)) ≡ word_of (drop (o + 4) l.section) =
+    ap word_of (second_same l.section o) ∙ sym (word_same l.section (o + 4)) in
+    let is : IsTrue (is_call (word_of (two_at l.section o)) (word_of (drop 4 (two_at l.section o)))) =
+    subst (λ x. IsTrue (is_call x (word_of (drop 4 (two_at l.section o))))) (sym first)
+    (subst (λ x. IsTrue (is_call (word_of (drop o l.section)) x)) (sym second) (meant.1.1)) in
+    let inside = meant.0 in
+    let behind = meant.1.0 in
+    let ld = length-drop o l.section in
+    let word : word_of (drop o l.section) < 2 ^ 32 =
+    word_below (drop o l.section) (All-drop (λ b. b < 2 ^ 8) o l.section linked.section_bytes) (omega (arith, inside, ld)) in
+    let wide : word_of (two_at l.section o) < 2 ^ 32 = omega (arith, first, word) in
+    let applied = applied_there l linked ppc64 i chosen below decided kind by.kind_is name by.code_is 4 (omega arith) call_after symbol 0 refl is_symbol in (
+      subst (λ xs. IsApplied call_after.row w xs (instruction_at l.final o)) stays
+          (with_operands call_after.row _ w _ _ refl applied),
+      λ alone f s.
+          let steps = laws.toc f s (two_at l.section o) (two_at l.rewritten o) wide is made in
+          let same : instruction_at l.final (o + 4) ≡ instruction_at l.rewritten (o + 4) =
+          unwritten_but l linked i (o + 4) (omega (arith, behind))
+          (apart_with l i _ (after_is l linked ppc64 i chosen below decided kind by.kind_is name by.code_is) call_after.row
+          (row_of l ppc64 name tt call_after.row refl) 4 call_after.of (o + 4) (inr (omega arith))) alone in (
+            subst (λ xs. step f (word_of xs) s ≡ Some (go_on s)) (second_same l.section o) (steps.1),
+            subst (λ xs. step f (word_of xs) s ≡ Some (go_on (write 2 (loaded 8 s.memory (sum_64 (s.registers 1) 24)) s)))
+                (second_same l.rewritten o ∙ sym same) (steps.2),
+          ),
+    )

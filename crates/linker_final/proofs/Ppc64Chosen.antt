@@ -1,0 +1,119 @@
+-- The rewrite that is chosen for a relocation of PowerPC64.
+use Rattle.std.proofs.Common.{◌≡◌, ℕ, ◌<◌, List, [], ◌∷◌, true, false, refl, sym, ap, subst, ◌∙◌}
+use Rattle.linker_elf.specs.Choices.{Entry}
+use Rattle.linker_elf.specs.ElfNames.{IsNamed, IsNameOf}
+use Rattle.linker_elf.specs.Ppc64Relocations.{ppc64_name}
+use Rattle.linker_elf.specs.declared.elf.choice.Choice.{Choice}
+use Rattle.linker_elf.specs.declared.ppc64.relocations.Ppc64Relocation.{Ppc64Relocation}
+use Rattle.linker_elf.specs.declared.ppc64.relocations.Ppc64Relocation.TheVariants as names
+use Rattle.linker_final.proofs.Chosen.{chosen_at}
+use Rattle.linker_final.proofs.Entries.{IsOfEntry as IsOfEntryIn, IsOfOne as IsOfOneIn, of_entry as of_entry_in, of_one as of_one_in}
+use Rattle.linker_final.specs.Final.{Linked, IsLinked, count}
+use Rattle.linker_ppc64.specs.Ppc64Rewrites.{Ppc64Applies, ppc64_entries, ppc64_matches}
+use Rattle.linker_ppc64.specs.declared.rewrites.RelaxationKind.{RelaxationKind}
+use Rattle.linker_ppc64.specs.declared.rewrites.RelaxationKind.TheVariants as kinds
+use Rattle.linker_rewriting.specs.Decisions.{decision_at}
+use Rattle.linker_rewriting.specs.Groups.{IsScopeIn, ppc64_scope, ppc64_scope_in}
+use Rattle.linker_rewriting.specs.Labels.{is_labelled}
+use Rattle.linker_rewriting.specs.declared.decisions.Decision.TheVariants.{Rewritten}
+use Rattle.linker_rewriting.specs.declared.groups.Scope.{Scope}
+use Rattle.linker_rewriting.specs.declared.groups.Scope.TheVariants.{Labelled}
+use Rattle.linker_rewriting.specs.declared.phases.Phase.{Phase}
+use Rattle.linker_rewriting.specs.declared.phases.Phase.TheVariants as phases
+use Rattle.linker_section.specs.Relocations.{relocation_in}
+use Rattle.linker_utils.specs.Architectures.{IsArchitectureChoice}
+use Rattle.linker_utils.specs.declared.architecture.Relaxation.{Relaxation}
+use Rattle.linker_utils.specs.declared.architecture.Relaxation.TheVariants as relaxations
+use Rattle.linker_utils.specs.declared.elf.Architecture.TheVariants.{Ppc64}
+
+-- ---- scopes
+
+early_unlabelled : (name : Ppc64Relocation) → is_labelled (ppc64_scope name) ≡ false
+early_unlabelled names.R_PPC64_REL24 = refl
+early_unlabelled names.R_PPC64_GOT_PCREL34 = refl
+early_unlabelled names.R_PPC64_GOT16 = refl
+early_unlabelled names.R_PPC64_GOT16_DS = refl
+early_unlabelled names.R_PPC64_GOT16_LO = refl
+early_unlabelled names.R_PPC64_GOT16_LO_DS = refl
+early_unlabelled names.R_PPC64_GOT16_HI = refl
+early_unlabelled names.R_PPC64_GOT16_HA = refl
+early_unlabelled names.R_PPC64_GOT_TPREL16_DS = refl
+early_unlabelled names.R_PPC64_GOT_TPREL16_LO_DS = refl
+early_unlabelled names.R_PPC64_GOT_TPREL16_HI = refl
+early_unlabelled names.R_PPC64_GOT_TPREL16_HA = refl
+early_unlabelled names.R_PPC64_GOT_TPREL_PCREL34 = refl
+early_unlabelled names.R_PPC64_TLS = refl
+early_unlabelled names.R_PPC64_GOT_TLSGD16 = refl
+early_unlabelled names.R_PPC64_GOT_TLSGD16_LO = refl
+early_unlabelled names.R_PPC64_GOT_TLSGD16_HI = refl
+early_unlabelled names.R_PPC64_GOT_TLSGD16_HA = refl
+early_unlabelled names.R_PPC64_GOT_TLSGD_PCREL34 = refl
+early_unlabelled names.R_PPC64_TLSGD = refl
+early_unlabelled names.R_PPC64_GOT_TLSLD16 = refl
+early_unlabelled names.R_PPC64_GOT_TLSLD16_LO = refl
+early_unlabelled names.R_PPC64_GOT_TLSLD16_HI = refl
+early_unlabelled names.R_PPC64_GOT_TLSLD16_HA = refl
+early_unlabelled names.R_PPC64_GOT_TLSLD_PCREL34 = refl
+early_unlabelled names.R_PPC64_TLSLD = refl
+early_unlabelled name = refl
+
+offsets_unlabelled : (name : Ppc64Relocation) → is_labelled (ppc64_scope_in phases.ThreadOffsets name) ≡ false
+offsets_unlabelled names.R_PPC64_TPREL16_HA = refl
+offsets_unlabelled names.R_PPC64_TPREL16_LO = refl
+offsets_unlabelled names.R_PPC64_TPREL16_LO_DS = refl
+offsets_unlabelled name = refl
+
+distances_unlabelled : (name : Ppc64Relocation) → is_labelled (ppc64_scope_in phases.Distances name) ≡ false
+distances_unlabelled names.R_PPC64_TOC16_HA = refl
+distances_unlabelled names.R_PPC64_TOC16_LO = refl
+distances_unlabelled names.R_PPC64_TOC16_LO_DS = refl
+distances_unlabelled name = refl
+
+unlabelled_in : (phase : Phase) (name : Ppc64Relocation)
+    → is_labelled (ppc64_scope_in phase name) ≡ false
+unlabelled_in phases.Early name = early_unlabelled name
+unlabelled_in phases.ThreadOffsets name = offsets_unlabelled name
+unlabelled_in phases.GotLoads name = refl
+unlabelled_in phases.Distances name = distances_unlabelled name
+
+-- PowerPC64 has no labels
+unlabelled : (phase : Phase) (code : ℕ) (scope : Scope) → IsScopeIn Ppc64 phase code scope
+    → scope ≡ Labelled → ⊥
+unlabelled phase code scope is labelled =
+    let no : is_labelled scope ≡ false = ap is_labelled is.value_is ∙ unlabelled_in phase is.name in
+    let yes : is_labelled scope ≡ true = ap is_labelled labelled in
+    let e : true ≡ false = sym yes ∙ no in cc
+
+-- ---- the entry
+
+abbrev pub IsOfEntry : Entry RelaxationKind Ppc64Relocation → List ℕ → ℕ → Choice Relaxation ℕ → Type 0
+IsOfEntry e section o =
+    IsOfEntryIn ppc64_name relaxations.Ppc64 (λ (e : Entry RelaxationKind Ppc64Relocation). ppc64_matches e.kind section o) e
+
+abbrev pub IsOfOne : List (Entry RelaxationKind Ppc64Relocation) → List ℕ → ℕ → Choice Relaxation ℕ → Type 0
+IsOfOne es section o =
+    IsOfOneIn ppc64_name relaxations.Ppc64 (λ (e : Entry RelaxationKind Ppc64Relocation). ppc64_matches e.kind section o) es
+
+module _ (l : Linked) (linked : IsLinked l) (ppc64 : l.setting.architecture ≡ Ppc64) (i : ℕ)
+    (chosen : Choice Relaxation ℕ) (below : i < count l)
+    (decided : decision_at l.decisions i ≡ Rewritten chosen)
+    (name : Ppc64Relocation) (named : IsNamed (ppc64_name name))
+    (is_name : IsNameOf ppc64_name (relocation_in l.relocations i).code name)
+  where
+    pub of_one : IsOfOne (ppc64_entries name) l.section (relocation_in l.relocations i).offset chosen
+    of_one =
+        let r = relocation_in l.relocations i in
+        let c = chosen_at l.setting l.kept l.relocations l.section l.decisions (count l) i chosen linked.decided below decided
+        (λ scope is. unlabelled l.setting.phase r.code scope (subst (λ x. IsScopeIn x l.setting.phase r.code scope) ppc64 is)) in
+        of_one_in ppc64_name relaxations.Ppc64 (λ (e : Entry RelaxationKind Ppc64Relocation). ppc64_matches e.kind l.section r.offset) chosen
+        (λ n. Ppc64Applies l.section r.offset c.facts) ppc64_entries kinds.NoOp refl r.code name named is_name
+        (λ e applies. applies.0)
+        (subst (λ x. IsArchitectureChoice x r.code l.section r.offset c.facts chosen) ppc64 c.is_choice) c.changed
+
+    -- the only one
+    pub of_entry : (e : Entry RelaxationKind Ppc64Relocation) → ppc64_entries name ≡ (e ∷ [])
+        → IsOfEntry e l.section (relocation_in l.relocations i).offset chosen
+    of_entry e only =
+        of_entry_in ppc64_name relaxations.Ppc64
+        (λ (e : Entry RelaxationKind Ppc64Relocation). ppc64_matches e.kind l.section (relocation_in l.relocations i).offset) chosen
+        e (ppc64_entries name) only of_one
