@@ -5,9 +5,9 @@ use Rattle.linker_base.specs.Rewrite.{Rewrite, rewritten, rewrite_window}
 use Rattle.linker_x86_64.specs.X86Rewrites.{absolute, operand, prefixed_operand, puts, x86_64_rewrite}
 use Rattle.linker_x86_64.specs.declared.rewrites.RelaxationKind.TheVariants as kinds
 
--- Another rewrite does the same, whose window is in the instruction: from at most n bytes before its
--- field of 4 bytes to the field's end. The field after the rewrite is in the instruction too.
-pub record IsWithin (n : ℕ) (rewrite : Option Rewrite) : Type 0 where
+-- Another rewrite does the same, whose window is in an instruction or a sequence: from at most n bytes
+-- before a field to so many bytes behind where the field begins.
+pub record HasWindow (n end : ℕ) (rewrite : Option Rewrite) : Type 0 where
   pub made : Rewrite
   pub is : rewrite ≡ Some made
   pub admits : (window : List ℕ) → made.admits window ≡ true
@@ -22,15 +22,13 @@ pub record IsWithin (n : ℕ) (rewrite : Option Rewrite) : Type 0 where
       → (at < o - inner.back) ⊎ (o - inner.back + inner.len ≤ at)
       → (at < o - made.back) ⊎ (o - made.back + made.len ≤ at)
   pub back : inner.back ≤ n
-  pub end : inner.len ≤ inner.back + 4
-  pub moves : (o : ℕ) → n ≤ o → (o - n ≤ made.offset o) × (made.offset o ≤ o)
+  pub ends : inner.len ≤ inner.back + end
 
 -- one whose own window is
-own : (n : ℕ) (rewrite : Option Rewrite) (r : Rewrite) → rewrite ≡ Some r
-    → ((window : List ℕ) → r.admits window ≡ true) → r.back ≤ n
-    → r.len ≤ r.back + 4 → ((o : ℕ) → n ≤ o → (o - n ≤ r.offset o) × (r.offset o ≤ o))
-    → IsWithin n rewrite
-own n rewrite r is admits low high moves =
+abbrev pub own_window : (n end : ℕ) (rewrite : Option Rewrite) (r : Rewrite) → rewrite ≡ Some r
+    → ((window : List ℕ) → r.admits window ≡ true) → r.back ≤ n → r.len ≤ r.back + end
+    → HasWindow n end rewrite
+own_window n end rewrite r is admits low high =
     record {
       made = r;
       is = is;
@@ -40,9 +38,21 @@ own n rewrite r is admits low high moves =
       same_made = λ before after o starts ends long is_made. is_made;
       outer = λ o at starts long from outside. outside;
       back = low;
-      end = high;
-      moves = moves;
+      ends = high;
     }
+
+-- The window is in an instruction, to the end of its field of 4 bytes, and so is the field after.
+pub record IsWithin (n : ℕ) (rewrite : Option Rewrite) : Type 0 where
+  pub window : HasWindow n 4 rewrite
+  pub moves : (o : ℕ) → n ≤ o → (o - n ≤ window.made.offset o) × (window.made.offset o ≤ o)
+
+-- one whose own window is
+own : (n : ℕ) (rewrite : Option Rewrite) (r : Rewrite) → rewrite ≡ Some r
+    → ((window : List ℕ) → r.admits window ≡ true) → r.back ≤ n
+    → r.len ≤ r.back + 4 → ((o : ℕ) → n ≤ o → (o - n ≤ r.offset o) × (r.offset o ≤ o))
+    → IsWithin n rewrite
+own n rewrite r is admits low high moves =
+    record { window = own_window n 4 rewrite r is admits low high; moves = moves }
 
 pub within : (n back len : ℕ) (bytes : List ℕ → List ℕ) (addend : ℤ → ℤ) (rewrite : Option Rewrite)
     → rewrite ≡ Some (record { back = back; len = len; admits = λ _. true; bytes = bytes; offset = λ o. o; addend = addend })
@@ -85,32 +95,34 @@ module _ (opcode k : ℕ) where
   pub wide : IsWithin 2 (Some (absolute 3 (prefixed_operand 2 opcode k)))
   wide =
       record {
-        made = outside;
-        is = refl;
-        admits = λ window. refl;
-        inner = inside;
-        same = λ bytes o starts ends.
-            let x = get_or bytes (o - 3) 0 in
-            let ys = inside.bytes (rewrite_window inside bytes o) in
-            let rest : drop (o - 3 + 3) bytes ≡ drop (o - 2 + 2) bytes =
-            ap (λ i. drop i bytes) (omega (arith, starts)) in
-            let front : take (o - 3) bytes ++ x ∷ [] ≡ take (o - 2) bytes =
-            sym (take_more bytes (o - 3) 0 (let e : o - 3 < length bytes = omega (arith, ends) in e))
-            ∙ ap (λ i. take i bytes) (let e : o - 3 + 1 ≡ o - 2 = omega (arith, starts) in e) in
-            ap (λ zs. take (o - 3) bytes ++ zs ++ drop (o - 3 + 3) bytes) (written bytes o starts ends)
-            ∙ (ap (λ zs. zs ++ drop (o - 3 + 3) bytes) (sym (append_assoc (take (o - 3) bytes) (x ∷ []) ys))
-            ∙ (ap (λ zs. zs ++ ys ++ drop (o - 3 + 3) bytes) front
-            ∙ ap (λ zs. take (o - 2) bytes ++ ys ++ zs) rest));
-        same_made = λ before after o starts ends long is_made.
-            ap (drop 1)
-            (sym (window after o starts (omega (arith, ends, long)))
-            ∙ (is_made ∙ written before o starts ends));
-        outer = λ o at starts long from outside.
-            elim outside [
-              | inl below ↦ absurd (omega (arith, below, from))
-              | inr above ↦ inr (omega (arith, above, starts))
-            ];
-        back = omega arith;
-        end = omega arith;
+        window = record {
+          made = outside;
+          is = refl;
+          admits = λ window. refl;
+          inner = inside;
+          same = λ bytes o starts ends.
+              let x = get_or bytes (o - 3) 0 in
+              let ys = inside.bytes (rewrite_window inside bytes o) in
+              let rest : drop (o - 3 + 3) bytes ≡ drop (o - 2 + 2) bytes =
+              ap (λ i. drop i bytes) (omega (arith, starts)) in
+              let front : take (o - 3) bytes ++ x ∷ [] ≡ take (o - 2) bytes =
+              sym (take_more bytes (o - 3) 0 (let e : o - 3 < length bytes = omega (arith, ends) in e))
+              ∙ ap (λ i. take i bytes) (let e : o - 3 + 1 ≡ o - 2 = omega (arith, starts) in e) in
+              ap (λ zs. take (o - 3) bytes ++ zs ++ drop (o - 3 + 3) bytes) (written bytes o starts ends)
+              ∙ (ap (λ zs. zs ++ drop (o - 3 + 3) bytes) (sym (append_assoc (take (o - 3) bytes) (x ∷ []) ys))
+              ∙ (ap (λ zs. zs ++ ys ++ drop (o - 3 + 3) bytes) front
+              ∙ ap (λ zs. take (o - 2) bytes ++ ys ++ zs) rest));
+          same_made = λ before after o starts ends long is_made.
+              ap (drop 1)
+              (sym (window after o starts (omega (arith, ends, long)))
+              ∙ (is_made ∙ written before o starts ends));
+          outer = λ o at starts long from outside.
+              elim outside [
+                | inl below ↦ absurd (omega (arith, below, from))
+                | inr above ↦ inr (omega (arith, above, starts))
+              ];
+          back = omega arith;
+          ends = omega arith;
+        };
         moves = λ o long. (omega arith, omega arith);
       }

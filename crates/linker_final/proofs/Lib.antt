@@ -34,8 +34,15 @@ pub mod RiscVNops
 pub mod RiscVOffsets
 pub mod RiscVWritten
 pub mod Written
+pub mod X86Chosen
+pub mod X86Descriptors
 pub mod X86Finals
 pub mod X86Lawful
 pub mod X86Names
 pub mod X86Patterns
 pub mod X86Rows
+pub mod X86ThreadCalls
+pub mod X86ThreadEntries
+pub mod X86ThreadOffsets
+pub mod X86ThreadRows
+pub mod X86Windows

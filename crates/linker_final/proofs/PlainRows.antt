@@ -14,7 +14,7 @@ use Rattle.linker_elf.specs.declared.elf.value.Operands.{Operands}
 use Rattle.linker_section.proofs.Rows.{one_row, one_info}
 use Rattle.linker_section.specs.Fields.{field_len, is_of_pair}
 use Rattle.linker_section.specs.Sections.{IsRowValue}
-use Rattle.linker_section.specs.Values.{IsValueIn, IsValueBy, has_value, names_label, offset_at, operands_of, own_value, value_by}
+use Rattle.linker_section.specs.Values.{IsValueIn, IsValueBy, has_value, names_label, offset_at, operands_of, value_by}
 use Rattle.linker_section.specs.WrittenFields.{Found, composed, composed_by, composed_with, HoldsNumber}
 use Rattle.linker_section.specs.declared.facts.Addresses.{Addresses}
 use Rattle.linker_section.specs.declared.facts.Symbol.{Symbol}
@@ -32,7 +32,7 @@ pub record IsPlain (n : ℕ) (row : RelocationKindInfo) : Type 0 where
   pub some : (o : Operands) → IsSomeAnd (value_of row o) (λ _. ⊤)
   pub writes : (v : ℤ) (old : ℕ) → number_written row.kind v old ≡ cast_unsigned w64 v
   pub composes : (v number : ℤ) → composed_with row.kind v number ≡ v
-  pub remainder : (v : ℤ) → IsWithin (reach_of row) v
+  pub remainder : (o : Operands) (v : ℤ) → value_of row o ≡ Some v → IsWithin (reach_of row) v
       → int_rem_euclid v (pos (2 ^ (8 * n))) ≡ pos (cast_unsigned w64 v % 2 ^ (8 * n))
   pub holds : (len : ℕ) (v : ℤ) (before after : List ℕ) → HoldsNumber row.kind len v before after
       → pos (number_of_bytes len after) ≡ int_rem_euclid v (pos (2 ^ (8 * len)))
@@ -124,24 +124,51 @@ pub record IsFoundOf (row : RelocationKindInfo) (operands : Operands)
   pub value_is : value_of row operands ≡ Some value
 
 module _ (architecture : Architecture) (addresses : Addresses) (bytes : List ℕ)
+    (symbols : List Symbol) (r : Rela) (row : RelocationKindInfo)
+    (is_row : IsRow architecture r.code (Some row))
+    (valued : has_value row.kind ≡ true)
+    (unlabelled : names_label row.size row.kind ≡ false) where
+  of_operands : (result : Result (Option ℤ) ValueError)
+      → IsValueIn architecture addresses bytes symbols r (Some row) result
+      → result ≡ value_by row (operands_of architecture addresses symbols row r)
+  of_operands result is =
+      subst (λ labels. IsValueBy labels architecture addresses bytes symbols row r result) unlabelled is
+      ∙ cond-true (has_value row.kind) (value_by row (operands_of architecture addresses symbols row r))
+      (Ok None) valued
+
+  no_error : (value : Option ℤ) (error : ValueError)
+      → operands_of architecture addresses symbols row r ≡ Err error
+      → Ok value ≡ value_by row (operands_of architecture addresses symbols row r) → ⊥
+  no_error value error is same = let e : Ok value ≡ Err error = same ∙ ap (value_by row) is in cc
+
+  -- it has what its formula takes
+  pub are_there : (found : Option (RelocationKindInfo × ℤ))
+      → IsRowValue architecture addresses bytes symbols r (Ok found) → (error : ValueError)
+      → operands_of architecture addresses symbols row r ≡ Err error → ⊥
+  are_there (Some one) has error is =
+      let same : one.0 ≡ row = one_info architecture r.code (one.0) row has.is_row is_row in
+      no_error (Some (one.1)) error is
+      (of_operands (Ok (Some (one.1)))
+      (subst (λ x. IsValueIn architecture addresses bytes symbols r (Some x) (Ok (Some (one.1)))) same has.is_value))
+  are_there None marked error is =
+      let same = one_row architecture r.code (marked.0) (Some row) (marked.1) is_row in
+      no_error None error is
+      (of_operands (Ok None)
+      (subst (λ x. IsValueIn architecture addresses bytes symbols r x (Ok None)) same (marked.2)))
+
+module _ (architecture : Architecture) (addresses : Addresses) (bytes : List ℕ)
     (symbols : List Symbol) (r : Rela) (row : RelocationKindInfo) (operands : Operands)
     (is_row : IsRow architecture r.code (Some row))
     (valued : has_value row.kind ≡ true)
     (unlabelled : names_label row.size row.kind ≡ false)
     (taken : operands_of architecture addresses symbols row r ≡ Ok operands)
     (some : IsSomeAnd (value_of row operands) (λ _. ⊤)) where
-  own_is : own_value architecture addresses symbols row r ≡ Ok (value_of row operands)
-  own_is =
-      cond-true (has_value row.kind) (value_by row (operands_of architecture addresses symbols row r))
-      (Ok None) valued
-      ∙ ap (value_by row) taken
-
   by_row : (result : Result (Option ℤ) ValueError)
       → IsValueIn architecture addresses bytes symbols r (Some row) result
       → result ≡ Ok (value_of row operands)
   by_row result is =
-      subst (λ labels. IsValueBy labels architecture addresses bytes symbols row r result) unlabelled is
-      ∙ own_is
+      of_operands architecture addresses bytes symbols r row is_row valued unlabelled result is
+      ∙ ap (value_by row) taken
 
   abbrev of_ok : Result (Option ℤ) ValueError → Option ℤ
   of_ok (Ok found) = found

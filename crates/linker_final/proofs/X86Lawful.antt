@@ -20,25 +20,25 @@ use Rattle.linker_x86_64.specs.declared.rewrites.RelaxationKind.TheVariants as k
 
 -- ---- the shape of a rewrite
 
--- an instruction of at most n bytes before its field of 4 bytes
-abbrev pub HasShape : ℕ → Original → Type 0
-HasShape n r = (r.back ≤ n) × (length r.bytes ≤ r.back + 4)
+-- an instruction or a sequence of at most n bytes before its field, and so many from there on
+abbrev pub HasShape : ℕ → ℕ → Original → Type 0
+HasShape n end r = (r.back ≤ n) × (length r.bytes ≤ r.back + end)
 
-abbrev pub HaveShape : ℕ → List Original → Type 0
-HaveShape n [] = ⊤
-HaveShape n (r ∷ rs) = HasShape n r × HaveShape n rs
+abbrev pub HaveShape : ℕ → ℕ → List Original → Type 0
+HaveShape n end [] = ⊤
+HaveShape n end (r ∷ rs) = HasShape n end r × HaveShape n end rs
 
--- with n bytes
-abbrev pub AreOf : ℕ → List Original → Type 0
-AreOf n [] = ⊤
-AreOf n (r ∷ rs) = (r.back ≡ n × length r.bytes ≡ n + 4) × AreOf n rs
+-- with n bytes before it
+abbrev pub AreOf : ℕ → ℕ → List Original → Type 0
+AreOf n end [] = ⊤
+AreOf n end (r ∷ rs) = (r.back ≡ n × length r.bytes ≡ n + end) × AreOf n end rs
 
-pub shaped_of : (n : ℕ) (rs : List Original) → AreOf n rs → HaveShape n rs
-shaped_of n [] are = tt
-shaped_of n (r ∷ rs) are =
+pub shaped_of : (n end : ℕ) (rs : List Original) → AreOf n end rs → HaveShape n end rs
+shaped_of n end [] are = tt
+shaped_of n end (r ∷ rs) are =
     let back = are.0.0 in
     let long = are.0.1 in
-    ((omega (arith, back), omega (arith, back, long)), shaped_of n rs (are.1))
+    ((omega (arith, back), omega (arith, back, long)), shaped_of n end rs (are.1))
 
 -- ---- a rewrite with its law
 
@@ -46,10 +46,10 @@ shaped_of n (r ∷ rs) are =
 pub record HasLaw (n : ℕ) (name : X86_64Relocation) (held : Operands → ℕ) (section : List ℕ) (o : ℕ)
     (chosen : Choice RelaxationKind X86_64Relocation) : Type 0 where
   pub instructions : List Original
-  pub are_of : AreOf n instructions
+  pub are_of : AreOf n 4 instructions
   pub there : IsTrue (is_one_at instructions section o)
   pub matches : x86_64_matches chosen.kind section o
-  pub shaped_too : HaveShape n (x86_64_originals chosen.kind)
+  pub shaped_too : HaveShape n 4 (x86_64_originals chosen.kind)
   pub after : x86_64_relocation_after chosen.kind name ≡ Some chosen.relocation
   pub law : DoesTheSame n instructions name chosen.kind held
   pub within : IsWithin n (x86_64_rewrite chosen.kind)
@@ -63,7 +63,7 @@ pub record Serves (n : ℕ) (name : X86_64Relocation) (held : Operands → ℕ) 
 
 -- by a law of the instructions that are asked for
 pub by_asked : (n : ℕ) (name : X86_64Relocation) (held : Operands → ℕ) (asked : List Original)
-    (e : X86Entry) → AreOf n asked → HaveShape n (x86_64_originals e.kind)
+    (e : X86Entry) → AreOf n 4 asked → HaveShape n 4 (x86_64_originals e.kind)
     → x86_64_relocation_after e.kind name ≡ Some e.relocation
     → IsWithin n (x86_64_rewrite e.kind) → IsAfterRow e.relocation
     → DoesTheSame n asked name e.kind held → Serves n name held asked e
@@ -84,7 +84,7 @@ by_asked n name held asked e shaped shaped_too after within row law =
 
 -- by a law of those that the rewrite is for
 pub by_originals : (n : ℕ) (name : X86_64Relocation) (held : Operands → ℕ) (asked : List Original)
-    (e : X86Entry) → AreOf n (x86_64_originals e.kind)
+    (e : X86Entry) → AreOf n 4 (x86_64_originals e.kind)
     → x86_64_relocation_after e.kind name ≡ Some e.relocation
     → IsWithin n (x86_64_rewrite e.kind) → IsAfterRow e.relocation
     → DoesTheSame n (x86_64_originals e.kind) name e.kind held → Serves n name held asked e
@@ -95,7 +95,7 @@ by_originals n name held asked e shaped after within row law =
         are_of = shaped;
         there = is.1.1;
         matches = is.1;
-        shaped_too = shaped_of n (x86_64_originals e.kind) shaped;
+        shaped_too = shaped_of n 4 (x86_64_originals e.kind) shaped;
         after = after;
         law = law;
         within = within;
@@ -171,7 +171,7 @@ nothing n name held = record { serves = tt }
 
 module _ (n : ℕ) (name : X86_64Relocation) where
   -- an operation on an immediate
-  operation : (kind : RelaxationKind) → AreOf n (x86_64_originals kind)
+  operation : (kind : RelaxationKind) → AreOf n 4 (x86_64_originals kind)
       → x86_64_relocation_after kind name ≡ Some (immediate_of n)
       → IsWithin n (x86_64_rewrite kind) → IsAfterRow (immediate_of n)
       → DoesTheSame n (x86_64_originals kind) name kind address
@@ -189,7 +189,7 @@ module _ (n : ℕ) (name : X86_64Relocation) where
         serves = (by_none n name address _ _ none, (λ facts after h. h.1.1.0), (by_none n name address _ _ none, (λ facts after h. h.1.1.0), tt));
       }
 
-  movs : AreOf n (legacy n 0x8b) → HaveShape n (x86_64_originals (x86.mov_of n))
+  movs : AreOf n 4 (legacy n 0x8b) → HaveShape n 4 (x86_64_originals (x86.mov_of n))
       → x86_64_relocation_after (x86.mov_of n) name ≡ Some (immediate_of n)
       → IsWithin n (x86_64_rewrite (x86.mov_of n)) → IsAfterRow (immediate_of n)
       → DoesTheSame n (legacy n 0x8b) name (x86.mov_of n) address → 2 ≤ n
@@ -202,7 +202,7 @@ module _ (n : ℕ) (name : X86_64Relocation) where
       }
 
   -- an offset from the thread pointer
-  offset : (kind : RelaxationKind) → AreOf n (x86_64_originals kind)
+  offset : (kind : RelaxationKind) → AreOf n 4 (x86_64_originals kind)
       → x86_64_relocation_after kind name ≡ Some names.R_X86_64_TPOFF32
       → IsWithin n (x86_64_rewrite kind)
       → DoesTheSame n (x86_64_originals kind) name kind thread_offset

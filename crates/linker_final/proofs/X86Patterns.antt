@@ -10,15 +10,15 @@ both : (a b : Bool) → a ≡ true → b ≡ true → (a && b) ≡ true
 both true b is too = too
 both false b is too = is
 
-of_or : (a b : Bool) → (a || b) ≡ true → (a ≡ true) ⊎ (b ≡ true)
+pub of_or : (a b : Bool) → (a || b) ≡ true → (a ≡ true) ⊎ (b ≡ true)
 of_or true b is = inl refl
 of_or false b is = inr is
 
-or_first : (a b : Bool) → a ≡ true → (a || b) ≡ true
+pub or_first : (a b : Bool) → a ≡ true → (a || b) ≡ true
 or_first true b is = refl
 or_first false b is = absurd (let e : false ≡ true = is in cc)
 
-or_second : (a b : Bool) → b ≡ true → (a || b) ≡ true
+pub or_second : (a b : Bool) → b ≡ true → (a || b) ≡ true
 or_second true b is = refl
 or_second false b is = is
 
@@ -42,12 +42,12 @@ begins_long (p ∷ ps) (x ∷ xs) is =
     let rest = begins_long ps xs ((and_parts (eqb (bit_and x (p.0)) (p.1)) (begins ps xs) is).1) in
     omega (arith, rest)
 
--- ---- an instruction with n bytes before its field
+-- ---- an instruction or a sequence with n bytes before its field, and so many from there on
 
-pub there_inside : (n : ℕ) (rs : List Original) (section : List ℕ) (o : ℕ) → AreOf n rs
-    → IsTrue (is_one_at rs section o) → (n ≤ o) × (o + 4 ≤ length section)
-there_inside n [] section o are is = absurd (let e : false ≡ true = is in cc)
-there_inside n (r ∷ rs) section o are is =
+pub there_inside : (n end : ℕ) → 0 < end → (rs : List Original) (section : List ℕ) (o : ℕ) → AreOf n end rs
+    → IsTrue (is_one_at rs section o) → (n ≤ o) × (o + end ≤ length section)
+there_inside n end some [] section o are is = absurd (let e : false ≡ true = is in cc)
+there_inside n end some (r ∷ rs) section o are is =
     elim (of_or (is_at r section o) (is_one_at rs section o) is) [
       | inl this ↦
           let parts = and_parts (leb r.back o) (begins r.bytes (drop (o - r.back) section)) this in
@@ -56,14 +56,14 @@ there_inside n (r ∷ rs) section o are is =
           let l = length-drop (o - r.back) section in
           let back = are.0.0 in
           let bytes = are.0.1 in
-          (omega (arith, starts, back), omega (arith, starts, back, bytes, long, l))
-      | inr other ↦ there_inside n rs section o (are.1) other
+          (omega (arith, starts, back), omega (arith, starts, back, bytes, long, l, some))
+      | inr other ↦ there_inside n end some rs section o (are.1) other
     ]
 
-module _ (n o : ℕ) (section others : List ℕ) (same_length : length others ≡ length section)
+module _ (n end o : ℕ) (section others : List ℕ) (same_length : length others ≡ length section)
     (room : n ≤ o)
-    (same : (at : ℕ) → o - n ≤ at → at < o + 4 → get_or section at 0 ≡ get_or others at 0) where
-  at_same : (r : Original) → HasShape n r → is_at r section o ≡ true → is_at r others o ≡ true
+    (same : (at : ℕ) → o - n ≤ at → at < o + end → get_or section at 0 ≡ get_or others at 0) where
+  at_same : (r : Original) → HasShape n end r → is_at r section o ≡ true → is_at r others o ≡ true
   at_same r shape is =
       let parts = and_parts (leb r.back o) (begins r.bytes (drop (o - r.back) section)) is in
       let starts = leb-true r.back o (parts.0) in
@@ -80,7 +80,7 @@ module _ (n o : ℕ) (section others : List ℕ) (same_length : length others �
       ∙ sym (get_or-drop (o - r.back) others k 0)))
       (parts.1))
 
-  pub one_same : (rs : List Original) → HaveShape n rs → IsTrue (is_one_at rs section o)
+  pub one_same : (rs : List Original) → HaveShape n end rs → IsTrue (is_one_at rs section o)
       → IsTrue (is_one_at rs others o)
   one_same [] shape is = is
   one_same (r ∷ rs) shape is =

@@ -23,7 +23,7 @@ use Rattle.linker_utils.specs.declared.elf.Architecture.TheVariants.{X86_64}
 
 -- ---- values of 32 bits
 
-signed_remainder : (v : ℤ) → IsWithin (Some (bit_bounds 32 Signed)) v
+pub signed_remainder : (v : ℤ) → IsWithin (Some (bit_bounds 32 Signed)) v
     → int_rem_euclid v (pos (2 ^ 32)) ≡ pos (cast_unsigned w64 v % 2 ^ 32)
 signed_remainder (pos n) within = refl
 signed_remainder (negsuc n) within =
@@ -67,7 +67,7 @@ pc32 =
         some = λ o. tt;
         writes = λ v old. refl;
         composes = λ v number. refl;
-        remainder = signed_remainder;
+        remainder = λ o v is. signed_remainder v;
         holds = λ len v before after is. is;
       };
       unloaded = refl;
@@ -91,7 +91,7 @@ absolute32 =
         some = λ o. tt;
         writes = λ v old. refl;
         composes = λ v number. refl;
-        remainder = unsigned_remainder;
+        remainder = λ o v is. unsigned_remainder v;
         holds = λ len v before after is. is;
       };
       unloaded = refl;
@@ -115,7 +115,7 @@ signed32 =
         some = λ o. tt;
         writes = λ v old. refl;
         composes = λ v number. refl;
-        remainder = signed_remainder;
+        remainder = λ o v is. signed_remainder v;
         holds = λ len v before after is. is;
       };
       unloaded = refl;
@@ -126,7 +126,7 @@ signed32 =
       named = tt;
     }
 
-pub tpoff32 : IsAfterRow names.R_X86_64_TPOFF32
+abbrev pub tpoff32 : IsAfterRow names.R_X86_64_TPOFF32
 tpoff32 =
     record {
       row = signed_row 32 (bytes_row TpOff 4);
@@ -139,7 +139,7 @@ tpoff32 =
         some = λ o. tt;
         writes = λ v old. refl;
         composes = λ v number. refl;
-        remainder = signed_remainder;
+        remainder = λ o v is. signed_remainder v;
         holds = λ len v before after is. is;
       };
       unloaded = refl;

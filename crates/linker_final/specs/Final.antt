@@ -89,15 +89,19 @@ IsLinkCause architecture output facts groups kept addresses symbols relocations 
     relocations_after bytes (Writing error) =
     IsWritingCause architecture output facts kept addresses relocations_after symbols bytes error
 
--- no rewrite and no field of another relocation has a byte from a start up, below an end
-abbrev pub AreAlone : Linked → ℕ → ℕ → ℕ → Type 0
-AreAlone l i start end =
-    (j at : ℕ) → j < count l → j ≢ i → start ≤ at → at < end
-    → ((at < start_at l.relocations l.decisions j) ⊎ (written_end_at l.relocations l.decisions j ≤ at))
+-- neither the rewrite nor the field of the relocation at an index has a byte
+abbrev pub HasNoByte : Linked → ℕ → ℕ → Type 0
+HasNoByte l j at =
+    ((at < start_at l.relocations l.decisions j) ⊎ (written_end_at l.relocations l.decisions j ≤ at))
     × ((row : RelocationKindInfo)
     → IsField l.setting.architecture l.relocations_after l.rewritten j row
     → (at < offset_at l.relocations_after j)
     ⊎ (field_end l.relocations_after l.rewritten j row ≤ at))
+
+-- no rewrite and no field of another relocation has a byte from a start up, below an end
+abbrev pub AreAlone : Linked → ℕ → ℕ → ℕ → Type 0
+AreAlone l i start end =
+    (j at : ℕ) → j < count l → j ≢ i → start ≤ at → at < end → HasNoByte l j at
 
 -- ---- instructions of 4 bytes
 

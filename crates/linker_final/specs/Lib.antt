@@ -4,3 +4,4 @@ pub mod LoongArchFinal
 pub mod Ppc64Final
 pub mod RiscVFinal
 pub mod X86Final
+pub mod X86ThreadFinal

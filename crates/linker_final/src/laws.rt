@@ -8,12 +8,24 @@ ghost use Rattle.linker_final.specs.LoongArchFinal as loongarch64_final;
 ghost use Rattle.linker_final.specs.Ppc64Final as ppc64_final;
 ghost use Rattle.linker_final.specs.RiscVFinal as riscv64_final;
 ghost use Rattle.linker_final.specs.X86Final as x86_64_final;
+ghost use Rattle.linker_final.specs.X86ThreadFinal as x86_64_threads;
 
 /// x86-64: each instruction whose operand in the GOT became an address, a distance or an offset from
 /// the thread pointer takes every state in which the GOT's entry holds that to the same state as the
 /// object's instruction does.
+///
+/// Where a call of `__tls_get_addr` was rewritten, rax is the variable's address as after the call, and
+/// what the call keeps is as it leaves it. Where one for a module's block was, rax is the thread
+/// pointer, and the offsets that became offsets from it lead from there to the same addresses. The
+/// `lea` of a descriptor's address, into any register, and the call of its function have a law each, of
+/// two runs, whatever stands between them: the variable's offset is in rax behind the call in both.
 pub fn x86_64()
     ensures got_operands { x86_64_final.GotOperands }
+    ensures general_dynamic { x86_64_threads.GeneralDynamic }
+    ensures local_dynamic { x86_64_threads.LocalDynamic }
+    ensures offsets { x86_64_threads.Offsets }
+    ensures descriptor_addresses { x86_64_threads.DescriptorAddresses }
+    ensures descriptor_calls { x86_64_threads.DescriptorCalls }
 {
     linker_laws::rewrites::x86_64();
 }

@@ -1,0 +1,86 @@
+-- The rewrite that is chosen for a relocation of x86-64.
+use Rattle.std.proofs.Common.{◌≡◌, ℕ, ℤ, ◌-◌, ◌<◌, List, [], ◌∷◌, refl, sym, ap, subst, ◌∙◌, inl, inr, ◌⊎◌}
+use Rattle.std.specs.Prelude.{slice_index}
+use Rattle.linker_elf.specs.Choices.{AllHold, Applies, IsFirst, choice}
+use Rattle.linker_elf.specs.ElfNames.{IsNamed, IsNameOf, code_of}
+use Rattle.linker_elf.specs.X86Relocations.{x86_64_name, x86_64_row}
+use Rattle.linker_elf.specs.declared.elf.choice.Choice.{Choice}
+use Rattle.linker_elf.specs.declared.elf.choice.LinkFacts.{LinkFacts}
+use Rattle.linker_elf.specs.declared.x86_64.relocations.X86_64Relocation.{X86_64Relocation}
+use Rattle.linker_final.proofs.Chosen.{chosen_at}
+use Rattle.linker_final.proofs.X86Names.{unlabelled}
+use Rattle.linker_final.specs.Final.{Linked, IsLinked, count}
+use Rattle.linker_rewriting.specs.Decisions.{decision_at}
+use Rattle.linker_rewriting.specs.Groups.{IsScopeIn}
+use Rattle.linker_rewriting.specs.declared.decisions.Decision.TheVariants.{Rewritten}
+use Rattle.linker_section.specs.Relocations.{relocation_in}
+use Rattle.linker_utils.specs.Architectures.{IsArchitectureChoice, relaxation_no_op}
+use Rattle.linker_utils.specs.declared.architecture.Relaxation.{Relaxation}
+use Rattle.linker_utils.specs.declared.architecture.Relaxation.TheVariants as relaxations
+use Rattle.linker_utils.specs.declared.elf.Architecture.TheVariants.{X86_64}
+use Rattle.linker_x86_64.specs.X86Rewrites.{IsAskedFor, IsX86Choice, Original, Table, X86Entry, x86_64_after, x86_64_table}
+use Rattle.linker_x86_64.specs.declared.rewrites.RelaxationKind.{RelaxationKind}
+use Rattle.linker_x86_64.specs.declared.rewrites.RelaxationKind.TheVariants as kinds
+
+-- It is that of an entry, for a relocation with an addend.
+pub record IsOfEntry (asked : List Original) (e : X86Entry) (section : List ℕ) (o : ℕ) (addend : ℤ)
+    (chosen : Choice Relaxation ℕ) : Type 0 where
+  pub kind_is : chosen.kind ≡ relaxations.X86_64 e.kind
+  pub code_is : chosen.relocation ≡ code_of (x86_64_name e.relocation)
+  pub asked_for : IsAskedFor asked e.kind section o
+  pub facts : LinkFacts
+  pub same_addend : facts.operands.addend ≡ addend
+  pub hold : AllHold x86_64_row (x86_64_after e.kind o facts.operands) facts e.conditions
+
+-- one of some entries
+abbrev pub IsOfOne : List Original → List X86Entry → List ℕ → ℕ → ℤ → Choice Relaxation ℕ → Type 0
+IsOfOne asked [] section o addend chosen = ⊥
+IsOfOne asked (e ∷ es) section o addend chosen =
+    IsOfEntry asked e section o addend chosen ⊎ IsOfOne asked es section o addend chosen
+
+module _ (name : X86_64Relocation) (section : List ℕ) (o : ℕ) (facts : LinkFacts) (addend : ℤ)
+    (same_addend : facts.operands.addend ≡ addend)
+    (chosen : Choice Relaxation ℕ) (named : Choice RelaxationKind X86_64Relocation)
+    (kind_is : chosen.kind ≡ relaxations.X86_64 named.kind)
+    (code_is : chosen.relocation ≡ code_of (x86_64_name named.relocation))
+    (changed : named ≡ choice kinds.NoOp name → ⊥) (asked : List Original) where
+  by_first : (es : List X86Entry)
+      → IsFirst (Applies (IsAskedFor asked) x86_64_row x86_64_after section o facts) es
+      (choice kinds.NoOp name) named
+      → IsOfOne asked es section o addend chosen
+  by_first [] is = absurd (changed is)
+  by_first (e ∷ es) (inl this) =
+      inl (record {
+        kind_is = kind_is ∙ ap (λ (q : Choice RelaxationKind X86_64Relocation). relaxations.X86_64 q.kind) (this.1);
+        code_is = code_is ∙ ap (λ (q : Choice RelaxationKind X86_64Relocation). code_of (x86_64_name q.relocation)) (this.1);
+        asked_for = this.0.0;
+        facts = facts;
+        same_addend = same_addend;
+        hold = this.0.1;
+      })
+  by_first (e ∷ es) (inr other) = inr (by_first es (other.1))
+
+abbrev pub IsOfTable : Table → List ℕ → ℕ → ℤ → Choice Relaxation ℕ → Type 0
+IsOfTable t section o addend chosen = IsOfOne t.instructions t.entries section o addend chosen
+
+pub of_table : (l : Linked) → IsLinked l → l.setting.architecture ≡ X86_64 → (i : ℕ)
+    → (chosen : Choice Relaxation ℕ) → i < count l
+    → decision_at l.decisions i ≡ Rewritten chosen
+    → (name : X86_64Relocation) → IsNamed (x86_64_name name)
+    → IsNameOf x86_64_name (relocation_in l.relocations i).code name
+    → IsOfTable (x86_64_table name (slice_index l.section ((relocation_in l.relocations i).offset - 2)))
+    l.section (relocation_in l.relocations i).offset (relocation_in l.relocations i).addend chosen
+of_table l linked x86 i chosen below decided name named is_name =
+    let r = relocation_in l.relocations i in
+    let c = chosen_at l.setting l.kept l.relocations l.section l.decisions (count l) i chosen linked.decided below decided
+    (λ scope is. unlabelled l.setting.phase r.code scope (subst (λ x. IsScopeIn x l.setting.phase r.code scope) x86 is)) in
+    let h = subst (λ x. IsArchitectureChoice x r.code l.section r.offset c.facts chosen) x86 c.is_choice in
+    let same : h.name ≡ name = h.is_name.named name named is_name.code_is in
+    let t = x86_64_table name (slice_index l.section (r.offset - 2)) in
+    by_first name l.section r.offset c.facts r.addend c.addend chosen h.named h.kind_is h.code_is
+    (λ e. c.changed (
+      subst relaxation_no_op (sym (h.kind_is ∙ ap (λ (q : Choice RelaxationKind X86_64Relocation). relaxations.X86_64 q.kind) e)) refl,
+      h.code_is ∙ (ap (λ (q : Choice RelaxationKind X86_64Relocation). code_of (x86_64_name q.relocation)) e ∙ is_name.code_is),
+    ))
+    t.instructions t.entries
+    (subst (λ x. IsX86Choice x l.section r.offset c.facts h.named) same h.is_choice)

@@ -1,0 +1,185 @@
+-- The `lea` of a descriptor's address of x86-64 and the call of its function do in the final bytes what
+-- the object's do.
+use Rattle.std.proofs.Common.{◌≡◌, ℕ, ◌+◌, ◌-◌, ◌<◌, ◌≤◌, ◌||◌, Bool, List, [], ◌∷◌, drop, false, true, refl, sym, ap, subst, ◌∙◌, inl, inr, arith, IsSomeAnd, IsTrue}
+use Rattle.linker_base.specs.Rewrite.{replaces}
+use Rattle.linker_elf.specs.ElfNames.{IsNamed, IsNameOf, code_of}
+use Rattle.linker_elf.specs.X86Relocations.{x86_64_name}
+use Rattle.linker_elf.specs.declared.elf.choice.Choice.{Choice}
+use Rattle.linker_elf.specs.declared.x86_64.relocations.X86_64Relocation.{X86_64Relocation}
+use Rattle.linker_elf.specs.declared.x86_64.relocations.X86_64Relocation.TheVariants as names
+use Rattle.linker_final.proofs.Inner.{HasWindow, own_window}
+use Rattle.linker_final.proofs.X86Chosen.{IsOfTable, of_table}
+use Rattle.linker_final.proofs.X86Finals.{final_is}
+use Rattle.linker_final.proofs.X86Lawful.{AreOf, shaped_of}
+use Rattle.linker_final.proofs.X86Patterns.{of_or, or_first, or_second, there_inside}
+use Rattle.linker_final.proofs.X86Rows.{tpoff32}
+use Rattle.linker_final.proofs.X86ThreadEntries.{entry_final}
+use Rattle.linker_final.proofs.X86ThreadRows.{thread_row}
+use Rattle.linker_final.proofs.X86Windows.{HasRewrite, object_bytes, object_has, object_matches, offset_small, unrelocated}
+use Rattle.linker_final.specs.Final.{AreAlone, IsLinked, Linked, count}
+use Rattle.linker_final.specs.X86ThreadFinal.{CallDoesTheSame, DescriptorAddresses, DescriptorCalls, EntryHolds, LeaDoesTheSame, object_in, reads_entry}
+use Rattle.linker_laws.specs.X86ThreadLaws as laws
+use Rattle.linker_laws.specs.X86ThreadLaws.{AgreeBut, IsDescriptorCall, LeaToEntry, LeaToOffset, WritesNothing, behind_call, reg_after_rex, reg_after_rex2}
+use Rattle.linker_laws.specs.X86Machine.{State, step}
+use Rattle.linker_rewriting.specs.Decisions.{decision_at}
+use Rattle.linker_rewriting.specs.declared.decisions.Decision.TheVariants.{Rewritten}
+use Rattle.linker_section.specs.Relocations.{relocation_in}
+use Rattle.linker_section.specs.Values.{is_of_got, operands_with}
+use Rattle.linker_section.specs.declared.relocations.Rela.{Rela}
+use Rattle.linker_utils.specs.declared.architecture.Relaxation.{Relaxation}
+use Rattle.linker_utils.specs.declared.architecture.Relaxation.TheVariants as relaxations
+use Rattle.linker_utils.specs.declared.elf.Architecture.TheVariants.{X86_64}
+use Rattle.linker_x86_64.specs.X86Rewrites.{any_entry, descriptor_table, is_at, is_one_at, lea_of_descriptor, rex2_w, rex_mov, rex_w, unrelocated_by, with_rex, with_rex2, x86_64_matches, x86_64_originals, x86_64_rewrite}
+use Rattle.linker_x86_64.specs.declared.rewrites.RelaxationKind.{RelaxationKind}
+use Rattle.linker_x86_64.specs.declared.rewrites.RelaxationKind.TheVariants as kinds
+
+-- ---- the `lea`
+
+module _ (n : ℕ) (three : 3 ≤ n) (name : X86_64Relocation) (named : IsNamed (x86_64_name name))
+    (not_of_got : is_of_got X86_64 (code_of (x86_64_name name)) ≡ false)
+    (register_of : List ℕ → ℕ)
+    (shape : AreOf n 4 (lea_of_descriptor n))
+    (of_offset : (bytes : List ℕ) (o : ℕ) → IsTrue (is_one_at (lea_of_descriptor n) bytes o)
+    → IsTrue (is_one_at (x86_64_originals (kinds.TlsDescToLocalExec n)) bytes o))
+    (of_entry : (bytes : List ℕ) (o : ℕ) → IsTrue (is_one_at (lea_of_descriptor n) bytes o)
+    → IsTrue (is_one_at (x86_64_originals kinds.TlsDescToInitialExec) bytes o))
+    (to_offset : LeaToOffset n name register_of) (to_entry : LeaToEntry n name register_of)
+    (l : Linked) (linked : IsLinked l) (x86 : l.setting.architecture ≡ X86_64) (i : ℕ)
+    (chosen : Choice Relaxation ℕ) (below : i < count l)
+    (is_name : IsNameOf x86_64_name (relocation_in l.relocations i).code name)
+    (decided : decision_at l.decisions i ≡ Rewritten chosen)
+    (alone : AreAlone l i ((relocation_in l.relocations i).offset - n) ((relocation_in l.relocations i).offset + 4))
+  where
+    abbrev r : Rela
+    r = relocation_in l.relocations i
+
+    abbrev o : ℕ
+    o = r.offset
+
+    abbrev object : List ℕ
+    object = object_in l o n 4
+
+    abbrev has_rewrite : (kind : RelaxationKind) → chosen.kind ≡ relaxations.X86_64 kind
+        → HasWindow n 4 (x86_64_rewrite kind) → IsTrue (is_one_at (lea_of_descriptor n) l.section o)
+        → x86_64_matches kind l.section o → HasRewrite l i n 4 kind
+    has_rewrite kind kind_is window there matches =
+        record {
+          linked = linked;
+          x86 = x86;
+          chosen = chosen;
+          below = below;
+          decided = decided;
+          kind_is = kind_is;
+          window = window;
+          matches = matches;
+          room = there_inside n 4 (omega arith) (lea_of_descriptor n) l.section o shape there;
+          alone = alone;
+        }
+
+    by_entry : IsOfTable (descriptor_table n) l.section o r.addend chosen
+        → LeaDoesTheSame n name register_of l i chosen thread_row
+    by_entry (inl this) =
+        λ symbol is_symbol entry s t c original addresses ip agree holds was.
+        let kind = kinds.TlsDescToLocalExec n in
+        let window = own_window n 4 (x86_64_rewrite kind) (rex_mov n) refl (λ window. refl) three (omega arith) in
+        let has = has_rewrite kind this.kind_is window (this.asked_for.0) (this.asked_for.1) in
+        let there = object_has l i n 4 kind has (lea_of_descriptor n) (shaped_of n 4 (lea_of_descriptor n) shape) (this.asked_for.0) in
+        let operands = operands_with X86_64 l.addresses thread_row symbol r entry in
+        to_offset object original l.final o operands s t c
+        (record {
+          bytes = object_bytes l i n 4 kind has;
+          offset = offset_small l i n 4 kind has;
+          addresses = addresses;
+          addend = sym this.same_addend ∙ this.hold.1.1.1.0;
+          ip = ip;
+        })
+        there (object_matches l i n 4 kind has (of_offset object o there)) agree tt was
+        (final_is l i n 4 kind has names.R_X86_64_TPOFF32 tpoff32
+        (ap (is_of_got X86_64) (sym is_name.code_is) ∙ not_of_got) this.code_is (omega arith) (omega arith) symbol is_symbol entry)
+    by_entry (inr (inl this)) =
+        λ symbol is_symbol entry s t c original addresses ip agree holds was.
+        let kind = kinds.TlsDescToInitialExec in
+        let window = own_window n 4 (x86_64_rewrite kind) (replaces 2 1 _) refl (λ window. refl) (omega (arith, three)) (omega arith) in
+        let has = has_rewrite kind this.kind_is window (this.asked_for.0) (this.asked_for.1) in
+        let there = object_has l i n 4 kind has (lea_of_descriptor n) (shaped_of n 4 (lea_of_descriptor n) shape) (this.asked_for.0) in
+        let operands = operands_with X86_64 l.addresses thread_row symbol r entry in
+        let held : EntryHolds true symbol operands t =
+        subst (λ b. EntryHolds b symbol operands t) (ap reads_entry this.kind_is) holds in
+        to_entry symbol.thread_entry (held.0) object original l.final o operands s t c
+        (record {
+          bytes = object_bytes l i n 4 kind has;
+          offset = offset_small l i n 4 kind has;
+          addresses = addresses;
+          addend = sym this.same_addend ∙ this.hold.1.1.0;
+          ip = ip;
+        })
+        there (object_matches l i n 4 kind has (of_entry object o there)) agree (held.1) was
+        (entry_final l i n 4 kind has this.code_is symbol is_symbol (omega arith) (omega arith) entry)
+    by_entry (inr (inr nothing)) = absurd nothing
+
+-- an instruction that is one of one is one of two
+first : (a b : Bool) → (a || false) ≡ true → (a || b) ≡ true
+first a b is =
+    elim (of_or a false is) [
+      | inl this ↦ or_first a b this
+      | inr none ↦ absurd (let e : false ≡ true = none in cc)
+    ]
+
+pub addresses : laws.LeaOfDescriptor → DescriptorAddresses
+addresses law = (
+  λ l linked x86 i chosen below is_name decided alone.
+      by_entry 3 (omega arith) names.R_X86_64_GOTPC32_TLSDESC tt refl reg_after_rex ((refl, refl), tt)
+      (λ bytes o is. is)
+      (λ bytes o is. first (is_at (with_rex rex_w 0x8d) bytes o) (is_at (with_rex2 rex2_w 0x8d) bytes o || false) is)
+      (law.0) (law.1) l linked x86 i chosen below is_name decided alone
+      (of_table l linked x86 i chosen below decided names.R_X86_64_GOTPC32_TLSDESC tt is_name),
+  λ l linked x86 i chosen below is_name decided alone.
+      by_entry 4 (omega arith) names.R_X86_64_CODE_4_GOTPC32_TLSDESC tt refl reg_after_rex2 ((refl, refl), tt)
+      (λ bytes o is. is)
+      (λ bytes o is. or_second (is_at (with_rex rex_w 0x8d) bytes o) (is_at (with_rex2 rex2_w 0x8d) bytes o || false) is)
+      (law.2) (law.3) l linked x86 i chosen below is_name decided alone
+      (of_table l linked x86 i chosen below decided names.R_X86_64_CODE_4_GOTPC32_TLSDESC tt is_name),
+)
+
+-- ---- the call
+
+module _ (law : laws.CallOfDescriptor) (l : Linked) (linked : IsLinked l)
+    (x86 : l.setting.architecture ≡ X86_64) (i : ℕ) (chosen : Choice Relaxation ℕ) (below : i < count l)
+    (decided : decision_at l.decisions i ≡ Rewritten chosen)
+    (alone : AreAlone l i (relocation_in l.relocations i).offset ((relocation_in l.relocations i).offset + 2))
+  where
+    abbrev at : ℕ
+    at = (relocation_in l.relocations i).offset
+
+    abbrev skip : RelaxationKind
+    skip = kinds.SkipTlsDescCall
+
+    by_call : IsOfTable (any_entry (unrelocated_by kinds.SkipTlsDescCall ∷ [])) l.section at (relocation_in l.relocations i).addend chosen
+        → CallDoesTheSame l i
+    by_call (inl this) =
+        λ operands s t c changed returned descriptor agree returns.
+        let has : HasRewrite l i 0 2 skip = record {
+          linked = linked;
+          x86 = x86;
+          chosen = chosen;
+          below = below;
+          decided = decided;
+          kind_is = this.kind_is;
+          window = own_window 0 2 (x86_64_rewrite skip) (replaces 0 2 _) refl (λ window. refl) (omega arith) (omega arith);
+          matches = this.asked_for.1;
+          room = there_inside 0 2 (omega arith) (x86_64_originals skip) l.section at ((refl, refl), tt) (this.asked_for.1.1);
+          alone = subst (λ start. AreAlone l i start (at + 2)) (let e : at ≡ at - 0 = omega arith in e) alone;
+        } in
+        subst (λ xs. IsSomeAnd (step (drop at xs) t) (λ v. WritesNothing t v
+        × ((u : State) → IsDescriptorCall 2 changed returned s u → u.fs ≡ s.fs → AgreeBut (behind_call changed s c) u v)))
+        (unrelocated l i 0 2 skip has this.code_is)
+        (law operands s t c changed returned (object_in l at 0 2) at
+        (object_matches l i 0 2 skip has
+        (object_has l i 0 2 skip has (x86_64_originals skip) (shaped_of 0 2 (x86_64_originals skip) ((refl, refl), tt)) (this.asked_for.1.1)))
+        descriptor agree returns)
+    by_call (inr nothing) = absurd nothing
+
+pub calls : laws.CallOfDescriptor → DescriptorCalls
+calls law l linked x86 i chosen below is_name decided alone =
+    by_call law l linked x86 i chosen below decided alone
+    (of_table l linked x86 i chosen below decided names.R_X86_64_TLSDESC_CALL tt is_name)

@@ -1,0 +1,240 @@
+-- Calls of `__tls_get_addr` of x86-64 that were rewritten do in the final bytes what the object's do.
+use Rattle.std.proofs.Common.{◌≡◌, ℕ, suc, ◌+◌, ◌-◌, ◌^◌, ◌<◌, ◌≤◌, ◌⊎◌, List, [], ◌∷◌, drop, is_some, true, refl, sym, ap, subst, ◌∙◌, inl, inr, arith, IsSomeAnd, neg_ℤ, pos}
+use Rattle.std.proofs.lemmas.Bool.{cases_eq, cases_lt}
+use Rattle.std.specs.Prelude.{⊤}
+use Rattle.linker_elf.specs.ElfNames.{IsNameOf, code_of}
+use Rattle.linker_elf.specs.Value.{difference_64}
+use Rattle.linker_elf.specs.X86Relocations.{x86_64_name}
+use Rattle.linker_elf.specs.declared.elf.RelocationKindInfo.{RelocationKindInfo}
+use Rattle.linker_elf.specs.declared.elf.choice.Choice.{Choice}
+use Rattle.linker_elf.specs.declared.x86_64.relocations.X86_64Relocation.TheVariants as names
+use Rattle.linker_final.proofs.Inner.{HasWindow, own_window}
+use Rattle.linker_final.proofs.X86Chosen.{IsOfTable, of_table}
+use Rattle.linker_final.proofs.X86Finals.{final_is}
+use Rattle.linker_final.proofs.X86Lawful.{AreOf, shaped_of}
+use Rattle.linker_final.proofs.X86Patterns.{there_inside}
+use Rattle.linker_final.proofs.X86Rows.{tpoff32}
+use Rattle.linker_final.proofs.X86ThreadEntries.{entry_final}
+use Rattle.linker_final.proofs.X86ThreadRows.{module_row, thread_row}
+use Rattle.linker_final.proofs.X86Windows.{HasRewrite, no_field, object_bytes, object_has, object_matches, offset_small, unrelocated}
+use Rattle.linker_final.specs.Final.{AreAlone, HasNoByte, IsLinked, Linked, count}
+use Rattle.linker_final.specs.X86ThreadFinal.{AddressIsTheSame, AreAloneWithNext, BlockIsReplaced, EntryHolds, GeneralDynamic, LocalDynamic, general_dynamic, local_dynamic, object_in, reads_entry}
+use Rattle.linker_laws.specs.Schemes.{AreAddresses}
+use Rattle.linker_laws.specs.X86RewriteLaws.{IsBefore, thread_offset}
+use Rattle.linker_laws.specs.X86Machine.{State, load}
+use Rattle.linker_laws.specs.X86ThreadLaws as laws
+use Rattle.linker_laws.specs.X86ThreadLaws.{EndAlike, ReachTheSame, ReplacesCall, ReplacesModuleCall}
+use Rattle.linker_rewriting.specs.Decisions.{IsDecidedAfter, decision_at, start_by, takes_next, written_end_by}
+use Rattle.linker_rewriting.specs.Rewritten.{relocation_after}
+use Rattle.linker_rewriting.specs.declared.decisions.Decision.TheVariants.{Rewritten, TakenAlong}
+use Rattle.linker_section.specs.Relocations.{relocation_in}
+use Rattle.linker_section.specs.Values.{is_of_got, operands_with}
+use Rattle.linker_section.specs.declared.facts.Symbol.{Symbol}
+use Rattle.linker_section.specs.declared.relocations.Rela.{Rela}
+use Rattle.linker_utils.specs.Architectures.{relaxation_skipped}
+use Rattle.linker_utils.specs.declared.architecture.Relaxation.{Relaxation}
+use Rattle.linker_utils.specs.declared.architecture.Relaxation.TheVariants as relaxations
+use Rattle.linker_utils.specs.declared.elf.Architecture.TheVariants.{X86_64}
+use Rattle.linker_x86_64.specs.X86Rewrites.{IsAskedFor, Original, general_dynamic_table, local_dynamic_table, original, puts, x86_64_matches, x86_64_originals, x86_64_rewrite, x86_64_skipped}
+use Rattle.linker_x86_64.specs.declared.rewrites.RelaxationKind.{RelaxationKind}
+use Rattle.linker_x86_64.specs.declared.rewrites.RelaxationKind.TheVariants as kinds
+
+-- ---- the call's relocation
+
+-- a relocation that is taken along has no byte
+module _ (l : Linked) (linked : IsLinked l) (x86 : l.setting.architecture ≡ X86_64) (i : ℕ)
+    (chosen : Choice Relaxation ℕ) (decided : decision_at l.decisions i ≡ Rewritten chosen)
+    (takes : is_some (relaxation_skipped chosen.kind) ≡ true) where
+  taken : suc i < count l → decision_at l.decisions (suc i) ≡ TakenAlong
+  taken below =
+      subst (λ b. IsDecidedAfter l.setting l.kept l.relocations l.section (suc i) b (decision_at l.decisions (suc i)))
+      (ap takes_next decided ∙ takes) (linked.decided (suc i) below)
+
+  next_has_none : (at : ℕ) → suc i < count l → HasNoByte l (suc i) at
+  next_has_none at below =
+      let o = (relocation_in l.relocations (suc i)).offset in
+      let is = taken below in
+      let code : (relocation_in l.relocations_after (suc i)).code ≡ 0 =
+      ap (λ (x : Rela). x.code)
+      (linked.relocations (suc i) below ∙ ap (λ d. relocation_after d (relocation_in l.relocations (suc i))) is) in (
+        subst (λ d. (at < start_by d o) ⊎ (written_end_by d o ≤ at)) (sym is)
+            (elim (cases_lt at o) [
+              | inl ahead ↦ inl (let e : at < o - 0 = omega (arith, ahead) in e)
+              | inr behind ↦ inr (let e : o - 0 + 0 ≤ at = omega (arith, behind) in e)
+            ]),
+        λ row field. absurd (no_field l x86 (suc i) code row field),
+      )
+
+  pub alone_with_next : (start end : ℕ) → AreAloneWithNext l i start end → AreAlone l i start end
+  alone_with_next start end alone j at below isnt from less =
+      elim (cases_eq j (suc i)) [
+        | inl same ↦
+            subst (λ k. HasNoByte l k at) (sym same)
+            (next_has_none at (subst (λ k. k < count l) same below))
+        | inr other ↦ alone j at below isnt (λ e. other (e ∙ (let x : i + 1 ≡ suc i = omega arith in x))) from less
+      ]
+
+-- ---- a sequence
+
+abbrev any : List Original
+any = original 0 [] ∷ []
+
+module _ (l : Linked) (linked : IsLinked l) (x86 : l.setting.architecture ≡ X86_64) (i : ℕ)
+    (chosen : Choice Relaxation ℕ) (below : i < count l)
+    (decided : decision_at l.decisions i ≡ Rewritten chosen)
+    (kind : RelaxationKind) (kind_is : chosen.kind ≡ relaxations.X86_64 kind)
+    (back call : ℕ) (window : HasWindow back (4 + call) (x86_64_rewrite kind))
+    (shape : AreOf back (4 + call) (x86_64_originals kind))
+    (skips : is_some (x86_64_skipped kind) ≡ true)
+    (asked : IsAskedFor any kind l.section (relocation_in l.relocations i).offset)
+    (alone : AreAloneWithNext l i ((relocation_in l.relocations i).offset - back)
+    ((relocation_in l.relocations i).offset + (4 + call))) where
+  abbrev r : Rela
+  r = relocation_in l.relocations i
+
+  abbrev o : ℕ
+  o = r.offset
+
+  abbrev has : HasRewrite l i back (4 + call) kind
+  has =
+      record {
+        linked = linked;
+        x86 = x86;
+        chosen = chosen;
+        below = below;
+        decided = decided;
+        kind_is = kind_is;
+        window = window;
+        matches = asked.1;
+        room = there_inside back (4 + call) (omega arith) (x86_64_originals kind) l.section o shape (asked.1.1);
+        alone = alone_with_next l linked x86 i chosen decided (ap (λ k. is_some (relaxation_skipped k)) kind_is ∙ skips)
+            (o - back) (o + (4 + call)) alone;
+      }
+
+  abbrev object : List ℕ
+  object = object_in l o back (4 + call)
+
+  matches : x86_64_matches kind object o
+  matches =
+      object_matches l i back (4 + call) kind has
+      (object_has l i back (4 + call) kind has (x86_64_originals kind)
+      (shaped_of back (4 + call) (x86_64_originals kind) shape) (asked.1.1))
+
+  before : (row : RelocationKindInfo) (symbol : Symbol) (entry : ℕ) (s : State)
+      → let operands = operands_with X86_64 l.addresses row symbol r entry in
+      AreAddresses operands → operands.addend ≡ neg_ℤ (pos 4) → s.ip ≡ difference_64 operands.place back
+      → IsBefore back object o operands s
+  before row symbol entry s addresses addend ip =
+      record {
+        bytes = object_bytes l i back (4 + call) kind has;
+        offset = offset_small l i back (4 + call) kind has;
+        addresses = addresses;
+        addend = addend;
+        ip = ip;
+      }
+
+  -- of a variable
+  module _ (count : ℕ) (is_name : IsNameOf x86_64_name r.code names.R_X86_64_TLSGD)
+      (addend : r.addend ≡ neg_ℤ (pos 4)) (low : o - back ≤ window.made.offset o)
+      (high : window.made.offset o + 4 ≤ o + (4 + call)) where
+    to_local : ReplacesCall back call count kind names.R_X86_64_TPOFF32 (λ operands. operands) (λ operands s. ⊤)
+        → chosen.relocation ≡ code_of (x86_64_name names.R_X86_64_TPOFF32)
+        → AddressIsTheSame l i chosen (record { back = back; call = call; count = count }) thread_row
+    to_local law code_is symbol is_symbol entry s changed returned original addresses ip thread returns holds was =
+        law object original l.final o (operands_with X86_64 l.addresses thread_row symbol r entry) s changed returned
+        (before thread_row symbol entry s addresses addend ip) matches thread returns tt was
+        (final_is l i back (4 + call) kind has names.R_X86_64_TPOFF32 tpoff32
+        (ap (is_of_got X86_64) (sym is_name.code_is)) code_is low high symbol is_symbol entry)
+
+    to_initial : ((held : ℕ) → held < 2 ^ 64
+        → ReplacesCall back call count kind names.R_X86_64_GOTTPOFF
+        (λ operands. record operands { got_entry = held }) (λ operands s. load 8 s held ≡ thread_offset operands))
+        → reads_entry (relaxations.X86_64 kind) ≡ true
+        → chosen.relocation ≡ code_of (x86_64_name names.R_X86_64_GOTTPOFF)
+        → AddressIsTheSame l i chosen (record { back = back; call = call; count = count }) thread_row
+    to_initial law reads code_is symbol is_symbol entry s changed returned original addresses ip thread returns holds was =
+        let operands = operands_with X86_64 l.addresses thread_row symbol r entry in
+        let held : EntryHolds true symbol operands s =
+        subst (λ b. EntryHolds b symbol operands s) (ap reads_entry kind_is ∙ reads) holds in
+        law symbol.thread_entry (held.0) object original l.final o operands s changed returned
+        (before thread_row symbol entry s addresses addend ip) matches thread returns (held.1) was
+        (entry_final l i back (4 + call) kind has code_is symbol is_symbol low high entry)
+
+  -- of a module
+  block : (count : ℕ) → ReplacesModuleCall call count kind → back ≡ 3 → chosen.relocation ≡ 0
+      → BlockIsReplaced l i (record { back = back; call = call; count = count }) module_row
+  block count law three code symbol entry s changed returned original addresses small addend ip thread returns was =
+      let operands = operands_with X86_64 l.addresses module_row symbol r entry in
+      let image = l.addresses.module_origin in
+      let pointed = l.addresses.thread_origin in
+      subst (λ n. EndAlike call count (drop (o - n) original) (drop (o - n) l.final) s changed returned (ReachTheSame changed image pointed)) (sym three)
+      (subst (λ xs. EndAlike call count (drop (o - 3) original) (drop (o - 3) xs) s changed returned (ReachTheSame changed image pointed))
+      (unrelocated l i back (4 + call) kind has code)
+      (law.1 object original o operands image pointed s changed returned
+      (subst (λ n. IsBefore n object o operands s) three (before module_row symbol entry s addresses addend ip))
+      matches thread addresses.tls_base small returns was))
+
+-- ---- general-dynamic
+
+abbrev Variable : Linked → ℕ → Choice Relaxation ℕ → Relaxation → Type 0
+Variable l i chosen kind =
+    IsSomeAnd (general_dynamic kind) (λ q.
+    AreAloneWithNext l i ((relocation_in l.relocations i).offset - q.back) ((relocation_in l.relocations i).offset + (4 + q.call))
+    → AddressIsTheSame l i chosen q thread_row)
+
+pub general_dynamic_too : laws.GeneralDynamic → GeneralDynamic
+general_dynamic_too law l linked x86 i chosen below is_name decided =
+    by_entry (of_table l linked x86 i chosen below decided names.R_X86_64_TLSGD tt is_name)
+  where
+    by_entry : IsOfTable general_dynamic_table l.section (relocation_in l.relocations i).offset (relocation_in l.relocations i).addend chosen
+        → Variable l i chosen chosen.kind
+    by_entry (inl this) =
+        subst (Variable l i chosen) (sym this.kind_is) (λ alone.
+        to_local l linked x86 i chosen below decided kinds.TlsGdToLocalExec this.kind_is 4 8
+        (own_window 4 12 (x86_64_rewrite kinds.TlsGdToLocalExec) (puts 4 12 _ _ _) refl (λ window. refl) (omega arith) (omega arith))
+        ((refl, refl), ((refl, refl), tt)) refl this.asked_for alone 2 is_name
+        (sym this.same_addend ∙ this.hold.1.1.1.0) (omega arith) (omega arith) (law.0) this.code_is)
+    by_entry (inr (inl this)) =
+        subst (Variable l i chosen) (sym this.kind_is) (λ alone.
+        to_local l linked x86 i chosen below decided kinds.TlsGdToLocalExecLarge this.kind_is 3 15
+        (own_window 3 19 (x86_64_rewrite kinds.TlsGdToLocalExecLarge) (puts 3 22 _ _ _) refl (λ window. refl) (omega arith) (omega arith))
+        ((refl, refl), ((refl, refl), tt)) refl this.asked_for alone 3 is_name
+        (sym this.same_addend ∙ this.hold.1.1.1.0) (omega arith) (omega arith) (law.2) this.code_is)
+    by_entry (inr (inr (inl this))) =
+        subst (Variable l i chosen) (sym this.kind_is) (λ alone.
+        to_initial l linked x86 i chosen below decided kinds.TlsGdToInitialExec this.kind_is 4 8
+        (own_window 4 12 (x86_64_rewrite kinds.TlsGdToInitialExec) (puts 4 12 _ _ _) refl (λ window. refl) (omega arith) (omega arith))
+        ((refl, refl), ((refl, refl), tt)) refl this.asked_for alone 2 is_name
+        (sym this.same_addend ∙ this.hold.1.1.0) (omega arith) (omega arith) (law.1) refl this.code_is)
+    by_entry (inr (inr (inr nothing))) = absurd nothing
+
+-- ---- local-dynamic
+
+abbrev Module : Linked → ℕ → Relaxation → Type 0
+Module l i kind =
+    IsSomeAnd (local_dynamic kind) (λ q.
+    AreAloneWithNext l i ((relocation_in l.relocations i).offset - q.back) ((relocation_in l.relocations i).offset + (4 + q.call))
+    → BlockIsReplaced l i q module_row)
+
+pub local_dynamic_too : laws.LocalDynamic → LocalDynamic
+local_dynamic_too law l linked x86 i chosen below is_name decided =
+    by_entry (of_table l linked x86 i chosen below decided names.R_X86_64_TLSLD tt is_name)
+  where
+    by_entry : IsOfTable local_dynamic_table l.section (relocation_in l.relocations i).offset (relocation_in l.relocations i).addend chosen
+        → Module l i chosen.kind
+    by_entry (inl this) =
+        subst (Module l i) (sym this.kind_is) (λ alone.
+        block l linked x86 i chosen below decided kinds.TlsLdToLocalExec this.kind_is 3 5
+        (own_window 3 9 (x86_64_rewrite kinds.TlsLdToLocalExec) (puts 3 12 _ _ _) refl (λ window. refl) (omega arith) (omega arith))
+        ((refl, refl), tt) refl this.asked_for alone 1 (law.0) refl this.code_is)
+    by_entry (inr (inl this)) =
+        subst (Module l i) (sym this.kind_is) (λ alone.
+        block l linked x86 i chosen below decided kinds.TlsLdToLocalExecNoPlt this.kind_is 3 6
+        (own_window 3 10 (x86_64_rewrite kinds.TlsLdToLocalExecNoPlt) (puts 3 13 _ _ _) refl (λ window. refl) (omega arith) (omega arith))
+        ((refl, refl), tt) refl this.asked_for alone 1 (law.1) refl this.code_is)
+    by_entry (inr (inr (inl this))) =
+        subst (Module l i) (sym this.kind_is) (λ alone.
+        block l linked x86 i chosen below decided kinds.TlsLdToLocalExec64 this.kind_is 3 15
+        (own_window 3 19 (x86_64_rewrite kinds.TlsLdToLocalExec64) (puts 3 22 _ _ _) refl (λ window. refl) (omega arith) (omega arith))
+        ((refl, refl), ((refl, refl), tt)) refl this.asked_for alone 2 (law.2) refl this.code_is)
+    by_entry (inr (inr (inr nothing))) = absurd nothing

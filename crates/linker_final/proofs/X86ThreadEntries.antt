@@ -1,0 +1,90 @@
+-- A GOT entry of a variable's offset, which rewrites of x86-64 leave in place of a call or of a
+-- descriptor.
+use Rattle.std.proofs.Common.{◌≡◌, ℕ, pos, ◌+◌, ◌-◌, ◌≤◌, cond, refl, sym, ap, subst, ◌∙◌, inl, inr, Some, None, Ok, Err}
+use Rattle.std.proofs.lemmas.Bool.{cases_Bool}
+use Rattle.std.specs.Prelude.{slice_get}
+use Rattle.linker_base.specs.Rewrite.{rewritten, offset_after}
+use Rattle.linker_elf.specs.Choices.{operands_after}
+use Rattle.linker_elf.specs.ElfNames.{code_of}
+use Rattle.linker_elf.specs.Value.{value_of}
+use Rattle.linker_elf.specs.X86Relocations.{x86_64_name}
+use Rattle.linker_elf.specs.declared.elf.value.Operands.{Operands}
+use Rattle.linker_elf.specs.declared.x86_64.relocations.X86_64Relocation.TheVariants as names
+use Rattle.linker_final.proofs.PlainRows.{are_there}
+use Rattle.linker_final.proofs.X86Finals.{moved}
+use Rattle.linker_final.proofs.X86ThreadRows.{entry_row, plain_entry, thread_row}
+use Rattle.linker_final.proofs.X86Windows.{HasRewrite, offset_small, r_after, rela, relocated_after, row_after, within_after}
+use Rattle.linker_final.specs.Final.{Linked}
+use Rattle.linker_final.specs.X86ThreadFinal.{object_in}
+use Rattle.linker_laws.specs.X86RewriteLaws.{IsRelocated}
+use Rattle.linker_section.specs.Relocations.{relocation_in}
+use Rattle.linker_section.specs.Values.{is_there, operands_by, operands_in, operands_of, operands_with}
+use Rattle.linker_section.specs.declared.facts.Symbol.{Symbol}
+use Rattle.linker_section.specs.declared.needed.Entry.{Entry}
+use Rattle.linker_section.specs.declared.needed.EntryClass.TheVariants.{ThreadOffset}
+use Rattle.linker_section.specs.declared.relocations.Rela.{Rela}
+use Rattle.linker_section.specs.declared.values.ValueError.TheVariants.{NoEntry}
+use Rattle.linker_utils.specs.declared.elf.Architecture.TheVariants.{X86_64}
+use Rattle.linker_x86_64.specs.X86Rewrites.{x86_64_rewrite}
+use Rattle.linker_x86_64.specs.declared.rewrites.RelaxationKind.{RelaxationKind}
+
+abbrev offset_entry : Entry
+offset_entry = record { class = ThreadOffset; addend = pos 0 }
+
+abbrev with_place : Operands → ℕ → ℕ → Operands
+with_place o entry place = record o { got_entry = entry; place = place }
+
+module _ (l : Linked) (i back end : ℕ) (kind : RelaxationKind) (is : HasRewrite l i back end kind)
+    (code_is : is.chosen.relocation ≡ code_of (x86_64_name names.R_X86_64_GOTTPOFF))
+    (symbol : Symbol) (is_symbol : slice_get l.symbols (relocation_in l.relocations i).symbol ≡ Some symbol)
+  where
+    abbrev r : Rela
+    r = relocation_in l.relocations i
+
+    abbrev relocation : Rela
+    relocation =
+        rela (is.window.made.offset r.offset) is.chosen.relocation r.symbol (is.window.made.addend r.addend)
+
+    -- the section is written, so that there is an entry
+    taken : operands_of X86_64 l.addresses l.symbols entry_row relocation
+        ≡ Ok (operands_with X86_64 l.addresses entry_row symbol relocation symbol.thread_entry)
+    taken =
+        elim (cases_Bool (is_there l.addresses symbol offset_entry)) [
+          | inl there ↦
+              ap (operands_in X86_64 l.addresses entry_row relocation) is_symbol
+              ∙ ap (λ b. operands_by X86_64 l.addresses entry_row relocation symbol (cond b (Some symbol.thread_entry) None)) there
+          | inr missing ↦
+              let error : operands_of X86_64 l.addresses l.symbols entry_row relocation ≡ Err NoEntry =
+              ap (operands_in X86_64 l.addresses entry_row relocation) is_symbol
+              ∙ ap (λ b. operands_by X86_64 l.addresses entry_row relocation symbol (cond b (Some symbol.thread_entry) None)) missing in
+              let after = r_after l i back end kind is in
+              let written = is.linked.written.can in
+              absurd
+              (are_there l.setting.architecture l.addresses l.relocations_after l.symbols
+              (relocation_in l.relocations_after i) entry_row
+              (row_after l is.linked is.x86 i is.below names.R_X86_64_GOTTPOFF tt entry_row refl
+              (ap (λ (x : Rela). x.code) after ∙ code_is)) refl refl (written.found i)
+              (written.are_found i (within_after l i back end kind is)) NoEntry
+              (subst (λ x. operands_of x l.addresses l.symbols entry_row (relocation_in l.relocations_after i) ≡ Err NoEntry) (sym is.x86)
+              (subst (λ x. operands_of X86_64 l.addresses l.symbols entry_row x ≡ Err NoEntry) (sym after) error)))
+        ]
+
+    pub entry_final : r.offset - back ≤ is.window.made.offset r.offset
+        → is.window.made.offset r.offset + 4 ≤ r.offset + end → (entry : ℕ)
+        → IsRelocated names.R_X86_64_GOTTPOFF
+        (record (operands_after (x86_64_rewrite kind) r.offset (operands_with X86_64 l.addresses thread_row symbol r entry)) {
+          got_entry = symbol.thread_entry;
+        })
+        (offset_after (x86_64_rewrite kind) r.offset)
+        (rewritten (x86_64_rewrite kind) (object_in l r.offset back end) r.offset) l.final
+    entry_final low high entry =
+        let made = is.window.made in
+        let was = operands_with X86_64 l.addresses thread_row symbol r entry in
+        let e = symbol.thread_entry in
+        let q = operands_after (Some made) r.offset was in
+        relocated_after l i back end kind is names.R_X86_64_GOTTPOFF entry_row plain_entry refl tt code_is
+        (operands_with X86_64 l.addresses entry_row symbol relocation e) taken low high
+        (record (operands_after (x86_64_rewrite kind) r.offset was) { got_entry = e })
+        (ap (λ m. value_of entry_row (record (operands_after m r.offset was) { got_entry = e })) is.window.is
+        ∙ ap (λ x. value_of entry_row (with_place q e x))
+        (moved l.addresses.section r.offset (made.offset r.offset) (offset_small l i back end kind is)))

@@ -1,0 +1,318 @@
+-- Offsets in a module's block that became offsets from the thread pointer lead to the same address.
+use Rattle.std.proofs.Common.{◌≡◌, ℕ, ◌+◌, ◌-◌, ◌/◌, ◌^◌, ◌<◌, ◌≤◌, ◌⊎◌, List, length, take, drop, false, true, refl, sym, ap, subst, ◌∙◌, inl, inr, arith, cond, Some, Ok}
+use Rattle.std.proofs.lemmas.Bool.{cases_lt, cond-false}
+use Rattle.std.proofs.lemmas.List.{drop_at, length-take-le}
+use Rattle.linker_base.specs.Rewrite.{addend_after, offset_after}
+use Rattle.linker_elf.specs.Applied.{IsApplied}
+use Rattle.linker_elf.specs.ElfNames.{IsNamed, IsNameOf, code_of}
+use Rattle.linker_elf.specs.Relocate.{number_of_bytes}
+use Rattle.linker_elf.specs.Value.{difference_64, sum_64, value_of}
+use Rattle.linker_elf.specs.X86Relocations.{x86_64_name, x86_64_row}
+use Rattle.linker_elf.specs.declared.elf.RelocationKind.{RelocationKind}
+use Rattle.linker_elf.specs.declared.elf.RelocationKind.TheVariants as values
+use Rattle.linker_elf.specs.declared.elf.RelocationKindInfo.{RelocationKindInfo}
+use Rattle.linker_elf.specs.declared.elf.choice.Choice.{Choice}
+use Rattle.linker_elf.specs.declared.elf.value.Operands.{Operands}
+use Rattle.linker_elf.specs.declared.x86_64.relocations.X86_64Relocation.{X86_64Relocation}
+use Rattle.linker_elf.specs.declared.x86_64.relocations.X86_64Relocation.TheVariants as names
+use Rattle.linker_final.proofs.Fields.{AreLowest, IsLeft, eight_bytes, four_bytes, left, len_is}
+use Rattle.linker_final.proofs.PlainRows.{IsPlain}
+use Rattle.linker_final.proofs.PutBack.{back_outside, put_back_is}
+use Rattle.linker_final.proofs.X86Chosen.{of_table}
+use Rattle.linker_final.proofs.X86Finals.{some_and}
+use Rattle.linker_final.proofs.X86ThreadRows.{block_row, long_block_row, long_thread_row, plain_long_thread, plain_thread, thread_row}
+use Rattle.linker_final.proofs.X86Windows.{rela, relocated, row_after, small_byte}
+use Rattle.linker_final.specs.Final.{IsLinked, Linked, count}
+use Rattle.linker_final.specs.X86ThreadFinal.{LeadsToTheSame, Offsets, object_in}
+use Rattle.linker_laws.proofs.X86Fields.{block_field, long_block_field, long_thread_field, thread_field}
+use Rattle.linker_laws.specs.Schemes.{AreAddresses, symbol_address}
+use Rattle.linker_laws.specs.X86Machine.{extended}
+use Rattle.linker_laws.specs.X86RewriteLaws.{IsRelocatedBy}
+use Rattle.linker_rewriting.specs.Decisions.{decision_at}
+use Rattle.linker_rewriting.specs.Rewritten.{relocation_after}
+use Rattle.linker_rewriting.specs.declared.decisions.Decision.TheVariants.{Rewritten}
+use Rattle.linker_section.specs.Fields.{Composes, IsField, begins_pair, continues, ends_pair, field_end, of_number, of_pair}
+use Rattle.linker_section.specs.Needed.{entry_of}
+use Rattle.linker_section.specs.Relocations.{relocation_in}
+use Rattle.linker_section.specs.Values.{entry_address, is_of_got, offset_at, operands_by, operands_in, operands_of, operands_with}
+use Rattle.linker_section.specs.declared.facts.Addresses.{Addresses}
+use Rattle.linker_section.specs.declared.facts.Symbol.{Symbol}
+use Rattle.linker_section.specs.declared.relocations.Rela.{Rela}
+use Rattle.linker_utils.specs.Architectures.{IsRow, relaxation_rewrite}
+use Rattle.linker_utils.specs.declared.architecture.Relaxation.{Relaxation}
+use Rattle.linker_utils.specs.declared.architecture.Relaxation.TheVariants as relaxations
+use Rattle.linker_utils.specs.declared.elf.Architecture.TheVariants.{X86_64}
+use Rattle.linker_x86_64.specs.declared.rewrites.RelaxationKind.TheVariants as kinds
+
+-- ---- fields that overlap none
+
+-- an offset from the thread pointer composes with nothing
+continues_none : (kind : RelocationKind) → continues kind values.TpOff ≡ false
+continues_none values.AbsoluteSet = refl
+continues_none values.AbsoluteAddition = refl
+continues_none values.AbsoluteSubtraction = refl
+continues_none values.AbsoluteSetWord6 = refl
+continues_none values.AbsoluteAdditionWord6 = refl
+continues_none values.AbsoluteSubtractionWord6 = refl
+continues_none kind = refl
+
+never : false ≡ true → ⊥
+never is = cc
+
+-- a row of so many bytes
+abbrev IsOffsetOf : RelocationKindInfo → Type 0
+IsOffsetOf row =
+    (row.kind ≡ values.TpOff) × (begins_pair row.size row.kind ≡ false) × (ends_pair row.size row.kind ≡ false)
+
+module _ (bytes : List ℕ) (row : RelocationKindInfo) (of : IsOffsetOf row) (other : RelocationKindInfo) where
+  not_first : (i j : ℕ) → Composes bytes i row j other → ⊥
+  not_first i j (of_number same wide on) =
+      never (sym (ap (λ kind. continues kind other.kind) (of.0)) ∙ on)
+  not_first i j (of_pair same next begins ends) = never (sym (of.1) ∙ begins)
+
+  not_second : (i j : ℕ) → Composes bytes j other i row → ⊥
+  not_second i j (of_number same wide on) =
+      never (sym (ap (continues other.kind) (of.0) ∙ continues_none other.kind) ∙ on)
+  not_second i j (of_pair same next begins ends) = never (sym (of.2) ∙ ends)
+
+-- ---- operands
+
+-- the address of a symbol that is defined
+address_is : (addresses : Addresses) (symbol : Symbol) (code weak : ℕ) → is_of_got X86_64 code ≡ false
+    → symbol.is_undefined_weak ≡ false
+    → cond (is_of_got X86_64 code) addresses.got_base (cond symbol.is_undefined_weak weak symbol.address)
+    ≡ symbol.address
+address_is addresses symbol code weak not_of_got strong =
+    cond-false (is_of_got X86_64 code) addresses.got_base (cond symbol.is_undefined_weak weak symbol.address) not_of_got
+    ∙ cond-false symbol.is_undefined_weak weak symbol.address strong
+
+-- an offset in the block with that from the thread pointer
+abbrev counted_from : ℕ → Operands → Operands
+counted_from base o = record o { tls_base = base }
+
+abbrev with_symbol : Operands → ℕ → Operands
+with_symbol o symbol = record o { symbol = symbol }
+
+-- The rows of both, where the second is that of the first counted from elsewhere.
+record AreRows (n : ℕ) (read : ℕ → ℕ) (block thread : RelocationKindInfo) : Type 0 where
+  some : 0 < n
+  lowest : AreLowest n
+  plain : IsPlain n thread
+  of : IsOffsetOf thread
+  alone : (addresses : Addresses) (symbol : Symbol) (r : Rela)
+      → operands_by X86_64 addresses thread r symbol (entry_address addresses symbol (entry_of thread r.addend symbol.is_thread_local))
+      ≡ Ok (operands_with X86_64 addresses thread symbol r 0)
+  origin : (addresses : Addresses) (symbol : Symbol) (r : Rela) (entry : ℕ)
+      → (operands_with X86_64 addresses block symbol r entry).tls_base ≡ addresses.module_origin
+  same : (addresses : Addresses) (symbol : Symbol) (r : Rela) (code entry : ℕ)
+      → is_of_got X86_64 r.code ≡ false → is_of_got X86_64 code ≡ false → symbol.is_undefined_weak ≡ false
+      → value_of thread (counted_from addresses.thread_origin (operands_with X86_64 addresses block symbol r entry))
+      ≡ value_of thread (operands_with X86_64 addresses thread symbol (rela r.offset code r.symbol r.addend) 0)
+  from_block : (o : Operands) → AreAddresses o → (before after : List ℕ) → IsApplied block o before after
+      → sum_64 o.tls_base (read (number_of_bytes n after)) ≡ symbol_address o
+  from_thread : (o : Operands) → AreAddresses o → (before after : List ℕ) → IsApplied thread o before after
+      → sum_64 o.tls_base (read (number_of_bytes n after)) ≡ symbol_address o
+
+short_rows : AreRows 4 extended block_row thread_row
+short_rows =
+    record {
+      some = omega arith;
+      lowest = four_bytes;
+      plain = plain_thread;
+      of = (refl, refl, refl);
+      alone = λ addresses symbol r. refl;
+      origin = λ addresses symbol r entry. refl;
+      same = λ addresses symbol r code entry before after strong.
+          ap (λ x. value_of thread_row (with_symbol (counted_from addresses.thread_origin (operands_with X86_64 addresses block_row symbol r entry)) x))
+          (address_is addresses symbol r.code addresses.module_origin before strong
+          ∙ sym (address_is addresses symbol code addresses.thread_origin after strong));
+      from_block = block_field;
+      from_thread = thread_field;
+    }
+
+long_rows : AreRows 8 (λ offset. offset) long_block_row long_thread_row
+long_rows =
+    record {
+      some = omega arith;
+      lowest = eight_bytes;
+      plain = plain_long_thread;
+      of = (refl, refl, refl);
+      alone = λ addresses symbol r. refl;
+      origin = λ addresses symbol r entry. refl;
+      same = λ addresses symbol r code entry before after strong.
+          ap (λ x. value_of long_thread_row (with_symbol (counted_from addresses.thread_origin (operands_with X86_64 addresses long_block_row symbol r entry)) x))
+          (address_is addresses symbol r.code addresses.module_origin before strong
+          ∙ sym (address_is addresses symbol code addresses.thread_origin after strong));
+      from_block = long_block_field;
+      from_thread = long_thread_field;
+    }
+
+-- ---- one field
+
+-- offsets from where the block begins, and from where the thread pointer points
+same_sum : (image pointed x y a block pointer : ℕ) → image < 2 ^ 64 → pointed < 2 ^ 64
+    → block ≡ sum_64 pointer (difference_64 image pointed)
+    → sum_64 image x ≡ a → sum_64 pointed y ≡ a → sum_64 block x ≡ sum_64 pointer y
+same_sum image pointed x y a block pointer small small' is leads leads' = omega arith
+
+same_address : (n : ℕ) (read : ℕ → ℕ) (image pointed a block pointer : ℕ) (xs ys rest rest' : List ℕ)
+    → image < 2 ^ 64 → pointed < 2 ^ 64 → block ≡ sum_64 pointer (difference_64 image pointed)
+    → xs ≡ rest → ys ≡ rest'
+    → sum_64 image (read (number_of_bytes n rest)) ≡ a → sum_64 pointed (read (number_of_bytes n rest')) ≡ a
+    → sum_64 block (read (number_of_bytes n xs)) ≡ sum_64 pointer (read (number_of_bytes n ys))
+same_address n read image pointed a block pointer xs ys rest rest' small small' is xs_are ys_are leads leads' =
+    ap (λ zs. sum_64 block (read (number_of_bytes n zs))) xs_are
+    ∙ (same_sum image pointed (read (number_of_bytes n rest)) (read (number_of_bytes n rest')) a block pointer small
+    small' is leads leads'
+    ∙ ap (λ zs. sum_64 pointer (read (number_of_bytes n zs))) (sym ys_are))
+
+rest_is : (row : RelocationKindInfo) (o : Operands) (p : ℕ) (before after : List ℕ)
+    (is : IsRelocatedBy row o p before after) → p ≤ length before → drop p after ≡ is.rest
+rest_is row o p before after is inside =
+    ap (drop p) is.whole ∙ drop_at (take p before) is.rest p (length-take-le p before inside)
+
+module _ (n : ℕ) (read : ℕ → ℕ) (block_row thread_row : RelocationKindInfo)
+    (rows : AreRows n read block_row thread_row) (name after : X86_64Relocation)
+    (is_block : x86_64_row name ≡ Some block_row) (is_thread : x86_64_row after ≡ Some thread_row)
+    (name_is : is_of_got X86_64 (code_of (x86_64_name name)) ≡ false)
+    (after_is : is_of_got X86_64 (code_of (x86_64_name after)) ≡ false)
+    (named : IsNamed (x86_64_name after))
+    (l : Linked) (linked : IsLinked l) (x86 : l.setting.architecture ≡ X86_64) (i : ℕ)
+    (chosen : Choice Relaxation ℕ) (below : i < count l)
+    (is_name : IsNameOf x86_64_name (relocation_in l.relocations i).code name)
+    (decided : decision_at l.decisions i ≡ Rewritten chosen)
+    (kind_is : chosen.kind ≡ relaxations.X86_64 kinds.NoOp)
+    (code_is : chosen.relocation ≡ code_of (x86_64_name after)) where
+  abbrev r : Rela
+  r = relocation_in l.relocations i
+
+  abbrev o : ℕ
+  o = r.offset
+
+  abbrev relocation : Rela
+  relocation = rela o chosen.relocation r.symbol r.addend
+
+  r_after : relocation_in l.relocations_after i ≡ relocation
+  r_after =
+      linked.relocations i below
+      ∙ (ap (λ d. relocation_after d r) decided
+      ∙ ap (λ k. rela (offset_after (relaxation_rewrite k) o) chosen.relocation r.symbol (addend_after (relaxation_rewrite k) r.addend)) kind_is)
+
+  row_there : IsRow l.setting.architecture (relocation_in l.relocations_after i).code (Some thread_row)
+  row_there =
+      row_after l linked x86 i below after named thread_row is_thread (ap (λ (x : Rela). x.code) r_after ∙ code_is)
+
+  within : i < length l.relocations_after / 24
+  within = subst (λ m. i < m / 24) (sym linked.as_many) below
+
+  mine : IsField l.setting.architecture l.relocations_after l.rewritten i thread_row
+  mine =
+      let some = rows.some in
+      let len = len_is n thread_row (drop (offset_at l.relocations_after i) l.rewritten) rows.plain in
+      record { is_row = row_there; some = omega (arith, some, len) }
+
+  others_apart : (j : ℕ) (other : RelocationKindInfo) → j < length l.relocations_after / 24
+      → (j ≡ i → ⊥) → IsField l.setting.architecture l.relocations_after l.rewritten j other
+      → (offset_at l.relocations_after i < offset_at l.relocations_after j)
+      ⊎ (field_end l.relocations_after l.rewritten j other ≤ offset_at l.relocations_after i)
+  others_apart j other lj isnt is_field =
+      elim (cases_lt (offset_at l.relocations_after i) (offset_at l.relocations_after j)) [
+        | inl ahead ↦ inl ahead
+        | inr from ↦ elim (cases_lt (offset_at l.relocations_after i) (field_end l.relocations_after l.rewritten j other)) [
+          | inl inside ↦ absurd (overlaps from inside)
+          | inr past ↦ inr past
+        ]
+      ]
+    where
+      overlaps : offset_at l.relocations_after j ≤ offset_at l.relocations_after i
+          → offset_at l.relocations_after i < field_end l.relocations_after l.rewritten j other → ⊥
+      overlaps from inside =
+          let some = mine.some in
+          let behind : offset_at l.relocations_after j < field_end l.relocations_after l.rewritten i thread_row =
+          omega (arith, from, some) in
+          let apart = linked.written.can.apart in
+          elim (cases_lt i j) [
+            | inl less ↦
+                not_first l.relocations_after thread_row rows.of other i j
+                (apart i j thread_row other less lj mine is_field (inside, behind))
+            | inr most ↦
+                not_second l.relocations_after thread_row rows.of other i j
+                (apart j i other thread_row (omega (arith, most, isnt)) within is_field mine (behind, inside))
+          ]
+
+  leads : LeadsToTheSame n read name l i block_row
+  leads symbol is_symbol strong entry block pointer original addresses small is_block_address was =
+      let operands = operands_with X86_64 l.addresses block_row symbol r entry in
+      let image = l.addresses.module_origin in
+      let pointed = l.addresses.thread_origin in
+      let counted = counted_from pointed operands in
+      let written = operands_with X86_64 l.addresses thread_row symbol relocation 0 in
+      let origin : operands.tls_base ≡ image = rows.origin l.addresses symbol r entry in
+      let before_is : is_of_got X86_64 r.code ≡ false = ap (is_of_got X86_64) (sym is_name.code_is) ∙ name_is in
+      let taken : operands_of X86_64 l.addresses l.symbols thread_row relocation ≡ Ok written =
+      ap (operands_in X86_64 l.addresses thread_row relocation) is_symbol ∙ rows.alone l.addresses symbol relocation in
+      let field : IsLeft n thread_row written o l.rewritten l.final =
+      subst (λ (x : Rela). IsLeft n thread_row written x.offset l.rewritten l.final) r_after
+      (left n rows.some rows.lowest l.setting.architecture l.addresses l.relocations_after l.symbols l.rewritten l.final linked.written
+      (small_byte l.final linked.final_bytes) i within thread_row rows.plain row_there written
+      (subst (λ x. operands_of x l.addresses l.symbols thread_row (relocation_in l.relocations_after i) ≡ Ok written) (sym x86)
+      (subst (λ x. operands_of X86_64 l.addresses l.symbols thread_row x ≡ Ok written) (sym r_after) taken))
+      others_apart) in
+      let final_length : length l.final ≡ length l.section = linked.written.same_length ∙ linked.same_length in
+      let rl = linked.same_length in
+      let inside = field.inside in
+      let inside_final : o - 0 + (0 + n) ≤ length l.final = omega (arith, inside, rl, final_length) in
+      let object = object_in l o 0 n in
+      let object_length : length object ≡ length l.final =
+      (put_back_is (o - 0) (0 + n) l.section l.final inside_final (sym final_length)).same_len in
+      let base : IsRelocatedBy thread_row counted o object l.final =
+      relocated n thread_row rows.plain written counted o l.rewritten l.final object field
+      (rows.same l.addresses symbol r chosen.relocation entry before_is (ap (is_of_got X86_64) code_is ∙ after_is) strong)
+      object_length (rl ∙ sym final_length)
+      (λ at outside.
+      back_outside (o - 0) (0 + n) l.section l.final inside_final (sym final_length) at
+      (elim outside [
+        | inl ahead ↦ inl (let e : at < o - 0 = omega (arith, ahead) in e)
+        | inr behind ↦ inr (let e : o - 0 + (0 + n) ≤ at = omega (arith, behind) in e)
+      ])) in
+      let of_object : IsRelocatedBy block_row operands o object original =
+      some_and (λ row. IsRelocatedBy row operands o object original) (x86_64_row name) block_row is_block was in
+      let room : o ≤ length object = omega (arith, inside_final, object_length) in
+      let first : sum_64 image (read (number_of_bytes n of_object.rest)) ≡ symbol_address operands =
+      ap (λ x. sum_64 x (read (number_of_bytes n of_object.rest))) (sym origin)
+      ∙ rows.from_block operands addresses (drop o object) of_object.rest of_object.applied in
+      let second : sum_64 pointed (read (number_of_bytes n base.rest)) ≡ symbol_address operands =
+      rows.from_thread counted
+      (record {
+        symbol = addresses.symbol;
+        place = addresses.place;
+        got_entry = addresses.got_entry;
+        got_base = addresses.got_base;
+        plt_entry = addresses.plt_entry;
+        tls_base = small;
+      })
+      (drop o object) base.rest base.applied in
+      same_address n read image pointed (symbol_address operands) block pointer (drop o original) (drop o l.final)
+      of_object.rest base.rest (subst (λ x. x < 2 ^ 64) origin addresses.tls_base) small is_block_address
+      (rest_is block_row operands o object original of_object room) (rest_is thread_row counted o object l.final base room)
+      first second
+
+-- ---- both lengths
+
+pub offsets : Offsets
+offsets = (
+  λ l linked x86 i chosen below is_name decided.
+      elim (of_table l linked x86 i chosen below decided names.R_X86_64_DTPOFF32 tt is_name) [
+        | inl this ↦
+            leads 4 extended block_row thread_row short_rows names.R_X86_64_DTPOFF32 names.R_X86_64_TPOFF32 refl refl
+            refl refl tt l linked x86 i chosen below is_name decided this.kind_is this.code_is
+        | inr nothing ↦ absurd nothing
+      ],
+  λ l linked x86 i chosen below is_name decided.
+      elim (of_table l linked x86 i chosen below decided names.R_X86_64_DTPOFF64 tt is_name) [
+        | inl this ↦
+            leads 8 (λ offset. offset) long_block_row long_thread_row long_rows names.R_X86_64_DTPOFF64 names.R_X86_64_TPOFF64
+            refl refl refl refl tt l linked x86 i chosen below is_name decided this.kind_is this.code_is
+        | inr nothing ↦ absurd nothing
+      ],
+)

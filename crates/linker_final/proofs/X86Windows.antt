@@ -1,0 +1,448 @@
+-- The window of an instruction or a sequence of x86-64 in the final bytes of a section.
+use Rattle.std.proofs.Common.{◌≡◌, ℕ, ℤ, ◌+◌, ◌-◌, ◌*◌, ◌/◌, ◌^◌, ◌<◌, ◌≤◌, ◌⊎◌, List, ◌++◌, length, take, drop, get_or, sym, ap, subst, ◌∙◌, inl, inr, arith, Option, Some, None, Ok, IsSomeAnd, IsTrue}
+use Rattle.std.proofs.lemmas.Bool.{cases_eq, cases_lt}
+use Rattle.std.proofs.lemmas.List.{length-drop, drop-drop, take-append-drop, ext_get_or, get_or-drop, get_or_past}
+use Rattle.std.proofs.lemmas.List.Elements.{All-append, All-take, All-drop, All-get_or}
+use Rattle.std.specs.Int.{w64, from_le_bytes, cast_unsigned}
+use Rattle.linker_base.specs.Rewrite.{Rewrite, CanRewrite, IsRewritable, rewritten, rewrite_window, offset_after, addend_after}
+use Rattle.linker_base.specs.RewriteWindow.{window_of_rewrite}
+use Rattle.linker_elf.specs.ElfNames.{IsNamed, code_of}
+use Rattle.linker_elf.specs.Relocate.{IsWritten, low_bytes, number_of_bytes, number_written, window_len, size_len}
+use Rattle.linker_elf.specs.Rows.{bytes_row}
+use Rattle.linker_elf.specs.Value.{value_of}
+use Rattle.linker_elf.specs.X86Relocations.{x86_64_name, x86_64_row}
+use Rattle.linker_elf.specs.declared.elf.RelocationKind.TheVariants.{None as NoValue}
+use Rattle.linker_elf.specs.declared.elf.RelocationKindInfo.{RelocationKindInfo}
+use Rattle.linker_elf.specs.declared.elf.choice.Choice.{Choice}
+use Rattle.linker_elf.specs.declared.elf.value.Operands.{Operands}
+use Rattle.linker_elf.specs.declared.x86_64.relocations.X86_64Relocation.{X86_64Relocation}
+use Rattle.linker_elf.specs.declared.x86_64.relocations.X86_64Relocation.TheVariants as names
+use Rattle.linker_final.proofs.Fields.{IsLeft, four_bytes, left, len_is}
+use Rattle.linker_final.proofs.Inner.{HasWindow}
+use Rattle.linker_final.proofs.PlainRows.{IsPlain}
+use Rattle.linker_final.proofs.PutBack.{put_back_is, back_inside, back_outside, back_rewritten, same_windows}
+use Rattle.linker_final.proofs.X86Lawful.{HaveShape}
+use Rattle.linker_final.proofs.X86Patterns.{one_same}
+use Rattle.linker_final.specs.Final.{Linked, IsLinked, AreAlone, AreBytes, count, put_back}
+use Rattle.linker_laws.specs.X86RewriteLaws.{IsRelocated, IsRelocatedBy}
+use Rattle.linker_rewriting.specs.Decisions.{decision_at, start_at, written_end_at, start_by, written_end_by}
+use Rattle.linker_rewriting.specs.Rewritten.{IsDone, IsMade, relocation_after}
+use Rattle.linker_rewriting.specs.declared.decisions.Decision.{Decision}
+use Rattle.linker_rewriting.specs.declared.decisions.Decision.TheVariants.{Rewritten}
+use Rattle.linker_section.proofs.Fronts.{HaveSameWindow, accepted_same}
+use Rattle.linker_section.proofs.Rows.{one_info}
+use Rattle.linker_section.specs.Fields.{IsField, field_end, field_len}
+use Rattle.linker_section.specs.Relocations.{relocation_in}
+use Rattle.linker_section.specs.Sections.{IsInNoField, IsRowValue}
+use Rattle.linker_section.specs.Values.{operands_of, offset_at}
+use Rattle.linker_section.specs.declared.relocations.Rela.{Rela}
+use Rattle.linker_utils.specs.Architectures.{IsRow, relaxation_rewrite}
+use Rattle.linker_utils.specs.declared.architecture.Relaxation.{Relaxation}
+use Rattle.linker_utils.specs.declared.architecture.Relaxation.TheVariants as relaxations
+use Rattle.linker_utils.specs.declared.elf.Architecture.TheVariants.{X86_64}
+use Rattle.linker_x86_64.specs.X86Rewrites.{x86_64_rewrite, x86_64_matches, x86_64_originals, Original, is_one_at}
+use Rattle.linker_x86_64.specs.declared.rewrites.RelaxationKind.{RelaxationKind}
+
+-- ---- lists and numbers
+
+-- what a window leaves of two lists that are the same elsewhere
+same_front : (p : ℕ) (xs ys : List ℕ) → p ≤ length xs → length ys ≡ length xs
+    → ((at : ℕ) → at < p → get_or xs at 0 ≡ get_or ys at 0) → take p xs ≡ take p ys
+same_front p xs ys inside long same =
+    same_windows 0 p xs ys (omega (arith, inside)) long (λ at from below. same at (omega (arith, below)))
+
+same_rest : (p : ℕ) (xs ys : List ℕ) → length ys ≡ length xs
+    → ((at : ℕ) → p ≤ at → get_or xs at 0 ≡ get_or ys at 0) → drop p xs ≡ drop p ys
+same_rest p xs ys long same =
+    let lx = length-drop p xs in
+    let ly = length-drop p ys in
+    ext_get_or 0 (drop p xs) (drop p ys) (omega (arith, lx, ly, long))
+    (λ i below. get_or-drop p xs i 0 ∙ (same (p + i) (omega arith) ∙ sym (get_or-drop p ys i 0)))
+
+small_number : (bytes : List ℕ) → ((i : ℕ) → get_or bytes i 0 < 256) → from_le_bytes w64 bytes < 2 ^ 64
+small_number bytes small =
+    let b0 = small 0 in let b1 = small 1 in let b2 = small 2 in let b3 = small 3 in
+    let b4 = small 4 in let b5 = small 5 in let b6 = small 6 in let b7 = small 7 in
+    omega (arith, b0, b1, b2, b3, b4, b5, b6, b7)
+
+pub small_byte : (bytes : List ℕ) → AreBytes bytes → (i : ℕ) → get_or bytes i 0 < 256
+small_byte bytes are i =
+    elim (cases_lt i (length bytes)) [
+      | inl below ↦ All-get_or (λ b. b < 2 ^ 8) bytes i 0 below are
+      | inr past ↦ subst (λ b. b < 256) (sym (get_or_past bytes i 0 past)) (omega arith)
+    ]
+
+-- ---- a relocation and its rewrite
+
+abbrev pub rela : ℕ → ℕ → ℕ → ℤ → Rela
+rela offset code symbol addend = record { offset = offset; code = code; symbol = symbol; addend = addend }
+
+-- what a decision with a rewrite makes of a relocation, and its window
+after_by : (chosen : Choice Relaxation ℕ) (made : Rewrite) (r : Rela)
+    → relaxation_rewrite chosen.kind ≡ Some made
+    → relocation_after (Rewritten chosen) r
+    ≡ rela (made.offset r.offset) chosen.relocation r.symbol (made.addend r.addend)
+after_by chosen made r is =
+    ap (λ q. rela (offset_after q r.offset) chosen.relocation r.symbol (addend_after q r.addend)) is
+
+start_is : (decision : Decision) (chosen : Choice Relaxation ℕ) (made : Rewrite) (o : ℕ)
+    → decision ≡ Rewritten chosen → relaxation_rewrite chosen.kind ≡ Some made
+    → start_by decision o ≡ o - made.back
+start_is decision chosen made o decided is =
+    ap (λ d. start_by d o) decided
+    ∙ ap (λ q. o - (window_of_rewrite q).back) is
+
+end_is : (decision : Decision) (chosen : Choice Relaxation ℕ) (made : Rewrite) (o : ℕ)
+    → decision ≡ Rewritten chosen → relaxation_rewrite chosen.kind ≡ Some made
+    → written_end_by decision o ≡ o - made.back + made.len
+end_is decision chosen made o decided is =
+    ap (λ d. written_end_by d o) decided
+    ∙ ap (λ q. o - (window_of_rewrite q).back + (window_of_rewrite q).len) is
+
+-- ---- the field in bytes that were put back
+
+-- Bytes agree with the final ones outside of the field, and with those before the write in it.
+module _ (n : ℕ) (row : RelocationKindInfo) (plain : IsPlain n row) (operands was : Operands) (p : ℕ)
+    (before final bytes : List ℕ) (field : IsLeft n row operands p before final)
+    (same_value : value_of row was ≡ value_of row operands)
+    (long : length bytes ≡ length final) (same_length : length before ≡ length final)
+    (outside : (at : ℕ) → (at < p) ⊎ (p + n ≤ at) → get_or bytes at 0 ≡ get_or final at 0) where
+  pub relocated : IsRelocatedBy row was p bytes final
+  relocated =
+      let v = field.value in
+      let inside = field.inside in
+      let lb = length-drop p bytes in
+      let rest : drop n (drop p final) ≡ drop n (drop p bytes) =
+      drop-drop n p final
+      ∙ (sym (same_rest (p + n) bytes final (sym long) (λ at from. outside at (inr from)))
+      ∙ sym (drop-drop n p bytes)) in
+      let number : low_bytes n (cast_unsigned w64 v)
+      ≡ low_bytes n (number_written row.kind v (number_of_bytes n (drop p bytes))) =
+      ap (low_bytes n) (sym (plain.writes v (number_of_bytes n (drop p bytes)))) in
+      let written : drop p final
+      ≡ low_bytes n (number_written row.kind v (number_of_bytes n (drop p bytes))) ++ drop n (drop p bytes) =
+      sym (take-append-drop n (drop p final))
+      ∙ (ap (λ xs. xs ++ drop n (drop p final)) (field.field ∙ number)
+      ∙ ap (λ xs. low_bytes n (number_written row.kind v (number_of_bytes n (drop p bytes))) ++ xs) rest) in
+      let wide : window_len row ≡ n = ap size_len plain.size in
+      record {
+        rest = drop p final;
+        applied = record {
+          value = v;
+          value_is = same_value ∙ field.value_is;
+          accepted = accepted_same row v (drop p before) (drop p bytes)
+              (subst (λ size. HaveSameWindow size (drop p before) (drop p bytes)) (sym plain.size) tt)
+              (omega (arith, wide, lb, inside, long, same_length)) field.accepted;
+          written = subst (λ size. IsWritten size row.kind v (drop p bytes) (drop p final)) (sym plain.size) written;
+        };
+        whole = sym (take-append-drop p final)
+            ∙ ap (λ xs. xs ++ drop p final)
+            (same_front p final bytes (omega (arith, inside, same_length)) long
+            (λ at below. sym (outside at (inl below))));
+      }
+
+-- ---- codes without a field
+
+abbrev of_row : RelocationKindInfo → Option RelocationKindInfo → RelocationKindInfo
+of_row other None = other
+of_row other (Some row) = row
+
+-- a relocation of no type has none
+pub no_field : (l : Linked) → l.setting.architecture ≡ X86_64 → (j : ℕ)
+    → (relocation_in l.relocations_after j).code ≡ 0 → (row : RelocationKindInfo)
+    → IsField l.setting.architecture l.relocations_after l.rewritten j row → ⊥
+no_field l x86 j code row field =
+    let there : IsRow X86_64 (relocation_in l.relocations_after j).code (Some row) =
+    subst (λ x. IsRow x (relocation_in l.relocations_after j).code (Some row)) x86 field.is_row in
+    let same : there.name ≡ names.R_X86_64_NONE = there.is_name.named names.R_X86_64_NONE tt (sym code) in
+    let is : Some row ≡ Some (bytes_row NoValue 0) = there.value_is ∙ ap x86_64_row same in
+    let row_is : row ≡ bytes_row NoValue 0 = ap (of_row row) is in
+    let some : 0 < field_len (bytes_row NoValue 0) (drop (offset_at l.relocations_after j) l.rewritten) =
+    subst (λ x. 0 < field_len x (drop (offset_at l.relocations_after j) l.rewritten)) row_is field.some in
+    absurd (omega (arith, some))
+
+-- ---- codes of a name
+
+row_by : (l : Linked) → l.setting.architecture ≡ X86_64 → (code : ℕ) (name : X86_64Relocation)
+    → IsNamed (x86_64_name name) → (row : RelocationKindInfo) → x86_64_row name ≡ Some row
+    → code ≡ code_of (x86_64_name name)
+    → (found : _) → IsRow l.setting.architecture code found → IsRow l.setting.architecture code (Some row)
+row_by l x86 code name named row is code_is found has =
+    let there : IsRow X86_64 code found = subst (λ x. IsRow x code found) x86 has in
+    let same : there.name ≡ name = there.is_name.named name named (sym code_is) in
+    let mine : IsRow X86_64 code (Some row) =
+    record { name = there.name; is_name = there.is_name; value_is = sym (ap x86_64_row same ∙ is) } in
+    subst (λ x. IsRow x code (Some row)) (sym x86) mine
+
+row_in : (l : Linked) → l.setting.architecture ≡ X86_64 → (r : Rela) (name : X86_64Relocation)
+    → IsNamed (x86_64_name name) → (row : RelocationKindInfo) → x86_64_row name ≡ Some row
+    → r.code ≡ code_of (x86_64_name name)
+    → (found : _) → IsRowValue l.setting.architecture l.addresses l.relocations_after l.symbols r (Ok found)
+    → IsRow l.setting.architecture r.code (Some row)
+row_in l x86 r name named row is code_is (Some one) has =
+    row_by l x86 r.code name named row is code_is (Some (one.0)) has.is_row
+row_in l x86 r name named row is code_is None marked =
+    row_by l x86 r.code name named row is code_is (marked.0) (marked.1)
+
+-- a relocation of a code, once the section is written
+pub row_after : (l : Linked) → IsLinked l → l.setting.architecture ≡ X86_64 → (i : ℕ) → i < count l
+    → (name : X86_64Relocation) → IsNamed (x86_64_name name)
+    → (row : RelocationKindInfo) → x86_64_row name ≡ Some row
+    → (relocation_in l.relocations_after i).code ≡ code_of (x86_64_name name)
+    → IsRow l.setting.architecture (relocation_in l.relocations_after i).code (Some row)
+row_after l linked x86 i below name named row is code_is =
+    row_in l x86 (relocation_in l.relocations_after i) name named row is code_is (linked.written.can.found i)
+    (linked.written.can.are_found i (subst (λ n. i < n / 24) (sym linked.as_many) below))
+
+-- ---- one rewrite
+
+-- The relocation at an index is rewritten, and no other has a byte of the window.
+pub record HasRewrite (l : Linked) (i back end : ℕ) (kind : RelaxationKind) : Type 0 where
+  pub linked : IsLinked l
+  pub x86 : l.setting.architecture ≡ X86_64
+  pub chosen : Choice Relaxation ℕ
+  pub below : i < count l
+  pub decided : decision_at l.decisions i ≡ Rewritten chosen
+  pub kind_is : chosen.kind ≡ relaxations.X86_64 kind
+  pub window : HasWindow back end (x86_64_rewrite kind)
+  pub matches : x86_64_matches kind l.section (relocation_in l.relocations i).offset
+  pub room : (back ≤ (relocation_in l.relocations i).offset)
+      × ((relocation_in l.relocations i).offset + end ≤ length l.section)
+  pub alone : AreAlone l i ((relocation_in l.relocations i).offset - back)
+      ((relocation_in l.relocations i).offset + end)
+
+module _ (l : Linked) (i back end : ℕ) (kind : RelaxationKind) (is : HasRewrite l i back end kind)
+  where
+    abbrev linked : IsLinked l
+    linked = is.linked
+
+    abbrev chosen : Choice Relaxation ℕ
+    chosen = is.chosen
+
+    abbrev r : Rela
+    r = relocation_in l.relocations i
+
+    abbrev o : ℕ
+    o = r.offset
+
+    abbrev start : ℕ
+    start = o - back
+
+    abbrev len : ℕ
+    len = back + end
+
+    abbrev w : HasWindow back end (x86_64_rewrite kind)
+    w = is.window
+
+    made_is : relaxation_rewrite is.chosen.kind ≡ Some w.made
+    made_is = ap relaxation_rewrite is.kind_is ∙ w.is
+
+    can : IsRewritable w.made l.section o
+    can = subst (λ q. CanRewrite q l.section o) w.is (is.matches.0)
+
+    final_length : length l.final ≡ length l.section
+    final_length = linked.written.same_length ∙ linked.same_length
+
+    -- the relocation after
+    pub r_after : relocation_in l.relocations_after i
+        ≡ rela (w.made.offset o) chosen.relocation r.symbol (w.made.addend r.addend)
+    r_after =
+        linked.relocations i is.below
+        ∙ (ap (λ d. relocation_after d r) is.decided ∙ after_by chosen w.made r made_is)
+
+    pub within_after : i < length l.relocations_after / 24
+    within_after = subst (λ n. i < n / 24) (sym linked.as_many) is.below
+
+    -- the window
+    made_there : rewrite_window w.made l.rewritten o ≡ w.made.bytes (rewrite_window w.made l.section o)
+    made_there =
+        subst (λ q. IsMade q o l.section l.rewritten) made_is
+        (subst (λ d. IsDone d o l.section l.rewritten) is.decided (linked.done i is.below))
+
+    kept : (at : ℕ) → start ≤ at → at < start + len
+        → (at < o - w.inner.back) ⊎ (o - w.inner.back + w.inner.len ≤ at)
+        → get_or l.rewritten at 0 ≡ get_or l.section at 0
+    kept at from less outside =
+        let starts = can.starts in
+        let back = is.room.0 in
+        let window = w.outer o at starts back from outside in
+        linked.others at (λ j lj. elim (cases_eq j i) [
+          | inl same ↦ subst (λ k. (at < start_at l.relocations l.decisions k) ⊎ (written_end_at l.relocations l.decisions k ≤ at)) (sym same)
+              (elim window [
+                | inl ahead ↦ inl (subst (λ x. at < x) (sym (start_is (decision_at l.decisions i) chosen w.made o is.decided made_is)) ahead)
+                | inr behind ↦ inr (subst (λ x. x ≤ at) (sym (end_is (decision_at l.decisions i) chosen w.made o is.decided made_is)) behind)
+              ])
+          | inr isnt ↦ (is.alone j at lj isnt from (omega (arith, less, back))).0
+        ])
+
+    abbrev object : List ℕ
+    object = put_back start len l.section l.final
+
+    abbrev between : List ℕ
+    between = put_back start len l.rewritten l.final
+
+    inside_final : start + len ≤ length l.final
+    inside_final = let a = is.room.0 in let b = is.room.1 in let c = final_length in omega (arith, a, b, c)
+
+    object_rewritten : rewritten (x86_64_rewrite kind) object o ≡ between
+    object_rewritten =
+        let a = is.room.0 in
+        let lo = (put_back_is start len l.section l.final inside_final (sym final_length)).same_len in
+        let ends = can.ends in
+        let low = w.back in
+        let high = w.ends in
+        let fl = final_length in
+        ap (λ q. rewritten q object o) w.is
+        ∙ (w.same object o can.starts (omega (arith, ends, lo, fl))
+        ∙ back_rewritten start len w.inner o l.section l.rewritten l.final inside_final (sym fl)
+        (linked.same_length ∙ sym fl) (omega (arith, low, a)) (omega (arith, low, high, a))
+        (w.same_made l.section l.rewritten o can.starts ends linked.same_length made_there) kept)
+
+    object_same : (at : ℕ) → start ≤ at → at < o + end → get_or l.section at 0 ≡ get_or object at 0
+    object_same at from less =
+        let a = is.room.0 in
+        sym (back_inside start len l.section l.final inside_final (sym final_length) at from (omega (arith, a, less)))
+
+    object_length : length object ≡ length l.section
+    object_length = (put_back_is start len l.section l.final inside_final (sym final_length)).same_len ∙ final_length
+
+    -- what stands there in the section does in the object's bytes
+    pub object_has : (rs : List Original) → HaveShape back end rs → IsTrue (is_one_at rs l.section o)
+        → IsTrue (is_one_at rs object o)
+    object_has rs shape there =
+        one_same back end o l.section object object_length (is.room.0) object_same rs shape there
+
+    pub object_matches : IsTrue (is_one_at (x86_64_originals kind) object o)
+        → x86_64_matches kind object o
+    object_matches there = (
+      subst (λ q. CanRewrite q object o) (sym w.is)
+          (record {
+            starts = can.starts;
+            ends = subst (λ n. o - w.made.back + w.made.len ≤ n) (sym object_length) can.ends;
+            admitted = w.admits (rewrite_window w.made object o);
+          }),
+      there,
+    )
+
+    pub object_bytes : AreBytes object
+    object_bytes =
+        All-append (λ b. b < 2 ^ 8) (take start l.final ++ take len (drop start l.section)) (drop (start + len) l.final)
+        (All-append (λ b. b < 2 ^ 8) (take start l.final) (take len (drop start l.section))
+        (All-take (λ b. b < 2 ^ 8) start l.final linked.final_bytes)
+        (All-take (λ b. b < 2 ^ 8) len (drop start l.section) (All-drop (λ b. b < 2 ^ 8) start l.section linked.section_bytes)))
+        (All-drop (λ b. b < 2 ^ 8) (start + len) l.final linked.final_bytes)
+
+    pub offset_small : o < 2 ^ 64
+    offset_small =
+        let entry = take 24 (drop (i * 24) l.relocations) in
+        small_number entry (small_byte entry
+        (All-take (λ b. b < 2 ^ 8) 24 (drop (i * 24) l.relocations) (All-drop (λ b. b < 2 ^ 8) (i * 24) l.relocations linked.relocation_bytes)))
+
+    -- ---- fields in the window
+
+    apart_by : (j : ℕ) → j < length l.relocations_after / 24 → (j ≡ i → ⊥) → (at : ℕ) → start ≤ at
+        → at < o + end → (row : RelocationKindInfo)
+        → IsField l.setting.architecture l.relocations_after l.rewritten j row
+        → (at < offset_at l.relocations_after j) ⊎ (field_end l.relocations_after l.rewritten j row ≤ at)
+    apart_by j lj isnt at from less row is_field =
+        (is.alone j at (subst (λ n. j < n / 24) linked.as_many lj) isnt from less).1 row is_field
+
+    -- a byte that the relocation after has not
+    in_no_field : (at : ℕ) → start ≤ at → at < o + end
+        → ((row : RelocationKindInfo) → IsField l.setting.architecture l.relocations_after l.rewritten i row
+        → (at < offset_at l.relocations_after i) ⊎ (field_end l.relocations_after l.rewritten i row ≤ at))
+        → IsInNoField l.setting.architecture l.relocations_after l.rewritten (length l.relocations_after / 24) at
+    in_no_field at from less own j row lj is_field =
+        elim (cases_eq j i) [
+          | inl same ↦ subst (λ k. (at < offset_at l.relocations_after k) ⊎ (field_end l.relocations_after l.rewritten k row ≤ at)) (sym same)
+              (own row (subst (λ k. IsField l.setting.architecture l.relocations_after l.rewritten k row) same is_field))
+          | inr isnt ↦ apart_by j lj isnt at from less row is_field
+        ]
+
+    between_same : (at : ℕ)
+        → (start ≤ at → at < o + end → (row : RelocationKindInfo)
+        → IsField l.setting.architecture l.relocations_after l.rewritten i row
+        → (at < offset_at l.relocations_after i) ⊎ (field_end l.relocations_after l.rewritten i row ≤ at))
+        → get_or between at 0 ≡ get_or l.final at 0
+    between_same at own =
+        let fl = final_length in
+        let a0 = is.room.0 in
+        let mid = linked.same_length ∙ sym fl in
+        elim (cases_lt at start) [
+          | inl ahead ↦ back_outside start len l.rewritten l.final inside_final mid at (inl ahead)
+          | inr from ↦ elim (cases_lt at (start + len)) [
+            | inl less ↦
+                let below : at < o + end = omega (arith, less, a0) in
+                back_inside start len l.rewritten l.final inside_final mid at from less
+                ∙ sym (linked.written.others at (in_no_field at from below (own from below)))
+            | inr behind ↦ back_outside start len l.rewritten l.final inside_final mid at (inr behind)
+          ]
+        ]
+
+    between_length : length between ≡ length l.final
+    between_length =
+        (put_back_is start len l.rewritten l.final inside_final (linked.same_length ∙ sym final_length)).same_len
+
+    -- ---- with no relocation after
+
+    pub unrelocated : is.chosen.relocation ≡ 0 → rewritten (x86_64_rewrite kind) object o ≡ l.final
+    unrelocated code =
+        let none : (relocation_in l.relocations_after i).code ≡ 0 = ap (λ (x : Rela). x.code) r_after ∙ code in
+        object_rewritten
+        ∙ ext_get_or 0 between l.final between_length
+        (λ at below. between_same at (λ from less row is_field. absurd (no_field l is.x86 i none row is_field)))
+
+    -- ---- with one, whose value is written
+
+    pub relocated_after : (after : X86_64Relocation) (row : RelocationKindInfo) → IsPlain 4 row
+        → x86_64_row after ≡ Some row → IsNamed (x86_64_name after)
+        → is.chosen.relocation ≡ code_of (x86_64_name after) → (taken : Operands)
+        → operands_of X86_64 l.addresses l.symbols row (rela (w.made.offset o) is.chosen.relocation r.symbol (w.made.addend r.addend))
+        ≡ Ok taken
+        → start ≤ w.made.offset o → w.made.offset o + 4 ≤ o + end
+        → (operands : Operands) → value_of row operands ≡ value_of row taken
+        → IsRelocated after operands (offset_after (x86_64_rewrite kind) o)
+        (rewritten (x86_64_rewrite kind) object o) l.final
+    relocated_after after row plain row_is named code_is taken taken_is low high operands same_value =
+        let p = w.made.offset o in
+        let field : IsLeft 4 row taken p l.rewritten l.final =
+        subst (λ (x : Rela). IsLeft 4 row taken x.offset l.rewritten l.final) r_after
+        (left 4 (omega arith) four_bytes l.setting.architecture l.addresses l.relocations_after l.symbols l.rewritten l.final linked.written
+        (small_byte l.final linked.final_bytes) i within_after row plain row_there taken
+        (subst (λ x. operands_of x l.addresses l.symbols row (relocation_in l.relocations_after i) ≡ Ok taken) (sym is.x86)
+        (subst (λ x. operands_of X86_64 l.addresses l.symbols row x ≡ Ok taken) (sym r_after) taken_is))
+        others_apart) in
+        let base = relocated 4 row plain taken operands p l.rewritten l.final between field same_value
+        between_length (linked.same_length ∙ sym final_length)
+        (λ at outside. between_same at (λ from less other is_field. own_field at outside other is_field)) in
+        subst (λ q. IsSomeAnd q (λ row. IsRelocatedBy row operands (offset_after (x86_64_rewrite kind) o) (rewritten (x86_64_rewrite kind) object o) l.final)) (sym row_is)
+        (subst (λ xs. IsRelocatedBy row operands (offset_after (x86_64_rewrite kind) o) xs l.final) (sym object_rewritten)
+        (subst (λ q. IsRelocatedBy row operands (offset_after q o) between l.final) (sym w.is) base))
+      where
+        row_there : IsRow l.setting.architecture (relocation_in l.relocations_after i).code (Some row)
+        row_there =
+            row_after l linked is.x86 i is.below after named row row_is
+            (ap (λ (x : Rela). x.code) r_after ∙ code_is)
+
+        others_apart : (j : ℕ) (other : RelocationKindInfo) → j < length l.relocations_after / 24
+            → (j ≡ i → ⊥)
+            → IsField l.setting.architecture l.relocations_after l.rewritten j other
+            → (offset_at l.relocations_after i < offset_at l.relocations_after j)
+            ⊎ (field_end l.relocations_after l.rewritten j other ≤ offset_at l.relocations_after i)
+        others_apart j other lj isnt is_field =
+            subst (λ (x : Rela). (x.offset < offset_at l.relocations_after j) ⊎ (field_end l.relocations_after l.rewritten j other ≤ x.offset)) (sym r_after)
+            (apart_by j lj isnt (w.made.offset o) low (omega (arith, high)) other is_field)
+
+        own_field : (at : ℕ) → (at < w.made.offset o) ⊎ (w.made.offset o + 4 ≤ at) → (other : RelocationKindInfo)
+            → IsField l.setting.architecture l.relocations_after l.rewritten i other
+            → (at < offset_at l.relocations_after i) ⊎ (field_end l.relocations_after l.rewritten i other ≤ at)
+        own_field at outside other is_field =
+            let same : other ≡ row = one_info l.setting.architecture (relocation_in l.relocations_after i).code other row is_field.is_row row_there in
+            let offset : offset_at l.relocations_after i ≡ w.made.offset o = ap (λ (x : Rela). x.offset) r_after in
+            let long : field_len other (drop (offset_at l.relocations_after i) l.rewritten) ≡ 4 =
+            ap (λ x. field_len x (drop (offset_at l.relocations_after i) l.rewritten)) same
+            ∙ len_is 4 row (drop (offset_at l.relocations_after i) l.rewritten) plain in
+            elim outside [
+              | inl ahead ↦ inl (omega (arith, ahead, offset))
+              | inr behind ↦ inr (omega (arith, behind, offset, long))
+            ]

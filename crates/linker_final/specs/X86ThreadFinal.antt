@@ -1,0 +1,233 @@
+-- x86-64: in the final bytes of a section the sequences for thread-local variables do what the object's
+-- do with the values of their relocations (x86-64 psABI, "ELF Handling For Thread-Local Storage").
+use Rattle.std.specs.Prelude.{◌≡◌, ◌≢◌, ℕ, ◌+◌, ◌-◌, ◌^◌, ◌<◌, ◌≤◌, Bool, true, false, ⊤, neg_ℤ, pos}
+use Rattle.std.specs.Prelude.{List, drop, Option, Some, None, IsSomeAnd, slice_get}
+use Rattle.linker_elf.specs.ElfNames.{IsNameOf}
+use Rattle.linker_elf.specs.Relocate.{number_of_bytes}
+use Rattle.linker_elf.specs.Value.{difference_64, sum_64}
+use Rattle.linker_elf.specs.X86Relocations.{x86_64_name, x86_64_row}
+use Rattle.linker_elf.specs.declared.elf.RelocationKindInfo.{RelocationKindInfo}
+use Rattle.linker_elf.specs.declared.elf.choice.Choice.{Choice}
+use Rattle.linker_elf.specs.declared.elf.value.Operands.{Operands}
+use Rattle.linker_elf.specs.declared.x86_64.relocations.X86_64Relocation.{X86_64Relocation}
+use Rattle.linker_elf.specs.declared.x86_64.relocations.X86_64Relocation.TheVariants as names
+use Rattle.linker_final.specs.Final.{AreAlone, HasNoByte, IsLinked, Linked, count, put_back}
+use Rattle.linker_laws.specs.Schemes.{AreAddresses}
+use Rattle.linker_laws.specs.X86Machine.{State, extended, load, step}
+use Rattle.linker_laws.specs.X86RewriteLaws.{IsRelocated, thread_offset}
+use Rattle.linker_laws.specs.X86ThreadLaws.{AgreeAfterCall, AgreeBut, Changes, EndAlike, HasDescriptor}
+use Rattle.linker_laws.specs.X86ThreadLaws.{HasThreadPointer, IsDescriptorCall, ReachTheSame, WritesNothing}
+use Rattle.linker_laws.specs.X86ThreadLaws.{also_register, behind_call, reg_after_rex, reg_after_rex2}
+use Rattle.linker_rewriting.specs.Decisions.{decision_at}
+use Rattle.linker_rewriting.specs.declared.decisions.Decision.TheVariants.{Rewritten}
+use Rattle.linker_section.specs.Relocations.{relocation_in}
+use Rattle.linker_section.specs.Values.{operands_with}
+use Rattle.linker_section.specs.declared.facts.Symbol.{Symbol}
+use Rattle.linker_utils.specs.declared.architecture.Relaxation.{Relaxation}
+use Rattle.linker_utils.specs.declared.architecture.Relaxation.TheVariants as relaxations
+use Rattle.linker_utils.specs.declared.elf.Architecture.TheVariants.{X86_64}
+use Rattle.linker_x86_64.specs.declared.rewrites.RelaxationKind.TheVariants as kinds
+
+-- the object's bytes from so many before an offset to so many behind it, in their place in the final
+-- section
+abbrev pub object_in : Linked → ℕ → ℕ → ℕ → List ℕ
+object_in l o back end = put_back (o - back) (back + end) l.section l.final
+
+-- no rewrite and no field of a relocation has a byte from a start up, below an end, but those at an
+-- index and at the next one
+abbrev pub AreAloneWithNext : Linked → ℕ → ℕ → ℕ → Type 0
+AreAloneWithNext l i start end =
+    (j at : ℕ) → j < count l → j ≢ i → j ≢ i + 1 → start ≤ at → at < end → HasNoByte l j at
+
+-- a rewrite leaves an instruction that reads the variable's offset from a GOT entry
+abbrev pub reads_entry : Relaxation → Bool
+reads_entry (relaxations.X86_64 kinds.TlsGdToInitialExec) = true
+reads_entry (relaxations.X86_64 kinds.TlsDescToInitialExec) = true
+reads_entry kind = false
+
+-- the symbol's entry holds it
+abbrev pub EntryHolds : Bool → Symbol → Operands → State → Type 0
+EntryHolds true symbol operands s =
+    (symbol.thread_entry < 2 ^ 64) × (load 8 s symbol.thread_entry ≡ thread_offset operands)
+EntryHolds false symbol operands s = ⊤
+
+-- of each relocation of a name that is rewritten
+abbrev pub EachRewritten : X86_64Relocation → (Linked → ℕ → Choice Relaxation ℕ → Type 0) → Type 0
+EachRewritten name Holds =
+    (l : Linked) → IsLinked l → l.setting.architecture ≡ X86_64
+    → (i : ℕ) (chosen : Choice Relaxation ℕ) → i < count l
+    → IsNameOf x86_64_name (relocation_in l.relocations i).code name
+    → decision_at l.decisions i ≡ Rewritten chosen → Holds l i chosen
+
+-- ---- calls of `__tls_get_addr`
+
+-- A `lea` of the address of a GOT entry and a call, which are rewritten: how many bytes the `lea` has
+-- before its field, how many the call has, and how many instructions are left of them.
+pub record CallSequence : Type 0 where
+  pub back : ℕ
+  pub call : ℕ
+  pub count : ℕ
+
+abbrev pub sequence : ℕ → ℕ → ℕ → Option CallSequence
+sequence back call count = Some (record { back = back; call = call; count = count })
+
+-- the sequences of general-dynamic, by what becomes of them
+abbrev pub general_dynamic : Relaxation → Option CallSequence
+general_dynamic (relaxations.X86_64 kinds.TlsGdToLocalExec) = sequence 4 8 2
+general_dynamic (relaxations.X86_64 kinds.TlsGdToInitialExec) = sequence 4 8 2
+general_dynamic (relaxations.X86_64 kinds.TlsGdToLocalExecLarge) = sequence 3 15 3
+general_dynamic kind = None
+
+-- those of local-dynamic
+abbrev pub local_dynamic : Relaxation → Option CallSequence
+local_dynamic (relaxations.X86_64 kinds.TlsLdToLocalExec) = sequence 3 5 1
+local_dynamic (relaxations.X86_64 kinds.TlsLdToLocalExecNoPlt) = sequence 3 6 1
+local_dynamic (relaxations.X86_64 kinds.TlsLdToLocalExec64) = sequence 3 15 2
+local_dynamic kind = None
+
+-- From any state before the `lea` of the relocation at an index, where the called function returns the
+-- variable's address for the GOT's entry at an address, the final bytes end as the object's with the
+-- relocation's value do when the function has returned.
+abbrev pub AddressIsTheSame : Linked → ℕ → Choice Relaxation ℕ → CallSequence → RelocationKindInfo
+    → Type 0
+AddressIsTheSame l i chosen q row =
+    let r = relocation_in l.relocations i in
+    (symbol : Symbol) → slice_get l.symbols r.symbol ≡ Some symbol
+    → (entry : ℕ) (s : State) (changed : ℕ → Bool) (returned : ℕ → ℕ) (original : List ℕ)
+    → let operands = operands_with X86_64 l.addresses row symbol r entry in
+    AreAddresses operands
+    → s.ip ≡ difference_64 operands.place q.back
+    → HasThreadPointer s
+    → returned entry ≡ sum_64 s.fs (thread_offset operands)
+    → EntryHolds (reads_entry chosen.kind) symbol operands s
+    → IsRelocated names.R_X86_64_TLSGD operands r.offset
+    (object_in l r.offset q.back (4 + q.call)) original
+    → EndAlike q.call q.count (drop (r.offset - q.back) original) (drop (r.offset - q.back) l.final)
+    s changed returned (AgreeAfterCall changed)
+
+-- The same where it returns the address of the module's block, whatever the relocation's symbol is.
+-- rax is then the block's address in the one, and the thread pointer in the other.
+abbrev pub BlockIsReplaced : Linked → ℕ → CallSequence → RelocationKindInfo → Type 0
+BlockIsReplaced l i q row =
+    let r = relocation_in l.relocations i in
+    (symbol : Symbol) (entry : ℕ) (s : State) (changed : ℕ → Bool) (returned : ℕ → ℕ)
+    (original : List ℕ)
+    → let operands = operands_with X86_64 l.addresses row symbol r entry in
+    AreAddresses operands → l.addresses.thread_origin < 2 ^ 64 → r.addend ≡ neg_ℤ (pos 4)
+    → s.ip ≡ difference_64 operands.place q.back
+    → HasThreadPointer s
+    → returned entry
+    ≡ sum_64 s.fs (difference_64 l.addresses.module_origin l.addresses.thread_origin)
+    → IsRelocated names.R_X86_64_TLSLD operands r.offset
+    (object_in l r.offset q.back (4 + q.call)) original
+    → EndAlike q.call q.count (drop (r.offset - q.back) original) (drop (r.offset - q.back) l.final)
+    s changed returned
+    (ReachTheSame changed l.addresses.module_origin l.addresses.thread_origin)
+
+-- ---- offsets in the module's block
+
+-- The field of n bytes of the relocation at an index leads from the block's address, in the object's
+-- bytes with the relocation's value, to where it leads in the final ones from the thread pointer. The
+-- symbol isn't an undefined weak one.
+abbrev pub LeadsToTheSame : ℕ → (ℕ → ℕ) → X86_64Relocation → Linked → ℕ → RelocationKindInfo → Type 0
+LeadsToTheSame n read name l i row =
+    let r = relocation_in l.relocations i in
+    (symbol : Symbol) → slice_get l.symbols r.symbol ≡ Some symbol → symbol.is_undefined_weak ≡ false
+    → (entry block pointer : ℕ) (original : List ℕ)
+    → let operands = operands_with X86_64 l.addresses row symbol r entry in
+    AreAddresses operands → l.addresses.thread_origin < 2 ^ 64
+    → block ≡ sum_64 pointer (difference_64 l.addresses.module_origin l.addresses.thread_origin)
+    → IsRelocated name operands r.offset (object_in l r.offset 0 n) original
+    → sum_64 block (read (number_of_bytes n (drop r.offset original)))
+    ≡ sum_64 pointer (read (number_of_bytes n (drop r.offset l.final)))
+
+-- ---- descriptors
+
+-- Two states agree but for some registers, bytes of memory and maybe flags. The `lea` of the relocation
+-- at an index, with n bytes before its field, is executed: in one of them the object's with the
+-- relocation's value, and in the other the final bytes. Then they agree but for its register too, which
+-- has the descriptor's address in the one and the variable's offset in the other.
+abbrev pub LeaDoesTheSame : ℕ → X86_64Relocation → (List ℕ → ℕ) → Linked → ℕ → Choice Relaxation ℕ
+    → RelocationKindInfo → Type 0
+LeaDoesTheSame n name register_of l i chosen row =
+    let r = relocation_in l.relocations i in
+    let object = object_in l r.offset n 4 in
+    (symbol : Symbol) → slice_get l.symbols r.symbol ≡ Some symbol
+    → (entry : ℕ) (s t : State) (c : Changes) (original : List ℕ)
+    → let operands = operands_with X86_64 l.addresses row symbol r entry in
+    AreAddresses operands
+    → s.ip ≡ difference_64 operands.place n
+    → AgreeBut c s t
+    → EntryHolds (reads_entry chosen.kind) symbol operands t
+    → IsRelocated name operands r.offset object original
+    → let x = register_of (drop (r.offset - n) object) in
+    IsSomeAnd (step (drop (r.offset - n) original) s) (λ u.
+    IsSomeAnd (step (drop (r.offset - n) l.final) t) (λ v.
+    AgreeBut (also_register x c) u v × HasDescriptor x operands u v))
+
+-- The call is executed in the one and has returned, and the final bytes in the other, where rax has
+-- those. The states agree again, but for what the called function may change.
+abbrev pub CallDoesTheSame : Linked → ℕ → Type 0
+CallDoesTheSame l i =
+    (operands : Operands) (s t : State) (c changed : Changes) (returned : ℕ → ℕ)
+    → HasDescriptor 0 operands s t → AgreeBut c s t
+    → returned operands.got_entry ≡ thread_offset operands
+    → IsSomeAnd (step (drop (relocation_in l.relocations i).offset l.final) t) (λ v.
+    WritesNothing t v
+    × ((u : State) → IsDescriptorCall 2 changed returned s u → u.fs ≡ s.fs
+    → AgreeBut (behind_call changed s c) u v))
+
+-- ---- the laws
+
+-- Of every call of `__tls_get_addr` for a variable that a linker rewrites. S is an offset of the
+-- thread's. No other rewrite or relocation than the call's has a byte of the sequence.
+abbrev pub GeneralDynamic : Type 0
+GeneralDynamic =
+    EachRewritten names.R_X86_64_TLSGD (λ l i chosen.
+    let o = (relocation_in l.relocations i).offset in
+    IsSomeAnd (general_dynamic chosen.kind) (λ q.
+    AreAloneWithNext l i (o - q.back) (o + (4 + q.call))
+    → IsSomeAnd (x86_64_row names.R_X86_64_TPOFF32) (AddressIsTheSame l i chosen q)))
+
+-- and of every one for a module's block
+abbrev pub LocalDynamic : Type 0
+LocalDynamic =
+    EachRewritten names.R_X86_64_TLSLD (λ l i chosen.
+    let o = (relocation_in l.relocations i).offset in
+    IsSomeAnd (local_dynamic chosen.kind) (λ q.
+    AreAloneWithNext l i (o - q.back) (o + (4 + q.call))
+    → IsSomeAnd (x86_64_row names.R_X86_64_TLSLD) (BlockIsReplaced l i q)))
+
+-- of every offset in the module's block that became one from the thread pointer; one of 32 bits is
+-- sign-extended
+abbrev pub EachOffset : ℕ → (ℕ → ℕ) → X86_64Relocation → Type 0
+EachOffset n read name =
+    EachRewritten name (λ l i chosen.
+    IsSomeAnd (x86_64_row name) (LeadsToTheSame n read name l i))
+
+abbrev pub Offsets : Type 0
+Offsets =
+    EachOffset 4 extended names.R_X86_64_DTPOFF32
+    × EachOffset 8 (λ offset. offset) names.R_X86_64_DTPOFF64
+
+-- of every `lea` of a descriptor's address that a linker rewrites, where no other rewrite or relocation
+-- has a byte of it
+abbrev pub EachLea : ℕ → X86_64Relocation → (List ℕ → ℕ) → Type 0
+EachLea n name register_of =
+    EachRewritten name (λ l i chosen.
+    let o = (relocation_in l.relocations i).offset in
+    AreAlone l i (o - n) (o + 4)
+    → IsSomeAnd (x86_64_row names.R_X86_64_TPOFF32) (LeaDoesTheSame n name register_of l i chosen))
+
+-- with REX and with REX2
+abbrev pub DescriptorAddresses : Type 0
+DescriptorAddresses =
+    EachLea 3 names.R_X86_64_GOTPC32_TLSDESC reg_after_rex
+    × EachLea 4 names.R_X86_64_CODE_4_GOTPC32_TLSDESC reg_after_rex2
+
+-- and of every call of its function
+abbrev pub DescriptorCalls : Type 0
+DescriptorCalls =
+    EachRewritten names.R_X86_64_TLSDESC_CALL (λ l i chosen.
+    let o = (relocation_in l.relocations i).offset in
+    AreAlone l i o (o + 2) → CallDoesTheSame l i)
