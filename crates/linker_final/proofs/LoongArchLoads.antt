@@ -184,4 +184,4 @@ module _ (laws : Laws) (l : Linked) (linked : IsLinked l) (loongarch : l.setting
 pub got_loads : Laws → GotLoads
 got_loads laws l linked setting i chosen below is_name decided alone =
     loads_the_same laws l linked (ap (λ (x : Setting). x.architecture) setting) i (i + 2)
-    (load_of l linked setting i chosen below is_name decided) alone
+    (load_of l linked.decided setting i chosen below is_name decided) alone
