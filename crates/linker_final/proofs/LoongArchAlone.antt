@@ -16,7 +16,7 @@ use Rattle.linker_final.proofs.LoongArchChosen.{IsByTable, IsEntry, by_table, en
 use Rattle.linker_final.proofs.LoongArchWritten.{IsAfter, applied_there, becomes}
 use Rattle.linker_final.proofs.Written.{rela, with_operands, word_same}
 use Rattle.linker_final.specs.Final.{Linked, IsLinked, count, instruction_at}
-use Rattle.linker_final.specs.LoongArchFinal.{HighDoesTheSame, HighHalves, LowHalves, LowParts}
+use Rattle.linker_final.specs.LoongArchFinal.{HighDoesTheSame, HighHalves, LowHalves, LowParts, MovedLowParts}
 use Rattle.linker_laws.specs.LoongArchRewriteLaws.{HighHalfToLu12i, IsRewritten, Laws, word_of}
 use Rattle.linker_loongarch64.specs.LoongArchRewrites.{IsLd, IsPcalau12i, adds_low12, by_low_part, rd_of, rj_of, to_local_exec, tp}
 use Rattle.linker_loongarch64.specs.declared.rewrites.RelaxationKind.TheVariants as kinds
@@ -147,7 +147,7 @@ high_does name law l linked loongarch i chosen below decided kind_is code_is is_
     (applied_there l linked loongarch i chosen below decided kinds.PcalaToLu12i kind_is
     names.R_LARCH_TLS_LE_HI20 code_is high_after symbol 0 refl is_symbol) in
     let made : IsRewritten kinds.PcalaToLu12i (instruction_at l.section o) (instruction_at l.rewritten o) =
-    becomes l linked loongarch i chosen below decided kinds.PcalaToLu12i kind_is (λ word. 0x14000000 + rd_of word) refl in
+    becomes l linked.done i chosen below decided kinds.PcalaToLu12i kind_is (λ word. 0x14000000 + rd_of word) refl in
     law w s t c (instruction_at l.section o) (instruction_at l.rewritten o) small at agree made
     pcala (instruction_at l.final o) (record { is = is_pcala; fits = fits; applied = of_entry }) fits_offset written
 
@@ -155,7 +155,7 @@ pub high_halves : Laws → HighHalves
 high_halves laws l linked loongarch i chosen below is_name decided any =
     let o = (relocation_in l.relocations i).offset in
     let by = high_entry l.section o chosen
-    (by_table l linked loongarch i chosen below decided names.R_LARCH_TLS_IE_PC_HI20 tt is_name) in
+    (by_table l linked.decided loongarch i chosen below decided names.R_LARCH_TLS_IE_PC_HI20 tt is_name) in
     high_does names.R_LARCH_TLS_IE_PC_HI20 laws.high_half l linked loongarch i chosen below decided by.kind_is by.code_is
     (subst IsPcalau12i (word_same l.section o) (by.asked.1))
 
@@ -164,7 +164,7 @@ low_halves laws l linked loongarch i chosen below is_name decided any symbol is_
     let r = relocation_in l.relocations i in
     let o = r.offset in
     let by = low_entry l.section o chosen
-    (by_table l linked loongarch i chosen below decided names.R_LARCH_TLS_IE_PC_LO12 tt is_name) in
+    (by_table l linked.decided loongarch i chosen below decided names.R_LARCH_TLS_IE_PC_LO12 tt is_name) in
     let w = operands_with LoongArch64 l.addresses high_after.row symbol r got in
     let written : IsApplied low_after.row w (instruction_at l.rewritten o) (instruction_at l.final o) =
     with_operands low_after.row
@@ -173,26 +173,30 @@ low_halves laws l linked loongarch i chosen below is_name decided any symbol is_
     (applied_there l linked loongarch i chosen below decided kinds.LowToOri by.kind_is
     names.R_LARCH_TLS_LE_LO12 by.code_is low_after symbol 0 refl is_symbol) in
     let made : IsRewritten kinds.LowToOri (instruction_at l.section o) (instruction_at l.rewritten o) =
-    becomes l linked loongarch i chosen below decided kinds.LowToOri by.kind_is (λ word. 0x03800000 + field word 0 10) refl in
+    becomes l linked.done i chosen below decided kinds.LowToOri by.kind_is (λ word. 0x03800000 + field word 0 10) refl in
     laws.low_half w s t c (instruction_at l.section o) (instruction_at l.rewritten o) small
     (subst IsLd (word_same l.section o) (by.asked.1)) holds has agree made
     ld (instruction_at l.final o) of_entry written
 
 -- ---- low parts over the thread pointer
 
-pub low_parts : Laws → LowParts
-low_parts laws l linked loongarch i chosen below is_name decided any symbol is_symbol s t differing low alike base stores short of_low =
-    let r = relocation_in l.relocations i in
-    let o = r.offset in
+pub moved_low_parts : Laws → MovedLowParts
+moved_low_parts laws l all done loongarch i chosen below is_name decided x y s t differing low base same short alike over stores of_low of_base =
+    let o = (relocation_in l.relocations i).offset in
     let by = part_entry l.section o chosen
-    (by_table l linked loongarch i chosen below decided names.R_LARCH_TLS_LE_LO12_R tt is_name) in
+    (by_table l all loongarch i chosen below decided names.R_LARCH_TLS_LE_LO12_R tt is_name) in
+    laws.low_offset x y s t differing (instruction_at l.section o) (instruction_at l.rewritten o)
+    (subst (λ word. IsTrue (adds_low12 (word / 2 ^ 22))) (word_same l.section o) (by.asked.1)) alike over stores same short
+    (becomes l done i chosen below decided kinds.BaseToTp by.kind_is (λ word. word - rj_of word * 2 ^ 5 + tp * 2 ^ 5) refl)
+    low base of_low of_base
+
+pub low_parts : Laws → LowParts
+low_parts laws l linked loongarch i chosen below is_name decided any symbol is_symbol s t differing low alike over stores short of_low =
+    let r = relocation_in l.relocations i in
+    let by = part_entry l.section r.offset chosen
+    (by_table l linked.decided loongarch i chosen below decided names.R_LARCH_TLS_LE_LO12_R tt is_name) in
     let w = operands_with LoongArch64 l.addresses part_after.row symbol r 0 in
-    let written : IsApplied part_after.row w (instruction_at l.rewritten o) (instruction_at l.final o) =
-    applied_there l linked loongarch i chosen below decided kinds.BaseToTp by.kind_is
-    names.R_LARCH_TLS_LE_LO12_R by.code_is part_after symbol 0 refl is_symbol in
-    let made : IsRewritten kinds.BaseToTp (instruction_at l.section o) (instruction_at l.rewritten o) =
-    becomes l linked loongarch i chosen below decided kinds.BaseToTp by.kind_is
-    (λ word. word - rj_of word * 2 ^ 5 + tp * 2 ^ 5) refl in
-    laws.low_offset w w s t differing (instruction_at l.section o) (instruction_at l.rewritten o)
-    (subst (λ word. IsTrue (adds_low12 (word / 2 ^ 22))) (word_same l.section o) (by.asked.1)) alike base stores refl short made
-    low (instruction_at l.final o) of_low written
+    moved_low_parts laws l linked.decided linked.done loongarch i chosen below is_name decided w w s t differing low
+    (instruction_at l.final r.offset) refl short alike over stores of_low
+    (applied_there l linked loongarch i chosen below decided kinds.BaseToTp by.kind_is
+    names.R_LARCH_TLS_LE_LO12_R by.code_is part_after symbol 0 refl is_symbol)

@@ -9,11 +9,11 @@ use Rattle.linker_elf.specs.declared.loongarch64.relocations.LoongArch64Relocati
 use Rattle.linker_final.proofs.Chosen.{IsChosen, chosen_at}
 use Rattle.linker_final.proofs.Early.{AreEarly, IsListed, are_early, listed_at}
 use Rattle.linker_final.proofs.Entries.{IsOfEntry, IsOfOne, of_one}
-use Rattle.linker_final.specs.Final.{Linked, IsLinked, count}
+use Rattle.linker_final.specs.Final.{Linked, count}
 use Rattle.linker_loongarch64.specs.LoongArchRewrites.{IsAskedFor, LoongArchApplies, LoongArchEntry, loongarch_entries}
 use Rattle.linker_loongarch64.specs.declared.rewrites.RelaxationKind.{RelaxationKind}
 use Rattle.linker_loongarch64.specs.declared.rewrites.RelaxationKind.TheVariants as kinds
-use Rattle.linker_rewriting.specs.Decisions.{decision_at}
+use Rattle.linker_rewriting.specs.Decisions.{AreDecidedIn, decision_at}
 use Rattle.linker_rewriting.specs.Groups.{IsScopeIn, loongarch_scope, loongarch_scope_in}
 use Rattle.linker_rewriting.specs.Labels.{is_labelled}
 use Rattle.linker_rewriting.specs.declared.decisions.Decision.TheVariants.{Rewritten}
@@ -84,18 +84,20 @@ pub record IsByTable (name : LoongArch64Relocation) (section : List ℕ) (o : �
       (loongarch_entries name) chosen
   pub early : loongarch_scope_in phases.ThreadOffsets name ≡ Unlisted → AreEarly facts
 
-pub by_table : (l : Linked) → IsLinked l → l.setting.architecture ≡ LoongArch64
+pub by_table : (l : Linked)
+    → AreDecidedIn l.setting l.kept l.relocations l.section l.decisions (count l)
+    → l.setting.architecture ≡ LoongArch64
     → (i : ℕ) (chosen : Choice Relaxation ℕ) → i < count l → decision_at l.decisions i ≡ Rewritten chosen
     → (name : LoongArch64Relocation) → IsNamed (loongarch_name name)
     → IsNameOf loongarch_name (relocation_in l.relocations i).code name
     → IsByTable name l.section (relocation_in l.relocations i).offset chosen
-by_table l linked loongarch i chosen below decided name named is_name =
+by_table l all loongarch i chosen below decided name named is_name =
     let r = relocation_in l.relocations i in
     let c : IsChosen l.setting l.section r chosen =
-    chosen_at l.setting l.kept l.relocations l.section l.decisions (count l) i chosen linked.decided below decided
+    chosen_at l.setting l.kept l.relocations l.section l.decisions (count l) i chosen all below decided
     (λ scope is. unlabelled l.setting.phase r.code scope (subst (λ x. IsScopeIn x l.setting.phase r.code scope) loongarch is)) in
     let listed : IsListed l.setting r =
-    listed_at l.setting l.kept l.relocations l.section l.decisions (count l) i chosen linked.decided below decided in
+    listed_at l.setting l.kept l.relocations l.section l.decisions (count l) i chosen all below decided in
     let scope = subst (λ x. IsScopeIn x l.setting.phase r.code listed.scope) loongarch listed.is_scope in
     let same : scope.name ≡ name = scope.is_name.named name named is_name.code_is in
     record {

@@ -166,7 +166,7 @@ high : Laws → EachRewritten (IsKind kinds.PcalaToLu12i) names.R_LARCH_TLS_DESC
 high laws l linked loongarch i chosen below is_name decided kind =
     let o = (relocation_in l.relocations i).offset in
     let by = high_entry l.section o chosen kind
-    (by_table l linked loongarch i chosen below decided names.R_LARCH_TLS_DESC_PC_HI20 tt is_name) in
+    (by_table l linked.decided loongarch i chosen below decided names.R_LARCH_TLS_DESC_PC_HI20 tt is_name) in
     let is : IsPageOfDescriptor (word_of (instruction_at l.section o)) = subst IsPageOfDescriptor (word_same l.section o) (by.asked.1) in
     high_does names.R_LARCH_TLS_DESC_PC_HI20 laws.descriptor_high_half l linked loongarch i chosen below decided by.kind_is by.code_is
     (is.0)
@@ -176,7 +176,7 @@ low laws l linked loongarch i chosen below is_name decided kind symbol is_symbol
     let r = relocation_in l.relocations i in
     let o = r.offset in
     let by = low_entry l.section o chosen kind
-    (by_table l linked loongarch i chosen below decided names.R_LARCH_TLS_DESC_PC_LO12 tt is_name) in
+    (by_table l linked.decided loongarch i chosen below decided names.R_LARCH_TLS_DESC_PC_LO12 tt is_name) in
     let w = operands_with LoongArch64 l.addresses high_after.row symbol r got in
     let written : IsApplied low_after.row w (instruction_at l.rewritten o) (instruction_at l.final o) =
     with_operands low_after.row
@@ -185,7 +185,7 @@ low laws l linked loongarch i chosen below is_name decided kind symbol is_symbol
     (applied_there l linked loongarch i chosen below decided kinds.LowToOri by.kind_is
     names.R_LARCH_TLS_LE_LO12 by.code_is low_after symbol 0 refl is_symbol) in
     let made : IsRewritten kinds.LowToOri (instruction_at l.section o) (instruction_at l.rewritten o) =
-    becomes l linked loongarch i chosen below decided kinds.LowToOri by.kind_is (λ word. 0x03800000 + field word 0 10) refl in
+    becomes l linked.done i chosen below decided kinds.LowToOri by.kind_is (λ word. 0x03800000 + field word 0 10) refl in
     laws.descriptor_low_half w s t c (instruction_at l.section o) (instruction_at l.rewritten o) small
     (subst IsLowOfDescriptor (word_same l.section o) (by.asked.1)) has agree made
     addi (instruction_at l.final o) of_descriptor written
@@ -198,7 +198,7 @@ page laws l linked loongarch i chosen below is_name decided kind alone symbol is
     let o = r.offset in
     let e = symbol.thread_entry in
     let by = page_entry l.section o chosen kind
-    (by_table l linked loongarch i chosen below decided names.R_LARCH_TLS_DESC_PC_HI20 tt is_name) in
+    (by_table l linked.decided loongarch i chosen below decided names.R_LARCH_TLS_DESC_PC_HI20 tt is_name) in
     let w = operands_with LoongArch64 l.addresses high_after.row symbol r got in
     let is : IsPageOfDescriptor (word_of (instruction_at l.section o)) = subst IsPageOfDescriptor (word_same l.section o) (by.asked.1) in
     let stayed : instruction_at l.rewritten o ≡ instruction_at l.section o =
@@ -222,7 +222,7 @@ load laws l linked loongarch i chosen below is_name decided kind symbol is_symbo
     let o = r.offset in
     let e = symbol.thread_entry in
     let by = load_entry l.section o chosen kind
-    (by_table l linked loongarch i chosen below decided names.R_LARCH_TLS_DESC_PC_LO12 tt is_name) in
+    (by_table l linked.decided loongarch i chosen below decided names.R_LARCH_TLS_DESC_PC_LO12 tt is_name) in
     let w = operands_with LoongArch64 l.addresses high_after.row symbol r got in
     let code = code_of (loongarch_name names.R_LARCH_TLS_IE_PC_LO12) in
     let written : IsApplied entry_low.row (with_entry e w) (instruction_at l.rewritten o) (instruction_at l.final o) =
@@ -233,7 +233,7 @@ load laws l linked loongarch i chosen below is_name decided kind symbol is_symbo
     names.R_LARCH_TLS_IE_PC_LO12 by.code_is entry_low symbol e
     (ap (λ b. operands_by LoongArch64 l.addresses entry_low.row (rela o code r.symbol r.addend) symbol (cond b (Some e) None)) there) is_symbol) in
     let made : IsRewritten kinds.AddiToLd (instruction_at l.section o) (instruction_at l.rewritten o) =
-    becomes l linked loongarch i chosen below decided kinds.AddiToLd by.kind_is (λ word. 0x28c00000 + field word 0 22) refl in
+    becomes l linked.done i chosen below decided kinds.AddiToLd by.kind_is (λ word. 0x28c00000 + field word 0 22) refl in
     laws.descriptor_entry w e s t c (instruction_at l.section o) (instruction_at l.rewritten o) small within
     (subst IsLowOfDescriptor (word_same l.section o) (by.asked.1)) holds has agree made
     addi (instruction_at l.final o) of_descriptor written
@@ -245,7 +245,7 @@ goes laws l linked loongarch i chosen below is_name decided any alone symbol is_
     let r = relocation_in l.relocations i in
     let o = r.offset in
     let by = load_goes l.section o chosen
-    (by_table l linked loongarch i chosen below decided names.R_LARCH_TLS_DESC_LD tt is_name) in
+    (by_table l linked.decided loongarch i chosen below decided names.R_LARCH_TLS_DESC_LD tt is_name) in
     let w = operands_with LoongArch64 l.addresses high_after.row symbol r got in
     laws.descriptor_load w s t c (instruction_at l.section o) (instruction_at l.final o) small
     (subst IsLoadOfDescriptor (word_same l.section o) (by.asked.1)) has agree
@@ -256,7 +256,7 @@ called laws l linked loongarch i chosen below is_name decided any alone symbol i
     let r = relocation_in l.relocations i in
     let o = r.offset in
     let by = call_goes l.section o chosen
-    (by_table l linked loongarch i chosen below decided names.R_LARCH_TLS_DESC_CALL tt is_name) in
+    (by_table l linked.decided loongarch i chosen below decided names.R_LARCH_TLS_DESC_CALL tt is_name) in
     let w = operands_with LoongArch64 l.addresses high_after.row symbol r got in
     laws.descriptor_call call c w s t d (instruction_at l.section o) (instruction_at l.final o) descriptor
     (subst IsCallOfDescriptor (word_same l.section o) (by.asked.1)) has function agree

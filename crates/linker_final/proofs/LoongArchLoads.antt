@@ -131,12 +131,12 @@ module _ (laws : Laws) (l : Linked) (linked : IsLinked l) (loongarch : l.setting
   page : IsEntry kinds.NoOp names.R_LARCH_PCALA_HI20 names.R_LARCH_GOT_PC_HI20 l.section first.offset of.page_chosen
   page =
       page_entry l.section first.offset of.page_chosen
-      (by_table l linked loongarch i of.page_chosen of.page_below of.page_decided names.R_LARCH_GOT_PC_HI20 tt of.page)
+      (by_table l linked.decided loongarch i of.page_chosen of.page_below of.page_decided names.R_LARCH_GOT_PC_HI20 tt of.page)
 
   low : IsEntry kinds.LdToAddi names.R_LARCH_PCALA_LO12 names.R_LARCH_GOT_PC_LO12 l.section second.offset of.low_chosen
   low =
       low_entry l.section second.offset of.low_chosen
-      (by_table l linked loongarch j of.low_chosen of.low_below of.low_decided names.R_LARCH_GOT_PC_LO12 tt of.low)
+      (by_table l linked.decided loongarch j of.low_chosen of.low_below of.low_decided names.R_LARCH_GOT_PC_LO12 tt of.low)
 
   pub loads_the_same : LoadsTheSame l i got_row
   loads_the_same symbol is_symbol got s pcala ld small holds at loads fits =
@@ -176,7 +176,7 @@ module _ (laws : Laws) (l : Linked) (linked : IsLinked l) (loongarch : l.setting
       (ap (slice_get l.symbols) of.same_symbol ∙ is_symbol))) in
       let added : IsRewritten kinds.LdToAddi (instruction_at l.section (o + 4)) (instruction_at l.rewritten (o + 4)) =
       subst (λ n. IsRewritten kinds.LdToAddi (instruction_at l.section n) (instruction_at l.rewritten n)) next
-      (becomes l linked loongarch j of.low_chosen of.low_below of.low_decided kinds.LdToAddi low.kind_is
+      (becomes l linked.done j of.low_chosen of.low_below of.low_decided kinds.LdToAddi low.kind_is
       (λ word. 0x02c00000 + field word 0 22) refl) in
       laws.got w s (instruction_at l.section o) (instruction_at l.section (o + 4)) (instruction_at l.rewritten (o + 4))
       together holds added pcala ld (instruction_at l.final o) (instruction_at l.final (o + 4)) loads fits page_written low_written
@@ -184,4 +184,4 @@ module _ (laws : Laws) (l : Linked) (linked : IsLinked l) (loongarch : l.setting
 pub got_loads : Laws → GotLoads
 got_loads laws l linked setting i chosen below is_name decided alone =
     loads_the_same laws l linked (ap (λ (x : Setting). x.architecture) setting) i (i + 2)
-    (load_of l linked setting i chosen below is_name decided) alone
+    (load_of l linked.decided setting i chosen below is_name decided) alone

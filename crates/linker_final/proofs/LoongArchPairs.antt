@@ -10,7 +10,8 @@ use Rattle.linker_elf.specs.declared.elf.choice.Choice.{Choice}
 use Rattle.linker_elf.specs.declared.elf.choice.LinkFacts.{LinkFacts}
 use Rattle.linker_elf.specs.declared.loongarch64.relocations.LoongArch64Relocation.{LoongArch64Relocation}
 use Rattle.linker_elf.specs.declared.loongarch64.relocations.LoongArch64Relocation.TheVariants as names
-use Rattle.linker_final.specs.Final.{Linked, IsLinked, count}
+use Rattle.linker_final.proofs.Early.{isnt}
+use Rattle.linker_final.specs.Final.{Linked, count}
 use Rattle.linker_rewriting.proofs.Loads.{loads_are_whole}
 use Rattle.linker_rewriting.specs.Candidates.{IsCandidate, IsCandidateWith}
 use Rattle.linker_rewriting.specs.Decisions.{AreDecidedIn, IsDecidedAfter, IsDecidedAlone, IsScopeDecision, decision_at, decision_of, is_taken, takes_next}
@@ -41,9 +42,6 @@ pub record AreOfLoad (l : Linked) (i j : ℕ) : Type 0 where
   pub low_chosen : Choice Relaxation ℕ
   pub low_decided : decision_at l.decisions j ≡ Rewritten low_chosen
 
-isnt : {A : Type 0} → false ≡ true → A
-isnt is = absurd (let e : false ≡ true = is in cc)
-
 -- ---- the relocations of a load
 
 there : (bytes : List ℕ) (n : ℕ) → n < length bytes / 24
@@ -62,7 +60,7 @@ inside bytes n test none is =
           let missing : relocation_at bytes n ≡ None =
           cond-false (ltb n (length bytes / 24)) (Some (relocation_in bytes n)) None
           (le-ltb n (length bytes / 24) past) in
-          isnt (sym none ∙ (sym (ap test missing) ∙ is))
+          isnt (test None) none (sym (ap test missing) ∙ is)
     ]
 
 record IsPart (code offset : ℕ) (one part : Rela) : Type 0 where
@@ -135,8 +133,8 @@ whole_is bytes n is_name whole =
 
 -- ---- decisions
 
-module _ (s : Setting) (early_is : s.phase ≡ Early) (loongarch : s.architecture ≡ LoongArch64)
-    (l : Linked) (is : l.setting ≡ s) (linked : IsLinked l) (n : ℕ) (below : n < count l) where
+module _ (l : Linked) (all : AreDecidedIn l.setting l.kept l.relocations l.section l.decisions (count l))
+    (setting : l.setting ≡ early LoongArch64 l.setting.output l.setting.symbols) (n : ℕ) (below : n < count l) where
   abbrev decision : Decision
   decision = decision_at l.decisions n
 
@@ -150,11 +148,8 @@ module _ (s : Setting) (early_is : s.phase ≡ Early) (loongarch : s.architectur
   by_scope name named code_is taken =
       let r = relocation_in l.relocations n in
       let alone : IsDecidedAlone l.setting l.kept l.relocations l.section n r decision =
-      subst (λ t. IsDecidedAfter l.setting l.kept l.relocations l.section n t decision) taken (linked.decided n below) in
-      let phase : l.setting.phase ≡ Early = ap (λ (x : Setting). x.phase) is ∙ early_is in
-      let architecture : l.setting.architecture ≡ LoongArch64 = ap (λ (x : Setting). x.architecture) is ∙ loongarch in
-      let scope = subst (λ p. IsScopeIn LoongArch64 p r.code (alone.0)) phase
-      (subst (λ x. IsScopeIn x l.setting.phase r.code (alone.0)) architecture (alone.1)) in
+      subst (λ t. IsDecidedAfter l.setting l.kept l.relocations l.section n t decision) taken (all n below) in
+      let scope = subst (λ (x : Setting). IsScopeIn x.architecture x.phase r.code (alone.0)) setting (alone.1) in
       let same : scope.name ≡ name = scope.is_name.named name named (sym code_is) in (
         subst (IsNameOf loongarch_name r.code) same scope.is_name,
         subst (λ z. IsScopeDecision l.setting l.kept l.relocations l.section n r z decision)
@@ -168,7 +163,7 @@ module _ (s : Setting) (early_is : s.phase ≡ Early) (loongarch : s.architectur
       elim (cases_Bool (is_taken l.decisions n)) [
         | inl taken ↦
             let along : decision ≡ TakenAlong =
-            subst (λ t. IsDecidedAfter l.setting l.kept l.relocations l.section n t decision) taken (linked.decided n below) in
+            subst (λ t. IsDecidedAfter l.setting l.kept l.relocations l.section n t decision) taken (all n below) in
             ap takes_next along
         | inr taken ↦
             let stays : decision ≡ Kept = (by_scope names.R_LARCH_RELAX tt code_is taken).1 in
@@ -181,7 +176,7 @@ module _ (s : Setting) (early_is : s.phase ≡ Early) (loongarch : s.architectur
       elim (cases_Bool (is_taken l.decisions n)) [
         | inl taken ↦
             let along : decision ≡ TakenAlong =
-            subst (λ t. IsDecidedAfter l.setting l.kept l.relocations l.section n t decision) taken (linked.decided n below) in
+            subst (λ t. IsDecidedAfter l.setting l.kept l.relocations l.section n t decision) taken (all n below) in
             absurd (let e : Rewritten chosen ≡ TakenAlong = sym decided ∙ along in cc)
         | inr taken ↦ taken
       ]
@@ -212,16 +207,16 @@ of_candidate d None is rewritten = absurd (let none : IsRewritten Kept = subst I
 
 -- ---- a load
 
-pub load_of : (l : Linked) → IsLinked l → l.setting ≡ early LoongArch64 l.setting.output l.setting.symbols
+pub load_of : (l : Linked) → AreDecidedIn l.setting l.kept l.relocations l.section l.decisions (count l)
+    → l.setting ≡ early LoongArch64 l.setting.output l.setting.symbols
     → (i : ℕ) (chosen : Choice Relaxation ℕ) → i < count l
     → IsNameOf loongarch_name (relocation_in l.relocations i).code names.R_LARCH_GOT_PC_HI20
     → decision_at l.decisions i ≡ Rewritten chosen → AreOfLoad l i (i + 2)
-load_of l linked setting i chosen below is_name decided =
-    let s : Setting = early LoongArch64 l.setting.output l.setting.symbols in
+load_of l all setting i chosen below is_name decided =
     let r = relocation_in l.relocations i in
     let loongarch : l.setting.architecture ≡ LoongArch64 = ap (λ (x : Setting). x.architecture) setting in
-    let taken : is_taken l.decisions i ≡ false = rewritten_alone s refl refl l setting linked i below chosen decided in
-    let page = by_scope s refl refl l setting linked i below names.R_LARCH_GOT_PC_HI20 tt (sym is_name.code_is) taken in
+    let taken : is_taken l.decisions i ≡ false = rewritten_alone l all setting i below chosen decided in
+    let page = by_scope l all setting i below names.R_LARCH_GOT_PC_HI20 tt (sym is_name.code_is) taken in
     let page_made = of_candidate (decision_at l.decisions i) (page.1.0) (page.1.2) (subst IsRewritten (sym decided) tt) in
     let whole : IsWhole l.setting.architecture l.relocations i r true =
     whole_of l.setting l.relocations l.section i r page_made.chosen
@@ -233,11 +228,11 @@ load_of l linked setting i chosen below is_name decided =
     let low_code = load.low.code_is in
     let taken_low : is_taken l.decisions (i + 2) ≡ false =
     subst (λ k. is_taken l.decisions k ≡ false) (let e : suc (i + 1) ≡ i + 2 = omega arith in e)
-    (mark_takes s refl refl l setting linked (i + 1) mark load.mark_code_is) in
+    (mark_takes l all setting (i + 1) mark load.mark_code_is) in
     let both = loads_are_whole l.setting.output l.setting.symbols l.kept l.relocations l.section l.decisions (count l) i
-    (subst (λ x. AreDecidedIn x l.kept l.relocations l.section l.decisions (count l)) setting linked.decided)
+    (subst (λ x. AreDecidedIn x l.kept l.relocations l.section l.decisions (count l)) setting all)
     within (omega arith) load.all taken taken_low in
-    let by = by_scope s refl refl l setting linked (i + 2) within names.R_LARCH_GOT_PC_LO12 tt low_code taken_low in
+    let by = by_scope l all setting (i + 2) within names.R_LARCH_GOT_PC_LO12 tt low_code taken_low in
     let made = of_candidate (decision_at l.decisions (i + 2)) (by.1.0) (by.1.2)
     (both.0 (subst IsRewritten (sym decided) tt)) in
     record {

@@ -1,5 +1,6 @@
 -- Instructions of LoongArch and their relocations in the final bytes of a section.
-use Rattle.std.proofs.Common.{◌≡◌, ℕ, ℤ, ◌+◌, ◌<◌, ◌≤◌, length, sym, ap, subst, ◌∙◌, arith, Some, Ok, refl, IsSomeAnd}
+use Rattle.std.proofs.Common.{◌≡◌, ℕ, ℤ, ◌+◌, ◌-◌, ◌<◌, ◌≤◌, length, drop, sym, ap, subst, ◌∙◌, arith, Some, Ok, refl, IsSomeAnd}
+use Rattle.std.proofs.lemmas.List.{take-take}
 use Rattle.std.specs.Prelude.{slice_get}
 use Rattle.linker_base.specs.Rewrite.{offset_after, addend_after}
 use Rattle.linker_elf.specs.Applied.{IsApplied}
@@ -12,14 +13,14 @@ use Rattle.linker_elf.specs.declared.elf.choice.Choice.{Choice}
 use Rattle.linker_elf.specs.declared.loongarch64.relocations.LoongArch64Relocation.{LoongArch64Relocation}
 use Rattle.linker_elf.specs.declared.loongarch64.relocations.LoongArch64Relocation.TheVariants as names
 use Rattle.linker_final.proofs.InstructionFields.{IsOfInstruction}
-use Rattle.linker_final.proofs.Written.{IsRowOf, applied_after, by_name, made_there, rela, relocation_is, unwritten_without}
+use Rattle.linker_final.proofs.Written.{IsRowOf, applied_after, by_name, rela, relocation_is, unwritten_without}
 use Rattle.linker_final.specs.Final.{Linked, IsLinked, IsWrittenByNoOther, count, instruction_at}
 use Rattle.linker_laws.specs.LoongArchRewriteLaws.{BeginsRewritten, IsRewritten}
 use Rattle.linker_loongarch64.specs.LoongArchRewrites.{loongarch_rewrite, rewrites_word}
 use Rattle.linker_loongarch64.specs.declared.rewrites.RelaxationKind.{RelaxationKind}
 use Rattle.linker_loongarch64.specs.declared.rewrites.RelaxationKind.TheVariants as kinds
 use Rattle.linker_rewriting.specs.Decisions.{decision_at}
-use Rattle.linker_rewriting.specs.Rewritten.{relocation_after}
+use Rattle.linker_rewriting.specs.Rewritten.{AreDone, IsDone, IsMade, relocation_after}
 use Rattle.linker_rewriting.specs.declared.decisions.Decision.TheVariants.{Rewritten}
 use Rattle.linker_section.specs.Relocations.{relocation_in}
 use Rattle.linker_section.specs.Values.{operands_with, operands_in}
@@ -103,15 +104,24 @@ module _ (l : Linked) (linked : IsLinked l) (loongarch : l.setting.architecture 
       symbol is_symbol got
       (subst (λ x. operands_in x l.addresses a.row after (Some symbol) ≡ Ok (operands_with x l.addresses a.row symbol after got)) (sym loongarch) taken))
 
-  -- an instruction that becomes another
-  pub becomes : (new : ℕ → ℕ) → loongarch_rewrite kind ≡ Some (rewrites_word new)
-      → IsRewritten kind (instruction_at l.section (relocation_in l.relocations i).offset) (instruction_at l.rewritten (relocation_in l.relocations i).offset)
-  becomes new is =
-      let o = (relocation_in l.relocations i).offset in
-      let r = rewrites_word new in
-      let begins : BeginsRewritten r (instruction_at l.section o) (instruction_at l.rewritten o) =
-      made_there l linked i chosen below decided r (ap relaxation_rewrite kind_is ∙ is) refl in
-      subst (λ q. IsSomeAnd q (λ made. BeginsRewritten made (instruction_at l.section o) (instruction_at l.rewritten o))) (sym is) begins
+-- an instruction that becomes another
+pub becomes : (l : Linked) → AreDone l.relocations l.decisions l.section l.rewritten (count l)
+    → (i : ℕ) (chosen : Choice Relaxation ℕ) → i < count l → decision_at l.decisions i ≡ Rewritten chosen
+    → (kind : RelaxationKind) → chosen.kind ≡ relaxations.LoongArch64 kind
+    → (new : ℕ → ℕ) → loongarch_rewrite kind ≡ Some (rewrites_word new)
+    → IsRewritten kind (instruction_at l.section (relocation_in l.relocations i).offset) (instruction_at l.rewritten (relocation_in l.relocations i).offset)
+becomes l done i chosen below decided kind kind_is new is =
+    let o = (relocation_in l.relocations i).offset in
+    let r = rewrites_word new in
+    let made : IsMade (Some r) o l.section l.rewritten =
+    subst (λ q. IsMade q o l.section l.rewritten) (ap relaxation_rewrite kind_is ∙ is)
+    (subst (λ d. IsDone d o l.section l.rewritten) decided (done i below)) in
+    let here : instruction_at l.rewritten o ≡ r.bytes (instruction_at l.section o) =
+    subst (λ n. instruction_at l.rewritten n ≡ r.bytes (instruction_at l.section n)) (let e : o - 0 ≡ o = omega arith in e) made in
+    let begins : BeginsRewritten r (instruction_at l.section o) (instruction_at l.rewritten o) =
+    take-take 4 4 (drop o l.rewritten) (omega arith)
+    ∙ (here ∙ ap r.bytes (sym (take-take 4 4 (drop o l.section) (omega arith)))) in
+    subst (λ q. IsSomeAnd q (λ made. BeginsRewritten made (instruction_at l.section o) (instruction_at l.rewritten o))) (sym is) begins
 
 -- ---- instructions without a field
 
@@ -126,7 +136,7 @@ pub becomes_nop : (l : Linked) → IsLinked l → l.setting.architecture ≡ Loo
 becomes_nop l linked loongarch i chosen below decided kind_is code_is inside alone =
     let o = (relocation_in l.relocations i).offset in
     let made : IsRewritten kinds.ReplaceWithNop (instruction_at l.section o) (instruction_at l.rewritten o) =
-    becomes l linked loongarch i chosen below decided kinds.ReplaceWithNop kind_is (λ _. 0x03400000) refl in
+    becomes l linked.done i chosen below decided kinds.ReplaceWithNop kind_is (λ _. 0x03400000) refl in
     let gone : (relocation_in l.relocations_after i).code ≡ 0 =
     ap (λ (x : Rela). x.code) (linked.relocations i below ∙ ap (λ d. relocation_after d (relocation_in l.relocations i)) decided) ∙ code_is in
     subst (IsRewritten kinds.ReplaceWithNop (instruction_at l.section o))

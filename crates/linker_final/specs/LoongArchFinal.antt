@@ -9,6 +9,7 @@ use Rattle.linker_elf.specs.LoongArchRelocations.{loongarch_name, loongarch_row}
 use Rattle.linker_elf.specs.Value.{sum_64}
 use Rattle.linker_elf.specs.declared.elf.RelocationKindInfo.{RelocationKindInfo}
 use Rattle.linker_elf.specs.declared.elf.choice.Choice.{Choice}
+use Rattle.linker_elf.specs.declared.elf.value.Operands.{Operands}
 use Rattle.linker_elf.specs.declared.loongarch64.relocations.LoongArch64Relocation.{LoongArch64Relocation}
 use Rattle.linker_elf.specs.declared.loongarch64.relocations.LoongArch64Relocation.TheVariants as names
 use Rattle.linker_final.specs.Final.{Linked, IsLinked, count, instruction_at}
@@ -25,8 +26,9 @@ use Rattle.linker_laws.specs.Schemes.{AreAddresses, entry_and_addend, symbol_add
 use Rattle.linker_loongarch64.specs.LoongArchRewrites.{rd_of, rj_of, signed_12, tp}
 use Rattle.linker_loongarch64.specs.declared.rewrites.RelaxationKind.{RelaxationKind}
 use Rattle.linker_loongarch64.specs.declared.rewrites.RelaxationKind.TheVariants as kinds
-use Rattle.linker_rewriting.specs.Decisions.{decision_at}
+use Rattle.linker_rewriting.specs.Decisions.{AreDecidedIn, decision_at}
 use Rattle.linker_rewriting.specs.Facts.{early}
+use Rattle.linker_rewriting.specs.Rewritten.{AreDone}
 use Rattle.linker_rewriting.specs.declared.decisions.Decision.TheVariants.{Rewritten}
 use Rattle.linker_section.specs.Relocations.{relocation_in}
 use Rattle.linker_section.specs.Values.{is_there, operands_with}
@@ -193,6 +195,23 @@ LowPartDoesTheSame l i row =
     → StepSo (word_of low) s (word_of (instruction_at l.final r.offset)) t
     (HaveShortened (but_written differing action (rd_of word)) (sum_64 s.pc 4) (sum_64 t.pc 4))
 
+-- The same of any bytes that are the rewritten instruction with its relocation applied: elsewhere too,
+-- as where the instructions before it are deleted.
+abbrev pub MovedDoesTheSame : Linked → ℕ → Type 0
+MovedDoesTheSame l i =
+    let o = (relocation_in l.relocations i).offset in
+    let word = word_of (instruction_at l.section o) in
+    let action = action_of (word / 2 ^ 22) in
+    (x y : Operands) (s t : State) (differing : ℕ → Bool) (low base : List ℕ)
+    → thread_offset x ≡ thread_offset y
+    → RowIsWithin (loongarch_row names.R_LARCH_TLS_LE_LO12_R) signed_12 y
+    → AreAlikeBut differing s t → read (rj_of word) s ≡ read tp t
+    → StoresTheSame action differing (rd_of word)
+    → IsRelocated names.R_LARCH_TLS_LE_LO12_R x (instruction_at l.section o) low
+    → IsRelocated names.R_LARCH_TLS_LE_LO12_R y (instruction_at l.rewritten o) base
+    → StepSo (word_of low) s (word_of base) t
+    (HaveShortened (but_written differing action (rd_of word)) (sum_64 s.pc 4) (sum_64 t.pc 4))
+
 -- ---- the laws
 
 -- Of every load of an address from the GOT that a linker rewrites, before addresses are known: the
@@ -252,3 +271,13 @@ pub record Descriptors : Type 0 where
 abbrev pub LowParts : Type 0
 LowParts =
     EachRewritten IsAny names.R_LARCH_TLS_LE_LO12_R names.R_LARCH_TLS_LE_LO12_R LowPartDoesTheSame
+
+-- The same once instructions are rewritten, whatever becomes of the section then.
+abbrev pub MovedLowParts : Type 0
+MovedLowParts =
+    (l : Linked) → AreDecidedIn l.setting l.kept l.relocations l.section l.decisions (count l)
+    → AreDone l.relocations l.decisions l.section l.rewritten (count l)
+    → l.setting.architecture ≡ LoongArch64
+    → (i : ℕ) (chosen : Choice Relaxation ℕ) → i < count l
+    → IsNameOf loongarch_name (relocation_in l.relocations i).code names.R_LARCH_TLS_LE_LO12_R
+    → decision_at l.decisions i ≡ Rewritten chosen → MovedDoesTheSame l i

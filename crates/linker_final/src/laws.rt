@@ -63,13 +63,15 @@ pub fn riscv64()
 /// LoongArch: rewritten instructions do in the final bytes what the object's do. They are each load of
 /// an address from the GOT that became a sum of its page and the rest, each half of initial-exec that
 /// became a half of local-exec, each instruction of a TLS descriptor that became one of local-exec or
-/// of initial-exec, and each low part of local-exec over the thread pointer.
+/// of initial-exec, and each low part of local-exec over the thread pointer, also where instructions
+/// before it are deleted then.
 pub fn loongarch64()
     ensures got_loads { loongarch64_final.GotLoads }
     ensures high_halves { loongarch64_final.HighHalves }
     ensures low_halves { loongarch64_final.LowHalves }
     ensures descriptors { loongarch64_final.Descriptors }
     ensures low_parts { loongarch64_final.LowParts }
+    ensures moved_low_parts { loongarch64_final.MovedLowParts }
 {
     linker_laws::rewrites::loongarch64();
 }

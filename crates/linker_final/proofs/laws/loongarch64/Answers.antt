@@ -1,4 +1,4 @@
-use Rattle.linker_final.proofs.LoongArchAlone.{high_halves, low_halves, low_parts}
+use Rattle.linker_final.proofs.LoongArchAlone.{high_halves, low_halves, low_parts, moved_low_parts}
 use Rattle.linker_final.proofs.LoongArchDescriptors.{descriptors}
 use Rattle.linker_final.proofs.LoongArchLoads.{got_loads}
 use Rattle.linker_final.proofs.laws.loongarch64.Goals as goal
@@ -12,4 +12,5 @@ returns c =
       low_halves = low_halves laws;
       descriptors = descriptors laws;
       low_parts = low_parts laws;
+      moved_low_parts = moved_low_parts laws;
     }
