@@ -8,6 +8,7 @@ pub mod Chosen
 pub mod Fields
 pub mod Inner
 pub mod InstructionFields
+pub mod Others
 pub mod PlainRows
 pub mod PutBack
 pub mod X86Chosen
