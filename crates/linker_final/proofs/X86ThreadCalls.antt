@@ -23,7 +23,7 @@ use Rattle.linker_laws.specs.Schemes.{AreAddresses}
 use Rattle.linker_laws.specs.X86RewriteLaws.{IsBefore, thread_offset}
 use Rattle.linker_laws.specs.X86Machine.{State, load}
 use Rattle.linker_laws.specs.X86ThreadLaws as laws
-use Rattle.linker_laws.specs.X86ThreadLaws.{EndAlike, InitialExec, ReachTheSame, ReplacesCall, ReplacesModuleCall}
+use Rattle.linker_laws.specs.X86ThreadLaws.{EndAlike, ReachTheSame, ReplacesCall, ReplacesModuleCall}
 use Rattle.linker_rewriting.specs.Decisions.{IsDecidedAfter, decision_at, start_by, takes_next, written_end_by}
 use Rattle.linker_rewriting.specs.Rewritten.{relocation_after}
 use Rattle.linker_rewriting.specs.declared.decisions.Decision.TheVariants.{Rewritten, TakenAlong}
