@@ -17,6 +17,7 @@ pub mod LoongArchDescriptors
 pub mod LoongArchLoads
 pub mod LoongArchPairs
 pub mod LoongArchWritten
+pub mod Others
 pub mod PlainRows
 pub mod Ppc64Arguments
 pub mod Ppc64Calls

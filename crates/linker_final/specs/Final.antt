@@ -1,21 +1,23 @@
 -- A section of code of an object as a linker rewrites it in a phase and then writes its values.
-use Rattle.std.specs.Prelude.{◌≡◌, ◌≢◌, ◌⊎◌, ℕ, ◌+◌, ◌/◌, ◌^◌, ◌<◌, ◌≤◌, List, ◌++◌, length, take, drop}
+use Rattle.std.specs.Prelude.{◌≡◌, ◌≢◌, ◌⊎◌, ℕ, ◌+◌, ◌/◌, ◌^◌, ◌<◌, ◌≤◌, List, ◌++◌, length, take, drop, get_or, ℤ, Some}
 use Rattle.std.specs.List.{All}
 use Rattle.linker_elf.specs.declared.elf.RelocationKindInfo.{RelocationKindInfo}
 use Rattle.linker_final.specs.declared.sections.LinkError.{LinkError}
 use Rattle.linker_final.specs.declared.sections.LinkError.TheVariants.{Rewriting, Writing}
-use Rattle.linker_rewriting.specs.Decisions.{IsRejected, AreDecidedIn, start_at, written_end_at}
+use Rattle.linker_rewriting.specs.Decisions.{IsRejected, AreDecidedIn, decision_at, start_at, written_end_at}
 use Rattle.linker_rewriting.specs.Facts.{Setting}
 use Rattle.linker_rewriting.specs.Kept.{IsWritingCause}
 use Rattle.linker_rewriting.specs.Rewritten.{AreRelocationsAfter, AreDone, OthersStay}
 use Rattle.linker_rewriting.specs.declared.decisions.Decision.{Decision}
+use Rattle.linker_rewriting.specs.declared.decisions.Decision.TheVariants.{Kept}
 use Rattle.linker_rewriting.specs.declared.facts.OutputFacts.{OutputFacts}
 use Rattle.linker_rewriting.specs.declared.facts.SymbolFacts.{SymbolFacts}
 use Rattle.linker_rewriting.specs.declared.groups.KeptGroups.{KeptGroups}
 use Rattle.linker_rewriting.specs.declared.kept.KeptFacts.{KeptFacts}
-use Rattle.linker_section.specs.Fields.{IsField, field_end}
+use Rattle.linker_section.specs.Fields.{IsField, field_end, field_len}
+use Rattle.linker_section.specs.Relocations.{relocation_in}
 use Rattle.linker_section.specs.Values.{offset_at}
-use Rattle.linker_section.specs.WrittenFields.{AreWritten}
+use Rattle.linker_section.specs.WrittenFields.{AreWritten, IsHeld}
 use Rattle.linker_section.specs.declared.facts.Addresses.{Addresses}
 use Rattle.linker_section.specs.declared.facts.Symbol.{Symbol}
 use Rattle.linker_utils.specs.declared.elf.Architecture.{Architecture}
@@ -132,3 +134,22 @@ IsWrittenByNoOther l i o =
 abbrev pub put_back : ℕ → ℕ → List ℕ → List ℕ → List ℕ
 put_back start len others bytes =
     take start bytes ++ take len (drop start others) ++ drop (start + len) bytes
+
+-- ---- what no rewrite took
+
+-- Each byte that neither a rewrite nor a field has is the object's.
+abbrev pub OtherBytes : Type 0
+OtherBytes =
+    (l : Linked) → IsLinked l → (at : ℕ)
+    → ((i : ℕ) → i < count l → HasNoByte l i at)
+    → get_or l.final at 0 ≡ get_or l.section at 0
+
+-- Each relocation that stays is the object's, and its field holds its part of what its relocations
+-- compose over the bytes before.
+abbrev pub OtherFields : Type 0
+OtherFields =
+    (l : Linked) (linked : IsLinked l) (i : ℕ) → i < count l → decision_at l.decisions i ≡ Kept
+    → (relocation_in l.relocations_after i ≡ relocation_in l.relocations i)
+    × ((row : RelocationKindInfo) (v : ℤ) → linked.written.can.found i ≡ Some (row, v)
+    → 0 < field_len row (drop (offset_at l.relocations_after i) l.rewritten)
+    → IsHeld linked.written.can.found l.relocations_after l.rewritten l.final (count l) i row v)

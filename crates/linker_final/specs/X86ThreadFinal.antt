@@ -189,7 +189,7 @@ GeneralDynamic =
     AreAloneWithNext l i (o - q.back) (o + (4 + q.call))
     → IsSomeAnd (x86_64_row names.R_X86_64_TPOFF32) (AddressIsTheSame l i chosen q)))
 
--- and of every one for a module's block
+-- Of every call of `__tls_get_addr` for a module's block that a linker rewrites, by the same premise.
 abbrev pub LocalDynamic : Type 0
 LocalDynamic =
     EachRewritten names.R_X86_64_TLSLD (λ l i chosen.
@@ -198,20 +198,20 @@ LocalDynamic =
     AreAloneWithNext l i (o - q.back) (o + (4 + q.call))
     → IsSomeAnd (x86_64_row names.R_X86_64_TLSLD) (BlockIsReplaced l i q)))
 
--- of every offset in the module's block that became one from the thread pointer; one of 32 bits is
--- sign-extended
+-- of n bytes, which are read so
 abbrev pub EachOffset : ℕ → (ℕ → ℕ) → X86_64Relocation → Type 0
 EachOffset n read name =
     EachRewritten name (λ l i chosen.
     IsSomeAnd (x86_64_row name) (LeadsToTheSame n read name l i))
 
+-- Of every offset in a module's block that became one from the thread pointer. One of 32 bits is
+-- sign-extended.
 abbrev pub Offsets : Type 0
 Offsets =
     EachOffset 4 extended names.R_X86_64_DTPOFF32
     × EachOffset 8 (λ offset. offset) names.R_X86_64_DTPOFF64
 
--- of every `lea` of a descriptor's address that a linker rewrites, where no other rewrite or relocation
--- has a byte of it
+-- with n bytes before its field
 abbrev pub EachLea : ℕ → X86_64Relocation → (List ℕ → ℕ) → Type 0
 EachLea n name register_of =
     EachRewritten name (λ l i chosen.
@@ -219,13 +219,14 @@ EachLea n name register_of =
     AreAlone l i (o - n) (o + 4)
     → IsSomeAnd (x86_64_row names.R_X86_64_TPOFF32) (LeaDoesTheSame n name register_of l i chosen))
 
--- with REX and with REX2
+-- Of every `lea` of a descriptor's address that a linker rewrites, with REX and with REX2. No other
+-- rewrite or relocation has a byte of it.
 abbrev pub DescriptorAddresses : Type 0
 DescriptorAddresses =
     EachLea 3 names.R_X86_64_GOTPC32_TLSDESC reg_after_rex
     × EachLea 4 names.R_X86_64_CODE_4_GOTPC32_TLSDESC reg_after_rex2
 
--- and of every call of its function
+-- Of every call of a descriptor's function that a linker rewrites, by the same premise.
 abbrev pub DescriptorCalls : Type 0
 DescriptorCalls =
     EachRewritten names.R_X86_64_TLSDESC_CALL (λ l i chosen.

@@ -4,11 +4,20 @@
 //! `linker_laws`.
 
 ghost use Rattle.linker_final.specs.AArch64Final as aarch64_final;
+ghost use Rattle.linker_final.specs.Final as final_bytes;
 ghost use Rattle.linker_final.specs.LoongArchFinal as loongarch64_final;
 ghost use Rattle.linker_final.specs.Ppc64Final as ppc64_final;
 ghost use Rattle.linker_final.specs.RiscVFinal as riscv64_final;
 ghost use Rattle.linker_final.specs.X86Final as x86_64_final;
 ghost use Rattle.linker_final.specs.X86ThreadFinal as x86_64_threads;
+
+/// All architectures: what no rewrite took. Each byte that neither a rewrite nor a field has is the
+/// object's. Each relocation that is neither rewritten nor taken along is the object's, and its field
+/// holds its part of what its relocations compose.
+pub fn others()
+    ensures bytes { final_bytes.OtherBytes }
+    ensures fields { final_bytes.OtherFields }
+{}
 
 /// x86-64: each instruction whose operand in the GOT became an address, a distance or an offset from
 /// the thread pointer takes every state in which the GOT's entry holds that to the same state as the

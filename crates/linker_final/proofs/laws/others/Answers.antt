@@ -1,0 +1,5 @@
+use Rattle.linker_final.proofs.Others.{bytes, fields}
+use Rattle.linker_final.proofs.laws.others.Goals as goal
+
+pub returns : goal.returns
+returns c = record { bytes = bytes; fields = fields }
