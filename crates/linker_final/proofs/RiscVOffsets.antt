@@ -1,10 +1,12 @@
--- Low parts of RISC-V that became ones over the thread pointer do in the final bytes what the object's do.
+-- Low parts of RISC-V that became ones over the thread pointer do in the final bytes what the object's do,
+-- and what is deleted before them does nothing that is left.
 use Rattle.std.proofs.Common.{◌≡◌, ℕ, ◌+◌, ◌≤◌, [], ◌∷◌, length, refl, sym, ap, subst, ◌∙◌, arith, Option, Some, None, Ok, IsSomeAnd}
 use Rattle.std.specs.Prelude.{IsTrue}
 use Rattle.std.specs.Int.{w32, from_le_bytes}
 use Rattle.linker_elf.specs.Applied.{IsApplied}
 use Rattle.linker_elf.specs.Choices.{entry}
 use Rattle.linker_elf.specs.ElfNames.{code_of}
+use Rattle.linker_elf.specs.Originals.{HasWord}
 use Rattle.linker_elf.specs.RiscVRelocations.{pair_row, riscv_name, riscv_row}
 use Rattle.linker_elf.specs.declared.elf.RelocationInstruction.TheVariants as insns
 use Rattle.linker_elf.specs.declared.elf.RelocationKind.TheVariants.{TpOff}
@@ -17,12 +19,13 @@ use Rattle.linker_final.proofs.RiscVChosen.{IsOfEntry, of_entry}
 use Rattle.linker_final.proofs.RiscVWritten.{IsAfter, applied_there, becomes, bytes_there, long_there, made_is, rewritten_after, word_bytes}
 use Rattle.linker_final.specs.AArch64Final.{instruction_at}
 use Rattle.linker_final.specs.Final.{AreBytes}
-use Rattle.linker_final.specs.RiscVFinal.{LowPartDoesTheSame, LowParts, LowPartsOf}
+use Rattle.linker_final.specs.RiscVFinal.{HighParts, LowPartDoesTheSame, LowParts, LowPartsOf, Sums}
 use Rattle.linker_laws.specs.Machine.{Relocated}
 use Rattle.linker_laws.specs.RiscVMachine.{Action, action_of}
 use Rattle.linker_laws.specs.RiscVRewriteLaws.{Laws, action_at, after_rewrite, offset_row}
-use Rattle.linker_riscv64.specs.RiscVRewrites.{IsAskedFor, adds_low12, by_low_offset, funct3_of, opcode_of, riscv_entries, riscv_matches, tp, with_rs1}
+use Rattle.linker_riscv64.specs.RiscVRewrites.{IsAddTp, IsAskedFor, IsLui, adds_low12, by_low_offset, funct3_of, opcode_of, riscv_entries, riscv_matches, tp, with_rs1}
 use Rattle.linker_riscv64.specs.declared.rewrites.RelaxationKind.TheVariants as kinds
+use Rattle.linker_rewriting.specs.Decisions.{deleted_of}
 use Rattle.linker_rewriting.specs.Rewritten.{IsMade}
 use Rattle.linker_rewriting.specs.declared.decisions.Decision.TheVariants.{Rewritten}
 use Rattle.linker_section.specs.Needed.{entry_of}
@@ -31,7 +34,7 @@ use Rattle.linker_section.specs.Values.{entry_address, operands_by, operands_wit
 use Rattle.linker_section.specs.declared.facts.Addresses.{Addresses}
 use Rattle.linker_section.specs.declared.facts.Symbol.{Symbol}
 use Rattle.linker_section.specs.declared.relocations.Rela.{Rela}
-use Rattle.linker_utils.specs.Architectures.{relaxation_rewrite}
+use Rattle.linker_utils.specs.Architectures.{relaxation_deleted, relaxation_rewrite}
 use Rattle.linker_utils.specs.declared.elf.Architecture.TheVariants.{RiscV}
 
 -- ---- rows
@@ -134,3 +137,35 @@ low_parts laws = (
   low_parts_of laws names.R_RISCV_TPREL_LO12_I low_i of_low_i refl refl (λ section o asked. asked) (λ addresses r symbol. refl),
   low_parts_of laws names.R_RISCV_TPREL_LO12_S low_s of_low_s refl refl (λ section o asked. asked) (λ addresses r symbol. refl),
 )
+
+-- ---- what is deleted
+
+pub high_parts : Laws → HighParts
+high_parts laws l linked riscv i chosen below is_name decided =
+    let o = (relocation_in l.relocations i).offset in
+    let lui = instruction_at l.section o in
+    let by : IsOfEntry names.R_RISCV_TPREL_HI20 (entry kinds.Delete names.R_RISCV_NONE by_low_offset) l.section o chosen =
+    of_entry l linked riscv i (Rewritten chosen) chosen below decided refl names.R_RISCV_TPREL_HI20 tt is_name
+    (entry kinds.Delete names.R_RISCV_NONE by_low_offset) refl in
+    let asked = by.asked in
+    let long = long_there l.section o asked.0 in
+    let there : HasWord lui 0 IsLui = (omega (arith, long), subst IsLui (word_same l.section o) (asked.1)) in (
+      ap deleted_of decided ∙ ap relaxation_deleted by.kind_is,
+      λ symbol is_symbol h k differs original low small new_small alike of_original.
+          laws.high_offsets lui 0 there _ low original [] of_original h k differs small new_small alike,
+    )
+
+pub sums : Laws → Sums
+sums laws l linked riscv i chosen below is_name decided =
+    let o = (relocation_in l.relocations i).offset in
+    let add = instruction_at l.section o in
+    let by : IsOfEntry names.R_RISCV_TPREL_ADD (entry kinds.Delete names.R_RISCV_NONE by_low_offset) l.section o chosen =
+    of_entry l linked riscv i (Rewritten chosen) chosen below decided refl names.R_RISCV_TPREL_ADD tt is_name
+    (entry kinds.Delete names.R_RISCV_NONE by_low_offset) refl in
+    let asked = by.asked in
+    let long = long_there l.section o asked.0 in
+    let there : HasWord add 0 IsAddTp = (omega (arith, long), subst IsAddTp (word_same l.section o) (asked.1)) in (
+      ap deleted_of decided ∙ ap relaxation_deleted by.kind_is,
+      λ h k differs small new_small alike tp_same wide zero_there.
+          laws.sums add 0 there [] differs h k small new_small alike tp_same wide zero_there,
+    )

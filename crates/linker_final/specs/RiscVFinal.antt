@@ -1,8 +1,8 @@
 -- RISC-V: in the final bytes of a section rewritten instructions do what the object's do with the
 -- values of their relocations (RISC-V ELF psABI, "PC-Relative Symbol Addresses", "Local-Exec TLS
 -- Relaxation", "TLS Descriptors -> Local Exec Relaxation").
-use Rattle.std.specs.Prelude.{◌≡◌, ◌≢◌, ℕ, ◌+◌, ◌<◌, ◌^◌, ◌==◌, Bool, List, [], ◌++◌, Some, Option}
-use Rattle.std.specs.Prelude.{IsSomeAnd, slice_get, ⊤}
+use Rattle.std.specs.Prelude.{◌≡◌, ◌≢◌, ℕ, ◌+◌, ◌<◌, ◌^◌, ◌==◌, Bool, false, List, [], ◌++◌}
+use Rattle.std.specs.Prelude.{Some, Option, IsSomeAnd, slice_get, ⊤}
 use Rattle.linker_elf.specs.ElfNames.{IsNameOf}
 use Rattle.linker_elf.specs.RiscVRelocations.{riscv_name, riscv_row}
 use Rattle.linker_elf.specs.Value.{sum_64, difference_64}
@@ -17,16 +17,17 @@ use Rattle.linker_final.specs.Final.{Linked, IsLinked, count}
 use Rattle.linker_laws.specs.Machine.{Relocated, but, loaded}
 use Rattle.linker_laws.specs.RiscVMachine.{Action, Hart, register, rs1_of, rs2_of}
 use Rattle.linker_laws.specs.RiscVRewriteLaws.{AreAlike, Changes, Descriptor, DescriptorOf}
-use Rattle.linker_laws.specs.RiscVRewriteLaws.{EndAsReturned, EndSo, GoOn, HaveGoneOn, IsLowOffset}
-use Rattle.linker_laws.specs.RiscVRewriteLaws.{StoresTheSame, action_at, differs_after}
-use Rattle.linker_laws.specs.RiscVRewriteLaws.{even_in_thread, no_register, of_entry, offset_row}
-use Rattle.linker_laws.specs.RiscVRewriteLaws.{scratch_of, word_of}
+use Rattle.linker_laws.specs.RiscVRewriteLaws.{EndAsReturned, EndSo, GoOn, HasThreadPointer}
+use Rattle.linker_laws.specs.RiscVRewriteLaws.{HasZero, HaveGoneOn, IsLowOffset, StoresTheSame}
+use Rattle.linker_laws.specs.RiscVRewriteLaws.{action_at, differs_after, even_in_thread}
+use Rattle.linker_laws.specs.RiscVRewriteLaws.{no_register, of_entry, offset_row, scratch_of}
+use Rattle.linker_laws.specs.RiscVRewriteLaws.{word_of}
 use Rattle.linker_laws.specs.Schemes.{AreAddresses, entry_and_addend, symbol_address}
-use Rattle.linker_rewriting.specs.Decisions.{decision_at}
+use Rattle.linker_rewriting.specs.Decisions.{decision_at, deleted_of}
 use Rattle.linker_rewriting.specs.Labels.{IsHighIn}
 use Rattle.linker_rewriting.specs.declared.decisions.Decision.TheVariants.{Redirected, Rewritten}
 use Rattle.linker_rewriting.specs.declared.decisions.Subject.{Subject}
-use Rattle.linker_riscv64.specs.RiscVRewrites.{rd_of, tp}
+use Rattle.linker_riscv64.specs.RiscVRewrites.{deleted_from, rd_of, tp}
 use Rattle.linker_riscv64.specs.declared.rewrites.RelaxationKind.{RelaxationKind}
 use Rattle.linker_riscv64.specs.declared.rewrites.RelaxationKind.TheVariants as kinds
 use Rattle.linker_section.specs.Relocations.{relocation_in}
@@ -100,6 +101,40 @@ LowPartDoesTheSame l i action row =
     × GoOn action (rd_of word) (even_in_thread (register k tp) operands) (sum_64 h.pc 4)
     (sum_64 k.pc 4) a b)
 
+-- ---- what is deleted before them
+
+-- the four bytes of an instruction
+abbrev pub IsDeleted : Linked → ℕ → Type 0
+IsDeleted l i = deleted_of (decision_at l.decisions i) ≡ deleted_from 0 4
+
+-- A `lui` is deleted. One hart executes the object's with the value of its relocation, a number of
+-- 12 bits, and the other nothing. They were alike but for some registers, and are but for that of
+-- the `lui` too, where the first has 0.
+abbrev pub HighPartGoes : Linked → ℕ → RelocationKindInfo → Type 0
+HighPartGoes l i row =
+    let r = relocation_in l.relocations i in
+    let lui = instruction_at l.section r.offset in
+    IsDeleted l i
+    × ((symbol : Symbol) → slice_get l.symbols r.symbol ≡ Some symbol
+    → (h k : Hart) (differs : ℕ → Bool) (original : List ℕ)
+    → let operands = operands_with RiscV l.addresses row symbol r 0 in
+    IsLowOffset operands → h.pc < 2 ^ 64 → k.pc < 2 ^ 64 → AreAlike differs h k
+    → Relocated (riscv_row names.R_RISCV_TPREL_HI20) operands lui original
+    → EndSo 1 original h 0 [] k (λ a b.
+    HasZero differs (rd_of (word_of lui)) (sum_64 h.pc 4) a b × (b.pc ≡ k.pc)))
+
+-- So is an `add` of the thread pointer. It adds to 0, and then the first has the thread pointer's
+-- number in its register.
+abbrev pub SumGoes : Linked → ℕ → Type 0
+SumGoes l i =
+    let add = instruction_at l.section (relocation_in l.relocations i).offset in
+    IsDeleted l i
+    × ((h k : Hart) (differs : ℕ → Bool) → h.pc < 2 ^ 64 → k.pc < 2 ^ 64 → AreAlike differs h k
+    → differs tp ≡ false → register k tp < 2 ^ 64 → register h (rs1_of (word_of add)) ≡ 0
+    → EndSo 1 add h 0 [] k (λ a b.
+    HasThreadPointer differs (rd_of (word_of add)) (register k tp) (sum_64 h.pc 4) a b
+    × (b.pc ≡ k.pc) × (register b tp ≡ register k tp)))
+
 -- ---- TLS descriptors
 
 -- The relocation at an index has a name, and is so many bytes behind the high part of a TLS
@@ -172,6 +207,22 @@ LowPartsOf name =
 
 abbrev pub LowParts : Type 0
 LowParts = LowPartsOf names.R_RISCV_TPREL_LO12_I × LowPartsOf names.R_RISCV_TPREL_LO12_S
+
+-- of every `lui` of such an offset, and of every `add`
+abbrev pub HighParts : Type 0
+HighParts =
+    (l : Linked) → IsLinked l → l.setting.architecture ≡ RiscV
+    → (i : ℕ) (chosen : Choice Relaxation ℕ) → i < count l
+    → IsNameOf riscv_name (relocation_in l.relocations i).code names.R_RISCV_TPREL_HI20
+    → decision_at l.decisions i ≡ Rewritten chosen
+    → IsSomeAnd (riscv_row names.R_RISCV_TPREL_HI20) (HighPartGoes l i)
+
+abbrev pub Sums : Type 0
+Sums =
+    (l : Linked) → IsLinked l → l.setting.architecture ≡ RiscV
+    → (i : ℕ) (chosen : Choice Relaxation ℕ) → i < count l
+    → IsNameOf riscv_name (relocation_in l.relocations i).code names.R_RISCV_TPREL_ADD
+    → decision_at l.decisions i ≡ Rewritten chosen → SumGoes l i
 
 -- of every sequence of a TLS descriptor whose last two instructions became those of local-exec, and
 -- of every one whose last alone did, where the offset is a number of 12 bits

@@ -1,7 +1,7 @@
 use Rattle.linker_final.proofs.RiscVDescriptors.{descriptors, short_descriptors}
 use Rattle.linker_final.proofs.RiscVLoads.{joined}
 use Rattle.linker_final.proofs.RiscVNops.{nops}
-use Rattle.linker_final.proofs.RiscVOffsets.{low_parts}
+use Rattle.linker_final.proofs.RiscVOffsets.{high_parts, low_parts, sums}
 use Rattle.linker_final.proofs.laws.riscv64.Goals as goal
 
 pub returns : goal.returns
@@ -10,6 +10,8 @@ returns c =
     record {
       got_loads = joined laws;
       low_parts = low_parts laws;
+      high_parts = high_parts laws;
+      sums = sums laws;
       descriptors = descriptors laws;
       short_descriptors = short_descriptors laws;
       nops = nops laws;
