@@ -20,7 +20,7 @@ use Rattle.linker_final.proofs.AArch64Written.{rela, word_same}
 use Rattle.linker_final.proofs.InstructionFields.{IsOfInstruction, applied_found}
 use Rattle.linker_final.proofs.Labels.{low_found}
 use Rattle.linker_final.proofs.RiscVChosen.{IsOfEntry, of_entry}
-use Rattle.linker_final.proofs.RiscVWritten.{IsAfter, applied_there, becomes, bytes_there, long_there, made_is, rewritten_after, row_after, stays, within_after, word_bytes}
+use Rattle.linker_final.proofs.RiscVWritten.{IsAfter, applied_there, are_rewritten, becomes, bytes_there, long_there, made_is, rewritten_after, row_after, stays, within_after, word_bytes}
 use Rattle.linker_final.specs.AArch64Final.{IsRewrittenByNoOther, instruction_at}
 use Rattle.linker_final.specs.Final.{AreBytes, Linked, IsLinked}
 use Rattle.linker_final.specs.RiscVFinal.{AreOfLoad, GotLoads, LoadsTheSame}
@@ -107,12 +107,12 @@ module _ (laws : Laws) (l : Linked) (linked : IsLinked l) (riscv : l.setting.arc
 
   high_entry : IsOfEntry names.R_RISCV_GOT_HI20 (entry kinds.NoOp names.R_RISCV_PCREL_HI20 (without_got [])) l.section first.offset of.high_chosen
   high_entry =
-      of_entry l linked riscv i (Rewritten of.high_chosen) of.high_chosen of.first_below of.high_decided refl names.R_RISCV_GOT_HI20 tt of.high
+      of_entry l (are_rewritten l linked) riscv i (Rewritten of.high_chosen) of.high_chosen of.first_below of.high_decided refl names.R_RISCV_GOT_HI20 tt of.high
       (entry kinds.NoOp names.R_RISCV_PCREL_HI20 (without_got [])) refl
 
   low_entry : IsOfEntry names.R_RISCV_PCREL_LO12_I (entry kinds.LdToAddi names.R_RISCV_PCREL_LO12_I (without_got (got_high_part ∷ []))) l.section second.offset of.low_chosen
   low_entry =
-      of_entry l linked riscv j (Rewritten of.low_chosen) of.low_chosen of.second_below of.low_decided refl names.R_RISCV_PCREL_LO12_I tt of.low
+      of_entry l (are_rewritten l linked) riscv j (Rewritten of.low_chosen) of.low_chosen of.second_below of.low_decided refl names.R_RISCV_PCREL_LO12_I tt of.low
       (entry kinds.LdToAddi names.R_RISCV_PCREL_LO12_I (without_got (got_high_part ∷ []))) refl
 
   abbrev high_rela : Rela
@@ -123,12 +123,12 @@ module _ (laws : Laws) (l : Linked) (linked : IsLinked l) (riscv : l.setting.arc
 
   high_is : relocation_in l.relocations_after i ≡ high_rela
   high_is =
-      rewritten_after l linked i of.high_chosen of.first_below kinds.NoOp names.R_RISCV_PCREL_HI20 high_entry.kind_is high_entry.code_is
+      rewritten_after l (are_rewritten l linked) i of.high_chosen of.first_below kinds.NoOp names.R_RISCV_PCREL_HI20 high_entry.kind_is high_entry.code_is
       (λ o. refl) (λ a. refl) of.high_decided
 
   low_is : relocation_in l.relocations_after j ≡ low_rela
   low_is =
-      rewritten_after l linked j of.low_chosen of.second_below kinds.LdToAddi names.R_RISCV_PCREL_LO12_I low_entry.kind_is low_entry.code_is
+      rewritten_after l (are_rewritten l linked) j of.low_chosen of.second_below kinds.LdToAddi names.R_RISCV_PCREL_LO12_I low_entry.kind_is low_entry.code_is
       (λ o. refl) (λ a. refl) of.low_decided
 
   module _ (symbol : Symbol) (is_symbol : slice_get l.symbols first.symbol ≡ Some symbol) where
@@ -194,7 +194,7 @@ module _ (laws : Laws) (l : Linked) (linked : IsLinked l) (riscv : l.setting.arc
       (ap (λ k. window_of_rewrite (relaxation_rewrite k)) high_entry.kind_is) alone inside in
       let made : instruction_at l.rewritten (o + 4) ≡ after_rewrite kinds.LdToAddi ld 0 =
       subst (λ n. instruction_at l.rewritten n ≡ rewritten (Some (rewrites_word load_to_addi)) (instruction_at l.section n) 0) next
-      (becomes l linked j of.second_below (Rewritten of.low_chosen) of.low_decided load_to_addi
+      (becomes l (are_rewritten l linked) j of.second_below (Rewritten of.low_chosen) of.low_decided load_to_addi
       (λ done. subst (λ k. IsMade (relaxation_rewrite k) second.offset l.section l.rewritten) low_entry.kind_is done) inside') in
       let high : Relocated (riscv_row names.R_RISCV_PCREL_HI20) y auipc (instruction_at l.final o) =
       record {

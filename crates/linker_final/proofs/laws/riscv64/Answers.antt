@@ -1,7 +1,7 @@
-use Rattle.linker_final.proofs.RiscVDescriptors.{descriptors, short_descriptors}
+use Rattle.linker_final.proofs.RiscVDescriptors.{descriptors, descriptors_anywhere, short_descriptors, short_descriptors_anywhere}
 use Rattle.linker_final.proofs.RiscVLoads.{joined}
 use Rattle.linker_final.proofs.RiscVNops.{nops}
-use Rattle.linker_final.proofs.RiscVOffsets.{high_parts, low_parts, sums}
+use Rattle.linker_final.proofs.RiscVOffsets.{high_parts, low_parts, low_parts_anywhere, sums}
 use Rattle.linker_final.proofs.laws.riscv64.Goals as goal
 
 pub returns : goal.returns
@@ -15,4 +15,7 @@ returns c =
       descriptors = descriptors laws;
       short_descriptors = short_descriptors laws;
       nops = nops laws;
+      low_parts_anywhere = low_parts_anywhere laws;
+      descriptors_anywhere = descriptors_anywhere laws;
+      short_descriptors_anywhere = short_descriptors_anywhere laws;
     }
