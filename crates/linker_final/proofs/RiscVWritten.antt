@@ -70,7 +70,13 @@ made_is new (p ∷ q ∷ r ∷ s ∷ t ∷ more) long = absurd (omega (arith, lo
 
 pub are_rewritten : (l : Linked) → IsLinked l → AreRewritten l
 are_rewritten l linked =
-    record { decided = linked.decided; relocations = linked.relocations; done = linked.done }
+    record {
+      decided = linked.decided;
+      relocations = linked.relocations;
+      done = linked.done;
+      others = linked.others;
+      same_length = linked.same_length;
+    }
 
 module _ (l : Linked) (made : AreRewritten l) (i : ℕ) (chosen : Choice Relaxation ℕ) (below : i < count l)
     (kind : RelaxationKind) (name : RiscVRelocation) (kind_is : chosen.kind ≡ relaxations.RiscV kind)
@@ -161,7 +167,7 @@ module _ (l : Linked) (linked : IsLinked l) (riscv : l.setting.architecture ≡ 
 
 -- ---- instructions
 
-module _ (l : Linked) (linked : IsLinked l) (i : ℕ) (below : i < count l) (decision : Decision)
+module _ (l : Linked) (made : AreRewritten l) (i : ℕ) (below : i < count l) (decision : Decision)
     (decided : decision_at l.decisions i ≡ decision) where
   abbrev o : ℕ
   o = (relocation_in l.relocations i).offset
@@ -170,9 +176,9 @@ module _ (l : Linked) (linked : IsLinked l) (i : ℕ) (below : i < count l) (dec
   pub stays : window_of decision ≡ record { back = 0; len = 0 } → IsRewrittenByNoOther l i o
       → o + 4 ≤ length l.section → instruction_at l.rewritten o ≡ instruction_at l.section o
   stays none alone inside =
-      let long = linked.same_length in
+      let long = made.same_length in
       same_windows o 4 l.rewritten l.section (omega (arith, inside, long)) (sym long)
-      (λ at from less. linked.others at (λ j lj. elim (cases_eq j i) [
+      (λ at from less. made.others at (λ j lj. elim (cases_eq j i) [
         | inl same ↦ inr (subst (λ k. written_end_at l.relocations l.decisions k ≤ at) (sym same) (own at from))
         | inr isnt ↦ alone j at lj isnt from less
       ]))
@@ -183,20 +189,15 @@ module _ (l : Linked) (linked : IsLinked l) (i : ℕ) (below : i < count l) (dec
           ap (λ d. written_end_by d o) decided ∙ ap (λ (w : RewriteWindow). o - w.back + w.len) none in
           omega (arith, end, from)
 
--- one of which another word is made
-module _ (l : Linked) (made : AreRewritten l) (i : ℕ) (below : i < count l) (decision : Decision)
-    (decided : decision_at l.decisions i ≡ decision) where
-  abbrev at : ℕ
-  at = (relocation_in l.relocations i).offset
-
+  -- one of which another word is made
   pub becomes : (new : ℕ → ℕ)
-      → (IsDone decision at l.section l.rewritten → IsMade (Some (rewrites_word new)) at l.section l.rewritten)
-      → at + 4 ≤ length l.section
-      → instruction_at l.rewritten at ≡ rewritten (Some (rewrites_word new)) (instruction_at l.section at) 0
+      → (IsDone decision o l.section l.rewritten → IsMade (Some (rewrites_word new)) o l.section l.rewritten)
+      → o + 4 ≤ length l.section
+      → instruction_at l.rewritten o ≡ rewritten (Some (rewrites_word new)) (instruction_at l.section o) 0
   becomes new by inside =
-      let done : IsMade (Some (rewrites_word new)) at l.section l.rewritten =
-      by (subst (λ d. IsDone d at l.section l.rewritten) decided (made.done i below)) in
-      let here : instruction_at l.rewritten at ≡ to_le_bytes w32 (new (from_le_bytes w32 (instruction_at l.section at))) =
+      let done : IsMade (Some (rewrites_word new)) o l.section l.rewritten =
+      by (subst (λ d. IsDone d o l.section l.rewritten) decided (made.done i below)) in
+      let here : instruction_at l.rewritten o ≡ to_le_bytes w32 (new (from_le_bytes w32 (instruction_at l.section o))) =
       subst (λ n. instruction_at l.rewritten n ≡ to_le_bytes w32 (new (from_le_bytes w32 (instruction_at l.section n))))
-      (let e : at - 0 ≡ at = omega arith in e) done in
-      here ∙ sym (made_is new (instruction_at l.section at) (long_there l.section at inside))
+      (let e : o - 0 ≡ o = omega arith in e) done in
+      here ∙ sym (made_is new (instruction_at l.section o) (long_there l.section o inside))

@@ -18,11 +18,10 @@ use Rattle.linker_laws.specs.Machine.{Relocated, but, loaded}
 use Rattle.linker_laws.specs.RiscVMachine.{Action, Hart, register, rs1_of, rs2_of}
 use Rattle.linker_laws.specs.RiscVRewriteLaws.{AreAlike, Changes, Descriptor, DescriptorOf}
 use Rattle.linker_laws.specs.RiscVRewriteLaws.{EndAsReturned, EndSo, GoOn, HasThreadPointer}
-use Rattle.linker_laws.specs.RiscVRewriteLaws.{HasZero, HaveGoneOn, HaveOneOffset, IsLowOffset}
-use Rattle.linker_laws.specs.RiscVRewriteLaws.{StoresTheSame}
-use Rattle.linker_laws.specs.RiscVRewriteLaws.{action_at, differs_after, even_in_thread}
-use Rattle.linker_laws.specs.RiscVRewriteLaws.{no_register, of_entry, offset_row, scratch_of}
-use Rattle.linker_laws.specs.RiscVRewriteLaws.{word_of}
+use Rattle.linker_laws.specs.RiscVRewriteLaws.{HasZero, HaveAddress, HaveGoneOn, HaveOneOffset}
+use Rattle.linker_laws.specs.RiscVRewriteLaws.{IsLowOffset, StoresTheSame, action_at}
+use Rattle.linker_laws.specs.RiscVRewriteLaws.{differs_after, even_in_thread, no_register}
+use Rattle.linker_laws.specs.RiscVRewriteLaws.{of_entry, offset_row, scratch_of, word_of}
 use Rattle.linker_laws.specs.Schemes.{AreAddresses, entry_and_addend, symbol_address}
 use Rattle.linker_rewriting.specs.Decisions.{decision_at, deleted_of}
 use Rattle.linker_rewriting.specs.Labels.{IsHighIn}
@@ -41,22 +40,26 @@ use Rattle.linker_utils.specs.declared.elf.Architecture.TheVariants.{RiscV}
 
 -- ---- loads of addresses from the GOT
 
--- The relocations at two indexes are those of an `auipc` and of the `ld` behind it. The symbol of
--- the second labels the `auipc`. Both are rewritten.
-pub record AreOfLoad (l : Linked) (i j : ℕ) : Type 0 where
+-- The relocations at two indexes are those of an `auipc` and of the `ld` behind it, and both are
+-- rewritten.
+pub record AreOfPair (l : Linked) (i j : ℕ) : Type 0 where
   pub first_below : i < count l
   pub second_below : j < count l
   pub next : (relocation_in l.relocations j).offset ≡ (relocation_in l.relocations i).offset + 4
   pub high : IsNameOf riscv_name (relocation_in l.relocations i).code names.R_RISCV_GOT_HI20
   pub low : IsNameOf riscv_name (relocation_in l.relocations j).code names.R_RISCV_PCREL_LO12_I
-  pub label : Symbol
-  pub label_is : slice_get l.symbols (relocation_in l.relocations j).symbol ≡ Some label
-  pub labels : difference_64 label.address l.addresses.section
-      ≡ (relocation_in l.relocations i).offset
   pub high_chosen : Choice Relaxation ℕ
   pub high_decided : decision_at l.decisions i ≡ Rewritten high_chosen
   pub low_chosen : Choice Relaxation ℕ
   pub low_decided : decision_at l.decisions j ≡ Rewritten low_chosen
+
+-- The symbol of the second labels the `auipc`.
+pub record AreOfLoad (l : Linked) (i j : ℕ) : Type 0 where
+  pub pair : AreOfPair l i j
+  pub label : Symbol
+  pub label_is : slice_get l.symbols (relocation_in l.relocations j).symbol ≡ Some label
+  pub labels : difference_64 label.address l.addresses.section
+      ≡ (relocation_in l.relocations i).offset
 
 -- Two harts are alike before the `auipc` of a relocation at an index, and the entry at an address
 -- holds S + A. One runs the object's pair with the values of its relocations, and the other the
@@ -208,6 +211,28 @@ named_as name r subject =
       addend = subject.addend;
     }
 
+-- Where the entry holds S + A, the object's `auipc` and `ld` with the values of their relocations
+-- leave it in the register of the `ld`. The rewritten ones with the values of theirs leave S + A
+-- there, each of its own layout. Of other registers only that of the `auipc` may differ.
+abbrev pub LoadsTheSameAnywhere : Linked → ℕ → Type 0
+LoadsTheSameAnywhere l i =
+    let o = (relocation_in l.relocations i).offset in
+    let auipc = instruction_at l.section o in
+    let ld = instruction_at l.section (o + 4) in
+    let base = rd_of (word_of auipc) in
+    rs1_of (word_of ld) ≡ base → base ≢ 0
+    → (x y : Operands) → AreAddresses x → AreAddresses y
+    → (h k : Hart) (auipc_of ld_of high low : List ℕ)
+    → loaded 8 h.memory (entry_and_addend x) ≡ symbol_address x
+    → h.pc ≡ x.place → k.pc ≡ y.place → AreAlike no_register h k
+    → Relocated (riscv_row names.R_RISCV_GOT_HI20) x auipc auipc_of
+    → Relocated (riscv_row names.R_RISCV_PCREL_LO12_I) (of_entry x) ld ld_of
+    → Relocated (riscv_row names.R_RISCV_PCREL_HI20) y (instruction_at l.rewritten o) high
+    → Relocated (riscv_row names.R_RISCV_PCREL_LO12_I) y (instruction_at l.rewritten (o + 4)) low
+    → EndSo 2 (auipc_of ++ ld_of) h 2 (high ++ low) k
+    (HaveAddress base (rd_of (word_of ld)) (symbol_address x) (symbol_address y) (sum_64 h.pc 8)
+    (sum_64 k.pc 8))
+
 -- The relocation of a low part stays. From a base with the thread pointer's number, the object's
 -- instruction with the value of its relocation computes what the rewritten one does with the value
 -- of the same offset, each at its own place.
@@ -324,6 +349,18 @@ Nops =
     × NopsOf names.R_RISCV_TLSDESC_ADD_LO12
 
 -- ---- of what is left by the call that rewrites
+
+-- of every load from the GOT
+abbrev pub GotLoadsAnywhere : Type 0
+GotLoadsAnywhere =
+    (l : Linked) → AreRewritten l → l.setting.architecture ≡ RiscV
+    → (i j : ℕ) → AreOfPair l i j
+    → IsRewrittenByNoOther l i (relocation_in l.relocations i).offset
+    → let r = relocation_in l.relocations i in
+    let low = relocation_in l.relocations j in
+    (relocation_in l.relocations_after i ≡ named_as names.R_RISCV_PCREL_HI20 r r)
+    × (relocation_in l.relocations_after j ≡ named_as names.R_RISCV_PCREL_LO12_I low low)
+    × LoadsTheSameAnywhere l i
 
 -- of every low part
 abbrev pub LowPartsAnywhereOf : RiscVRelocation → Type 0

@@ -1,5 +1,5 @@
 use Rattle.linker_final.proofs.RiscVDescriptors.{descriptors, descriptors_anywhere, short_descriptors, short_descriptors_anywhere}
-use Rattle.linker_final.proofs.RiscVLoads.{joined}
+use Rattle.linker_final.proofs.RiscVLoads.{got_loads_anywhere, joined}
 use Rattle.linker_final.proofs.RiscVNops.{nops}
 use Rattle.linker_final.proofs.RiscVOffsets.{high_parts, low_parts, low_parts_anywhere, sums}
 use Rattle.linker_final.proofs.laws.riscv64.Goals as goal
@@ -15,6 +15,7 @@ returns c =
       descriptors = descriptors laws;
       short_descriptors = short_descriptors laws;
       nops = nops laws;
+      got_loads_anywhere = got_loads_anywhere laws;
       low_parts_anywhere = low_parts_anywhere laws;
       descriptors_anywhere = descriptors_anywhere laws;
       short_descriptors_anywhere = short_descriptors_anywhere laws;
