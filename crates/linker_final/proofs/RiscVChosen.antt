@@ -8,7 +8,7 @@ use Rattle.linker_elf.specs.declared.elf.choice.LinkFacts.{LinkFacts}
 use Rattle.linker_elf.specs.declared.riscv64.relocations.RiscVRelocation.{RiscVRelocation}
 use Rattle.linker_final.proofs.Chosen.{choice_of, chosen_or_labelled}
 use Rattle.linker_final.proofs.Entries.{IsOfApplied, of_first}
-use Rattle.linker_final.specs.Final.{Linked, IsLinked, count}
+use Rattle.linker_final.specs.Final.{AreRewritten, Linked, count}
 use Rattle.linker_riscv64.specs.RiscVRewrites.{AppliesToRiscV, IsAskedFor, IsRiscVChoice, RiscVEntry, riscv_entries}
 use Rattle.linker_riscv64.specs.declared.rewrites.RelaxationKind.{RelaxationKind}
 use Rattle.linker_riscv64.specs.declared.rewrites.RelaxationKind.TheVariants as kinds
@@ -99,12 +99,12 @@ of_high s bytes section n r chosen subject high is_high (inr of) =
     ∙ ap (λ m. subject_of (relocation_in bytes m)) (one_index s bytes r (of.0) high (of.1) is_high)
 
 -- a relocation gets the symbol and the addend of the high part at its label
-pub of_subject : (l : Linked) → IsLinked l → (n : ℕ) (chosen : Choice Relaxation ℕ) (subject : Subject)
+pub of_subject : (l : Linked) → AreRewritten l → (n : ℕ) (chosen : Choice Relaxation ℕ) (subject : Subject)
     → n < count l → decision_at l.decisions n ≡ Redirected chosen subject
     → (high : ℕ) → IsHighIn l.setting l.relocations (relocation_in l.relocations n) (Some high)
     → subject ≡ subject_of (relocation_in l.relocations high)
-of_subject l linked n chosen subject below decided high is_high =
-    elim (chosen_or_labelled l.setting l.kept l.relocations l.section l.decisions (count l) n (Redirected chosen subject) chosen linked.decided below decided refl) [
+of_subject l made n chosen subject below decided high is_high =
+    elim (chosen_or_labelled l.setting l.kept l.relocations l.section l.decisions (count l) n (Redirected chosen subject) chosen made.decided below decided refl) [
       | inl alone ↦ absurd (let e : Redirected chosen subject ≡ Rewritten chosen = alone.is in cc)
       | inr label ↦
           of_high l.setting l.relocations l.section n (relocation_in l.relocations n) chosen subject high is_high label.label_is
@@ -139,7 +139,7 @@ of_named name section o facts chosen named kind_is code_is (e ∷ es) (inl this)
 of_named name section o facts chosen named kind_is code_is (e ∷ es) (inr other) =
     inr (of_named name section o facts chosen named kind_is code_is es other)
 
-module _ (l : Linked) (linked : IsLinked l) (riscv : l.setting.architecture ≡ RiscV) (i : ℕ)
+module _ (l : Linked) (made : AreRewritten l) (riscv : l.setting.architecture ≡ RiscV) (i : ℕ)
     (decision : Decision) (chosen : Choice Relaxation ℕ) (below : i < count l)
     (decided : decision_at l.decisions i ≡ decision) (by : choice_of decision ≡ Some chosen)
     (name : RiscVRelocation) (named : IsNamed (riscv_name name))
@@ -150,7 +150,7 @@ module _ (l : Linked) (linked : IsLinked l) (riscv : l.setting.architecture ≡ 
 
     anyhow : IsChosenAnyhow l.setting l.section r chosen
     anyhow =
-        elim (chosen_or_labelled l.setting l.kept l.relocations l.section l.decisions (count l) i decision chosen linked.decided below decided by) [
+        elim (chosen_or_labelled l.setting l.kept l.relocations l.section l.decisions (count l) i decision chosen made.decided below decided by) [
           | inl own ↦
               record { facts = own.chosen.facts; is_choice = own.chosen.is_choice; changed = own.chosen.changed }
           | inr label ↦ by_label l.setting l.relocations l.section i r decision chosen by label.label_is

@@ -1,8 +1,8 @@
 -- Sequences of TLS descriptors of RISC-V that became those of local-exec do in the final bytes what the
 -- object's do.
-use Rattle.std.proofs.Common.{◌≡◌, ℕ, ℤ, ◌+◌, ◌≤◌, List, length, refl, sym, ap, subst, ◌∙◌, inl, inr, arith, Some, Ok, IsSomeAnd}
+use Rattle.std.proofs.Common.{◌≡◌, ℕ, ℤ, ◌+◌, ◌<◌, ◌≤◌, List, length, refl, sym, ap, subst, ◌∙◌, inl, inr, arith, Some, Ok, IsSomeAnd}
 use Rattle.std.specs.Prelude.{slice_get}
-use Rattle.std.specs.Int.{w32, from_le_bytes}
+use Rattle.std.specs.Int.{w32, to_le_bytes}
 use Rattle.linker_base.specs.Rewrite.{addend_after, offset_after, rewritten}
 use Rattle.linker_elf.specs.Applied.{IsApplied}
 use Rattle.linker_elf.specs.ElfNames.{code_of}
@@ -19,10 +19,10 @@ use Rattle.linker_final.proofs.Written.{rela, with_operands}
 use Rattle.linker_final.proofs.InstructionFields.{IsOfInstruction}
 use Rattle.linker_final.proofs.RiscVChosen.{IsOfSome, of_some, of_subject}
 use Rattle.linker_final.proofs.RiscVOffsets.{low_i, of_low_i}
-use Rattle.linker_final.proofs.RiscVWritten.{IsAfter, applied_there, becomes, bytes_there, long_there, made_is, redirected_after, word_bytes}
+use Rattle.linker_final.proofs.RiscVWritten.{IsAfter, applied_there, are_rewritten, becomes, bytes_there, long_there, made_is, redirected_after, word_bytes}
 use Rattle.linker_final.specs.Final.{instruction_at}
-use Rattle.linker_final.specs.Final.{AreBytes, Linked, IsLinked}
-use Rattle.linker_final.specs.RiscVFinal.{Descriptors, IsOfDescriptor, ShortDescriptors}
+use Rattle.linker_final.specs.Final.{AreBytes, AreRewritten, Linked, IsLinked, count}
+use Rattle.linker_final.specs.RiscVFinal.{Descriptors, DescriptorsAnywhere, IsOfDescriptor, OffsetIsTheSameAnywhere, ShortDescriptors, ShortDescriptorsAnywhere, ShortOffsetIsTheSameAnywhere, named_as}
 use Rattle.linker_laws.specs.Machine.{Relocated}
 use Rattle.linker_laws.specs.RiscVRewriteLaws.{Laws, after_rewrite}
 use Rattle.linker_riscv64.specs.RiscVRewrites.{riscv_entries, riscv_rewrite, rewrites_word}
@@ -113,100 +113,200 @@ of_high_tp =
 
 -- ---- one instruction
 
-module _ (l : Linked) (linked : IsLinked l) (riscv : l.setting.architecture ≡ RiscV) (high : ℕ)
+module _ (l : Linked) (rewriting : AreRewritten l) (high : ℕ)
     (name : RiscVRelocation) (distance : ℕ) (kind : RelaxationKind) (n : ℕ)
     (of : IsOfDescriptor l high name distance kind n)
     (after_name : RiscVRelocation)
     (becomes_one : Becomes after_name l.section (relocation_in l.relocations n).offset of.chosen)
     (new : ℕ → ℕ) (rewrites : riscv_rewrite kind ≡ Some (rewrites_word new))
     (unmoved : (o : ℕ) → offset_after (riscv_rewrite kind) o ≡ o)
-    (same_addend : (a : ℤ) → addend_after (riscv_rewrite kind) a ≡ a)
-    (a : IsAfter after_name) (is_row : riscv_row after_name ≡ Some a.row) (of_row : IsOfInstruction 4 a.row)
-    (symbol : Symbol) (is_symbol : slice_get l.symbols (relocation_in l.relocations high).symbol ≡ Some symbol)
-    (x : Operands) where
+    (same_addend : (a : ℤ) → addend_after (riscv_rewrite kind) a ≡ a) where
   abbrev first : Rela
   first = relocation_in l.relocations high
 
   abbrev r : Rela
   r = relocation_in l.relocations n
 
-  abbrev after : Rela
-  after = rela r.offset (code_of (riscv_name after_name)) first.symbol first.addend
-
-  after_is : relocation_in l.relocations_after n ≡ after
+  pub after_is : relocation_in l.relocations_after n ≡ named_as after_name r first
   after_is =
-      redirected_after l linked n of.chosen of.below kind after_name of.kind_is becomes_one.code_is unmoved same_addend of.subject of.decided
+      redirected_after l rewriting n of.chosen of.below kind after_name of.kind_is becomes_one.code_is unmoved same_addend of.subject of.decided
       ∙ ap (λ (s : Subject). rela r.offset (code_of (riscv_name after_name)) s.symbol s.addend)
-      (of_subject l linked n of.chosen of.subject of.below of.decided high of.labels)
+      (of_subject l rewriting n of.chosen of.subject of.below of.decided high of.labels)
+
+  pub made_there : instruction_at l.rewritten (first.offset + distance)
+      ≡ rewritten (Some (rewrites_word new)) (instruction_at l.section (first.offset + distance)) 0
+  made_there =
+      subst (λ m. instruction_at l.rewritten m ≡ rewritten (Some (rewrites_word new)) (instruction_at l.section m) 0) of.behind
+      (becomes l rewriting n of.below (Redirected of.chosen of.subject) of.decided new
+      (λ done. subst (λ q. IsMade q r.offset l.section l.rewritten) rewrites
+      (subst (λ k. IsMade (relaxation_rewrite k) r.offset l.section l.rewritten) of.kind_is done)) becomes_one.inside)
+
+-- and its relocation in the final bytes
+module _ (l : Linked) (linked : IsLinked l) (riscv : l.setting.architecture ≡ RiscV) (high : ℕ)
+    (distance : ℕ) (n : ℕ) (below : n < count l)
+    (behind : (relocation_in l.relocations n).offset ≡ (relocation_in l.relocations high).offset + distance)
+    (after_name : RiscVRelocation)
+    (is_after : relocation_in l.relocations_after n ≡ named_as after_name (relocation_in l.relocations n) (relocation_in l.relocations high))
+    (inside : (relocation_in l.relocations n).offset + 4 ≤ length l.section)
+    (word : ℕ)
+    (made : instruction_at l.rewritten ((relocation_in l.relocations high).offset + distance) ≡ to_le_bytes w32 word)
+    (a : IsAfter after_name) (is_row : riscv_row after_name ≡ Some a.row) (of_row : IsOfInstruction 4 a.row)
+    (symbol : Symbol) (is_symbol : slice_get l.symbols (relocation_in l.relocations high).symbol ≡ Some symbol)
+    (x : Operands) where
+  abbrev at : ℕ
+  at = (relocation_in l.relocations high).offset + distance
+
+  abbrev after : Rela
+  after = named_as after_name (relocation_in l.relocations n) (relocation_in l.relocations high)
 
   pub relocated : operands_by RiscV l.addresses a.row after symbol
-      (entry_address l.addresses symbol (entry_of a.row first.addend symbol.is_thread_local))
+      (entry_address l.addresses symbol (entry_of a.row after.addend symbol.is_thread_local))
       ≡ Ok (operands_with RiscV l.addresses a.row symbol after 0)
       → value_of a.row x ≡ value_of a.row (operands_with RiscV l.addresses a.row symbol after 0)
-      → Relocated (riscv_row after_name) x (rewritten (Some (rewrites_word new)) (instruction_at l.section (first.offset + distance)) 0)
-      (instruction_at l.final (first.offset + distance))
+      → Relocated (riscv_row after_name) x (instruction_at l.rewritten at) (instruction_at l.final at)
   relocated no_entry same_value =
-      let o = r.offset in
-      let inside = becomes_one.inside in
-      let instruction = instruction_at l.section o in
       let sl = linked.same_length in
       let fl = linked.written.same_length in
-      let final_inside : o + 4 ≤ length l.final = omega (arith, inside, sl, fl) in
-      let made : instruction_at l.rewritten o ≡ rewritten (Some (rewrites_word new)) instruction 0 =
-      becomes l linked n of.below (Redirected of.chosen of.subject) of.decided new
-      (λ done. subst (λ q. IsMade q o l.section l.rewritten) rewrites
-      (subst (λ k. IsMade (relaxation_rewrite k) o l.section l.rewritten) of.kind_is done)) inside in
-      let is_made = made_is new instruction (long_there l.section o inside) in
-      let written : IsApplied a.row x (instruction_at l.rewritten o) (instruction_at l.final o) =
-      with_operands a.row (operands_with RiscV l.addresses a.row symbol after 0) x (instruction_at l.rewritten o) (instruction_at l.final o) same_value
-      (applied_there l linked riscv n of.below after_name a after after_is refl of_row symbol 0 no_entry is_symbol) in
-      let there : IsApplied a.row x (rewritten (Some (rewrites_word new)) instruction 0) (instruction_at l.final o) =
-      subst (λ xs. IsApplied a.row x xs (instruction_at l.final o)) made written in
-      subst (λ m. Relocated (riscv_row after_name) x (rewritten (Some (rewrites_word new)) (instruction_at l.section m) 0) (instruction_at l.final m)) of.behind
-      (record {
+      let final_inside : at + 4 ≤ length l.final = omega (arith, inside, behind, sl, fl) in
+      let written : IsApplied a.row x (instruction_at l.rewritten after.offset) (instruction_at l.final after.offset) =
+      with_operands a.row (operands_with RiscV l.addresses a.row symbol after 0) x (instruction_at l.rewritten after.offset) (instruction_at l.final after.offset) same_value
+      (applied_there l linked riscv n below after_name a after is_after refl of_row symbol 0 no_entry is_symbol) in
+      let there : IsApplied a.row x (instruction_at l.rewritten at) (instruction_at l.final at) =
+      subst (λ m. IsApplied a.row x (instruction_at l.rewritten m) (instruction_at l.final m)) behind written in
+      record {
         applied =
-            subst (λ q. IsSomeAnd q (λ row. IsApplied row x (rewritten (Some (rewrites_word new)) instruction 0) (instruction_at l.final o)))
-            (sym is_row) there;
-        len = long_there l.final o final_inside ∙ sym (ap length is_made);
-        old_bytes = subst AreBytes (sym is_made) (word_bytes (new (from_le_bytes w32 instruction)));
-        bytes = bytes_there l.final o linked.final_bytes;
-      })
+            subst (λ q. IsSomeAnd q (λ row. IsApplied row x (instruction_at l.rewritten at) (instruction_at l.final at))) (sym is_row) there;
+        len = long_there l.final at final_inside ∙ sym (ap length made);
+        old_bytes = subst AreBytes (sym made) (word_bytes word);
+        bytes = bytes_there l.final at linked.final_bytes;
+      }
 
 -- ---- the sequence
 
+module _ (laws : Laws) (l : Linked) (rewriting : AreRewritten l) (riscv : l.setting.architecture ≡ RiscV)
+    (high add call : ℕ)
+    (of_add : IsOfDescriptor l high names.R_RISCV_TLSDESC_ADD_LO12 8 kinds.AddiToLui add)
+    (of_call : IsOfDescriptor l high names.R_RISCV_TLSDESC_CALL 12 kinds.CallToAddi call) where
+  add_made : Becomes names.R_RISCV_TPREL_HI20 l.section (relocation_in l.relocations add).offset of_add.chosen
+  add_made =
+      add_becomes l.section (relocation_in l.relocations add).offset of_add.chosen of_add.kind_is
+      (of_some l rewriting riscv add (Redirected of_add.chosen of_add.subject) of_add.chosen of_add.below of_add.decided refl names.R_RISCV_TLSDESC_ADD_LO12 tt of_add.name_is)
+
+  call_made : Becomes names.R_RISCV_TPREL_LO12_I l.section (relocation_in l.relocations call).offset of_call.chosen
+  call_made =
+      call_becomes l.section (relocation_in l.relocations call).offset of_call.chosen of_call.kind_is
+      (of_some l rewriting riscv call (Redirected of_call.chosen of_call.subject) of_call.chosen of_call.below of_call.decided refl names.R_RISCV_TLSDESC_CALL tt of_call.name_is)
+
+  abbrev o : ℕ
+  o = (relocation_in l.relocations high).offset
+
+  add_after : relocation_in l.relocations_after add ≡ named_as names.R_RISCV_TPREL_HI20 (relocation_in l.relocations add) (relocation_in l.relocations high)
+  add_after =
+      after_is l rewriting high names.R_RISCV_TLSDESC_ADD_LO12 8 kinds.AddiToLui add of_add names.R_RISCV_TPREL_HI20 add_made
+      (λ _. 0x537) refl (λ o. refl) (λ a. refl)
+
+  call_after : relocation_in l.relocations_after call ≡ named_as names.R_RISCV_TPREL_LO12_I (relocation_in l.relocations call) (relocation_in l.relocations high)
+  call_after =
+      after_is l rewriting high names.R_RISCV_TLSDESC_CALL 12 kinds.CallToAddi call of_call names.R_RISCV_TPREL_LO12_I call_made
+      (λ _. 0x50513) refl (λ o. refl) (λ a. refl)
+
+  lui_there : instruction_at l.rewritten (o + 8) ≡ after_rewrite kinds.AddiToLui (instruction_at l.section (o + 8)) 0
+  lui_there =
+      made_there l rewriting high names.R_RISCV_TLSDESC_ADD_LO12 8 kinds.AddiToLui add of_add names.R_RISCV_TPREL_HI20 add_made
+      (λ _. 0x537) refl (λ o. refl) (λ a. refl)
+
+  addi_there : instruction_at l.rewritten (o + 12) ≡ after_rewrite kinds.CallToAddi (instruction_at l.section (o + 12)) 0
+  addi_there =
+      made_there l rewriting high names.R_RISCV_TLSDESC_CALL 12 kinds.CallToAddi call of_call names.R_RISCV_TPREL_LO12_I call_made
+      (λ _. 0x50513) refl (λ o. refl) (λ a. refl)
+
+  wherever : OffsetIsTheSameAnywhere l high
+  wherever x y one addresses function c h k auipc_of ld_of addi_of lui low ran small alike of_lui of_low =
+      laws.descriptor_to_local_exec function c x y h k
+      (instruction_at l.section o) (instruction_at l.section (o + 4)) (instruction_at l.section (o + 8)) (instruction_at l.section (o + 12)) (ran.0)
+      auipc_of ld_of addi_of (ran.1) addresses one small alike lui low
+      (subst (λ xs. Relocated (riscv_row names.R_RISCV_TPREL_HI20) y xs lui) lui_there of_lui)
+      (subst (λ xs. Relocated (riscv_row names.R_RISCV_TPREL_LO12_I) y xs low) addi_there of_low)
+
+pub descriptors_anywhere : Laws → DescriptorsAnywhere
+descriptors_anywhere laws l rewriting riscv high add call of_add of_call = (
+  add_after laws l rewriting riscv high add call of_add of_call,
+  call_after laws l rewriting riscv high add call of_add of_call,
+  wherever laws l rewriting riscv high add call of_add of_call,
+)
+
 pub descriptors : Laws → Descriptors
-descriptors laws l linked riscv high add call of_add of_call symbol is_symbol function c got h k auipc_of ld_of addi_of said descriptor object small alike =
+descriptors laws l linked riscv high add call of_add of_call symbol is_symbol function c got h k auipc_of ld_of addi_of said ran small alike =
+    let rewriting = are_rewritten l linked in
     let first = relocation_in l.relocations high in
     let o = first.offset in
-    let r = relocation_in l.relocations add in
-    let r2 = relocation_in l.relocations call in
     let x = operands_with RiscV l.addresses low_i.row symbol first got in
-    let made = add_becomes l.section r.offset of_add.chosen of_add.kind_is
-    (of_some l linked riscv add (Redirected of_add.chosen of_add.subject) of_add.chosen of_add.below of_add.decided refl names.R_RISCV_TLSDESC_ADD_LO12 tt of_add.name_is) in
-    let made2 = call_becomes l.section r2.offset of_call.chosen of_call.kind_is
-    (of_some l linked riscv call (Redirected of_call.chosen of_call.subject) of_call.chosen of_call.below of_call.decided refl names.R_RISCV_TLSDESC_CALL tt of_call.name_is) in
-    let lui : Relocated (riscv_row names.R_RISCV_TPREL_HI20) x (after_rewrite kinds.AddiToLui (instruction_at l.section (o + 8)) 0) (instruction_at l.final (o + 8)) =
-    relocated l linked riscv high names.R_RISCV_TLSDESC_ADD_LO12 8 kinds.AddiToLui add of_add names.R_RISCV_TPREL_HI20 made
-    (λ _. 0x537) refl (λ o. refl) (λ a. refl) high_tp refl of_high_tp symbol is_symbol x refl refl in
-    let low : Relocated (riscv_row names.R_RISCV_TPREL_LO12_I) x (after_rewrite kinds.CallToAddi (instruction_at l.section (o + 12)) 0) (instruction_at l.final (o + 12)) =
-    relocated l linked riscv high names.R_RISCV_TLSDESC_CALL 12 kinds.CallToAddi call of_call names.R_RISCV_TPREL_LO12_I made2
-    (λ _. 0x50513) refl (λ o. refl) (λ a. refl) low_i refl of_low_i symbol is_symbol x refl refl in
-    laws.descriptor_to_local_exec function c x x h k
-    (instruction_at l.section o) (instruction_at l.section (o + 4)) (instruction_at l.section (o + 8)) (instruction_at l.section (o + 12)) descriptor
-    auipc_of ld_of addi_of object descriptor.small refl small alike
-    (instruction_at l.final (o + 8)) (instruction_at l.final (o + 12)) lui low
+    let becomes_add = add_made laws l rewriting riscv high add call of_add of_call in
+    let becomes_call = call_made laws l rewriting riscv high add call of_add of_call in
+    let behind = of_add.behind in
+    let behind_call = of_call.behind in
+    let add_inside = becomes_add.inside in
+    let call_inside = becomes_call.inside in
+    let lui_made = lui_there laws l rewriting riscv high add call of_add of_call
+    ∙ made_is (λ _. 0x537) (instruction_at l.section (o + 8)) (long_there l.section (o + 8) (omega (arith, behind, add_inside))) in
+    let low_made = addi_there laws l rewriting riscv high add call of_add of_call
+    ∙ made_is (λ _. 0x50513) (instruction_at l.section (o + 12)) (long_there l.section (o + 12) (omega (arith, behind_call, call_inside))) in
+    let lui : Relocated (riscv_row names.R_RISCV_TPREL_HI20) x (instruction_at l.rewritten (o + 8)) (instruction_at l.final (o + 8)) =
+    relocated l linked riscv high 8 add of_add.below behind names.R_RISCV_TPREL_HI20 (add_after laws l rewriting riscv high add call of_add of_call)
+    add_inside 0x537 lui_made high_tp refl of_high_tp symbol is_symbol x refl refl in
+    let low : Relocated (riscv_row names.R_RISCV_TPREL_LO12_I) x (instruction_at l.rewritten (o + 12)) (instruction_at l.final (o + 12)) =
+    relocated l linked riscv high 12 call of_call.below behind_call names.R_RISCV_TPREL_LO12_I (call_after laws l rewriting riscv high add call of_add of_call)
+    call_inside 0x50513 low_made low_i refl of_low_i symbol is_symbol x refl refl in
+    wherever laws l rewriting riscv high add call of_add of_call x x refl (ran.0).small function c h k auipc_of ld_of addi_of
+    (instruction_at l.final (o + 8)) (instruction_at l.final (o + 12)) ran small alike lui low
+
+-- ---- the short one
+
+module _ (laws : Laws) (l : Linked) (rewriting : AreRewritten l) (riscv : l.setting.architecture ≡ RiscV)
+    (high call : ℕ)
+    (of_call : IsOfDescriptor l high names.R_RISCV_TLSDESC_CALL 12 kinds.CallToAddiZero call) where
+  abbrev place : ℕ
+  place = (relocation_in l.relocations high).offset
+
+  short_made : Becomes names.R_RISCV_TPREL_LO12_I l.section (relocation_in l.relocations call).offset of_call.chosen
+  short_made =
+      short_becomes l.section (relocation_in l.relocations call).offset of_call.chosen of_call.kind_is
+      (of_some l rewriting riscv call (Redirected of_call.chosen of_call.subject) of_call.chosen of_call.below of_call.decided refl names.R_RISCV_TLSDESC_CALL tt of_call.name_is)
+
+  short_after : relocation_in l.relocations_after call ≡ named_as names.R_RISCV_TPREL_LO12_I (relocation_in l.relocations call) (relocation_in l.relocations high)
+  short_after =
+      after_is l rewriting high names.R_RISCV_TLSDESC_CALL 12 kinds.CallToAddiZero call of_call names.R_RISCV_TPREL_LO12_I short_made
+      (λ _. 0x513) refl (λ o. refl) (λ a. refl)
+
+  short_there : instruction_at l.rewritten (place + 12) ≡ after_rewrite kinds.CallToAddiZero (instruction_at l.section (place + 12)) 0
+  short_there =
+      made_there l rewriting high names.R_RISCV_TLSDESC_CALL 12 kinds.CallToAddiZero call of_call names.R_RISCV_TPREL_LO12_I short_made
+      (λ _. 0x513) refl (λ o. refl) (λ a. refl)
+
+  short_wherever : ShortOffsetIsTheSameAnywhere l high
+  short_wherever x y one is_low function c h k auipc_of ld_of addi_of low ran small alike of_low =
+      laws.descriptor_to_short_local_exec function c x y h k
+      (instruction_at l.section place) (instruction_at l.section (place + 4)) (instruction_at l.section (place + 8)) (instruction_at l.section (place + 12)) (ran.0)
+      auipc_of ld_of addi_of (ran.1) one is_low small alike low
+      (subst (λ xs. Relocated (riscv_row names.R_RISCV_TPREL_LO12_I) y xs low) short_there of_low)
+
+pub short_descriptors_anywhere : Laws → ShortDescriptorsAnywhere
+short_descriptors_anywhere laws l rewriting riscv high call of_call =
+    (short_after laws l rewriting riscv high call of_call, short_wherever laws l rewriting riscv high call of_call)
 
 pub short_descriptors : Laws → ShortDescriptors
-short_descriptors laws l linked riscv high call of_call symbol is_symbol function c got h k auipc_of ld_of addi_of is_low descriptor object small alike =
+short_descriptors laws l linked riscv high call of_call symbol is_symbol function c got h k auipc_of ld_of addi_of is_low ran small alike =
+    let rewriting = are_rewritten l linked in
     let first = relocation_in l.relocations high in
     let o = first.offset in
-    let r = relocation_in l.relocations call in
     let x = operands_with RiscV l.addresses low_i.row symbol first got in
-    let made = short_becomes l.section r.offset of_call.chosen of_call.kind_is
-    (of_some l linked riscv call (Redirected of_call.chosen of_call.subject) of_call.chosen of_call.below of_call.decided refl names.R_RISCV_TLSDESC_CALL tt of_call.name_is) in
-    let low : Relocated (riscv_row names.R_RISCV_TPREL_LO12_I) x (after_rewrite kinds.CallToAddiZero (instruction_at l.section (o + 12)) 0) (instruction_at l.final (o + 12)) =
-    relocated l linked riscv high names.R_RISCV_TLSDESC_CALL 12 kinds.CallToAddiZero call of_call names.R_RISCV_TPREL_LO12_I made
-    (λ _. 0x513) refl (λ o. refl) (λ a. refl) low_i refl of_low_i symbol is_symbol x refl refl in
-    laws.descriptor_to_short_local_exec function c x x h k
-    (instruction_at l.section o) (instruction_at l.section (o + 4)) (instruction_at l.section (o + 8)) (instruction_at l.section (o + 12)) descriptor
-    auipc_of ld_of addi_of object refl is_low small alike (instruction_at l.final (o + 12)) low
+    let becomes_call = short_made laws l rewriting riscv high call of_call in
+    let behind = of_call.behind in
+    let inside = becomes_call.inside in
+    let made = short_there laws l rewriting riscv high call of_call
+    ∙ made_is (λ _. 0x513) (instruction_at l.section (o + 12)) (long_there l.section (o + 12) (omega (arith, behind, inside))) in
+    let low : Relocated (riscv_row names.R_RISCV_TPREL_LO12_I) x (instruction_at l.rewritten (o + 12)) (instruction_at l.final (o + 12)) =
+    relocated l linked riscv high 12 call of_call.below behind names.R_RISCV_TPREL_LO12_I (short_after laws l rewriting riscv high call of_call)
+    inside 0x513 made low_i refl of_low_i symbol is_symbol x refl refl in
+    short_wherever laws l rewriting riscv high call of_call x x refl is_low function c h k auipc_of ld_of addi_of
+    (instruction_at l.final (o + 12)) ran small alike low

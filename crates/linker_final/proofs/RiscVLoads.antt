@@ -7,8 +7,7 @@ use Rattle.linker_base.specs.Rewrite.{rewritten}
 use Rattle.linker_base.specs.declared.bit_misc.BitRange.{BitRange}
 use Rattle.linker_elf.specs.Applied.{IsApplied}
 use Rattle.linker_elf.specs.Choices.{entry}
-use Rattle.linker_elf.specs.ElfNames.{code_of}
-use Rattle.linker_elf.specs.RiscVRelocations.{pair_row, riscv_name, riscv_row}
+use Rattle.linker_elf.specs.RiscVRelocations.{pair_row, riscv_row}
 use Rattle.linker_elf.specs.Value.{sum_64}
 use Rattle.linker_elf.specs.declared.elf.RelocationInstruction.TheVariants as insns
 use Rattle.linker_elf.specs.declared.elf.RelocationKind.TheVariants as formulas
@@ -16,14 +15,14 @@ use Rattle.linker_elf.specs.declared.elf.RelocationKindInfo.{RelocationKindInfo}
 use Rattle.linker_elf.specs.declared.elf.value.Operands.{Operands}
 use Rattle.linker_elf.specs.declared.riscv64.forms.RiscVInstruction.TheVariants.{UType, IType}
 use Rattle.linker_elf.specs.declared.riscv64.relocations.RiscVRelocation.TheVariants as names
-use Rattle.linker_final.proofs.Written.{rela, word_same}
+use Rattle.linker_final.proofs.Written.{word_same}
 use Rattle.linker_final.proofs.InstructionFields.{IsOfInstruction, applied_found}
 use Rattle.linker_final.proofs.Labels.{low_found}
 use Rattle.linker_final.proofs.RiscVChosen.{IsOfEntry, of_entry}
-use Rattle.linker_final.proofs.RiscVWritten.{IsAfter, applied_there, becomes, bytes_there, long_there, made_is, rewritten_after, row_after, stays, within_after, word_bytes}
+use Rattle.linker_final.proofs.RiscVWritten.{IsAfter, applied_there, are_rewritten, becomes, bytes_there, long_there, made_is, rewritten_after, row_after, stays, within_after, word_bytes}
 use Rattle.linker_final.specs.Final.{IsRewrittenByNoOther, instruction_at}
-use Rattle.linker_final.specs.Final.{AreBytes, Linked, IsLinked}
-use Rattle.linker_final.specs.RiscVFinal.{AreOfLoad, GotLoads, LoadsTheSame}
+use Rattle.linker_final.specs.Final.{AreBytes, AreRewritten, Linked, IsLinked}
+use Rattle.linker_final.specs.RiscVFinal.{AreOfLoad, AreOfPair, GotLoads, GotLoadsAnywhere, LoadsTheSame, LoadsTheSameAnywhere, named_as}
 use Rattle.linker_laws.specs.Machine.{Relocated, but}
 use Rattle.linker_laws.specs.RiscVMachine.{Hart, register}
 use Rattle.linker_laws.specs.RiscVRewriteLaws.{HaveAddress, HaveGoneOn, IsLoadFromGot, Laws, after_rewrite, word_of}
@@ -96,8 +95,8 @@ same_address base y address at a b has =
 
 -- ---- a pair
 
-module _ (laws : Laws) (l : Linked) (linked : IsLinked l) (riscv : l.setting.architecture ≡ RiscV)
-    (i j : ℕ) (of : AreOfLoad l i j)
+module _ (laws : Laws) (l : Linked) (rewriting : AreRewritten l) (riscv : l.setting.architecture ≡ RiscV)
+    (i j : ℕ) (of : AreOfPair l i j)
     (alone : IsRewrittenByNoOther l i (relocation_in l.relocations i).offset) where
   abbrev first : Rela
   first = relocation_in l.relocations i
@@ -107,60 +106,119 @@ module _ (laws : Laws) (l : Linked) (linked : IsLinked l) (riscv : l.setting.arc
 
   high_entry : IsOfEntry names.R_RISCV_GOT_HI20 (entry kinds.NoOp names.R_RISCV_PCREL_HI20 (without_got [])) l.section first.offset of.high_chosen
   high_entry =
-      of_entry l linked riscv i (Rewritten of.high_chosen) of.high_chosen of.first_below of.high_decided refl names.R_RISCV_GOT_HI20 tt of.high
+      of_entry l rewriting riscv i (Rewritten of.high_chosen) of.high_chosen of.first_below of.high_decided refl names.R_RISCV_GOT_HI20 tt of.high
       (entry kinds.NoOp names.R_RISCV_PCREL_HI20 (without_got [])) refl
 
   low_entry : IsOfEntry names.R_RISCV_PCREL_LO12_I (entry kinds.LdToAddi names.R_RISCV_PCREL_LO12_I (without_got (got_high_part ∷ []))) l.section second.offset of.low_chosen
   low_entry =
-      of_entry l linked riscv j (Rewritten of.low_chosen) of.low_chosen of.second_below of.low_decided refl names.R_RISCV_PCREL_LO12_I tt of.low
+      of_entry l rewriting riscv j (Rewritten of.low_chosen) of.low_chosen of.second_below of.low_decided refl names.R_RISCV_PCREL_LO12_I tt of.low
       (entry kinds.LdToAddi names.R_RISCV_PCREL_LO12_I (without_got (got_high_part ∷ []))) refl
 
-  abbrev high_rela : Rela
-  high_rela = rela first.offset (code_of (riscv_name names.R_RISCV_PCREL_HI20)) first.symbol first.addend
-
-  abbrev low_rela : Rela
-  low_rela = rela second.offset (code_of (riscv_name names.R_RISCV_PCREL_LO12_I)) second.symbol second.addend
-
-  high_is : relocation_in l.relocations_after i ≡ high_rela
+  high_is : relocation_in l.relocations_after i ≡ named_as names.R_RISCV_PCREL_HI20 first first
   high_is =
-      rewritten_after l linked i of.high_chosen of.first_below kinds.NoOp names.R_RISCV_PCREL_HI20 high_entry.kind_is high_entry.code_is
+      rewritten_after l rewriting i of.high_chosen of.first_below kinds.NoOp names.R_RISCV_PCREL_HI20 high_entry.kind_is high_entry.code_is
       (λ o. refl) (λ a. refl) of.high_decided
 
-  low_is : relocation_in l.relocations_after j ≡ low_rela
+  low_is : relocation_in l.relocations_after j ≡ named_as names.R_RISCV_PCREL_LO12_I second second
   low_is =
-      rewritten_after l linked j of.low_chosen of.second_below kinds.LdToAddi names.R_RISCV_PCREL_LO12_I low_entry.kind_is low_entry.code_is
+      rewritten_after l rewriting j of.low_chosen of.second_below kinds.LdToAddi names.R_RISCV_PCREL_LO12_I low_entry.kind_is low_entry.code_is
       (λ o. refl) (λ a. refl) of.low_decided
 
-  module _ (symbol : Symbol) (is_symbol : slice_get l.symbols first.symbol ≡ Some symbol) where
+  -- both are in the section
+  both_inside : first.offset + 4 + 4 ≤ length l.section
+  both_inside =
+      let next = of.next in
+      let asked = low_entry.asked in
+      let inside : second.offset + 4 ≤ length l.section = asked.0 in
+      omega (arith, inside, next)
+
+  auipc_there : instruction_at l.rewritten first.offset ≡ instruction_at l.section first.offset
+  auipc_there =
+      stays l rewriting i of.first_below (Rewritten of.high_chosen) of.high_decided
+      (ap (λ k. window_of_rewrite (relaxation_rewrite k)) high_entry.kind_is) alone (high_entry.asked.0)
+
+  addi_there : instruction_at l.rewritten (first.offset + 4) ≡ after_rewrite kinds.LdToAddi (instruction_at l.section (first.offset + 4)) 0
+  addi_there =
+      subst (λ n. instruction_at l.rewritten n ≡ rewritten (Some (rewrites_word load_to_addi)) (instruction_at l.section n) 0) of.next
+      (becomes l rewriting j of.second_below (Rewritten of.low_chosen) of.low_decided load_to_addi
+      (λ done. subst (λ k. IsMade (relaxation_rewrite k) second.offset l.section l.rewritten) low_entry.kind_is done) (low_entry.asked.0))
+
+  wherever : LoadsTheSameAnywhere l i
+  wherever over not_zero x y small new_small h k auipc_of ld_of high low holds at new_at alike of_auipc of_ld of_high of_low =
+      let o = first.offset in
+      let auipc = instruction_at l.section o in
+      let ld = instruction_at l.section (o + 4) in
+      let is_auipc : IsAuipc (word_of auipc) = subst IsAuipc (word_same l.section o) (high_entry.asked.1) in
+      let is_ld : IsLd (word_of ld) =
+      subst (λ n. IsLd (word_of (instruction_at l.section n))) of.next (subst IsLd (word_same l.section second.offset) (low_entry.asked.1)) in
+      let together : IsLoadFromGot (word_of auipc) (word_of ld) =
+      record { first = is_auipc; second = is_ld; base = over; not_zero = not_zero } in
+      laws.got x y h k auipc ld small new_small at new_at alike
+      (long_there l.section o (high_entry.asked.0), long_there l.section (o + 4) both_inside) together holds
+      auipc_of ld_of high low of_auipc of_ld
+      (subst (λ xs. Relocated (riscv_row names.R_RISCV_PCREL_HI20) y xs high) auipc_there of_high)
+      (subst (λ xs. Relocated (riscv_row names.R_RISCV_PCREL_LO12_I) y xs low) addi_there of_low)
+
+pub got_loads_anywhere : Laws → GotLoadsAnywhere
+got_loads_anywhere laws l rewriting riscv i j of alone = (
+  high_is laws l rewriting riscv i j of alone,
+  low_is laws l rewriting riscv i j of alone,
+  wherever laws l rewriting riscv i j of alone,
+)
+
+-- ---- in the final bytes
+
+module _ (laws : Laws) (l : Linked) (linked : IsLinked l) (riscv : l.setting.architecture ≡ RiscV)
+    (i j : ℕ) (of : AreOfLoad l i j)
+    (alone : IsRewrittenByNoOther l i (relocation_in l.relocations i).offset) where
+  abbrev one : Rela
+  one = relocation_in l.relocations i
+
+  abbrev other : Rela
+  other = relocation_in l.relocations j
+
+  abbrev high_rela : Rela
+  high_rela = named_as names.R_RISCV_PCREL_HI20 one one
+
+  abbrev low_rela : Rela
+  low_rela = named_as names.R_RISCV_PCREL_LO12_I other other
+
+  high_there : relocation_in l.relocations_after i ≡ high_rela
+  high_there = high_is laws l (are_rewritten l linked) riscv i j of.pair alone
+
+  low_there : relocation_in l.relocations_after j ≡ low_rela
+  low_there = low_is laws l (are_rewritten l linked) riscv i j of.pair alone
+
+  module _ (symbol : Symbol) (is_symbol : slice_get l.symbols one.symbol ≡ Some symbol) where
     abbrev operands : Operands
     operands = operands_with RiscV l.addresses high_after.row symbol high_rela 0
 
     -- the distance in the `auipc`
-    high_written : IsApplied high_after.row operands (instruction_at l.rewritten first.offset) (instruction_at l.final first.offset)
+    high_written : IsApplied high_after.row operands (instruction_at l.rewritten one.offset) (instruction_at l.final one.offset)
     high_written =
-        applied_there l linked riscv i of.first_below names.R_RISCV_PCREL_HI20 high_after high_rela high_is refl of_high symbol 0 refl is_symbol
+        applied_there l linked riscv i of.pair.first_below names.R_RISCV_PCREL_HI20 high_after high_rela high_there refl of_high symbol 0 refl is_symbol
 
     -- and in the `addi`
-    low_written : IsApplied low_after.row operands (instruction_at l.rewritten second.offset) (instruction_at l.final second.offset)
+    low_written : IsApplied low_after.row operands (instruction_at l.rewritten other.offset) (instruction_at l.final other.offset)
     low_written =
         let bytes = l.relocations_after in
-        let within = within_after l linked riscv i of.first_below names.R_RISCV_PCREL_HI20 high_after high_rela high_is refl in
-        let within' = within_after l linked riscv j of.second_below names.R_RISCV_PCREL_LO12_I low_after low_rela low_is refl in
-        let at_high : offset_at bytes i ≡ first.offset = ap (λ (x : Rela). x.offset) high_is in
+        let within = within_after l linked riscv i of.pair.first_below names.R_RISCV_PCREL_HI20 high_after high_rela high_there refl in
+        let within' = within_after l linked riscv j of.pair.second_below names.R_RISCV_PCREL_LO12_I low_after low_rela low_there refl in
+        let at_high : offset_at bytes i ≡ one.offset = ap (λ (x : Rela). x.offset) high_there in
         let is_row : IsRow l.setting.architecture (relocation_in bytes i).code (Some high_after.row) =
         subst (λ x. IsRow x (relocation_in bytes i).code (Some high_after.row)) (sym riscv)
-        (row_after l linked riscv i of.first_below names.R_RISCV_PCREL_HI20 high_after high_rela high_is refl) in
+        (row_after l linked riscv i of.pair.first_below names.R_RISCV_PCREL_HI20 high_after high_rela high_there refl) in
         let low_row : IsRow l.setting.architecture (relocation_in bytes j).code (Some low_after.row) =
         subst (λ x. IsRow x (relocation_in bytes j).code (Some low_after.row)) (sym riscv)
-        (row_after l linked riscv j of.second_below names.R_RISCV_PCREL_LO12_I low_after low_rela low_is refl) in
+        (row_after l linked riscv j of.pair.second_below names.R_RISCV_PCREL_LO12_I low_after low_rela low_there refl) in
         let taken : operands_of l.setting.architecture l.addresses l.symbols high_after.row (relocation_in bytes i) ≡ Ok operands =
         subst (λ x. operands_of x l.addresses l.symbols high_after.row (relocation_in bytes i) ≡ Ok operands) (sym riscv)
-        (subst (λ x. operands_of RiscV l.addresses l.symbols high_after.row x ≡ Ok operands) (sym high_is)
+        (subst (λ x. operands_of RiscV l.addresses l.symbols high_after.row x ≡ Ok operands) (sym high_there)
         (ap (operands_in RiscV l.addresses high_after.row high_rela) is_symbol)) in
         let label_is : slice_get l.symbols (relocation_in bytes j).symbol ≡ Some of.label =
-        ap (λ (x : Rela). slice_get l.symbols x.symbol) low_is ∙ of.label_is in
+        ap (λ (x : Rela). slice_get l.symbols x.symbol) low_there ∙ of.label_is in
         let bits : BitRange = record { start = 0; end = 32 } in
-        subst (λ (x : Rela). IsApplied low_after.row operands (instruction_at l.rewritten x.offset) (instruction_at l.final x.offset)) low_is
+        subst (λ (x : Rela). IsApplied low_after.row operands (instruction_at l.rewritten x.offset) (instruction_at l.final x.offset)) low_there
         (applied_found l.setting.architecture l.addresses bytes l.symbols l.rewritten l.final linked.written
         j within' 4 (omega arith) low_after.row bits (insns.RiscV IType) refl refl refl refl operands
         (low_found l.setting.architecture l.addresses bytes l.symbols l.rewritten linked.written.can.apart
@@ -169,48 +227,31 @@ module _ (laws : Laws) (l : Linked) (linked : IsLinked l) (riscv : l.setting.arc
 
   loads_the_same : LoadsTheSame l i got_row
   loads_the_same over not_zero symbol is_symbol got h k auipc_of ld_of small holds at new_at alike of_auipc of_ld =
-      let o = first.offset in
-      let x = operands_with RiscV l.addresses got_row symbol first got in
+      let o = one.offset in
+      let x = operands_with RiscV l.addresses got_row symbol one got in
       let y = operands symbol is_symbol in
-      let next = of.next in
       let auipc = instruction_at l.section o in
       let ld = instruction_at l.section (o + 4) in
-      let high_asked = high_entry.asked in
-      let inside : o + 4 ≤ length l.section = high_asked.0 in
-      let low_asked = low_entry.asked in
-      let inside' : second.offset + 4 ≤ length l.section = low_asked.0 in
-      let inside_next : o + 4 + 4 ≤ length l.section = omega (arith, inside', next) in
-      let is_auipc : IsAuipc (word_of auipc) = subst IsAuipc (word_same l.section o) (high_asked.1) in
-      let is_ld : IsLd (word_of ld) =
-      subst (λ n. IsLd (word_of (instruction_at l.section n))) next (subst IsLd (word_same l.section second.offset) (low_asked.1)) in
-      let together : IsLoadFromGot (word_of auipc) (word_of ld) =
-      record { first = is_auipc; second = is_ld; base = over; not_zero = not_zero } in
+      let inside = both_inside laws l (are_rewritten l linked) riscv i j of.pair alone in
+      let stayed = auipc_there laws l (are_rewritten l linked) riscv i j of.pair alone in
+      let made = addi_there laws l (are_rewritten l linked) riscv i j of.pair alone
+      ∙ made_is load_to_addi ld (long_there l.section (o + 4) inside) in
       let sl = linked.same_length in
       let fl = linked.written.same_length in
-      let final_inside : o + 4 ≤ length l.final = omega (arith, inside, sl, fl) in
-      let final_next : o + 4 + 4 ≤ length l.final = omega (arith, inside_next, sl, fl) in
-      let stayed : instruction_at l.rewritten o ≡ auipc =
-      stays l linked i of.first_below (Rewritten of.high_chosen) of.high_decided
-      (ap (λ k. window_of_rewrite (relaxation_rewrite k)) high_entry.kind_is) alone inside in
-      let made : instruction_at l.rewritten (o + 4) ≡ after_rewrite kinds.LdToAddi ld 0 =
-      subst (λ n. instruction_at l.rewritten n ≡ rewritten (Some (rewrites_word load_to_addi)) (instruction_at l.section n) 0) next
-      (becomes l linked j of.second_below (Rewritten of.low_chosen) of.low_decided load_to_addi
-      (λ done. subst (λ k. IsMade (relaxation_rewrite k) second.offset l.section l.rewritten) low_entry.kind_is done) inside') in
-      let high : Relocated (riscv_row names.R_RISCV_PCREL_HI20) y auipc (instruction_at l.final o) =
+      let final_inside : o + 4 + 4 ≤ length l.final = omega (arith, inside, sl, fl) in
+      let high : Relocated (riscv_row names.R_RISCV_PCREL_HI20) y (instruction_at l.rewritten o) (instruction_at l.final o) =
       record {
-        applied = subst (λ xs. IsApplied high_after.row y xs (instruction_at l.final o)) stayed (high_written symbol is_symbol);
-        len = long_there l.final o final_inside ∙ sym (long_there l.section o inside);
-        old_bytes = bytes_there l.section o linked.section_bytes;
+        applied = high_written symbol is_symbol;
+        len = long_there l.final o (omega (arith, final_inside)) ∙ sym (ap length stayed ∙ long_there l.section o (omega (arith, inside)));
+        old_bytes = subst AreBytes (sym stayed) (bytes_there l.section o linked.section_bytes);
         bytes = bytes_there l.final o linked.final_bytes;
       } in
-      let is_made = made_is load_to_addi ld (long_there l.section (o + 4) inside_next) in
-      let low : Relocated (riscv_row names.R_RISCV_PCREL_LO12_I) y (after_rewrite kinds.LdToAddi ld 0) (instruction_at l.final (o + 4)) =
+      let low : Relocated (riscv_row names.R_RISCV_PCREL_LO12_I) y (instruction_at l.rewritten (o + 4)) (instruction_at l.final (o + 4)) =
       record {
         applied =
-            subst (λ xs. IsApplied low_after.row y xs (instruction_at l.final (o + 4))) made
-            (subst (λ n. IsApplied low_after.row y (instruction_at l.rewritten n) (instruction_at l.final n)) next (low_written symbol is_symbol));
-        len = long_there l.final (o + 4) final_next ∙ sym (ap length is_made);
-        old_bytes = subst AreBytes (sym is_made) (word_bytes (load_to_addi (from_le_bytes w32 ld)));
+            subst (λ n. IsApplied low_after.row y (instruction_at l.rewritten n) (instruction_at l.final n)) of.pair.next (low_written symbol is_symbol);
+        len = long_there l.final (o + 4) final_inside ∙ sym (ap length made);
+        old_bytes = subst AreBytes (sym made) (word_bytes (load_to_addi (from_le_bytes w32 ld)));
         bytes = bytes_there l.final (o + 4) linked.final_bytes;
       } in
       let addresses : AreAddresses y =
@@ -222,9 +263,8 @@ module _ (laws : Laws) (l : Linked) (linked : IsLinked l) (riscv : l.setting.arc
         plt_entry = small.plt_entry;
         tls_base = small.tls_base;
       } in
-      let ends = laws.got x y h k auipc ld small addresses at new_at alike
-      (long_there l.section o inside, long_there l.section (o + 4) inside_next) together holds
-      auipc_of ld_of (instruction_at l.final o) (instruction_at l.final (o + 4)) of_auipc of_ld high low in
+      let ends = wherever laws l (are_rewritten l linked) riscv i j of.pair alone over not_zero x y small addresses h k
+      auipc_of ld_of (instruction_at l.final o) (instruction_at l.final (o + 4)) holds at new_at alike of_auipc of_ld high low in
       let so : HaveAddress (rd_of (word_of auipc)) (rd_of (word_of ld)) (symbol_address x) (symbol_address x) (sum_64 x.place 8) (sum_64 x.place 8) ends.end ends.new_end =
       subst (λ p. HaveAddress (rd_of (word_of auipc)) (rd_of (word_of ld)) (symbol_address x) (symbol_address x) (sum_64 x.place 8) (sum_64 p 8) ends.end ends.new_end) new_at
       (subst (λ p. HaveAddress (rd_of (word_of auipc)) (rd_of (word_of ld)) (symbol_address x) (symbol_address x) (sum_64 p 8) (sum_64 k.pc 8) ends.end ends.new_end) at ends.so) in

@@ -7,11 +7,12 @@ use Rattle.linker_elf.specs.declared.elf.RelocationKind.TheVariants.{None as NoV
 use Rattle.linker_elf.specs.declared.elf.choice.Choice.{Choice}
 use Rattle.linker_elf.specs.declared.riscv64.relocations.RiscVRelocation.{RiscVRelocation}
 use Rattle.linker_elf.specs.declared.riscv64.relocations.RiscVRelocation.TheVariants as names
+use Rattle.linker_final.proofs.Written.{IsRowOf, by_name, unwritten_without}
 use Rattle.linker_final.proofs.RiscVChosen.{IsOfSome, of_some}
 use Rattle.linker_final.proofs.RiscVDescriptors.{Becomes, same_kind}
-use Rattle.linker_final.proofs.RiscVWritten.{becomes, long_there, redirected_after}
-use Rattle.linker_final.proofs.Written.{IsRowOf, by_name, unwritten_without}
-use Rattle.linker_final.specs.Final.{Linked, instruction_at}
+use Rattle.linker_final.proofs.RiscVWritten.{are_rewritten, becomes, long_there, redirected_after}
+use Rattle.linker_final.specs.Final.{instruction_at}
+use Rattle.linker_final.specs.Final.{Linked}
 use Rattle.linker_final.specs.RiscVFinal.{Nops, NopsOf}
 use Rattle.linker_laws.specs.RiscVRewriteLaws.{EndSo, HaveGoneOn, Laws, after_rewrite}
 use Rattle.linker_elf.specs.Value.{sum_64}
@@ -84,13 +85,13 @@ module _ (laws : Laws) (name : RiscVRelocation) (named : IsNamed (riscv_name nam
         let o = (relocation_in l.relocations i).offset in
         let instruction = instruction_at l.section o in
         let nop = becomes_nop l.section o chosen kind_is
-        (of_some l linked riscv i (Redirected chosen subject) chosen below decided refl name named is_name) in
+        (of_some l (are_rewritten l linked) riscv i (Redirected chosen subject) chosen below decided refl name named is_name) in
         let inside = nop.inside in
         let code : (relocation_in l.relocations_after i).code ≡ 0 =
         ap (λ (x : Rela). x.code)
-        (redirected_after l linked i chosen below kinds.ReplaceWithLongNop names.R_RISCV_NONE kind_is nop.code_is (λ o. refl) (λ a. refl) subject decided) in
+        (redirected_after l (are_rewritten l linked) i chosen below kinds.ReplaceWithLongNop names.R_RISCV_NONE kind_is nop.code_is (λ o. refl) (λ a. refl) subject decided) in
         let made : instruction_at l.rewritten o ≡ after_rewrite kinds.ReplaceWithLongNop instruction 0 =
-        becomes l linked i below (Redirected chosen subject) decided (λ _. 0x13)
+        becomes l (are_rewritten l linked) i below (Redirected chosen subject) decided (λ _. 0x13)
         (λ done. subst (λ k. IsMade (relaxation_rewrite k) o l.section l.rewritten) kind_is done) inside in
         let left : instruction_at l.final o ≡ after_rewrite kinds.ReplaceWithLongNop instruction 0 =
         unwritten_without l linked i o (none_has_no_value l riscv) code inside alone ∙ made in

@@ -1,10 +1,12 @@
--- Low parts of RISC-V that became ones over the thread pointer do in the final bytes what the object's do.
+-- Low parts of RISC-V that became ones over the thread pointer do in the final bytes what the object's do,
+-- and what is deleted before them does nothing that is left.
 use Rattle.std.proofs.Common.{◌≡◌, ℕ, ◌+◌, ◌≤◌, [], ◌∷◌, length, refl, sym, ap, subst, ◌∙◌, arith, Option, Some, None, Ok, IsSomeAnd}
 use Rattle.std.specs.Prelude.{IsTrue}
 use Rattle.std.specs.Int.{w32, from_le_bytes}
 use Rattle.linker_elf.specs.Applied.{IsApplied}
 use Rattle.linker_elf.specs.Choices.{entry}
 use Rattle.linker_elf.specs.ElfNames.{code_of}
+use Rattle.linker_elf.specs.Originals.{HasWord}
 use Rattle.linker_elf.specs.RiscVRelocations.{pair_row, riscv_name, riscv_row}
 use Rattle.linker_elf.specs.declared.elf.RelocationInstruction.TheVariants as insns
 use Rattle.linker_elf.specs.declared.elf.RelocationKind.TheVariants.{TpOff}
@@ -14,15 +16,16 @@ use Rattle.linker_elf.specs.declared.riscv64.relocations.RiscVRelocation.TheVari
 use Rattle.linker_final.proofs.Written.{rela, word_same}
 use Rattle.linker_final.proofs.InstructionFields.{IsOfInstruction}
 use Rattle.linker_final.proofs.RiscVChosen.{IsOfEntry, of_entry}
-use Rattle.linker_final.proofs.RiscVWritten.{IsAfter, applied_there, becomes, bytes_there, long_there, made_is, rewritten_after, word_bytes}
+use Rattle.linker_final.proofs.RiscVWritten.{IsAfter, applied_there, are_rewritten, becomes, bytes_there, long_there, made_is, rewritten_after, word_bytes}
 use Rattle.linker_final.specs.Final.{instruction_at}
 use Rattle.linker_final.specs.Final.{AreBytes}
-use Rattle.linker_final.specs.RiscVFinal.{LowPartDoesTheSame, LowParts, LowPartsOf}
+use Rattle.linker_final.specs.RiscVFinal.{HighParts, LowPartDoesTheSame, LowPartDoesTheSameAnywhere, LowParts, LowPartsAnywhere, LowPartsAnywhereOf, LowPartsOf, Sums}
 use Rattle.linker_laws.specs.Machine.{Relocated}
 use Rattle.linker_laws.specs.RiscVMachine.{Action, action_of}
 use Rattle.linker_laws.specs.RiscVRewriteLaws.{Laws, action_at, after_rewrite, offset_row}
-use Rattle.linker_riscv64.specs.RiscVRewrites.{IsAskedFor, adds_low12, by_low_offset, funct3_of, opcode_of, riscv_entries, riscv_matches, tp, with_rs1}
+use Rattle.linker_riscv64.specs.RiscVRewrites.{IsAddTp, IsAskedFor, IsLui, adds_low12, by_low_offset, funct3_of, opcode_of, riscv_entries, riscv_matches, tp, with_rs1}
 use Rattle.linker_riscv64.specs.declared.rewrites.RelaxationKind.TheVariants as kinds
+use Rattle.linker_rewriting.specs.Decisions.{deleted_of}
 use Rattle.linker_rewriting.specs.Rewritten.{IsMade}
 use Rattle.linker_rewriting.specs.declared.decisions.Decision.TheVariants.{Rewritten}
 use Rattle.linker_section.specs.Needed.{entry_of}
@@ -31,7 +34,7 @@ use Rattle.linker_section.specs.Values.{entry_address, operands_by, operands_wit
 use Rattle.linker_section.specs.declared.facts.Addresses.{Addresses}
 use Rattle.linker_section.specs.declared.facts.Symbol.{Symbol}
 use Rattle.linker_section.specs.declared.relocations.Rela.{Rela}
-use Rattle.linker_utils.specs.Architectures.{relaxation_rewrite}
+use Rattle.linker_utils.specs.Architectures.{relaxation_deleted, relaxation_rewrite}
 use Rattle.linker_utils.specs.declared.elf.Architecture.TheVariants.{RiscV}
 
 -- ---- rows
@@ -86,13 +89,13 @@ module _ (laws : Laws) (name : RiscVRelocation) (a : IsAfter name) (of : IsOfIns
     → operands_by RiscV addresses a.row r symbol
     (entry_address addresses symbol (entry_of a.row r.addend symbol.is_thread_local))
     ≡ Ok (operands_with RiscV addresses a.row symbol r 0)) where
-  pub low_parts_of : LowPartsOf name
-  low_parts_of l linked riscv i chosen below is_name decided =
+  pub anywhere_of : LowPartsAnywhereOf name
+  anywhere_of l rewritten riscv i chosen below is_name decided =
       let r = relocation_in l.relocations i in
       let o = r.offset in
       let instruction = instruction_at l.section o in
       let by : IsOfEntry name (entry kinds.BaseToTp name by_low_offset) l.section o chosen =
-      of_entry l linked riscv i (Rewritten chosen) chosen below decided refl name a.named is_name
+      of_entry l rewritten riscv i (Rewritten chosen) chosen below decided refl name a.named is_name
       (entry kinds.BaseToTp name by_low_offset) entries in
       let is = adds l.section o by.asked in
       let inside : o + 4 ≤ length l.section = is.0 in
@@ -100,37 +103,90 @@ module _ (laws : Laws) (name : RiscVRelocation) (a : IsAfter name) (of : IsOfIns
       let matches : riscv_matches kinds.BaseToTp instruction 0 =
       (omega (arith, long), subst (λ word. IsTrue (adds_low12 (opcode_of word) (funct3_of word))) (word_same l.section o) (is.1)) in
       let made : instruction_at l.rewritten o ≡ after_rewrite kinds.BaseToTp instruction 0 =
-      becomes l linked i below (Rewritten chosen) decided (with_rs1 tp)
-      (λ done. subst (λ k. IsMade (relaxation_rewrite k) o l.section l.rewritten) by.kind_is done) inside in
-      let is_made = made_is (with_rs1 tp) instruction long in
+      becomes l rewritten i below (Rewritten chosen) decided (with_rs1 tp)
+      (λ done. subst (λ k. IsMade (relaxation_rewrite k) o l.section l.rewritten) by.kind_is done) inside in (
+        rewritten_after l rewritten i chosen below kinds.BaseToTp name by.kind_is by.code_is (λ o. refl) (λ a. refl) decided,
+        subst (λ word. IsSomeAnd (by_word word) (LowPartDoesTheSameAnywhere l i)) (sym (word_same l.section o))
+            (mapped (λ action law x y one low h k differs original new small new_small alike base stores of_original of_new.
+            law x y one low original new of_original (subst (λ xs. Relocated (offset_row action) y xs new) made of_new)
+            h k differs small new_small alike base stores)
+            (action_at instruction 0) (laws.low_offsets instruction 0 matches)),
+      )
+
+  pub low_parts_of : LowPartsOf name
+  low_parts_of l linked riscv i chosen below is_name decided =
+      let r = relocation_in l.relocations i in
+      let o = r.offset in
+      let instruction = instruction_at l.section o in
+      let by : IsOfEntry name (entry kinds.BaseToTp name by_low_offset) l.section o chosen =
+      of_entry l (are_rewritten l linked) riscv i (Rewritten chosen) chosen below decided refl name a.named is_name
+      (entry kinds.BaseToTp name by_low_offset) entries in
+      let inside : o + 4 ≤ length l.section = (adds l.section o by.asked).0 in
+      let made =
+      becomes l (are_rewritten l linked) i below (Rewritten chosen) decided (with_rs1 tp)
+      (λ done. subst (λ k. IsMade (relaxation_rewrite k) o l.section l.rewritten) by.kind_is done) inside
+      ∙ made_is (with_rs1 tp) instruction (long_there l.section o inside) in
+      let any = anywhere_of l (are_rewritten l linked) riscv i chosen below is_name decided in
       let after = rela o (code_of (riscv_name name)) r.symbol r.addend in
-      let after_is : relocation_in l.relocations_after i ≡ after =
-      rewritten_after l linked i chosen below kinds.BaseToTp name by.kind_is by.code_is (λ o. refl) (λ a. refl) decided in
       let sl = linked.same_length in
       let fl = linked.written.same_length in
       let final_inside : o + 4 ≤ length l.final = omega (arith, inside, sl, fl) in
-      subst (λ word. IsSomeAnd (by_word word) (λ action. offset_row action ≡ riscv_row name → IsSomeAnd (riscv_row name) (LowPartDoesTheSame l i action)))
-      (sym (word_same l.section o))
-      (mapped (λ action law is_of.
+      mapped (λ action law is_of.
       subst (λ q. IsSomeAnd q (LowPartDoesTheSame l i action)) (sym is_row)
       (λ symbol is_symbol h k differs original low small new_small alike base stores of_original.
       let x = operands_with RiscV l.addresses a.row symbol r 0 in
       let written : IsApplied a.row x (instruction_at l.rewritten o) (instruction_at l.final o) =
-      applied_there l linked riscv i below name a after after_is refl of symbol 0 (no_entry l.addresses after symbol) is_symbol in
-      let there : IsApplied a.row x (after_rewrite kinds.BaseToTp instruction 0) (instruction_at l.final o) =
-      subst (λ xs. IsApplied a.row x xs (instruction_at l.final o)) made written in
-      let new : Relocated (offset_row action) x (after_rewrite kinds.BaseToTp instruction 0) (instruction_at l.final o) =
+      applied_there l linked riscv i below name a after (any.0) refl of symbol 0 (no_entry l.addresses after symbol) is_symbol in
+      let new : Relocated (offset_row action) x (instruction_at l.rewritten o) (instruction_at l.final o) =
       record {
-        applied = subst (λ q. IsSomeAnd q (λ row. IsApplied row x (after_rewrite kinds.BaseToTp instruction 0) (instruction_at l.final o))) (sym (is_of ∙ is_row)) there;
-        len = long_there l.final o final_inside ∙ sym (ap length is_made);
-        old_bytes = subst AreBytes (sym is_made) (word_bytes (with_rs1 tp (from_le_bytes w32 instruction)));
+        applied = subst (λ q. IsSomeAnd q (λ row. IsApplied row x (instruction_at l.rewritten o) (instruction_at l.final o))) (sym (is_of ∙ is_row)) written;
+        len = long_there l.final o final_inside ∙ sym (ap length made);
+        old_bytes = subst AreBytes (sym made) (word_bytes (with_rs1 tp (from_le_bytes w32 instruction)));
         bytes = bytes_there l.final o linked.final_bytes;
       } in
-      law x x refl low original (instruction_at l.final o) of_original new h k differs small new_small alike base stores))
-      (action_at instruction 0) (laws.low_offsets instruction 0 matches))
+      law x x refl low h k differs original (instruction_at l.final o) small new_small alike base stores of_original new))
+      (action_at l.section o) (any.1)
 
 pub low_parts : Laws → LowParts
 low_parts laws = (
   low_parts_of laws names.R_RISCV_TPREL_LO12_I low_i of_low_i refl refl (λ section o asked. asked) (λ addresses r symbol. refl),
   low_parts_of laws names.R_RISCV_TPREL_LO12_S low_s of_low_s refl refl (λ section o asked. asked) (λ addresses r symbol. refl),
 )
+
+pub low_parts_anywhere : Laws → LowPartsAnywhere
+low_parts_anywhere laws = (
+  anywhere_of laws names.R_RISCV_TPREL_LO12_I low_i of_low_i refl refl (λ section o asked. asked) (λ addresses r symbol. refl),
+  anywhere_of laws names.R_RISCV_TPREL_LO12_S low_s of_low_s refl refl (λ section o asked. asked) (λ addresses r symbol. refl),
+)
+
+-- ---- what is deleted
+
+pub high_parts : Laws → HighParts
+high_parts laws l linked riscv i chosen below is_name decided =
+    let o = (relocation_in l.relocations i).offset in
+    let lui = instruction_at l.section o in
+    let by : IsOfEntry names.R_RISCV_TPREL_HI20 (entry kinds.Delete names.R_RISCV_NONE by_low_offset) l.section o chosen =
+    of_entry l (are_rewritten l linked) riscv i (Rewritten chosen) chosen below decided refl names.R_RISCV_TPREL_HI20 tt is_name
+    (entry kinds.Delete names.R_RISCV_NONE by_low_offset) refl in
+    let asked = by.asked in
+    let long = long_there l.section o asked.0 in
+    let there : HasWord lui 0 IsLui = (omega (arith, long), subst IsLui (word_same l.section o) (asked.1)) in (
+      ap deleted_of decided ∙ ap relaxation_deleted by.kind_is,
+      λ symbol is_symbol h k differs original low small new_small alike of_original.
+          laws.high_offsets lui 0 there _ low original [] of_original h k differs small new_small alike,
+    )
+
+pub sums : Laws → Sums
+sums laws l linked riscv i chosen below is_name decided =
+    let o = (relocation_in l.relocations i).offset in
+    let add = instruction_at l.section o in
+    let by : IsOfEntry names.R_RISCV_TPREL_ADD (entry kinds.Delete names.R_RISCV_NONE by_low_offset) l.section o chosen =
+    of_entry l (are_rewritten l linked) riscv i (Rewritten chosen) chosen below decided refl names.R_RISCV_TPREL_ADD tt is_name
+    (entry kinds.Delete names.R_RISCV_NONE by_low_offset) refl in
+    let asked = by.asked in
+    let long = long_there l.section o asked.0 in
+    let there : HasWord add 0 IsAddTp = (omega (arith, long), subst IsAddTp (word_same l.section o) (asked.1)) in (
+      ap deleted_of decided ∙ ap relaxation_deleted by.kind_is,
+      λ h k differs small new_small alike tp_same wide zero_there.
+          laws.sums add 0 there [] differs h k small new_small alike tp_same wide zero_there,
+    )

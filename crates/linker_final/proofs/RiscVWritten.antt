@@ -17,7 +17,7 @@ use Rattle.linker_final.proofs.Written.{rela}
 use Rattle.linker_final.proofs.InstructionFields.{IsOfInstruction, applied}
 use Rattle.linker_final.proofs.PutBack.{same_windows}
 use Rattle.linker_final.specs.Final.{IsRewrittenByNoOther, instruction_at}
-use Rattle.linker_final.specs.Final.{AreBytes, Linked, IsLinked, count}
+use Rattle.linker_final.specs.Final.{AreBytes, AreRewritten, Linked, IsLinked, count}
 use Rattle.linker_rewriting.specs.Decisions.{decision_at, window_of, written_end_at, written_end_by}
 use Rattle.linker_rewriting.specs.Rewritten.{IsDone, IsMade, relocation_after}
 use Rattle.linker_rewriting.specs.declared.decisions.Decision.{Decision}
@@ -68,7 +68,17 @@ made_is new (p ∷ q ∷ r ∷ s ∷ t ∷ more) long = absurd (omega (arith, lo
 
 -- ---- what a decision leaves of a relocation
 
-module _ (l : Linked) (linked : IsLinked l) (i : ℕ) (chosen : Choice Relaxation ℕ) (below : i < count l)
+pub are_rewritten : (l : Linked) → IsLinked l → AreRewritten l
+are_rewritten l linked =
+    record {
+      decided = linked.decided;
+      relocations = linked.relocations;
+      done = linked.done;
+      others = linked.others;
+      same_length = linked.same_length;
+    }
+
+module _ (l : Linked) (made : AreRewritten l) (i : ℕ) (chosen : Choice Relaxation ℕ) (below : i < count l)
     (kind : RelaxationKind) (name : RiscVRelocation) (kind_is : chosen.kind ≡ relaxations.RiscV kind)
     (code_is : chosen.relocation ≡ code_of (riscv_name name))
     (unmoved : (o : ℕ) → offset_after (riscv_rewrite kind) o ≡ o)
@@ -88,13 +98,13 @@ module _ (l : Linked) (linked : IsLinked l) (i : ℕ) (chosen : Choice Relaxatio
   pub rewritten_after : decision_at l.decisions i ≡ Rewritten chosen
       → relocation_in l.relocations_after i ≡ rela r.offset (code_of (riscv_name name)) r.symbol r.addend
   rewritten_after decided =
-      linked.relocations i below ∙ (ap (λ d. relocation_after d r) decided ∙ after_is r.symbol r.addend)
+      made.relocations i below ∙ (ap (λ d. relocation_after d r) decided ∙ after_is r.symbol r.addend)
 
   pub redirected_after : (subject : Subject) → decision_at l.decisions i ≡ Redirected chosen subject
       → relocation_in l.relocations_after i
       ≡ rela r.offset (code_of (riscv_name name)) subject.symbol subject.addend
   redirected_after subject decided =
-      linked.relocations i below ∙ (ap (λ d. relocation_after d r) decided ∙ after_is subject.symbol subject.addend)
+      made.relocations i below ∙ (ap (λ d. relocation_after d r) decided ∙ after_is subject.symbol subject.addend)
 
 -- ---- what such a relocation writes
 
@@ -157,7 +167,7 @@ module _ (l : Linked) (linked : IsLinked l) (riscv : l.setting.architecture ≡ 
 
 -- ---- instructions
 
-module _ (l : Linked) (linked : IsLinked l) (i : ℕ) (below : i < count l) (decision : Decision)
+module _ (l : Linked) (made : AreRewritten l) (i : ℕ) (below : i < count l) (decision : Decision)
     (decided : decision_at l.decisions i ≡ decision) where
   abbrev o : ℕ
   o = (relocation_in l.relocations i).offset
@@ -166,9 +176,9 @@ module _ (l : Linked) (linked : IsLinked l) (i : ℕ) (below : i < count l) (dec
   pub stays : window_of decision ≡ record { back = 0; len = 0 } → IsRewrittenByNoOther l i o
       → o + 4 ≤ length l.section → instruction_at l.rewritten o ≡ instruction_at l.section o
   stays none alone inside =
-      let long = linked.same_length in
+      let long = made.same_length in
       same_windows o 4 l.rewritten l.section (omega (arith, inside, long)) (sym long)
-      (λ at from less. linked.others at (λ j lj. elim (cases_eq j i) [
+      (λ at from less. made.others at (λ j lj. elim (cases_eq j i) [
         | inl same ↦ inr (subst (λ k. written_end_at l.relocations l.decisions k ≤ at) (sym same) (own at from))
         | inr isnt ↦ alone j at lj isnt from less
       ]))
@@ -185,9 +195,9 @@ module _ (l : Linked) (linked : IsLinked l) (i : ℕ) (below : i < count l) (dec
       → o + 4 ≤ length l.section
       → instruction_at l.rewritten o ≡ rewritten (Some (rewrites_word new)) (instruction_at l.section o) 0
   becomes new by inside =
-      let made : IsMade (Some (rewrites_word new)) o l.section l.rewritten =
-      by (subst (λ d. IsDone d o l.section l.rewritten) decided (linked.done i below)) in
+      let done : IsMade (Some (rewrites_word new)) o l.section l.rewritten =
+      by (subst (λ d. IsDone d o l.section l.rewritten) decided (made.done i below)) in
       let here : instruction_at l.rewritten o ≡ to_le_bytes w32 (new (from_le_bytes w32 (instruction_at l.section o))) =
       subst (λ n. instruction_at l.rewritten n ≡ to_le_bytes w32 (new (from_le_bytes w32 (instruction_at l.section n))))
-      (let e : o - 0 ≡ o = omega arith in e) made in
+      (let e : o - 0 ≡ o = omega arith in e) done in
       here ∙ sym (made_is new (instruction_at l.section o) (long_there l.section o inside))

@@ -62,6 +62,14 @@ pub record IsLinked (l : Linked) : Type 0 where
   pub section_bytes : AreBytes l.section
   pub final_bytes : AreBytes l.final
 
+-- The first call succeeded, whatever becomes of the section then.
+pub record AreRewritten (l : Linked) : Type 0 where
+  pub decided : AreDecidedIn l.setting l.kept l.relocations l.section l.decisions (count l)
+  pub relocations : AreRelocationsAfter l.decisions l.relocations l.relocations_after (count l)
+  pub done : AreDone l.relocations l.decisions l.section l.rewritten (count l)
+  pub others : OthersStay l.relocations l.decisions l.section l.rewritten (count l)
+  pub same_length : length l.rewritten ≡ length l.section
+
 -- of what calls were passed and left
 abbrev pub linked : Setting → List KeptGroups → List ℕ → List ℕ → List Decision → List ℕ → List ℕ
     → Addresses → List Symbol → List ℕ → Linked

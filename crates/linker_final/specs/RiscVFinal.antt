@@ -1,9 +1,9 @@
 -- RISC-V: in the final bytes of a section rewritten instructions do what the object's do with the
 -- values of their relocations (RISC-V ELF psABI, "PC-Relative Symbol Addresses", "Local-Exec TLS
 -- Relaxation", "TLS Descriptors -> Local Exec Relaxation").
-use Rattle.std.specs.Prelude.{◌≡◌, ◌≢◌, ℕ, ◌+◌, ◌<◌, ◌^◌, ◌==◌, Bool, List, [], ◌++◌, Some, Option}
-use Rattle.std.specs.Prelude.{IsSomeAnd, slice_get, ⊤}
-use Rattle.linker_elf.specs.ElfNames.{IsNameOf}
+use Rattle.std.specs.Prelude.{◌≡◌, ◌≢◌, ℕ, ◌+◌, ◌<◌, ◌^◌, ◌==◌, Bool, false, List, [], ◌++◌}
+use Rattle.std.specs.Prelude.{Some, Option, IsSomeAnd, slice_get, ⊤}
+use Rattle.linker_elf.specs.ElfNames.{IsNameOf, code_of}
 use Rattle.linker_elf.specs.RiscVRelocations.{riscv_name, riscv_row}
 use Rattle.linker_elf.specs.Value.{sum_64, difference_64}
 use Rattle.linker_elf.specs.declared.elf.RelocationKindInfo.{RelocationKindInfo}
@@ -13,47 +13,53 @@ use Rattle.linker_elf.specs.declared.riscv64.relocations.RiscVRelocation.{RiscVR
 use Rattle.linker_elf.specs.declared.riscv64.relocations.RiscVRelocation.TheVariants as names
 use Rattle.linker_final.specs.Final.{IsRewrittenByNoOther, IsWrittenByNoOther}
 use Rattle.linker_final.specs.Final.{instruction_at}
-use Rattle.linker_final.specs.Final.{Linked, IsLinked, count}
+use Rattle.linker_final.specs.Final.{AreRewritten, Linked, IsLinked, count}
 use Rattle.linker_laws.specs.Machine.{Relocated, but, loaded}
 use Rattle.linker_laws.specs.RiscVMachine.{Action, Hart, register, rs1_of, rs2_of}
 use Rattle.linker_laws.specs.RiscVRewriteLaws.{AreAlike, Changes, Descriptor, DescriptorOf}
-use Rattle.linker_laws.specs.RiscVRewriteLaws.{EndAsReturned, EndSo, GoOn, HaveGoneOn, IsLowOffset}
-use Rattle.linker_laws.specs.RiscVRewriteLaws.{StoresTheSame, action_at, differs_after}
-use Rattle.linker_laws.specs.RiscVRewriteLaws.{even_in_thread, no_register, of_entry, offset_row}
-use Rattle.linker_laws.specs.RiscVRewriteLaws.{scratch_of, word_of}
+use Rattle.linker_laws.specs.RiscVRewriteLaws.{EndAsReturned, EndSo, GoOn, HasThreadPointer}
+use Rattle.linker_laws.specs.RiscVRewriteLaws.{HasZero, HaveAddress, HaveGoneOn, HaveOneOffset}
+use Rattle.linker_laws.specs.RiscVRewriteLaws.{IsLowOffset, StoresTheSame, action_at}
+use Rattle.linker_laws.specs.RiscVRewriteLaws.{differs_after, even_in_thread, no_register}
+use Rattle.linker_laws.specs.RiscVRewriteLaws.{of_entry, offset_row, scratch_of, word_of}
 use Rattle.linker_laws.specs.Schemes.{AreAddresses, entry_and_addend, symbol_address}
-use Rattle.linker_rewriting.specs.Decisions.{decision_at}
+use Rattle.linker_rewriting.specs.Decisions.{decision_at, deleted_of}
 use Rattle.linker_rewriting.specs.Labels.{IsHighIn}
 use Rattle.linker_rewriting.specs.declared.decisions.Decision.TheVariants.{Redirected, Rewritten}
 use Rattle.linker_rewriting.specs.declared.decisions.Subject.{Subject}
-use Rattle.linker_riscv64.specs.RiscVRewrites.{rd_of, tp}
+use Rattle.linker_riscv64.specs.RiscVRewrites.{deleted_from, rd_of, tp}
 use Rattle.linker_riscv64.specs.declared.rewrites.RelaxationKind.{RelaxationKind}
 use Rattle.linker_riscv64.specs.declared.rewrites.RelaxationKind.TheVariants as kinds
 use Rattle.linker_section.specs.Relocations.{relocation_in}
 use Rattle.linker_section.specs.Values.{operands_with}
 use Rattle.linker_section.specs.declared.facts.Symbol.{Symbol}
+use Rattle.linker_section.specs.declared.relocations.Rela.{Rela}
 use Rattle.linker_utils.specs.declared.architecture.Relaxation.{Relaxation}
 use Rattle.linker_utils.specs.declared.architecture.Relaxation.TheVariants as relaxations
 use Rattle.linker_utils.specs.declared.elf.Architecture.TheVariants.{RiscV}
 
 -- ---- loads of addresses from the GOT
 
--- The relocations at two indexes are those of an `auipc` and of the `ld` behind it. The symbol of
--- the second labels the `auipc`. Both are rewritten.
-pub record AreOfLoad (l : Linked) (i j : ℕ) : Type 0 where
+-- The relocations at two indexes are those of an `auipc` and of the `ld` behind it, and both are
+-- rewritten.
+pub record AreOfPair (l : Linked) (i j : ℕ) : Type 0 where
   pub first_below : i < count l
   pub second_below : j < count l
   pub next : (relocation_in l.relocations j).offset ≡ (relocation_in l.relocations i).offset + 4
   pub high : IsNameOf riscv_name (relocation_in l.relocations i).code names.R_RISCV_GOT_HI20
   pub low : IsNameOf riscv_name (relocation_in l.relocations j).code names.R_RISCV_PCREL_LO12_I
-  pub label : Symbol
-  pub label_is : slice_get l.symbols (relocation_in l.relocations j).symbol ≡ Some label
-  pub labels : difference_64 label.address l.addresses.section
-      ≡ (relocation_in l.relocations i).offset
   pub high_chosen : Choice Relaxation ℕ
   pub high_decided : decision_at l.decisions i ≡ Rewritten high_chosen
   pub low_chosen : Choice Relaxation ℕ
   pub low_decided : decision_at l.decisions j ≡ Rewritten low_chosen
+
+-- The symbol of the second labels the `auipc`.
+pub record AreOfLoad (l : Linked) (i j : ℕ) : Type 0 where
+  pub pair : AreOfPair l i j
+  pub label : Symbol
+  pub label_is : slice_get l.symbols (relocation_in l.relocations j).symbol ≡ Some label
+  pub labels : difference_64 label.address l.addresses.section
+      ≡ (relocation_in l.relocations i).offset
 
 -- Two harts are alike before the `auipc` of a relocation at an index, and the entry at an address
 -- holds S + A. One runs the object's pair with the values of its relocations, and the other the
@@ -100,6 +106,40 @@ LowPartDoesTheSame l i action row =
     × GoOn action (rd_of word) (even_in_thread (register k tp) operands) (sum_64 h.pc 4)
     (sum_64 k.pc 4) a b)
 
+-- ---- what is deleted before them
+
+-- the four bytes of an instruction
+abbrev pub IsDeleted : Linked → ℕ → Type 0
+IsDeleted l i = deleted_of (decision_at l.decisions i) ≡ deleted_from 0 4
+
+-- A `lui` is deleted. One hart executes the object's with the value of its relocation, a number of
+-- 12 bits, and the other nothing. They were alike but for some registers, and are but for that of
+-- the `lui` too, where the first has 0.
+abbrev pub HighPartGoes : Linked → ℕ → RelocationKindInfo → Type 0
+HighPartGoes l i row =
+    let r = relocation_in l.relocations i in
+    let lui = instruction_at l.section r.offset in
+    IsDeleted l i
+    × ((symbol : Symbol) → slice_get l.symbols r.symbol ≡ Some symbol
+    → (h k : Hart) (differs : ℕ → Bool) (original : List ℕ)
+    → let operands = operands_with RiscV l.addresses row symbol r 0 in
+    IsLowOffset operands → h.pc < 2 ^ 64 → k.pc < 2 ^ 64 → AreAlike differs h k
+    → Relocated (riscv_row names.R_RISCV_TPREL_HI20) operands lui original
+    → EndSo 1 original h 0 [] k (λ a b.
+    HasZero differs (rd_of (word_of lui)) (sum_64 h.pc 4) a b × (b.pc ≡ k.pc)))
+
+-- So is an `add` of the thread pointer. It adds to 0, and then the first has the thread pointer's
+-- number in its register.
+abbrev pub SumGoes : Linked → ℕ → Type 0
+SumGoes l i =
+    let add = instruction_at l.section (relocation_in l.relocations i).offset in
+    IsDeleted l i
+    × ((h k : Hart) (differs : ℕ → Bool) → h.pc < 2 ^ 64 → k.pc < 2 ^ 64 → AreAlike differs h k
+    → differs tp ≡ false → register k tp < 2 ^ 64 → register h (rs1_of (word_of add)) ≡ 0
+    → EndSo 1 add h 0 [] k (λ a b.
+    HasThreadPointer differs (rd_of (word_of add)) (register k tp) (sum_64 h.pc 4) a b
+    × (b.pc ≡ k.pc) × (register b tp ≡ register k tp)))
+
 -- ---- TLS descriptors
 
 -- The relocation at an index has a name, and is so many bytes behind the high part of a TLS
@@ -117,6 +157,25 @@ pub record IsOfDescriptor (l : Linked) (high : ℕ) (name : RiscVRelocation) (di
   pub decided : decision_at l.decisions n ≡ Redirected chosen subject
   pub kind_is : chosen.kind ≡ relaxations.RiscV kind
 
+-- The object's sequence of a TLS descriptor, from the offset of its high part on, runs to the call
+-- with the values of its relocations.
+abbrev pub RunsToCall : Linked → ℕ → (Hart → Option Hart) → Changes → Operands → Hart
+    → List ℕ → List ℕ → List ℕ → Type 0
+RunsToCall l o call c x h auipc_of ld_of addi_of =
+    let auipc = instruction_at l.section o in
+    let ld = instruction_at l.section (o + 4) in
+    let addi = instruction_at l.section (o + 8) in
+    let jalr = instruction_at l.section (o + 12) in
+    Descriptor call c x h auipc ld addi jalr × DescriptorOf x auipc ld addi auipc_of ld_of addi_of
+
+-- n instructions of new code end as the function returns to it
+abbrev pub EndsAsReturned : Linked → ℕ → (Hart → Option Hart) → Changes → Hart → List ℕ → List ℕ
+    → List ℕ → ℕ → List ℕ → Hart → Type 0
+EndsAsReturned l o call c h auipc_of ld_of addi_of n new k =
+    EndAsReturned call
+    (scratch_of (instruction_at l.section o) (instruction_at l.section (o + 4)) c)
+    (auipc_of ++ ld_of ++ addi_of ++ instruction_at l.section (o + 12)) h n new k
+
 -- Two harts are alike, one before the sequence whose high part is at an index, and one wherever its
 -- last instructions are. The first runs the object's sequence with the values of its relocations to
 -- the call. The second runs so many instructions of the final bytes, which are some distance behind
@@ -125,20 +184,13 @@ abbrev pub OffsetIsTheSame : ℕ → (ℕ → List ℕ) → (Operands → Type 0
     → RelocationKindInfo → Type 0
 OffsetIsTheSame n behind Said l high row =
     let r = relocation_in l.relocations high in
-    let o = r.offset in
-    let auipc = instruction_at l.section o in
-    let ld = instruction_at l.section (o + 4) in
-    let addi = instruction_at l.section (o + 8) in
-    let jalr = instruction_at l.section (o + 12) in
     (symbol : Symbol) → slice_get l.symbols r.symbol ≡ Some symbol
     → (call : Hart → Option Hart) (c : Changes) (entry : ℕ) (h k : Hart)
     → (auipc_of ld_of addi_of : List ℕ)
     → let operands = operands_with RiscV l.addresses row symbol r entry in
-    Said operands → Descriptor call c operands h auipc ld addi jalr
-    → DescriptorOf operands auipc ld addi auipc_of ld_of addi_of
+    Said operands → RunsToCall l r.offset call c operands h auipc_of ld_of addi_of
     → k.pc < 2 ^ 64 → AreAlike no_register h k
-    → EndAsReturned call (scratch_of auipc ld c) (auipc_of ++ ld_of ++ addi_of ++ jalr) h n
-    (behind o) k
+    → EndsAsReturned l r.offset call c h auipc_of ld_of addi_of n (behind r.offset) k
 
 -- The final bytes of an instruction of a descriptor, which became a nop, change nothing but the pc.
 abbrev pub DoesNothing : Linked → ℕ → Type 0
@@ -146,6 +198,79 @@ DoesNothing l i =
     let o = (relocation_in l.relocations i).offset in
     (h k : Hart) (differs : ℕ → Bool) → h.pc < 2 ^ 64 → AreAlike differs h k
     → EndSo 1 (instruction_at l.final o) h 0 [] k (HaveGoneOn differs (sum_64 h.pc 4) k.pc)
+
+-- ---- wherever the section goes before its values are written
+
+-- what a relocation becomes that gets a name, and the symbol and the addend of another
+abbrev pub named_as : RiscVRelocation → Rela → Rela → Rela
+named_as name r subject =
+    record {
+      offset = r.offset;
+      code = code_of (riscv_name name);
+      symbol = subject.symbol;
+      addend = subject.addend;
+    }
+
+-- Where the entry holds S + A, the object's `auipc` and `ld` with the values of their relocations
+-- leave it in the register of the `ld`. The rewritten ones with the values of theirs leave S + A
+-- there, each of its own layout. Of other registers only that of the `auipc` may differ.
+abbrev pub LoadsTheSameAnywhere : Linked → ℕ → Type 0
+LoadsTheSameAnywhere l i =
+    let o = (relocation_in l.relocations i).offset in
+    let auipc = instruction_at l.section o in
+    let ld = instruction_at l.section (o + 4) in
+    let base = rd_of (word_of auipc) in
+    rs1_of (word_of ld) ≡ base → base ≢ 0
+    → (x y : Operands) → AreAddresses x → AreAddresses y
+    → (h k : Hart) (auipc_of ld_of high low : List ℕ)
+    → loaded 8 h.memory (entry_and_addend x) ≡ symbol_address x
+    → h.pc ≡ x.place → k.pc ≡ y.place → AreAlike no_register h k
+    → Relocated (riscv_row names.R_RISCV_GOT_HI20) x auipc auipc_of
+    → Relocated (riscv_row names.R_RISCV_PCREL_LO12_I) (of_entry x) ld ld_of
+    → Relocated (riscv_row names.R_RISCV_PCREL_HI20) y (instruction_at l.rewritten o) high
+    → Relocated (riscv_row names.R_RISCV_PCREL_LO12_I) y (instruction_at l.rewritten (o + 4)) low
+    → EndSo 2 (auipc_of ++ ld_of) h 2 (high ++ low) k
+    (HaveAddress base (rd_of (word_of ld)) (symbol_address x) (symbol_address y) (sum_64 h.pc 8)
+    (sum_64 k.pc 8))
+
+-- The relocation of a low part stays. From a base with the thread pointer's number, the object's
+-- instruction with the value of its relocation computes what the rewritten one does with the value
+-- of the same offset, each at its own place.
+abbrev pub LowPartDoesTheSameAnywhere : Linked → ℕ → Action → Type 0
+LowPartDoesTheSameAnywhere l i action =
+    let o = (relocation_in l.relocations i).offset in
+    let word = word_of (instruction_at l.section o) in
+    (x y : Operands) → HaveOneOffset x y → IsLowOffset x
+    → (h k : Hart) (differs : ℕ → Bool) (original new : List ℕ)
+    → h.pc < 2 ^ 64 → k.pc < 2 ^ 64 → AreAlike differs h k
+    → register h (rs1_of word) ≡ register k tp → StoresTheSame action (rs2_of word) h k
+    → Relocated (offset_row action) x (instruction_at l.section o) original
+    → Relocated (offset_row action) y (instruction_at l.rewritten o) new
+    → EndSo 1 original h 1 new k (λ a b. AreAlike (differs_after action differs (rd_of word)) a b
+    × GoOn action (rd_of word) (even_in_thread (register k tp) x) (sum_64 h.pc 4) (sum_64 k.pc 4)
+    a b)
+
+-- The rewritten `addi` and `jalr` of a descriptor, with the values of their relocations, leave what
+-- the object's sequence does. So does the `jalr` alone, where the offset is a number of 12 bits.
+abbrev pub OffsetIsTheSameAnywhere : Linked → ℕ → Type 0
+OffsetIsTheSameAnywhere l high =
+    let o = (relocation_in l.relocations high).offset in
+    (x y : Operands) → HaveOneOffset x y → AreAddresses y
+    → (call : Hart → Option Hart) (c : Changes) (h k : Hart)
+    → (auipc_of ld_of addi_of lui low : List ℕ)
+    → RunsToCall l o call c x h auipc_of ld_of addi_of → k.pc < 2 ^ 64 → AreAlike no_register h k
+    → Relocated (riscv_row names.R_RISCV_TPREL_HI20) y (instruction_at l.rewritten (o + 8)) lui
+    → Relocated (riscv_row names.R_RISCV_TPREL_LO12_I) y (instruction_at l.rewritten (o + 12)) low
+    → EndsAsReturned l o call c h auipc_of ld_of addi_of 2 (lui ++ low) k
+
+abbrev pub ShortOffsetIsTheSameAnywhere : Linked → ℕ → Type 0
+ShortOffsetIsTheSameAnywhere l high =
+    let o = (relocation_in l.relocations high).offset in
+    (x y : Operands) → HaveOneOffset x y → IsLowOffset y
+    → (call : Hart → Option Hart) (c : Changes) (h k : Hart) (auipc_of ld_of addi_of low : List ℕ)
+    → RunsToCall l o call c x h auipc_of ld_of addi_of → k.pc < 2 ^ 64 → AreAlike no_register h k
+    → Relocated (riscv_row names.R_RISCV_TPREL_LO12_I) y (instruction_at l.rewritten (o + 12)) low
+    → EndsAsReturned l o call c h auipc_of ld_of addi_of 1 low k
 
 -- ---- the laws
 
@@ -172,6 +297,22 @@ LowPartsOf name =
 
 abbrev pub LowParts : Type 0
 LowParts = LowPartsOf names.R_RISCV_TPREL_LO12_I × LowPartsOf names.R_RISCV_TPREL_LO12_S
+
+-- of every `lui` of such an offset, and of every `add`
+abbrev pub HighParts : Type 0
+HighParts =
+    (l : Linked) → IsLinked l → l.setting.architecture ≡ RiscV
+    → (i : ℕ) (chosen : Choice Relaxation ℕ) → i < count l
+    → IsNameOf riscv_name (relocation_in l.relocations i).code names.R_RISCV_TPREL_HI20
+    → decision_at l.decisions i ≡ Rewritten chosen
+    → IsSomeAnd (riscv_row names.R_RISCV_TPREL_HI20) (HighPartGoes l i)
+
+abbrev pub Sums : Type 0
+Sums =
+    (l : Linked) → IsLinked l → l.setting.architecture ≡ RiscV
+    → (i : ℕ) (chosen : Choice Relaxation ℕ) → i < count l
+    → IsNameOf riscv_name (relocation_in l.relocations i).code names.R_RISCV_TPREL_ADD
+    → decision_at l.decisions i ≡ Rewritten chosen → SumGoes l i
 
 -- of every sequence of a TLS descriptor whose last two instructions became those of local-exec, and
 -- of every one whose last alone did, where the offset is a number of 12 bits
@@ -206,3 +347,55 @@ abbrev pub Nops : Type 0
 Nops =
     NopsOf names.R_RISCV_TLSDESC_HI20 × NopsOf names.R_RISCV_TLSDESC_LOAD_LO12
     × NopsOf names.R_RISCV_TLSDESC_ADD_LO12
+
+-- ---- of what is left by the call that rewrites
+
+-- of every load from the GOT
+abbrev pub GotLoadsAnywhere : Type 0
+GotLoadsAnywhere =
+    (l : Linked) → AreRewritten l → l.setting.architecture ≡ RiscV
+    → (i j : ℕ) → AreOfPair l i j
+    → IsRewrittenByNoOther l i (relocation_in l.relocations i).offset
+    → let r = relocation_in l.relocations i in
+    let low = relocation_in l.relocations j in
+    (relocation_in l.relocations_after i ≡ named_as names.R_RISCV_PCREL_HI20 r r)
+    × (relocation_in l.relocations_after j ≡ named_as names.R_RISCV_PCREL_LO12_I low low)
+    × LoadsTheSameAnywhere l i
+
+-- of every low part
+abbrev pub LowPartsAnywhereOf : RiscVRelocation → Type 0
+LowPartsAnywhereOf name =
+    (l : Linked) → AreRewritten l → l.setting.architecture ≡ RiscV
+    → (i : ℕ) (chosen : Choice Relaxation ℕ) → i < count l
+    → IsNameOf riscv_name (relocation_in l.relocations i).code name
+    → decision_at l.decisions i ≡ Rewritten chosen
+    → let r = relocation_in l.relocations i in
+    (relocation_in l.relocations_after i ≡ named_as name r r)
+    × IsSomeAnd (action_at l.section r.offset) (LowPartDoesTheSameAnywhere l i)
+
+abbrev pub LowPartsAnywhere : Type 0
+LowPartsAnywhere =
+    LowPartsAnywhereOf names.R_RISCV_TPREL_LO12_I × LowPartsAnywhereOf names.R_RISCV_TPREL_LO12_S
+
+-- of every sequence of a TLS descriptor whose last two instructions, or last one, became those of
+-- local-exec
+abbrev pub DescriptorsAnywhere : Type 0
+DescriptorsAnywhere =
+    (l : Linked) → AreRewritten l → l.setting.architecture ≡ RiscV → (high add call : ℕ)
+    → IsOfDescriptor l high names.R_RISCV_TLSDESC_ADD_LO12 8 kinds.AddiToLui add
+    → IsOfDescriptor l high names.R_RISCV_TLSDESC_CALL 12 kinds.CallToAddi call
+    → let r = relocation_in l.relocations high in
+    (relocation_in l.relocations_after add
+    ≡ named_as names.R_RISCV_TPREL_HI20 (relocation_in l.relocations add) r)
+    × (relocation_in l.relocations_after call
+    ≡ named_as names.R_RISCV_TPREL_LO12_I (relocation_in l.relocations call) r)
+    × OffsetIsTheSameAnywhere l high
+
+abbrev pub ShortDescriptorsAnywhere : Type 0
+ShortDescriptorsAnywhere =
+    (l : Linked) → AreRewritten l → l.setting.architecture ≡ RiscV → (high call : ℕ)
+    → IsOfDescriptor l high names.R_RISCV_TLSDESC_CALL 12 kinds.CallToAddiZero call
+    → (relocation_in l.relocations_after call
+    ≡ named_as names.R_RISCV_TPREL_LO12_I (relocation_in l.relocations call)
+    (relocation_in l.relocations high))
+    × ShortOffsetIsTheSameAnywhere l high

@@ -1,7 +1,7 @@
-use Rattle.linker_final.proofs.RiscVDescriptors.{descriptors, short_descriptors}
-use Rattle.linker_final.proofs.RiscVLoads.{joined}
+use Rattle.linker_final.proofs.RiscVDescriptors.{descriptors, descriptors_anywhere, short_descriptors, short_descriptors_anywhere}
+use Rattle.linker_final.proofs.RiscVLoads.{got_loads_anywhere, joined}
 use Rattle.linker_final.proofs.RiscVNops.{nops}
-use Rattle.linker_final.proofs.RiscVOffsets.{low_parts}
+use Rattle.linker_final.proofs.RiscVOffsets.{high_parts, low_parts, low_parts_anywhere, sums}
 use Rattle.linker_final.proofs.laws.riscv64.Goals as goal
 
 pub returns : goal.returns
@@ -10,7 +10,13 @@ returns c =
     record {
       got_loads = joined laws;
       low_parts = low_parts laws;
+      high_parts = high_parts laws;
+      sums = sums laws;
       descriptors = descriptors laws;
       short_descriptors = short_descriptors laws;
       nops = nops laws;
+      got_loads_anywhere = got_loads_anywhere laws;
+      low_parts_anywhere = low_parts_anywhere laws;
+      descriptors_anywhere = descriptors_anywhere laws;
+      short_descriptors_anywhere = short_descriptors_anywhere laws;
     }
