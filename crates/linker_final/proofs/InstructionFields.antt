@@ -1,20 +1,19 @@
 -- The relocation of an instruction in the final bytes of a section: it is applied to the bytes between.
-use Rattle.std.proofs.Common.{◌≡◌, ℕ, ◌/◌, ◌<◌, List, length, take, drop, true, false, cond, subst, ◌∙◌, arith, Ok, Some, IsSomeAnd}
-use Rattle.std.proofs.lemmas.Bool.{cond-true, cond-false}
+use Rattle.std.proofs.Common.{◌≡◌, ℕ, ◌/◌, ◌<◌, List, length, take, drop, true, false, subst, Ok, Some, IsSomeAnd}
 use Rattle.std.specs.Prelude.{⊤}
 use Rattle.linker_base.specs.declared.bit_misc.BitRange.{BitRange}
 use Rattle.linker_elf.specs.Applied.{IsApplied}
-use Rattle.linker_elf.specs.Relocate.{WritesRow, window_len}
+use Rattle.linker_elf.specs.Relocate.{window_len}
 use Rattle.linker_elf.specs.Value.{value_of}
 use Rattle.linker_elf.specs.declared.elf.RelocationInstruction.{RelocationInstruction}
 use Rattle.linker_elf.specs.declared.elf.RelocationKindInfo.{RelocationKindInfo}
 use Rattle.linker_elf.specs.declared.elf.RelocationSize.TheVariants.{BitMasking}
 use Rattle.linker_elf.specs.declared.elf.value.Operands.{Operands}
-use Rattle.linker_final.proofs.PlainRows.{found_is}
-use Rattle.linker_section.specs.Fields.{field_len, is_of_pair, uleb_len}
+use Rattle.linker_final.proofs.RelocatedFields as fields
+use Rattle.linker_section.specs.Fields.{is_of_pair}
 use Rattle.linker_section.specs.Relocations.{relocation_in}
 use Rattle.linker_section.specs.Values.{has_value, names_label, offset_at, operands_of}
-use Rattle.linker_section.specs.WrittenFields.{AreWritten, HoldsValue, composed, field_bytes}
+use Rattle.linker_section.specs.WrittenFields.{AreWritten}
 use Rattle.linker_section.specs.declared.facts.Addresses.{Addresses}
 use Rattle.linker_section.specs.declared.facts.Symbol.{Symbol}
 use Rattle.linker_utils.specs.Architectures.{IsRow}
@@ -40,23 +39,6 @@ module _ (architecture : Architecture) (addresses : Addresses) (bytes : List ℕ
   where
     pub applied : IsApplied row operands (take 4 (drop (offset_at bytes i) before)) (take 4 (drop (offset_at bytes i) after))
     applied =
-        let o = offset_at bytes i in
-        let found = written.can.found in
-        let mine = found_is architecture addresses bytes symbols (relocation_in bytes i) row operands is_row
-        of.valued of.unlabelled taken (of.some operands) (found i) (written.can.are_found i below) in
-        let v = mine.value in
-        let len : field_len row (drop o before) ≡ 4 =
-        cond-true (has_value row.kind) (cond (is_of_pair row) (uleb_len (take 10 (drop o before))) (window_len row)) 0 of.valued
-        ∙ (cond-false (is_of_pair row) (uleb_len (take 10 (drop o before))) (window_len row) of.alone ∙ of.wide) in
-        let some : 0 < field_len row (drop o before) = omega (arith, len) in
-        let held = (written.fields i row v below mine.is some).value of.alone in
-        let writes : WritesRow row v (field_bytes bytes before i row before) (field_bytes bytes before i row after) =
-        subst (λ size. HoldsValue size row v (λ n. composed found bytes before o n (length bytes / 24)) (field_bytes bytes before i row before) (field_bytes bytes before i row after)) of.size held in
-        let there : WritesRow row v (take 4 (drop o before)) (take 4 (drop o after)) =
-        subst (λ n. WritesRow row v (take n (drop o before)) (take n (drop o after))) len writes in
-        record {
-          value = v;
-          value_is = mine.value_is;
-          accepted = there.accepted;
-          written = there.written;
-        }
+        subst (λ n. IsApplied row operands (take n (drop (offset_at bytes i) before)) (take n (drop (offset_at bytes i) after))) of.wide
+        (fields.applied architecture addresses bytes symbols before after written i below row of.bits of.insn of.size of.valued
+        of.unlabelled is_row operands taken (of.some operands))

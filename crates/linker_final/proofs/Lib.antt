@@ -8,8 +8,15 @@ pub mod Chosen
 pub mod Fields
 pub mod Inner
 pub mod InstructionFields
+pub mod LoongArchPackedSites
+pub mod PackedBytes
+pub mod PackedDeletions
+pub mod PackedInstructions
+pub mod PackedSites
 pub mod PlainRows
 pub mod PutBack
+pub mod RelocatedFields
+pub mod RiscVPackedCalls
 pub mod X86Finals
 pub mod X86Lawful
 pub mod X86Names
