@@ -4,4 +4,5 @@
 #![tactic(auto)]
 
 pub mod laws;
+pub mod packed;
 pub mod sections;

@@ -1,6 +1,5 @@
 use Rattle.std.proofs.Common.{◌≡◌, ℕ, ◌/◌, ◌^◌, ◌<◌, List, [], ◌∷◌, length, map, get_or, refl, ap, subst, rules}
-use Rattle.std.proofs.lemmas.List.Elements.{All-from_get_or}
-use Rattle.linker_final.specs.Final.{AreBytes}
+use Rattle.linker_final.proofs.PackedBytes.{are_bytes}
 use Rattle.linker_rewriting.specs.Decisions.{AreDecidedIn, IsRejected}
 use Rattle.linker_rewriting.specs.Facts.{early}
 use Rattle.linker_rewriting.specs.Rewritten.{AreRelocationsAfter, AreDone, OthersStay}
@@ -10,9 +9,6 @@ use Rattle.linker_final.proofs.sections.link_section.Goals as goal
 same_decisions : (ds : List Decision) → map (λ d. d) ds ≡ ds
 same_decisions [] = refl
 same_decisions (d ∷ ds) = ap (λ xs. d ∷ xs) (same_decisions ds)
-
-are_bytes : (bytes : List ℕ) → ((i : ℕ) → get_or bytes i 0 < 2 ^ 8) → AreBytes bytes
-are_bytes bytes small = All-from_get_or (λ b. b < 2 ^ 8) bytes 0 (λ i below. small i)
 
 pub returns-in-Err-clause-cause : goal.returns-in-Err-clause-cause
 returns-in-Err-clause-cause c = (

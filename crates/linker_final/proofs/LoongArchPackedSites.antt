@@ -1,0 +1,540 @@
+-- LoongArch: what sites do in the final bytes of a packed section.
+use Rattle.std.proofs.Common.{◌≡◌, ◌≢◌, ℕ, ◌+◌, ◌/◌, ◌^◌, ◌<◌, ◌≤◌, inl, inr, Bool, true, false, not, eqb, if◌then◌else◌, List, [], ◌∷◌, length, take, drop, IsSomeAnd, refl, sym, ap, subst, ◌∙◌, arith, pos, ◌+ℤ◌, ◌*ℤ◌, ℤ, Some}
+use Rattle.std.proofs.lemmas.Bool.{ne_eqb, cond-true, cond-false, or_parts}
+use Rattle.std.proofs.lemmas.List.{drop-drop, drop-take, length-drop, take-take}
+use Rattle.std.proofs.lemmas.List.Elements.{All-drop, All-take}
+use Rattle.std.specs.Prelude.{◌==◌}
+use Rattle.linker_base.specs.Bits.{field, signed}
+use Rattle.linker_elf.proofs.Relocated.{plain_written}
+use Rattle.linker_elf.specs.Applied.{IsApplied}
+use Rattle.linker_elf.specs.Choices.{ValueIsWithin}
+use Rattle.linker_elf.specs.LoongArch.{loongarch_form, pcalau12i}
+use Rattle.linker_elf.specs.LoongArchRelocations.{loongarch_row}
+use Rattle.linker_elf.specs.Relocate.{InstructionWritten, IsWritten, is_jirl}
+use Rattle.linker_elf.specs.Value.{sum_64}
+use Rattle.linker_elf.specs.declared.elf.RelocationInstruction.TheVariants.{LoongArch64 as of_loongarch}
+use Rattle.linker_elf.specs.declared.elf.RelocationKind.TheVariants.{AbsoluteLowPart}
+use Rattle.linker_elf.specs.declared.elf.RelocationSize.TheVariants.{BitMasking}
+use Rattle.linker_elf.specs.declared.elf.value.Operands.{Operands}
+use Rattle.linker_elf.specs.declared.loongarch64.forms.LoongArch64Instruction.TheVariants.{Branch26, Shift10}
+use Rattle.linker_elf.specs.declared.loongarch64.relocations.LoongArch64Relocation.TheVariants as names
+use Rattle.linker_final.proofs.PackedSites.{site_becomes, site_inside, site_length, site_small}
+use Rattle.linker_final.proofs.PutBack.{window_length}
+use Rattle.linker_final.specs.Final.{AreBytes}
+use Rattle.linker_final.specs.LoongArchPacked.{CallsTheSame, AddressesAreMade, LoadedAddressesAreMade, words_in}
+use Rattle.linker_final.specs.Packed.{Packed, IsPacked, IsSiteOf}
+use Rattle.linker_final.specs.Packed.{site_behind, site_bytes, site_len, site_offset, site_place, site_target}
+use Rattle.linker_laws.proofs.AArch64Pairs.{word_made}
+use Rattle.linker_laws.proofs.AArch64Steps.{address_is}
+use Rattle.linker_laws.proofs.LoongArchCalls.{call_is, new_first, new_second, not_higher, target_is}
+use Rattle.linker_laws.proofs.LoongArchPairs.{Adds, Loads, adds, loads, nears}
+use Rattle.linker_laws.proofs.LoongArchSteps.{ends_so, loaded_of, read_back, run_pair, set}
+use Rattle.linker_laws.proofs.LoongArchWords.{high_after, low_after}
+use Rattle.linker_laws.proofs.Words.{word_below}
+use Rattle.linker_laws.specs.LoongArchMachine.{AreAlikeBut, EndSo, State, b, bl, branch_target, decode, execute, far_address, go_on, go_to, jirl, near_address, next_pc, page_address, pcaddu_18, read, register_target, run, step, sum_of, with_register, write}
+use Rattle.linker_laws.specs.LoongArchRelocationLaws as relocation_laws
+use Rattle.linker_laws.specs.LoongArchRewriteLaws.{HaveCalled, HaveMade, behind, no_register, pair, word_of}
+use Rattle.linker_laws.specs.Machine.{Relocated, loaded, wrapped}
+use Rattle.linker_laws.specs.Schemes.{AreAddresses, IsAddress, entry_and_addend, plt_address, symbol_address}
+use Rattle.linker_loongarch64.specs.LoongArchRewrites.{AreOfOneRegister, IsAddi, IsCall, rd_of, rj_of, signed_32, word_at}
+use Rattle.linker_riscv64.proofs.Jumps.{word_of_front}
+use Rattle.linker_runs.specs.LoongArchSites.{IsBranch, IsCall36At, IsFarCall, IsPcalaAt, IsPcaddi, LoongArchBecomes, destination}
+use Rattle.linker_runs.specs.LoongArchSites.LoongArchBecomes.{jump, call, far_call, address, far_address as far_pair}
+use Rattle.linker_runs.specs.Packing.{SiteBecomes}
+use Rattle.linker_runs.specs.Sites.{operands_of}
+use Rattle.linker_runs.specs.declared.packing.Machine.TheVariants.{LoongArch64}
+use Rattle.linker_runs.specs.declared.relaxation.Site.{Site as sites}
+
+-- ---- registers
+
+-- the others stay
+write_others : (n v m : ℕ) (s : State) → (m == n) ≡ false → read m (write n v s) ≡ read m s
+write_others n v m s other = both (n == 0)
+  where
+    both : (zero : Bool) → read m (if zero then s else with_register n v s) ≡ read m s
+    both true = refl
+    both false = ap (λ same. if m == 0 then 0 else (if same then v else s.registers m)) other
+
+write_back : (n v : ℕ) (s : State) → n ≢ 0 → read n (write n v s) ≡ v
+write_back n v s some =
+    ap (λ zero. read n (if zero then s else with_register n v s)) (ne_eqb n 0 some)
+    ∙ read_back n v n s refl some
+
+write_floats : (n v : ℕ) (s : State) → (write n v s).floats ≡ s.floats
+write_floats n v s = both (n == 0)
+  where
+    both : (zero : Bool) → (if zero then s else with_register n v s).floats ≡ s.floats
+    both true = refl
+    both false = refl
+
+write_memory : (n v : ℕ) (s : State) → (write n v s).memory ≡ s.memory
+write_memory n v s = both (n == 0)
+  where
+    both : (zero : Bool) → (if zero then s else with_register n v s).memory ≡ s.memory
+    both true = refl
+    both false = refl
+
+set_others : (n v m : ℕ) (s : State) → (m == n) ≡ false → read m (set n v s) ≡ read m s
+set_others n v m s other =
+    ap (λ same. if m == 0 then 0 else (if same then v else s.registers m)) other
+
+-- ---- one run
+
+-- A run of words calls what is at the target.
+record Called (words : List ℕ) (link base back target : ℕ) (s : State) : Type 0 where
+  end : State
+  runs : run words s ≡ Some end
+  keeps : (m : ℕ) → (m == link) ≡ false → (m == base) ≡ false → read m end ≡ read m s
+  floats : end.floats ≡ s.floats
+  memory : end.memory ≡ s.memory
+  links : link ≢ 0 → read link end ≡ back
+  at_target : end.pc ≡ target
+
+both_call : (old new : List ℕ) (link base back new_back target new_target : ℕ) (s t : State)
+    → AreAlikeBut no_register s t → Called old link base back target s
+    → Called new link base new_back new_target t
+    → EndSo old s new t (HaveCalled link base back new_back target new_target)
+both_call old new link base back new_back target new_target s t alike one other =
+    ends_so old new s t one.end other.end (HaveCalled link base back new_back target new_target)
+    one.runs other.runs
+    (record {
+      alike = record {
+        registers = λ m e.
+            let parts = or_parts (m == link) (m == base) e in
+            one.keeps m parts.0 parts.1 ∙ alike.registers m refl ∙ sym (other.keeps m parts.0 parts.1);
+        floats = one.floats ∙ alike.floats ∙ sym other.floats;
+        memory = one.memory ∙ alike.memory ∙ sym other.memory;
+      };
+      links = one.links;
+      new_links = other.links;
+      at_target = one.at_target;
+      at_new_target = other.at_target;
+    })
+
+-- A run of words makes an address, and goes on behind them.
+record Made (words : List ℕ) (n value behind : ℕ) (s : State) : Type 0 where
+  end : State
+  runs : run words s ≡ Some end
+  keeps : (m : ℕ) → (m == n) ≡ false → read m end ≡ read m s
+  floats : end.floats ≡ s.floats
+  memory : end.memory ≡ s.memory
+  made : read n end ≡ value
+  next : end.pc ≡ behind
+
+both_make : (old new : List ℕ) (n value new_value behind new_behind : ℕ) (s t : State)
+    → AreAlikeBut no_register s t → Made old n value behind s → Made new n new_value new_behind t
+    → EndSo old s new t (HaveMade n value new_value behind new_behind)
+both_make old new n value new_value behind new_behind s t alike one other =
+    ends_so old new s t one.end other.end (HaveMade n value new_value behind new_behind)
+    one.runs other.runs
+    (record {
+      alike = record {
+        registers = λ m e. one.keeps m e ∙ alike.registers m refl ∙ sym (other.keeps m e);
+        floats = one.floats ∙ alike.floats ∙ sym other.floats;
+        memory = one.memory ∙ alike.memory ∙ sym other.memory;
+      };
+      made = one.made;
+      new_made = other.made;
+      next = one.next;
+      new_next = other.next;
+    })
+
+-- ---- which instruction a word is
+
+decodes_far : (x : ℕ) → x / 2 ^ 25 ≡ 0x0f → decode x ≡ pcaddu_18
+decodes_far x op =
+    cond-false _ _ _ (ap (λ t. eqb t 0x0d) op) ∙ cond-false _ _ _ (ap (λ t. eqb t 0x0c) op)
+    ∙ cond-true _ _ _ (ap (λ t. eqb t 0x0f) op)
+
+decodes_jirl : (x : ℕ) → x / 2 ^ 26 ≡ 0x13 → decode x ≡ jirl
+decodes_jirl x op =
+    not_higher x 0x13 op (omega arith) (omega arith) _ _ _ _ _ _ _ _ ∙ cond-true _ _ _ (ap (λ t. eqb t 0x13) op)
+
+decodes_b : (x : ℕ) → x / 2 ^ 26 ≡ 0x14 → decode x ≡ b
+decodes_b x op =
+    not_higher x 0x14 op (omega arith) (omega arith) _ _ _ _ _ _ _ _
+    ∙ cond-false _ _ _ (ap (λ t. eqb t 0x13) op) ∙ cond-true _ _ _ (ap (λ t. eqb t 0x14) op)
+
+decodes_bl : (x : ℕ) → x / 2 ^ 26 ≡ 0x15 → decode x ≡ bl
+decodes_bl x op =
+    not_higher x 0x15 op (omega arith) (omega arith) _ _ _ _ _ _ _ _
+    ∙ cond-false _ _ _ (ap (λ t. eqb t 0x13) op) ∙ cond-false _ _ _ (ap (λ t. eqb t 0x14) op) ∙ cond-true _ _ _ (ap (λ t. eqb t 0x15) op)
+
+-- ---- `pcaddu18i` and `jirl`
+
+far : relocation_laws.Calls → (link : ℕ) (x : Operands) (before code : List ℕ) → IsCall link before 0
+    → Relocated (loongarch_row names.R_LARCH_CALL36) x before code → AreAddresses x
+    → (s : State) → s.pc ≡ x.place
+    → Called (pair code (drop 4 code)) link (rd_of (word_of before)) (sum_64 x.place 8) (plt_address x) s
+far calls link x before code is r small s at =
+    let n = rd_of (word_of before) in
+    let named = is.base_not_zero in
+    let c = call_is link x before code is r in
+    let p = word_of code in
+    let q = word_of (drop 4 code) in
+    let u = set n (far_address p s) s in
+    let first : step p s ≡ Some u =
+    ap (λ i. execute i p s) (decodes_far p c.far) ∙ ap (λ m. Some (go_on (write m (far_address p s) s))) c.far_rd
+    ∙ ap (λ a. Some (go_on a)) (cond-false _ _ _ (ne_eqb n 0 named)) in
+    let second : step q u ≡ Some (go_to (register_target q u) (write link (next_pc u) u)) =
+    ap (λ i. execute i q u) (decodes_jirl q c.jumps) ∙ ap (λ m. Some (go_to (register_target q u) (write m (next_pc u) u))) c.links in
+    record {
+      end = go_to (register_target q u) (write link (next_pc u) u);
+      runs = run_pair p q s u _ first refl second;
+      keeps = λ m e f. write_others link (next_pc u) m u e ∙ set_others n (far_address p s) m s f;
+      floats = write_floats link (next_pc u) u;
+      memory = write_memory link (next_pc u) u;
+      links = λ some.
+          write_back link (next_pc u) u some
+          ∙ ap (λ a. sum_64 (sum_64 a 4) 4) at
+          ∙ (let e : sum_64 (sum_64 x.place 4) 4 ≡ sum_64 x.place 8 = omega arith in e);
+      at_target = target_is x n p q s code (new_first link x before code is r) (new_second link x before code is r) refl refl c.base named at (calls x small x.place before code r.applied tt);
+    }
+
+-- ---- `b` and `bl`
+
+module _ (code : List ℕ) (bytes : AreBytes code) (len : length code ≡ 4) (place target : ℕ) where
+  below : word_of code < 2 ^ 32
+  below = word_below code bytes (omega (arith, len))
+
+  near_jump : IsBranch 0x14 (word_of code) place target → (base back : ℕ) (t : State) → t.pc ≡ place
+      → Called (word_of code ∷ []) 0 base back target t
+  near_jump is base back t at =
+      let word = word_of code in
+      let small = below in
+      let op = is.opcode_is in
+      record {
+        end = go_to (branch_target word t) t;
+        runs = ap (λ i. execute i word t) (decodes_b word (omega (arith, small, op)));
+        keeps = λ m e f. refl;
+        floats = refl;
+        memory = refl;
+        links = λ some. absurd (some refl);
+        at_target = ap (λ a. wrapped (pos a +ℤ ((loongarch_form Branch26).machine word *ℤ pos 4))) at ∙ address_is _ _ is.goes;
+      }
+
+  near_call : IsBranch 0x15 (word_of code) place target → (base : ℕ) (t : State) → t.pc ≡ place
+      → Called (word_of code ∷ []) 1 base (sum_64 place 4) target t
+  near_call is base t at =
+      let word = word_of code in
+      let small = below in
+      let op = is.opcode_is in
+      record {
+        end = go_to (branch_target word t) (write 1 (next_pc t) t);
+        runs = ap (λ i. execute i word t) (decodes_bl word (omega (arith, small, op)));
+        keeps = λ m e f. write_others 1 (next_pc t) m t e;
+        floats = refl;
+        memory = refl;
+        links = λ some. ap (λ a. sum_64 a 4) at;
+        at_target = ap (λ a. wrapped (pos a +ℤ ((loongarch_form Branch26).machine word *ℤ pos 4))) at ∙ address_is _ _ is.goes;
+      }
+
+  -- `pcaddi`
+  near_pcaddi : (n : ℕ) → n ≢ 0 → IsPcaddi (word_of code) n place target → (t : State) → t.pc ≡ place
+      → Made (word_of code ∷ []) n target (sum_64 place 4) t
+  near_pcaddi n some is t at =
+      let word = word_of code in
+      let small = below in
+      let op = is.opcode in
+      let m = nears (operands_of place target) n word target t
+      (record { opcode = omega (arith, small, op); rd_is = is.register_is }) some at is.computes in
+      record {
+        end = set n (near_address word t) t;
+        runs = m.only;
+        keeps = λ q e. set_others n (near_address word t) q t e;
+        floats = refl;
+        memory = refl;
+        made = read_back n (near_address word t) n t refl some ∙ m.value_is;
+        next = ap (λ a. sum_64 a 4) at;
+      }
+
+-- ---- `pcalau12i` and what adds the low part
+
+-- `addi.d` is no `jirl`, and gets the 12 bits
+no_jirl : (word : ℕ) → IsAddi word → is_jirl word ≡ false
+no_jirl word op = let opcode : field word 26 32 ≡ 0 = omega arith in ap (λ q. eqb q 19) opcode
+
+low_written : (v : ℤ) (before after : List ℕ) → IsAddi (word_of before)
+    → IsWritten (BitMasking (record { start = 0; end = 12 }) (of_loongarch Shift10)) AbsoluteLowPart v before after
+    → InstructionWritten (of_loongarch Shift10) (record { start = 0; end = 12 }) v before after
+low_written v before after op w =
+    plain_written (of_loongarch Shift10) AbsoluteLowPart (record { start = 0; end = 12 }) v before after refl
+    (no_jirl (word_of before) op) w
+
+far_sum : (x : Operands) (n target : ℕ) (high low : List ℕ) (s : State) → n ≢ 0 → s.pc ≡ x.place
+    → Adds n (word_of high) (word_of low) target s
+    → Made (pair high low) n target (sum_64 x.place 8) s
+far_sum x n target high low s some at is =
+    let u = set n (page_address (word_of high) s) s in
+    record {
+      end = set n (sum_of (word_of low) u) u;
+      runs = run_pair (word_of high) (word_of low) s u _ is.first refl is.second;
+      keeps = λ m e. set_others n (sum_of (word_of low) u) m u e ∙ set_others n (page_address (word_of high) s) m s e;
+      floats = refl;
+      memory = refl;
+      made = read_back n (sum_of (word_of low) u) n u refl some ∙ is.value_is;
+      next = ap (λ a. sum_64 (sum_64 a 4) 4) at
+          ∙ (let e : sum_64 (sum_64 x.place 4) 4 ≡ sum_64 x.place 8 = omega arith in e);
+    }
+
+load_run : (x : Operands) (n value : ℕ) (high low : List ℕ) (s : State) → n ≢ 0 → s.pc ≡ x.place
+    → Loads n (word_of high) (word_of low) (loaded 8 s.memory (entry_and_addend x)) s
+    → loaded 8 s.memory (entry_and_addend x) ≡ value
+    → Made (pair high low) n value (sum_64 x.place 8) s
+load_run x n value high low s some at is holds =
+    let u = set n (page_address (word_of high) s) s in
+    record {
+      end = set n (loaded_of (word_of low) u) u;
+      runs = run_pair (word_of high) (word_of low) s u _ is.first refl is.second;
+      keeps = λ m e. set_others n (loaded_of (word_of low) u) m u e ∙ set_others n (page_address (word_of high) s) m s e;
+      floats = refl;
+      memory = refl;
+      made = read_back n (loaded_of (word_of low) u) n u refl some ∙ is.value_is ∙ holds;
+      next = ap (λ a. sum_64 (sum_64 a 4) 4) at
+          ∙ (let e : sum_64 (sum_64 x.place 4) 4 ≡ sum_64 x.place 8 = omega arith in e);
+    }
+
+-- The pair with its relocations applied makes the address that its words lead to.
+sum_run : (x y : Operands) (n target : ℕ) (old_high old_low high low : List ℕ)
+    → AreOfOneRegister (word_of old_high) (word_of old_low) → IsAddi (word_of old_low)
+    → rd_of (word_of old_low) ≡ n
+    → IsSomeAnd (loongarch_row names.R_LARCH_PCALA_HI20) (λ row. IsApplied row x old_high high)
+    → IsSomeAnd (loongarch_row names.R_LARCH_PCALA_LO12) (λ row. IsApplied row y old_low low)
+    → IsAddress (pcalau12i x.place (word_of high) +ℤ signed 12 (field (word_of low) 10 22)) target
+    → (s : State) → s.pc ≡ x.place → Made (pair high low) n target (sum_64 x.place 8) s
+sum_run x y n target old_high old_low high low one op rd a d leads s at =
+    let some : n ≢ 0 = λ none. one.into_own_source.not_zero (rd ∙ none) in
+    far_sum x n target high low s some at
+    (adds x n (word_of high) (word_of low) target s
+    (high_after 12 0x0d n _ old_high high a.written one.first (one.register ∙ rd))
+    (low_after 0x00b n n _ old_low low (low_written d.value old_low low op d.written) op rd (one.into_own_source.same ∙ rd))
+    some at leads)
+
+-- ---- what the words of a window are
+
+first_of_window : (bytes : List ℕ) → word_of (take 8 bytes) ≡ word_of bytes
+first_of_window bytes =
+    sym (word_of_front (take 8 bytes)) ∙ ap word_of (take-take 4 8 bytes (omega arith)) ∙ word_of_front bytes
+
+second_of_window : (bytes : List ℕ) → word_of (drop 4 (take 8 bytes)) ≡ word_of (drop 4 bytes)
+second_of_window bytes = ap word_of (drop-take 4 4 bytes) ∙ word_of_front (drop 4 bytes)
+
+second_at : (section : List ℕ) (o : ℕ) → word_of (drop 4 (drop o section)) ≡ word_at section (o + 4)
+second_at section o = ap word_of (drop-drop 4 o section)
+
+-- the words of a pair in windows of 4 bytes
+of_front : (section : List ℕ) (o : ℕ) → IsPcalaAt section o
+    → AreOfOneRegister (word_of (take 4 (drop o section))) (word_of (take 4 (drop (o + 4) section)))
+of_front section o is =
+    let first = word_of_front (drop o section) in
+    let second = word_of_front (drop (o + 4) section) in
+    subst (λ w. AreOfOneRegister w (word_of (take 4 (drop (o + 4) section)))) (sym first)
+    (subst (AreOfOneRegister (word_at section o)) (sym second) is.one_register)
+
+-- a call that begins bytes with the same words
+call_of : (link : ℕ) (section : List ℕ) (o : ℕ) (bytes : List ℕ) → 8 ≤ length bytes
+    → word_of bytes ≡ word_at section o → word_of (drop 4 bytes) ≡ word_at section (o + 4)
+    → IsCall link section o → IsCall link bytes 0
+call_of link section o bytes long first second is =
+    record {
+      within = omega (arith, long);
+      first = subst (λ w. w / 2 ^ 25 ≡ 0x0f) (sym first) is.first;
+      base_not_zero = λ none. is.base_not_zero (ap rd_of (sym first) ∙ none);
+      second = subst (λ w. w / 2 ^ 26 ≡ 0x13) (sym second) is.second;
+      base = ap rj_of second ∙ is.base ∙ ap rd_of (sym first);
+      links = ap rd_of second ∙ is.links;
+    }
+
+-- ---- sites
+
+module _ (calls : relocation_laws.Calls) (section : List ℕ) (o : ℕ) (bytes : AreBytes section)
+    (inside : o + 8 ≤ length section) where
+  abbrev base : ℕ
+  base = rd_of (word_at section o)
+
+  abbrev link : ℕ
+  link = destination section o
+
+  -- a call with its relocation applied to bytes that begin with its words
+  linked : (l : ℕ) → IsCall l section o → (before : List ℕ) → 8 ≤ length before
+      → word_of before ≡ word_at section o → word_of (drop 4 before) ≡ word_at section (o + 4)
+      → (x : Operands) (code : List ℕ) → Relocated (loongarch_row names.R_LARCH_CALL36) x before code
+      → AreAddresses x → (s : State) → s.pc ≡ x.place
+      → Called (pair code (drop 4 code)) link base (sum_64 x.place 8) (plt_address x) s
+  linked l is before long first second x code r small s at =
+      subst (λ n. Called (pair code (drop 4 code)) n base (sum_64 x.place 8) (plt_address x) s) (sym is.links)
+      (subst (λ n. Called (pair code (drop 4 code)) l n (sum_64 x.place 8) (plt_address x) s) (ap rd_of first)
+      (far calls l x before code (call_of l section o before long first second is) r small s at))
+
+  either : IsCall36At section o → (before : List ℕ) → 8 ≤ length before
+      → word_of before ≡ word_at section o → word_of (drop 4 before) ≡ word_at section (o + 4)
+      → (x : Operands) (code : List ℕ) → Relocated (loongarch_row names.R_LARCH_CALL36) x before code
+      → AreAddresses x → (s : State) → s.pc ≡ x.place
+      → Called (pair code (drop 4 code)) link base (sum_64 x.place 8) (plt_address x) s
+  either (inl is) = linked 1 is
+  either (inr is) = linked 0 is
+
+  -- the object's call
+  from_there : IsCall36At section o → (x : Operands) (code : List ℕ)
+      → Relocated (loongarch_row names.R_LARCH_CALL36) x (drop o section) code → AreAddresses x
+      → (s : State) → s.pc ≡ x.place
+      → Called (pair code (drop 4 code)) link base (sum_64 x.place 8) (plt_address x) s
+  from_there is =
+      let len = length-drop o section in
+      either is (drop o section) (omega (arith, len, inside)) refl (second_at section o)
+
+  -- that of 8 bytes which go to a target
+  of_window : (place target : ℕ) (code : List ℕ) → place < 2 ^ 64 → target < 2 ^ 64 → AreBytes code
+      → length code ≡ 8 → IsCall36At section o → IsFarCall section o place target code
+      → (t : State) → t.pc ≡ place
+      → Called (pair code (drop 4 code)) link base (sum_64 place 8) target t
+  of_window place target code small reach new len is goes t at =
+      let there = drop o section in
+      let y = operands_of place target in
+      let wide = window_length o 8 section inside in
+      let addresses : AreAddresses y =
+      record {
+        symbol = reach;
+        place = small;
+        got_entry = omega arith;
+        got_base = omega arith;
+        plt_entry = reach;
+        tls_base = omega arith;
+      } in
+      let same : plt_address y ≡ target = omega (arith, reach) in
+      subst (λ n. Called (pair code (drop 4 code)) link base (sum_64 place 8) n t) same
+      (either is (take 8 there) (omega (arith, wide)) (first_of_window there) (second_of_window there ∙ second_at section o) y code
+      (record {
+        applied = goes.relocated;
+        len = len ∙ sym wide;
+        old_bytes = All-take (λ byte. byte < 2 ^ 8) 8 there (All-drop (λ byte. byte < 2 ^ 8) o section bytes);
+        bytes = new;
+      }) addresses t at)
+
+  no_pair : IsPcalaAt section o → IsCall36At section o → ⊥
+  no_pair pcala (inl is) =
+      let a = pcala.one_register.first in
+      let c = is.first in
+      omega (arith, a, c)
+  no_pair pcala (inr is) =
+      let a = pcala.one_register.first in
+      let c = is.first in
+      omega (arith, a, c)
+
+  -- what a call becomes
+  becomes_call : (place target : ℕ) (code : List ℕ) → place < 2 ^ 64 → target < 2 ^ 64
+      → AreBytes code → IsCall36At section o → LoongArchBecomes section o place target code
+      → (t : State) → t.pc ≡ place
+      → Called (words_in (length code) code) link base (sum_64 place (length code)) target t
+  becomes_call place target code small reach new is (jump links len branch) t at =
+      subst (λ n. Called (words_in n code) link base (sum_64 place n) target t) (sym len)
+      (subst (λ l. Called (word_of code ∷ []) l base (sum_64 place 4) target t) (sym links.links)
+      (near_jump code new len place target branch base (sum_64 place 4) t at))
+  becomes_call place target code small reach new is (call links len branch) t at =
+      subst (λ n. Called (words_in n code) link base (sum_64 place n) target t) (sym len)
+      (subst (λ l. Called (word_of code ∷ []) l base (sum_64 place 4) target t) (sym links.links)
+      (near_call code new len place target branch base t at))
+  becomes_call place target code small reach new is (far_call here len goes) t at =
+      subst (λ n. Called (words_in n code) link base (sum_64 place n) target t) (sym len)
+      (of_window place target code small reach new len is goes t at)
+  becomes_call place target code small reach new is (address pcala len near) t at = absurd (no_pair pcala is)
+  becomes_call place target code small reach new is (far_pair pcala len both) t at = absurd (no_pair pcala is)
+
+  -- what an address becomes
+  becomes_address : (place target : ℕ) (code : List ℕ) → AreBytes code → IsPcalaAt section o
+      → LoongArchBecomes section o place target code → (t : State) → t.pc ≡ place
+      → Made (words_in (length code) code) link target (sum_64 place (length code)) t
+  becomes_address place target code new pcala (jump links len branch) t at = absurd (no_pair pcala (inr links))
+  becomes_address place target code new pcala (call links len branch) t at = absurd (no_pair pcala (inl links))
+  becomes_address place target code new pcala (far_call here len goes) t at = absurd (no_pair pcala here)
+  becomes_address place target code new pcala (address is len near) t at =
+      subst (λ n. Made (words_in n code) link target (sum_64 place n) t) (sym len)
+      (near_pcaddi code new len place target link is.one_register.into_own_source.not_zero near t at)
+  becomes_address place target code new pcala (far_pair is len both) t at =
+      let second = word_of_front (drop (o + 4) section) in
+      let front = word_of_front code in
+      subst (λ n. Made (words_in n code) link target (sum_64 place n) t) (sym len)
+      (subst (λ w. Made (w ∷ word_of (drop 4 code) ∷ []) link target (sum_64 place 8) t) front
+      (sum_run (operands_of place target) (operands_of (sum_64 place 4) target) link target
+      (take 4 (drop o section)) (take 4 (drop (o + 4) section)) (take 4 code) (drop 4 code)
+      (of_front section o is)
+      (subst IsAddi (sym second) is.second) (ap rd_of second) both.high both.low both.computes t at))
+
+-- ---- the laws
+
+pub calls : relocation_laws.Calls → CallsTheSame
+calls law p is machine i here of at x small original relocated s t hs ht alike =
+    let section = p.section.bytes in
+    let o = site_offset p here in
+    let code = site_bytes p here in
+    let place = site_place p here in
+    let target = site_target p here in
+    let link = destination section o in
+    let base = rd_of (word_at section o) in
+    let inside = site_inside p i here of in
+    let final : LoongArchBecomes section o place target code =
+    subst (λ m. SiteBecomes m p.section here code) machine (site_becomes p is i here of) in
+    both_call (pair original (drop 4 original)) (words_in (site_len p here) code) link base
+    (sum_64 x.place 8) (site_behind p here) (plt_address x) target s t alike
+    (from_there law section o is.section_bytes inside at x original relocated small s hs)
+    (subst (λ n. Called (words_in n code) link base (sum_64 place n) target t) (site_length p is i here of)
+    (becomes_call law section o is.section_bytes inside place target code (omega arith) (omega arith)
+    (site_small p is here) at final t ht))
+
+-- what a site makes in the final section
+module _ (law : relocation_laws.Calls) (p : Packed) (is : IsPacked p) (machine : p.machine ≡ LoongArch64)
+    (i : ℕ) (here : sites) (of : IsSiteOf p i here)
+    (at : IsPcalaAt p.section.bytes (site_offset p here)) where
+  made_there : (t : State) → t.pc ≡ site_place p here
+      → Made (words_in (site_len p here) (site_bytes p here)) (destination p.section.bytes (site_offset p here))
+      (site_target p here) (site_behind p here) t
+  made_there t ht =
+      let section = p.section.bytes in
+      let o = site_offset p here in
+      let code = site_bytes p here in
+      let place = site_place p here in
+      let target = site_target p here in
+      let final : LoongArchBecomes section o place target code =
+      subst (λ m. SiteBecomes m p.section here code) machine (site_becomes p is i here of) in
+      subst (λ n. Made (words_in n code) (destination section o) target (sum_64 place n) t) (site_length p is i here of)
+      (becomes_address law section o is.section_bytes (site_inside p i here of) place target code
+      (site_small p is here) at final t ht)
+
+pub addresses : relocation_laws.Calls → relocation_laws.RelativeAddresses → AddressesAreMade
+addresses law relative p is machine i here of at x small pcala addi fits high low s t hs ht alike =
+    let section = p.section.bytes in
+    let o = site_offset p here in
+    let old = take 4 (drop o section) in
+    let old_low = take 4 (drop (o + 4) section) in
+    let second = word_of_front (drop (o + 4) section) in
+    let op : IsAddi (word_of old_low) = subst IsAddi (sym second) at.second in
+    both_make (pair pcala addi) (words_in (site_len p here) (site_bytes p here)) (destination section o)
+    (symbol_address x) (site_target p here) (sum_64 x.place 8) (site_behind p here) s t alike
+    (sum_run x (behind 4 x) (destination section o) (symbol_address x) old old_low pcala addi
+    (of_front section o at) op (ap rd_of second) high low
+    (relative.0 x small x.place old pcala high (subst (ValueIsWithin signed_32) high.value_is fits) (sum_64 x.place 4) old_low addi low (ap not (no_jirl (word_of old_low) op)))
+    s hs)
+    (made_there law p is machine i here of at t ht)
+
+pub loaded_addresses : relocation_laws.Calls → relocation_laws.RelativeAddresses → LoadedAddressesAreMade
+loaded_addresses law relative p is machine i here of at x small ld pcala_of ld_of load made old s t holds hs ht alike =
+    let section = p.section.bytes in
+    let o = site_offset p here in
+    let n = destination section o in
+    let pcala = take 4 (drop o section) in
+    let addi = take 4 (drop (o + 4) section) in
+    let second = word_of_front (drop (o + 4) section) in
+    let one = of_front section o at in
+    let word = word_made (λ w. 0x02c00000 + field w 0 22) ld addi (omega arith) made in
+    let rd : rd_of (word_of ld) ≡ n = (let e : rd_of (word_of ld) ≡ rd_of (word_of addi) = omega (arith, word) in e) ∙ ap rd_of second in
+    let rj : rj_of (word_of ld) ≡ n =
+    (let e : rj_of (word_of ld) ≡ rj_of (word_of addi) = omega (arith, word) in e) ∙ one.into_own_source.same ∙ ap rd_of second in
+    let some : n ≢ 0 = λ none. one.into_own_source.not_zero (ap rd_of second ∙ none) in
+    let l = loads x n (word_of pcala_of) (word_of ld_of) (entry_and_addend x) s
+    (high_after 12 0x0d n _ pcala pcala_of old.first.written one.first (one.register ∙ ap rd_of second))
+    (low_after 0x0a3 n n _ ld ld_of old.second.written load rd rj) some hs
+    (relative.1 x small x.place pcala pcala_of old.first (subst (ValueIsWithin signed_32) old.first.value_is old.fits) (sum_64 x.place 4) ld ld_of old.second tt) in
+    both_make (pair pcala_of ld_of) (words_in (site_len p here) (site_bytes p here)) n
+    (symbol_address x) (site_target p here) (sum_64 x.place 8) (site_behind p here) s t alike
+    (load_run x n (symbol_address x) pcala_of ld_of s some hs l holds)
+    (made_there law p is machine i here of at t ht)

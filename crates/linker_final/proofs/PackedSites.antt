@@ -1,0 +1,51 @@
+-- What sites are in the final bytes of a packed section.
+use Rattle.std.proofs.Common.{◌≡◌, ℕ, ◌+◌, ◌^◌, ◌<◌, ◌≤◌, false, length, take, drop, sym, subst, arith}
+use Rattle.std.proofs.lemmas.List.Elements.{All-drop, All-take}
+use Rattle.linker_final.proofs.PackedBytes.{item_inside, packed_there}
+use Rattle.linker_final.proofs.PutBack.{window_length}
+use Rattle.linker_final.specs.Final.{AreBytes}
+use Rattle.linker_final.specs.Packed.{Packed, IsPacked, IsSiteOf, site_bytes, site_len, site_offset}
+use Rattle.linker_runs.specs.Packing.{ItemBecomes, SiteBecomes, is_fixed, kept_len, packed_offset}
+use Rattle.linker_runs.specs.Relaxing.{offset_of}
+use Rattle.linker_runs.specs.declared.relaxation.Item.TheVariants.{Site}
+use Rattle.linker_runs.specs.declared.relaxation.Site.{Site as sites}
+
+-- in the section before
+pub site_inside : (p : Packed) (i : ℕ) (here : sites) → IsSiteOf p i here
+    → site_offset p here + 8 ≤ length p.section.bytes
+site_inside p i here of =
+    let lower = of.there.1 in
+    let upper = of.there.2 in
+    omega (arith, lower, upper)
+
+module _ (p : Packed) (is : IsPacked p) where
+  pub site_small : (here : sites) → AreBytes (site_bytes p here)
+  site_small here =
+      All-take (λ b. b < 2 ^ 8) (site_len p here) (drop (packed_offset p.section here.offset) p.final)
+      (All-drop (λ b. b < 2 ^ 8) (packed_offset p.section here.offset) p.final is.final_bytes)
+
+  module _ (i : ℕ) (here : sites) (of : IsSiteOf p i here) where
+    -- in the packed section
+    fits : packed_offset p.section here.offset + site_len p here ≤ length p.packed
+    fits =
+        let long = of.there.0 in
+        let lower = of.there.1 in
+        let upper = of.there.2 in
+        item_inside p is (Site here) (lower, omega (arith, upper, long))
+
+    pub site_length : length (site_bytes p here) ≡ site_len p here
+    site_length =
+        let inside = fits in
+        let same = is.written.same_length in
+        window_length (packed_offset p.section here.offset) (site_len p here) p.final (omega (arith, inside, same))
+
+    pub site_becomes : SiteBecomes p.machine p.section here (site_bytes p here)
+    site_becomes =
+        let s = p.section in
+        let d = s.deletions in
+        let kept = site_len p here in
+        let place = packed_offset s here.offset in
+        let made = subst (λ y. is_fixed y ≡ false
+        → ItemBecomes p.machine s y (take (kept_len d y) (drop (packed_offset s (offset_of y)) p.packed)))
+        of.item (is.run.written i of.below) of.short in
+        subst (SiteBecomes p.machine s here) (sym (packed_there p is place kept fits of.unwritten)) made

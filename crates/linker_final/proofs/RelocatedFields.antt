@@ -1,0 +1,46 @@
+-- The relocation of an instruction of any length in the bytes once a section's values are written.
+use Rattle.std.proofs.Common.{◌≡◌, ℕ, ◌/◌, ◌<◌, List, length, take, drop, true, false, subst, sym, ap, refl, Ok, Some, IsSomeAnd}
+use Rattle.std.specs.Prelude.{⊤, ◌||◌}
+use Rattle.linker_base.specs.declared.bit_misc.BitRange.{BitRange}
+use Rattle.linker_elf.specs.Applied.{IsApplied}
+use Rattle.linker_elf.specs.Relocate.{size_len, window_len}
+use Rattle.linker_elf.specs.Value.{value_of}
+use Rattle.linker_elf.specs.declared.elf.RelocationInstruction.{RelocationInstruction}
+use Rattle.linker_elf.specs.declared.elf.RelocationKindInfo.{RelocationKindInfo}
+use Rattle.linker_elf.specs.declared.elf.RelocationSize.TheVariants.{BitMasking}
+use Rattle.linker_elf.specs.declared.elf.value.Operands.{Operands}
+use Rattle.linker_final.proofs.InstructionFields.{applied_found}
+use Rattle.linker_final.proofs.PlainRows.{found_is}
+use Rattle.linker_section.proofs.Fronts.{some_window}
+use Rattle.linker_section.specs.Fields.{begins_pair, ends_pair, is_of_pair}
+use Rattle.linker_section.specs.Relocations.{relocation_in}
+use Rattle.linker_section.specs.Values.{has_value, names_label, offset_at, operands_of}
+use Rattle.linker_section.specs.WrittenFields.{AreWritten}
+use Rattle.linker_section.specs.declared.facts.Addresses.{Addresses}
+use Rattle.linker_section.specs.declared.facts.Symbol.{Symbol}
+use Rattle.linker_utils.specs.Architectures.{IsRow}
+use Rattle.linker_utils.specs.declared.elf.Architecture.{Architecture}
+
+module _ (architecture : Architecture) (addresses : Addresses) (bytes : List ℕ)
+    (symbols : List Symbol) (before after : List ℕ)
+    (written : AreWritten architecture addresses bytes symbols before after)
+    (i : ℕ) (below : i < length bytes / 24) (row : RelocationKindInfo)
+    (bits : BitRange) (insn : RelocationInstruction) (size : row.size ≡ BitMasking bits insn)
+    (valued : has_value row.kind ≡ true) (unlabelled : names_label row.size row.kind ≡ false)
+    (is_row : IsRow architecture (relocation_in bytes i).code (Some row)) (operands : Operands)
+    (taken : operands_of architecture addresses symbols row (relocation_in bytes i) ≡ Ok operands)
+    (has : IsSomeAnd (value_of row operands) (λ _. ⊤))
+  where
+    alone : is_of_pair row ≡ false
+    alone = ap (λ s. begins_pair s row.kind || ends_pair s row.kind) size
+
+    some : 0 < window_len row
+    some = subst (λ s. 0 < size_len s) (sym size) (some_window insn)
+
+    pub applied : IsApplied row operands (take (window_len row) (drop (offset_at bytes i) before))
+        (take (window_len row) (drop (offset_at bytes i) after))
+    applied =
+        applied_found architecture addresses bytes symbols before after written i below (window_len row) some row bits insn size
+        refl valued alone operands
+        (found_is architecture addresses bytes symbols (relocation_in bytes i) row operands is_row
+        valued unlabelled taken has (written.can.found i) (written.can.are_found i below))

@@ -1,0 +1,33 @@
+use Rattle.std.proofs.Common.{ℕ, ◌^◌, ◌<◌, get_or, subst, rules}
+use Rattle.linker_base.specs.Deltas.{deletions_of}
+use Rattle.linker_final.proofs.PackedBytes.{are_bytes, same_items}
+use Rattle.linker_runs.specs.Packing.{IsPackedRun, section_of}
+use Rattle.linker_section.specs.WrittenFields.{AreWritten, IsFirstFault}
+use Rattle.linker_final.proofs.packed.pack_section.Goals as goal
+
+pub returns-in-Ok-clause-packed : goal.returns-in-Ok-clause-packed
+returns-in-Ok-clause-packed c valid =
+    let s = section_of c.args.section.now c.args.base (deletions_of c.args.deltas.now) c.args.start in
+    let packed = c.pack_run.new.out in
+    let before : (i : ℕ) → get_or c.args.section.now i 0 < 2 ^ 8 = λ i. search rules in
+    let final : (i : ℕ) → get_or c.relocate_section.new.section i 0 < 2 ^ 8 = λ i. search rules in (
+      packed,
+      record {
+        run = subst (λ items. IsPackedRun c.args.machine s items packed) (same_items c.args.items.now) (c.in_default-pack_run.ensures.packed valid);
+        translated = λ i below. (c.in_default.ensures.none valid i below).1;
+        address = search (rules, valid);
+        written = subst (λ a. AreWritten a c.args.addresses.now c.args.translated.now c.args.symbols.now packed c.relocate_section.new.section) c.architecture_of.ensures c.in-Ok.ensures.fields;
+        as_many = c.requires.as_many;
+        section_bytes = are_bytes c.args.section.now before;
+        final_bytes = are_bytes c.relocate_section.new.section final;
+      },
+    )
+
+pub returns-in-Err-relocate_section-clause-cause : goal.returns-in-Err-relocate_section-clause-cause
+returns-in-Err-relocate_section-clause-cause c valid =
+    let s = section_of c.args.section.now c.args.base (deletions_of c.args.deltas.now) c.args.start in
+    let packed = c.pack_run.new.out in (
+      packed,
+      subst (λ items. IsPackedRun c.args.machine s items packed) (same_items c.args.items.now) (c.in_default-pack_run.ensures.packed valid),
+      subst (λ a. IsFirstFault a c.args.addresses.now c.args.translated.now c.args.symbols.now packed c.in-Err-relocate_section.error) c.architecture_of.ensures c.in-Err-relocate_section.ensures.fault,
+    )

@@ -1,0 +1,15 @@
+use Rattle.linker_final.proofs.LoongArchPackedSites.{calls, addresses, loaded_addresses}
+use Rattle.linker_final.proofs.PackedDeletions.{loongarch_high_part, loongarch_sum}
+use Rattle.linker_final.proofs.packed.shorter_loongarch64.Goals as goal
+
+pub returns : goal.returns
+returns c =
+    let of_relocations = c.loongarch64.ensures in
+    let laws = c.loongarch64-2.ensures.laws in
+    record {
+      calls = calls of_relocations.calls;
+      addresses = addresses of_relocations.calls of_relocations.relative;
+      loaded_addresses = loaded_addresses of_relocations.calls of_relocations.relative;
+      high_parts = loongarch_high_part laws.high_offset;
+      sums = loongarch_sum laws.sum;
+    }

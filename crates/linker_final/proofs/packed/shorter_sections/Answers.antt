@@ -1,0 +1,13 @@
+use Rattle.linker_final.proofs.PackedBytes.{kept_bytes, padding, deleted_bytes, addresses}
+use Rattle.linker_final.proofs.PackedInstructions.{instructions}
+use Rattle.linker_final.proofs.packed.shorter_sections.Goals as goal
+
+pub returns : goal.returns
+returns c =
+    record {
+      kept_bytes = kept_bytes;
+      padding = padding;
+      deleted_bytes = deleted_bytes;
+      addresses = addresses;
+      instructions = instructions;
+    }

@@ -1,0 +1,117 @@
+-- LoongArch: in a section that was packed, calls go where the object's do, and addresses are made
+-- that the object's instructions make (LoongArch ELF psABI, linker relaxation).
+use Rattle.std.specs.Prelude.{◌≡◌, ℕ, ◌+◌, ◌==◌, List, [], ◌∷◌, take, drop}
+use Rattle.std.specs.Prelude.{if◌then◌else◌, Bool, false, IsSomeAnd, ◌<◌, ◌^◌}
+use Rattle.linker_elf.specs.Choices.{RowIsWithin}
+use Rattle.linker_elf.specs.LoongArchRelocations.{loongarch_row}
+use Rattle.linker_elf.specs.Value.{sum_64}
+use Rattle.linker_elf.specs.declared.elf.value.Operands.{Operands}
+use Rattle.linker_elf.specs.declared.loongarch64.relocations.LoongArch64Relocation.TheVariants as names
+use Rattle.linker_final.specs.Packed.{Packed, AreDeleted, IsPacked, IsSiteOf, address_at}
+use Rattle.linker_final.specs.Packed.{site_behind, site_bytes, site_len}
+use Rattle.linker_final.specs.Packed.{site_offset, site_place, site_target}
+use Rattle.linker_laws.specs.LoongArchMachine.{AreAlikeBut, EndSo, State, read, step}
+use Rattle.linker_laws.specs.LoongArchRewriteLaws.{Fits32, HasPut, HaveCalled, HaveMade}
+use Rattle.linker_laws.specs.LoongArchRewriteLaws.{IsRelocated, IsRewritten, LoadsEntry, behind}
+use Rattle.linker_laws.specs.LoongArchRewriteLaws.{no_register, pair, word_of}
+use Rattle.linker_laws.specs.Machine.{Relocated, loaded}
+use Rattle.linker_laws.specs.Schemes.{AreAddresses, entry_and_addend, plt_address, symbol_address}
+use Rattle.linker_loongarch64.specs.LoongArchRewrites.{IsAddTp, IsLd, IsLu12i, rd_of, rj_of}
+use Rattle.linker_loongarch64.specs.LoongArchRewrites.{signed_12, tp, word_at}
+use Rattle.linker_loongarch64.specs.declared.rewrites.RelaxationKind.TheVariants as kinds
+use Rattle.linker_runs.specs.LoongArchSites.{IsCall36At, IsPcalaAt, destination}
+use Rattle.linker_runs.specs.declared.packing.Machine.TheVariants.{LoongArch64}
+use Rattle.linker_runs.specs.declared.relaxation.Site.{Site as site}
+
+-- the words of so many bytes of a site: one instruction, or both
+abbrev pub words_in : ℕ → List ℕ → List ℕ
+words_in kept bytes =
+    if kept == 8 then pair bytes (drop 4 bytes) else word_of bytes ∷ []
+
+-- the final words of a site
+abbrev pub site_words : Packed → site → List ℕ
+site_words p here = words_in (site_len p here) (site_bytes p here)
+
+-- ---- calls
+
+-- From states that are alike, each before its own call, the object's `pcaddu18i` and `jirl` with
+-- the value of their relocation and the final call, `b`, `bl` or both, go to the target of their
+-- layout.
+abbrev pub CallsTheSame : Type 0
+CallsTheSame =
+    (p : Packed) → IsPacked p → p.machine ≡ LoongArch64 → (i : ℕ) (here : site) → IsSiteOf p i here
+    → let o = site_offset p here in
+    IsCall36At p.section.bytes o
+    → (x : Operands) → AreAddresses x → (original : List ℕ)
+    → Relocated (loongarch_row names.R_LARCH_CALL36) x (drop o p.section.bytes) original
+    → (s t : State) → s.pc ≡ x.place → t.pc ≡ site_place p here → AreAlikeBut no_register s t
+    → EndSo (pair original (drop 4 original)) s (site_words p here) t
+    (HaveCalled (destination p.section.bytes o) (rd_of (word_at p.section.bytes o))
+    (sum_64 x.place 8) (site_behind p here) (plt_address x) (site_target p here))
+
+-- ---- addresses
+
+-- Each run has made the address of its layout.
+abbrev pub HaveMadeAddress : Packed → site → Operands → State → State → Type 0
+HaveMadeAddress p here x =
+    HaveMade (destination p.section.bytes (site_offset p here)) (symbol_address x)
+    (site_target p here) (sum_64 x.place 8) (site_behind p here)
+
+-- From states that are alike, each before its own instructions, the object's `pcalau12i` and
+-- `addi.d` with the values of their relocations and the final `pcaddi`, or both, make it.
+abbrev pub AddressesAreMade : Type 0
+AddressesAreMade =
+    (p : Packed) → IsPacked p → p.machine ≡ LoongArch64 → (i : ℕ) (here : site) → IsSiteOf p i here
+    → let o = site_offset p here in
+    IsPcalaAt p.section.bytes o
+    → (x : Operands) → AreAddresses x → (pcala addi : List ℕ) → Fits32 names.R_LARCH_PCALA_HI20 x
+    → IsRelocated names.R_LARCH_PCALA_HI20 x (take 4 (drop o p.section.bytes)) pcala
+    → IsRelocated names.R_LARCH_PCALA_LO12 (behind 4 x) (take 4 (drop (o + 4) p.section.bytes)) addi
+    → (s t : State) → s.pc ≡ x.place → t.pc ≡ site_place p here → AreAlikeBut no_register s t
+    → EndSo (pair pcala addi) s (site_words p here) t (HaveMadeAddress p here x)
+
+-- The same where the object had an `ld.d` of a GOT entry, which holds the address of the symbol,
+-- and `LdToAddi` has made the `addi.d` of it.
+abbrev pub LoadedAddressesAreMade : Type 0
+LoadedAddressesAreMade =
+    (p : Packed) → IsPacked p → p.machine ≡ LoongArch64 → (i : ℕ) (here : site) → IsSiteOf p i here
+    → let o = site_offset p here in
+    IsPcalaAt p.section.bytes o
+    → (x : Operands) → AreAddresses x → (ld pcala_of_entry ld_of_entry : List ℕ)
+    → IsLd (word_of ld)
+    → IsRewritten kinds.LdToAddi ld (take 4 (drop (o + 4) p.section.bytes))
+    → LoadsEntry names.R_LARCH_GOT_PC_HI20 names.R_LARCH_GOT_PC_LO12 x
+    (take 4 (drop o p.section.bytes)) ld pcala_of_entry ld_of_entry
+    → (s t : State) → loaded 8 s.memory (entry_and_addend x) ≡ symbol_address x
+    → s.pc ≡ x.place → t.pc ≡ site_place p here → AreAlikeBut no_register s t
+    → EndSo (pair pcala_of_entry ld_of_entry) s (site_words p here) t (HaveMadeAddress p here x)
+
+-- ---- deleted instructions (thread-local storage)
+
+-- The object's run executes an instruction, and the final run nothing: it is behind the instruction
+-- already, since that is deleted.
+
+-- A `lu12i.w` of an offset from the thread pointer of 12 bits puts 0 in its register in the
+-- object's run.
+abbrev pub HighPartIsLeftOut : Type 0
+HighPartIsLeftOut =
+    (p : Packed) → IsPacked p → p.machine ≡ LoongArch64 → (o : ℕ) → AreDeleted p o 4
+    → let lu12i = take 4 (drop o p.section.bytes) in
+    IsLu12i (word_of lu12i) → (x : Operands) → AreAddresses x
+    → RowIsWithin (loongarch_row names.R_LARCH_TLS_LE_LO12_R) signed_12 x → (lu12i_of : List ℕ)
+    → IsRelocated names.R_LARCH_TLS_LE_HI20_R x lu12i lu12i_of
+    → (s t : State) (differing : ℕ → Bool) → AreAlikeBut differing s t → t.pc ≡ address_at p o
+    → IsSomeAnd (step (word_of lu12i_of) s)
+    (λ u. HasPut differing (rd_of (word_of lu12i)) 0 (sum_64 s.pc 4) u t
+    × (t.pc ≡ address_at p (o + 4)))
+
+-- An `add.d` of the thread pointer to that puts the thread pointer's number in its register.
+abbrev pub SumIsLeftOut : Type 0
+SumIsLeftOut =
+    (p : Packed) → IsPacked p → p.machine ≡ LoongArch64 → (o : ℕ) → AreDeleted p o 4
+    → let add = word_at p.section.bytes o in
+    IsAddTp add → (s t : State) (differing : ℕ → Bool) → AreAlikeBut differing s t
+    → t.pc ≡ address_at p o → differing tp ≡ false → read tp t < 2 ^ 64 → read (rj_of add) s ≡ 0
+    → IsSomeAnd (step add s)
+    (λ u. HasPut differing (rd_of add) (read tp t) (sum_64 s.pc 4) u t
+    × (t.pc ≡ address_at p (o + 4)))

@@ -1,0 +1,135 @@
+-- RISC-V: in a section that was packed, calls go where the object's do (RISC-V ELF psABI, "Function
+-- Call Relaxation" and "Compressed Tail Call Relaxation").
+use Rattle.std.specs.Prelude.{◌≡◌, ◌≢◌, ◌⊎◌, ℕ, ◌+◌, ◌-◌, ◌%◌, ◌==◌, ◌||◌, List}
+use Rattle.std.specs.Prelude.{take, drop, if◌then◌else◌, slice_get, Some, Bool, false, ◌<◌, ◌^◌}
+use Rattle.linker_elf.specs.ElfNames.{IsNameOf}
+use Rattle.linker_elf.specs.Originals.{HasWord}
+use Rattle.linker_elf.specs.RiscVRelocations.{pair_row, riscv_name, riscv_row}
+use Rattle.linker_elf.specs.Value.{sum_64}
+use Rattle.linker_elf.specs.declared.elf.RelocationKind.TheVariants.{PltRelative}
+use Rattle.linker_elf.specs.declared.elf.RelocationKindInfo.{RelocationKindInfo}
+use Rattle.linker_elf.specs.declared.elf.value.Operands.{Operands}
+use Rattle.linker_elf.specs.declared.riscv64.forms.RiscVInstruction.TheVariants.{UiType}
+use Rattle.linker_elf.specs.declared.riscv64.relocations.RiscVRelocation.{RiscVRelocation}
+use Rattle.linker_elf.specs.declared.riscv64.relocations.RiscVRelocation.TheVariants as names
+use Rattle.linker_final.specs.Packed.{Packed, AreDeleted, IsPacked, IsSiteOf, StayTogether}
+use Rattle.linker_final.specs.Packed.{address_at, count, place_of}
+use Rattle.linker_final.specs.Packed.{site_behind, site_bytes, site_len, site_offset, site_place}
+use Rattle.linker_final.specs.Packed.{site_target}
+use Rattle.linker_laws.specs.Machine.{Relocated}
+use Rattle.linker_laws.specs.RiscVMachine.{Hart, register, rs1_of}
+use Rattle.linker_laws.specs.RiscVRelocationLaws.{even}
+use Rattle.linker_laws.specs.RiscVRewriteLaws.{AreAlike, EndSo, HasThreadPointer, HasZero}
+use Rattle.linker_laws.specs.RiscVRewriteLaws.{IsLow12, IsLowOffset, no_register}
+use Rattle.linker_laws.specs.Schemes.{AreAddresses, plt_address}
+use Rattle.linker_riscv64.specs.RiscVCalls.{word_at}
+use Rattle.linker_riscv64.specs.RiscVRewrites.{IsAddTp, IsLui, rd_of, tp}
+use Rattle.linker_runs.specs.RiscVItems.{IsCallAt}
+use Rattle.linker_runs.specs.declared.packing.Machine.TheVariants.{RiscV64}
+use Rattle.linker_runs.specs.declared.relaxation.Site.{Site as site}
+use Rattle.linker_section.specs.Relocations.{relocation_in}
+use Rattle.linker_section.specs.Values.{offset_at, operands_with}
+use Rattle.linker_section.specs.declared.facts.Symbol.{Symbol}
+use Rattle.linker_utils.specs.declared.elf.Architecture.TheVariants.{RiscV}
+
+-- ---- calls
+
+-- the row of both relocations of calls
+abbrev pub call_row : RelocationKindInfo
+call_row = pair_row PltRelative 64 UiType
+
+abbrev pub IsOfCall : RiscVRelocation → Type 0
+IsOfCall name = (name ≡ names.R_RISCV_CALL) ⊎ (name ≡ names.R_RISCV_CALL_PLT)
+
+-- Each hart is at the target of its layout. They are alike but for the register of the `auipc` and
+-- the link register, which has the address behind the call.
+pub record HaveCalled (base link target back new_target new_back : ℕ) (a b : Hart) : Type 0 where
+  pub alike : AreAlike (λ r. r == base || r == link) a b
+  pub at_target : a.pc ≡ target
+  pub at_new_target : b.pc ≡ new_target
+  pub links : link ≢ 0 → register a link ≡ back
+  pub new_links : link ≢ 0 → register b link ≡ new_back
+
+-- The object's call, `auipc` and `jalr` at an offset of the section with the value of their
+-- relocation by some operands, and n instructions among the final bytes. From harts that are alike,
+-- each before its own call, both run to the target of their layout.
+abbrev pub CallsTheSame : Packed → ℕ → ℕ → List ℕ → ℕ → ℕ → ℕ → Type 0
+CallsTheSame p o n final_call place target behind =
+    (name : RiscVRelocation) → IsOfCall name → (x : Operands) → AreAddresses x → (original : List ℕ)
+    → Relocated (riscv_row name) x (drop o p.section.bytes) original
+    → (h k : Hart) → h.pc ≡ x.place → k.pc ≡ place → AreAlike no_register h k
+    → EndSo 2 original h n final_call k
+    (HaveCalled (rd_of (word_at p.section.bytes o)) (rd_of (word_at p.section.bytes (o + 4)))
+    (even plt_address x) (sum_64 x.place 8) target behind)
+
+-- ---- calls of sites
+
+-- how many instructions so many bytes of a call are: `c.j` and `jal` alone, or both
+abbrev pub instructions_in : ℕ → ℕ
+instructions_in kept = if kept == 8 then 2 else 1
+
+-- where so many bytes of a call go: `jalr` clears bit 0
+abbrev pub landing : ℕ → ℕ → ℕ
+landing kept target = if kept == 8 then target - target % 2 else target
+
+-- Each call that a run may make shorter goes in the final section to the address where its target
+-- goes, whichever instruction it has become.
+abbrev pub SitesCallTheSame : Type 0
+SitesCallTheSame =
+    (p : Packed) → IsPacked p → p.machine ≡ RiscV64 → (i : ℕ) (call : site) → IsSiteOf p i call
+    → CallsTheSame p (site_offset p call) (instructions_in (site_len p call)) (site_bytes p call)
+    (site_place p call) (landing (site_len p call) (site_target p call)) (site_behind p call)
+
+-- ---- calls that stay
+
+-- A relocation of a call at which nothing changes goes in the final section where its formula says.
+pub record StaysCall (p : Packed) (i : ℕ) (name : RiscVRelocation) : Type 0 where
+  pub within : i < count p
+  pub of_call : IsOfCall name
+  pub is_name : IsNameOf riscv_name (relocation_in p.relocations_after i).code name
+  pub call : IsCallAt p.section.bytes (offset_at p.relocations i)
+  pub stays : StayTogether p (offset_at p.relocations i) 8
+
+abbrev pub LongCallsStay : Type 0
+LongCallsStay =
+    (p : Packed) → IsPacked p → p.machine ≡ RiscV64 → (i : ℕ) (name : RiscVRelocation)
+    → StaysCall p i name → let r = relocation_in p.relocations_after i in
+    (symbol : Symbol) → slice_get p.symbols r.symbol ≡ Some symbol
+    → let y = operands_with RiscV p.addresses call_row symbol r 0 in
+    AreAddresses y
+    → let o = offset_at p.relocations i in
+    CallsTheSame p o 2 (take 8 (drop (place_of p o) p.final)) y.place (even plt_address y)
+    (sum_64 y.place 8)
+
+-- ---- deleted instructions (psABI, "Zero-page Relaxation"; thread-local storage)
+
+-- The object's run executes an instruction, and the final run nothing: it is behind the instruction
+-- already, since that is deleted.
+
+-- A `lui` of a number of 12 bits, or of an offset from the thread pointer of 12 bits, puts 0 in its
+-- register in the object's run.
+abbrev pub LuiIsLeftOut : RiscVRelocation → (Operands → Type 0) → Type 0
+LuiIsLeftOut name IsLow =
+    (p : Packed) → IsPacked p → p.machine ≡ RiscV64 → (o : ℕ) → HasWord p.section.bytes o IsLui
+    → AreDeleted p o 4 → (x : Operands) → IsLow x → (original : List ℕ)
+    → Relocated (riscv_row name) x (drop o p.section.bytes) original
+    → (h k : Hart) (differs : ℕ → Bool) → h.pc < 2 ^ 64 → k.pc ≡ address_at p o
+    → AreAlike differs h k
+    → EndSo 1 original h 0 p.final k
+    (λ a b. HasZero differs (rd_of (word_at p.section.bytes o)) (sum_64 h.pc 4) a b
+    × (b.pc ≡ address_at p (o + 4)))
+
+-- An `add` of the thread pointer to that puts the thread pointer's number in its register.
+abbrev pub SumIsLeftOut : Type 0
+SumIsLeftOut =
+    (p : Packed) → IsPacked p → p.machine ≡ RiscV64 → (o : ℕ) → HasWord p.section.bytes o IsAddTp
+    → AreDeleted p o 4 → (h k : Hart) (differs : ℕ → Bool) → h.pc < 2 ^ 64
+    → k.pc ≡ address_at p o → AreAlike differs h k → differs tp ≡ false → register k tp < 2 ^ 64
+    → register h (rs1_of (word_at p.section.bytes o)) ≡ 0
+    → EndSo 1 (drop o p.section.bytes) h 0 p.final k
+    (λ a b. HasThreadPointer differs (rd_of (word_at p.section.bytes o)) (register k tp)
+    (sum_64 h.pc 4) a b × (b.pc ≡ address_at p (o + 4)) × (register b tp ≡ register k tp))
+
+abbrev pub HighPartsAreLeftOut : Type 0
+HighPartsAreLeftOut =
+    LuiIsLeftOut names.R_RISCV_HI20 IsLow12 × LuiIsLeftOut names.R_RISCV_TPREL_HI20 IsLowOffset

@@ -1,0 +1,236 @@
+//! Sections that get shorter between their rewrites and their values: the calls, one after the
+//! other, and laws of the bytes that they leave, by architecture.
+
+ghost use Rattle.std.specs.Prelude.{◌≡◌, ◌≤◌, ◌<◌, ◌+◌, ◌-◌, ◌/◌, ◌^◌, ◌↔◌, ℕ, List, length};
+ghost use Rattle.std.specs.Prelude.{IsTrue, IfErr, IfNone, IfSome, OnOk};
+ghost use Rattle.linker_base.specs.Deletions.{rank};
+ghost use Rattle.linker_base.specs.Deltas.{deletions_of};
+ghost use Rattle.linker_base.specs.Listed.{AreValidDeltas};
+ghost use Rattle.linker_elf.specs.Value.{sum_64};
+ghost use Rattle.linker_final.specs.LoongArchPacked as loongarch_packed;
+ghost use Rattle.linker_final.specs.Packed as packed;
+ghost use Rattle.linker_final.specs.Packed.{architecture_of, packed_as, IsAtPlace};
+ghost use Rattle.linker_final.specs.Packed.{IsFirstUntranslated, IsPackCause, IsPacked};
+ghost use Rattle.linker_final.specs.RiscVPacked as riscv_packed;
+ghost use Rattle.linker_runs.specs.Packing.{packed_offset, section_of};
+ghost use Rattle.linker_section.specs.Relocations.{relocation_in};
+
+use linker_base::relaxation::{DeltaSlice, RelaxDelta};
+use linker_runs::packing::{Machine, RejectedItem, pack_run};
+use linker_runs::relaxation::Item;
+use linker_section::facts::{Addresses, Symbol};
+use linker_section::relocations::{Rela, relocation_at, relocations_len};
+use linker_section::sections::{SectionError, relocate_section};
+use linker_utils::elf::Architecture;
+
+/// Why a section isn't packed and written.
+#[derive(Debug, Clone, Copy, PartialEq, Eq)]
+pub enum PackError {
+    /// Its address isn't that where its first byte goes.
+    Misplaced,
+    /// The relocation at an index isn't the one before at its translated place.
+    Untranslated(usize),
+    /// It isn't packed.
+    Packing(RejectedItem),
+    /// It is, but its values aren't written.
+    Writing(SectionError),
+}
+
+/// The architecture of a section's relocations.
+fn architecture_of(machine: Machine) -> Architecture
+    ensures { result ≡ architecture_of machine }
+{
+    match machine {
+        Machine::RiscV64 => Architecture::RiscV,
+        Machine::LoongArch64 => Architecture::LoongArch64,
+    }
+}
+
+/// Where an input offset goes in a section that begins at the input offset `base`.
+fn place_of(deltas: &[RelaxDelta], base: u64, offset: u64) -> u64
+    ensures { AreValidDeltas deltas.now
+        → result
+        ≡ rank (deletions_of deltas.now) offset - rank (deletions_of deltas.now) base }
+{
+    let run = DeltaSlice::new(deltas);
+    run.input_to_output_offset(offset)
+        .saturating_sub(run.input_to_output_offset(base))
+}
+
+/// The address where an input offset goes, in a run that begins at the address `start`.
+fn address_of(deltas: &[RelaxDelta], start: u64, offset: u64) -> u64
+    ensures { AreValidDeltas deltas.now
+        → result ≡ sum_64 start (rank (deletions_of deltas.now) offset) }
+{
+    start.wrapping_add(DeltaSlice::new(deltas).input_to_output_offset(offset))
+}
+
+/// Whether a relocation is one before at its translated place.
+fn is_at_place(deltas: &[RelaxDelta], base: u64, before: &Rela, after: &Rela) -> bool
+    ensures { AreValidDeltas deltas.now
+        → IsTrue result ↔ IsAtPlace (deletions_of deltas.now) base before.now after.now }
+{
+    match base.checked_add(before.offset) {
+        Some(offset) => {
+            after.offset == place_of(deltas, base, offset)
+                && after.symbol == before.symbol
+                && after.addend == before.addend
+                && (after.code == before.code || after.code == 0)
+        }
+        None => false,
+    }
+}
+
+/// Whether the relocation at an index is the one before at its translated place.
+fn is_translated(
+    deltas: &[RelaxDelta],
+    base: u64,
+    relocations: &[u8],
+    translated: &[u8],
+    index: usize,
+) -> bool
+    requires before { index < length relocations.now / 24 }
+    requires after { index < length translated.now / 24 }
+    ensures { AreValidDeltas deltas.now
+        → IsTrue result
+        ↔ IsAtPlace (deletions_of deltas.now) base (relocation_in relocations.now index)
+        (relocation_in translated.now index) }
+{
+    let Some(before) = relocation_at(relocations, index) else {
+        return false;
+    };
+    let Some(after) = relocation_at(translated, index) else {
+        return false;
+    };
+    is_at_place(deltas, base, &before, &after)
+}
+
+/// The first relocation that isn't one before at its translated place.
+fn first_untranslated(
+    deltas: &[RelaxDelta],
+    base: u64,
+    relocations: &[u8],
+    translated: &[u8],
+) -> Option<usize>
+    requires { length translated.now ≡ length relocations.now }
+    ensures none { AreValidDeltas deltas.now
+        → IfNone result ((i : ℕ) → i < length translated.now / 24
+        → IsAtPlace (deletions_of deltas.now) base (relocation_in relocations.now i)
+        (relocation_in translated.now i)) }
+    ensures some { AreValidDeltas deltas.now
+        → IfSome result (IsFirstUntranslated (deletions_of deltas.now) base relocations.now
+        translated.now) }
+{
+    for index in 0..relocations_len(translated) {
+        if !is_translated(deltas, base, relocations, translated, index) {
+            return Some(index);
+        }
+    }
+    None
+}
+
+/// Packs a section of a relaxed run by `pack_run`, and then writes its values by
+/// `relocate_section`. What it leaves is what the laws are about (`IsPacked`). The section begins
+/// at the input offset `base` of the run, and the run at the address `start`. `translated` are the
+/// relocations as they are written: each at its translated place, and of type 0 where its
+/// instructions became shorter. A linker makes them itself, and calls both.
+///
+/// # Errors
+///
+/// `Misplaced`: the section isn't at the address where its first byte goes. `Untranslated`: a
+/// relocation isn't at its translated place. `Packing`: an item can't be written. `Writing`: the
+/// section is packed, and no value is written. The errors are promised of deltas that are valid, as
+/// `pack_run` says.
+pub fn pack_section(
+    machine: Machine,
+    section: &[u8],
+    base: u64,
+    items: &[Item],
+    deltas: &[RelaxDelta],
+    start: u64,
+    relocations: &[u8],
+    translated: &[u8],
+    addresses: &Addresses,
+    symbols: &[Symbol],
+    out: &mut [u8],
+    memory: &mut [u64],
+) -> Result<(), PackError>
+    requires small { base + length section.now < 2 ^ 64 }
+    requires room { AreValidDeltas deltas.now
+        → length out.old
+        ≡ packed_offset (section_of section.now base (deletions_of deltas.now) start)
+        (base + length section.now) }
+    requires as_many { length translated.now ≡ length relocations.now }
+    requires memory { length translated.now / 24 ≤ length memory.old }
+    ensures packed { AreValidDeltas deltas.now
+        → OnOk result ((packed : List ℕ) × IsPacked (packed_as machine
+        (section_of section.now base (deletions_of deltas.now) start) items.now packed
+        relocations.now translated.now addresses.now symbols.now out.new)) }
+    ensures cause { AreValidDeltas deltas.now
+        → IfErr result (IsPackCause machine
+        (section_of section.now base (deletions_of deltas.now) start) items.now relocations.now
+        translated.now addresses.now symbols.now) }
+{
+    if addresses.section != address_of(deltas, start, base) {
+        return Err(PackError::Misplaced);
+    }
+    if let Some(index) = first_untranslated(deltas, base, relocations, translated) {
+        return Err(PackError::Untranslated(index));
+    }
+    if let Err(rejected) = pack_run(machine, section, base, items, deltas, start, out) {
+        return Err(PackError::Packing(rejected));
+    }
+    match relocate_section(
+        architecture_of(machine),
+        addresses,
+        translated,
+        symbols,
+        out,
+        memory,
+    ) {
+        Ok(()) => Ok(()),
+        Err(error) => Err(PackError::Writing(error)),
+    }
+}
+
+/// Each section that was packed: a byte that stays is at its translated place, and those that are
+/// deleted have none; padding is nops; an instruction that stays has the value of its relocation at
+/// its own address.
+pub fn shorter_sections()
+    ensures kept_bytes { packed.KeptBytesStay }
+    ensures padding { packed.PaddingIsNops }
+    ensures deleted_bytes { packed.DeletedBytesAreGone }
+    ensures addresses { packed.PlacesHaveAddresses }
+    ensures instructions { packed.InstructionsAreRelocated }
+{}
+
+/// RISC-V: each call that a run may make shorter, `c.j`, `jal` or still `auipc` and `jalr`, goes to
+/// where its target goes, as the object's call does in its own layout. So does a call that stays as
+/// it is, by the value of its relocation. Where a `lui` of 12 bits or an `add` of the thread
+/// pointer is deleted, the object's run executes it, and the final run does nothing: it is behind
+/// it already.
+pub fn shorter_riscv64()
+    ensures sites { riscv_packed.SitesCallTheSame }
+    ensures long_calls { riscv_packed.LongCallsStay }
+    ensures high_parts { riscv_packed.HighPartsAreLeftOut }
+    ensures sums { riscv_packed.SumIsLeftOut }
+{
+    linker_laws::rewrites::riscv64();
+}
+
+/// LoongArch: each call that a run may make shorter, `b`, `bl` or still `pcaddu18i` and `jirl`,
+/// goes to where its target goes, and each address by `pcaddi`, or still by `pcalau12i` and
+/// `addi.d`, is that where its target goes, as the object's instructions do in their own layout. So
+/// is one that the object loaded from the GOT. Where a `lu12i.w` of 12 bits or an `add.d` of the
+/// thread pointer is deleted, the object's run executes it, and the final run does nothing: it is
+/// behind it already.
+pub fn shorter_loongarch64()
+    ensures calls { loongarch_packed.CallsTheSame }
+    ensures addresses { loongarch_packed.AddressesAreMade }
+    ensures loaded_addresses { loongarch_packed.LoadedAddressesAreMade }
+    ensures high_parts { loongarch_packed.HighPartIsLeftOut }
+    ensures sums { loongarch_packed.SumIsLeftOut }
+{
+    linker_laws::relocations::loongarch64();
+    linker_laws::rewrites::loongarch64();
+}
