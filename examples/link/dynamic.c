@@ -17,8 +17,8 @@ struct dynamic_row {
 
 struct output *interpreter, *dynamic, *rela, *dynsym, *dynstr, *hash_table, *versym, *verneed;
 static struct dynamic_row *rows;
-static size_t rows_len, rows_room, listed_len = 1, imports_len = 1, listed_room;
-static struct symbol **listed; /* by their numbers in the table */
+static size_t rows_len, rows_room, listed_len = 1, imports_len;
+static struct symbol **listed; /* by their numbers in the table, first those of other files */
 
 void add_row(struct output *o, uint64_t offset, uint32_t type, struct symbol *s, int64_t addend) {
     rows = grow(rows, rows_len + 1, &rows_room, sizeof *rows);
@@ -27,62 +27,59 @@ void add_row(struct output *o, uint64_t offset, uint32_t type, struct symbol *s,
 
 /* Whether nothing defines a weak symbol so far. Where code doesn't load its address that is 0. */
 static bool may_be_absent(const struct symbol *s) {
-    return !s->library && ELF64_ST_BIND(s->elf.st_info) == STB_WEAK;
+    return !s->library && bind_of(s) == STB_WEAK;
 }
 
 /* Says which symbols other files define, and which they may see. What another file may replace is
  * referred to as if that defined it. */
 void bind_symbols(void) {
+    bool is_shared = !linked.is_executable;
     EACH_SYMBOL(s) {
-        unsigned visibility = ELF64_ST_VISIBILITY(s->elf.st_other);
-        bool is_default = visibility == STV_DEFAULT, is_shared = !linked.is_executable;
+        bool is_default = visibility_of(s) == STV_DEFAULT;
+        bool is_seen = bind_of(s) != STB_LOCAL && rank(s) != 2 &&
+                       (is_default || visibility_of(s) == STV_PROTECTED);
         if (s->library && is_thread_local(s) != (ELF64_ST_TYPE(s->there.st_info) == STT_TLS))
             fail("%s: '%s' is thread-local in only one of it and %s", s->object->path, s->name,
                  s->library->file.path);
-        s->is_exported |= is_shared;
-        if (ELF64_ST_BIND(s->elf.st_info) == STB_LOCAL || rank(s) == 2 ||
-            (!is_default && visibility != STV_PROTECTED)) {
-            s->is_exported = false;
-        } else if (!is_defined(s)) {
-            s->is_imported = is_default && (s->library || is_shared || may_be_absent(s));
-            s->is_exported = false;
-        } else {
-            s->is_imported = is_shared && is_default;
-        }
+        s->is_imported = is_seen && is_default &&
+                         (is_shared || (!is_defined(s) && (s->library || may_be_absent(s))));
+        s->is_exported = is_seen && is_defined(s) && (is_shared || s->is_exported);
     }
 }
 
 /* How a relocation reaches a symbol of another file, or one of this file wherever it is loaded. */
 void import(struct section *in, Elf64_Rela *r, const struct linker_utils_requirements *needs) {
     struct symbol *s = symbol_at(in, r);
-    uint32_t kind = kind_of(in, r)->row.kind, type = ELF64_ST_TYPE(s->there.st_info);
+    uint32_t kind = kind_of(in, r)->row.kind;
     bool is_in_module = kind == LINKER_UTILS_KIND_DTP_OFF;
-    bool is_difference = kind >= LINKER_UTILS_KIND_ABSOLUTE_SET && kind < LINKER_UTILS_KIND_RELATIVE;
+    bool is_of_thread = kind == LINKER_UTILS_KIND_TP_OFF;
+    bool is_absolute = kind < LINKER_UTILS_KIND_ABSOLUTE_SET;
+    bool is_difference = !is_absolute && kind < LINKER_UTILS_KIND_RELATIVE;
     bool is_imported = s->is_imported && !((is_in_module || is_difference) && is_defined(s));
     bool is_word = needs->is_word && in->output->flags & SHF_WRITE;
     if (needs->entry_class || kind == LINKER_UTILS_KIND_ALIGNMENT ||
         kind == LINKER_UTILS_KIND_TLS_DESC_CALL)
         return;
-    if (kind == LINKER_UTILS_KIND_TP_OFF ? is_imported || !linked.is_executable
-                                         : is_in_module && is_imported)
+    if ((is_imported && (is_in_module || is_of_thread)) || (is_of_thread && !linked.is_executable))
         fail("%s can't reach '%s' from such an output", place_of(in, r), s->name);
-    if (!is_imported) {
-        if (linked.is_fixed || !needs->depends_on_load || !is_here(s)) return;
-        if (!is_word)
-            fail("%s depends on where the output is loaded, to '%s'", place_of(in, r), s->name);
-        add_row(in->output, in->offset + r->r_offset, types.relative, s, r->r_addend);
-    } else if (needs->may_use_stub) {
+    if (!is_imported && (linked.is_fixed || !needs->depends_on_load || !is_here(s))) return;
+    if (is_imported && needs->may_use_stub) {
         s->has_stub = true;
     } else if (is_word) {
-        add_row(in->output, in->offset + r->r_offset, types.word, s, r->r_addend);
+        add_row(in->output, in->offset + r->r_offset, is_imported ? types.word : types.relative, s,
+                r->r_addend);
+    } else if (!is_imported) {
+        fail("%s depends on where the output is loaded, to '%s'", place_of(in, r), s->name);
     } else if (!linked.is_executable) {
         fail("%s can't reach '%s', which another file may replace", place_of(in, r), s->name);
     } else if (!may_be_absent(s)) {
         if (ELF64_ST_VISIBILITY(s->there.st_other) == STV_PROTECTED)
             fail("%s can't replace the protected '%s' of %s", place_of(in, r), s->name,
                  s->library->file.path);
-        if (type == STT_FUNC) s->has_stub = s->is_canonical = true;
-        else s->is_copied = true;
+        bool is_function = ELF64_ST_TYPE(s->there.st_info) == STT_FUNC;
+        s->has_stub |= is_function;
+        s->is_canonical |= is_function;
+        s->is_copied |= !is_function;
     }
 }
 
@@ -149,8 +146,8 @@ static int by_bucket(const void *left, const void *right) {
     return by ? by : strcmp(a->name, b->name);
 }
 
-/* Writes the hashes of the symbols that others may see, behind a word of bits that excludes none, and
- * the first of each bucket. Of the last one of a bucket the hash is odd. */
+/* Writes the hashes of the symbols that others may see, behind a word of bits that excludes none,
+ * and the first of each bucket. Of the last one of a bucket the hash is odd. */
 static void write_hashes(void) {
     uint32_t head[6] = {buckets_len(), (uint32_t)imports_len, 1, 0, UINT32_MAX, UINT32_MAX};
     uint32_t *buckets = (uint32_t *)(hash_table->bytes + sizeof head), *chain = buckets + head[0];
@@ -164,23 +161,23 @@ static void write_hashes(void) {
 }
 
 /* Writes the versions that are asked for of each library, and numbers them. */
-static void write_needed(uint16_t number) {
+static void write_needed(void) {
     uint64_t last = 0;
+    uint16_t number = VER_NDX_GLOBAL;
     for (struct library *l = libraries; l; l = l->next) {
         Elf64_Verneed head = {.vn_version = VER_NEED_CURRENT, .vn_file = l->name_at,
                               .vn_aux = sizeof head};
         for (size_t i = 0; i <= MOST_VERSIONS; i++) head.vn_cnt += l->versions[i].number;
-        uint16_t left = head.vn_cnt;
-        if (!left) continue;
-        head.vn_next = sizeof head + left * (uint32_t)sizeof(Elf64_Vernaux);
+        if (!head.vn_cnt) continue;
+        head.vn_next = sizeof head + head.vn_cnt * (uint32_t)sizeof(Elf64_Vernaux);
         last = append(verneed, 4, &head, sizeof head);
         verneed->info++;
-        for (struct version *v = l->versions; left; v++) {
+        for (struct version *v = l->versions; head.vn_cnt; v++) {
             if (!v->number) continue;
-            v->number = number++;
-            Elf64_Vernaux aux = {.vna_hash = v->hash, .vna_other = v->number,
+            v->number = ++number;
+            Elf64_Vernaux aux = {.vna_hash = v->hash, .vna_other = number,
                                  .vna_name = add_name(dynstr, v->name),
-                                 .vna_next = --left ? sizeof aux : 0};
+                                 .vna_next = --head.vn_cnt ? sizeof aux : 0};
             append(verneed, 4, &aux, sizeof aux);
         }
     }
@@ -193,32 +190,29 @@ static bool is_in_table(const struct symbol *s, bool is_import) {
     return s->is_canonical || (s->is_exported && (s->output || s->elf.st_shndx == SHN_ABS));
 }
 
-/* Whether a symbol is looked up with the version that its library has. */
-static bool has_version(const struct symbol *s) {
-    bool is_there = s->is_imported && !is_defined(s);
-    return s->library && (is_there || s->is_copied) && s->version > VER_NDX_GLOBAL;
+/* The version with which a symbol is looked up, which its library has; null where there is none. */
+static struct version *version_of(const struct symbol *s) {
+    bool is_there = s->library && ((s->is_imported && !is_defined(s)) || s->is_copied);
+    return is_there && s->version > VER_NDX_GLOBAL ? &s->library->versions[s->version] : NULL;
 }
 
 /* Lists the dynamic symbols, numbers them, and says which versions they require. */
 static void list_dynamic(void) {
+    listed = zeros(symbols_len + 1, sizeof *listed);
     for (int is_import = 1; is_import >= 0; is_import--) {
-        imports_len = is_import ? 1 : listed_len;
+        imports_len = listed_len;
         EACH_SYMBOL(s) {
             if (!is_in_table(s, is_import)) continue;
-            listed = grow(listed, listed_len + 1, &listed_room, sizeof *listed);
             listed[listed_len++] = s;
-            if (has_version(s)) s->library->versions[s->version].number = 1;
+            if (version_of(s)) version_of(s)->number = 1;
         }
     }
-    if (listed_len > imports_len)
-        qsort(listed + imports_len, listed_len - imports_len, sizeof *listed, by_bucket);
-    write_needed(2);
+    qsort(listed + imports_len, listed_len - imports_len, sizeof *listed, by_bucket);
+    write_needed();
     dynsym->info = 1;
     make_room(dynsym, 8, listed_len * sizeof(Elf64_Sym));
-    for (size_t i = 1; i < listed_len; i++) {
+    for (uint32_t i = 1; i < listed_len; listed[i]->dynamic = i, i++)
         ((Elf64_Sym *)dynsym->bytes)[i].st_name = add_name(dynstr, listed[i]->name);
-        listed[i]->dynamic = (uint32_t)i;
-    }
     make_room(hash_table, 8, 24 + 4 * (buckets_len() + listed_len - imports_len));
     if (verneed->len) make_room(versym, 2, 2 * listed_len);
 }
@@ -235,10 +229,9 @@ static void put_entry(int64_t tag, uint64_t value) {
 
 /* Where a table is that isn't empty; where there are tags for them, its length and an element's. */
 static void put_table(const struct output *o, int64_t tag, int64_t size, int64_t element) {
-    if (!o->len) return;
-    put_entry(tag, o->address);
-    if (size) put_entry(size, o->len);
-    if (element) put_entry(element, o->element);
+    if (o->len) put_entry(tag, o->address);
+    if (o->len && size) put_entry(size, o->len);
+    if (o->len && element) put_entry(element, o->element);
 }
 
 /* An array of functions: with priorities it is several sections, one behind the other. */
@@ -260,7 +253,7 @@ static void put_function(int64_t tag, const char *name) {
 /* Makes the entries, or writes them once addresses are known. */
 static void put_entries(void) {
     static uint32_t name;
-    uint64_t flags = DF_BIND_NOW;
+    bool is_static = false;
     if (own_name && !name) name = add_name(dynstr, own_name);
     entries_len = 0;
     for (const struct library *l = libraries; l; l = l->next) put_entry(DT_NEEDED, l->name_at);
@@ -277,10 +270,9 @@ static void put_entries(void) {
     put_table(versym, DT_VERSYM, 0, 0);
     put_table(verneed, DT_VERNEED, 0, 0);
     if (verneed->len) put_entry(DT_VERNEEDNUM, verneed->info);
-    for (const struct dynamic_row *row = rows; row < rows + rows_len; row++)
-        if (!linked.is_executable && row->type == types.thread_offset) flags |= DF_STATIC_TLS;
+    for (size_t i = 0; i < rows_len; i++) is_static |= rows[i].type == types.thread_offset;
     if (linked.is_executable) put_entry(DT_DEBUG, 0);
-    put_entry(DT_FLAGS, flags);
+    put_entry(DT_FLAGS, DF_BIND_NOW | (!linked.is_executable && is_static ? DF_STATIC_TLS : 0));
     put_entry(DT_FLAGS_1, DF_1_NOW | (linked.is_executable && !linked.is_fixed ? DF_1_PIE : 0));
     put_entry(DT_NULL, 0);
 }
@@ -288,14 +280,12 @@ static void put_entries(void) {
 /* Makes all that is in the tables but for addresses. */
 void make_dynamic(void) {
     uint8_t path[LINKER_UTILS_NAME_SIZE + 1] = {0};
-    size_t used = 0;
+    size_t used = 0, most = sizeof path - 1;
     if (rows_len) make_room(rela, 8, rows_len * sizeof(Elf64_Rela));
     if (!is_dynamic) return;
-    if (interpreter) {
-        if (linker_utils_interpreter(machine, machine_flags, path, sizeof path - 1, &used))
-            fail("no dynamic linker is known for such objects");
-        append(interpreter, 1, path, used + 1);
-    }
+    if (interpreter && linker_utils_interpreter(machine, machine_flags, path, most, &used))
+        fail("no dynamic linker is known for such objects");
+    if (interpreter) append(interpreter, 1, path, used + 1);
     for (struct library *l = libraries; l; l = l->next) l->name_at = add_name(dynstr, l->name);
     list_dynamic();
     put_entries();
@@ -304,17 +294,21 @@ void make_dynamic(void) {
 /* Those without a symbol first, and at last those that call functions. */
 static int by_symbol(const void *left, const void *right) {
     const Elf64_Rela *a = left, *b = right;
-    uint32_t first = ELF64_R_TYPE(a->r_info), second = ELF64_R_TYPE(b->r_info);
-    int by = order(first == types.irelative, second == types.irelative);
+    int by = order(type_of(a) == types.irelative, type_of(b) == types.irelative);
     if (!by) by = order(a->r_info, b->r_info);
     return by ? by : order(a->r_offset, b->r_offset);
+}
+
+/* Whether a word is of a symbol that the dynamic linker looks up. */
+static bool is_looked_up(const struct dynamic_row *row) {
+    return row->symbol && (row->symbol->is_imported || row->type == types.copy);
 }
 
 /* What a word is relative to: the symbol, the image of thread-local storage, or nothing. */
 static uint64_t addend_of(const struct dynamic_row *row) {
     const struct symbol *s = row->symbol;
     if (row->type == types.module_number) return 0;
-    if (s && (s->is_imported || row->type == types.copy)) return (uint64_t)row->addend;
+    if (is_looked_up(row)) return (uint64_t)row->addend;
     uint64_t at = (s ? address_of(s->output, s->offset) : 0) + (uint64_t)row->addend;
     bool is_offset = row->type == types.thread_offset || row->type == types.module_offset;
     return is_offset || row->type == types.descriptor ? at - tls.image : at;
@@ -325,13 +319,11 @@ static uint64_t addend_of(const struct dynamic_row *row) {
 bool write_dynamic(void) {
     bool is_of_gnu = false;
     Elf64_Rela *to = (Elf64_Rela *)rela->bytes;
-    for (const struct dynamic_row *row = rows; row < rows + rows_len; row++, to++) {
-        const struct symbol *s = row->symbol;
-        bool has_symbol = s && (s->is_imported || row->type == types.copy);
-        to->r_offset = address_of(row->output, row->offset);
-        to->r_info = ELF64_R_INFO((uint64_t)(has_symbol ? s->dynamic : 0), row->type);
-        to->r_addend = (int64_t)addend_of(row);
-    }
+    for (const struct dynamic_row *row = rows; row < rows + rows_len; row++)
+        *to++ = (Elf64_Rela){
+            address_of(row->output, row->offset),
+            ELF64_R_INFO((uint64_t)(is_looked_up(row) ? row->symbol->dynamic : 0), row->type),
+            (int64_t)addend_of(row)};
     if (rows_len) qsort(rela->bytes, rows_len, sizeof(Elf64_Rela), by_symbol);
     if (!is_dynamic) return false;
     Elf64_Sym *elf = (Elf64_Sym *)dynsym->bytes + 1;
@@ -342,13 +334,11 @@ bool write_dynamic(void) {
         elf->st_name = name;
         if (!is_defined(s)) elf->st_shndx = SHN_UNDEF;
         if (!is_defined(s) && s->library)
-            elf->st_info =
-                ELF64_ST_INFO(ELF64_ST_BIND(elf->st_info), ELF64_ST_TYPE(s->there.st_info));
+            elf->st_info = ELF64_ST_INFO(bind_of(s), ELF64_ST_TYPE(s->there.st_info));
         is_of_gnu |= ELF64_ST_TYPE(elf->st_info) == STT_GNU_IFUNC ||
                      ELF64_ST_BIND(elf->st_info) == STB_GNU_UNIQUE;
-        if (!verneed->len) continue;
-        uint16_t number = has_version(s) ? s->library->versions[s->version].number : VER_NDX_GLOBAL;
-        memcpy(versym->bytes + 2 * i, &number, sizeof number);
+        uint16_t number = version_of(s) ? version_of(s)->number : VER_NDX_GLOBAL;
+        if (verneed->len) memcpy(versym->bytes + 2 * i, &number, sizeof number);
     }
     write_hashes();
     put_entries();

@@ -51,7 +51,8 @@ void write_stubs(void) {
     }
 }
 
-/* Gives a relocation another index of a symbol, with what the symbol's entries have for an addend. */
+/* Gives a relocation another index of a symbol, with what the symbol's entries have for an addend.
+ *  */
 static void refer(struct object *o, Elf64_Rela *r, struct symbol *to, int64_t addend) {
     size_t at = o->symbols_len++, others_len = o->symbols_len - o->mentions_len;
     o->symbols = grow(o->symbols, o->symbols_len, &o->symbols_room, sizeof *o->symbols);
@@ -62,7 +63,8 @@ static void refer(struct object *o, Elf64_Rela *r, struct symbol *to, int64_t ad
 }
 
 /* Adds the entry of the GOT that a relocation requires, once; one of the module serves all. */
-static void add_entry(struct section *s, Elf64_Rela *r, const struct linker_utils_requirements *needs) {
+static void add_entry(struct section *s, Elf64_Rela *r,
+                      const struct linker_utils_requirements *needs) {
     struct symbol *to = symbol_at(s, r);
     struct entry **at = &to->entries;
     if (needs->entry_class == LINKER_UTILS_ENTRY_MODULE) at = &module_entry;
@@ -77,9 +79,9 @@ static void add_entry(struct section *s, Elf64_Rela *r, const struct linker_util
     if (needs->entry_addend) refer(s->object, r, to, needs->entry_addend);
 }
 
-/* Where a branch to a function whose address is in a word enters its stub, counted from the stub's own
- * entry. Where a stub can't restore what the branch's code needs, as where glibc's startup code jumps
- * to `__libc_start_main`, it enters as any other. */
+/* Where a branch to a function whose address is in a word enters its stub, counted from the stub's
+ * own entry. Where a stub can't restore what the branch's code needs, as where glibc's startup code
+ * jumps to `__libc_start_main`, it enters as any other. */
 static int64_t entered_at(const struct section *s, const Elf64_Rela *r) {
     struct linker_utils_stub stub;
     struct linker_utils_route route;
@@ -91,7 +93,8 @@ static int64_t entered_at(const struct section *s, const Elf64_Rela *r) {
     return (int64_t)(route.entry - stub.entry);
 }
 
-/* Notes what a relocation requires. A descriptor of a group that doesn't stay is rewritten later. */
+/* Notes what a relocation requires. A descriptor of a group that doesn't stay is rewritten later.
+ *  */
 static void require(struct section *s, Elf64_Rela *r) {
     struct symbol *to = symbol_at(s, r);
     const struct kind *kind = kind_of(s, r);
@@ -105,8 +108,8 @@ static void require(struct section *s, Elf64_Rela *r) {
     if (kind->row.kind == LINKER_UTILS_KIND_ALIGNMENT && !s->output->shrinks)
         fail("%s is not supported", place_of(s, r));
     struct linker_utils_requirements needs = needs_of(s, r);
-    bool is_rewritten = needs.entry_class == LINKER_UTILS_ENTRY_DESCRIPTOR && linked.is_executable &&
-                        !to->is_imported && !kept[index].descriptor;
+    bool is_rewritten = needs.entry_class == LINKER_UTILS_ENTRY_DESCRIPTOR &&
+                        linked.is_executable && !to->is_imported && !kept[index].descriptor;
     s->has_loads |= needs.entry_class == LINKER_UTILS_ENTRY_ADDRESS;
     s->has_numbers |= kind->role != LINKER_UTILS_ROLE_NONE;
     if (needs.entry_class && !is_rewritten) add_entry(s, r, &needs);
@@ -117,7 +120,11 @@ static void require(struct section *s, Elf64_Rela *r) {
 
 /* Notes what an object requires. */
 void require_all(struct object *o) {
-    EACH_SECTION_OF(o, s) EACH_RELOCATION(s, r) require(s, r);
+    EACH_SECTION_OF(o, s)
+        EACH_RELOCATION(s, r) {
+            expect_symbol(s, r);
+            require(s, r);
+        }
 }
 
 /* An indirect function's address is that of its stub, which goes to the address in a slot. When the
@@ -213,8 +220,9 @@ static bool add_thunk(struct section *s, Elf64_Rela *r, const struct linker_util
     Elf64_Rela one = {r->r_offset, ELF64_R_INFO(UINT64_C(1), type_of(r)), r->r_addend};
     struct linker_utils_symbol known[2] = {{.address = 0}, known_symbol(to, 0)};
     struct linker_utils_addresses addresses = addresses_of(address_of(o, s->offset));
-    uint32_t status = linker_utils_route_at(machine, &addresses, (const uint8_t *)&one, sizeof one, known,
-                                            2, 0, o->bytes + s->offset, s->len, &route);
+    uint32_t status =
+        linker_utils_route_at(machine, &addresses, (const uint8_t *)&one, sizeof one, known, 2, 0,
+                              o->bytes + s->offset, s->len, &route);
     if (status == LINKER_UTILS_NO_ROOM) check(s, r, status);
     *is_direct |= near && !status && !route.is_by_stub;
     if (status || !route.is_by_stub) return false;

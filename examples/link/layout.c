@@ -45,9 +45,9 @@ static unsigned rank_of(const struct output *o) {
 
 static int by_rank(const void *left, const void *right) {
     const struct output *a = *(struct output *const *)left, *b = *(struct output *const *)right;
-    if (a->rank != b->rank) return a->rank < b->rank ? -1 : 1;
-    if (a->priority != b->priority) return a->priority < b->priority ? -1 : 1;
-    return strcmp(a->name, b->name);
+    int by = order(a->rank, b->rank);
+    if (!by) by = order(a->priority, b->priority);
+    return by ? by : strcmp(a->name, b->name);
 }
 
 void sort_outputs(void) {
@@ -100,9 +100,9 @@ void add_section(struct section *s) {
     bool has_bytes = head->sh_type != SHT_NOBITS, is_code = head->sh_flags & SHF_EXECINSTR;
     struct output *o = s->output = output_of(s->name);
     if (o->is_own || (!has_bytes && (s->table || o == frames)))
-        fail("%s: a section %s is not supported", s->object->path, s->name);
+        fail_of(s->object, "a section %s is not supported", s->name);
     if (o->flags && (o->flags ^ head->sh_flags) & SHF_TLS)
-        fail("%s: %s is thread-local, and elsewhere it is not", s->object->path, s->name);
+        fail_of(s->object, "%s is thread-local, and elsewhere it is not", s->name);
     o->flags |= head->sh_flags;
     o->has_bytes |= has_bytes;
     o->shrinks |= may_shrink() && has_bytes && is_code && !(head->sh_flags & SHF_TLS);
@@ -191,9 +191,9 @@ static void place_next(struct place *p, struct output *o) {
 
 static int by_place(const void *left, const void *right) {
     const struct output *a = *(struct output *const *)left, *b = *(struct output *const *)right;
-    if (a->is_placed != b->is_placed) return a->is_placed ? -1 : 1;
-    if (a->is_placed && a->place != b->place) return a->place < b->place ? -1 : 1;
-    return by_rank(left, right);
+    int by = order(b->is_placed, a->is_placed);
+    if (!by) by = order(a->place, b->place);
+    return by ? by : by_rank(left, right);
 }
 
 /* Places the sections, first those that the command line places. One with other permissions begins

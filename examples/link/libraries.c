@@ -8,8 +8,7 @@ static struct library **libraries_end = &libraries;
 static const uint8_t *bytes_in(const struct library *l, const Elf64_Shdr *head, uint64_t at,
                                uint64_t len) {
     if (at > head->sh_size || len > head->sh_size - at)
-        fail("%s: %s: it ends too early", l->file.path,
-             l->file.sections[head - l->file.heads].name);
+        fail_in(&l->file, l->file.sections[head - l->file.heads].name, "it ends too early");
     return l->file.bytes + head->sh_offset + at;
 }
 
@@ -32,6 +31,22 @@ static void read_versions(struct library *l, const Elf64_Shdr *head) {
     l->versions[VER_NDX_LOCAL].name = l->versions[VER_NDX_GLOBAL].name = NULL;
 }
 
+/* Notes a symbol of a library, or one that it refers to. The first library that defines it counts,
+ * and then no archive. */
+static struct symbol *offer_import(const char *name, struct library *l, const Elf64_Sym *elf,
+                                   uint16_t version) {
+    struct symbol *s = named(name);
+    s->is_exported = true;
+    if (!elf->st_shndx || s->library) return s;
+    s->library = l;
+    s->there = *elf;
+    if (ELF64_ST_TYPE(elf->st_info) == STT_GNU_IFUNC) /* it is called there as any function */
+        s->there.st_info = ELF64_ST_INFO(ELF64_ST_BIND(elf->st_info), STT_FUNC);
+    s->version = version;
+    s->archive = NULL;
+    return s;
+}
+
 /* Offers what a library defines, but for versions that only old programs ask for. */
 static void read_dynamic_symbols(struct library *l, const Elf64_Shdr *head,
                                  const Elf64_Shdr *versions) {
@@ -44,9 +59,9 @@ static void read_dynamic_symbols(struct library *l, const Elf64_Shdr *head,
         bool is_hidden = version & ~MOST_VERSIONS || version == VER_NDX_LOCAL;
         if (ELF64_ST_BIND(elf->st_info) == STB_LOCAL || (elf->st_shndx && is_hidden)) continue;
         if (version > VER_NDX_GLOBAL && elf->st_shndx && !l->versions[version].name)
-            fail("%s: %s: '%s' is of a version that is not there", l->file.path,
-                 l->file.sections[head - l->file.heads].name, name);
-        l->file.symbols[i] = offer_import(name, elf->st_shndx ? l : NULL, elf, version);
+            fail_in(&l->file, l->file.sections[head - l->file.heads].name,
+                    "'%s' is of a version that is not there", name);
+        l->file.symbols[i] = offer_import(name, l, elf, version);
     }
 }
 

@@ -1,7 +1,7 @@
 /* A small linker over the library, for RISC-V, AArch64, LoongArch, PowerPC64 (ELFv2, little-endian)
- * and x86-64, none of which it knows. It reads relocatable ELF64 objects, archives of them and shared
- * libraries, and writes an executable that begins at `_start`, static or for a dynamic linker, or a
- * shared library. main.c has the steps; each other file is one part:
+ * and x86-64, none of which it knows. It reads relocatable ELF64 objects, archives of them and
+ * shared libraries, and writes an executable that begins at `_start`, static or for a dynamic linker,
+ * or a shared library. main.c has the steps; each other file is one part:
  *
  * - objects.c: objects, archives and groups
  * - symbols.c: which definition a name has, and what the linker itself defines
@@ -39,21 +39,25 @@
 #define MOST_VERSIONS 0x7fff            /* of a library: above is the mark of hidden ones */
 #define END UINT64_MAX                  /* the offset of a section's end, wherever that will be */
 
-/* the order of the sections of the linked file; there are three kinds of arrays, and behind the GOT is
- * what is of addresses as it */
+/* the order of the sections of the linked file; there are three kinds of arrays, and behind the GOT
+ * is what is of addresses as it */
 enum { RANK_HEADERS, RANK_FIXED, RANK_CODE, RANK_TLS, RANK_TLS_BSS, RANK_ARRAYS, RANK_RELOCATED = 8,
        RANK_GOT, RANK_DATA = RANK_GOT + 2, RANK_SMALL_DATA, RANK_BSS };
 
 /* each section of the linked file, each that objects have, and each symbol, in their order */
 #define EACH_OUTPUT(o) for (struct output *o, **o##_at = outputs; (o = *o##_at); o##_at++)
 #define EACH_OBJECT(o) for (struct object *o = objects; o; o = o->next)
-#define EACH_SECTION_OF(o, s) for (struct section *s = o->sections; s < o->sections + o->sections_len; s++)
+#define EACH_SECTION_OF(o, s) \
+    for (struct section *s = o->sections; s < o->sections + o->sections_len; s++)
 #define EACH_SECTION(s) EACH_OBJECT(s##_of) EACH_SECTION_OF(s##_of, s)
 #define EACH_SYMBOL(s) for (struct symbol *s = symbols; s; s = s->later)
 #define EACH_RELOCATION(s, r) \
     for (Elf64_Rela *r = s->relocations; r < s->relocations + s->relocations_len; r++)
 
+/* ends with an error; of a file, and of a section of it */
 #define fail(...) (fprintf(stderr, __VA_ARGS__), fputc('\n', stderr), exit(1))
+#define fail_of(o, ...) (fprintf(stderr, "%s: ", (o)->path), fail(__VA_ARGS__))
+#define fail_in(o, name, ...) (fprintf(stderr, "%s: %s: ", (o)->path, name), fail(__VA_ARGS__))
 
 /* Sections that are relaxed together, one behind the other from `start` on: all of the linked file,
  * as far as the addresses of the command line allow it. Their offsets in it count from before bytes
@@ -68,42 +72,39 @@ struct run {
 /* A section of the linked file. Offsets in it count from before bytes are deleted. */
 struct output {
     const char *name;
-    uint64_t flags, align, len;
-    size_t room;
+    uint64_t flags, align, len, element; /* of an element, where there is more than one byte */
     uint64_t place, address; /* by the command line; and at last, or if all bytes stayed */
     uint8_t *bytes;
-    struct run *run;
-    uint64_t base;                   /* its offset in the run */
-    struct linker_utils_item before; /* the alignment before it; of length 0 where there is none */
-    bool has_bytes, is_placed, shrinks; /* in the file; by the command line; code that relaxes */
-    bool is_own;                        /* the linker's own: no object has a part of it */
-    unsigned rank, priority;            /* its place among the others */
-    uint16_t index;                     /* of its header; 0 where it has none */
-    uint32_t type, info;                /* in its header, as these two; of ordinary bytes if 0 */
+    size_t room;
+    bool has_bytes, is_placed, shrinks;  /* in the file; by the command line; code that relaxes */
+    bool is_own;                         /* the linker's own: no object has a part of it */
+    uint16_t index;                      /* of its header; 0 where it has none */
+    uint32_t type, info;                 /* in its header, as these two; of ordinary bytes if 0 */
+    unsigned rank, priority;             /* its place among the others */
     const struct output *link;
-    uint64_t element;                   /* how many bytes an element has; 0 where it has none */
-    struct section *first, *last;       /* of its parts, where it shrinks */
-    uint64_t gap;                       /* and the alignment before what is at its end */
+    struct run *run;
+    uint64_t base, gap; /* its offset in the run; where it shrinks the alignment before its end */
+    struct linker_utils_item before; /* the alignment before it; of length 0 where there is none */
+    struct section *first, *last;        /* of its parts, where it shrinks */
 };
 
+/* An object. Behind its own symbols are those that relocations get, with entries of the GOT for an
+ * addend each. */
 struct object {
-    struct object *next;
-    const char *path;
+    struct object *next, *below; /* and in the stack of those that are being read */
+    const char *path, *names;    /* of symbols */
     const uint8_t *bytes;
     const Elf64_Shdr *heads;
-    struct section *sections;  /* one for each head */
-    struct symbol **symbols;   /* as all objects say; behind its own those that relocations get */
-    int64_t *addends;          /* of the entries in the GOT, of those behind its own */
-    const Elf64_Sym *mentions; /* as it says itself */
-    const char *names;         /* of these */
-    uint32_t *hashes;          /* of the names of the global ones */
-    struct object *below;      /* in the stack of those that are being read */
+    struct section *sections;    /* one for each head */
+    const Elf64_Sym *mentions;   /* of its symbols, as it says itself */
+    struct symbol **symbols;     /* as all objects say */
+    int64_t *addends;
+    uint32_t *hashes, flags;     /* of the names of the global ones; `e_flags` */
     size_t len, sections_len, symbols_len, mentions_len, resolved_len, symbols_room, addends_room;
-    uint32_t flags;                  /* `e_flags` */
-    bool is_threaded, is_compressed; /* it mentions thread-local symbols; has the shortest instructions */
+    bool is_threaded, is_compressed; /* it has thread-local symbols; the shortest instructions */
 };
 
-/* A section of an object, or code that the linker adds. */
+/* A section of an object, or code that the linker adds. Offsets of relocations count from it. */
 struct section {
     struct object *object; /* null where the linker itself adds it */
     const char *name;
@@ -111,11 +112,10 @@ struct section {
     struct output *output;          /* null where it is left out */
     struct section *behind;         /* the next one in code that shrinks */
     uint64_t offset, len;           /* in the output */
-    Elf64_Rela *relocations;        /* their offsets count from the section */
+    Elf64_Rela *relocations;
     struct linker_utils_deletion *deleted; /* by rewrites, in their order */
-    bool *kept_words; /* by relocations: instructions that load the word can't compute what it has */
-    uint32_t relocations_len, deleted_len, first_item, items_len;
-    uint32_t gap;      /* before it, where code shrinks */
+    bool *kept_words; /* by relocations: some instruction can't compute what the word has */
+    uint32_t relocations_len, deleted_len, first_item, items_len, gap; /* before it, in such code */
     bool is_discarded; /* SHF_EXCLUDE, or of a group that an earlier object has too */
     bool has_loads, has_numbers; /* of addresses in the GOT; ULEB128 ones that are added to */
 };
@@ -130,10 +130,10 @@ struct version {
 /* A shared library. */
 struct library {
     struct library *next;
-    struct object file; /* a symbol of it is null where nothing can refer to it */
+    struct object file;       /* a symbol of it is null where nothing can refer to it */
     const char *name;         /* as programs name it */
+    uint32_t name_at;         /* in the linked file */
     struct version *versions; /* by number */
-    uint32_t name_at; /* of its name in the linked file */
 };
 
 /* Its first 64 bytes are what each pass over all symbols reads. */
@@ -145,17 +145,16 @@ struct symbol {
     struct entry *entries; /* in the GOT */
     uint32_t dynamic;      /* in the table of dynamic symbols */
     uint16_t version;      /* in its library */
-    bool is_listed : 1, needs_stub : 1, is_thunk : 1; /* (an indirect function that is used needs one) */
-    bool is_imported : 1, is_exported : 1; /* other files define it, or may replace it; or may see it */
+    bool is_listed : 1, needs_stub : 1, is_thunk : 1; /* (an indirect function needs a stub) */
+    bool is_imported : 1, is_exported : 1; /* other files define or may replace it; may see it */
     bool is_copied : 1, has_stub : 1, is_canonical : 1; /* its stub is its address in all files */
     const struct object *object; /* null where only an index of an archive names it */
     const char *name;
     struct archive *archive; /* which can define it; null where none can */
-    uint64_t member;         /* in the archive */
+    uint64_t member, stub;   /* in the archive; to a function of another file, where `has_stub` */
     struct symbol *thunks;   /* to it */
     struct library *library; /* the first that defines it; null where none does */
     Elf64_Sym there;         /* as that has it */
-    uint64_t stub;           /* to a function of another file, where `has_stub` */
 };
 
 /* An entry of the GOT. */
@@ -172,7 +171,8 @@ struct kind {
     struct linker_utils_relocation_reach reach;
     struct linker_utils_requirements needs[2]; /* without an addend; of a thread-local symbol */
     enum linker_utils_role role;               /* at a ULEB128 number */
-    bool is_known, is_direct[256]; /* by `st_other`: a branch that reaches a symbol needs no thunk */
+    uint32_t entry_type; /* by the GOT instead of a word of addresses; 0 where there is none */
+    bool is_known, is_direct[256]; /* by `st_other`: a branch that reaches needs no thunk */
 };
 
 /* The TLS segment: where its image is, its length and alignment, and what offsets count from. */
@@ -184,32 +184,44 @@ struct tls {
 
 extern uint16_t machine;
 extern uint32_t machine_flags; /* `e_flags` of all objects */
-extern bool is_dynamic;       /* whether a dynamic linker loads the linked file */
+/* whether a dynamic linker loads the linked file, whether instructions are rewritten that need not
+ * be, and whether PowerPC64's local-exec is, which ld.lld leaves */
+extern bool is_dynamic, relaxes, has_short_offsets;
 extern struct linker_utils_output_facts linked;
-extern const char *own_name; /* of a shared library, by `-soname`; null where it has none */
-extern bool relaxes; /* whether instructions are rewritten that need not be */
-extern bool has_short_offsets; /* and PowerPC64's local-exec, which ld.lld leaves */
-extern struct object *objects; /* in the order in which they are read */
-extern struct symbol *symbols; /* all that objects mention, in their order */
-extern size_t symbols_len;
-extern struct symbol *module_base; /* `_TLS_MODULE_BASE_`; null where no object requires it */
-extern struct library *libraries; /* in their order */
 extern struct linker_utils_dynamic_types types;
+extern const char *own_name;         /* of a shared library, by `-soname`; null where it has none */
+extern struct object *objects;       /* in the order in which they are read */
+extern struct library *libraries;    /* in their order */
+extern struct symbol *symbols;       /* all that objects mention, in their order */
+extern struct symbol *module_base;   /* `_TLS_MODULE_BASE_`; null where no object requires it */
+extern struct entry *module_entry;   /* of the GOT; null where no relocation requires it */
 extern struct output *outputs[257], *headers, *got, *stubs, *slots, *rela, *frames, *index_of;
 /* null where there is none: */
 extern struct output *interpreter, *dynamic, *dynsym, *dynstr, *hash_table, *versym, *verneed;
-extern size_t outputs_len;
+extern size_t symbols_len, outputs_len;
 extern uint64_t span; /* of the linked file's addresses */
 extern struct tls tls;
-extern struct entry *module_entry; /* of the GOT; null where no relocation requires it */
+extern struct kind kinds[2048]; /* by type */
 extern struct linker_utils_kept_groups *kept; /* which groups of the last object stay */
 
 static inline int order(uint64_t a, uint64_t b) { return a < b ? -1 : a > b; }
+
+static inline unsigned bind_of(const struct symbol *s) { return ELF64_ST_BIND(s->elf.st_info); }
+static inline unsigned visibility_of(const struct symbol *s) { return s->elf.st_other & 3; }
+static inline bool is_defined(const struct symbol *s) { return s->elf.st_shndx != SHN_UNDEF; }
+static inline bool is_thread_local(const struct symbol *s) {
+    return ELF64_ST_TYPE(s->elf.st_info) == STT_TLS;
+}
 
 static inline uint32_t type_of(const Elf64_Rela *r) { return ELF64_R_TYPE(r->r_info); }
 
 static inline struct symbol *symbol_at(const struct section *s, const Elf64_Rela *r) {
     return s->object->symbols[ELF64_R_SYM(r->r_info)];
+}
+
+/* Reads ahead the symbol of a relocation that comes soon. */
+static inline void expect_symbol(const struct section *s, const Elf64_Rela *r) {
+    if (r + 8 < s->relocations + s->relocations_len) __builtin_prefetch(symbol_at(s, r + 8));
 }
 
 static inline void set_type(Elf64_Rela *r, uint32_t type) {
@@ -220,76 +232,65 @@ static inline void set_type(Elf64_Rela *r, uint32_t type) {
 void *zeros(uint64_t count, size_t size), *take(uint64_t count, size_t size);
 void *grow(void *array, size_t need, size_t *room, size_t size);
 uint64_t round_up(uint64_t at, uint64_t align);
-
 /* objects.c */
 void demand(const struct object *o, bool holds, const char *otherwise);
 void read_heads(struct object *o, uint16_t type, const char *otherwise);
 const char *text_at(const struct object *o, const char *section, uint64_t table, uint64_t at);
 const void *table_of(const struct object *o, const Elf64_Shdr *head, size_t size, size_t *len);
 void read_file(const char *path), load_member(struct archive *a, uint64_t offset);
-
 /* libraries.c */
 void read_library(struct object file);
 uint64_t import_align(const struct symbol *s);
-
 /* symbols.c */
 uint32_t gnu_hash(const char *name), hash_of(const char *name);
-void expect(uint32_t hash);
 struct symbol **global(const char *name), *resolve(struct symbol *s, uint32_t hash);
-int rank(const struct symbol *s);
-void offer(const char *name, struct archive *a, uint64_t member);
-struct symbol *offer_import(const char *name, struct library *l, const Elf64_Sym *elf,
-                            uint16_t version);
-bool is_first_group(const char *name);
+struct symbol *named(const char *name);
+void offer(const char *name, struct archive *a, uint64_t member), expect(uint32_t hash);
 void list_symbol(struct symbol *s), list_symbols(void), define_symbols(void);
 void place_common(struct symbol *s), place_symbol(struct symbol *s);
-bool is_thread_local(const struct symbol *s), is_undefined_weak(const struct symbol *s);
-bool is_defined(const struct symbol *s), is_here(const struct symbol *s);
-bool is_ifunc(const struct symbol *s);
-
+int rank(const struct symbol *s);
+bool is_ifunc(const struct symbol *s), is_undefined_weak(const struct symbol *s);
+bool is_here(const struct symbol *s), is_first_group(const char *name);
 /* layout.c */
 struct output *output_of(const char *name);
 uint64_t code_unit(void), make_room(struct output *o, uint64_t align, uint64_t len);
 uint64_t append(struct output *o, uint64_t align, const void *bytes, uint64_t len);
-uint32_t add_name(struct output *o, const char *text);
-void add_part_of(struct output *o, struct section *s, uint64_t align);
-struct linker_utils_item alignment_item(uint64_t at, uint64_t align, uint64_t len);
 uint64_t address_of(const struct output *o, uint64_t offset);
-void place_outputs(void), set_addresses(void);
+uint32_t add_name(struct output *o, const char *text);
+struct linker_utils_item alignment_item(uint64_t at, uint64_t align, uint64_t len);
 void add_section(struct section *s), copy_section(struct section *s), sort_outputs(void);
-bool is_of_addresses(const char *name);
-
+void add_part_of(struct output *o, struct section *s, uint64_t align);
+void place_outputs(void), set_addresses(void);
 /* relocate.c */
 const char *place_of(const struct section *s, const Elf64_Rela *r);
 void check(const struct section *s, const Elf64_Rela *r, uint32_t status);
 void read_relocations(struct section *s);
-struct kind *kind_of(const struct section *s, const Elf64_Rela *r);
+struct kind *ask_kind(const struct section *s, const Elf64_Rela *r);
 struct linker_utils_requirements needs_of(const struct section *s, const Elf64_Rela *r);
+static inline struct kind *kind_of(const struct section *s, const Elf64_Rela *r) {
+    uint32_t type = type_of(r);
+    return type < 2048 && kinds[type].is_known ? &kinds[type] : ask_kind(s, r);
+}
 struct linker_utils_got known_got(void);
 struct linker_utils_symbol known_symbol(const struct symbol *s, int64_t addend);
 struct linker_utils_addresses addresses_of(uint64_t start);
 void relocate_object(struct object *o, const struct linker_utils_symbol *values);
-
 /* rewrite.c */
-void rewrite_object(struct object *o, uint32_t first, uint32_t last);
-void relocate(void);
-
+void rewrite_object(struct object *o, uint32_t first, uint32_t last), relocate(void);
+bool is_of_addresses(const char *name);
 /* entries.c */
 void require_all(struct object *o), make_entries(void), write_entries(void), write_stubs(void);
 bool add_thunks(void);
 uint64_t add_slot(struct symbol *s, uint32_t type);
-
 /* dynamic.c */
 void bind_symbols(void), make_imports(void), make_dynamic(void);
 void import(struct section *s, Elf64_Rela *r, const struct linker_utils_requirements *needs);
 void add_row(struct output *o, uint64_t offset, uint32_t type, struct symbol *s, int64_t addend);
 void fill_entry(struct symbol *s, const struct entry *e);
 bool write_dynamic(void);
-
 /* relax.c, frames.c, output.c */
-void relax(void);
 uint64_t read_frames(const struct section *s, const uint8_t *bytes, uint8_t *rows);
-void index_frames(void);
+void relax(void), index_frames(void);
 Elf64_Sym symbol_of(const struct symbol *s);
 void write_file(const char *path, uint64_t entry, bool has_symbols);
 

@@ -1,5 +1,5 @@
-/* usage: link [-s] [--no-relax | --short-offsets] [-pie | -shared [-soname NAME]] [-z now | -z relro]...
- *             -o OUTPUT [--section-start=NAME=ADDRESS]... FILE...
+/* usage: link [-s] [--no-relax | --short-offsets] [-pie | -shared [-soname NAME]]
+ *             [-z now | -z relro]... -o OUTPUT [--section-start=NAME=ADDRESS]... FILE...
  * A file is an object, an archive or a shared library. The output is a static executable; with
  * shared libraries an executable that they are loaded for, with `-pie` at any address; and with
  * `-shared` a shared library. A member of an archive is linked if it defines a symbol that is
@@ -33,8 +33,8 @@ void *take(uint64_t count, size_t size) {
     return (block += len) - len;
 }
 
-/* An array with room for so many elements: at first for as many as `room` says, and twice as many where
- * it has to grow. */
+/* An array with room for so many elements: at first for as many as `room` says, and twice as many
+ * where it has to grow. */
 void *grow(void *array, size_t need, size_t *room, size_t size) {
     if (array && need <= *room) return array;
     size_t most = need <= *room ? *room : 2 * need;
@@ -47,77 +47,86 @@ void *grow(void *array, size_t need, size_t *room, size_t size) {
 
 uint64_t round_up(uint64_t at, uint64_t align) { return (at + align - 1) & ~(align - 1); }
 
-/* Makes the sections that the linker itself fills. */
-static void make_sections(void) {
-    const struct {
-        struct output **made;
-        const char *name;
-        uint64_t flags, element;
-        uint32_t type;
-        struct output **link;
-    } own[] = {
-        {&stubs, is_dynamic ? ".plt" : ".iplt", SHF_EXECINSTR, 0, 0, NULL},
-        {&slots, is_dynamic ? ".got.plt" : ".igot.plt", SHF_WRITE, 0, 0, NULL},
-        {&index_of, ".eh_frame_hdr", 0, 0, 0, NULL},
-        {&headers, "the headers", 0, 0, 0, NULL},
-        {&got, ".got", SHF_WRITE, 0, 0, NULL},
-        {&rela, is_dynamic ? ".rela.dyn" : ".rela_iplt", 0, sizeof(Elf64_Rela), SHT_RELA, &dynsym},
-        /* for a dynamic linker, the last one in an executable: */
-        {&dynstr, ".dynstr", 0, 0, SHT_STRTAB, NULL},
-        {&dynsym, ".dynsym", 0, sizeof(Elf64_Sym), SHT_DYNSYM, &dynstr},
-        {&hash_table, ".gnu.hash", 0, 0, SHT_GNU_HASH, &dynsym},
-        {&versym, ".gnu.version", 0, sizeof(Elf64_Half), SHT_GNU_versym, &dynsym},
-        {&verneed, ".gnu.version_r", 0, 0, SHT_GNU_verneed, &dynstr},
-        {&dynamic, ".dynamic", SHF_WRITE, sizeof(Elf64_Dyn), SHT_DYNAMIC, &dynstr},
-        {&interpreter, ".interp", 0, 0, 0, NULL}};
-    int len = !is_dynamic ? 6 : !linked.is_executable ? 12 : 13;
-    for (int i = 0; i < len; i++) {
-        struct output *o = *own[i].made = output_of(own[i].name);
-        o->flags = SHF_ALLOC | own[i].flags;
-        o->has_bytes = own[i].made != &got;
-        o->is_own = true;
-        o->element = own[i].element;
-        o->type = own[i].type;
-    }
-    for (int i = 0; i < len; i++) (*own[i].made)->link = own[i].link ? *own[i].link : NULL;
-    frames = output_of(".eh_frame");
+/* A section that the linker itself fills. */
+static struct output *own_section(const char *name, uint64_t flags) {
+    struct output *o = output_of(name);
+    o->flags = SHF_ALLOC | flags;
+    o->has_bytes = o->is_own = true;
+    return o;
 }
 
-/* Reads the arguments, and the files that they name. */
-static void read_arguments(int argc, char **argv) {
+/* And one with a type, with elements of so many bytes, which refers to another. */
+static struct output *own_table(const char *name, uint64_t flags, uint32_t type, uint64_t element,
+                                const struct output *link) {
+    struct output *o = own_section(name, flags);
+    o->type = type;
+    o->element = element;
+    o->link = link;
+    return o;
+}
+
+static void make_sections(void) {
+    got = own_section(".got", SHF_WRITE);
+    got->has_bytes = false;
+    stubs = own_section(is_dynamic ? ".plt" : ".iplt", SHF_EXECINSTR);
+    slots = own_section(is_dynamic ? ".got.plt" : ".igot.plt", SHF_WRITE);
+    index_of = own_section(".eh_frame_hdr", 0);
+    headers = own_section("the headers", 0);
+    frames = output_of(".eh_frame");
+    if (is_dynamic) {
+        if (linked.is_executable) interpreter = own_section(".interp", 0);
+        dynstr = own_table(".dynstr", 0, SHT_STRTAB, 0, NULL);
+        dynsym = own_table(".dynsym", 0, SHT_DYNSYM, sizeof(Elf64_Sym), dynstr);
+        hash_table = own_table(".gnu.hash", 0, SHT_GNU_HASH, 0, dynsym);
+        versym = own_table(".gnu.version", 0, SHT_GNU_versym, 2, dynsym);
+        verneed = own_table(".gnu.version_r", 0, SHT_GNU_verneed, 0, dynstr);
+        dynamic = own_table(".dynamic", SHF_WRITE, SHT_DYNAMIC, sizeof(Elf64_Dyn), dynstr);
+    }
+    const char *name = is_dynamic ? ".rela.dyn" : ".rela_iplt";
+    rela = own_table(name, 0, SHT_RELA, sizeof(Elf64_Rela), dynsym);
+}
+
+/* Sets what an argument without a value says. Whether it is one. */
+static bool set_switch(const char *name) {
     static const struct {
         const char *name;
         bool *set, value;
     } switches[] = {{"-s", &has_symbols, false}, {"--no-relax", &relaxes, false},
-                    {"--short-offsets", &has_short_offsets, true}, {"-pie", &linked.is_fixed, false},
-                    {"-shared", &linked.is_fixed, false}, {"-shared", &linked.is_executable, false}};
-    for (int i = 1, end = 0; i < argc; i++) {
-        const char *it = argv[i], *next = argv[i + 1] ? argv[i + 1] : "";
-        uint64_t address;
-        bool is_switch = false;
-        for (size_t k = 0; k < sizeof switches / sizeof *switches; k++) {
-            if (strcmp(it, switches[k].name)) continue;
-            *switches[k].set = switches[k].value;
-            is_switch = true;
-        }
-        if (is_switch) continue;
+                    {"--short-offsets", &has_short_offsets, true},
+                    {"-pie", &linked.is_fixed, false}, {"-shared", &linked.is_fixed, false},
+                    {"-shared", &linked.is_executable, false}};
+    bool is_found = false;
+    for (size_t i = 0; i < sizeof switches / sizeof *switches; i++) {
+        if (strcmp(name, switches[i].name)) continue;
+        *switches[i].set = switches[i].value;
+        is_found = true;
+    }
+    return is_found;
+}
+
+/* Reads the arguments, and the files that they name. */
+static void read_arguments(char **argument) {
+    uint64_t address;
+    int end = 0;
+    for (char *it; (it = *argument); argument++) {
+        const char *next = argument[1] ? argument[1] : "";
         if (sscanf(it, "--section-start=%*[^=]%n=%" SCNx64, &end, &address) == 1) {
-            argv[i][end] = 0;
+            it[end] = 0;
             struct output *placed = output_of(it + strlen("--section-start="));
             placed->place = address;
             is_placed = placed->is_placed = true;
         } else if (!strcmp(it, "-z") && (!strcmp(next, "now") || !strcmp(next, "relro"))) {
-            i++; /* all outputs are so */
-        } else if ((!strcmp(it, "-o") || !strcmp(it, "-soname")) && argv[i + 1]) {
-            *(it[1] == 'o' ? &path : &own_name) = argv[++i];
-        } else {
+            argument++; /* all outputs are so */
+        } else if (argument[1] && (!strcmp(it, "-o") || !strcmp(it, "-soname"))) {
+            *(it[1] == 'o' ? &path : &own_name) = *++argument;
+        } else if (!set_switch(it)) {
             read_file(it);
         }
     }
 }
 
 int main(int argc, char **argv) {
-    read_arguments(argc, argv);
+    if (argc > 0) read_arguments(argv + 1);
     is_dynamic = libraries || !linked.is_fixed;
     if (is_dynamic && is_placed) fail("--section-start is for static executables");
     make_sections();

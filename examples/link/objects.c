@@ -1,4 +1,5 @@
 /* Objects, archives and groups. Everything that is read of a file is checked to be in it. */
+#include <ar.h>
 #include <fcntl.h>
 #include <sys/mman.h>
 #include <sys/stat.h>
@@ -40,7 +41,7 @@ const char *text_at(const struct object *o, const char *section, uint64_t table,
     const Elf64_Shdr *head = &o->heads[table < o->sections_len ? table : 0];
     bool holds = head->sh_type == SHT_STRTAB && at < head->sh_size;
     const char *text = holds ? (const char *)bytes_at(o, head->sh_offset, head->sh_size) : NULL;
-    if (!holds || text[head->sh_size - 1]) fail("%s: %s: a name that is not there", o->path, section);
+    if (!holds || text[head->sh_size - 1]) fail_in(o, section, "a name that is not there");
     return text + at;
 }
 
@@ -52,7 +53,7 @@ static void read_group(struct object *o, const Elf64_Shdr *head, const char *sec
     const Elf32_Word *words = table_of(o, &group, sizeof *words, &len);
     if (head->sh_link < o->sections_len) table = o->heads[head->sh_link];
     if (table.sh_type != SHT_SYMTAB || head->sh_info >= table.sh_size / sizeof(Elf64_Sym) || !len)
-        fail("%s: %s: a group without its symbol", o->path, section);
+        fail_in(o, section, "a group without its symbol");
     Elf64_Sym symbol;
     uint64_t at = table.sh_offset + head->sh_info * sizeof symbol;
     memcpy(&symbol, bytes_at(o, at, sizeof symbol), sizeof symbol);
@@ -60,7 +61,7 @@ static void read_group(struct object *o, const Elf64_Shdr *head, const char *sec
     bool is_kept = !(words[0] & GRP_COMDAT) || is_first_group(name);
     for (size_t i = 1; i < len; i++) {
         if (words[i] >= o->sections_len)
-            fail("%s: %s: a group of a section that is not there", o->path, section);
+            fail_in(o, section, "a group of a section that is not there");
         o->sections[words[i]].is_discarded |= !is_kept;
     }
 }
@@ -68,43 +69,46 @@ static void read_group(struct object *o, const Elf64_Shdr *head, const char *sec
 /* A symbol as an object mentions it, until the next call. */
 static struct symbol *mention(const struct object *o, size_t i) {
     static struct symbol s; /* of which nothing else is set */
-    const Elf64_Sym *elf = &o->mentions[i];
-    bool has_section = elf->st_shndx < o->sections_len;
-    const struct section *section = &o->sections[has_section ? elf->st_shndx : 0];
-    bool is_section = ELF64_ST_TYPE(elf->st_info) == STT_SECTION && has_section;
     s.object = o;
-    s.elf = *elf;
-    s.name = is_section ? section->name : o->names + elf->st_name;
-    if (ELF64_ST_BIND(elf->st_info) == STB_WEAK && section->is_discarded) s.elf.st_shndx = 0;
+    s.elf = o->mentions[i];
+    size_t at = s.elf.st_shndx < o->sections_len ? s.elf.st_shndx : 0;
+    const struct section *section = &o->sections[at];
+    bool is_section = ELF64_ST_TYPE(s.elf.st_info) == STT_SECTION && section != o->sections;
+    s.name = is_section ? section->name : o->names + s.elf.st_name;
+    if (bind_of(&s) == STB_WEAK && section->is_discarded) s.elf.st_shndx = SHN_UNDEF;
     return &s;
+}
+
+/* Ends with an error where an object's symbol is not as linkers know them. */
+static void check_symbol(const struct object *o, size_t i, bool is_local, const char *name) {
+    const Elf64_Sym *elf = &o->mentions[i];
+    uint16_t at = elf->st_shndx;
+    bool is_tls = ELF64_ST_TYPE(elf->st_info) == STT_TLS, has_section = at < o->sections_len;
+    if ((!has_section && at != SHN_ABS && at != SHN_COMMON) ||
+        (at == SHN_COMMON && (is_local || is_tls)) ||
+        (ELF64_ST_BIND(elf->st_info) == STB_LOCAL) != is_local)
+        fail_of(o, "symbol %zu, '%s', is of a kind that is not supported", i, name);
+    if (is_tls && at && has_section && !(o->heads[at].sh_flags & SHF_TLS))
+        fail_in(o, o->sections[at].name, "'%s' is thread-local in a section that is not", name);
 }
 
 static void read_symbols(struct object *o, const Elf64_Shdr *head) {
     demand(o, !o->symbols, "two tables of symbols");
-    const Elf64_Sym *elf = o->mentions = table_of(o, head, sizeof *elf, &o->mentions_len);
-    o->symbols_len = o->symbols_room = o->mentions_len;
-    size_t locals_len = head->sh_info < o->symbols_len ? head->sh_info : o->symbols_len;
+    o->mentions = table_of(o, head, sizeof *o->mentions, &o->mentions_len);
+    size_t len = o->symbols_len = o->symbols_room = o->mentions_len;
+    size_t locals_len = head->sh_info < len ? head->sh_info : len;
     struct symbol *local = take(locals_len, sizeof *local);
-    o->symbols = zeros(o->symbols_len, sizeof *o->symbols);
-    o->hashes = take(o->symbols_len, sizeof *o->hashes);
+    o->symbols = zeros(len, sizeof *o->symbols);
+    o->hashes = take(len, sizeof *o->hashes);
     const char *section = o->sections[head - o->heads].name;
-    if (o->symbols_len) o->names = text_at(o, section, head->sh_link, 0);
-    for (size_t i = 0; i < o->symbols_len; i++, elf++) {
-        uint16_t at = elf->st_shndx;
-        unsigned type = ELF64_ST_TYPE(elf->st_info), bind = ELF64_ST_BIND(elf->st_info);
-        bool has_section = at < o->sections_len;
-        const char *name = text_at(o, section, head->sh_link, elf->st_name);
-        if ((!has_section && at != SHN_ABS && at != SHN_COMMON) ||
-            (bind == STB_LOCAL) != (i < head->sh_info) ||
-            (at == SHN_COMMON && (bind == STB_LOCAL || type == STT_TLS)))
-            fail("%s: symbol %zu, '%s', is of a kind that is not supported", o->path, i, name);
-        if (type == STT_TLS && at && has_section && !(o->heads[at].sh_flags & SHF_TLS))
-            fail("%s: %s: '%s' is thread-local in a section that is not", o->path,
-                 o->sections[at].name, name);
-        if (bind == STB_LOCAL) *(o->symbols[i] = local++) = *mention(o, i);
+    if (len) o->names = text_at(o, section, head->sh_link, 0);
+    for (size_t i = 0; i < len; i++) {
+        const char *name = text_at(o, section, head->sh_link, o->mentions[i].st_name);
+        check_symbol(o, i, i < head->sh_info, name);
+        if (i < locals_len) *(o->symbols[i] = local++) = *mention(o, i);
         else expect(o->hashes[i] = hash_of(name));
     }
-    for (size_t i = locals_len; i < o->symbols_len; i++) {
+    for (size_t i = locals_len; i < len; i++) {
         struct symbol *s = mention(o, i);
         if (is_defined(s)) o->symbols[i] = resolve(s, o->hashes[i]);
     }
@@ -146,8 +150,9 @@ void read_heads(struct object *o, uint16_t type, const char *otherwise) {
         const char *name = text_at(o, "its sections", head.e_shstrndx, s->sh_name);
         o->sections[i] = (struct section){o, name, .head = s,
                                           .is_discarded = s->sh_flags & SHF_EXCLUDE};
-        if (s->sh_type != SHT_NOBITS && (s->sh_offset > o->len || s->sh_size > o->len - s->sh_offset))
-            fail("%s: %s: it ends too early", o->path, o->sections[i].name);
+        bool has_bytes = s->sh_type != SHT_NOBITS;
+        if (has_bytes && (s->sh_offset > o->len || s->sh_size > o->len - s->sh_offset))
+            fail_in(o, name, "it ends too early");
     }
 }
 
@@ -159,7 +164,8 @@ static void read_object(const char *path, const uint8_t *bytes, size_t len) {
     objects_end = &o->next;
     read_heads(o, ET_REL, "not a relocatable object of little-endian ELF64");
     if (o == objects) machine_flags = o->flags;
-    o->is_compressed = linker_utils_code_unit(machine, o->flags) < linker_utils_code_unit(machine, 0);
+    uint64_t unit = linker_utils_code_unit(machine, o->flags);
+    o->is_compressed = unit < linker_utils_code_unit(machine, 0);
     demand(o, !linker_utils_join_flags(machine, machine_flags, o->flags, &machine_flags),
            "of another ABI than those before it");
     for (size_t i = 0; i < o->sections_len; i++)
@@ -168,42 +174,42 @@ static void read_object(const char *path, const uint8_t *bytes, size_t len) {
         if (s->sh_type == SHT_SYMTAB) read_symbols(o, s);
         if (s->sh_type != SHT_RELA && s->sh_type != SHT_REL) continue;
         if (s->sh_info >= o->sections_len || o->sections[s->sh_info].table)
-            fail("%s: relocations of no section, or twice of one", path);
+            fail_of(o, "relocations of no section, or twice of one");
         o->sections[s->sh_info].table = s;
     }
 }
 
-/* The name and the size of an archive's member, by its header. */
-static uint64_t member_head(const struct archive *a, uint64_t offset, char name[17]) {
-    char size[11] = {0}, *end;
-    const char *head = (const char *)bytes_at(&a->file, offset, 60);
-    snprintf(name, 17, "%.16s", head);
-    memcpy(size, head + 48, 10);
-    uint64_t len = strtoull(size, &end, 10);
-    demand(&a->file, !memcmp(head + 58, "`\n", 2) && end != size && *size != '-',
+/* The header of an archive's member, and how many bytes are behind it. */
+static const struct ar_hdr *member_at(const struct archive *a, uint64_t offset, uint64_t *len) {
+    const struct ar_hdr *head = (const void *)bytes_at(&a->file, offset, sizeof *head);
+    char size[sizeof head->ar_size + 1] = {0}, *end;
+    memcpy(size, head->ar_size, sizeof head->ar_size);
+    *len = strtoull(size, &end, 10);
+    demand(&a->file, !memcmp(head->ar_fmag, ARFMAG, 2) && end != size && *size != '-',
            "a member's header is not there");
-    bytes_at(&a->file, offset + 60, len);
-    return len;
+    bytes_at(&a->file, offset + sizeof *head, *len);
+    return head;
 }
 
 /* Reads a member that the index names. */
 void load_member(struct archive *a, uint64_t offset) {
-    char name[17];
+    uint64_t len, at;
     if (a->is_loaded[offset / 2]) return;
     a->is_loaded[offset / 2] = true;
-    uint64_t len = member_head(a, offset, name), at = strtoull(name + 1, NULL, 10);
-    const char *text = name;
+    const struct ar_hdr *head = member_at(a, offset, &len);
+    const char *name = head->ar_name, *end = name + sizeof head->ar_name;
     if (*name == '/') {
+        at = strtoull(name + 1, NULL, 10);
         demand(&a->file, at < a->names_len, "a member's name is not there");
-        text = a->names + at;
+        name = a->names + at;
+        end = a->names + a->names_len;
     }
-    size_t most = text == name ? strlen(name) : a->names_len - at;
-    int text_len = 0;
-    while ((size_t)text_len < most && text[text_len] && text[text_len] != '/') text_len++;
-    size_t path_len = strlen(a->file.path) + (size_t)text_len + 3;
+    const char *slash = memchr(name, '/', (size_t)(end - name));
+    int name_len = (int)((slash ? slash : end) - name);
+    size_t path_len = strlen(a->file.path) + (size_t)name_len + 3;
     char *path = take(path_len, 1);
-    snprintf(path, path_len, "%s(%.*s)", a->file.path, text_len, text);
-    read_object(path, a->file.bytes + offset + 60, len);
+    snprintf(path, path_len, "%s(%.*s)", a->file.path, name_len, name);
+    read_object(path, a->file.bytes + offset + sizeof *head, len);
 }
 
 static uint32_t big_endian(const uint8_t *bytes) {
@@ -214,21 +220,22 @@ static uint32_t big_endian(const uint8_t *bytes) {
 static void read_archive(struct object file) {
     struct archive *a = take(1, sizeof *a);
     const uint8_t *index = NULL;
-    uint64_t index_len = 0;
-    char name[17];
+    uint64_t index_len = 0, len;
     *a = (struct archive){.file = file, .is_loaded = take(file.len / 2 + 1, 1)};
-    for (uint64_t at = 8, i = 0; i < 2 && at < file.len; i++) { /* the special ones are first */
-        uint64_t len = member_head(a, at, name);
-        if (!memcmp(name, "/ ", 2)) {
-            index = file.bytes + at + 60;
+    /* the special ones are first */
+    for (uint64_t at = SARMAG, i = 0; i < 2 && at < file.len; i++) {
+        const struct ar_hdr *head = member_at(a, at, &len);
+        at += sizeof *head;
+        if (!memcmp(head->ar_name, "/ ", 2)) {
+            index = file.bytes + at;
             index_len = len;
-        } else if (!memcmp(name, "// ", 3)) {
-            a->names = (const char *)file.bytes + at + 60;
+        } else if (!memcmp(head->ar_name, "// ", 3)) {
+            a->names = (const char *)file.bytes + at;
             a->names_len = len;
         }
-        at += 60 + len + len % 2;
+        at += len + len % 2;
     }
-    if (file.len == 8) return;
+    if (file.len == SARMAG) return;
     demand(&a->file, index && index_len >= 4, "an archive without an index");
     uint64_t count = big_endian(index);
     demand(&a->file, count <= (index_len - 4) / 4, "the index ends too early");
@@ -237,9 +244,9 @@ static void read_archive(struct object file) {
         const char *next = memchr(text, 0, (size_t)((const char *)index + index_len - text));
         uint64_t member = big_endian(index + 4 * i);
         demand(&a->file, next, "the index ends too early");
-        if (member % 2 || member >= file.len || file.len - member < 60 ||
-            memcmp(file.bytes + member + 58, "`\n", 2))
-            fail("%s: the index points nowhere for '%.200s'", file.path, text);
+        if (member % 2 || member >= file.len || file.len - member < sizeof(struct ar_hdr) ||
+            memcmp(((const struct ar_hdr *)(file.bytes + member))->ar_fmag, ARFMAG, 2))
+            fail_of(&file, "the index points nowhere for '%.200s'", text);
         offer(text, a, member);
         resolve_all();
         text = next + 1;
@@ -257,12 +264,9 @@ void read_file(const char *path) {
     if (bytes == MAP_FAILED) fail("%s: can't be read", path);
     o.bytes = bytes;
     close(file);
-    demand(&o, memcmp(bytes, "!<thin>\n", o.len < 8 ? o.len : 8) || o.len < 8, "a thin archive");
-    if (o.len >= 8 && !memcmp(bytes, "!<arch>\n", 8))
-        read_archive(o);
-    else if (o.len >= 18 && !memcmp(bytes, ELFMAG, 4) && bytes[16] == ET_DYN)
-        read_library(o);
-    else
-        read_object(path, bytes, o.len);
+    demand(&o, o.len < 8 || memcmp(bytes, "!<thin>\n", 8), "a thin archive");
+    if (o.len >= SARMAG && !memcmp(bytes, "!<arch>\n", SARMAG)) read_archive(o);
+    else if (o.len >= 18 && !memcmp(bytes, ELFMAG, 4) && bytes[16] == ET_DYN) read_library(o);
+    else read_object(path, bytes, o.len);
     resolve_all();
 }

@@ -16,7 +16,8 @@ static Elf64_Phdr loads[MOST_PARTS], *load = loads - 1;
 static Elf64_Shdr heads[MOST_PARTS]; /* of sections; the first is empty */
 static size_t parts_len, heads_len = 1;
 
-static struct output strings = {.name = ".strtab", .align = 1, .has_bytes = true, .type = SHT_STRTAB};
+static struct output strings = {.name = ".strtab", .align = 1, .has_bytes = true,
+                                .type = SHT_STRTAB};
 static struct output symbol_table = {.name = ".symtab", .align = 8, .has_bytes = true, .info = 1,
                                      .type = SHT_SYMTAB, .element = sizeof(Elf64_Sym)};
 
@@ -40,56 +41,53 @@ static void add_part(uint32_t type, uint64_t at, uint64_t bytes, uint64_t len, u
 
 /* Adds the header of a section. */
 static void add_head(struct output *o, uint64_t offset) {
-    uint32_t name = add_name(&strings, o->name);
     o->index = (uint16_t)heads_len;
     heads[heads_len++] = (Elf64_Shdr){
-        .sh_name = name, .sh_type = o->type ? o->type : o->has_bytes ? SHT_PROGBITS : SHT_NOBITS,
-        .sh_flags = o->flags & (SHF_ALLOC | SHF_WRITE | SHF_EXECINSTR | SHF_TLS),
-        .sh_addr = o->address, .sh_offset = offset, .sh_size = o->len, .sh_info = o->info,
-        .sh_addralign = o->align, .sh_entsize = o->element};
+        .sh_name = add_name(&strings, o->name), .sh_addr = o->address, .sh_offset = offset,
+        .sh_type = o->type ? o->type : o->has_bytes ? SHT_PROGBITS : SHT_NOBITS,
+        .sh_flags = o->flags & (SHF_ALLOC | SHF_WRITE | SHF_EXECINSTR | SHF_TLS), .sh_size = o->len,
+        .sh_info = o->info, .sh_addralign = o->align, .sh_entsize = o->element};
 }
 
 /* Whether a symbol is local in the linked file: so are those that other files may not see. */
 static bool is_local(const struct symbol *s) {
-    unsigned visibility = ELF64_ST_VISIBILITY(s->elf.st_other);
-    bool is_hidden = visibility == STV_HIDDEN || visibility == STV_INTERNAL;
-    return ELF64_ST_BIND(s->elf.st_info) == STB_LOCAL || (is_hidden && s->elf.st_shndx);
+    bool is_hidden = visibility_of(s) == STV_HIDDEN || visibility_of(s) == STV_INTERNAL;
+    return bind_of(s) == STB_LOCAL || (is_hidden && is_defined(s));
 }
 
 /* What the table of symbols says of one. */
 Elf64_Sym symbol_of(const struct symbol *s) {
     Elf64_Sym elf = s->elf;
     const struct output *o = s->output;
-    unsigned bind = ELF64_ST_BIND(elf.st_info), type = ELF64_ST_TYPE(elf.st_info);
+    unsigned type = ELF64_ST_TYPE(elf.st_info);
     elf.st_value = address_of(o, s->offset);
     if (s == module_base || (o && type == STT_TLS)) elf.st_value -= tls.image;
     if (o && elf.st_shndx < SHN_LORESERVE) /* less is left of code that shrinks */
         elf.st_size = address_of(o, s->offset + elf.st_size) - address_of(o, s->offset);
     else if (o && type == STT_GNU_IFUNC) /* its stub */
         type = STT_FUNC, elf.st_size = 0;
-    elf.st_info = ELF64_ST_INFO(is_local(s) ? STB_LOCAL : bind, type);
+    elf.st_info = ELF64_ST_INFO(is_local(s) ? STB_LOCAL : bind_of(s), type);
     if (o) elf.st_shndx = o->index ? o->index : SHN_ABS;
     return elf;
+}
+
+/* Adds a symbol to the table, if it has a name and is in the file. */
+static void add_symbol(const struct symbol *s) {
+    uint16_t at = s->elf.st_shndx;
+    bool is_in_file = !at || at >= SHN_LORESERVE || s->output;
+    if (!*s->name || !is_in_file || ELF64_ST_TYPE(s->elf.st_info) == STT_SECTION) return;
+    Elf64_Sym elf = symbol_of(s);
+    elf.st_name = add_name(&strings, s->name);
+    append(&symbol_table, 8, &elf, sizeof elf);
+    symbol_table.info += is_local(s);
 }
 
 /* Puts the symbols, if wanted, local ones first, and the section headers behind the segments. */
 static void put_symbols(uint64_t offset, Elf64_Ehdr *head, bool has_symbols) {
     symbol_table.room = (has_symbols ? symbols_len + 1 : 1) * sizeof(Elf64_Sym);
-    symbol_table.bytes = take(symbol_table.room, 1);
     make_room(&symbol_table, 8, sizeof(Elf64_Sym));
-    for (int is_global = 0; has_symbols && is_global < 2; is_global++) {
-        EACH_SYMBOL(s) {
-            uint16_t at = s->elf.st_shndx;
-            if (is_global == is_local(s) || !*s->name ||
-                (at && at < SHN_LORESERVE && !s->output) ||
-                ELF64_ST_TYPE(s->elf.st_info) == STT_SECTION)
-                continue;
-            Elf64_Sym elf = symbol_of(s);
-            elf.st_name = add_name(&strings, s->name);
-            append(&symbol_table, 8, &elf, sizeof elf);
-            symbol_table.info += !is_global;
-        }
-    }
+    for (int is_global = 0; has_symbols && is_global < 2; is_global++)
+        EACH_SYMBOL(s) if (is_global != is_local(s)) add_symbol(s);
     offset = round_up(offset, 8);
     add_head(&symbol_table, offset);
     add_head(&strings, offset + symbol_table.len);
@@ -121,8 +119,8 @@ static void write_parts(const char *path) {
     if (fclose(file) || !holds) fail("%s: can't be written", path);
 }
 
-/* Adds the headers of what the dynamic linker reads, and of what it protects. Those of the program's
- * headers and of its interpreter are the first. */
+/* Adds the headers of what the dynamic linker reads, and of what it protects. Those of the
+ * program's headers and of its interpreter are the first. */
 static void add_dynamic_parts(void) {
     uint64_t start = 0, end = 0;
     EACH_OUTPUT(o) {
@@ -148,7 +146,8 @@ static void add_dynamic_parts(void) {
     load = last;
 }
 
-/* Puts the sections, in segments by what is allowed there, and returns where they end in the file. */
+/* Puts the sections, in segments by what is allowed there, and returns where they end in the file.
+ *  */
 static uint64_t put_sections(void) {
     uint64_t end = 0, offset = headers->len ? 0 : MOST_ALIGN, image = 0;
     uint64_t align = headers->len ? linker_utils_page(machine) : MOST_ALIGN;

@@ -18,8 +18,8 @@ static struct linker_utils_rela seen(const struct section *s, const Elf64_Rela *
     struct linker_utils_rela seen = {
         .offset = r->r_offset, .addend = r->r_addend, .r_type = type_of(r),
         .has_symbol = ELF64_R_SYM(r->r_info) > 0, .may_compress = s->object->is_compressed};
-    if (!relaxes || !o || o->run != s->output->run || o->flags & SHF_TLS || (o->shrinks && r->r_addend))
-        return seen;
+    if (!relaxes || !o || o->run != s->output->run || o->flags & SHF_TLS) return seen;
+    if (o->shrinks && r->r_addend) return seen;
     uint64_t offset = (to->offset == END ? o->len : to->offset) + (uint64_t)r->r_addend;
     seen.has_target = offset <= o->len;
     seen.target = o->base + offset;
@@ -41,7 +41,10 @@ static void add_items(struct section *s) {
     uint64_t base = o->base + s->offset;
     if (s->gap) items[items_len++] = alignment_item(base - s->gap, s->gap + code_unit(), s->gap);
     relocations = grow(relocations, all, &room, sizeof *relocations);
-    for (size_t i = 0; i < all; i++) relocations[i] = seen(s, &s->relocations[i]);
+    for (size_t i = 0; i < all; i++) {
+        expect_symbol(s, &s->relocations[i]);
+        relocations[i] = seen(s, &s->relocations[i]);
+    }
     uint32_t status = linker_utils_rewritten_items(
         machine, o->bytes + s->offset, s->len, base, relocations, all, s->deleted, s->deleted_len,
         items + items_len, most, makers + items_len, most, &len, &at);
@@ -58,13 +61,14 @@ static void move_relocations(struct section *s) {
     EACH_RELOCATION(s, r) {
         if (r->r_offset < last) i = s->first_item, lost = 0;
         last = r->r_offset;
-        for (; i < end && items[i].offset + stay[i] < base + last; i++) lost += items[i].len - stay[i];
+        for (; i < end && items[i].offset + stay[i] < base + last; i++)
+            lost += items[i].len - stay[i];
         r->r_offset -= lost;
     }
 }
 
-/* Writes a section anew: what becomes shorter, and without what it loses. What loses nothing stays as
- * it is. Returns how long it is then. */
+/* Writes a section anew: what becomes shorter, and without what it loses. What loses nothing stays
+ * as it is. Returns how long it is then. */
 static size_t pack(struct section *s, uint8_t *to) {
     const struct output *o = s->output;
     const struct run *run = o->run;
@@ -78,11 +82,13 @@ static size_t pack(struct section *s, uint8_t *to) {
                 .offset = items[i].offset, .target = items[i].offset, .len = items[i].len,
                 .kind = LINKER_UTILS_ITEM_SITE, .shapes = {.longest = items[i].len}};
         if (!items[i].shapes.count) continue; /* else what is there gets its value here */
-        for (Elf64_Rela *r = s->relocations + makers[i]; r < end && r->r_offset < past; r++) set_type(r, 0);
+        Elf64_Rela *r = s->relocations + makers[i];
+        for (; r < end && r->r_offset < past; r++) set_type(r, 0);
     }
     size_t packed_len = linker_utils_packed_run_len(base, s->len, run->deltas, run->deltas_len);
-    uint32_t status = linker_utils_pack_run(machine, o->bytes + s->offset, s->len, base, items + first, len,
-                                            run->deltas, run->deltas_len, run->start, to, packed_len, &at);
+    uint32_t status = linker_utils_pack_run(machine, o->bytes + s->offset, s->len, base,
+                                            items + first, len, run->deltas, run->deltas_len,
+                                            run->start, to, packed_len, &at);
     check_items(s, at < len ? makers[first + at] : SIZE_MAX, status);
     move_relocations(s);
     return packed_len;
@@ -135,8 +141,8 @@ static void relax_run(struct run *run) {
     uint64_t *freed = zeros(len + 1, sizeof *freed);
     uint8_t *shapes = zeros(len, 1);
     stay = zeros(len, sizeof *stay);
-    uint32_t status = linker_utils_relax(items, len, run->start, shapes, len, stay, len, places, len, freed,
-                                         len + 1, &at);
+    uint32_t status = linker_utils_relax(items, len, run->start, shapes, len, stay, len, places,
+                                         len, freed, len + 1, &at);
     EACH_SECTION(s)
         if (status && s->output && s->output->run == run && at - s->first_item < s->items_len)
             check_items(s, makers[at], status);

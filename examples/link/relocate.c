@@ -2,8 +2,10 @@
 #include "link.h"
 
 struct tls tls;
+struct kind kinds[2048];
 
-/* Where a relocation is, and its name, as "b.o: .text+0x1c: R_RISCV_JAL". The offset is the object's. */
+/* Where a relocation is, and its name, as "b.o: .text+0x1c: R_RISCV_JAL". The offset is the
+ * object's. */
 const char *place_of(const struct section *s, const Elf64_Rela *r) {
     static char text[4096];
     uint8_t name[LINKER_UTILS_NAME_SIZE];
@@ -12,8 +14,8 @@ const char *place_of(const struct section *s, const Elf64_Rela *r) {
     uint64_t at = s->table->sh_offset + (uint64_t)(r - s->relocations) * sizeof first;
     memcpy(&first, s->object->bytes + at, sizeof first);
     linker_utils_relocation_name(machine, type_of(r), name, sizeof name, &len);
-    snprintf(text, sizeof text, "%s: %s+0x%" PRIx64 ": %.*s", s->object->path, s->name, first.r_offset,
-             (int)len, (const char *)name);
+    snprintf(text, sizeof text, "%s: %s+0x%" PRIx64 ": %.*s", s->object->path, s->name,
+             first.r_offset, (int)len, (const char *)name);
     return text;
 }
 
@@ -21,29 +23,28 @@ void check(const struct section *s, const Elf64_Rela *r, uint32_t status) {
     if (status) fail("%s: %s", place_of(s, r), linker_utils_status_text(status));
 }
 
-/* Whether a relocation's symbol is in a discarded section, where that is nothing wrong: in tables
- * beside functions that other objects have too, it is left unset. */
-static bool is_left_out(const struct section *s, const Elf64_Rela *r) {
+/* Whether a relocation's symbol is in a discarded section. */
+static bool is_discarded(const struct section *s, const Elf64_Rela *r) {
     const struct symbol *to = symbol_at(s, r);
-    if (to->output || !to->elf.st_shndx || to->elf.st_shndx >= SHN_LORESERVE) return false;
-    const char *name = s->output->name;
-    return to->object->sections[to->elf.st_shndx].is_discarded &&
-           (s->output == frames || !strcmp(name, ".gcc_except_table") || is_of_addresses(name));
+    return !to->output && to->elf.st_shndx && to->elf.st_shndx < SHN_LORESERVE &&
+           to->object->sections[to->elf.st_shndx].is_discarded;
 }
 
-/* Reads the relocations of a section, without those that are left out. */
+/* Reads the relocations of a section. In tables beside functions that other objects have too, what
+ * refers to a discarded section is nothing wrong: it is left unset. */
 void read_relocations(struct section *s) {
     const struct object *o = s->object;
     size_t len;
     const Elf64_Rela *elf = table_of(o, s->table, sizeof *elf, &len);
-    s->relocations = take(len, sizeof *elf);
-    memcpy(s->relocations, elf, len * sizeof *elf);
+    bool has_addresses = is_of_addresses(s->name);
+    bool is_beside = s->output == frames || !strcmp(s->output->name, ".gcc_except_table");
+    s->relocations = memcpy(take(len, sizeof *elf), elf, len * sizeof *elf);
     s->relocations_len = (uint32_t)len;
-    if (is_of_addresses(s->name)) s->kept_words = take(len, 1);
+    if (has_addresses) s->kept_words = take(len, 1);
     EACH_RELOCATION(s, r) {
         if (r->r_offset > s->len || ELF64_R_SYM(r->r_info) >= o->mentions_len)
-            fail("%s: %s: a relocation is of no byte or no symbol", o->path, s->name);
-        if (is_left_out(s, r)) set_type(r, 0);
+            fail_in(o, s->name, "a relocation is of no byte or no symbol");
+        if ((is_beside || has_addresses) && is_discarded(s, r)) set_type(r, 0);
     }
 }
 
@@ -56,16 +57,15 @@ static bool changes_numbers(void) {
     return is_found;
 }
 
-struct kind *kind_of(const struct section *s, const Elf64_Rela *r) {
-    static struct kind kinds[2048];
+struct kind *ask_kind(const struct section *s, const Elf64_Rela *r) {
     uint32_t type = type_of(r);
     struct kind *kind = &kinds[type < 2048 ? type : 2047];
-    if (kind->is_known) return kind;
     check(s, r, linker_utils_relocation(machine, type, &kind->row));
     check(s, r, linker_utils_reach(machine, type, &kind->reach));
     for (int is_tls = 0; is_tls < 2; is_tls++)
         check(s, r, linker_utils_needs(machine, type, 0, is_tls, &kind->needs[is_tls]));
     if (changes_numbers()) kind->role = linker_utils_uleb128_role(machine, type);
+    linker_utils_entry_relocation(machine, type, &kind->entry_type);
     kind->is_known = true;
     return kind;
 }
@@ -86,14 +86,12 @@ struct linker_utils_symbol known_symbol(const struct symbol *s, int64_t addend) 
         .stub = s->has_stub ? address_of(stubs, s->stub) : 0, .size = s->elf.st_size,
         .other = s->elf.st_other, .is_thread_local = is_thread_local(s),
         .is_undefined_weak = is_undefined_weak(s)};
-    for (const struct entry *e = s->entries; e; e = e->next) {
-        uint64_t at = address_of(got, e->offset);
-        if (e->addend != addend) continue;
-        if (e->class == LINKER_UTILS_ENTRY_ADDRESS) known.address_entry = at;
-        if (e->class == LINKER_UTILS_ENTRY_THREAD_OFFSET) known.thread_entry = at;
-        if (e->class == LINKER_UTILS_ENTRY_MODULE_OFFSET) known.module_entry = at;
-        if (e->class == LINKER_UTILS_ENTRY_DESCRIPTOR) known.descriptor = at;
-    }
+    uint64_t *const of_class[] = {[LINKER_UTILS_ENTRY_ADDRESS] = &known.address_entry,
+                                  [LINKER_UTILS_ENTRY_THREAD_OFFSET] = &known.thread_entry,
+                                  [LINKER_UTILS_ENTRY_MODULE_OFFSET] = &known.module_entry,
+                                  [LINKER_UTILS_ENTRY_DESCRIPTOR] = &known.descriptor};
+    for (const struct entry *e = s->entries; e; e = e->next)
+        if (e->addend == addend) *of_class[e->class] = address_of(got, e->offset);
     return known;
 }
 
@@ -107,8 +105,8 @@ struct linker_utils_addresses addresses_of(uint64_t start) {
 }
 
 /* Adds a value to a ULEB128 number, or subtracts it, modulo what its bytes hold, as in ld.lld. */
-static void change_number(const struct section *s, const Elf64_Rela *r, int64_t value, uint8_t *bytes,
-                          size_t len) {
+static void change_number(const struct section *s, const Elf64_Rela *r, int64_t value,
+                          uint8_t *bytes, size_t len) {
     uint64_t number = 0;
     size_t used = 0;
     check(s, r, linker_utils_read_uleb128(bytes, len, &number, &used));
@@ -126,7 +124,8 @@ static void relocate_section(struct section *s, const struct linker_utils_symbol
     uint64_t start = address_of(s->output, s->offset);
     size_t len = address_of(s->output, s->offset + s->len) - start, at = 0;
     size_t size = s->relocations_len * sizeof(Elf64_Rela), count = s->object->symbols_len;
-    uint8_t *relocations = (uint8_t *)s->relocations, *bytes = s->output->bytes + (start - s->output->address);
+    uint8_t *relocations = (uint8_t *)s->relocations;
+    uint8_t *bytes = s->output->bytes + (start - s->output->address);
     struct linker_utils_addresses addresses = addresses_of(start);
     int64_t value;
     if (s->has_numbers)
@@ -140,8 +139,8 @@ static void relocate_section(struct section *s, const struct linker_utils_symbol
         }
     size_t memory_len = linker_utils_relocate_memory(relocations, size);
     memory = grow(memory, memory_len, &room, sizeof *memory);
-    uint32_t status = linker_utils_relocate_section(machine, &addresses, relocations, size, values, count,
-                                                    bytes, len, memory, memory_len, &at);
+    uint32_t status = linker_utils_relocate_section(machine, &addresses, relocations, size, values,
+                                                    count, bytes, len, memory, memory_len, &at);
     const Elf64_Rela *r = &s->relocations[at];
     if (status == LINKER_UTILS_OUT_OF_REACH &&
         !linker_utils_value_at(machine, &addresses, relocations, size, values, count, at, &value)) {

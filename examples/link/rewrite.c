@@ -9,8 +9,8 @@ static struct linker_utils_symbol *values;
 struct linker_utils_kept_groups *kept;
 static const struct symbol *tls_get_addr;
 
-/* Whether the library is not shown a relocation: nothing here has its symbol, or it would be relaxed
- * where nothing is to be, as by a mark, which has no symbol. */
+/* Whether the library is not shown a relocation: nothing here has its symbol, or it would be
+ * relaxed where nothing is to be, as by a mark, which has no symbol. */
 static bool is_hidden(const struct section *s, const Elf64_Rela *r) {
     const struct symbol *to = symbol_at(s, r);
     if (!ELF64_R_SYM(r->r_info)) return !relaxes;
@@ -22,8 +22,8 @@ static bool is_code(const struct section *s) {
     return s->output && s->relocations_len && s->head->sh_flags & SHF_EXECINSTR;
 }
 
-/* Notes what is known of an object's symbols, and returns whether relocations may have to be hidden.
- * An indirect function's address is known once it has a stub. */
+/* Notes what is known of an object's symbols, and returns whether relocations may have to be
+ * hidden. An indirect function's address is known once it has a stub. */
 static bool note_symbols(struct object *o, bool has_addresses) {
     static size_t rooms[3];
     bool hides = !relaxes;
@@ -53,30 +53,31 @@ static void rewrite_in(uint32_t phase, struct section *s, bool is_survey) {
     static size_t rooms[2];
     size_t count = s->object->symbols_len, len = s->relocations_len, used = 0, at = 0;
     size_t values_len = phase == LINKER_UTILS_PHASE_EARLY ? 0 : count;
+    size_t relocations_len = len * sizeof *s->relocations;
     uint64_t start = address_of(s->output, s->offset);
     uint64_t size = address_of(s->output, s->offset + s->len) - start;
     uint8_t *bytes = s->output->bytes + (start - s->output->address);
     uint8_t *relocations = (uint8_t *)s->relocations;
     struct linker_utils_addresses addresses = addresses_of(start);
     if (is_survey) {
-        linker_utils_survey_placed_section(machine, phase, &linked, facts, count, &addresses, values,
-                                           values_len, relocations, len * sizeof *s->relocations, bytes,
+        linker_utils_survey_placed_section(machine, phase, &linked, facts, count, &addresses,
+                                           values, values_len, relocations, relocations_len, bytes,
                                            size, kept, count);
         return;
     }
     decisions = grow(decisions, len, &rooms[0], sizeof *decisions);
     deleted = grow(deleted, len, &rooms[1], sizeof *deleted);
     uint32_t status = linker_utils_rewrite_placed_section(
-        machine, phase, &linked, facts, count, &addresses, values, values_len, kept, count, relocations,
-        len * sizeof *s->relocations, bytes, size, decisions, len, deleted, len, &used, &at);
+        machine, phase, &linked, facts, count, &addresses, values, values_len, kept, count,
+        relocations, relocations_len, bytes, size, decisions, len, deleted, len, &used, &at);
     check(s, &s->relocations[at < len ? at : 0], status);
     if (!used) return;
     s->deleted_len = (uint32_t)used;
     s->deleted = memcpy(take(used, sizeof *deleted), deleted, used * sizeof *deleted);
 }
 
-/* Rewrites the loads from the GOT of a section, all or none, as in ld.lld. Of what is noted of groups
- * only that of the section's relocations counts. */
+/* Rewrites the loads from the GOT of a section, all or none, as in ld.lld. Of what is noted of
+ * groups only that of the section's relocations counts. */
 static void rewrite_got_loads(struct section *s) {
     *kept = (struct linker_utils_kept_groups){.got_load = false};
     EACH_RELOCATION(s, r) kept[ELF64_R_SYM(r->r_info)] = *kept;
@@ -86,12 +87,14 @@ static void rewrite_got_loads(struct section *s) {
     if (!stays) rewrite_in(LINKER_UTILS_PHASE_GOT_LOADS, s, false);
 }
 
-/* Hides relocations of an object's code from the library, or no more. */
+/* Hides relocations of an object's code from the library, and shows them again. */
 static void hide(struct object *o, bool is_shown) {
     EACH_SECTION_OF(o, s)
         if (is_code(s))
-            EACH_RELOCATION(s, r)
-                r->r_info = is_shown ? r->r_info & ~HIDDEN : r->r_info | (is_hidden(s, r) ? HIDDEN : 0);
+            EACH_RELOCATION(s, r) {
+                if (is_shown) r->r_info &= ~HIDDEN;
+                else if (is_hidden(s, r)) r->r_info |= HIDDEN;
+            }
 }
 
 /* Rewrites the instructions of an object in some phases, all of a group or none. */
@@ -102,7 +105,8 @@ void rewrite_object(struct object *o, uint32_t first, uint32_t last) {
     for (uint32_t phase = first; phase <= last; phase++) {
         bool is_of_got = phase == LINKER_UTILS_PHASE_GOT_LOADS;
         bool is_of_threads = phase == LINKER_UTILS_PHASE_THREAD_OFFSETS;
-        if (!linker_utils_has_rewrites(machine, phase) || (is_of_threads && !o->is_threaded)) continue;
+        if (!linker_utils_has_rewrites(machine, phase)) continue;
+        if (is_of_threads && !o->is_threaded) continue;
         memset(kept, 0, o->symbols_len * sizeof *kept);
         kept->got_load = phase == LINKER_UTILS_PHASE_EARLY; /* as in ld.lld */
         for (int is_survey = !is_of_got; is_survey >= 0; is_survey--)
@@ -126,42 +130,41 @@ static int by_offset(const void *left, const void *right) {
 }
 
 /* The word of such a section that a relocation refers to, if it has an address; else null. */
-static const Elf64_Rela *word_of(const struct section *s, const Elf64_Rela *r, struct section **in) {
+static const Elf64_Rela *word_of(const struct section *s, const Elf64_Rela *r,
+                                 struct section **in) {
     const struct symbol *to = symbol_at(s, r);
-    uint32_t type;
+    if (!kind_of(s, r)->entry_type) return NULL;
     if (to->object != s->object || to->elf.st_shndx >= s->object->sections_len) return NULL;
     *in = &s->object->sections[to->elf.st_shndx];
-    if (!(*in)->kept_words || linker_utils_entry_relocation(machine, type_of(r), &type)) return NULL;
+    if (!(*in)->kept_words) return NULL;
     Elf64_Rela key = {.r_offset = to->elf.st_value + (uint64_t)r->r_addend}, *word;
     word = bsearch(&key, (*in)->relocations, (*in)->relocations_len, sizeof key, by_offset);
     return word && type_of(word) == types.word ? word : NULL;
 }
 
-/* Has instructions compute the addresses that they load from such words, or notes that one of a word
- * can't: then none of it does. */
+/* Has instructions compute the addresses that they load from such words, or notes that one of a
+ * word can't: then none of it does. */
 static void rewrite_loads(struct section *s, bool is_survey) {
     EACH_RELOCATION(s, r) {
         struct section *in;
         const Elf64_Rela *word = word_of(s, r, &in);
-        if (!word || in->kept_words[word - in->relocations]) continue;
+        bool *is_kept = word ? &in->kept_words[word - in->relocations] : NULL;
+        if (!word || *is_kept) continue;
         const struct symbol *to = symbol_at(in, word);
         uint64_t at = r->r_offset;
         int64_t addend = word->r_addend;
         uint8_t *bytes = s->output->bytes + s->offset;
-        uint32_t type;
+        uint32_t type = kind_of(s, r)->entry_type;
         struct linker_utils_choice choice;
         struct linker_utils_link_facts known = {
-            .is_local = is_defined(to) && !to->is_imported, .has_fixed_distance = 1, .has_addresses = 1,
-            .operands = {.got_base = known_got().base, .addend = addend,
+            .is_local = is_defined(to) && !to->is_imported, .has_fixed_distance = 1,
+            .has_addresses = 1, .operands = {.got_base = known_got().base, .addend = addend,
                          .symbol = address_of(to->output, to->offset)}};
-        linker_utils_entry_relocation(machine, type_of(r), &type);
         check(s, r, linker_utils_choose(machine, type, bytes, s->len, at, &known, &choice));
-        if (is_survey) {
-            in->kept_words[word - in->relocations] = linker_utils_is_unchanged(machine, type, &choice);
-            continue;
-        }
-        check(s, r, linker_utils_apply(machine, choice.rewrite, choice.opcode_len, bytes, s->len, &at,
-                                       &addend));
+        *is_kept = is_survey && linker_utils_is_unchanged(machine, type, &choice);
+        if (is_survey) continue;
+        check(s, r, linker_utils_apply(machine, choice.rewrite, choice.opcode_len, bytes, s->len,
+                                       &at, &addend));
         r->r_info = ELF64_R_INFO(ELF64_R_SYM(word->r_info), choice.relocation);
         r->r_addend = addend;
     }

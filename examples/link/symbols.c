@@ -22,16 +22,12 @@ static struct cell *cell_in(const struct table *t, uint32_t hash, const char *na
     return &t->cells[at];
 }
 
-bool is_defined(const struct symbol *s) { return s->elf.st_shndx != SHN_UNDEF; }
-
-bool is_thread_local(const struct symbol *s) { return ELF64_ST_TYPE(s->elf.st_info) == STT_TLS; }
-
 bool is_ifunc(const struct symbol *s) {
     return ELF64_ST_TYPE(s->elf.st_info) == STT_GNU_IFUNC && is_defined(s) && !s->is_imported;
 }
 
 bool is_undefined_weak(const struct symbol *s) {
-    return !is_defined(s) && ELF64_ST_BIND(s->elf.st_info) == STB_WEAK && !s->is_imported;
+    return !is_defined(s) && bind_of(s) == STB_WEAK && !s->is_imported;
 }
 
 /* Whether a rewrite may take where a symbol is: in the linked file, or, of a weak thread-local
@@ -88,7 +84,7 @@ bool is_first_group(const char *name) {
 /* Which of two mentions of a symbol counts: the higher, and else the first. A definition in a
  * discarded section counts less than any other, but no member is loaded for it. */
 int rank(const struct symbol *s) {
-    bool is_weak = ELF64_ST_BIND(s->elf.st_info) == STB_WEAK;
+    bool is_weak = bind_of(s) == STB_WEAK;
     uint16_t at = s->elf.st_shndx;
     if (at == SHN_UNDEF) return !is_weak;
     if (at < SHN_LORESERVE && s->object->sections[at].is_discarded) return 2;
@@ -106,16 +102,17 @@ struct symbol *resolve(struct symbol *s, uint32_t hash) {
     if (!old) return memcpy(*at = take(1, sizeof *s), s, sizeof *s);
     int before = old->object ? rank(old) : -1, after = rank(s);
     if (before >= 0 && is_thread_local(old) != is_thread_local(s))
-        fail("%s: '%s' is %sthread-local, and in %s it is%s", s->object->path, s->name,
-             is_thread_local(s) ? "" : "not ", old->object->path, is_thread_local(s) ? " not" : "");
+        fail_of(s->object, "'%s' is %sthread-local, and in %s it is%s", s->name,
+                is_thread_local(s) ? "" : "not ", old->object->path,
+                is_thread_local(s) ? " not" : "");
     if (before == 5 && after == 5)
-        fail("%s: duplicate symbol '%s', also in %s", s->object->path, s->name, old->object->path);
+        fail_of(s->object, "duplicate symbol '%s', also in %s", s->name, old->object->path);
     if (before == 4 && after == 4) { /* the larger size, and the larger alignment */
         uint64_t a = old->elf.st_value, b = s->elf.st_value;
         old->elf.st_value = s->elf.st_value = a > b ? a : b;
         after += s->elf.st_size > old->elf.st_size;
     }
-    unsigned seen = ELF64_ST_VISIBILITY(old->elf.st_other), own = ELF64_ST_VISIBILITY(s->elf.st_other);
+    unsigned seen = visibility_of(old), own = visibility_of(s);
     if (after > before) {
         old->elf = s->elf;
         old->object = s->object;
@@ -126,33 +123,21 @@ struct symbol *resolve(struct symbol *s, uint32_t hash) {
     return old;
 }
 
-/* A symbol of an archive's index. The first archive that has it counts. */
-void offer(const char *name, struct archive *a, uint64_t member) {
+/* The global symbol of a name, whether an object mentions it or not. */
+struct symbol *named(const char *name) {
     struct symbol **at = global(name);
     if (!*at) *at = take(1, sizeof **at);
-    if ((*at)->archive || (*at)->library) return;
     if (!(*at)->name) (*at)->name = name;
-    (*at)->archive = a;
-    (*at)->member = member;
-    want(*at);
+    return *at;
 }
 
-/* A symbol of a shared library, or where that is null one that a library refers to. The first library
- * that defines it counts, and then no archive. */
-struct symbol *offer_import(const char *name, struct library *l, const Elf64_Sym *elf,
-                            uint16_t version) {
-    struct symbol **at = global(name), *s = *at;
-    if (!s) s = *at = take(1, sizeof *s);
-    if (!s->name) s->name = name;
-    s->is_exported = true;
-    if (!l || s->library) return s;
-    s->library = l;
-    s->there = *elf;
-    if (ELF64_ST_TYPE(elf->st_info) == STT_GNU_IFUNC) /* it is called there as any function */
-        s->there.st_info = ELF64_ST_INFO(ELF64_ST_BIND(elf->st_info), STT_FUNC);
-    s->version = version;
-    s->archive = NULL;
-    return s;
+/* A symbol of an archive's index. The first archive that has it counts. */
+void offer(const char *name, struct archive *a, uint64_t member) {
+    struct symbol *s = named(name);
+    if (s->archive || s->library) return;
+    s->archive = a;
+    s->member = member;
+    want(s);
 }
 
 /* Puts a symbol behind the others, once. */
@@ -207,8 +192,8 @@ static void define_runs(void) {
     uint8_t prefix[LINKER_UTILS_NAME_SIZE];
     char name[LINKER_UTILS_NAME_SIZE + 16];
     struct linker_utils_provided_run run;
-    size_t len = 0;
-    for (size_t i = 0; !linker_utils_provided_run(machine, i, prefix, sizeof prefix, &len, &run); i++) {
+    size_t len = 0, most = sizeof prefix;
+    for (size_t i = 0; !linker_utils_provided_run(machine, i, prefix, most, &len, &run); i++) {
         bool is_made = false;
         for (uint32_t at = 0, word; at < run.len; at++) {
             snprintf(name, sizeof name, "%.*s%" PRIu32, (int)len, (char *)prefix, run.first + at);
@@ -233,10 +218,11 @@ static void define_base(const char *name, bool is_at_pointer) {
 /* The symbols that linkers provide for the machine. */
 static void define_provided(void) {
     struct linker_utils_provided_symbol symbol;
-    char name[LINKER_UTILS_NAME_SIZE + 1];
-    for (size_t i = 0, len; !linker_utils_provided_symbol(machine, i, (uint8_t *)name,
-                                                          LINKER_UTILS_NAME_SIZE, &len, &symbol); i++) {
-        name[len] = 0;
+    uint8_t text[LINKER_UTILS_NAME_SIZE + 1];
+    const char *name = (const char *)text;
+    size_t most = sizeof text - 1, len = 0;
+    for (size_t i = 0; !linker_utils_provided_symbol(machine, i, text, most, &len, &symbol); i++) {
+        text[len] = 0;
         bool is_in_data = symbol.place == LINKER_UTILS_PLACE_SMALL_DATA;
         if (symbol.place == LINKER_UTILS_PLACE_THREAD_LOCAL) define_base(name, true);
         else define(name, is_in_data ? output_of(".sdata") : got, symbol.offset);
@@ -254,15 +240,15 @@ void define_symbols(void) {
     define("_GLOBAL_OFFSET_TABLE_", got, 0);
     define_provided();
     define_base("_TLS_MODULE_BASE_", false); /* also for other machines, as in ld.lld */
-    define("_etext", last(RANK_CODE), END);
-    define("etext", last(RANK_CODE), END);
-    define("_edata", last(RANK_BSS - 1), END);
-    define("edata", last(RANK_BSS - 1), END);
-    define("_end", last(RANK_BSS), END);
-    define("end", last(RANK_BSS), END);
-    if (headers->len) define("__ehdr_start", headers, 0);
-    if (headers->len) define("__executable_start", headers, 0);
-    if (headers->len) define("__dso_handle", headers, 0); /* of each module another one */
+    static const struct {
+        const char *name;
+        unsigned rank; /* of what it is at the end, or at the begin of the headers */
+    } ends[] = {{"_etext", RANK_CODE}, {"etext", RANK_CODE}, {"_edata", RANK_BSS - 1},
+                {"edata", RANK_BSS - 1}, {"_end", RANK_BSS}, {"end", RANK_BSS}, {"__ehdr_start", 0},
+                {"__executable_start", 0}, {"__dso_handle", 0}}; /* of each module another one */
+    for (size_t i = 0; i < sizeof ends / sizeof *ends; i++)
+        if (ends[i].rank || headers->len)
+            define(ends[i].name, last(ends[i].rank), ends[i].rank ? END : 0);
 }
 
 /* Makes room for a common symbol. */
