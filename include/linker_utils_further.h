@@ -239,10 +239,11 @@ static inline uint32_t linker_utils_provided_symbol(uint16_t machine, size_t ind
  * code. */
 struct linker_utils_provided_run {
     uint64_t len; /* how many instructions of 4 bytes the run has */
-    /* The number in the first function's name. That with a number n begins 4 * (n - `first`) bytes
-     * behind the run's start. */
+    /* The number in the first function's name. That with a number n begins
+     * 4 * `spacing` * (n - `first`) bytes behind the run's start. */
     uint32_t first;
-    uint32_t count; /* how many functions there are */
+    uint32_t count;   /* how many functions there are */
+    uint32_t spacing; /* how many instructions, from 1 on, a function begins before the next */
 };
 
 /* The run with an index, from 0 on. It writes the functions' names without the number, which stands

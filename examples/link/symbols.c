@@ -196,8 +196,10 @@ static void define_runs(void) {
     for (size_t i = 0; !linker_utils_provided_run(machine, i, prefix, most, &len, &run); i++) {
         bool is_made = false;
         for (uint32_t at = 0, word; at < run.len; at++) {
-            snprintf(name, sizeof name, "%.*s%" PRIu32, (int)len, (char *)prefix, run.first + at);
-            is_made |= at < run.count && define(name, stubs, stubs->len);
+            uint32_t function = at / run.spacing;
+            snprintf(name, sizeof name, "%.*s%" PRIu32, (int)len, (char *)prefix, run.first + function);
+            bool begins = at % run.spacing == 0 && function < run.count;
+            is_made |= begins && define(name, stubs, stubs->len);
             if (is_made && !linker_utils_provided_word(machine, i, at, &word))
                 append(stubs, sizeof word, &word, sizeof word);
         }

@@ -61,6 +61,7 @@ pub(crate) static TARGET: Target = Target {
             count: 2,
             word: 0xf900_03f3,
             step: 0x401,
+            second: None,
             tail: &[0xd65f_03c0], // ret
         },
     ],

@@ -101,7 +101,7 @@ pub mod output {
         GotHeader, GotLayout, Origins, ThreadPointer, entry_words, static_words,
     };
     pub use crate::linker_output::layout::{
-        CodeUnit, Interpreter, ProvidedRun, ProvidedSymbol, SymbolPlace,
+        CodeUnit, Interpreter, ProvidedRun, ProvidedSymbol, RunWord, SymbolPlace,
     };
     pub use crate::linker_output::lazy_plt::{
         LazyEntry, LazyField, LazyPiece, LazyPlt, LazyTarget, LazyWord,

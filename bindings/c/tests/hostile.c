@@ -1198,18 +1198,18 @@ static void call_provided_run(void) {
     struct buffer *prefix = bytes(WRITTEN, any_len(LINKER_UTILS_NAME_SIZE));
     size_t *prefix_used = output(sizeof(size_t));
     struct linker_utils_provided_run *run = output(sizeof *run);
-    size_t index = once_in(4) ? (size_t)any_number() : below(7);
+    size_t index = once_in(4) ? (size_t)any_number() : below(9);
     uint32_t status = CALL(provided_run, any_machine(), index, prefix->given, prefix->len, prefix_used,
                            run);
     if (status == LINKER_UTILS_OK) changes(prefix, 0, *prefix_used);
-    expect(status || run->len >= run->count, "no run");
+    expect(status || run->len / run->spacing >= run->count, "no run");
     expect(status != LINKER_UTILS_TOO_SHORT || prefix->len < LINKER_UTILS_NAME_SIZE, "a long name");
     finish_with(status, 0 UNKNOWN OR(NOT_PROVIDED) OR(TOO_SHORT));
 }
 
 static void call_provided_word(void) {
     uint32_t *word = output(sizeof *word);
-    size_t run = once_in(4) ? (size_t)any_number() : below(7);
+    size_t run = once_in(4) ? (size_t)any_number() : below(9);
     uint64_t index = once_in(4) ? any_number() : below(24);
     uint32_t status = CALL(provided_word, any_machine(), run, index, word);
     finish_with(status, 0 UNKNOWN OR(NOT_PROVIDED));

@@ -514,7 +514,7 @@ pub struct ProvidedSymbol {
 }
 
 /// Functions that compilers call and linkers provide, in one run of code. That with a number n begins
-/// 4 * (n - `first`) bytes behind the run's start.
+/// 4 * `spacing` * (n - `first`) bytes behind the run's start.
 #[derive(Debug, Clone, PartialEq, Eq)]
 pub struct ProvidedRun {
     /// The functions' names without the number, which stands behind it in decimal.
@@ -523,6 +523,8 @@ pub struct ProvidedRun {
     pub first: u32,
     /// How many functions there are.
     pub count: u32,
+    /// How many instructions, from 1 on, a function begins before the next.
+    pub spacing: u32,
     /// The run's instructions.
     pub words: Vec<u32>,
 }
@@ -1468,6 +1470,7 @@ pub fn provided_runs(architecture: Architecture) -> Vec<ProvidedRun> {
             prefix,
             first: run.first,
             count: run.count,
+            spacing: run.spacing,
             words: (0..run.len).map(word).collect(),
         })
     };

@@ -133,6 +133,7 @@ pub struct ProvidedRun {
     pub len: u64,
     pub first: u32,
     pub count: u32,
+    pub spacing: u32,
 }
 
 /// `struct linker_utils_choice`.

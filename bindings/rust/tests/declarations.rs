@@ -847,7 +847,7 @@ fn the_structs_are_those_of_the_library() {
         "linker_utils_entry_words": raw::EntryWords { first, second, }
         "linker_utils_got": raw::Got { base, header, has_header, }
         "linker_utils_provided_symbol": raw::ProvidedSymbol { offset, place, }
-        "linker_utils_provided_run": raw::ProvidedRun { len, first, count, }
+        "linker_utils_provided_run": raw::ProvidedRun { len, first, count, spacing, }
         "linker_utils_stub": Stub { len, entry, }
         "linker_utils_lazy_plt": LazyPlt { header_len, entry_len, alignment, header_words, }
         "linker_utils_lazy_entry": LazyEntry { address, word, header, index, }

@@ -97,6 +97,10 @@ fn linkers_provide_symbols_and_functions() {
     let save = runs.iter().find(|run| run.prefix == "_savegpr0_").expect("it is there");
     assert_eq!((save.first, save.count, save.words.len()), (14, 18, 20));
     assert_eq!(save.words[17..], [0xfbe1_fff8, 0xf801_0010, 0x4e80_0020]);
+    // `_restvr_31`: addi 12,0,-16; lvx 31,12,0; blr
+    let restore = runs.iter().find(|run| run.prefix == "_restvr_").expect("it is there");
+    assert_eq!((restore.first, restore.count, restore.spacing), (20, 12, 2));
+    assert_eq!(restore.words[22..], [0x3980_fff0, 0x7fec_00ce, 0x4e80_0020]);
     assert_eq!(provided_runs(X86_64), []);
 }
 

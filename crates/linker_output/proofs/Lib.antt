@@ -15,6 +15,7 @@ pub mod Passed
 pub mod Ppc64LazyLaws
 pub mod Ppc64SaveLaws
 pub mod Ppc64StubLaws
+pub mod Ppc64VectorLaws
 pub mod Products
 pub mod RiscVLazyLaws
 pub mod RiscVStubLaws

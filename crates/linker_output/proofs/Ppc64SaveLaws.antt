@@ -1,6 +1,6 @@
 -- PowerPC64's functions that save and restore registers.
 use Rattle.std.proofs.Common.{◌≡◌, ◌≢◌, ℕ, zero, suc, ◌+◌, ◌-◌, ◌*◌, ◌/◌, ◌%◌, ◌^◌, ◌<◌, ◌≤◌, Bool, true, false, refl, sym, ◌∙◌, ap, subst, arith}
-use Rattle.std.proofs.Common.{List, [], ◌∷◌, length, eqb, Some, Option, pos, negsuc, ◌+ℤ◌, ◌⊎◌, inl, inr}
+use Rattle.std.proofs.Common.{List, [], ◌∷◌, length, eqb, Some, None, Option, pos, negsuc, ◌+ℤ◌, inl, inr}
 use Rattle.std.specs.Prelude.{◌&&◌, ⊤, codes, IsSomeAnd, nat_lt, nat_le, if◌then◌else◌}
 use Rattle.std.proofs.lemmas.Bool.{eqb-true, eq-eqb, ne_eqb, cond-true, cond-false, false≢true, lt-ltb, le-ltb, le-leb, lt-leb, cases_lt}
 use Rattle.std.proofs.lemmas.Int.{ints}
@@ -11,7 +11,7 @@ use Rattle.linker_laws.specs.Machine.{Memory, moved, loaded, stored}
 use Rattle.linker_laws.specs.Ppc64Machine.{State, Formats, write, write_float, store, go_on, with_number}
 use Rattle.linker_laws.proofs.RiscVMachine.{wrapped_is}
 use Rattle.linker_output.proofs.LazyRuns.{run_more}
-use Rattle.linker_output.specs.Layout.{Run, run_word}
+use Rattle.linker_output.specs.Layout.{Run, spacing_with, own_word, run_word}
 use Rattle.linker_output.specs.Ppc64Output.{of_registers, save_link, load_link, mtlr_0, blr}
 use Rattle.linker_output.specs.Ppc64Saves.{step, run, returned, words_from, word_or_0, code_for, slot, is_from, saved, restored}
 use Rattle.linker_output.specs.Ppc64Saves.{Saves, Returns, Returned, Restores, RestoresIntegers, RestoresFloats, integers, floats, nothing_more, return_address}
@@ -20,11 +20,11 @@ use Rattle.linker_output.specs.Ppc64Stubs.{Counted, with_state, moved_to_link}
 
 -- ---- what holds of each number below another
 
-abbrev Below : (ℕ → Type 0) → ℕ → Type 0
+abbrev pub Below : (ℕ → Type 0) → ℕ → Type 0
 Below P zero = ⊤
 Below P (suc n) = Below P n × P n
 
-below_at : (P : ℕ → Type 0) (n : ℕ) → Below P n → (i : ℕ) → i < n → P i
+pub below_at : (P : ℕ → Type 0) (n : ℕ) → Below P n → (i : ℕ) → i < n → P i
 below_at P zero all i less = absurd (omega (arith, less))
 below_at P (suc n) all i less =
     elim (cases_lt i n) [
@@ -43,7 +43,7 @@ abbrev pub after : (ℕ → Counted → Counted) → ℕ → Counted → Counted
 after one zero c = c
 after one (suc k) c = after one k (one (17 - k) c)
 
-module _ (f : Formats) (r : Run) (count : r.count ≡ 18) (y : ℕ) (ys : List ℕ) (last : words_from r 18 (length r.tail) ≡ y ∷ ys)
+module _ (f : Formats) (r : Run) (count : r.count ≡ 18) (alone : r.second ≡ None) (y : ℕ) (ys : List ℕ) (last : words_from r 18 (length r.tail) ≡ y ∷ ys)
     (one : ℕ → Counted → Counted) (steps : (i : ℕ) → i < 18 → (c : Counted) → step f (word_at r i) c ≡ Some (one i c))
     (on : (i : ℕ) (c : Counted) → (one i c).state.pc ≡ sum_64 c.state.pc 4) where
   abbrev code : ℕ → List ℕ
@@ -60,8 +60,10 @@ module _ (f : Formats) (r : Run) (count : r.count ≡ 18) (y : ℕ) (ys : List �
 
   found : (i : ℕ) → i < 18 → run_word r i ≡ Some (word_at r i)
   found i less =
-      cond-true (nat_lt i r.count) (Some (word_at r i)) _
-      (ap (nat_lt i) count ∙ (let e : nat_lt i 18 ≡ true = grind (arith, less) in e))
+      cond-true (nat_lt i (r.count * spacing_with r.second)) (Some (own_word r r.second i)) _
+      (ap (λ s. nat_lt i (r.count * spacing_with s)) alone ∙ ap (λ n. nat_lt i (n * 1)) count
+      ∙ lt-ltb i 18 less)
+      ∙ ap (λ s. Some (own_word r s i)) alone
 
   words_are : (k : ℕ) → k ≤ 18 → words_from r (18 - k) (k + length r.tail) ≡ code k
   words_are zero less = ap (words_from r 18) (let e : 0 + length r.tail ≡ length r.tail = omega arith in e) ∙ last
@@ -90,103 +92,92 @@ slot_is base n less =
     wrapped_is (pos base +ℤ negsuc (8 * (32 - n) - 1)) 1 (base + (2 ^ 64 - suc (8 * (32 - n) - 1))) (omega (arith, ints))
     ∙ ap (λ m. (base + (2 ^ 64 - m)) % 2 ^ 64) few
 
-byte_of : (n : ℕ) → (ℕ → ℕ) → ℕ → ℕ
-byte_of n values d = field (values (n + d / 8)) (8 * (d % 8)) (8 * (d % 8) + 8)
+-- a block of w bytes at p, and one of s bytes behind it at q
+module _ (a p q w s : ℕ) (place : p < 2 ^ 64) (follows : 0 < s → q ≡ (p + w) % 2 ^ 64) (small : w + s ≤ 2 ^ 64)
+    (memory : Memory) (first others both : ℕ → ℕ) (of_first : (d : ℕ) → d < w → both d ≡ first d)
+    (of_others : (d : ℕ) → w ≤ d → d < w + s → both d ≡ others (d - w)) where
+  d : ℕ
+  d = difference_64 a p
 
-not_below : (d m : ℕ) → m ≤ d → nat_lt d m ≡ false
-not_below d m most = le-ltb d m most
+  e : ℕ
+  e = difference_64 a q
+
+  bound : d < 2 ^ 64
+  unfolding d
+  bound = omega arith
+
+  moved_on : 0 < s → e ≡ (d + (2 ^ 64 - w)) % 2 ^ 64
+  unfolding d e
+  moved_on some = let is = follows some in omega (arith, is, small, place)
+
+  at_d : if nat_lt e s then others e else (if nat_lt d w then first d else memory a)
+      ≡ (if nat_lt d (w + s) then both d else memory a)
+  at_d =
+      elim (cases_lt d w) [
+        | inl low ↦
+            let out : s ≤ e = elim (cases_lt 0 s) [
+              | inl some ↦ (let on = moved_on some in omega (arith, on, low, small))
+              | inr none ↦ omega (arith, none)
+            ] in
+            cond-false (nat_lt e s) (others e) _ (le-ltb e s out)
+            ∙ cond-true (nat_lt d w) (first d) (memory a) (lt-ltb d w low)
+            ∙ sym (of_first d low)
+            ∙ sym (cond-true (nat_lt d (w + s)) (both d) (memory a) (lt-ltb d (w + s) (omega (arith, low))))
+        | inr high ↦
+            elim (cases_lt d (w + s)) [
+              | inl within ↦
+                  let on = moved_on (omega (arith, high, within)) in
+                  let limit = bound in
+                  let is : e ≡ d - w = omega (arith, on, high, limit, small) in
+                  cond-true (nat_lt e s) (others e) _ (lt-ltb e s (omega (arith, is, within, high)))
+                  ∙ ap others is ∙ sym (of_others d high within)
+                  ∙ sym (cond-true (nat_lt d (w + s)) (both d) (memory a) (lt-ltb d (w + s) within))
+              | inr beyond ↦
+                  let limit = bound in
+                  let out : s ≤ e = elim (cases_lt 0 s) [
+                    | inl some ↦ (let on = moved_on some in omega (arith, on, beyond, limit, small))
+                    | inr none ↦ omega (arith, none)
+                  ] in
+                  cond-false (nat_lt e s) (others e) _ (le-ltb e s out)
+                  ∙ cond-false (nat_lt d w) (first d) (memory a) (le-ltb d w high)
+                  ∙ sym (cond-false (nat_lt d (w + s)) (both d) (memory a) (le-ltb d (w + s) beyond))
+            ]
+      ]
+
+  pub joined : if nat_lt (difference_64 a q) s then others (difference_64 a q)
+      else (if nat_lt (difference_64 a p) w then first (difference_64 a p) else memory a)
+      ≡ (if nat_lt (difference_64 a p) (w + s) then both (difference_64 a p) else memory a)
+  unfolding d e
+  joined = at_d
+
+abbrev byte_of : ℕ → (ℕ → ℕ) → ℕ → ℕ
+byte_of n values d = field (values (n + d / 8)) (8 * (d % 8)) (8 * (d % 8) + 8)
 
 -- a register more below those from the next one on
 module _ (n : ℕ) (most : 14 ≤ n) (less : n < 32) (values : ℕ → ℕ) (base : ℕ) (memory : Memory) (a : ℕ) where
-  d : ℕ
-  d = difference_64 a (slot base n)
-
-  d2 : ℕ
-  d2 = difference_64 a (slot base (suc n))
-
-  abbrev pub more : ℕ → ℕ
-  more = stored 8 (values n) (slot base n) memory
-
-  next : n < 31 → d2 ≡ (d + (2 ^ 64 - 8)) % 2 ^ 64
-  unfolding d d2
-  next under =
+  follows : 0 < 8 * (32 - suc n) → slot base (suc n) ≡ (slot base n + 8) % 2 ^ 64
+  follows some =
+      let under : n < 31 = omega (arith, some) in
       let p = slot_is base n less in
       let q = slot_is base (suc n) (omega (arith, under)) in
       omega (arith, p, q, under)
 
-  in_first : d < 8 → more a ≡ byte_of n values d
-  unfolding d byte_of
-  in_first low =
-      let q : d / 8 ≡ 0 = omega (arith, low) in
-      let r : d % 8 ≡ d = omega (arith, low) in
-      cond-true (nat_lt d 8) (field (values n) (8 * d) (8 * d + 8)) (memory a) (lt-ltb d 8 low)
-      ∙ ap (λ k. field (values n) (8 * k) (8 * k + 8)) (sym r)
-      ∙ ap (λ k. field (values k) (8 * (d % 8)) (8 * (d % 8) + 8)) (let e : n ≡ n + d / 8 = omega (arith, q) in e)
+  of_first : (d : ℕ) → d < 8 → byte_of n values d ≡ field (values n) (8 * d) (8 * d + 8)
+  of_first d low =
+      ap (λ k. field (values k) (8 * (d % 8)) (8 * (d % 8) + 8)) (let e : n + d / 8 ≡ n = omega (arith, low) in e)
+      ∙ ap (λ k. field (values n) (8 * k) (8 * k + 8)) (let e : d % 8 ≡ d = omega (arith, low) in e)
 
-  not_first : 8 ≤ d → more a ≡ memory a
-  unfolding d
-  not_first high = cond-false (nat_lt d 8) (field (values n) (8 * d) (8 * d + 8)) (memory a) (not_below d 8 high)
+  of_others : (d : ℕ) → 8 ≤ d → d < 8 + 8 * (32 - suc n) → byte_of n values d ≡ byte_of (suc n) values (d - 8)
+  of_others d high within =
+      ap (λ k. field (values k) (8 * (d % 8)) (8 * (d % 8) + 8)) (let e : n + d / 8 ≡ suc n + (d - 8) / 8 = omega (arith, high) in e)
+      ∙ ap (λ k. field (values (suc n + (d - 8) / 8)) (8 * k) (8 * k + 8)) (let e : d % 8 ≡ (d - 8) % 8 = omega (arith, high) in e)
 
-  in_others : d2 < 8 * (32 - suc n) → saved (suc n) values base more a ≡ byte_of (suc n) values d2
-  unfolding d2 byte_of
-  in_others low = cond-true (nat_lt d2 (8 * (32 - suc n))) (byte_of (suc n) values d2) (more a) (lt-ltb d2 (8 * (32 - suc n)) low)
-
-  not_others : 8 * (32 - suc n) ≤ d2 → saved (suc n) values base more a ≡ more a
-  unfolding d2 byte_of
-  not_others high = cond-false (nat_lt d2 (8 * (32 - suc n))) (byte_of (suc n) values d2) (more a) (not_below d2 (8 * (32 - suc n)) high)
-
-  in_all : d < 8 * (32 - n) → saved n values base memory a ≡ byte_of n values d
-  unfolding d byte_of
-  in_all low = cond-true (nat_lt d (8 * (32 - n))) (byte_of n values d) (memory a) (lt-ltb d (8 * (32 - n)) low)
-
-  not_all : 8 * (32 - n) ≤ d → saved n values base memory a ≡ memory a
-  unfolding d byte_of
-  not_all high = cond-false (nat_lt d (8 * (32 - n))) (byte_of n values d) (memory a) (not_below d (8 * (32 - n)) high)
-
-  small : d < 2 ^ 64
-  unfolding d
-  small = omega arith
-
-  same_byte : 8 ≤ d → d2 ≡ d - 8 → byte_of (suc n) values d2 ≡ byte_of n values d
-  unfolding byte_of
-  same_byte high is =
-      let which : suc n + d2 / 8 ≡ n + d / 8 = omega (arith, high, is) in
-      let bits : d2 % 8 ≡ d % 8 = omega (arith, high, is) in
-      ap (λ k. field (values k) (8 * (d2 % 8)) (8 * (d2 % 8) + 8)) which
-      ∙ ap (λ k. field (values (n + d / 8)) (8 * k) (8 * k + 8)) bits
-
-  -- of the last register there are no others
-  where_else : 8 ≤ d → 8 * (32 - suc n) ≤ d2 → (d < 8 * (32 - n) → n < 31 → ⊥)
-      → (n < 31 → d2 ≡ d - 8) → saved (suc n) values base more a ≡ saved n values base memory a
-  where_else high out never is = not_others out ∙ not_first high ∙ sym (not_all (none (cases_lt d (8 * (32 - n)))))
-    where
-      none : (d < 8 * (32 - n)) ⊎ (8 * (32 - n) ≤ d) → 8 * (32 - n) ≤ d
-      none (inr far) = far
-      none (inl near) = elim (cases_lt n 31) [
-        | inl under ↦ absurd (never near under)
-        | inr last ↦ omega (arith, near, high, last)
-      ]
-
-  pub one_saved : saved (suc n) values base more a ≡ saved n values base memory a
+  pub one_saved : saved (suc n) values base (stored 8 (values n) (slot base n) memory) a ≡ saved n values base memory a
   one_saved =
-      elim (cases_lt d 8) [
-        | inl low ↦
-            let out : 8 * (32 - suc n) ≤ d2 = elim (cases_lt n 31) [
-              | inl under ↦ (let e = next under in let s = small in omega (arith, e, low, s, most))
-              | inr last ↦ omega (arith, last)
-            ] in
-            not_others out ∙ in_first low ∙ sym (in_all (omega (arith, low, less)))
-        | inr high ↦
-            let moved_on : n < 31 → d2 ≡ d - 8 = λ under. (let e = next under in let s = small in omega (arith, e, high, s)) in
-            elim (cases_lt d2 (8 * (32 - suc n))) [
-              | inl others ↦
-                  let under : n < 31 = omega (arith, others) in
-                  let is = moved_on under in
-                  in_others others ∙ same_byte high is ∙ sym (in_all (omega (arith, others, is, high, under)))
-              | inr out ↦
-                  where_else high out (λ near under. (let is = moved_on under in omega (arith, near, out, is, high))) moved_on
-            ]
-      ]
+      joined a (slot base n) (slot base (suc n)) 8 (8 * (32 - suc n)) (let p = slot_is base n less in omega (arith, p)) follows (omega arith) memory
+      (λ d. field (values n) (8 * d) (8 * d + 8)) (byte_of (suc n) values) (byte_of n values) of_first of_others
+      ∙ ap (λ k. if nat_lt (difference_64 a (slot base n)) k then byte_of n values (difference_64 a (slot base n)) else memory a)
+      (let e : 8 + 8 * (32 - suc n) ≡ 8 * (32 - n) = omega (arith, less) in e)
 
 -- ---- what one register leaves
 
@@ -236,7 +227,7 @@ module _ (b : ℕ) (values : State → ℕ → ℕ) (keeps : (i : ℕ) (c : Coun
       → (all k c).state.memory a ≡ saved (32 - k) (values c.state) (c.state.registers b) c.state.memory a
   saved_after zero less c a =
       sym (cond-false (nat_lt (difference_64 a (slot (c.state.registers b) 32)) 0) _ (c.state.memory a)
-      (not_below (difference_64 a (slot (c.state.registers b) 32)) 0 (omega arith)))
+      (le-ltb (difference_64 a (slot (c.state.registers b) 32)) 0 (omega arith)))
   saved_after (suc k) less c a =
       let n = 31 - k in
       let within : k < 18 = omega (arith, less) in
@@ -346,21 +337,21 @@ savegpr0 : (n : ℕ) → 14 ≤ n → n < 32 → (f : Formats) (c : Counted)
     → IsSomeAnd (run f (code_for (of_registers (codes "_savegpr0_") 0xf9c1ff70 (save_link ∷ blr ∷ [])) n) c) (Saves 1 integers return_address n c)
 savegpr0 n most less f c =
     subst (λ end. IsSomeAnd end (Saves 1 integers return_address n c))
-    (sym (runs f (of_registers (codes "_savegpr0_") 0xf9c1ff70 (save_link ∷ blr ∷ [])) refl save_link (blr ∷ []) refl (stores 1 integers) (std_1 f) (λ i c. refl) n most less c _ (saves_address f (after (stores 1 integers) (32 - n) c))))
+    (sym (runs f (of_registers (codes "_savegpr0_") 0xf9c1ff70 (save_link ∷ blr ∷ [])) refl refl save_link (blr ∷ []) refl (stores 1 integers) (std_1 f) (λ i c. refl) n most less c _ (saves_address f (after (stores 1 integers) (32 - n) c))))
     (with_address 1 integers (λ i c. refl) n most less c)
 
 savegpr1 : (n : ℕ) → 14 ≤ n → n < 32 → (f : Formats) (c : Counted)
     → IsSomeAnd (run f (code_for (of_registers (codes "_savegpr1_") 0xf9ccff70 (blr ∷ [])) n) c) (Saves 12 integers nothing_more n c)
 savegpr1 n most less f c =
     subst (λ end. IsSomeAnd end (Saves 12 integers nothing_more n c))
-    (sym (runs f (of_registers (codes "_savegpr1_") 0xf9ccff70 (blr ∷ [])) refl blr [] refl (stores 12 integers) (std_12 f) (λ i c. refl) n most less c _ refl))
+    (sym (runs f (of_registers (codes "_savegpr1_") 0xf9ccff70 (blr ∷ [])) refl refl blr [] refl (stores 12 integers) (std_12 f) (λ i c. refl) n most less c _ refl))
     (with_no_address 12 integers (λ i c. refl) n most less c)
 
 savefpr : (n : ℕ) → 14 ≤ n → n < 32 → (f : Formats) (c : Counted)
     → IsSomeAnd (run f (code_for (of_registers (codes "_savefpr_") 0xd9c1ff70 (save_link ∷ blr ∷ [])) n) c) (Saves 1 floats return_address n c)
 savefpr n most less f c =
     subst (λ end. IsSomeAnd end (Saves 1 floats return_address n c))
-    (sym (runs f (of_registers (codes "_savefpr_") 0xd9c1ff70 (save_link ∷ blr ∷ [])) refl save_link (blr ∷ []) refl (stores 1 floats) (stfd_1 f) (λ i c. refl) n most less c _ (saves_address f (after (stores 1 floats) (32 - n) c))))
+    (sym (runs f (of_registers (codes "_savefpr_") 0xd9c1ff70 (save_link ∷ blr ∷ [])) refl refl save_link (blr ∷ []) refl (stores 1 floats) (stfd_1 f) (λ i c. refl) n most less c _ (saves_address f (after (stores 1 floats) (32 - n) c))))
     (with_address 1 floats (λ i c. refl) n most less c)
 
 pub saves_so : laws.SaveRegisters
@@ -373,7 +364,7 @@ never_both true = refl
 never_both false = refl
 
 -- there is none from 32 on
-none_from : (m : ℕ) → is_from 32 m ≡ false
+pub none_from : (m : ℕ) → is_from 32 m ≡ false
 none_from m =
     elim (cases_lt m 32) [
       | inl under ↦ ap (λ b. b && nat_lt m 32) (lt-leb 32 m under)
@@ -388,29 +379,27 @@ same_from n m differs =
       | inr over ↦ le-leb (suc n) m (omega (arith, over, differs)) ∙ sym (le-leb n m over)
     ]
 
-one_restored : (n : ℕ) → n < 32 → (base : ℕ) (memory : Memory) (registers : ℕ → ℕ) (m : ℕ)
-    → restored (suc n) base memory (with_number n (loaded 8 memory (slot base n)) registers) m ≡ restored n base memory registers m
-one_restored n less base memory registers m =
+-- a register more than those from the next one on, of what the places have
+pub one_restored : (n : ℕ) → n < 32 → (at registers : ℕ → ℕ) (m : ℕ)
+    → (if is_from (suc n) m then at m else with_number n (at n) registers m) ≡ (if is_from n m then at m else registers m)
+one_restored n less at registers m =
     by_test (eqb m n) refl
   where
-    number : ℕ
-    number = loaded 8 memory (slot base n)
-
     by_test : (b : Bool) → eqb m n ≡ b
-        → restored (suc n) base memory (with_number n (loaded 8 memory (slot base n)) registers) m ≡ restored n base memory registers m
+        → (if is_from (suc n) m then at m else with_number n (at n) registers m) ≡ (if is_from n m then at m else registers m)
     by_test true e =
         let is : m ≡ n = eqb-true m n e in
         let out : is_from (suc n) m ≡ false = ap (λ b. b && nat_lt m 32) (lt-leb (suc n) m (omega (arith, is))) in
         let in_place : is_from n m ≡ true =
         ap (λ b. b && nat_lt m 32) (le-leb n m (omega (arith, is))) ∙ lt-ltb m 32 (omega (arith, is, less)) in
-        cond-false (is_from (suc n) m) (loaded 8 memory (slot base m)) (with_number n (loaded 8 memory (slot base n)) registers m) out
-        ∙ cond-true (eqb m n) (loaded 8 memory (slot base n)) (registers m) e
-        ∙ ap (λ k. loaded 8 memory (slot base k)) (sym is)
-        ∙ sym (cond-true (is_from n m) (loaded 8 memory (slot base m)) (registers m) in_place)
+        cond-false (is_from (suc n) m) (at m) (with_number n (at n) registers m) out
+        ∙ cond-true (eqb m n) (at n) (registers m) e
+        ∙ ap at (sym is)
+        ∙ sym (cond-true (is_from n m) (at m) (registers m) in_place)
     by_test false e =
         let differs : m ≢ n = λ same. false≢true (sym e ∙ eq-eqb m n same) in
-        ap (λ v. if is_from (suc n) m then loaded 8 memory (slot base m) else v) (cond-false (eqb m n) (loaded 8 memory (slot base n)) (registers m) e)
-        ∙ ap (λ b. if b && nat_lt m 32 then loaded 8 memory (slot base m) else registers m) (same_from n m differs)
+        ap (λ v. if is_from (suc n) m then at m else v) (cond-false (eqb m n) (at n) (registers m) e)
+        ∙ ap (λ b. if b && nat_lt m 32 then at m else registers m) (same_from n m differs)
 
 -- by the registers, or by the floats
 module _ (b : ℕ) (low : b < 14) where
@@ -453,7 +442,7 @@ module _ (b : ℕ) (low : b < 14) where
       ∙ ap (λ j. restored j base h at m) e2
       ∙ ap (λ j. restored (suc n) base h (with_number j (loaded 8 h (moved base (negsuc (143 - 8 * (17 - k))))) g) m) (of_index k within)
       ∙ ap (λ j. restored (suc n) base h (with_number n (loaded 8 h (moved base (negsuc j))) g) m) (of_place k within)
-      ∙ one_restored n (omega arith) base h g m
+      ∙ one_restored n (omega arith) (λ m. loaded 8 h (slot base m)) g m
       ∙ ap (λ j. restored j base h g m) (sym e1)
 
   pub restored_all : (n : ℕ) → 14 ≤ n → n < 32 → (c : Counted) (m : ℕ)
@@ -490,7 +479,7 @@ floats_after (suc k) less c m =
     ∙ ap (λ j. restored j base h at m) e2
     ∙ ap (λ j. restored (suc n) base h (with_number j (loaded 8 h (moved base (negsuc (143 - 8 * (17 - k))))) g) m) (of_index k within)
     ∙ ap (λ j. restored (suc n) base h (with_number n (loaded 8 h (moved base (negsuc j))) g) m) (of_place k within)
-    ∙ one_restored n (omega arith) base h g m
+    ∙ one_restored n (omega arith) (λ m. loaded 8 h (slot base m)) g m
     ∙ ap (λ j. restored j base h g m) (sym e1)
 
 -- ---- the ends of runs that load
@@ -529,7 +518,7 @@ restgpr0 : (n : ℕ) → 14 ≤ n → n < 32 → (f : Formats) (c : Counted)
     → IsSomeAnd (run f (code_for (of_registers (codes "_restgpr0_") 0xe9c1ff70 (load_link ∷ mtlr_0 ∷ blr ∷ [])) n) c) (RestoresIntegers n c)
 restgpr0 n most less f c =
     subst (λ end. IsSomeAnd end (RestoresIntegers n c))
-    (sym (runs f (of_registers (codes "_restgpr0_") 0xe9c1ff70 (load_link ∷ mtlr_0 ∷ blr ∷ [])) refl load_link (mtlr_0 ∷ blr ∷ []) refl (loads 1) (ld_1 f) (λ i c. refl) n most less c _ (restores_address f (after (loads 1) (32 - n) c))))
+    (sym (runs f (of_registers (codes "_restgpr0_") 0xe9c1ff70 (load_link ∷ mtlr_0 ∷ blr ∷ [])) refl refl load_link (mtlr_0 ∷ blr ∷ []) refl (loads 1) (ld_1 f) (λ i c. refl) n most less c _ (restores_address f (after (loads 1) (32 - n) c))))
     (record {
       returned =
           is_returned n c (after (loads 1) (32 - n) c) (loaded_memory 1 (omega arith) (32 - n) c)
@@ -543,7 +532,7 @@ restgpr1 : (n : ℕ) → 14 ≤ n → n < 32 → (f : Formats) (c : Counted)
     → IsSomeAnd (run f (code_for (of_registers (codes "_restgpr1_") 0xe9ccff70 (blr ∷ [])) n) c) (Restores n c)
 restgpr1 n most less f c =
     subst (λ end. IsSomeAnd end (Restores n c))
-    (sym (runs f (of_registers (codes "_restgpr1_") 0xe9ccff70 (blr ∷ [])) refl blr [] refl (loads 12) (ld_12 f) (λ i c. refl) n most less c _ refl))
+    (sym (runs f (of_registers (codes "_restgpr1_") 0xe9ccff70 (blr ∷ [])) refl refl blr [] refl (loads 12) (ld_12 f) (λ i c. refl) n most less c _ refl))
     (record {
       returns =
           record {
@@ -560,7 +549,7 @@ restfpr : (n : ℕ) → 14 ≤ n → n < 32 → (f : Formats) (c : Counted)
     → IsSomeAnd (run f (code_for (of_registers (codes "_restfpr_") 0xc9c1ff70 (load_link ∷ mtlr_0 ∷ blr ∷ [])) n) c) (RestoresFloats n c)
 restfpr n most less f c =
     subst (λ end. IsSomeAnd end (RestoresFloats n c))
-    (sym (runs f (of_registers (codes "_restfpr_") 0xc9c1ff70 (load_link ∷ mtlr_0 ∷ blr ∷ [])) refl load_link (mtlr_0 ∷ blr ∷ []) refl (loads_float 1) (lfd_1 f) (λ i c. refl) n most less c _ (restores_address f (after (loads_float 1) (32 - n) c))))
+    (sym (runs f (of_registers (codes "_restfpr_") 0xc9c1ff70 (load_link ∷ mtlr_0 ∷ blr ∷ [])) refl refl load_link (mtlr_0 ∷ blr ∷ []) refl (loads_float 1) (lfd_1 f) (λ i c. refl) n most less c _ (restores_address f (after (loads_float 1) (32 - n) c))))
     (record {
       returned =
           is_returned n c (after (loads_float 1) (32 - n) c) (float_memory (32 - n) c)

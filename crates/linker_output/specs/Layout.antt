@@ -1,11 +1,12 @@
 -- Code's shortest instruction, and the path of the dynamic linker.
-use Rattle.std.specs.Prelude.{ℕ, ◌+◌, ◌-◌, ◌*◌, ◌%◌, ◌^◌, nat_lt, length, slice_get, ◌==◌, bit_and, if◌then◌else◌, List, [], ◌∷◌, Option, Some, None}
+use Rattle.std.specs.Prelude.{ℕ, ◌+◌, ◌-◌, ◌*◌, ◌/◌, ◌%◌, ◌^◌, nat_lt, length, slice_get, ◌==◌, bit_and, if◌then◌else◌, List, [], ◌∷◌, Option, Some, None}
 use Rattle.linker_output.specs.declared.layout.CodeUnit.{CodeUnit}
+use Rattle.linker_output.specs.declared.layout.RunWord.{RunWord}
 
 abbrev pub unit_by : CodeUnit → ℕ → ℕ
 unit_by unit flags = if bit_and flags unit.flag == 0 then unit.len else unit.flagged_len
 
--- Functions that linkers provide, one behind the other: the first word of each, and then the words that
+-- Functions that linkers provide, one behind the other: one or two words of each, and then the words that
 -- all of them end with.
 pub record Run : Type 0 where
   pub prefix : List ℕ
@@ -13,15 +14,34 @@ pub record Run : Type 0 where
   pub count : ℕ
   pub word : ℕ
   pub step : ℕ
+  pub second : Option RunWord
   pub tail : List ℕ
 
+-- how many words there are from one function to the next
+abbrev pub spacing_with : Option RunWord → ℕ
+spacing_with None = 1
+spacing_with (Some second) = 2
+
+abbrev pub run_spacing : Run → ℕ
+run_spacing run = spacing_with run.second
+
 abbrev pub run_len : Run → ℕ
-run_len run = run.count + length run.tail
+run_len run = run.count * run_spacing run + length run.tail
+
+-- a word of a function, by its place in the run
+abbrev pub stepped : ℕ → ℕ → ℕ → ℕ
+stepped word step function = (word + step * function) % 2 ^ 32
+
+abbrev pub own_word : Run → Option RunWord → ℕ → ℕ
+own_word run None index = stepped run.word run.step index
+own_word run (Some second) index =
+    if index % 2 == 0 then stepped run.word run.step (index / 2)
+    else stepped second.word second.step (index / 2)
 
 abbrev pub run_word : Run → ℕ → Option ℕ
 run_word run index =
-    if nat_lt index run.count then Some ((run.word + run.step * index) % 2 ^ 32)
-    else slice_get run.tail (index - run.count)
+    if nat_lt index (run.count * run_spacing run) then Some (own_word run run.second index)
+    else slice_get run.tail (index - run.count * run_spacing run)
 
 -- a path, and the bits of `e_flags` that it is for
 pub record Path : Type 0 where

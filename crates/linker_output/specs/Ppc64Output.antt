@@ -25,19 +25,6 @@ address_to_r12 = 0xf8410018 ∷ 0x7c0802a6 ∷ 0x429f0005 ∷ 0x7d8802a6 ∷ 0x7
 abbrev pub jump_to_r12 : List ℕ
 jump_to_r12 = 0x7d8903a6 ∷ 0x4e800420 ∷ []
 
--- functions that save or restore registers 14 to 31, each 8 bytes above the one before it (64-bit ELF V2 ABI
--- for Power): an instruction of each register, and those that all end with
-abbrev pub of_registers : List ℕ → ℕ → List ℕ → Run
-of_registers prefix word tail =
-    record {
-      prefix = prefix;
-      first = 14;
-      count = 18;
-      word = word;
-      step = 2 ^ 21 + 8;
-      tail = tail;
-    }
-
 -- `std 0,16(1)` and `ld 0,16(1)`; `mtlr 0`; `blr`
 abbrev pub save_link : ℕ
 save_link = 0xf8010010
@@ -50,6 +37,34 @@ mtlr_0 = 0x7c0803a6
 
 abbrev pub blr : ℕ
 blr = 0x4e800020
+
+-- functions that save or restore registers 14 to 31, each 8 bytes above the one before it (64-bit ELF V2 ABI
+-- for Power): an instruction of each register, and those that all end with
+abbrev pub of_registers : List ℕ → ℕ → List ℕ → Run
+of_registers prefix word tail =
+    record {
+      prefix = prefix;
+      first = 14;
+      count = 18;
+      word = word;
+      step = 2 ^ 21 + 8;
+      second = None;
+      tail = tail;
+    }
+
+-- functions that save or restore vector registers 20 to 31, each 16 bytes above the one before it: `addi 12,0`
+-- with the place, an instruction of each register, and `blr`
+abbrev pub of_vectors : List ℕ → ℕ → Run
+of_vectors prefix access =
+    record {
+      prefix = prefix;
+      first = 20;
+      count = 12;
+      word = 0x3980ff40;
+      step = 16;
+      second = Some (record { word = access; step = 2 ^ 21 });
+      tail = blr ∷ [];
+    }
 
 abbrev pub ppc64_output : Description
 ppc64_output =
@@ -95,7 +110,10 @@ ppc64_output =
           ∷ of_registers (codes "_savegpr1_") 0xf9ccff70 (blr ∷ [])
           ∷ of_registers (codes "_restgpr1_") 0xe9ccff70 (blr ∷ [])
           ∷ of_registers (codes "_savefpr_") 0xd9c1ff70 (save_link ∷ blr ∷ [])
-          ∷ of_registers (codes "_restfpr_") 0xc9c1ff70 (load_link ∷ mtlr_0 ∷ blr ∷ []) ∷ [];
+          ∷ of_registers (codes "_restfpr_") 0xc9c1ff70 (load_link ∷ mtlr_0 ∷ blr ∷ [])
+          -- `stvx` and `lvx` of register 20 over 12 and 0
+          ∷ of_vectors (codes "_savevr_") 0x7e8c01ce
+          ∷ of_vectors (codes "_restvr_") 0x7e8c00ce ∷ [];
       interpreter_flags = 0;
       paths = only (codes "/lib64/ld64.so.2");
       instructions = Ppc64;

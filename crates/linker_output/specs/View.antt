@@ -93,6 +93,7 @@ view_run r =
       count = r.count;
       word = r.word;
       step = r.step;
+      second = r.second;
       tail = r.tail.now;
     }
 

@@ -9,6 +9,7 @@ ghost use Rattle.linker_output.specs.AArch64Stubs as aarch64_stubs;
 ghost use Rattle.linker_output.specs.LoongArchStubs as loongarch_stubs;
 ghost use Rattle.linker_output.specs.Ppc64Saves as ppc64_saves;
 ghost use Rattle.linker_output.specs.Ppc64Stubs as ppc64_stubs;
+ghost use Rattle.linker_output.specs.Ppc64Vectors as ppc64_vectors;
 ghost use Rattle.linker_output.specs.RiscVStubs as riscv_stubs;
 ghost use Rattle.linker_output.specs.Routes.{StubsServe};
 ghost use Rattle.linker_output.specs.X86Stubs as x86_stubs;
@@ -45,6 +46,14 @@ pub fn ppc64()
 pub fn ppc64_saves()
     ensures saves { ppc64_saves.SaveRegisters }
     ensures restores { ppc64_saves.RestoreRegisters }
+{}
+
+/// PowerPC64's functions that save and restore vector registers 20 to 31, from any of them on, in their
+/// places below the address in r0. Else r12 alone changes. The vector registers and their loads and stores
+/// are defined with the laws.
+pub fn ppc64_vectors()
+    ensures saves { ppc64_vectors.SaveVectors }
+    ensures restores { ppc64_vectors.RestoreVectors }
 {}
 
 /// RISC-V: t3 changes.

@@ -1,8 +1,8 @@
 //! Code's shortest instruction and filler, the symbols that linkers define, and the path of the
 //! dynamic linker.
 
-ghost use Rattle.std.specs.Prelude.{◌≡◌, IfSome, IfNone, ◌%◌, slice_index};
-ghost use Rattle.linker_output.specs.Layout.{unit_by, path_of, run_word, run_len};
+ghost use Rattle.std.specs.Prelude.{◌≡◌, ◌≤◌, ◌<◌, ◌^◌, IfSome, IfNone, ◌%◌, slice_index};
+ghost use Rattle.linker_output.specs.Layout.{unit_by, path_of, stepped, run_spacing, run_word, run_len};
 ghost use Rattle.linker_output.specs.View.{view_paths, view_run};
 
 use crate::description::Target;
@@ -41,8 +41,17 @@ pub struct ProvidedSymbol {
     pub offset: u64,
 }
 
+/// A word of each function of a run.
+#[derive(Debug, Clone, Copy, PartialEq, Eq)]
+pub struct RunWord {
+    /// That of the first function.
+    pub word: u32,
+    /// What that of each further function has more than that of the one before it.
+    pub step: u32,
+}
+
 /// Functions that compilers call and linkers provide, which save or restore registers: one run of code,
-/// whose function with a number n begins 4 * (n - `first`) bytes behind the run's start.
+/// whose function with a number n begins 4 * `spacing` * (n - `first`) bytes behind the run's start.
 #[derive(Debug, Clone, Copy, PartialEq, Eq)]
 pub struct ProvidedRun {
     /// The functions' names without the number, which stands behind it in decimal.
@@ -55,16 +64,37 @@ pub struct ProvidedRun {
     pub word: u32,
     /// What each further function's first instruction has more than the one before it.
     pub step: u32,
+    /// The second instruction of each function, where the next function begins behind that.
+    pub second: Option<RunWord>,
     /// The instructions behind all these.
     pub tail: &'static [u32],
 }
 
+/// The word of a function by its place in the run.
+fn stepped(word: u32, step: u32, function: u64) -> u32
+    requires { function < 2 ^ 32 }
+    ensures { result ≡ stepped word step function }
+{
+    word.wrapping_add(step.wrapping_mul(function as u32))
+}
+
 impl ProvidedRun {
+    /// How many instructions of 4 bytes there are from the beginning of a function to that of the next.
+    pub fn spacing(&self) -> u64
+        ensures spacing { result ≡ run_spacing (view_run self.now) }
+        ensures few { result ≤ 2 }
+    {
+        match self.second {
+            Some(_) => 2,
+            None => 1,
+        }
+    }
+
     /// How many instructions of 4 bytes the run has.
     pub fn len(&self) -> u64
         ensures { result ≡ run_len (view_run self.now) }
     {
-        self.count as u64 + self.tail.len() as u64
+        self.count as u64 * self.spacing() + self.tail.len() as u64
     }
 
     /// The instruction at an index. None from `len` on.
@@ -85,10 +115,17 @@ impl ProvidedRun {
     pub fn word_at(&self, index: u64) -> Option<u32>
         ensures { result ≡ run_word (view_run self.now) index }
     {
-        if index < self.count as u64 {
-            Some(self.word.wrapping_add(self.step.wrapping_mul(index as u32)))
+        let own = self.count as u64 * self.spacing();
+        if index >= own {
+            return self.tail.get((index - own) as usize).copied();
+        }
+        let Some(second) = self.second else {
+            return Some(stepped(self.word, self.step, index));
+        };
+        if index % 2 == 0 {
+            Some(stepped(self.word, self.step, index / 2))
         } else {
-            self.tail.get((index - self.count as u64) as usize).copied()
+            Some(stepped(second.word, second.step, index / 2))
         }
     }
 }

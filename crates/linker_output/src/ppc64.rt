@@ -5,7 +5,7 @@ use crate::description::Target;
 use crate::dynamic::{DynamicType, DynamicTypes, named};
 use crate::flags::FlagRules;
 use crate::got::{GotHeader, GotLayout, ThreadPointer};
-use crate::layout::{CodeUnit, Interpreter, ProvidedRun, ProvidedSymbol, SymbolPlace};
+use crate::layout::{CodeUnit, Interpreter, ProvidedRun, ProvidedSymbol, RunWord, SymbolPlace};
 use crate::stubs::{Stub, StubField, field};
 use linker_utils::elf::{AllowedRange, Architecture};
 
@@ -77,6 +77,7 @@ pub(crate) static TARGET: Target = Target {
             count: 18,
             word: 0xf9c1_ff70,
             step: 0x20_0008,
+            second: None,
             tail: &[0xf801_0010, 0x4e80_0020],
         },
         // `ld 14,-144(1)` and so on
@@ -86,6 +87,7 @@ pub(crate) static TARGET: Target = Target {
             count: 18,
             word: 0xe9c1_ff70,
             step: 0x20_0008,
+            second: None,
             tail: &[0xe801_0010, 0x7c08_03a6, 0x4e80_0020],
         },
         // `std 14,-144(12)` and so on
@@ -95,6 +97,7 @@ pub(crate) static TARGET: Target = Target {
             count: 18,
             word: 0xf9cc_ff70,
             step: 0x20_0008,
+            second: None,
             tail: &[0x4e80_0020],
         },
         // `ld 14,-144(12)` and so on
@@ -104,6 +107,7 @@ pub(crate) static TARGET: Target = Target {
             count: 18,
             word: 0xe9cc_ff70,
             step: 0x20_0008,
+            second: None,
             tail: &[0x4e80_0020],
         },
         // `stfd 14,-144(1)` and so on
@@ -113,6 +117,7 @@ pub(crate) static TARGET: Target = Target {
             count: 18,
             word: 0xd9c1_ff70,
             step: 0x20_0008,
+            second: None,
             tail: &[0xf801_0010, 0x4e80_0020],
         },
         // `lfd 14,-144(1)` and so on
@@ -122,7 +127,34 @@ pub(crate) static TARGET: Target = Target {
             count: 18,
             word: 0xc9c1_ff70,
             step: 0x20_0008,
+            second: None,
             tail: &[0xe801_0010, 0x7c08_03a6, 0x4e80_0020],
+        },
+        // `addi 12,0,-192` and `stvx 20,12,0`, and so on
+        ProvidedRun {
+            prefix: "_savevr_",
+            first: 20,
+            count: 12,
+            word: 0x3980_ff40,
+            step: 0x10,
+            second: Some(RunWord {
+                word: 0x7e8c_01ce,
+                step: 0x20_0000,
+            }),
+            tail: &[0x4e80_0020],
+        },
+        // `addi 12,0,-192` and `lvx 20,12,0`, and so on
+        ProvidedRun {
+            prefix: "_restvr_",
+            first: 20,
+            count: 12,
+            word: 0x3980_ff40,
+            step: 0x10,
+            second: Some(RunWord {
+                word: 0x7e8c_00ce,
+                step: 0x20_0000,
+            }),
+            tail: &[0x4e80_0020],
         },
     ],
     interpreter_flags: 0,

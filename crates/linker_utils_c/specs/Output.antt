@@ -3,7 +3,7 @@ use Rattle.std.specs.Prelude.{◌≡◌, ◌⊎◌, ℕ, ◌<◌, ◌≤◌, ◌
 use Rattle.std.specs.Prelude.{Bool, Option, Some, None, Err}
 use Rattle.linker_output.specs.Dynamic.{DynamicKind, DynamicKinds, dynamic_words}
 use Rattle.linker_output.specs.Got.{entry_words, static_words}
-use Rattle.linker_output.specs.Layout.{Run, run_len, run_word}
+use Rattle.linker_output.specs.Layout.{Run, run_len, run_spacing, run_word}
 use Rattle.linker_output.specs.Stubs.{StubCode, told_len, WritesStub, RejectsStub}
 use Rattle.linker_output.specs.View.{Description, Symbol}
 use Rattle.linker_output.specs.declared.got.Origins.{Origins}
@@ -148,7 +148,8 @@ IsRunReturned None before after used_before used old new status =
     (status ≡ code NotProvided) × (after ≡ before) × (used ≡ used_before) × (new ≡ old)
 IsRunReturned (Some run) before after used_before used old new status =
     AreBothCopied run.prefix before after used_before used
-    (record { len = run_len run; first = run.first; count = run.count }) old new status
+    (record { len = run_len run; first = run.first; count = run.count; spacing = run_spacing run }) old new
+    status
 
 abbrev pub IsFoundWord : Option ℕ → ℕ → ℕ → ℕ → Type 0
 IsFoundWord None old new status = (status ≡ code NotProvided) × (new ≡ old)

@@ -11,8 +11,13 @@ ghost use Rattle.linker_utils_c.specs.Status.{code};
 
 use crate::rewrites::number_of;
 use crate::status::Status;
+use linker_utils::aarch64::{self, AArch64Relocation};
 use linker_utils::architecture::Relaxation;
 use linker_utils::elf::{Architecture, Choice, InstructionRewrite, LinkFacts, Operands};
+use linker_utils::loongarch64::{self, LoongArch64Relocation};
+use linker_utils::ppc64::{self, Ppc64Relocation};
+use linker_utils::riscv64::{self, RiscVRelocation};
+use linker_utils::x86_64::{self, X86_64Relocation};
 
 /// What a linker knows of a relocation's symbol and of its output: `LinkFacts`. A fact holds where
 /// its number is not 0.
@@ -120,6 +125,53 @@ pub(crate) fn in_numbers(chosen: Choice<Relaxation, u32>) -> ChoiceNumbers
     }
 }
 
+/// The choice of an architecture's rewrites, in numbers.
+macro_rules! chosen_in_numbers {
+    ($module:ident $names:ident $of:ident ($code:expr, $section:expr, $offset:expr, $facts:expr)) => {{
+        let name = $names::from_elf($code);
+        let chosen = $module::choose(name, $section, $offset, $facts);
+        in_numbers(Choice {
+            kind: Relaxation::$of(chosen.kind),
+            relocation: chosen.relocation.elf_code(),
+        })
+    }};
+}
+
+/// The choice for a relocation, as `Architecture::choose`, in numbers. In an architecture's arm the
+/// compiler drops what is of other architectures' rewrites.
+#[inline(always)]
+fn choose_in_numbers(
+    architecture: Architecture,
+    code: u32,
+    section: &[u8],
+    offset: u64,
+    facts: &LinkFacts,
+) -> ChoiceNumbers
+    ensures { (chosen : Choice Relaxation ℕ)
+        × IsArchitectureChoice architecture code section.now offset facts.now chosen
+        × IsChoiceInNumbers architecture chosen result }
+{
+    match architecture {
+        Architecture::AArch64 => {
+            chosen_in_numbers!(aarch64 AArch64Relocation AArch64 (code, section, offset, facts))
+        }
+        Architecture::RiscV => {
+            chosen_in_numbers!(riscv64 RiscVRelocation RiscV (code, section, offset, facts))
+        }
+        Architecture::LoongArch64 => {
+            chosen_in_numbers!(
+                loongarch64 LoongArch64Relocation LoongArch64 (code, section, offset, facts)
+            )
+        }
+        Architecture::Ppc64 => {
+            chosen_in_numbers!(ppc64 Ppc64Relocation Ppc64 (code, section, offset, facts))
+        }
+        Architecture::X86_64 => {
+            chosen_in_numbers!(x86_64 X86_64Relocation X86_64 (code, section, offset, facts))
+        }
+    }
+}
+
 /// Which rewrite a linker makes of the instruction at a relocation, and the relocation after it.
 /// `UnknownArchitecture`.
 #[unsafe(no_mangle)]
@@ -141,8 +193,7 @@ pub extern "C" fn linker_utils_choose_nonnull(
     let Some(architecture) = Architecture::from_machine(machine) else {
         return Status::UnknownArchitecture.number();
     };
-    let chosen = architecture.choose(r_type, section, offset, &facts.facts());
-    *choice = in_numbers(chosen);
+    *choice = choose_in_numbers(architecture, r_type, section, offset, &facts.facts());
     Status::Success.number()
 }
 

@@ -150,6 +150,15 @@ pub fn len(architecture: Architecture, code: u32) -> u64 {
     }
 }
 
+/// Whether no choice of the library for a relocation has bytes outside of the relocation's.
+pub fn is_narrow(architecture: Architecture, one: &Relocation, it: &Section) -> bool {
+    let (before, past) = (one.offset.min(16), one.offset.saturating_add(48));
+    let window = (one.offset - before) as usize..past.min(it.bytes.len() as u64) as usize;
+    let Some(bytes) = it.bytes.get(window) else { return false };
+    let window = recognise::architecture::window_of(architecture, one.code, bytes, before);
+    window.back == 0 && window.len <= len(architecture, one.code)
+}
+
 /// Of an alignment how many bytes of nops the object has, and how many stay at a place.
 pub fn alignment(architecture: Architecture, one: &Relocation, place: u64) -> Option<(u64, u64)> {
     if !properties(architecture, one.code).is_alignment {

@@ -58,6 +58,9 @@ pub struct At<'a> {
     pub pending: &'a RefCell<Vec<Pending>>,
 }
 
+/// How many other relocations a window mostly has at most.
+const OTHERS: usize = 16;
+
 impl Side<'_> {
     /// The choice that leaves the bytes of the widest window; of several the one whose relocation
     /// leads to its symbol, and of these the one that is unchanged.
@@ -110,7 +113,7 @@ impl Side<'_> {
             Architecture::X86_64 => &[(6, 12), (4, 12), (6, len), (3, len), (0, len)],
             _ => &[(4, 8), (0, 8), (4, 4), (0, 4), (0, len)],
         };
-        let mut others = Vec::new();
+        let mut others = Vec::with_capacity(OTHERS);
         let mut try_windows = |windows: &[(u64, u64)], pass| {
             let mut best = None;
             for (back, forward) in windows {
@@ -123,7 +126,11 @@ impl Side<'_> {
             }
             best
         };
-        let mut best = try_windows(windows, Pass::Library);
+        // a choice that leaves the instruction is the same in all windows
+        let narrow = windows.get(4..).filter(|_| made::is_narrow(architecture, one, at.it));
+        let alone = narrow.and_then(|narrow| try_windows(narrow, Pass::Library));
+        let alone = alone.filter(Found::is_alone);
+        let mut best = alone.or_else(|| try_windows(windows, Pass::Library));
         if best.as_ref().is_none_or(|best| !best.is_sure()) {
             let own = try_windows(windows.get(3..).unwrap_or(&[]), Pass::Own);
             if best.is_none() || own.as_ref().is_some_and(Found::is_sure) {

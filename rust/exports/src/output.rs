@@ -70,6 +70,8 @@ pub struct RunNumbers {
     pub first: u32,
     /// How many functions there are.
     pub count: u32,
+    /// How many instructions, from 1 on, a function begins before the next.
+    pub spacing: u32,
 }
 
 /// A stub's length in bytes, and the offset at which a call enters.
@@ -475,6 +477,7 @@ fn put_run(
         len: provided.len(),
         first: provided.first,
         count: provided.count,
+        spacing: provided.spacing() as u32,
     };
     put_text(provided.prefix, prefix, prefix_used)
 }

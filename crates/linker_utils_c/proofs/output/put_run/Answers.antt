@@ -34,6 +34,6 @@ returns c =
     slice_get_read all (length all) c.args.index c.in-Some.provided.now refl lookup.3.0 lookup.1 in
     rw (runs_at all c.args.index ∙ ap (option_map view_run) here) (record {
       copied = c.put_text.ensures;
-      fits = λ fits. rw c.len.ensures refl;
+      fits = λ fits. rw c.len.ensures (rw c.spacing.ensures.spacing refl);
       short = λ short. absurd (omega (arith, short, c.if-prefix-provided.false));
     })
