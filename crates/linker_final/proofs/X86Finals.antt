@@ -1,5 +1,5 @@
 -- A rewritten instruction of x86-64 does in the final bytes what the object's does.
-use Rattle.std.proofs.Common.{◌≡◌, ℕ, ℤ, pos, neg_ℤ, ◌+◌, ◌-◌, ◌^◌, ◌<◌, ◌≤◌, List, false, refl, sym, ap, subst, ◌∙◌, arith, Option, Some, None, IsSomeAnd}
+use Rattle.std.proofs.Common.{◌≡◌, ℕ, ℤ, pos, ◌+◌, ◌-◌, ◌^◌, ◌<◌, ◌≤◌, List, false, sym, ap, subst, ◌∙◌, arith, Option, Some, None, IsSomeAnd}
 use Rattle.std.proofs.lemmas.Bool.{cond-false}
 use Rattle.std.specs.Prelude.{slice_get}
 use Rattle.linker_base.specs.Rewrite.{Rewrite, rewritten, offset_after}
@@ -11,10 +11,10 @@ use Rattle.linker_elf.specs.declared.elf.RelocationKindInfo.{RelocationKindInfo}
 use Rattle.linker_elf.specs.declared.elf.choice.Choice.{Choice}
 use Rattle.linker_elf.specs.declared.elf.value.Operands.{Operands}
 use Rattle.linker_elf.specs.declared.x86_64.relocations.X86_64Relocation.{X86_64Relocation}
-use Rattle.linker_final.proofs.Chosen.{chosen_at}
 use Rattle.linker_final.proofs.Inner.{HasWindow}
-use Rattle.linker_final.proofs.X86Lawful.{HasLaw, of_choice, shaped_of}
-use Rattle.linker_final.proofs.X86Names.{got_name, unlabelled}
+use Rattle.linker_final.proofs.X86Chosen.{of_table}
+use Rattle.linker_final.proofs.X86Lawful.{HasLaw, IsServed, of_choice, shaped_of}
+use Rattle.linker_final.proofs.X86Names.{got_name}
 use Rattle.linker_final.proofs.X86Patterns.{there_inside}
 use Rattle.linker_final.proofs.X86Rows.{IsAfterRow}
 use Rattle.linker_final.proofs.X86Windows.{HasRewrite, object_bytes, object_has, object_matches, offset_small, rela, relocated_after}
@@ -29,12 +29,11 @@ use Rattle.linker_section.specs.Values.{operands_with, operands_in, is_of_got}
 use Rattle.linker_section.specs.declared.facts.Addresses.{Addresses}
 use Rattle.linker_section.specs.declared.facts.Symbol.{Symbol}
 use Rattle.linker_section.specs.declared.relocations.Rela.{Rela}
-use Rattle.linker_utils.specs.Architectures.{IsRow, relaxation_no_op}
+use Rattle.linker_utils.specs.Architectures.{IsRow}
 use Rattle.linker_utils.specs.declared.architecture.Relaxation.{Relaxation}
-use Rattle.linker_utils.specs.declared.architecture.Relaxation.TheVariants as relaxations
 use Rattle.linker_utils.specs.declared.elf.Architecture.TheVariants.{X86_64}
 use Rattle.linker_x86_64.specs.X86RelocationsAfter.{x86_64_relocation_after}
-use Rattle.linker_x86_64.specs.X86Rewrites.{x86_64_rewrite, x86_64_originals, IsX86Choice}
+use Rattle.linker_x86_64.specs.X86Rewrites.{x86_64_rewrite, x86_64_originals}
 use Rattle.linker_x86_64.specs.declared.rewrites.RelaxationKind.{RelaxationKind}
 
 pub some_and : {A : Type 0} (P : A → Type 0) (q : Option A) (x : A) → q ≡ Some x → IsSomeAnd q P → P x
@@ -141,40 +140,17 @@ module _ (laws : Laws) (name : X86_64Relocation) (operand : GotOperand)
     abbrev o : ℕ
     o = r.offset
 
-    -- the choice, by names
-    record IsNamedChoice : Type 0 where
-      pub named : Choice RelaxationKind X86_64Relocation
-      pub served : HasLaw operand.back name operand.held l.section o named
-      pub addend : r.addend ≡ neg_ℤ (pos 4)
-      pub kind_is : chosen.kind ≡ relaxations.X86_64 named.kind
-      pub code_is : chosen.relocation ≡ code_of (x86_64_name named.relocation)
-
-    named_choice : IsNamedChoice
-    named_choice =
-        let c = chosen_at l.setting l.kept l.relocations l.section l.decisions (count l) i chosen linked.decided below decided
-        (λ scope is. unlabelled l.setting.phase r.code scope (subst (λ x. Rattle.linker_rewriting.specs.Groups.IsScopeIn x l.setting.phase r.code scope) x86 is)) in
-        let h = subst (λ x. Rattle.linker_utils.specs.Architectures.IsArchitectureChoice x r.code l.section o c.facts chosen) x86 c.is_choice in
+    served : IsServed operand.back name operand.held l.section o r.addend chosen
+    served =
         let got = got_name name operand wanted in
-        let same : h.name ≡ name = h.is_name.named name got.named is_name.code_is in
-        let served = of_choice laws name operand wanted l.section o c.facts h.named
-        (subst (λ x. IsX86Choice x l.section o c.facts h.named) same h.is_choice)
-        (λ e. c.changed (
-          subst relaxation_no_op (sym (h.kind_is ∙ ap (λ (q : Choice RelaxationKind X86_64Relocation). relaxations.X86_64 q.kind) e)) refl,
-          h.code_is ∙ (ap (λ (q : Choice RelaxationKind X86_64Relocation). code_of (x86_64_name q.relocation)) e ∙ is_name.code_is),
-        )) in
-        record {
-          named = h.named;
-          served = served.has_law;
-          addend = sym c.addend ∙ served.addend;
-          kind_is = h.kind_is;
-          code_is = h.code_is;
-        }
+        of_choice laws name operand wanted l.section o r.addend chosen
+        (of_table l linked x86 i chosen below decided name got.named is_name)
 
-    abbrev law : HasLaw operand.back name operand.held l.section o named_choice.named
-    law = named_choice.served
+    abbrev law : HasLaw operand.back name operand.held l.section o served.named
+    law = served.has_law
 
     abbrev kind : RelaxationKind
-    kind = named_choice.named.kind
+    kind = served.named.kind
 
     abbrev w : HasWindow operand.back 4 (x86_64_rewrite kind)
     w = law.within.window
@@ -187,7 +163,7 @@ module _ (laws : Laws) (name : X86_64Relocation) (operand : GotOperand)
           chosen = chosen;
           below = below;
           decided = decided;
-          kind_is = named_choice.kind_is;
+          kind_is = served.kind_is;
           window = w;
           matches = law.matches;
           room = there_inside operand.back 4 (omega arith) law.instructions l.section o law.are_of law.there;
@@ -201,7 +177,7 @@ module _ (laws : Laws) (name : X86_64Relocation) (operand : GotOperand)
     small = offset_small l i operand.back 4 kind has_rewrite
 
     abbrev after : X86_64Relocation
-    after = named_choice.named.relocation
+    after = served.named.relocation
 
     before_is : is_of_got X86_64 r.code ≡ false
     before_is =
@@ -218,7 +194,7 @@ module _ (laws : Laws) (name : X86_64Relocation) (operand : GotOperand)
       relocated =
           let moves = law.within.moves o (has_rewrite.room.0) in
           let high = moves.1 in
-          final_is l i operand.back 4 kind has_rewrite after a before_is named_choice.code_is
+          final_is l i operand.back 4 kind has_rewrite after a before_is served.code_is
           (moves.0) (omega (arith, high)) symbol is_symbol entry
 
     does_the_same : (a : IsAfterRow after) → DoesTheSame l i name operand a.row
@@ -229,8 +205,8 @@ module _ (laws : Laws) (name : X86_64Relocation) (operand : GotOperand)
           offset = small;
           addresses = addresses;
           addend = addend_was l.addresses after a symbol r w.made chosen.relocation entry small
-              before_is (ap (is_of_got X86_64) named_choice.code_is ∙ a.is_not_of_got)
-              ∙ named_choice.addend;
+              before_is (ap (is_of_got X86_64) served.code_is ∙ a.is_not_of_got)
+              ∙ served.is_from_end;
           ip = ip;
         } in
         some_and _ (x86_64_relocation_after kind name) after law.after law.law
@@ -244,7 +220,7 @@ module _ (laws : Laws) (name : X86_64Relocation) (operand : GotOperand)
     row_same : (row : RelocationKindInfo) (is_row : IsRow X86_64 chosen.relocation (Some row))
         → law.row.row ≡ row
     row_same row is_row =
-        let same = is_row.is_name.named after law.row.named (sym named_choice.code_is) in
+        let same = is_row.is_name.named after law.row.named (sym served.code_is) in
         ap (of_row row) (sym (is_row.value_is ∙ (ap x86_64_row same ∙ law.row.is)))
 
     pub of_any_row : (row : RelocationKindInfo) → IsRow X86_64 chosen.relocation (Some row)

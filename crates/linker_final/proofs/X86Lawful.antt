@@ -1,20 +1,24 @@
 -- Each rewrite that is chosen for an instruction with an operand in the GOT has a law.
-use Rattle.std.proofs.Common.{◌≡◌, ℕ, pos, neg_ℤ, ◌+◌, ◌-◌, ◌≤◌, List, [], ◌∷◌, length, Bool, true, false, IsTrue, eqb, cond, refl, sym, ap, subst, ◌∙◌, inl, inr, arith, Option, Some, None}
+use Rattle.std.proofs.Common.{◌≡◌, ℕ, ℤ, pos, neg_ℤ, ◌+◌, ◌-◌, ◌≤◌, List, [], ◌∷◌, length, Bool, true, false, IsTrue, eqb, cond, refl, sym, ap, subst, ◌∙◌, inl, inr, arith, Option, Some, None}
 use Rattle.std.specs.Prelude.{slice_index, ⊤}
-use Rattle.linker_elf.specs.Choices.{AllHold, Applies, IsFirst, choice}
-use Rattle.linker_elf.specs.X86Relocations.{x86_64_row}
+use Rattle.linker_elf.specs.Choices.{AllHold, choice}
+use Rattle.linker_elf.specs.ElfNames.{code_of}
+use Rattle.linker_elf.specs.X86Relocations.{x86_64_name, x86_64_row}
 use Rattle.linker_elf.specs.declared.elf.choice.Choice.{Choice}
 use Rattle.linker_elf.specs.declared.elf.choice.LinkFacts.{LinkFacts}
 use Rattle.linker_elf.specs.declared.elf.value.Operands.{Operands}
 use Rattle.linker_elf.specs.declared.x86_64.relocations.X86_64Relocation.{X86_64Relocation}
 use Rattle.linker_elf.specs.declared.x86_64.relocations.X86_64Relocation.TheVariants as names
 use Rattle.linker_final.proofs.Inner.{IsWithin, within, lea, jump, wide}
+use Rattle.linker_final.proofs.X86Chosen.{IsOfOne, IsOfTable}
 use Rattle.linker_final.proofs.X86Rows.{IsAfterRow, pc32, absolute32, signed32, tpoff32}
 use Rattle.linker_final.specs.X86Final.{GotOperand, got_operand}
 use Rattle.linker_laws.specs.X86RewriteLaws.{DoesTheSame, Laws, address, thread_offset}
+use Rattle.linker_utils.specs.declared.architecture.Relaxation.{Relaxation}
+use Rattle.linker_utils.specs.declared.architecture.Relaxation.TheVariants as relaxations
 use Rattle.linker_x86_64.specs.X86RelocationsAfter.{x86_64_relocation_after, immediate_of}
 use Rattle.linker_x86_64.specs.X86Rewrites as x86
-use Rattle.linker_x86_64.specs.X86Rewrites.{Original, is_one_at, legacy, x86_64_matches, x86_64_originals, x86_64_rewrite, x86_64_after, x86_64_table, IsAskedFor, IsX86Choice, X86Entry, Table}
+use Rattle.linker_x86_64.specs.X86Rewrites.{Original, is_one_at, legacy, x86_64_matches, x86_64_originals, x86_64_rewrite, x86_64_after, x86_64_table, IsAskedFor, X86Entry, Table}
 use Rattle.linker_x86_64.specs.declared.rewrites.RelaxationKind.{RelaxationKind}
 use Rattle.linker_x86_64.specs.declared.rewrites.RelaxationKind.TheVariants as kinds
 
@@ -131,26 +135,30 @@ AllServe n name held asked [] = ⊤
 AllServe n name held asked (e ∷ es) =
     Serves n name held asked e × AsksForAddend e × AllServe n name held asked es
 
+-- a choice, by names
 pub record IsServed (n : ℕ) (name : X86_64Relocation) (held : Operands → ℕ) (section : List ℕ)
-    (o : ℕ) (facts : LinkFacts) (chosen : Choice RelaxationKind X86_64Relocation) : Type 0 where
-  pub has_law : HasLaw n name held section o chosen
-  pub addend : facts.operands.addend ≡ neg_ℤ (pos 4)
+    (o : ℕ) (addend : ℤ) (chosen : Choice Relaxation ℕ) : Type 0 where
+  pub named : Choice RelaxationKind X86_64Relocation
+  pub has_law : HasLaw n name held section o named
+  pub kind_is : chosen.kind ≡ relaxations.X86_64 named.kind
+  pub code_is : chosen.relocation ≡ code_of (x86_64_name named.relocation)
+  pub is_from_end : addend ≡ neg_ℤ (pos 4)
 
-pub by_entries : (n : ℕ) (name : X86_64Relocation) (held : Operands → ℕ) (asked : List Original)
-    (es : List X86Entry) (section : List ℕ) (o : ℕ) (facts : LinkFacts)
-    (chosen : Choice RelaxationKind X86_64Relocation)
-    → AllServe n name held asked es
-    → IsFirst (Applies (IsAskedFor asked) x86_64_row x86_64_after section o facts) es
-    (choice kinds.NoOp name) chosen
-    → (chosen ≡ choice kinds.NoOp name → ⊥) → IsServed n name held section o facts chosen
-by_entries n name held asked [] section o facts chosen serve is changed = absurd (changed is)
-by_entries n name held asked (e ∷ es) section o facts chosen serve (inl this) changed =
+by_entries : (n : ℕ) (name : X86_64Relocation) (held : Operands → ℕ) (asked : List Original)
+    (es : List X86Entry) (section : List ℕ) (o : ℕ) (addend : ℤ) (chosen : Choice Relaxation ℕ)
+    → AllServe n name held asked es → IsOfOne asked es section o addend chosen
+    → IsServed n name held section o addend chosen
+by_entries n name held asked [] section o addend chosen serve nothing = absurd nothing
+by_entries n name held asked (e ∷ es) section o addend chosen serve (inl this) =
     record {
-      has_law = subst (HasLaw n name held section o) (sym (this.1)) (serve.0.serve section o (this.0.0));
-      addend = serve.1 facts (x86_64_after e.kind o facts.operands) (this.0.1);
+      named = choice e.kind e.relocation;
+      has_law = serve.0.serve section o this.asked_for;
+      kind_is = this.kind_is;
+      code_is = this.code_is;
+      is_from_end = sym this.same_addend ∙ serve.1 this.facts (x86_64_after e.kind o this.facts.operands) this.hold;
     }
-by_entries n name held asked (e ∷ es) section o facts chosen serve (inr other) changed =
-    by_entries n name held asked es section o facts chosen (serve.2) (other.1) changed
+by_entries n name held asked (e ∷ es) section o addend chosen serve (inr other) =
+    by_entries n name held asked es section o addend chosen (serve.2) other
 
 pub record TableServes (n : ℕ) (name : X86_64Relocation) (held : Operands → ℕ) (t : Table) : Type 0
   where
@@ -388,14 +396,13 @@ module _ (laws : Laws) where
       named names.R_X86_64_CODE_6_GOTTPOFF _ operand refl wanted offset_6
   serves name operand wanted = none name operand refl wanted
 
-  -- each choice but that of no rewrite
+  -- each choice of a table
   pub of_choice : (name : X86_64Relocation) (operand : GotOperand) → got_operand name ≡ Some operand
-      → (section : List ℕ) (o : ℕ) (facts : LinkFacts)
-      (chosen : Choice RelaxationKind X86_64Relocation) → IsX86Choice name section o facts chosen
-      → (chosen ≡ choice kinds.NoOp name → ⊥)
-      → IsServed operand.back name operand.held section o facts chosen
-  of_choice name operand wanted section o facts chosen is changed =
+      → (section : List ℕ) (o : ℕ) (addend : ℤ) (chosen : Choice Relaxation ℕ)
+      → IsOfTable (x86_64_table name (slice_index section (o - 2))) section o addend chosen
+      → IsServed operand.back name operand.held section o addend chosen
+  of_choice name operand wanted section o addend chosen is =
       let opcode = slice_index section (o - 2) in
       let t = x86_64_table name opcode in
-      by_entries operand.back name operand.held t.instructions t.entries section o facts chosen
-      (serves name operand wanted opcode).serves is changed
+      by_entries operand.back name operand.held t.instructions t.entries section o addend chosen
+      (serves name operand wanted opcode).serves is
