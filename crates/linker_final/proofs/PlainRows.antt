@@ -112,7 +112,7 @@ module _ (found : Found) (bytes section : List ℕ) (number : ℤ) (i : ℕ) (ro
 
 -- ---- what is found
 
-abbrev value_in : ℤ → Option ℤ → ℤ
+abbrev pub value_in : ℤ → Option ℤ → ℤ
 value_in other None = other
 value_in other (Some v) = v
 

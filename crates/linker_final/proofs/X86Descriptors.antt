@@ -14,10 +14,10 @@ use Rattle.linker_final.proofs.X86Lawful.{AreOf, shaped_of}
 use Rattle.linker_final.proofs.X86Patterns.{of_or, or_first, or_second, there_inside}
 use Rattle.linker_final.proofs.X86Rows.{tpoff32}
 use Rattle.linker_final.proofs.X86ThreadEntries.{entry_final}
-use Rattle.linker_final.proofs.X86ThreadRows.{thread_row}
 use Rattle.linker_final.proofs.X86Windows.{HasRewrite, object_bytes, object_has, object_matches, offset_small, unrelocated}
 use Rattle.linker_final.specs.Final.{AreAlone, IsLinked, Linked, count}
 use Rattle.linker_final.specs.X86ThreadFinal.{CallDoesTheSame, DescriptorAddresses, DescriptorCalls, EntryHolds, LeaDoesTheSame, object_in, reads_entry}
+use Rattle.linker_laws.proofs.X86Fields.{thread_row}
 use Rattle.linker_laws.specs.X86ThreadLaws as laws
 use Rattle.linker_laws.specs.X86ThreadLaws.{AgreeBut, IsDescriptorCall, LeaToEntry, LeaToOffset, WritesNothing, behind_call, reg_after_rex, reg_after_rex2}
 use Rattle.linker_laws.specs.X86Machine.{State, step}

@@ -1,5 +1,5 @@
 -- A rewritten instruction of x86-64 does in the final bytes what the object's does.
-use Rattle.std.proofs.Common.{◌≡◌, ℕ, ℤ, pos, ◌+◌, ◌-◌, ◌^◌, ◌<◌, ◌≤◌, List, false, sym, ap, subst, ◌∙◌, arith, Option, Some, None, IsSomeAnd}
+use Rattle.std.proofs.Common.{◌≡◌, ℕ, ℤ, pos, ◌+◌, ◌-◌, ◌^◌, ◌<◌, ◌≤◌, List, false, sym, ap, subst, ◌∙◌, arith, Option, Some, IsSomeAnd}
 use Rattle.std.proofs.lemmas.Bool.{cond-false}
 use Rattle.std.specs.Prelude.{slice_get}
 use Rattle.linker_base.specs.Rewrite.{Rewrite, rewritten, offset_after}
@@ -17,7 +17,7 @@ use Rattle.linker_final.proofs.X86Lawful.{HasLaw, IsServed, of_choice, shaped_of
 use Rattle.linker_final.proofs.X86Names.{got_name}
 use Rattle.linker_final.proofs.X86Patterns.{there_inside}
 use Rattle.linker_final.proofs.X86Rows.{IsAfterRow}
-use Rattle.linker_final.proofs.X86Windows.{HasRewrite, object_bytes, object_has, object_matches, offset_small, rela, relocated_after}
+use Rattle.linker_final.proofs.X86Windows.{HasRewrite, object_bytes, object_has, object_matches, offset_small, of_row, rela, relocated_after}
 use Rattle.linker_final.specs.Final.{Linked, IsLinked, AreAlone, count, put_back}
 use Rattle.linker_final.specs.X86Final.{GotOperand, got_operand, DoesTheSame, GotOperands}
 use Rattle.linker_laws.specs.X86RewriteLaws.{IsRelocated, IsBefore, Laws}
@@ -122,10 +122,6 @@ final_is l i back end kind is after a before_is code_is low high symbol is_symbo
     low high (operands_after (x86_64_rewrite kind) r.offset of_object) value
 
 -- ---- one instruction
-
-abbrev of_row : RelocationKindInfo → Option RelocationKindInfo → RelocationKindInfo
-of_row other None = other
-of_row other (Some row) = row
 
 module _ (laws : Laws) (name : X86_64Relocation) (operand : GotOperand)
     (wanted : got_operand name ≡ Some operand) (l : Linked) (linked : IsLinked l)

@@ -15,10 +15,10 @@ use Rattle.linker_final.proofs.X86Lawful.{AreOf, shaped_of}
 use Rattle.linker_final.proofs.X86Patterns.{there_inside}
 use Rattle.linker_final.proofs.X86Rows.{tpoff32}
 use Rattle.linker_final.proofs.X86ThreadEntries.{entry_final}
-use Rattle.linker_final.proofs.X86ThreadRows.{module_row, thread_row}
 use Rattle.linker_final.proofs.X86Windows.{HasRewrite, no_field, object_bytes, object_has, object_matches, offset_small, unrelocated}
 use Rattle.linker_final.specs.Final.{AreAlone, HasNoByte, IsLinked, Linked, count}
 use Rattle.linker_final.specs.X86ThreadFinal.{AddressIsTheSame, AreAloneWithNext, BlockIsReplaced, EntryHolds, GeneralDynamic, LocalDynamic, general_dynamic, local_dynamic, object_in, reads_entry}
+use Rattle.linker_laws.proofs.X86Fields.{thread_row, tls_module_row}
 use Rattle.linker_laws.specs.Schemes.{AreAddresses}
 use Rattle.linker_laws.specs.X86RewriteLaws.{IsBefore, thread_offset}
 use Rattle.linker_laws.specs.X86Machine.{State, load}
@@ -162,16 +162,16 @@ module _ (l : Linked) (linked : IsLinked l) (x86 : l.setting.architecture ≡ X8
 
   -- of a module
   block : (count : ℕ) → ReplacesModuleCall call count kind → back ≡ 3 → chosen.relocation ≡ 0
-      → BlockIsReplaced l i (record { back = back; call = call; count = count }) module_row
+      → BlockIsReplaced l i (record { back = back; call = call; count = count }) tls_module_row
   block count law three code symbol entry s changed returned original addresses small addend ip thread returns was =
-      let operands = operands_with X86_64 l.addresses module_row symbol r entry in
+      let operands = operands_with X86_64 l.addresses tls_module_row symbol r entry in
       let image = l.addresses.module_origin in
       let pointed = l.addresses.thread_origin in
       subst (λ n. EndAlike call count (drop (o - n) original) (drop (o - n) l.final) s changed returned (ReachTheSame changed image pointed)) (sym three)
       (subst (λ xs. EndAlike call count (drop (o - 3) original) (drop (o - 3) xs) s changed returned (ReachTheSame changed image pointed))
       (unrelocated l i back (4 + call) kind has code)
       (law.1 object original o operands image pointed s changed returned
-      (subst (λ n. IsBefore n object o operands s) three (before module_row symbol entry s addresses addend ip))
+      (subst (λ n. IsBefore n object o operands s) three (before tls_module_row symbol entry s addresses addend ip))
       matches thread addresses.tls_base small returns was))
 
 -- ---- general-dynamic
@@ -214,7 +214,7 @@ abbrev Module : Linked → ℕ → Relaxation → Type 0
 Module l i kind =
     IsSomeAnd (local_dynamic kind) (λ q.
     AreAloneWithNext l i ((relocation_in l.relocations i).offset - q.back) ((relocation_in l.relocations i).offset + (4 + q.call))
-    → BlockIsReplaced l i q module_row)
+    → BlockIsReplaced l i q tls_module_row)
 
 pub local_dynamic_too : laws.LocalDynamic → LocalDynamic
 local_dynamic_too law l linked x86 i chosen below is_name decided =

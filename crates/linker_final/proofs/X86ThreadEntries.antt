@@ -12,10 +12,11 @@ use Rattle.linker_elf.specs.declared.elf.value.Operands.{Operands}
 use Rattle.linker_elf.specs.declared.x86_64.relocations.X86_64Relocation.TheVariants as names
 use Rattle.linker_final.proofs.PlainRows.{are_there}
 use Rattle.linker_final.proofs.X86Finals.{moved}
-use Rattle.linker_final.proofs.X86ThreadRows.{entry_row, plain_entry, thread_row}
+use Rattle.linker_final.proofs.X86ThreadRows.{plain_entry}
 use Rattle.linker_final.proofs.X86Windows.{HasRewrite, offset_small, r_after, rela, relocated_after, row_after, within_after}
 use Rattle.linker_final.specs.Final.{Linked}
 use Rattle.linker_final.specs.X86ThreadFinal.{object_in}
+use Rattle.linker_laws.proofs.X86Fields.{thread_row, tls_got_row}
 use Rattle.linker_laws.specs.X86RewriteLaws.{IsRelocated}
 use Rattle.linker_section.specs.Relocations.{relocation_in}
 use Rattle.linker_section.specs.Values.{is_there, operands_by, operands_in, operands_of, operands_with}
@@ -46,27 +47,27 @@ module _ (l : Linked) (i back end : ℕ) (kind : RelaxationKind) (is : HasRewrit
         rela (is.window.made.offset r.offset) is.chosen.relocation r.symbol (is.window.made.addend r.addend)
 
     -- the section is written, so that there is an entry
-    taken : operands_of X86_64 l.addresses l.symbols entry_row relocation
-        ≡ Ok (operands_with X86_64 l.addresses entry_row symbol relocation symbol.thread_entry)
+    taken : operands_of X86_64 l.addresses l.symbols tls_got_row relocation
+        ≡ Ok (operands_with X86_64 l.addresses tls_got_row symbol relocation symbol.thread_entry)
     taken =
         elim (cases_Bool (is_there l.addresses symbol offset_entry)) [
           | inl there ↦
-              ap (operands_in X86_64 l.addresses entry_row relocation) is_symbol
-              ∙ ap (λ b. operands_by X86_64 l.addresses entry_row relocation symbol (cond b (Some symbol.thread_entry) None)) there
+              ap (operands_in X86_64 l.addresses tls_got_row relocation) is_symbol
+              ∙ ap (λ b. operands_by X86_64 l.addresses tls_got_row relocation symbol (cond b (Some symbol.thread_entry) None)) there
           | inr missing ↦
-              let error : operands_of X86_64 l.addresses l.symbols entry_row relocation ≡ Err NoEntry =
-              ap (operands_in X86_64 l.addresses entry_row relocation) is_symbol
-              ∙ ap (λ b. operands_by X86_64 l.addresses entry_row relocation symbol (cond b (Some symbol.thread_entry) None)) missing in
+              let error : operands_of X86_64 l.addresses l.symbols tls_got_row relocation ≡ Err NoEntry =
+              ap (operands_in X86_64 l.addresses tls_got_row relocation) is_symbol
+              ∙ ap (λ b. operands_by X86_64 l.addresses tls_got_row relocation symbol (cond b (Some symbol.thread_entry) None)) missing in
               let after = r_after l i back end kind is in
               let written = is.linked.written.can in
               absurd
               (are_there l.setting.architecture l.addresses l.relocations_after l.symbols
-              (relocation_in l.relocations_after i) entry_row
-              (row_after l is.linked is.x86 i is.below names.R_X86_64_GOTTPOFF tt entry_row refl
+              (relocation_in l.relocations_after i) tls_got_row
+              (row_after l is.linked is.x86 i is.below names.R_X86_64_GOTTPOFF tt tls_got_row refl
               (ap (λ (x : Rela). x.code) after ∙ code_is)) refl refl (written.found i)
               (written.are_found i (within_after l i back end kind is)) NoEntry
-              (subst (λ x. operands_of x l.addresses l.symbols entry_row (relocation_in l.relocations_after i) ≡ Err NoEntry) (sym is.x86)
-              (subst (λ x. operands_of X86_64 l.addresses l.symbols entry_row x ≡ Err NoEntry) (sym after) error)))
+              (subst (λ x. operands_of x l.addresses l.symbols tls_got_row (relocation_in l.relocations_after i) ≡ Err NoEntry) (sym is.x86)
+              (subst (λ x. operands_of X86_64 l.addresses l.symbols tls_got_row x ≡ Err NoEntry) (sym after) error)))
         ]
 
     pub entry_final : r.offset - back ≤ is.window.made.offset r.offset
@@ -82,9 +83,9 @@ module _ (l : Linked) (i back end : ℕ) (kind : RelaxationKind) (is : HasRewrit
         let was = operands_with X86_64 l.addresses thread_row symbol r entry in
         let e = symbol.thread_entry in
         let q = operands_after (Some made) r.offset was in
-        relocated_after l i back end kind is names.R_X86_64_GOTTPOFF entry_row plain_entry refl tt code_is
-        (operands_with X86_64 l.addresses entry_row symbol relocation e) taken low high
+        relocated_after l i back end kind is names.R_X86_64_GOTTPOFF tls_got_row plain_entry refl tt code_is
+        (operands_with X86_64 l.addresses tls_got_row symbol relocation e) taken low high
         (record (operands_after (x86_64_rewrite kind) r.offset was) { got_entry = e })
-        (ap (λ m. value_of entry_row (record (operands_after m r.offset was) { got_entry = e })) is.window.is
-        ∙ ap (λ x. value_of entry_row (with_place q e x))
+        (ap (λ m. value_of tls_got_row (record (operands_after m r.offset was) { got_entry = e })) is.window.is
+        ∙ ap (λ x. value_of tls_got_row (with_place q e x))
         (moved l.addresses.section r.offset (made.offset r.offset) (offset_small l i back end kind is)))

@@ -20,11 +20,12 @@ use Rattle.linker_final.proofs.PlainRows.{IsPlain}
 use Rattle.linker_final.proofs.PutBack.{back_outside, put_back_is}
 use Rattle.linker_final.proofs.X86Chosen.{of_table}
 use Rattle.linker_final.proofs.X86Finals.{some_and}
-use Rattle.linker_final.proofs.X86ThreadRows.{block_row, long_block_row, long_thread_row, plain_long_thread, plain_thread, thread_row}
+use Rattle.linker_final.proofs.X86Rows.{tpoff32}
+use Rattle.linker_final.proofs.X86ThreadRows.{plain_long_thread}
 use Rattle.linker_final.proofs.X86Windows.{rela, relocated, row_after, small_byte}
 use Rattle.linker_final.specs.Final.{IsLinked, Linked, count}
 use Rattle.linker_final.specs.X86ThreadFinal.{LeadsToTheSame, Offsets, object_in}
-use Rattle.linker_laws.proofs.X86Fields.{block_field, long_block_field, long_thread_field, thread_field}
+use Rattle.linker_laws.proofs.X86Fields.{block_field, block_row, long_block_field, long_block_row, long_thread_field, long_thread_row, thread_field, thread_row}
 use Rattle.linker_laws.specs.Schemes.{AreAddresses, symbol_address}
 use Rattle.linker_laws.specs.X86Machine.{extended}
 use Rattle.linker_laws.specs.X86RewriteLaws.{IsRelocatedBy}
@@ -118,7 +119,7 @@ short_rows =
     record {
       some = omega arith;
       lowest = four_bytes;
-      plain = plain_thread;
+      plain = tpoff32.plain;
       of = (refl, refl, refl);
       alone = λ addresses symbol r. refl;
       origin = λ addresses symbol r entry. refl;

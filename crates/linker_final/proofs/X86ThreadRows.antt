@@ -1,37 +1,14 @@
--- The rows of the relocations that x86-64's sequences for thread-local variables have, and those of an
--- offset's field alone.
-use Rattle.std.proofs.Common.{◌≡◌, ℕ, ℤ, pos, ◌%◌, ◌^◌, ◌<◌, refl, sym, ap, ◌∙◌, arith, Option, Some, None}
+-- Rows of relocations that x86-64's sequences for thread-local variables have.
+use Rattle.std.proofs.Common.{◌≡◌, ℕ, ℤ, pos, ◌%◌, ◌^◌, ◌<◌, refl, sym, ap, ◌∙◌, arith, Some}
 use Rattle.std.proofs.lemmas.Int.{of_z-to_z}
 use Rattle.std.specs.Int.{w64, cast_signed, cast_unsigned, int_rem_euclid}
-use Rattle.linker_elf.specs.Rows.{bytes_row, signed_row}
 use Rattle.linker_elf.specs.Value.{difference_64, symbol_term}
-use Rattle.linker_elf.specs.declared.elf.RelocationKind.TheVariants.{DtpOff, GotTpOff, TlsLd, TpOff}
-use Rattle.linker_elf.specs.declared.elf.RelocationKindInfo.{RelocationKindInfo}
-use Rattle.linker_final.proofs.PlainRows.{IsPlain}
+use Rattle.linker_final.proofs.PlainRows.{IsPlain, value_in}
 use Rattle.linker_final.proofs.X86Rows.{signed_remainder}
+use Rattle.linker_laws.proofs.X86Fields.{long_thread_row, tls_got_row}
 use Rattle.linker_laws.proofs.Sums.{cast_is, difference_below}
 
--- those of R_X86_64_TLSLD, R_X86_64_GOTTPOFF, R_X86_64_TPOFF32, R_X86_64_TPOFF64,
--- R_X86_64_DTPOFF32 and R_X86_64_DTPOFF64
-abbrev pub module_row : RelocationKindInfo
-module_row = signed_row 32 (bytes_row TlsLd 4)
-
-abbrev pub entry_row : RelocationKindInfo
-entry_row = signed_row 32 (bytes_row GotTpOff 4)
-
-abbrev pub thread_row : RelocationKindInfo
-thread_row = signed_row 32 (bytes_row TpOff 4)
-
-abbrev pub long_thread_row : RelocationKindInfo
-long_thread_row = bytes_row TpOff 8
-
-abbrev pub block_row : RelocationKindInfo
-block_row = signed_row 32 (bytes_row DtpOff 4)
-
-abbrev pub long_block_row : RelocationKindInfo
-long_block_row = bytes_row DtpOff 8
-
-pub plain_entry : IsPlain 4 entry_row
+pub plain_entry : IsPlain 4 tls_got_row
 plain_entry =
     record {
       size = refl;
@@ -44,24 +21,6 @@ plain_entry =
       remainder = λ o v is. signed_remainder v;
       holds = λ len v before after is. is;
     }
-
-pub plain_thread : IsPlain 4 thread_row
-plain_thread =
-    record {
-      size = refl;
-      valued = refl;
-      unlabelled = refl;
-      alone = refl;
-      some = λ o. tt;
-      writes = λ v old. refl;
-      composes = λ v number. refl;
-      remainder = λ o v is. signed_remainder v;
-      holds = λ len v before after is. is;
-    }
-
-abbrev value_in : ℤ → Option ℤ → ℤ
-value_in other None = other
-value_in other (Some v) = v
 
 same_value : (v w : ℤ) → Some w ≡ Some v → v ≡ w
 same_value v w is = sym (ap (value_in v) is)

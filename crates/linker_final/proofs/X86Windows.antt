@@ -143,7 +143,7 @@ module _ (n : ℕ) (row : RelocationKindInfo) (plain : IsPlain n row) (operands 
 
 -- ---- codes without a field
 
-abbrev of_row : RelocationKindInfo → Option RelocationKindInfo → RelocationKindInfo
+abbrev pub of_row : RelocationKindInfo → Option RelocationKindInfo → RelocationKindInfo
 of_row other None = other
 of_row other (Some row) = row
 
