@@ -39,8 +39,8 @@ void bind_symbols(void) {
         bool is_seen = bind_of(s) != STB_LOCAL && rank(s) != 2 &&
                        (is_default || visibility_of(s) == STV_PROTECTED);
         if (s->library && is_thread_local(s) != (ELF64_ST_TYPE(s->there.st_info) == STT_TLS))
-            fail("%s: '%s' is thread-local in only one of it and %s", s->object->path, s->name,
-                 s->library->file.path);
+            fail_of(s->object, "'%s' is thread-local in only one of it and %s", s->name,
+                    s->library->file.path);
         s->is_imported = is_seen && is_default &&
                          (is_shared || (!is_defined(s) && (s->library || may_be_absent(s))));
         s->is_exported = is_seen && is_defined(s) && (is_shared || s->is_exported);
@@ -88,7 +88,7 @@ static void make_copy(struct symbol *s) {
     const struct library *l = s->library;
     struct output *bss = output_of(".bss");
     if (!s->there.st_size || s->there.st_size > MOST_BYTES)
-        fail("%s: .dynsym: '%s' can't be copied", l->file.path, s->name);
+        fail_in(&l->file, ".dynsym", "'%s' can't be copied", s->name);
     bss->flags |= SHF_WRITE | SHF_ALLOC;
     uint64_t at = make_room(bss, import_align(s), s->there.st_size);
     add_row(bss, at, types.copy, s, 0);

@@ -43,10 +43,9 @@ uint64_t add_slot(struct symbol *s, uint32_t type) {
 void write_stubs(void) {
     for (const struct stub *s = added; s; s = s->before) {
         struct output *o = s->part.output;
-        uint64_t place = address_of(o, s->part.offset), at = place - o->address;
-        uint64_t target = address_of(s->target, s->target_offset);
-        uint32_t status = linker_utils_write_stub(machine, s->kind, place, target, o->bytes + at,
-                                                  o->len - at);
+        uint64_t at = s->part.offset, target = address_of(s->target, s->target_offset);
+        uint32_t status = linker_utils_write_stub(machine, s->kind, o->address + at, target,
+                                                  o->bytes + at, s->part.len);
         if (status) fail("a stub to '%s': %s", s->name, linker_utils_status_text(status));
     }
 }
@@ -171,10 +170,10 @@ void make_entries(void) {
 static void write_entry(const struct symbol *s, const struct entry *e) {
     struct linker_utils_entry_words words;
     uint64_t at = s ? address_of(s->output, s->offset) : 0;
-    if (s && is_undefined_weak(s))
-        at = e->class == LINKER_UTILS_ENTRY_THREAD_OFFSET   ? tls.origins.thread_pointer
-             : e->class == LINKER_UTILS_ENTRY_MODULE_OFFSET ? tls.image
-                                                            : 0;
+    if (s && is_undefined_weak(s)) {
+        at = e->class == LINKER_UTILS_ENTRY_MODULE_OFFSET ? tls.image : 0;
+        if (e->class == LINKER_UTILS_ENTRY_THREAD_OFFSET) at = tls.origins.thread_pointer;
+    }
     if (!linker_utils_static_words(e->class, at + (uint64_t)e->addend, &tls.origins, &words))
         memcpy(got->bytes + e->offset, &words, 8 * linker_utils_entry_words(e->class));
 }
@@ -219,7 +218,7 @@ static bool add_thunk(struct section *s, Elf64_Rela *r, const struct linker_util
     struct linker_utils_route route;
     Elf64_Rela one = {r->r_offset, ELF64_R_INFO(UINT64_C(1), type_of(r)), r->r_addend};
     struct linker_utils_symbol known[2] = {{.address = 0}, known_symbol(to, 0)};
-    struct linker_utils_addresses addresses = addresses_of(address_of(o, s->offset));
+    struct linker_utils_addresses addresses = addresses_of(o->address + s->offset);
     uint32_t status =
         linker_utils_route_at(machine, &addresses, (const uint8_t *)&one, sizeof one, known, 2, 0,
                               o->bytes + s->offset, s->len, &route);

@@ -33,7 +33,7 @@ static uint8_t encoding_of(const struct section *s, const uint8_t *bytes, uint64
             holds = strchr("BGS", *text);
         }
     }
-    if (!holds || at > len) fail("%s: %s: a malformed CIE", s->object->path, s->name);
+    if (!holds || at > len) fail_in(s->object, s->name, "a malformed CIE");
     return encoding;
 }
 
@@ -41,7 +41,7 @@ static uint8_t encoding_of(const struct section *s, const uint8_t *bytes, uint64
 static int32_t in_index(const struct section *s, uint64_t address) {
     int64_t offset = (int64_t)(address - index_of->address);
     if (offset != (int32_t)offset)
-        fail("%s: %s: .eh_frame_hdr doesn't reach 0x%" PRIx64, s->object->path, s->name, address);
+        fail_in(s->object, s->name, ".eh_frame_hdr doesn't reach 0x%" PRIx64, address);
     return (int32_t)offset;
 }
 
@@ -55,19 +55,19 @@ uint64_t read_frames(const struct section *s, const uint8_t *bytes, uint8_t *row
         memcpy(&size, bytes + at, 4);
         next = at + 4 + size;
         if (!size) continue;
-        if (next > len || size < 8) fail("%s: %s: it ends too early", s->object->path, s->name);
+        if (next > len || size < 8) fail_in(s->object, s->name, "it ends too early");
         memcpy(&back, bytes + at + 4, 4);
         count += !rows && back;
         if (rows && !back) is_cie[at] = true;
         if (!rows || !back) continue;
         uint64_t place = frames->address + s->offset + at, cie = at + 4 - back, address = 0;
         if (back > at + 4 || !is_cie[cie])
-            fail("%s: %s: a record without its CIE", s->object->path, s->name);
+            fail_in(s->object, s->name, "a record without its CIE");
         memcpy(&cie_len, bytes + cie, 4);
         uint8_t encoding = encoding_of(s, bytes + cie, 4 + (uint64_t)cie_len);
         bool is_short = (encoding & 7) == 3;
         if (encoding & 0xe0 || (!is_short && (encoding & 3 || size < 12)))
-            fail("%s: %s: such addresses are not supported", s->object->path, s->name);
+            fail_in(s->object, s->name, "such addresses are not supported");
         memcpy(&address, bytes + at + 8, is_short ? 4 : 8);
         if (!address) continue; /* of a function that is left out */
         if (is_short && encoding & 8) address = (uint64_t)(int32_t)address;

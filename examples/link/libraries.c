@@ -5,27 +5,26 @@ struct library *libraries;
 static struct library **libraries_end = &libraries;
 
 /* Bytes of a section, which have to be in it. */
-static const uint8_t *bytes_in(const struct library *l, const Elf64_Shdr *head, uint64_t at,
-                               uint64_t len) {
-    if (at > head->sh_size || len > head->sh_size - at)
-        fail_in(&l->file, l->file.sections[head - l->file.heads].name, "it ends too early");
-    return l->file.bytes + head->sh_offset + at;
+static const uint8_t *bytes_in(const struct section *s, uint64_t at, uint64_t len) {
+    if (at > s->head->sh_size || len > s->head->sh_size - at)
+        fail_in(s->object, s->name, "it ends too early");
+    return s->object->bytes + s->head->sh_offset + at;
 }
 
-static const char *name_in(const struct library *l, const Elf64_Shdr *head, uint64_t at) {
-    return text_at(&l->file, l->file.sections[head - l->file.heads].name, head->sh_link, at);
+static const char *name_in(const struct section *s, uint64_t at) {
+    return text_at(s->object, s->name, s->head->sh_link, at);
 }
 
 /* The names of the versions that a library defines, by their numbers. The first is its own name. */
-static void read_versions(struct library *l, const Elf64_Shdr *head) {
+static void read_versions(struct library *l, const struct section *s) {
     Elf64_Verdef version = {.vd_next = 0};
     Elf64_Verdaux name;
     uint64_t at = 0;
-    for (uint32_t left = head->sh_info; left; left = version.vd_next ? left - 1 : 0) {
-        memcpy(&version, bytes_in(l, head, at, sizeof version), sizeof version);
-        memcpy(&name, bytes_in(l, head, at + version.vd_aux, sizeof name), sizeof name);
+    for (uint32_t left = s->head->sh_info; left; left = version.vd_next ? left - 1 : 0) {
+        memcpy(&version, bytes_in(s, at, sizeof version), sizeof version);
+        memcpy(&name, bytes_in(s, at + version.vd_aux, sizeof name), sizeof name);
         l->versions[version.vd_ndx & MOST_VERSIONS] =
-            (struct version){.name = name_in(l, head, name.vda_name), .hash = version.vd_hash};
+            (struct version){.name = name_in(s, name.vda_name), .hash = version.vd_hash};
         at += version.vd_next;
     }
     l->versions[VER_NDX_LOCAL].name = l->versions[VER_NDX_GLOBAL].name = NULL;
@@ -48,26 +47,25 @@ static struct symbol *offer_import(const char *name, struct library *l, const El
 }
 
 /* Offers what a library defines, but for versions that only old programs ask for. */
-static void read_dynamic_symbols(struct library *l, const Elf64_Shdr *head,
-                                 const Elf64_Shdr *versions) {
-    const Elf64_Sym *elf = table_of(&l->file, head, sizeof *elf, &l->file.symbols_len);
+static void read_dynamic_symbols(struct library *l, const struct section *s,
+                                 const struct section *versions) {
+    const Elf64_Sym *elf = table_of(&l->file, s->head, sizeof *elf, &l->file.symbols_len);
     l->file.symbols = take(l->file.symbols_len, sizeof *l->file.symbols);
     for (size_t i = 0; i < l->file.symbols_len; i++, elf++) {
         uint16_t version = VER_NDX_GLOBAL;
-        if (versions) memcpy(&version, bytes_in(l, versions, 2 * i, 2), 2);
-        const char *name = name_in(l, head, elf->st_name);
+        if (versions) memcpy(&version, bytes_in(versions, 2 * i, 2), 2);
+        const char *name = name_in(s, elf->st_name);
         bool is_hidden = version & ~MOST_VERSIONS || version == VER_NDX_LOCAL;
         if (ELF64_ST_BIND(elf->st_info) == STB_LOCAL || (elf->st_shndx && is_hidden)) continue;
         if (version > VER_NDX_GLOBAL && elf->st_shndx && !l->versions[version].name)
-            fail_in(&l->file, l->file.sections[head - l->file.heads].name,
-                    "'%s' is of a version that is not there", name);
+            fail_in(&l->file, s->name, "'%s' is of a version that is not there", name);
         l->file.symbols[i] = offer_import(name, l, elf, version);
     }
 }
 
 void read_library(struct object file) {
     struct library *l = take(1, sizeof *l);
-    const Elf64_Shdr *symbols = NULL, *versions = NULL;
+    const struct section *symbols = NULL, *versions = NULL;
     uint32_t joined;
     *l = (struct library){.file = file, .versions = take(MOST_VERSIONS + 1, sizeof *l->versions)};
     l->name = strrchr(file.path, '/') ? strrchr(file.path, '/') + 1 : file.path;
@@ -77,16 +75,16 @@ void read_library(struct object file) {
     demand(&l->file,
            !objects || !linker_utils_join_flags(machine, machine_flags, l->file.flags, &joined),
            "of another ABI than those before it");
-    for (size_t i = 0; i < l->file.sections_len; i++) {
-        const Elf64_Shdr *head = &l->file.heads[i];
-        if (head->sh_type == SHT_DYNSYM) symbols = head;
-        if (head->sh_type == SHT_GNU_versym) versions = head;
-        if (head->sh_type == SHT_GNU_verdef) read_versions(l, head);
-        for (uint64_t at = 0; head->sh_type == SHT_DYNAMIC && at < head->sh_size; at += 16) {
+    EACH_SECTION_OF(&l->file, s) {
+        uint32_t type = s->head->sh_type;
+        if (type == SHT_DYNSYM) symbols = s;
+        if (type == SHT_GNU_versym) versions = s;
+        if (type == SHT_GNU_verdef) read_versions(l, s);
+        for (uint64_t at = 0; type == SHT_DYNAMIC && at < s->head->sh_size; at += 16) {
             Elf64_Dyn entry;
-            memcpy(&entry, bytes_in(l, head, at, sizeof entry), sizeof entry);
+            memcpy(&entry, bytes_in(s, at, sizeof entry), sizeof entry);
             if (entry.d_tag == DT_NULL) break;
-            if (entry.d_tag == DT_SONAME) l->name = name_in(l, head, entry.d_un.d_val);
+            if (entry.d_tag == DT_SONAME) l->name = name_in(s, entry.d_un.d_val);
         }
     }
     demand(&l->file, symbols, "a shared library without dynamic symbols");
@@ -99,6 +97,6 @@ uint64_t import_align(const struct symbol *s) {
     const struct object *o = &s->library->file;
     if (s->there.st_shndx < o->sections_len) most = o->heads[s->there.st_shndx].sh_addralign;
     if (!most || most & (most - 1) || most > MOST_ALIGN)
-        fail("%s: .dynsym: '%s' can't be aligned so", o->path, s->name);
+        fail_in(o, ".dynsym", "'%s' can't be aligned so", s->name);
     return align && align < most ? align : most;
 }

@@ -1,7 +1,7 @@
 /* A small linker over the library, for RISC-V, AArch64, LoongArch, PowerPC64 (ELFv2, little-endian)
  * and x86-64, none of which it knows. It reads relocatable ELF64 objects, archives of them and
- * shared libraries, and writes an executable that begins at `_start`, static or for a dynamic linker,
- * or a shared library. main.c has the steps; each other file is one part:
+ * shared libraries, and writes an executable that begins at `_start`, static or for a dynamic
+ * linker, or a shared library. main.c has the steps; each other file is one part:
  *
  * - objects.c: objects, archives and groups
  * - symbols.c: which definition a name has, and what the linker itself defines
@@ -48,7 +48,7 @@ enum { RANK_HEADERS, RANK_FIXED, RANK_CODE, RANK_TLS, RANK_TLS_BSS, RANK_ARRAYS,
 #define EACH_OUTPUT(o) for (struct output *o, **o##_at = outputs; (o = *o##_at); o##_at++)
 #define EACH_OBJECT(o) for (struct object *o = objects; o; o = o->next)
 #define EACH_SECTION_OF(o, s) \
-    for (struct section *s = o->sections; s < o->sections + o->sections_len; s++)
+    for (struct section *s = (o)->sections; s < (o)->sections + (o)->sections_len; s++)
 #define EACH_SECTION(s) EACH_OBJECT(s##_of) EACH_SECTION_OF(s##_of, s)
 #define EACH_SYMBOL(s) for (struct symbol *s = symbols; s; s = s->later)
 #define EACH_RELOCATION(s, r) \

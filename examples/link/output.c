@@ -60,10 +60,10 @@ Elf64_Sym symbol_of(const struct symbol *s) {
     Elf64_Sym elf = s->elf;
     const struct output *o = s->output;
     unsigned type = ELF64_ST_TYPE(elf.st_info);
-    elf.st_value = address_of(o, s->offset);
+    uint64_t at = elf.st_value = address_of(o, s->offset);
     if (s == module_base || (o && type == STT_TLS)) elf.st_value -= tls.image;
     if (o && elf.st_shndx < SHN_LORESERVE) /* less is left of code that shrinks */
-        elf.st_size = address_of(o, s->offset + elf.st_size) - address_of(o, s->offset);
+        elf.st_size = address_of(o, s->offset + elf.st_size) - at;
     else if (o && type == STT_GNU_IFUNC) /* its stub */
         type = STT_FUNC, elf.st_size = 0;
     elf.st_info = ELF64_ST_INFO(is_local(s) ? STB_LOCAL : bind_of(s), type);

@@ -67,47 +67,50 @@ static void move_relocations(struct section *s) {
     }
 }
 
-/* Writes a section anew: what becomes shorter, and without what it loses. What loses nothing stays
- * as it is. Returns how long it is then. */
-static size_t pack(struct section *s, uint8_t *to) {
+/* Writes a section anew at an offset of what is packed: what becomes shorter, and without what it
+ * loses. Items that lose nothing count no more. */
+static void pack(struct section *s, uint8_t *packed, uint64_t to) {
     const struct output *o = s->output;
     const struct run *run = o->run;
-    size_t first = s->first_item, len = s->items_len, at = SIZE_MAX;
-    uint64_t base = o->base + s->offset;
-    const Elf64_Rela *end = s->relocations + s->relocations_len;
-    for (size_t i = first; i < first + len; i++) {
+    uint64_t base = o->base + s->offset, lost = 0;
+    size_t first = s->first_item, last = first, at = SIZE_MAX;
+    for (size_t i = first; i < first + s->items_len; i++) {
         uint64_t past = items[i].offset - base + items[i].len;
-        if (stay[i] == items[i].len)
-            items[i] = (struct linker_utils_item){
-                .offset = items[i].offset, .target = items[i].offset, .len = items[i].len,
-                .kind = LINKER_UTILS_ITEM_SITE, .shapes = {.longest = items[i].len}};
-        if (!items[i].shapes.count) continue; /* else what is there gets its value here */
-        Elf64_Rela *r = s->relocations + makers[i];
-        for (; r < end && r->r_offset < past; r++) set_type(r, 0);
+        if (stay[i] == items[i].len) continue;
+        lost += items[i].len - stay[i];
+        size_t k = items[i].shapes.count ? makers[i] : s->relocations_len;
+        for (; k < s->relocations_len && s->relocations[k].r_offset < past; k++)
+            set_type(&s->relocations[k], 0); /* its value is written here */
+        items[last] = items[i];
+        stay[last] = stay[i];
+        makers[last++] = makers[i];
     }
-    size_t packed_len = linker_utils_packed_run_len(base, s->len, run->deltas, run->deltas_len);
+    s->items_len = (uint32_t)(last - first);
     uint32_t status = linker_utils_pack_run(machine, o->bytes + s->offset, s->len, base,
-                                            items + first, len, run->deltas, run->deltas_len,
-                                            run->start, to, packed_len, &at);
-    check_items(s, at < len ? makers[first + at] : SIZE_MAX, status);
+                                            items + first, s->items_len, run->deltas,
+                                            run->deltas_len, run->start, packed + to,
+                                            s->len - lost, &at);
+    check_items(s, at < s->items_len ? makers[first + at] : SIZE_MAX, status);
     move_relocations(s);
-    return packed_len;
+    s->offset = to;
+    s->len -= lost;
 }
 
 /* Writes code anew, with what stays of the gaps between its parts. */
 static void pack_output(struct output *o) {
-    uint8_t *packed = zeros(o->len, 1), *to = packed;
-    uint64_t from = 0;
+    uint8_t *packed = zeros(o->len, 1);
+    uint64_t from = 0, to = 0;
     for (struct section *s = o->first; s; s = s->behind) {
-        uint64_t len = s->offset - s->gap - from + (s->gap ? stay[s->first_item - 1] : 0);
-        memcpy(to, o->bytes + from, len);
-        to += len;
-        to += pack(s, to);
-        from = s->offset + s->len;
+        uint64_t end = s->offset + s->len, len = s->offset - s->gap - from;
+        if (s->gap) len += stay[s->first_item - 1];
+        memcpy(packed + to, o->bytes + from, len);
+        pack(s, packed, to + len);
+        to = s->offset + s->len;
+        from = end;
     }
     free(o->bytes);
     o->bytes = packed;
-    o->len = (uint64_t)(to - packed);
+    o->len = to;
 }
 
 /* Relaxes the sections of a run. */

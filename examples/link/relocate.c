@@ -121,12 +121,10 @@ static void change_number(const struct section *s, const Elf64_Rela *r, int64_t 
 static void relocate_section(struct section *s, const struct linker_utils_symbol *values) {
     static uint64_t *memory; /* for one section after another */
     static size_t room;
-    uint64_t start = address_of(s->output, s->offset);
-    size_t len = address_of(s->output, s->offset + s->len) - start, at = 0;
     size_t size = s->relocations_len * sizeof(Elf64_Rela), count = s->object->symbols_len;
-    uint8_t *relocations = (uint8_t *)s->relocations;
-    uint8_t *bytes = s->output->bytes + (start - s->output->address);
-    struct linker_utils_addresses addresses = addresses_of(start);
+    size_t len = s->len, at = 0;
+    uint8_t *relocations = (uint8_t *)s->relocations, *bytes = s->output->bytes + s->offset;
+    struct linker_utils_addresses addresses = addresses_of(s->output->address + s->offset);
     int64_t value;
     if (s->has_numbers)
         EACH_RELOCATION(s, r) {

@@ -54,22 +54,19 @@ static void rewrite_in(uint32_t phase, struct section *s, bool is_survey) {
     size_t count = s->object->symbols_len, len = s->relocations_len, used = 0, at = 0;
     size_t values_len = phase == LINKER_UTILS_PHASE_EARLY ? 0 : count;
     size_t relocations_len = len * sizeof *s->relocations;
-    uint64_t start = address_of(s->output, s->offset);
-    uint64_t size = address_of(s->output, s->offset + s->len) - start;
-    uint8_t *bytes = s->output->bytes + (start - s->output->address);
-    uint8_t *relocations = (uint8_t *)s->relocations;
-    struct linker_utils_addresses addresses = addresses_of(start);
+    uint8_t *relocations = (uint8_t *)s->relocations, *bytes = s->output->bytes + s->offset;
+    struct linker_utils_addresses addresses = addresses_of(s->output->address + s->offset);
     if (is_survey) {
         linker_utils_survey_placed_section(machine, phase, &linked, facts, count, &addresses,
                                            values, values_len, relocations, relocations_len, bytes,
-                                           size, kept, count);
+                                           s->len, kept, count);
         return;
     }
     decisions = grow(decisions, len, &rooms[0], sizeof *decisions);
     deleted = grow(deleted, len, &rooms[1], sizeof *deleted);
     uint32_t status = linker_utils_rewrite_placed_section(
         machine, phase, &linked, facts, count, &addresses, values, values_len, kept, count,
-        relocations, relocations_len, bytes, size, decisions, len, deleted, len, &used, &at);
+        relocations, relocations_len, bytes, s->len, decisions, len, deleted, len, &used, &at);
     check(s, &s->relocations[at < len ? at : 0], status);
     if (!used) return;
     s->deleted_len = (uint32_t)used;
