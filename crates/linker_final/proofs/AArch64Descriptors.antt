@@ -2,7 +2,7 @@
 -- object's do.
 use Rattle.std.proofs.Common.{◌≡◌, ℕ, ◌+◌, ◌≤◌, List, length, refl, sym, ap, subst, ◌∙◌, inl, inr, arith, true, Some, None, cond}
 use Rattle.std.specs.Prelude.{slice_get}
-use Rattle.linker_aarch64.specs.AArch64Rewrites.{aarch64_entries, to_initial_exec, to_local_exec}
+use Rattle.linker_aarch64.specs.AArch64Rewrites.{aarch64_entries, to_initial_exec, to_local_exec, aarch64_rewrite}
 use Rattle.linker_aarch64.specs.declared.rewrites.RelaxationKind.{RelaxationKind}
 use Rattle.linker_aarch64.specs.declared.rewrites.RelaxationKind.TheVariants as kinds
 use Rattle.linker_elf.specs.AArch64Relocations.{aarch64_name, insn_row}
@@ -18,14 +18,15 @@ use Rattle.linker_elf.specs.declared.aarch64.relocations.AArch64Relocation.TheVa
 use Rattle.linker_elf.specs.declared.elf.choice.Choice.{Choice}
 use Rattle.linker_final.proofs.AArch64Alone.{high_after, low_after}
 use Rattle.linker_final.proofs.AArch64Chosen.{IsOfOne, of_one}
-use Rattle.linker_final.proofs.AArch64Written.{IsAfter, applied_there, becomes, becomes_nop}
-use Rattle.linker_final.proofs.Written.{rela, with_operands}
+use Rattle.linker_final.proofs.AArch64Written.{IsAfter, applied_there, becomes, becomes_nop, entry_there}
+use Rattle.linker_final.proofs.Written.{rela, relocation_is, with_operands}
 use Rattle.linker_final.specs.AArch64Final.{Descriptors, EachDescriptor, LoadsOffset, OffsetIsTheSame}
 use Rattle.linker_final.specs.Final.{instruction_at}
 use Rattle.linker_laws.specs.AArch64RewriteLaws.{IsRewritten, Laws, behind, with_entry}
 use Rattle.linker_section.specs.Relocations.{relocation_in}
 use Rattle.linker_section.specs.Values.{is_there, operands_by, operands_with}
 use Rattle.linker_section.specs.declared.needed.EntryClass.TheVariants.{ThreadOffset}
+use Rattle.linker_utils.specs.Architectures.{relaxation_rewrite}
 use Rattle.linker_utils.specs.declared.architecture.Relaxation.{Relaxation}
 use Rattle.linker_utils.specs.declared.architecture.Relaxation.TheVariants as relaxations
 use Rattle.linker_utils.specs.declared.elf.Architecture.TheVariants.{AArch64}
@@ -197,7 +198,7 @@ ldr_code section o chosen kind (inl this) =
 ldr_code section o chosen kind (inr (inr nothing)) = absurd nothing
 
 to_initial : Laws → EachDescriptor kinds.AdrpX0 kinds.LdrX0 LoadsOffset
-to_initial laws l linked aarch64 i j k m of add_alone call_alone symbol is_symbol there small call c got s adrp ldr add holds descriptor object =
+to_initial laws l linked aarch64 i j k m of add_alone call_alone symbol is_symbol small call c got s adrp ldr add holds descriptor object =
     let r = relocation_in l.relocations i in
     let r2 = relocation_in l.relocations j in
     let r3 = relocation_in l.relocations k in
@@ -213,6 +214,12 @@ to_initial laws l linked aarch64 i j k m of add_alone call_alone symbol is_symbo
     let below4 = of.third.second_below in
     let code = adrp_code l.section o of.page_chosen of.page_kind
     (of_one l linked aarch64 i of.page_chosen of.first.first_below of.page_decided names.R_AARCH64_TLSDESC_ADR_PAGE21 tt of.page) in
+    let there : is_there l.addresses symbol (record { class = ThreadOffset; addend = r.addend }) ≡ true =
+    entry_there l linked aarch64 i of.first.first_below names.R_AARCH64_TLSIE_ADR_GOTTPREL_PAGE21 entry_high
+    (rela o (code_of (aarch64_name names.R_AARCH64_TLSIE_ADR_GOTTPREL_PAGE21)) r.symbol r.addend)
+    (relocation_is l linked i of.page_chosen of.first.first_below of.page_decided (aarch64_rewrite kinds.AdrpX0)
+    (code_of (aarch64_name names.R_AARCH64_TLSIE_ADR_GOTTPREL_PAGE21)) (ap relaxation_rewrite of.page_kind) code)
+    refl symbol is_symbol (record { class = ThreadOffset; addend = r.addend }) refl in
     let code2 = ldr_code l.section r2.offset of.load_chosen of.load_kind
     (of_one l linked aarch64 j of.load_chosen below2 of.load_decided names.R_AARCH64_TLSDESC_LD64_LO12 tt of.load) in
     let erased3 = add_erased l.section r3.offset of.add_chosen

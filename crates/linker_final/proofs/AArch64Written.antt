@@ -15,7 +15,7 @@ use Rattle.linker_elf.specs.declared.elf.RelocationKind.TheVariants.{None as NoV
 use Rattle.linker_elf.specs.declared.elf.RelocationKindInfo.{RelocationKindInfo}
 use Rattle.linker_elf.specs.declared.elf.choice.Choice.{Choice}
 use Rattle.linker_final.proofs.InstructionFields.{IsOfInstruction}
-use Rattle.linker_final.proofs.Written.{IsRowOf, applied_after, by_name, made_there, rela, relocation_is, unwritten_without}
+use Rattle.linker_final.proofs.Written.{IsRowOf, applied_after, by_name, entry_is_there, made_there, rela, relocation_is, unwritten_without}
 use Rattle.linker_final.specs.Final.{Linked, IsLinked, IsWrittenByNoOther, count, instruction_at}
 use Rattle.linker_laws.specs.AArch64RewriteLaws.{BeginsRewritten, IsRewritten}
 use Rattle.linker_rewriting.specs.Decisions.{decision_at}
@@ -23,8 +23,9 @@ use Rattle.linker_rewriting.specs.Rewritten.{relocation_after}
 use Rattle.linker_rewriting.specs.declared.decisions.Decision.TheVariants.{Rewritten}
 use Rattle.linker_section.specs.Needed.{entry_of}
 use Rattle.linker_section.specs.Relocations.{relocation_in}
-use Rattle.linker_section.specs.Values.{entry_address, operands_by, operands_with}
+use Rattle.linker_section.specs.Values.{entry_address, is_there, operands_by, operands_with}
 use Rattle.linker_section.specs.declared.facts.Symbol.{Symbol}
+use Rattle.linker_section.specs.declared.needed.Entry.{Entry}
 use Rattle.linker_section.specs.declared.relocations.Rela.{Rela}
 use Rattle.linker_utils.specs.Architectures.{IsRow, relaxation_rewrite}
 use Rattle.linker_utils.specs.declared.architecture.Relaxation.{Relaxation}
@@ -83,6 +84,18 @@ module _ (l : Linked) (linked : IsLinked l) (aarch64 : l.setting.architecture �
       (subst (λ x. operands_by x l.addresses a.row after symbol
       (entry_address l.addresses symbol (entry_of a.row r.addend symbol.is_thread_local))
       ≡ Ok (operands_with x l.addresses a.row symbol after got)) (sym aarch64) entry_is))
+
+-- the entry that the formula of a relocation after a rewrite has is there
+pub entry_there : (l : Linked) → IsLinked l → l.setting.architecture ≡ AArch64 → (i : ℕ) → i < count l
+    → (name : AArch64Relocation) (a : IsAfter name) (after : Rela)
+    → relocation_in l.relocations_after i ≡ after → after.code ≡ code_of (aarch64_name name)
+    → (symbol : Symbol) → slice_get l.symbols after.symbol ≡ Some symbol
+    → (entry : Entry) → entry_of a.row after.addend symbol.is_thread_local ≡ Some entry
+    → is_there l.addresses symbol entry ≡ true
+entry_there l linked aarch64 i below name a after is_after code symbol is_symbol entry is_entry =
+    entry_is_there l linked i below 4 a.row a.of after is_after
+    (subst (λ x. IsRowOf l.setting.architecture x a.row) (sym code) (row_of l aarch64 name a.named a.row a.is))
+    symbol is_symbol entry is_entry
 
 -- ---- bytes
 

@@ -9,7 +9,7 @@ use Rattle.linker_elf.specs.declared.ppc64.forms.Ppc64Instruction.TheVariants.{D
 use Rattle.linker_elf.specs.declared.ppc64.relocations.Ppc64Relocation.TheVariants as names
 use Rattle.linker_final.proofs.Ppc64Chosen.{of_entry, of_one}
 use Rattle.linker_final.proofs.Ppc64Halves.{becomes_final, nop_is_alike, test_there}
-use Rattle.linker_final.proofs.Ppc64Written.{after_is, applied_there, becomes, entry_high_after, entry_low_after, row_of, thread_high_after, thread_low_after, unwritten}
+use Rattle.linker_final.proofs.Ppc64Written.{after_is, applied_there, becomes, entry_there, entry_high_after, entry_low_after, row_of, thread_high_after, thread_low_after, unwritten}
 use Rattle.linker_final.proofs.Written.{apart_with, first_same, rela, second_same, stays, unwritten_but, with_operands}
 use Rattle.linker_final.specs.Final.{instruction_at, two_at}
 use Rattle.linker_final.specs.Ppc64Final.{EachRewritten, ForOperands, GeneralDynamic, LocalDynamic, CallToBlockIsAlike, GeneralArgumentIsAlike, GeneralCallIsAlike, GeneralHighIsAlike, ThreadArgumentIsAlike, final, object, offset_of}
@@ -17,6 +17,7 @@ use Rattle.linker_laws.specs.Ppc64RewriteLaws.{CallSo, IsRelocated, Laws, Leads,
 use Rattle.linker_ppc64.specs.Ppc64Rewrites.{addis_of_thread, is_addi, is_addis_of_toc, registers_of, rewrites_call, rewrites_word, rt_of, to_module}
 use Rattle.linker_ppc64.specs.declared.rewrites.RelaxationKind.TheVariants as kinds
 use Rattle.linker_section.specs.Relocations.{relocation_in}
+use Rattle.linker_section.specs.declared.needed.EntryClass.TheVariants.{ThreadOffset}
 use Rattle.linker_section.specs.Values.{operands_by, operands_with}
 use Rattle.linker_utils.specs.Architectures.{relaxation_rewrite}
 use Rattle.linker_utils.specs.declared.elf.Architecture.TheVariants.{Ppc64}
@@ -39,7 +40,7 @@ high laws l linked ppc64 i chosen below is_name decided symbol got is_symbol sma
       | inr (inl by) ↦
           inr (
             by.kind_is,
-            λ alone has f s t c addis agree of_call.
+            λ alone short f s t c addis agree of_call.
                 let kind = kinds.KeepAddis in
                 let after = names.R_PPC64_GOT_TPREL16_HA in
                 let o = offset_of l i in
@@ -50,11 +51,11 @@ high laws l linked ppc64 i chosen below is_name decided symbol got is_symbol sma
                 let applied : IsRelocated after (with_entry e w) (instruction_at l.rewritten o) (final l i) =
                 with_operands entry_high_after.row _ _ _ _ refl
                 (applied_there l linked ppc64 i chosen below decided kind by.kind_is after by.code_is 4 (omega arith) entry_high_after symbol e
-                (ap (λ b. operands_by Ppc64 l.addresses entry_high_after.row (rela r.offset (code_of (ppc64_name after)) r.symbol r.addend) symbol (cond b (Some e) None)) has.there)
+                (ap (λ b. operands_by Ppc64 l.addresses entry_high_after.row (rela r.offset (code_of (ppc64_name after)) r.symbol r.addend) symbol (cond b (Some e) None)) (entry_there l linked ppc64 i chosen below decided kind by.kind_is after by.code_is 4 entry_high_after symbol is_symbol (record { class = ThreadOffset; addend = r.addend }) refl))
                 is_symbol) in
                 laws.entry_high_half f w s t c (object l i) small agree
                 (test_there l linked ppc64 i chosen below decided kind by.kind_is is_addis_of_toc by.meant)
-                e has.small addis (final l i) of_call
+                e short addis (final l i) of_call
                 (subst (λ xs. IsRelocated after (with_entry e w) xs (final l i)) kept applied),
           )
       | inr (inr nothing) ↦ absurd nothing
@@ -89,7 +90,7 @@ argument laws l linked ppc64 i chosen below is_name decided symbol got is_symbol
       | inr (inl by) ↦
           inr (
             by.kind_is,
-            λ has f s t offset from holds c addi got_entry agree leads of_entry_low.
+            λ short f s t offset from holds c addi got_entry agree leads of_entry_low.
                 let kind = kinds.AddiToLd in
                 let after = names.R_PPC64_GOT_TPREL16_LO_DS in
                 let r = relocation_in l.relocations i in
@@ -97,7 +98,7 @@ argument laws l linked ppc64 i chosen below is_name decided symbol got is_symbol
                 let applied : IsRelocated after (with_entry e w) (instruction_at l.rewritten (offset_of l i)) (final l i) =
                 with_operands entry_low_after.row _ _ _ _ refl
                 (applied_there l linked ppc64 i chosen below decided kind by.kind_is after by.code_is 4 (omega arith) entry_low_after symbol e
-                (ap (λ b. operands_by Ppc64 l.addresses entry_low_after.row (rela r.offset (code_of (ppc64_name after)) r.symbol r.addend) symbol (cond b (Some e) None)) has.there)
+                (ap (λ b. operands_by Ppc64 l.addresses entry_low_after.row (rela r.offset (code_of (ppc64_name after)) r.symbol r.addend) symbol (cond b (Some e) None)) (entry_there l linked ppc64 i chosen below decided kind by.kind_is after by.code_is 4 entry_low_after symbol is_symbol (record { class = ThreadOffset; addend = r.addend }) refl))
                 is_symbol) in
                 laws.argument_offset f w s t c (object l i) addi (instruction_at l.rewritten (offset_of l i)) w.place got_entry offset
                 (record {

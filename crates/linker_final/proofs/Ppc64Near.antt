@@ -10,7 +10,7 @@ use Rattle.linker_elf.specs.declared.elf.choice.Choice.{Choice}
 use Rattle.linker_elf.specs.declared.ppc64.relocations.Ppc64Relocation.TheVariants as names
 use Rattle.linker_final.proofs.Ppc64Chosen.{IsOfEntry, IsOfOne, of_entry, of_one}
 use Rattle.linker_final.proofs.Ppc64Halves.{becomes_final, test_there}
-use Rattle.linker_final.proofs.Ppc64Written.{after_is, applied_there, becomes, near_entry_after, row_of, thread_high_after, thread_low_after, unwritten}
+use Rattle.linker_final.proofs.Ppc64Written.{after_is, applied_there, becomes, entry_there, near_entry_after, row_of, thread_high_after, thread_low_after, unwritten}
 use Rattle.linker_final.proofs.Written.{apart_with, first_same, rela, second_same, unwritten_but, with_operands}
 use Rattle.linker_final.specs.Final.{Linked, IsLinked, count, instruction_at, two_at}
 use Rattle.linker_final.specs.Ppc64Final.{EachRewritten, ForOperands, LeavesEntry, NearArguments, NearIsAlike, NearToModule, final, object, offset_of}
@@ -22,6 +22,7 @@ use Rattle.linker_ppc64.specs.declared.rewrites.RelaxationKind.TheVariants as ki
 use Rattle.linker_rewriting.specs.Decisions.{decision_at}
 use Rattle.linker_rewriting.specs.declared.decisions.Decision.TheVariants.{Rewritten}
 use Rattle.linker_section.specs.Relocations.{relocation_in}
+use Rattle.linker_section.specs.declared.needed.EntryClass.TheVariants.{ThreadOffset}
 use Rattle.linker_section.specs.Values.{operands_by, operands_with}
 use Rattle.linker_utils.specs.declared.architecture.Relaxation.{Relaxation}
 use Rattle.linker_utils.specs.declared.architecture.Relaxation.TheVariants as relaxations
@@ -125,7 +126,7 @@ general laws l linked ppc64 i chosen below is_name decided symbol got is_symbol 
         | inr (inl by) ↦
             inr (
               by.kind_is,
-              λ has j call behind f s toc base holds.
+              λ short j call behind f s toc base holds.
                   let kind = kinds.AddiToLd in
                   let after = names.R_PPC64_GOT_TPREL16_DS in
                   let p = offset_of l j in
@@ -136,7 +137,7 @@ general laws l linked ppc64 i chosen below is_name decided symbol got is_symbol 
                   let load : IsRelocated after (with_entry e w) (instruction_at l.rewritten (offset_of l i)) (final l i) =
                   with_operands near_entry_after.row _ _ _ _ refl
                   (applied_there l linked ppc64 i chosen below decided kind by.kind_is after by.code_is 4 (omega arith) near_entry_after symbol e
-                  (ap (λ b. operands_by Ppc64 l.addresses near_entry_after.row (rela r.offset (code_of (ppc64_name after)) r.symbol r.addend) symbol (cond b (Some e) None)) has.there)
+                  (ap (λ b. operands_by Ppc64 l.addresses near_entry_after.row (rela r.offset (code_of (ppc64_name after)) r.symbol r.addend) symbol (cond b (Some e) None)) (entry_there l linked ppc64 i chosen below decided kind by.kind_is after by.code_is 4 near_entry_after symbol is_symbol (record { class = ThreadOffset; addend = r.addend }) refl))
                   is_symbol) in
                   let first = unwritten l linked ppc64 j call.chosen call.below call.decided kinds.CallToAdd call.kind_is second.code_is p (second.meant.0) call.alone in
                   let next = unwritten l linked ppc64 j call.chosen call.below call.decided kinds.CallToAdd call.kind_is second.code_is (p + 4) (second.meant.1.0) behind in
@@ -148,7 +149,7 @@ general laws l linked ppc64 i chosen below is_name decided symbol got is_symbol 
                     toc = toc;
                     insn_is = is_addi_there l linked ppc64 i chosen below is_name decided;
                     base = base;
-                  }) e has.small holds
+                  }) e short holds
                   (becomes l linked ppc64 i chosen below decided kind by.kind_is (rewrites_word (λ word. 0xe8000000 + registers_of word)) refl refl)
                   (becomes l linked ppc64 j call.chosen call.below call.decided kinds.CallToAdd call.kind_is (rewrites_call 0x7c636a14) refl refl)
                   (final l i) load),

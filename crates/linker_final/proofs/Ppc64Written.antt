@@ -1,5 +1,5 @@
 -- Instructions of PowerPC64 and their relocations in the final bytes of a section.
-use Rattle.std.proofs.Common.{◌≡◌, ℕ, ◌+◌, ◌<◌, ◌≤◌, length, take, drop, sym, ap, subst, ◌∙◌, refl, Some, Ok, IsSomeAnd}
+use Rattle.std.proofs.Common.{true, ◌≡◌, ℕ, ◌+◌, ◌<◌, ◌≤◌, length, take, drop, sym, ap, subst, ◌∙◌, refl, Some, Ok, IsSomeAnd}
 use Rattle.std.specs.Prelude.{slice_get}
 use Rattle.linker_base.specs.Rewrite.{Rewrite, addend_after, offset_after}
 use Rattle.linker_elf.specs.Applied.{IsApplied}
@@ -14,7 +14,7 @@ use Rattle.linker_elf.specs.declared.ppc64.forms.Ppc64Instruction.TheVariants.{B
 use Rattle.linker_elf.specs.declared.ppc64.relocations.Ppc64Relocation.{Ppc64Relocation}
 use Rattle.linker_elf.specs.declared.ppc64.relocations.Ppc64Relocation.TheVariants as names
 use Rattle.linker_final.proofs.InstructionFields.{IsOfInstruction}
-use Rattle.linker_final.proofs.Written.{IsRowOf, applied_after, by_name, made_there, rela, relocation_is, unwritten_without}
+use Rattle.linker_final.proofs.Written.{IsRowOf, applied_after, by_name, entry_is_there, made_there, rela, relocation_is, unwritten_without}
 use Rattle.linker_final.specs.Final.{Linked, IsLinked, IsWrittenByNoOther, count, instruction_at}
 use Rattle.linker_laws.specs.Ppc64RewriteLaws.{IsRewritten}
 use Rattle.linker_ppc64.specs.Ppc64Rewrites.{ppc64_rewrite}
@@ -23,8 +23,9 @@ use Rattle.linker_rewriting.specs.Decisions.{decision_at}
 use Rattle.linker_rewriting.specs.declared.decisions.Decision.TheVariants.{Rewritten}
 use Rattle.linker_section.specs.Needed.{entry_of}
 use Rattle.linker_section.specs.Relocations.{relocation_in}
-use Rattle.linker_section.specs.Values.{entry_address, operands_by, operands_with}
+use Rattle.linker_section.specs.Values.{entry_address, is_there, operands_by, operands_with}
 use Rattle.linker_section.specs.declared.facts.Symbol.{Symbol}
+use Rattle.linker_section.specs.declared.needed.Entry.{Entry}
 use Rattle.linker_section.specs.declared.relocations.Rela.{Rela}
 use Rattle.linker_utils.specs.Architectures.{IsRow, relaxation_rewrite}
 use Rattle.linker_utils.specs.declared.architecture.Relaxation.{Relaxation}
@@ -88,6 +89,16 @@ module _ (l : Linked) (linked : IsLinked l) (ppc64 : l.setting.architecture ≡ 
       (subst (λ x. operands_by x l.addresses a.row (after name) symbol
       (entry_address l.addresses symbol (entry_of a.row (after name).addend symbol.is_thread_local))
       ≡ Ok (operands_with x l.addresses a.row symbol (after name) got)) (sym ppc64) entry_is))
+
+  -- has the entry of its formula
+  pub entry_there : (name : Ppc64Relocation) → chosen.relocation ≡ code_of (ppc64_name name)
+      → (n : ℕ) → (a : IsAfter n name) (symbol : Symbol)
+      → slice_get l.symbols r.symbol ≡ Some symbol
+      → (entry : Entry) → entry_of a.row (after name).addend symbol.is_thread_local ≡ Some entry
+      → is_there l.addresses symbol entry ≡ true
+  entry_there name code_is n a symbol is_symbol entry is_entry =
+      entry_is_there l linked i below n a.row a.of (after name) (after_is name code_is)
+      (row_of l ppc64 name a.named a.row a.is) symbol is_symbol entry is_entry
 
   -- ---- bytes
 

@@ -1,6 +1,6 @@
 -- Instructions and their relocations in the bytes that rewrites leave, and in the final bytes.
-use Rattle.std.proofs.Common.{◌≡◌, ℕ, ℤ, ◌+◌, ◌-◌, ◌/◌, ◌<◌, ◌≤◌, ◌⊎◌, List, length, take, drop, sym, ap, subst, ◌∙◌, refl, inl, inr, arith, Option, Some, None, Ok}
-use Rattle.std.proofs.lemmas.Bool.{cases_eq}
+use Rattle.std.proofs.Common.{◌≡◌, ℕ, ℤ, ◌+◌, ◌-◌, ◌/◌, ◌<◌, ◌≤◌, ◌⊎◌, List, length, take, drop, sym, ap, subst, ◌∙◌, refl, inl, inr, arith, Option, Some, None, Ok, Err, Result, true}
+use Rattle.std.proofs.lemmas.Bool.{cases_eq, cases_Bool, cond-true, cond-false}
 use Rattle.std.proofs.lemmas.List.{take-take, drop-drop, drop-take}
 use Rattle.std.specs.Int.{w32, from_le_bytes}
 use Rattle.std.specs.Prelude.{slice_get}
@@ -28,9 +28,12 @@ use Rattle.linker_section.specs.Fields.{IsField, field_end, field_len}
 use Rattle.linker_section.specs.Needed.{entry_of}
 use Rattle.linker_section.specs.Relocations.{relocation_in}
 use Rattle.linker_section.specs.Sections.{IsInNoField, IsRowValue}
-use Rattle.linker_section.specs.Values.{entry_address, offset_at, operands_by, operands_in, operands_of, operands_with}
+use Rattle.linker_section.specs.Values.{IsValueBy, IsValueIn, entry_address, entry_in, has_value, is_there, value_by, offset_at, operands_by, operands_in, operands_of, operands_with}
 use Rattle.linker_section.specs.declared.facts.Symbol.{Symbol}
+use Rattle.linker_section.specs.declared.needed.Entry.{Entry}
 use Rattle.linker_section.specs.declared.relocations.Rela.{Rela}
+use Rattle.linker_section.specs.declared.values.ValueError.{ValueError}
+use Rattle.linker_section.specs.declared.values.ValueError.TheVariants.{NoEntry}
 use Rattle.linker_utils.specs.Architectures.{IsOf, IsRow, relaxation_rewrite}
 use Rattle.linker_utils.specs.declared.architecture.Relaxation.{Relaxation}
 use Rattle.linker_utils.specs.declared.elf.Architecture.{Architecture}
@@ -113,6 +116,55 @@ module _ (l : Linked) (linked : IsLinked l) (i : ℕ) (below : i < count l) (n :
       i within n some row of there operands
       (subst (λ x. operands_of l.setting.architecture l.addresses l.symbols row x ≡ Ok operands) (sym is_after)
       (ap (operands_in l.setting.architecture l.addresses row after) is_symbol ∙ entry_is)))
+
+-- ---- entries of the GOT
+
+-- a relocation that has a value has the operands of its formula
+module _ (l : Linked) (r : Rela) (row : RelocationKindInfo) (n : ℕ) (of : IsOfInstruction n row)
+    (only : IsRowOf l.setting.architecture r.code row) where
+  by_row : (result : Result (Option ℤ) ValueError)
+      → IsValueIn l.setting.architecture l.addresses l.relocations_after l.symbols r (Some row) result
+      → result ≡ value_by row (operands_of l.setting.architecture l.addresses l.symbols row r)
+  by_row result is =
+      subst (λ labels. IsValueBy labels l.setting.architecture l.addresses l.relocations_after l.symbols row r result) of.unlabelled is
+      ∙ cond-true (has_value row.kind) (value_by row (operands_of l.setting.architecture l.addresses l.symbols row r)) (Ok None) of.valued
+
+  has_operands : (found : Option (RelocationKindInfo × ℤ))
+      → IsRowValue l.setting.architecture l.addresses l.relocations_after l.symbols r (Ok found)
+      → (error : ValueError) → operands_of l.setting.architecture l.addresses l.symbols row r ≡ Err error → ⊥
+  has_operands (Some one) has error fails =
+      let value : Ok (Some (one.1)) ≡ value_by row (operands_of l.setting.architecture l.addresses l.symbols row r) =
+      by_row (Ok (Some (one.1)))
+      (subst (λ x. IsValueIn l.setting.architecture l.addresses l.relocations_after l.symbols r x (Ok (Some (one.1)))) (only (Some (one.0)) has.is_row) has.is_value) in
+      absurd (let e : Ok (Some (one.1)) ≡ Err error = value ∙ ap (value_by row) fails in cc)
+  has_operands None marked error fails =
+      let value : Ok None ≡ value_by row (operands_of l.setting.architecture l.addresses l.symbols row r) =
+      by_row (Ok None)
+      (subst (λ x. IsValueIn l.setting.architecture l.addresses l.relocations_after l.symbols r x (Ok None)) (only (marked.0) (marked.1)) (marked.2)) in
+      absurd (let e : Ok None ≡ Err error = value ∙ ap (value_by row) fails in cc)
+
+-- the entry that its formula has is there
+pub entry_is_there : (l : Linked) → IsLinked l → (i : ℕ) → i < count l → (n : ℕ)
+    (row : RelocationKindInfo) → IsOfInstruction n row
+    → (after : Rela) → relocation_in l.relocations_after i ≡ after
+    → IsRowOf l.setting.architecture after.code row
+    → (symbol : Symbol) → slice_get l.symbols after.symbol ≡ Some symbol
+    → (entry : Entry) → entry_of row after.addend symbol.is_thread_local ≡ Some entry
+    → is_there l.addresses symbol entry ≡ true
+entry_is_there l linked i below n row of after is_after only symbol is_symbol entry is_entry =
+    elim (cases_Bool (is_there l.addresses symbol entry)) [
+      | inl there ↦ there
+      | inr missing ↦
+          let none : entry_address l.addresses symbol (entry_of row after.addend symbol.is_thread_local) ≡ None =
+          ap (entry_address l.addresses symbol) is_entry
+          ∙ cond-false (is_there l.addresses symbol entry) (Some (entry_in l.addresses symbol entry.class)) None missing in
+          absurd (has_operands l after row n of only (linked.written.can.found i)
+          (subst (λ (x : Rela). IsRowValue l.setting.architecture l.addresses l.relocations_after l.symbols x (Ok (linked.written.can.found i))) is_after
+          (linked.written.can.are_found i (subst (λ n. i < n / 24) (sym linked.as_many) below)))
+          NoEntry
+          (ap (operands_in l.setting.architecture l.addresses row after) is_symbol
+          ∙ ap (operands_by l.setting.architecture l.addresses row after symbol) none))
+    ]
 
 -- ---- bytes that rewrites leave
 

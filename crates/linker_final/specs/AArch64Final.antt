@@ -2,7 +2,7 @@
 -- of their relocations (ELF for the Arm 64-bit Architecture, "Relocation optimization", and the sequences
 -- of thread-local storage).
 use Rattle.std.specs.Prelude.{◌≡◌, ◌≢◌, ℕ, ◌+◌, ◌<◌, ◌==◌, List, [], ◌∷◌, Some, IsSomeAnd}
-use Rattle.std.specs.Prelude.{slice_get, Option, Bool, true, false, ◌^◌}
+use Rattle.std.specs.Prelude.{slice_get, Option, Bool, false, ◌^◌}
 use Rattle.linker_aarch64.specs.AArch64Rewrites.{rd_of}
 use Rattle.linker_aarch64.specs.declared.rewrites.RelaxationKind.TheVariants.{AdrpX0, LdrX0, MovkX0, MovzX0Lsl16}
 use Rattle.linker_aarch64.specs.declared.rewrites.RelaxationKind.{RelaxationKind}
@@ -21,9 +21,8 @@ use Rattle.linker_laws.specs.Schemes.{AreAddresses, plt_address, symbol_address}
 use Rattle.linker_rewriting.specs.Decisions.{decision_at}
 use Rattle.linker_rewriting.specs.declared.decisions.Decision.TheVariants.{Rewritten, TakenAlong}
 use Rattle.linker_section.specs.Relocations.{relocation_in}
-use Rattle.linker_section.specs.Values.{is_there, operands_with}
+use Rattle.linker_section.specs.Values.{operands_with}
 use Rattle.linker_section.specs.declared.facts.Symbol.{Symbol}
-use Rattle.linker_section.specs.declared.needed.EntryClass.TheVariants.{ThreadOffset}
 use Rattle.linker_utils.specs.declared.architecture.Relaxation.{Relaxation}
 use Rattle.linker_utils.specs.declared.architecture.Relaxation.TheVariants as relaxations
 use Rattle.linker_utils.specs.declared.elf.Architecture.TheVariants.{AArch64}
@@ -170,13 +169,12 @@ OffsetIsTheSame l i row =
     (four (instruction_at l.final o) (instruction_at l.final (o + 4)) (instruction_at l.final (o + 8))
     (instruction_at l.final (o + 12))) s
 
--- The same where the GOT's entry of the offset, which there is, holds it.
+-- The same where the GOT's entry of the offset holds it.
 abbrev pub LoadsOffset : Linked → ℕ → RelocationKindInfo → Type 0
 LoadsOffset l i row =
     let r = relocation_in l.relocations i in
     let o = r.offset in
     (symbol : Symbol) → slice_get l.symbols r.symbol ≡ Some symbol
-    → is_there l.addresses symbol (record { class = ThreadOffset; addend = r.addend }) ≡ true
     → symbol.thread_entry < 2 ^ 64
     → (call : State → Option State) (c : Changes) (entry : ℕ) (s : State) (adrp ldr add : List ℕ)
     → let operands = operands_with AArch64 l.addresses row symbol r entry in

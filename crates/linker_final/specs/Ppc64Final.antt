@@ -2,7 +2,7 @@
 -- the values of their relocations (64-bit ELF V2 ABI for Power, "TOC Optimizations" and "TLS
 -- Linkage Optimizations"). Most are rewritten each by itself, and the theorem of one is of two
 -- runs: of the object's instruction with the value of its relocation, and of the final bytes.
-use Rattle.std.specs.Prelude.{◌≡◌, ◌⊎◌, ℕ, ◌+◌, ◌<◌, ◌^◌, List, Some, true}
+use Rattle.std.specs.Prelude.{◌≡◌, ◌⊎◌, ℕ, ◌+◌, ◌<◌, ◌^◌, List, Some}
 use Rattle.std.specs.Prelude.{IsSomeAnd, IsTrue, Option, slice_get, false}
 use Rattle.linker_elf.specs.ElfNames.{IsNameOf}
 use Rattle.linker_elf.specs.Ppc64Relocations.{ppc64_name, ppc64_row}
@@ -35,9 +35,8 @@ use Rattle.linker_ppc64.specs.declared.rewrites.RelaxationKind.TheVariants as ki
 use Rattle.linker_rewriting.specs.Decisions.{decision_at}
 use Rattle.linker_rewriting.specs.declared.decisions.Decision.TheVariants.{Rewritten}
 use Rattle.linker_section.specs.Relocations.{relocation_in}
-use Rattle.linker_section.specs.Values.{is_there, operands_with}
+use Rattle.linker_section.specs.Values.{operands_with}
 use Rattle.linker_section.specs.declared.facts.Symbol.{Symbol}
-use Rattle.linker_section.specs.declared.needed.EntryClass.TheVariants.{ThreadOffset}
 use Rattle.linker_utils.specs.declared.architecture.Relaxation.{Relaxation}
 use Rattle.linker_utils.specs.declared.architecture.Relaxation.TheVariants as relaxations
 use Rattle.linker_utils.specs.declared.elf.Architecture.TheVariants.{Ppc64}
@@ -235,16 +234,10 @@ ArgumentIsAlike low Is l i o f s t =
     → StepSo f (word_of addi) s (word_of (final l i)) t
     (λ u v. AgreeBut (with_register (rt_of word) c) u v × HasArgument (rt_of word) entry (Is t) u v)
 
--- There is an entry of the symbol's offset.
-pub record HasThreadEntry (l : Linked) (i : ℕ) (symbol : Symbol) : Type 0 where
-  pub there : is_there l.addresses symbol
-      (record { class = ThreadOffset; addend = (relocation_in l.relocations i).addend }) ≡ true
-  pub small : symbol.thread_entry < 2 ^ 64
-
 -- The high half of the entry of general-dynamic became that of the offset's.
 abbrev pub EntryIsAlike : Linked → ℕ → Symbol → Operands → Type 0
 EntryIsAlike l i symbol o =
-    IsRewrittenByNoOther l i (offset_of l i) → HasThreadEntry l i symbol
+    IsRewrittenByNoOther l i (offset_of l i) → symbol.thread_entry < 2 ^ 64
     → (f : Formats) (s t : State) (c : Changes) (addis : List ℕ) → AgreeBut c s t
     → IsRelocated names.R_PPC64_GOT_TLSGD16_HA o (object l i) addis
     → let x = rt_of (word_of (object l i)) in
@@ -267,7 +260,7 @@ abbrev pub LoadedArgumentIsAlike : Linked → ℕ → Symbol → Operands → Ty
 LoadedArgumentIsAlike l i symbol o =
     let own = with_entry symbol.thread_entry o in
     let ra = ra_of (word_of (object l i)) in
-    HasThreadEntry l i symbol → (f : Formats) (s t : State) (offset : ℕ)
+    symbol.thread_entry < 2 ^ 64 → (f : Formats) (s t : State) (offset : ℕ)
     → Leads names.R_PPC64_GOT_TPREL16_LO_DS Ds own (t.registers ra) offset
     → loaded 8 t.memory offset ≡ thread_offset o
     → ArgumentIsAlike names.R_PPC64_GOT_TLSGD16_LO (λ t n. n ≡ thread_offset o) l i o f s t
@@ -390,7 +383,7 @@ NearToLocalExec l i o =
 abbrev pub NearToInitialExec : Linked → ℕ → Symbol → Operands → Type 0
 NearToInitialExec l i symbol o =
     let rt = rt_of (word_of (object l i)) in
-    HasThreadEntry l i symbol
+    symbol.thread_entry < 2 ^ 64
     → (j : ℕ) → IsCallBy l names.R_PPC64_TLSGD kinds.CallToAdd j
     → IsWrittenByNoOther l j (offset_of l j + 4)
     → (f : Formats) (s : State) → s.registers 2 ≡ o.got_base → ra_of (word_of (object l i)) ≡ 2
