@@ -9,6 +9,7 @@ pub mod Fields
 pub mod Inner
 pub mod InstructionFields
 pub mod LoongArchPackedSites
+pub mod LoongArchPackedStays
 pub mod PackedBytes
 pub mod PackedDeletions
 pub mod PackedInstructions
