@@ -16,6 +16,7 @@ pub mod LoongArchChosen
 pub mod LoongArchDescriptors
 pub mod LoongArchLoads
 pub mod LoongArchPackedSites
+pub mod LoongArchPackedStays
 pub mod LoongArchPairs
 pub mod LoongArchWritten
 pub mod Others

@@ -33,10 +33,11 @@ use Rattle.linker_laws.proofs.LoongArchWords.{high_after, low_after}
 use Rattle.linker_laws.proofs.Words.{word_below}
 use Rattle.linker_laws.specs.LoongArchMachine.{AreAlikeBut, EndSo, State, b, bl, branch_target, decode, execute, far_address, go_on, go_to, jirl, near_address, next_pc, page_address, pcaddu_18, read, register_target, run, step, sum_of, with_register, write}
 use Rattle.linker_laws.specs.LoongArchRelocationLaws as relocation_laws
-use Rattle.linker_laws.specs.LoongArchRewriteLaws.{HaveCalled, HaveMade, behind, no_register, pair, word_of}
+use Rattle.linker_laws.specs.LoongArchRewriteLaws.{Fits32, HaveCalled, HaveMade, IsRelocated, IsRewritten, LoadsEntry, behind, no_register, pair, word_of}
 use Rattle.linker_laws.specs.Machine.{Relocated, loaded, wrapped}
 use Rattle.linker_laws.specs.Schemes.{AreAddresses, IsAddress, entry_and_addend, plt_address, symbol_address}
-use Rattle.linker_loongarch64.specs.LoongArchRewrites.{AreOfOneRegister, IsAddi, IsCall, rd_of, rj_of, signed_32, word_at}
+use Rattle.linker_loongarch64.specs.LoongArchRewrites.{AreOfOneRegister, IsAddi, IsCall, IsLd, rd_of, rj_of, signed_32, word_at}
+use Rattle.linker_loongarch64.specs.declared.rewrites.RelaxationKind.TheVariants as kinds
 use Rattle.linker_riscv64.proofs.Jumps.{word_of_front}
 use Rattle.linker_runs.specs.LoongArchSites.{IsBranch, IsCall36At, IsFarCall, IsPcalaAt, IsPcaddi, LoongArchBecomes, destination}
 use Rattle.linker_runs.specs.LoongArchSites.LoongArchBecomes.{jump, call, far_call, address, far_address as far_pair}
@@ -81,16 +82,16 @@ set_others n v m s other =
 -- ---- one run
 
 -- A run of words calls what is at the target.
-record Called (words : List ℕ) (link base back target : ℕ) (s : State) : Type 0 where
-  end : State
-  runs : run words s ≡ Some end
-  keeps : (m : ℕ) → (m == link) ≡ false → (m == base) ≡ false → read m end ≡ read m s
-  floats : end.floats ≡ s.floats
-  memory : end.memory ≡ s.memory
-  links : link ≢ 0 → read link end ≡ back
-  at_target : end.pc ≡ target
+pub record Called (words : List ℕ) (link base back target : ℕ) (s : State) : Type 0 where
+  pub end : State
+  pub runs : run words s ≡ Some end
+  pub keeps : (m : ℕ) → (m == link) ≡ false → (m == base) ≡ false → read m end ≡ read m s
+  pub floats : end.floats ≡ s.floats
+  pub memory : end.memory ≡ s.memory
+  pub links : link ≢ 0 → read link end ≡ back
+  pub at_target : end.pc ≡ target
 
-both_call : (old new : List ℕ) (link base back new_back target new_target : ℕ) (s t : State)
+pub both_call : (old new : List ℕ) (link base back new_back target new_target : ℕ) (s t : State)
     → AreAlikeBut no_register s t → Called old link base back target s
     → Called new link base new_back new_target t
     → EndSo old s new t (HaveCalled link base back new_back target new_target)
@@ -112,16 +113,16 @@ both_call old new link base back new_back target new_target s t alike one other 
     })
 
 -- A run of words makes an address, and goes on behind them.
-record Made (words : List ℕ) (n value behind : ℕ) (s : State) : Type 0 where
-  end : State
-  runs : run words s ≡ Some end
-  keeps : (m : ℕ) → (m == n) ≡ false → read m end ≡ read m s
-  floats : end.floats ≡ s.floats
-  memory : end.memory ≡ s.memory
-  made : read n end ≡ value
-  next : end.pc ≡ behind
+pub record Made (words : List ℕ) (n value behind : ℕ) (s : State) : Type 0 where
+  pub end : State
+  pub runs : run words s ≡ Some end
+  pub keeps : (m : ℕ) → (m == n) ≡ false → read m end ≡ read m s
+  pub floats : end.floats ≡ s.floats
+  pub memory : end.memory ≡ s.memory
+  pub made : read n end ≡ value
+  pub next : end.pc ≡ behind
 
-both_make : (old new : List ℕ) (n value new_value behind new_behind : ℕ) (s t : State)
+pub both_make : (old new : List ℕ) (n value new_value behind new_behind : ℕ) (s t : State)
     → AreAlikeBut no_register s t → Made old n value behind s → Made new n new_value new_behind t
     → EndSo old s new t (HaveMade n value new_value behind new_behind)
 both_make old new n value new_value behind new_behind s t alike one other =
@@ -251,7 +252,7 @@ module _ (code : List ℕ) (bytes : AreBytes code) (len : length code ≡ 4) (pl
 -- ---- `pcalau12i` and what adds the low part
 
 -- `addi.d` is no `jirl`, and gets the 12 bits
-no_jirl : (word : ℕ) → IsAddi word → is_jirl word ≡ false
+pub no_jirl : (word : ℕ) → IsAddi word → is_jirl word ≡ false
 no_jirl word op = let opcode : field word 26 32 ≡ 0 = omega arith in ap (λ q. eqb q 19) opcode
 
 low_written : (v : ℤ) (before after : List ℕ) → IsAddi (word_of before)
@@ -277,7 +278,7 @@ far_sum x n target high low s some at is =
           ∙ (let e : sum_64 (sum_64 x.place 4) 4 ≡ sum_64 x.place 8 = omega arith in e);
     }
 
-load_run : (x : Operands) (n value : ℕ) (high low : List ℕ) (s : State) → n ≢ 0 → s.pc ≡ x.place
+pub load_run : (x : Operands) (n value : ℕ) (high low : List ℕ) (s : State) → n ≢ 0 → s.pc ≡ x.place
     → Loads n (word_of high) (word_of low) (loaded 8 s.memory (entry_and_addend x)) s
     → loaded 8 s.memory (entry_and_addend x) ≡ value
     → Made (pair high low) n value (sum_64 x.place 8) s
@@ -295,7 +296,7 @@ load_run x n value high low s some at is holds =
     }
 
 -- The pair with its relocations applied makes the address that its words lead to.
-sum_run : (x y : Operands) (n target : ℕ) (old_high old_low high low : List ℕ)
+pub sum_run : (x y : Operands) (n target : ℕ) (old_high old_low high low : List ℕ)
     → AreOfOneRegister (word_of old_high) (word_of old_low) → IsAddi (word_of old_low)
     → rd_of (word_of old_low) ≡ n
     → IsSomeAnd (loongarch_row names.R_LARCH_PCALA_HI20) (λ row. IsApplied row x old_high high)
@@ -312,18 +313,18 @@ sum_run x y n target old_high old_low high low one op rd a d leads s at =
 
 -- ---- what the words of a window are
 
-first_of_window : (bytes : List ℕ) → word_of (take 8 bytes) ≡ word_of bytes
+pub first_of_window : (bytes : List ℕ) → word_of (take 8 bytes) ≡ word_of bytes
 first_of_window bytes =
     sym (word_of_front (take 8 bytes)) ∙ ap word_of (take-take 4 8 bytes (omega arith)) ∙ word_of_front bytes
 
-second_of_window : (bytes : List ℕ) → word_of (drop 4 (take 8 bytes)) ≡ word_of (drop 4 bytes)
+pub second_of_window : (bytes : List ℕ) → word_of (drop 4 (take 8 bytes)) ≡ word_of (drop 4 bytes)
 second_of_window bytes = ap word_of (drop-take 4 4 bytes) ∙ word_of_front (drop 4 bytes)
 
-second_at : (section : List ℕ) (o : ℕ) → word_of (drop 4 (drop o section)) ≡ word_at section (o + 4)
+pub second_at : (section : List ℕ) (o : ℕ) → word_of (drop 4 (drop o section)) ≡ word_at section (o + 4)
 second_at section o = ap word_of (drop-drop 4 o section)
 
 -- the words of a pair in windows of 4 bytes
-of_front : (section : List ℕ) (o : ℕ) → IsPcalaAt section o
+pub of_front : (section : List ℕ) (o : ℕ) → IsPcalaAt section o
     → AreOfOneRegister (word_of (take 4 (drop o section))) (word_of (take 4 (drop (o + 4) section)))
 of_front section o is =
     let first = word_of_front (drop o section) in
@@ -366,7 +367,7 @@ module _ (calls : relocation_laws.Calls) (section : List ℕ) (o : ℕ) (bytes :
       (subst (λ n. Called (pair code (drop 4 code)) l n (sum_64 x.place 8) (plt_address x) s) (ap rd_of first)
       (far calls l x before code (call_of l section o before long first second is) r small s at))
 
-  either : IsCall36At section o → (before : List ℕ) → 8 ≤ length before
+  pub either : IsCall36At section o → (before : List ℕ) → 8 ≤ length before
       → word_of before ≡ word_at section o → word_of (drop 4 before) ≡ word_at section (o + 4)
       → (x : Operands) (code : List ℕ) → Relocated (loongarch_row names.R_LARCH_CALL36) x before code
       → AreAddresses x → (s : State) → s.pc ≡ x.place
@@ -375,7 +376,7 @@ module _ (calls : relocation_laws.Calls) (section : List ℕ) (o : ℕ) (bytes :
   either (inr is) = linked 0 is
 
   -- the object's call
-  from_there : IsCall36At section o → (x : Operands) (code : List ℕ)
+  pub from_there : IsCall36At section o → (x : Operands) (code : List ℕ)
       → Relocated (loongarch_row names.R_LARCH_CALL36) x (drop o section) code → AreAddresses x
       → (s : State) → s.pc ≡ x.place
       → Called (pair code (drop 4 code)) link base (sum_64 x.place 8) (plt_address x) s
@@ -460,6 +461,50 @@ module _ (calls : relocation_laws.Calls) (section : List ℕ) (o : ℕ) (bytes :
       (of_front section o is)
       (subst IsAddi (sym second) is.second) (ap rd_of second) both.high both.low both.computes t at))
 
+-- ---- what the object's pairs make
+
+module _ (relative : relocation_laws.RelativeAddresses) (section : List ℕ) (o : ℕ)
+    (at : IsPcalaAt section o) (x : Operands) (small : AreAddresses x) where
+  abbrev high_there : List ℕ
+  high_there = take 4 (drop o section)
+
+  abbrev low_there : List ℕ
+  low_there = take 4 (drop (o + 4) section)
+
+  pub by_addi : (pcala addi : List ℕ) → Fits32 names.R_LARCH_PCALA_HI20 x
+      → IsRelocated names.R_LARCH_PCALA_HI20 x high_there pcala
+      → IsRelocated names.R_LARCH_PCALA_LO12 (behind 4 x) low_there addi
+      → (s : State) → s.pc ≡ x.place
+      → Made (pair pcala addi) (destination section o) (symbol_address x) (sum_64 x.place 8) s
+  by_addi pcala addi fits high low s hs =
+      let second = word_of_front (drop (o + 4) section) in
+      let op : IsAddi (word_of low_there) = subst IsAddi (sym second) at.second in
+      sum_run x (behind 4 x) (destination section o) (symbol_address x) high_there low_there pcala addi
+      (of_front section o at) op (ap rd_of second) high low
+      (relative.0 x small x.place high_there pcala high (subst (ValueIsWithin signed_32) high.value_is fits) (sum_64 x.place 4) low_there addi low (ap not (no_jirl (word_of low_there) op)))
+      s hs
+
+  -- an `ld.d` of which `LdToAddi` made the `addi.d`
+  pub by_ld : (ld pcala_of ld_of : List ℕ) → IsLd (word_of ld)
+      → IsRewritten kinds.LdToAddi ld low_there
+      → LoadsEntry names.R_LARCH_GOT_PC_HI20 names.R_LARCH_GOT_PC_LO12 x high_there ld pcala_of ld_of
+      → (s : State) → loaded 8 s.memory (entry_and_addend x) ≡ symbol_address x → s.pc ≡ x.place
+      → Made (pair pcala_of ld_of) (destination section o) (symbol_address x) (sum_64 x.place 8) s
+  by_ld ld pcala_of ld_of load made old s holds hs =
+      let n = destination section o in
+      let second = word_of_front (drop (o + 4) section) in
+      let one = of_front section o at in
+      let word = word_made (λ w. 0x02c00000 + field w 0 22) ld low_there (omega arith) made in
+      let rd : rd_of (word_of ld) ≡ n = (let e : rd_of (word_of ld) ≡ rd_of (word_of low_there) = omega (arith, word) in e) ∙ ap rd_of second in
+      let rj : rj_of (word_of ld) ≡ n =
+      (let e : rj_of (word_of ld) ≡ rj_of (word_of low_there) = omega (arith, word) in e) ∙ one.into_own_source.same ∙ ap rd_of second in
+      let some : n ≢ 0 = λ none. one.into_own_source.not_zero (ap rd_of second ∙ none) in
+      let l = loads x n (word_of pcala_of) (word_of ld_of) (entry_and_addend x) s
+      (high_after 12 0x0d n _ high_there pcala_of old.first.written one.first (one.register ∙ ap rd_of second))
+      (low_after 0x0a3 n n _ ld ld_of old.second.written load rd rj) some hs
+      (relative.1 x small x.place high_there pcala_of old.first (subst (ValueIsWithin signed_32) old.first.value_is old.fits) (sum_64 x.place 4) ld ld_of old.second tt) in
+      load_run x n (symbol_address x) pcala_of ld_of s some hs l holds
+
 -- ---- the laws
 
 pub calls : relocation_laws.Calls → CallsTheSame
@@ -504,37 +549,16 @@ pub addresses : relocation_laws.Calls → relocation_laws.RelativeAddresses → 
 addresses law relative p is machine i here of at x small pcala addi fits high low s t hs ht alike =
     let section = p.section.bytes in
     let o = site_offset p here in
-    let old = take 4 (drop o section) in
-    let old_low = take 4 (drop (o + 4) section) in
-    let second = word_of_front (drop (o + 4) section) in
-    let op : IsAddi (word_of old_low) = subst IsAddi (sym second) at.second in
     both_make (pair pcala addi) (words_in (site_len p here) (site_bytes p here)) (destination section o)
     (symbol_address x) (site_target p here) (sum_64 x.place 8) (site_behind p here) s t alike
-    (sum_run x (behind 4 x) (destination section o) (symbol_address x) old old_low pcala addi
-    (of_front section o at) op (ap rd_of second) high low
-    (relative.0 x small x.place old pcala high (subst (ValueIsWithin signed_32) high.value_is fits) (sum_64 x.place 4) old_low addi low (ap not (no_jirl (word_of old_low) op)))
-    s hs)
+    (by_addi relative section o at x small pcala addi fits high low s hs)
     (made_there law p is machine i here of at t ht)
 
 pub loaded_addresses : relocation_laws.Calls → relocation_laws.RelativeAddresses → LoadedAddressesAreMade
 loaded_addresses law relative p is machine i here of at x small ld pcala_of ld_of load made old s t holds hs ht alike =
     let section = p.section.bytes in
     let o = site_offset p here in
-    let n = destination section o in
-    let pcala = take 4 (drop o section) in
-    let addi = take 4 (drop (o + 4) section) in
-    let second = word_of_front (drop (o + 4) section) in
-    let one = of_front section o at in
-    let word = word_made (λ w. 0x02c00000 + field w 0 22) ld addi (omega arith) made in
-    let rd : rd_of (word_of ld) ≡ n = (let e : rd_of (word_of ld) ≡ rd_of (word_of addi) = omega (arith, word) in e) ∙ ap rd_of second in
-    let rj : rj_of (word_of ld) ≡ n =
-    (let e : rj_of (word_of ld) ≡ rj_of (word_of addi) = omega (arith, word) in e) ∙ one.into_own_source.same ∙ ap rd_of second in
-    let some : n ≢ 0 = λ none. one.into_own_source.not_zero (ap rd_of second ∙ none) in
-    let l = loads x n (word_of pcala_of) (word_of ld_of) (entry_and_addend x) s
-    (high_after 12 0x0d n _ pcala pcala_of old.first.written one.first (one.register ∙ ap rd_of second))
-    (low_after 0x0a3 n n _ ld ld_of old.second.written load rd rj) some hs
-    (relative.1 x small x.place pcala pcala_of old.first (subst (ValueIsWithin signed_32) old.first.value_is old.fits) (sum_64 x.place 4) ld ld_of old.second tt) in
-    both_make (pair pcala_of ld_of) (words_in (site_len p here) (site_bytes p here)) n
+    both_make (pair pcala_of ld_of) (words_in (site_len p here) (site_bytes p here)) (destination section o)
     (symbol_address x) (site_target p here) (sum_64 x.place 8) (site_behind p here) s t alike
-    (load_run x n (symbol_address x) pcala_of ld_of s some hs l holds)
+    (by_ld relative section o at x small ld pcala_of ld_of load made old s holds hs)
     (made_there law p is machine i here of at t ht)

@@ -10,7 +10,7 @@ use Rattle.linker_elf.specs.Value.{sum_64}
 use Rattle.linker_final.proofs.PutBack.{same_windows, window_byte, window_length}
 use Rattle.linker_final.specs.Final.{AreBytes}
 use Rattle.linker_final.specs.Packed.{Packed, AreDeleted, address_at, IsPacked, Stays, StayTogether, IsUnwritten, place_of}
-use Rattle.linker_final.specs.Packed.{KeptBytesStay, PaddingIsNops, DeletedBytesAreGone, PlacesHaveAddresses}
+use Rattle.linker_final.specs.Packed.{KeptBytesStay, PaddingIsNops, DeletedBytesAreGone, ItemsAreDeleted, PlacesHaveAddresses}
 use Rattle.linker_runs.specs.Packing.{Section, IsInside, ItemBecomes, is_fixed, kept_len, packed_offset, nops}
 use Rattle.linker_runs.specs.Relaxing.{offset_of, end_of}
 use Rattle.linker_runs.specs.declared.relaxation.Item.{Item}
@@ -74,6 +74,17 @@ module _ (p : Packed) (is : IsPacked p) (o n : ℕ) (some : 0 < n) (stay : StayT
       let low = rank-mono d b (b + o) (omega arith) in
       let e = ap (rank d) (let far : b + (o + k) ≡ b + o + k = omega arith in far) in
       omega (arith, all, low, e)
+
+  -- and what is behind them goes behind them
+  pub place_behind : place_of p (o + n) ≡ place_of p o + n
+  place_behind =
+      let d = p.section.deletions in
+      let b = p.section.base in
+      let last = next_place (n - 1) (omega (arith, some)) in
+      let counted = rank_kept d (b + (o + (n - 1))) (stay (n - 1) (omega (arith, some))).kept in
+      let low = rank-mono d b (b + (o + (n - 1))) (omega arith) in
+      let e = ap (rank d) (let far : b + (o + n) ≡ suc (b + (o + (n - 1))) = omega (arith, some) in far) in
+      omega (arith, last, counted, low, e, some)
 
   pub stay_inside : o + n ≤ length p.section.bytes
   stay_inside =
@@ -202,3 +213,17 @@ no_place p o (suc n) gone =
     let e : s.base + (o + suc n) ≡ suc (s.base + (o + n)) = omega arith in
     ap (λ r. sum_64 s.start r) (ap (rank s.deletions) e ∙ next)
     ∙ no_place p o n (λ k below. gone k (omega (arith, below)))
+
+pub deleted_items : ItemsAreDeleted
+deleted_items p item from none k below =
+    let d = p.section.deletions in
+    let q = p.section.base + (offset_of item - p.section.base + k) in
+    let there : q ≡ offset_of item + k = omega (arith, from) in
+    elim (cases_Bool (is_kept d q)) [
+      | inl kept ↦
+          let counted = rank_kept d q kept in
+          let low = rank-mono d (offset_of item) q (omega (arith, there)) in
+          let high = rank-mono d (suc q) (end_of item) (omega (arith, there, below)) in
+          absurd (omega (arith, counted, low, high, none))
+      | inr gone ↦ gone
+    ]

@@ -1,13 +1,17 @@
 -- LoongArch: in a section that was packed, calls go where the object's do, and addresses are made
 -- that the object's instructions make (LoongArch ELF psABI, linker relaxation).
 use Rattle.std.specs.Prelude.{◌≡◌, ℕ, ◌+◌, ◌==◌, List, [], ◌∷◌, take, drop}
-use Rattle.std.specs.Prelude.{if◌then◌else◌, Bool, false, IsSomeAnd, ◌<◌, ◌^◌}
+use Rattle.std.specs.Prelude.{if◌then◌else◌, Bool, false, IsSomeAnd, Some, slice_get, ◌<◌, ◌^◌}
 use Rattle.linker_elf.specs.Choices.{RowIsWithin}
-use Rattle.linker_elf.specs.LoongArchRelocations.{loongarch_row}
+use Rattle.linker_elf.specs.ElfNames.{IsNameOf}
+use Rattle.linker_elf.specs.LoongArchRelocations.{loongarch_name, loongarch_row}
 use Rattle.linker_elf.specs.Value.{sum_64}
+use Rattle.linker_elf.specs.declared.elf.RelocationKindInfo.{RelocationKindInfo}
 use Rattle.linker_elf.specs.declared.elf.value.Operands.{Operands}
+use Rattle.linker_elf.specs.declared.loongarch64.relocations.LoongArch64Relocation.{LoongArch64Relocation}
 use Rattle.linker_elf.specs.declared.loongarch64.relocations.LoongArch64Relocation.TheVariants as names
 use Rattle.linker_final.specs.Packed.{Packed, AreDeleted, IsPacked, IsSiteOf, address_at}
+use Rattle.linker_final.specs.Packed.{StayTogether, count, place_of}
 use Rattle.linker_final.specs.Packed.{site_behind, site_bytes, site_len}
 use Rattle.linker_final.specs.Packed.{site_offset, site_place, site_target}
 use Rattle.linker_laws.specs.LoongArchMachine.{AreAlikeBut, EndSo, State, read, step}
@@ -22,6 +26,10 @@ use Rattle.linker_loongarch64.specs.declared.rewrites.RelaxationKind.TheVariants
 use Rattle.linker_runs.specs.LoongArchSites.{IsCall36At, IsPcalaAt, destination}
 use Rattle.linker_runs.specs.declared.packing.Machine.TheVariants.{LoongArch64}
 use Rattle.linker_runs.specs.declared.relaxation.Site.{Site as site}
+use Rattle.linker_section.specs.Relocations.{relocation_in}
+use Rattle.linker_section.specs.Values.{offset_at, operands_with}
+use Rattle.linker_section.specs.declared.facts.Symbol.{Symbol}
+use Rattle.linker_utils.specs.declared.elf.Architecture.TheVariants as architectures
 
 -- the words of so many bytes of a site: one instruction, or both
 abbrev pub words_in : ℕ → List ℕ → List ℕ
@@ -85,6 +93,93 @@ LoadedAddressesAreMade =
     → (s t : State) → loaded 8 s.memory (entry_and_addend x) ≡ symbol_address x
     → s.pc ≡ x.place → t.pc ≡ site_place p here → AreAlikeBut no_register s t
     → EndSo (pair pcala_of_entry ld_of_entry) s (site_words p here) t (HaveMadeAddress p here x)
+
+-- ---- what stays
+
+-- The relocation at an index has a name, and is of so many bytes that stay.
+pub record StaysAs (p : Packed) (i : ℕ) (name : LoongArch64Relocation) (len : ℕ) : Type 0 where
+  pub within : i < count p
+  pub is_name : IsNameOf loongarch_name (relocation_in p.relocations_after i).code name
+  pub stays : StayTogether p (offset_at p.relocations i) len
+
+-- what its formula takes
+abbrev pub operands_at : Packed → ℕ → RelocationKindInfo → Symbol → Operands
+operands_at p i row symbol =
+    operands_with architectures.LoongArch64 p.addresses row symbol
+    (relocation_in p.relocations_after i) 0
+
+-- A call at which nothing changes goes in the final section where the formula of its relocation
+-- says.
+abbrev pub LongCallsStay : Type 0
+LongCallsStay =
+    IsSomeAnd (loongarch_row names.R_LARCH_CALL36) (λ row.
+    (p : Packed) → IsPacked p → p.machine ≡ LoongArch64 → (i : ℕ)
+    → StaysAs p i names.R_LARCH_CALL36 8 → let o = offset_at p.relocations i in
+    IsCall36At p.section.bytes o
+    → (symbol : Symbol)
+    → slice_get p.symbols (relocation_in p.relocations_after i).symbol ≡ Some symbol
+    → let y = operands_at p i row symbol in AreAddresses y
+    → (x : Operands) → AreAddresses x → (original : List ℕ)
+    → Relocated (loongarch_row names.R_LARCH_CALL36) x (drop o p.section.bytes) original
+    → (s t : State) → s.pc ≡ x.place → t.pc ≡ y.place → AreAlikeBut no_register s t
+    → let final = take 8 (drop (place_of p o) p.final) in
+    EndSo (pair original (drop 4 original)) s (pair final (drop 4 final)) t
+    (HaveCalled (destination p.section.bytes o) (rd_of (word_at p.section.bytes o))
+    (sum_64 x.place 8) (sum_64 y.place 8) (plt_address x) (plt_address y)))
+
+-- `pcalau12i` and `addi.d` next to each other stay, whose relocations are of one symbol and addend.
+pub record IsPairOf (p : Packed) (i j : ℕ) : Type 0 where
+  pub high : StaysAs p i names.R_LARCH_PCALA_HI20 4
+  pub low : StaysAs p j names.R_LARCH_PCALA_LO12 4
+  pub next : offset_at p.relocations j ≡ offset_at p.relocations i + 4
+  pub same_symbol : (relocation_in p.relocations_after j).symbol
+      ≡ (relocation_in p.relocations_after i).symbol
+  pub same_addend : (relocation_in p.relocations_after j).addend
+      ≡ (relocation_in p.relocations_after i).addend
+  pub pair : IsPcalaAt p.section.bytes (offset_at p.relocations i)
+
+-- The object's instructions in a layout of their own and the final pair make the address of their
+-- layout.
+abbrev pub PairMakes : Packed → ℕ → Operands → Operands → List ℕ → State → State → Type 0
+PairMakes p o x y original s t =
+    let at = place_of p o in
+    EndSo original s (pair (take 4 (drop at p.final)) (take 4 (drop (at + 4) p.final))) t
+    (HaveMade (destination p.section.bytes o) (symbol_address x) (symbol_address y)
+    (sum_64 x.place 8) (sum_64 y.place 8))
+
+abbrev pub LongAddressesStay : Type 0
+LongAddressesStay =
+    IsSomeAnd (loongarch_row names.R_LARCH_PCALA_HI20) (λ row.
+    (p : Packed) → IsPacked p → p.machine ≡ LoongArch64 → (i j : ℕ) → IsPairOf p i j
+    → let o = offset_at p.relocations i in
+    (symbol : Symbol)
+    → slice_get p.symbols (relocation_in p.relocations_after i).symbol ≡ Some symbol
+    → let y = operands_at p i row symbol in
+    AreAddresses y → Fits32 names.R_LARCH_PCALA_HI20 y
+    → (x : Operands) → AreAddresses x → (pcala addi : List ℕ) → Fits32 names.R_LARCH_PCALA_HI20 x
+    → IsRelocated names.R_LARCH_PCALA_HI20 x (take 4 (drop o p.section.bytes)) pcala
+    → IsRelocated names.R_LARCH_PCALA_LO12 (behind 4 x) (take 4 (drop (o + 4) p.section.bytes)) addi
+    → (s t : State) → s.pc ≡ x.place → t.pc ≡ y.place → AreAlikeBut no_register s t
+    → PairMakes p o x y (pair pcala addi) s t)
+
+-- The same where the object had an `ld.d`, as above.
+abbrev pub LongLoadedAddressesStay : Type 0
+LongLoadedAddressesStay =
+    IsSomeAnd (loongarch_row names.R_LARCH_PCALA_HI20) (λ row.
+    (p : Packed) → IsPacked p → p.machine ≡ LoongArch64 → (i j : ℕ) → IsPairOf p i j
+    → let o = offset_at p.relocations i in
+    (symbol : Symbol)
+    → slice_get p.symbols (relocation_in p.relocations_after i).symbol ≡ Some symbol
+    → let y = operands_at p i row symbol in
+    AreAddresses y → Fits32 names.R_LARCH_PCALA_HI20 y
+    → (x : Operands) → AreAddresses x → (ld pcala_of_entry ld_of_entry : List ℕ)
+    → IsLd (word_of ld)
+    → IsRewritten kinds.LdToAddi ld (take 4 (drop (o + 4) p.section.bytes))
+    → LoadsEntry names.R_LARCH_GOT_PC_HI20 names.R_LARCH_GOT_PC_LO12 x
+    (take 4 (drop o p.section.bytes)) ld pcala_of_entry ld_of_entry
+    → (s t : State) → loaded 8 s.memory (entry_and_addend x) ≡ symbol_address x
+    → s.pc ≡ x.place → t.pc ≡ y.place → AreAlikeBut no_register s t
+    → PairMakes p o x y (pair pcala_of_entry ld_of_entry) s t)
 
 -- ---- deleted instructions (thread-local storage)
 

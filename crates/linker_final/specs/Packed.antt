@@ -18,7 +18,7 @@ use Rattle.linker_final.specs.declared.packed.PackError.TheVariants.{Untranslate
 use Rattle.linker_runs.specs.Origins.{HasItsInstructions}
 use Rattle.linker_runs.specs.Packing.{Section, packed_offset, address_of, is_fixed, kept_len, nops}
 use Rattle.linker_runs.specs.Packing.{IsFirstRejected, IsInside, IsNotIn, IsPackedRun}
-use Rattle.linker_runs.specs.Relaxing.{item_at, offset_of}
+use Rattle.linker_runs.specs.Relaxing.{item_at, len_of, offset_of}
 use Rattle.linker_runs.specs.declared.packing.Machine.{Machine}
 use Rattle.linker_runs.specs.declared.packing.Machine.TheVariants.{RiscV64, LoongArch64}
 use Rattle.linker_runs.specs.declared.relaxation.Alignment.{Alignment}
@@ -230,6 +230,13 @@ site_target p here = address_of p.section here.target
 abbrev pub AreDeleted : Packed → ℕ → ℕ → Type 0
 AreDeleted p o len =
     (k : ℕ) → k < len → is_kept p.section.deletions (p.section.base + (o + k)) ≡ false
+
+-- An item of which nothing stays is deleted.
+abbrev pub ItemsAreDeleted : Type 0
+ItemsAreDeleted =
+    (p : Packed) (item : Item) → p.section.base ≤ offset_of item
+    → kept_len p.section.deletions item ≡ 0
+    → AreDeleted p (offset_of item - p.section.base) (len_of item)
 
 -- the address where an offset of the section before goes
 abbrev pub address_at : Packed → ℕ → ℕ

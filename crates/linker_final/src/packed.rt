@@ -194,12 +194,13 @@ pub fn pack_section(
 }
 
 /// Each section that was packed: a byte that stays is at its translated place, and those that are
-/// deleted have none; padding is nops; an instruction that stays has the value of its relocation at
-/// its own address.
+/// deleted have none, as those of an item of which nothing stays; padding is nops; an instruction
+/// that stays has the value of its relocation at its own address.
 pub fn shorter_sections()
     ensures kept_bytes { packed.KeptBytesStay }
     ensures padding { packed.PaddingIsNops }
     ensures deleted_bytes { packed.DeletedBytesAreGone }
+    ensures deleted_items { packed.ItemsAreDeleted }
     ensures addresses { packed.PlacesHaveAddresses }
     ensures instructions { packed.InstructionsAreRelocated }
 {}
@@ -221,13 +222,17 @@ pub fn shorter_riscv64()
 /// LoongArch: each call that a run may make shorter, `b`, `bl` or still `pcaddu18i` and `jirl`,
 /// goes to where its target goes, and each address by `pcaddi`, or still by `pcalau12i` and
 /// `addi.d`, is that where its target goes, as the object's instructions do in their own layout. So
-/// is one that the object loaded from the GOT. Where a `lu12i.w` of 12 bits or an `add.d` of the
+/// is one that the object loaded from the GOT. The same holds of calls and addresses that stay as
+/// they are, by the values of their relocations. Where a `lu12i.w` of 12 bits or an `add.d` of the
 /// thread pointer is deleted, the object's run executes it, and the final run does nothing: it is
 /// behind it already.
 pub fn shorter_loongarch64()
     ensures calls { loongarch_packed.CallsTheSame }
     ensures addresses { loongarch_packed.AddressesAreMade }
     ensures loaded_addresses { loongarch_packed.LoadedAddressesAreMade }
+    ensures long_calls { loongarch_packed.LongCallsStay }
+    ensures long_addresses { loongarch_packed.LongAddressesStay }
+    ensures long_loaded_addresses { loongarch_packed.LongLoadedAddressesStay }
     ensures high_parts { loongarch_packed.HighPartIsLeftOut }
     ensures sums { loongarch_packed.SumIsLeftOut }
 {

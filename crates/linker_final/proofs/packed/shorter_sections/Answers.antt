@@ -1,4 +1,4 @@
-use Rattle.linker_final.proofs.PackedBytes.{kept_bytes, padding, deleted_bytes, addresses}
+use Rattle.linker_final.proofs.PackedBytes.{kept_bytes, padding, deleted_bytes, deleted_items, addresses}
 use Rattle.linker_final.proofs.PackedInstructions.{instructions}
 use Rattle.linker_final.proofs.packed.shorter_sections.Goals as goal
 
@@ -8,6 +8,7 @@ returns c =
       kept_bytes = kept_bytes;
       padding = padding;
       deleted_bytes = deleted_bytes;
+      deleted_items = deleted_items;
       addresses = addresses;
       instructions = instructions;
     }

@@ -1,0 +1,178 @@
+-- LoongArch: calls and addresses that stay, in the final bytes of a packed section.
+use Rattle.std.proofs.Common.{◌≡◌, ℕ, ◌+◌, ◌^◌, ◌<◌, take, drop, refl, sym, ap, subst, ◌∙◌, arith, true, false, Option, Some, None, Ok, IsSomeAnd}
+use Rattle.std.proofs.lemmas.List.Elements.{All-drop, All-take}
+use Rattle.std.specs.Prelude.{⊤, ℤ, slice_get}
+use Rattle.linker_base.specs.declared.bit_misc.BitRange.{BitRange}
+use Rattle.linker_elf.specs.Applied.{IsApplied}
+use Rattle.linker_elf.specs.LoongArchRelocations.{loongarch_row}
+use Rattle.linker_elf.specs.Relocate.{window_len}
+use Rattle.linker_elf.specs.Rows.{bytes_row}
+use Rattle.linker_elf.specs.Value.{sum_64, value_of}
+use Rattle.linker_elf.specs.declared.elf.RelocationInstruction.{RelocationInstruction}
+use Rattle.linker_elf.specs.declared.elf.RelocationKind.TheVariants.{None as NoValue}
+use Rattle.linker_elf.specs.declared.elf.RelocationKindInfo.{RelocationKindInfo}
+use Rattle.linker_elf.specs.declared.elf.RelocationSize.TheVariants.{BitMasking}
+use Rattle.linker_elf.specs.declared.elf.value.Operands.{Operands}
+use Rattle.linker_elf.specs.declared.loongarch64.relocations.LoongArch64Relocation.{LoongArch64Relocation}
+use Rattle.linker_elf.specs.declared.loongarch64.relocations.LoongArch64Relocation.TheVariants as names
+use Rattle.linker_final.proofs.LoongArchPackedSites.{Made, both_call, both_make, by_addi, by_ld, either, first_of_window, from_there, second_at, second_of_window}
+use Rattle.linker_final.proofs.PackedBytes.{place_behind, places_inside, stay_inside}
+use Rattle.linker_final.proofs.PackedInstructions.{instructions}
+use Rattle.linker_final.proofs.PutBack.{window_length}
+use Rattle.linker_final.specs.LoongArchPacked.{LongAddressesStay, LongCallsStay, LongLoadedAddressesStay, IsPairOf, StaysAs, operands_at}
+use Rattle.linker_final.specs.Packed.{Packed, IsPacked, architecture_of, place_of}
+use Rattle.linker_laws.specs.LoongArchMachine.{State}
+use Rattle.linker_laws.specs.LoongArchRelocationLaws as relocation_laws
+use Rattle.linker_laws.specs.LoongArchRewriteLaws.{Fits32, behind, pair}
+use Rattle.linker_laws.specs.Schemes.{AreAddresses, plt_address, symbol_address}
+use Rattle.linker_loongarch64.specs.LoongArchRewrites.{rd_of, word_at}
+use Rattle.linker_runs.specs.LoongArchSites.{destination}
+use Rattle.linker_runs.specs.declared.packing.Machine.TheVariants.{LoongArch64}
+use Rattle.linker_section.specs.Relocations.{relocation_in}
+use Rattle.linker_section.specs.Values.{has_value, names_label, offset_at, operands_in, operands_of}
+use Rattle.linker_section.specs.declared.facts.Symbol.{Symbol}
+use Rattle.linker_utils.specs.Architectures.{IsRow}
+use Rattle.linker_utils.specs.declared.elf.Architecture.TheVariants as architectures
+
+abbrev the_row : Option RelocationKindInfo → RelocationKindInfo
+the_row (Some row) = row
+the_row None = bytes_row NoValue 0
+
+abbrev call_row : RelocationKindInfo
+call_row = the_row (loongarch_row names.R_LARCH_CALL36)
+
+abbrev high_row : RelocationKindInfo
+high_row = the_row (loongarch_row names.R_LARCH_PCALA_HI20)
+
+abbrev low_row : RelocationKindInfo
+low_row = the_row (loongarch_row names.R_LARCH_PCALA_LO12)
+
+some_value : (v : Option ℤ) → IsSomeAnd v (λ _. ⊤) → (z : ℤ) × (v ≡ Some z)
+some_value None nothing = absurd nothing
+some_value (Some z) there = (z, refl)
+
+-- The relocation of an instruction that stays is applied to it.
+module _ (p : Packed) (is : IsPacked p) (machine : p.machine ≡ LoongArch64) (i : ℕ)
+    (name : LoongArch64Relocation) (n : ℕ) (stays : StaysAs p i name n) (row : RelocationKindInfo)
+    (bits : BitRange) (insn : RelocationInstruction) (row_is : loongarch_row name ≡ Some row)
+    (size : row.size ≡ BitMasking bits insn) (wide : window_len row ≡ n)
+    (has : has_value row.kind ≡ true) (unlabelled : names_label row.size row.kind ≡ false)
+    (symbol : Symbol)
+    (symbol_is : slice_get p.symbols (relocation_in p.relocations_after i).symbol ≡ Some symbol)
+    (y : Operands)
+    (taken : operands_in architectures.LoongArch64 p.addresses row (relocation_in p.relocations_after i) (Some symbol) ≡ Ok y)
+    (valued : IsSomeAnd (value_of row y) (λ _. ⊤)) where
+  applied : IsApplied row y (take n (drop (offset_at p.relocations i) p.section.bytes))
+      (take n (drop (place_of p (offset_at p.relocations i)) p.final))
+  applied =
+      let r = relocation_in p.relocations_after i in
+      let o = offset_at p.relocations i in
+      let there : architectures.LoongArch64 ≡ architecture_of p.machine = sym (ap architecture_of machine) in
+      let value = some_value (value_of row y) valued in
+      subst (λ m. IsApplied row y (take m (drop o p.section.bytes)) (take m (drop (place_of p o) p.final))) wide
+      (instructions p is i row y
+      (record {
+        within = stays.within;
+        is_row = subst (λ a. IsRow a r.code (Some row)) there
+            (record { name = name; is_name = stays.is_name; value_is = sym row_is });
+        bits = bits;
+        insn = insn;
+        size = size;
+        has = has;
+        unlabelled = unlabelled;
+        taken = subst (λ a. operands_of a p.addresses p.symbols row r ≡ Ok y) there
+            (ap (operands_in architectures.LoongArch64 p.addresses row r) symbol_is ∙ taken);
+        value = value.0;
+        value_is = value.1;
+        stays = λ k below. stays.stays k (subst (λ m. k < m) wide below);
+      }))
+
+pub long_calls : relocation_laws.Calls → LongCallsStay
+long_calls law p is machine i stays at symbol symbol_is small x small_x original relocated s t hs ht alike =
+    let section = p.section.bytes in
+    let o = offset_at p.relocations i in
+    let y = operands_at p i call_row symbol in
+    let link = destination section o in
+    let base = rd_of (word_at section o) in
+    let there = drop o section in
+    let code = take 8 (drop (place_of p o) p.final) in
+    let inside = stay_inside p is o 8 (omega arith) stays.stays in
+    let fits = places_inside p is o 8 (omega arith) stays.stays in
+    let same = is.written.same_length in
+    let wide = window_length o 8 section inside in
+    both_call (pair original (drop 4 original)) (pair code (drop 4 code)) link base
+    (sum_64 x.place 8) (sum_64 y.place 8) (plt_address x) (plt_address y) s t alike
+    (from_there law section o is.section_bytes inside at x original relocated small_x s hs)
+    (either law section o is.section_bytes inside at (take 8 there) (omega (arith, wide)) (first_of_window there)
+    (second_of_window there ∙ second_at section o) y code
+    (record {
+      applied = applied p is machine i names.R_LARCH_CALL36 8 stays call_row _ _ refl refl refl refl refl symbol symbol_is y refl tt;
+      len = window_length (place_of p o) 8 p.final (omega (arith, fits, same)) ∙ sym wide;
+      old_bytes = All-take (λ byte. byte < 2 ^ 8) 8 there (All-drop (λ byte. byte < 2 ^ 8) o section is.section_bytes);
+      bytes = All-take (λ byte. byte < 2 ^ 8) 8 (drop (place_of p o) p.final) (All-drop (λ byte. byte < 2 ^ 8) (place_of p o) p.final is.final_bytes);
+    }) small t ht)
+
+-- ---- pairs
+
+module _ (relative : relocation_laws.RelativeAddresses) (p : Packed) (is : IsPacked p)
+    (machine : p.machine ≡ LoongArch64) (i j : ℕ) (of : IsPairOf p i j) (symbol : Symbol)
+    (symbol_is : slice_get p.symbols (relocation_in p.relocations_after i).symbol ≡ Some symbol)
+    (small : AreAddresses (operands_at p i high_row symbol))
+    (fits : Fits32 names.R_LARCH_PCALA_HI20 (operands_at p i high_row symbol)) where
+  abbrev o : ℕ
+  o = offset_at p.relocations i
+
+  abbrev y : Operands
+  y = operands_at p i high_row symbol
+
+  -- where the second instruction goes
+  next_place : place_of p (o + 4) ≡ place_of p o + 4
+  next_place = place_behind p is o 4 (omega arith) of.high.stays
+
+  low_place : sum_64 p.addresses.section (offset_at p.relocations_after j) ≡ sum_64 y.place 4
+  low_place =
+      let first = (is.translated i of.high.within).offset in
+      let second = (is.translated j of.low.within).offset in
+      let next = next_place in
+      let e = ap (place_of p) of.next in
+      omega (arith, first, second, next, e)
+
+  low_applied : IsApplied low_row (behind 4 y) (take 4 (drop (o + 4) p.section.bytes))
+      (take 4 (drop (place_of p o + 4) p.final))
+  low_applied =
+      let own = applied p is machine j names.R_LARCH_PCALA_LO12 4 of.low low_row _ _ refl refl refl refl refl symbol
+      (ap (slice_get p.symbols) of.same_symbol ∙ symbol_is) (operands_at p j low_row symbol) refl tt in
+      let there : IsApplied low_row (operands_at p j low_row symbol) (take 4 (drop (o + 4) p.section.bytes)) (take 4 (drop (place_of p (o + 4)) p.final)) =
+      subst (λ q. IsApplied low_row (operands_at p j low_row symbol) (take 4 (drop q p.section.bytes)) (take 4 (drop (place_of p q) p.final))) of.next own in
+      subst (λ q. IsApplied low_row (behind 4 y) (take 4 (drop (o + 4) p.section.bytes)) (take 4 (drop q p.final))) next_place
+      (subst (λ q. IsApplied low_row (record y { place = q }) (take 4 (drop (o + 4) p.section.bytes)) (take 4 (drop (place_of p (o + 4)) p.final))) low_place
+      (subst (λ a. IsApplied low_row (record y { addend = a; place = sum_64 p.addresses.section (offset_at p.relocations_after j) }) (take 4 (drop (o + 4) p.section.bytes)) (take 4 (drop (place_of p (o + 4)) p.final))) of.same_addend there))
+
+  final_pair : (t : State) → t.pc ≡ y.place
+      → Made (pair (take 4 (drop (place_of p o) p.final)) (take 4 (drop (place_of p o + 4) p.final)))
+      (destination p.section.bytes o) (symbol_address y) (sum_64 y.place 8) t
+  final_pair t ht =
+      by_addi relative p.section.bytes o of.pair y small (take 4 (drop (place_of p o) p.final))
+      (take 4 (drop (place_of p o + 4) p.final)) fits
+      (applied p is machine i names.R_LARCH_PCALA_HI20 4 of.high high_row _ _ refl refl refl refl refl symbol symbol_is y refl tt)
+      low_applied t ht
+
+pub long_addresses : relocation_laws.RelativeAddresses → LongAddressesStay
+long_addresses relative p is machine i j of symbol symbol_is small fits x small_x pcala addi fits_x high low s t hs ht alike =
+    let section = p.section.bytes in
+    let o = offset_at p.relocations i in
+    let y = operands_at p i high_row symbol in
+    both_make (pair pcala addi) (pair (take 4 (drop (place_of p o) p.final)) (take 4 (drop (place_of p o + 4) p.final)))
+    (destination section o) (symbol_address x) (symbol_address y) (sum_64 x.place 8) (sum_64 y.place 8) s t alike
+    (by_addi relative section o of.pair x small_x pcala addi fits_x high low s hs)
+    (final_pair relative p is machine i j of symbol symbol_is small fits t ht)
+
+pub long_loaded_addresses : relocation_laws.RelativeAddresses → LongLoadedAddressesStay
+long_loaded_addresses relative p is machine i j of symbol symbol_is small fits x small_x ld pcala_of ld_of load made old s t holds hs ht alike =
+    let section = p.section.bytes in
+    let o = offset_at p.relocations i in
+    let y = operands_at p i high_row symbol in
+    both_make (pair pcala_of ld_of) (pair (take 4 (drop (place_of p o) p.final)) (take 4 (drop (place_of p o + 4) p.final)))
+    (destination section o) (symbol_address x) (symbol_address y) (sum_64 x.place 8) (sum_64 y.place 8) s t alike
+    (by_ld relative section o of.pair x small_x ld pcala_of ld_of load made old s holds hs)
+    (final_pair relative p is machine i j of symbol symbol_is small fits t ht)
