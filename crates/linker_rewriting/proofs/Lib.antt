@@ -12,5 +12,6 @@ pub mod Order
 pub mod PhaseTables
 pub mod Surveying
 pub mod Unique
+pub mod Untouched
 pub mod Whole
 pub mod Windows
