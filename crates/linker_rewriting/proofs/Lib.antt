@@ -6,6 +6,7 @@ pub mod KeptCalls
 pub mod LabelGroups
 pub mod Listing
 pub mod Loads
+pub mod LoadsDecided
 pub mod Making
 pub mod Noted
 pub mod Order
@@ -14,4 +15,6 @@ pub mod Surveying
 pub mod Unique
 pub mod Untouched
 pub mod Whole
+pub mod WholeWords
 pub mod Windows
+pub mod WordsNoted
