@@ -4,10 +4,10 @@
 use linker_utils::elf::Architecture::{self, AArch64, LoongArch64, Ppc64, RiscV, X86_64};
 use linker_utils::relaxation::AsDeletion;
 use linker_utils::rewriting::{
-    first_changed, has_rewrites, keep_facts, relocate_rewritten_section, rewrite_placed_section,
-    rewrite_section, scope_in, scope_of, survey, survey_placed_section, AsDecision, Decision,
-    FromDeletion, Group, KeptFacts, KeptGroups, OutputFacts, Phase, RewritingError, Scope,
-    SymbolFacts, WritingError,
+    first_changed, has_rewrites, keep_facts, relocate_rewritten_section, rewrite_address_loads,
+    rewrite_placed_section, rewrite_section, scope_in, scope_of, survey, survey_address_loads,
+    survey_placed_section, AsDecision, Decision, FromDeletion, Group, KeptFacts, KeptGroups,
+    OutputFacts, Phase, RewritingError, Scope, SymbolFacts, WritingError,
 };
 use linker_utils::section::{relocate_section, relocation_at, Addresses, Rela, Symbol};
 
@@ -1294,4 +1294,190 @@ fn values_are_written_where_the_kept_facts_still_hold() {
         first_changed(&EXECUTABLE, &facts[..1], &kept, &two),
         Some(0)
     );
+}
+
+// ---- addresses in words of `.toc` (64-Bit ELF V2 ABI, "TOC Optimizations" and "Relocation Types")
+
+const TOC16_HA: u32 = 50;
+const TOC16_LO: u32 = 48;
+const TOC16_LO_DS: u32 = 64;
+const ADDR64: u32 = 38;
+/// Where `.toc` is.
+const TOC: u64 = 0x1_0000;
+
+/// What is known of symbols once addresses are: 1 stands for `.toc`, 3 is a definition near it, and 4
+/// is of another file.
+fn placed_symbols() -> [Symbol; 5] {
+    [0, TOC, 0, 0x1_2340, 0x1_2340].map(|address| Symbol {
+        address,
+        ..Symbol::default()
+    })
+}
+
+/// The code section and the TOC pointer, which is 0x8000 above `.toc`.
+const CODE: Addresses = Addresses {
+    section: 0x1000,
+    got_base: 0x1_8000,
+    thread_origin: 0,
+    module_origin: 0,
+    module_entry: 0,
+};
+
+/// Two words: of `symbol` with an addend of 8, and of symbol 3.
+fn words_of(symbol: u32) -> Vec<u8> {
+    bytes_of(&[rela(0, ADDR64, symbol, 8), rela(8, ADDR64, 3, 0)])
+}
+
+/// addis 3,2,.toc@toc@ha and ld 4,.toc@toc@l(3) of the first word, the same of registers 5 and 6 and
+/// the second one, and `last` of the first word, behind the first addis.
+fn loads(last: u32, code: u32) -> Section {
+    Section {
+        bytes: words(&[0x3c62_0000, 0xe883_0000, 0x3ca2_0000, 0xe8c5_0000, last]),
+        relocations: vec![
+            rela(0, TOC16_HA, 1, 0),
+            rela(4, TOC16_LO_DS, 1, 0),
+            rela(8, TOC16_HA, 1, 8),
+            rela(12, TOC16_LO_DS, 1, 8),
+            rela(16, code, 1, 0),
+        ],
+    }
+}
+
+/// Which words stay by a section, and what it becomes.
+fn with_addresses(
+    architecture: Architecture,
+    addresses: &Addresses,
+    table: &[u8],
+    section: &Section,
+) -> ([bool; 2], Section, Vec<Decision>) {
+    let mut entries = bytes_of(&section.relocations);
+    let mut kept = [false; 2];
+    survey_address_loads(
+        architecture,
+        &EXECUTABLE,
+        &symbols(),
+        addresses,
+        &placed_symbols(),
+        TOC,
+        table,
+        &entries,
+        &section.bytes,
+        &mut kept,
+    );
+    let mut bytes = section.bytes.clone();
+    let mut decisions = vec![Decision::Kept; section.relocations.len()];
+    rewrite_address_loads(
+        architecture,
+        &EXECUTABLE,
+        &symbols(),
+        addresses,
+        &placed_symbols(),
+        TOC,
+        table,
+        &kept,
+        &mut entries,
+        &mut bytes,
+        &mut decisions,
+    )
+    .unwrap();
+    let relocations = (0..decisions.len()).map(|index| relocation_at(&entries, index).unwrap());
+    let relocations = relocations.collect();
+    (kept, Section { bytes, relocations }, decisions)
+}
+
+#[test]
+fn all_loads_of_a_word_compute_its_address() {
+    // ld 7,.toc@toc@l(3)
+    let section = loads(0xe8e3_0000, TOC16_LO_DS);
+    let (kept, after, decisions) = with_addresses(Ppc64, &CODE, &words_of(3), &section);
+    assert_eq!(kept, [false; 2]);
+    assert!(decisions.iter().all(|it| matches!(it, Decision::Redirected(..))));
+    // each `ld` becomes an `addi`, and the relocations are those of the words
+    let code = [0x3c62_0000, 0x3883_0000, 0x3ca2_0000, 0x38c5_0000, 0x38e3_0000];
+    assert_eq!(after.bytes, words(&code));
+    let relocations = [
+        rela(0, TOC16_HA, 3, 8),
+        rela(4, TOC16_LO, 3, 8),
+        rela(8, TOC16_HA, 3, 0),
+        rela(12, TOC16_LO, 3, 0),
+        rela(16, TOC16_LO, 3, 8),
+    ];
+    assert_eq!(after.relocations, relocations);
+}
+
+#[test]
+fn a_word_with_another_use_stays() {
+    // addi 7,3,.toc@toc@l, which is of the word's own address
+    let section = loads(0x38e3_0000, TOC16_LO);
+    let (kept, after, decisions) = with_addresses(Ppc64, &CODE, &words_of(3), &section);
+    assert_eq!(kept, [true, false]);
+    let code = [0x3c62_0000, 0xe883_0000, 0x3ca2_0000, 0x38c5_0000, 0x38e3_0000];
+    assert_eq!(after.bytes, words(&code));
+    let kept = [0, 1, 4].map(|index| decisions[index] == Decision::Kept);
+    assert_eq!(kept, [true; 3]);
+    assert_eq!(after.relocations[3], rela(12, TOC16_LO, 3, 0));
+}
+
+#[test]
+fn a_word_of_another_file_or_out_of_reach_stays() {
+    let section = loads(0xe8e3_0000, TOC16_LO_DS);
+    let (kept, after, _) = with_addresses(Ppc64, &CODE, &words_of(4), &section);
+    assert_eq!(kept, [true, false]);
+    assert_eq!(after.bytes[..8], section.bytes[..8]);
+    // the high part of a distance has 16 bits
+    let far = Addresses {
+        got_base: TOC + (1 << 32),
+        ..CODE
+    };
+    let (kept, after, _) = with_addresses(Ppc64, &far, &words_of(3), &section);
+    assert_eq!(kept, [true; 2]);
+    assert_eq!(after.bytes, section.bytes);
+}
+
+#[test]
+fn a_word_without_the_relocation_of_an_address_is_none() {
+    // R_PPC64_DTPMOD64 at the first word: what loads it stays, and keeps nothing
+    let table = bytes_of(&[rela(0, 68, 3, 0), rela(8, ADDR64, 3, 0)]);
+    let section = loads(0x38e3_0000, TOC16_LO);
+    let (kept, after, _) = with_addresses(Ppc64, &CODE, &table, &section);
+    assert_eq!(kept, [false; 2]);
+    let code = [0x3c62_0000, 0xe883_0000, 0x3ca2_0000, 0x38c5_0000, 0x38e3_0000];
+    assert_eq!(after.bytes, words(&code));
+}
+
+#[test]
+fn only_powerpc64_has_words_of_addresses() {
+    let section = loads(0xe8e3_0000, TOC16_LO_DS);
+    for architecture in [AArch64, LoongArch64, RiscV, X86_64] {
+        let (kept, after, decisions) = with_addresses(architecture, &CODE, &words_of(3), &section);
+        assert_eq!(kept, [false; 2]);
+        assert_eq!(after.bytes, section.bytes);
+        assert!(decisions.iter().all(|it| *it == Decision::Kept));
+    }
+}
+
+#[test]
+fn loads_that_were_not_surveyed_are_an_error() {
+    let section = loads(0x38e3_0000, TOC16_LO);
+    let given = bytes_of(&section.relocations);
+    let (mut entries, mut bytes) = (given.clone(), section.bytes.clone());
+    let mut rewrite = |decisions: &mut [Decision]| {
+        rewrite_address_loads(
+            Ppc64,
+            &EXECUTABLE,
+            &symbols(),
+            &CODE,
+            &placed_symbols(),
+            TOC,
+            &words_of(3),
+            &[false; 2],
+            &mut entries,
+            &mut bytes,
+            decisions,
+        )
+    };
+    assert_eq!(rewrite(&mut [Decision::Kept; 5]), Err(RewritingError::NotSurveyed(4)));
+    assert_eq!(rewrite(&mut [Decision::Kept; 4]), Err(RewritingError::TooShort));
+    assert_eq!(entries, given);
+    assert_eq!(bytes, section.bytes);
 }

@@ -20,13 +20,13 @@ use Rattle.linker_section.specs.declared.relocations.Rela.{Rela}
 use borrow.Author.Count.{below_more}
 
 -- those of a relocation with an index
-abbrev start_of : List ℕ → ℕ → Decision → ℕ
+abbrev pub start_of : List ℕ → ℕ → Decision → ℕ
 start_of bytes n d = start_by d (relocation_in bytes n).offset
 
-abbrev end_of : List ℕ → ℕ → Decision → ℕ
+abbrev pub end_of : List ℕ → ℕ → Decision → ℕ
 end_of bytes n d = end_by d (relocation_in bytes n).offset
 
-abbrev IsSome : List ℕ → ℕ → Decision → Type 0
+abbrev pub IsSome : List ℕ → ℕ → Decision → Type 0
 IsSome bytes n d = start_of bytes n d < end_of bytes n d
 
 -- windows so far end at or below the limit, which one of them reaches
@@ -58,7 +58,7 @@ none_decided s kept bytes section decisions notes =
     }
 
 -- the decisions below an index are the same
-abbrev AreSame : List Decision → List Decision → ℕ → Type 0
+abbrev pub AreSame : List Decision → List Decision → ℕ → Type 0
 AreSame old new k = (n : ℕ) → n < k → decision_at new n ≡ decision_at old n
 
 same_taken : (old new : List Decision) (k n : ℕ) → AreSame old new k → n ≤ k
@@ -95,7 +95,7 @@ grown_end bytes k d end new (inl stays) some = let e = stays.0 in absurd (omega 
 grown_end bytes k d end new (inr grows) some = let e = grows.2 in omega arith
 
 -- one of the windows ends there
-abbrev IsReached : List ℕ → List Decision → ℕ → ℕ → Type 0
+abbrev pub IsReached : List ℕ → List Decision → ℕ → ℕ → Type 0
 IsReached bytes decisions end k =
     (end ≡ 0)
     ⊎ ((n : ℕ) × (n < k) × (IsSome bytes n (decision_at decisions n)) × (end_at bytes decisions n ≡ end))
@@ -125,7 +125,7 @@ reached_more bytes old new k end grown d same here reached (inr grows) =
       ap (end_of bytes k) here ∙ sym (grows.2),
     )
 
-ends_more : (bytes : List ℕ) (old new : List Decision) (k end grown : ℕ) (d : Decision)
+pub ends_more : (bytes : List ℕ) (old new : List Decision) (k end grown : ℕ) (d : Decision)
     → AreSame old new k → decision_at new k ≡ d → EndsAt bytes old end k
     → IsGrown bytes k d end grown → EndsAt bytes new grown (k + 1)
 ends_more bytes old new k end grown d same here ends grow =
@@ -138,7 +138,7 @@ ends_more bytes old new k end grown d same here ends grow =
       reached = reached_more bytes old new k end grown d same here ends.reached grow;
     }
 
-apart_more : (bytes : List ℕ) (old new : List Decision) (k end grown : ℕ) (d : Decision)
+pub apart_more : (bytes : List ℕ) (old new : List Decision) (k end grown : ℕ) (d : Decision)
     → AreSame old new k → decision_at new k ≡ d → EndsAt bytes old end k → AreApart bytes old k
     → IsGrown bytes k d end grown → AreApart bytes new (k + 1)
 apart_more bytes old new k end grown d same here ends apart grow i j ij less =

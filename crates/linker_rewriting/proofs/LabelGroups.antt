@@ -51,7 +51,7 @@ one_high_at bytes code at (Some g) (Some h) a b =
       ]
     ]
 
-one_high_from : (bytes : List ℕ) (code : ℕ) (at x y : Option ℕ) → IsHighFrom bytes code at x
+pub one_high_from : (bytes : List ℕ) (code : ℕ) (at x y : Option ℕ) → IsHighFrom bytes code at x
     → IsHighFrom bytes code at y → x ≡ y
 one_high_from bytes code None x y a b = a ∙ sym b
 one_high_from bytes code (Some at) x y a b = one_high_at bytes code at x y a b

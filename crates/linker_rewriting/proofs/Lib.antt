@@ -6,11 +6,15 @@ pub mod KeptCalls
 pub mod LabelGroups
 pub mod Listing
 pub mod Loads
+pub mod LoadsDecided
 pub mod Making
 pub mod Noted
 pub mod Order
 pub mod PhaseTables
 pub mod Surveying
 pub mod Unique
+pub mod Untouched
 pub mod Whole
+pub mod WholeWords
 pub mod Windows
+pub mod WordsNoted

@@ -1,2 +1,4 @@
 pub mod Calls
 pub mod Codes
+pub mod Left
+pub mod Words

@@ -9,3 +9,4 @@ pub mod Notes
 pub mod Rewritten
 pub mod Sequences
 pub mod Surveys
+pub mod Words

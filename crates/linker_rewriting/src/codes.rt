@@ -4,12 +4,15 @@
 //! of the phases in which a survey asks for its rewrite, since it is of a group. A code past the end of a
 //! table has none. Each number is proved to have exactly the bits of its name's scopes.
 
-ghost use Rattle.std.specs.Prelude.{◌≡◌};
+ghost use Rattle.std.specs.Prelude.{◌≡◌, ◌/◌, length, false};
 ghost use Rattle.linker_rewriting.specs.Inner.Codes.{bit_of, group_bit_of, phases_in};
 ghost use Rattle.linker_rewriting.specs.Inner.Codes.{table_of, IsListed, IsAsked};
+ghost use Rattle.linker_rewriting.specs.Inner.Left.{AreUnlisted};
 
 use crate::groups::scope_in;
 use crate::phases::Phase;
+use crate::relocations::relocation_in;
+use linker_section::relocations::relocations_len;
 use linker_utils::elf::Architecture;
 
 /// Those of AArch64.
@@ -178,4 +181,20 @@ pub(crate) fn is_asked(
 {
     let scope = scope_in(architecture, phase, code);
     phases_in(table, code) & bit != 0
+}
+
+/// Whether one of the relocations may be rewritten in a phase, by its code.
+pub(crate) fn lists_any(architecture: Architecture, phase: Phase, relocations: &[u8]) -> bool
+    ensures { result ≡ false → AreUnlisted architecture phase relocations.now
+        (length relocations.now / 24) }
+{
+    let table = table_of(architecture);
+    let bit = bit_of(phase);
+    for index in 0..relocations_len(relocations) {
+        let code = relocation_in(relocations, index).code;
+        if is_listed(architecture, phase, table, bit, code) {
+            return true;
+        }
+    }
+    false
 }

@@ -1,7 +1,7 @@
 //! What becomes of each relocation of a section and of its instruction.
 
 ghost use Rattle.std.specs.Prelude.{◌≡◌, ◌<◌, ◌≤◌, ◌+◌, ◌-◌, ◌/◌, length, map, IfSome, IfErr};
-ghost use Rattle.std.specs.Prelude.{OnOk, All, take, drop, true, false};
+ghost use Rattle.std.specs.Prelude.{OnOk, IfOk, All, take, drop, true, false};
 ghost use Rattle.linker_rewriting.specs.declared.decisions.Decision.{Decision as decisions};
 ghost use Rattle.linker_section.specs.Relocations.{relocation_in, relocation_at};
 ghost use Rattle.linker_rewriting.specs.Decisions.{takes_next, window_of, IsDecision, CanBeMade};
@@ -12,14 +12,15 @@ ghost use Rattle.linker_rewriting.specs.Decisions.{IsRewrittenAt, label_decision
 ghost use Rattle.linker_rewriting.specs.Facts.{setting};
 ghost use Rattle.linker_rewriting.specs.Inner.Calls.{IsLeft};
 ghost use Rattle.linker_rewriting.specs.Inner.Codes.{bit_of, table_of};
+ghost use Rattle.linker_rewriting.specs.Inner.Left.{AreKept};
 ghost use Rattle.linker_rewriting.specs.Labels.{IsInLabel, IsLabelNote};
 
 use crate::calls::keeps_call;
 use crate::candidates::candidate;
-use crate::codes::{bit_of, is_listed, table_of};
+use crate::codes::{bit_of, is_listed, lists_any, table_of};
 use crate::facts::{OutputFacts, SymbolFacts};
 use crate::groups::{KeptGroups, Scope, group_stays, scope_in};
-use crate::labels::{high_of, is_note, label_candidate, note_labels};
+use crate::labels::{high_of, is_note, label_candidate, note_labels, set_all};
 use crate::phases::Phase;
 use crate::relocations::relocation_in;
 use linker_base::rewrite::DeletedBytes;
@@ -436,7 +437,7 @@ fn deleted_end(offset: u64, deleted: Option<DeletedBytes>) -> u64
 
 /// Where the bytes begin that a decision rewrites, and where those end that it rewrites or deletes.
 #[inline(always)]
-fn span_of(decision: &Decision, offset: u64) -> (u64, u64)
+pub(crate) fn span_of(decision: &Decision, offset: u64) -> (u64, u64)
     requires { end_by decision.now offset ≤ u64.MAX }
     ensures { result ≡ (start_by decision.now offset, end_by decision.now offset) }
 {
@@ -450,7 +451,7 @@ fn span_of(decision: &Decision, offset: u64) -> (u64, u64)
 /// Where the bytes end that are rewritten or deleted up to some from a start to an end, by where those
 /// before them do. None if they aren't behind those.
 #[inline(always)]
-fn end_behind(start: u64, own: u64, end: u64) -> Option<u64>
+pub(crate) fn end_behind(start: u64, own: u64, end: u64) -> Option<u64>
     ensures { IsEndBehind start own end result }
 {
     if own <= start {
@@ -463,7 +464,7 @@ fn end_behind(start: u64, own: u64, end: u64) -> Option<u64>
 }
 
 /// Decides what becomes of each relocation of a section and of its instruction, in the caller's
-/// memory. Nothing is rewritten.
+/// memory. Nothing is rewritten. False if all stay as they are by their codes.
 pub(crate) fn decide_section<D: AsDecision>(
     architecture: Architecture,
     phase: Phase,
@@ -475,11 +476,13 @@ pub(crate) fn decide_section<D: AsDecision>(
     relocations: &[u8],
     section: &[u8],
     decisions: &mut [D],
-) -> Result<(), RewritingError>
+) -> Result<bool, RewritingError>
     ensures enough { OnOk result (length relocations.now / 24 ≤ length decisions.old) }
     ensures decided { OnOk result (AreDecidedIn (setting architecture phase output.now symbols.now
         addresses.now values.now) kept.now relocations.now section.now
         (map D.decision decisions.new) (length relocations.now / 24)) }
+    ensures left { IfOk result (λ changes. changes ≡ false
+        → AreKept (map D.decision decisions.new) (length relocations.now / 24)) }
     ensures made { OnOk result (AllCanBeMade relocations.now section.now
         (map D.decision decisions.new) (length relocations.now / 24)) }
     ensures apart { OnOk result (AreApart relocations.now (map D.decision decisions.new)
@@ -495,6 +498,10 @@ pub(crate) fn decide_section<D: AsDecision>(
     let len = relocations_len(relocations);
     if decisions.len() < len {
         return Err(RewritingError::TooShort);
+    }
+    if !lists_any(architecture, phase, relocations) {
+        set_all(relocations, Decision::Kept, decisions);
+        return Ok(false);
     }
     note_labels(
         architecture,
@@ -552,5 +559,5 @@ pub(crate) fn decide_section<D: AsDecision>(
         is_taken = decision.takes_next();
         decisions[index] = D::from_decision(decision);
     }
-    Ok(())
+    Ok(true)
 }

@@ -103,7 +103,7 @@ pub(crate) fn facts_of(output: &OutputFacts, symbol: &SymbolFacts, addend: i64) 
 
 /// S, which counts as the thread pointer's address of a thread-local symbol that nothing defines.
 #[inline(always)]
-fn address_in(addresses: &Addresses, value: &Symbol) -> u64
+pub(crate) fn address_in(addresses: &Addresses, value: &Symbol) -> u64
     ensures { result ≡ address_in addresses.now value.now }
 {
     if !value.is_undefined_weak {

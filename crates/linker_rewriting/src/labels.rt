@@ -1,7 +1,7 @@
 //! Groups of one label of RISC-V: a high part, and the low parts whose symbol is the label at it.
 
 ghost use Rattle.std.specs.Prelude.{◌≡◌, ◌+◌, ◌<◌, ◌≤◌, ◌/◌, ℕ, length, IfSome, true};
-ghost use Rattle.std.specs.Prelude.{map, drop};
+ghost use Rattle.std.specs.Prelude.{map, drop, take, All};
 ghost use Rattle.linker_base.specs.Rewrite.{CanRewrite};
 ghost use Rattle.linker_utils.specs.Architectures.{relaxation_rewrite, relaxation_deleted};
 ghost use Rattle.linker_section.specs.Relocations.{relocation_in};
@@ -40,7 +40,7 @@ fn high_code(phase: Phase) -> u32
 }
 
 /// The index of the first relocation with a code at an offset, among relocations that ascend.
-fn high_at(relocations: &[u8], code: u32, at: u64) -> Option<usize>
+pub(crate) fn high_at(relocations: &[u8], code: u32, at: u64) -> Option<usize>
     ensures within { IfSome result (λ high. high < length relocations.now / 24) }
     ensures high { IsAscending relocations.now → IsHighAt relocations.now code at result }
 {
@@ -245,10 +245,11 @@ pub(crate) fn is_note(decision: &Decision) -> bool
 }
 
 /// Sets all decisions of a section to one.
-fn set_all<D: AsDecision>(relocations: &[u8], decision: Decision, decisions: &mut [D])
+pub(crate) fn set_all<D: AsDecision>(relocations: &[u8], decision: Decision, decisions: &mut [D])
     requires { length relocations.now / 24 ≤ length decisions.old }
     ensures set { (n : ℕ) → n < length relocations.now / 24
         → decision_at (map D.decision decisions.new) n ≡ decision }
+    ensures form { All D.is_written (take (length relocations.now / 24) decisions.new) }
     ensures others { drop (length relocations.now / 24) decisions.new
         ≡ drop (length relocations.now / 24) decisions.old }
 {

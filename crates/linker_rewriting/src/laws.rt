@@ -4,6 +4,7 @@ ghost use Rattle.linker_rewriting.specs.Decisions.{DecisionsFollow};
 ghost use Rattle.linker_rewriting.specs.Kept.{KeptFactsTell};
 ghost use Rattle.linker_rewriting.specs.Rewritten.{GroupsAreWholeAcross, LoadsAreWhole};
 ghost use Rattle.linker_rewriting.specs.Surveys.{NotesStay, SurveysCommute};
+ghost use Rattle.linker_rewriting.specs.Words.{WordsAreWholeAcross};
 
 /// What is noted of one section of an object is still noted when the others have been surveyed, so that
 /// the clause `surveyed` of `rewrite_section` holds of each.
@@ -36,4 +37,10 @@ pub fn loads_are_whole()
 /// Where the same bits are kept of two symbols, choices read the same of them in every phase.
 pub fn kept_facts_tell()
     ensures { KeptFactsTell }
+{}
+
+/// Of two sections of an object whose loads are decided by one table all loads of a word are rewritten
+/// too, or none is.
+pub fn words_are_whole_across()
+    ensures { WordsAreWholeAcross }
 {}

@@ -16,3 +16,4 @@ mod relocations;
 pub mod sections;
 mod sequences;
 pub mod surveys;
+pub mod words;

@@ -1,12 +1,13 @@
 //! The rewrites of a section, made in one call for each phase.
 
 ghost use Rattle.std.specs.Prelude.{◌≡◌, ◌<◌, ◌≤◌, ◌/◌, ℕ, length, take, IfErr, IfOk, IfSome};
-ghost use Rattle.std.specs.Prelude.{IfNone, OnOk, OnErr, All, map, drop};
+ghost use Rattle.std.specs.Prelude.{IfNone, OnOk, OnErr, All, map, drop, false};
 ghost use Rattle.linker_section.specs.Relocations.{relocation_in};
 ghost use Rattle.linker_rewriting.specs.Decisions.{CanBeMade, AllCanBeMade, AreDecided, AreApart};
 ghost use Rattle.linker_rewriting.specs.Decisions.{AreDecidedIn, IsRejected, IsRejectedPlaced};
 ghost use Rattle.linker_rewriting.specs.Decisions.{decision_at, deleted_of, deleted_end, deletions_by};
 ghost use Rattle.linker_rewriting.specs.Facts.{early, setting};
+ghost use Rattle.linker_rewriting.specs.Inner.Left.{AreKept};
 ghost use Rattle.linker_rewriting.specs.Rewritten.{section_after, relocation_after, AreDone};
 ghost use Rattle.linker_rewriting.specs.Rewritten.{AreRelocationsAfter, OthersStay, GroupsAreWhole};
 ghost use Rattle.linker_rewriting.specs.Rewritten.{GroupsAreWholeIn, LabelsAreWhole};
@@ -48,7 +49,7 @@ fn make(decision: Decision, relocation: &mut Rela, section: &mut [u8])
 }
 
 /// Makes what was decided.
-fn make_all<D: AsDecision>(decisions: &[D], relocations: &mut [u8], section: &mut [u8])
+pub(crate) fn make_all<D: AsDecision>(decisions: &[D], relocations: &mut [u8], section: &mut [u8])
     requires made { AllCanBeMade relocations.old section.old (map D.decision decisions.now)
         (length relocations.old / 24) }
     requires apart { AreApart relocations.old (map D.decision decisions.now)
@@ -69,6 +70,32 @@ fn make_all<D: AsDecision>(decisions: &[D], relocations: &mut [u8], section: &mu
         let mut relocation = relocation_in(relocations, index);
         make(decision, &mut relocation, section);
         set_relocation(relocations, index, &relocation);
+    }
+}
+
+/// Makes what was decided, if anything changes.
+fn make_changes<D: AsDecision>(
+    changes: bool,
+    decisions: &[D],
+    relocations: &mut [u8],
+    section: &mut [u8],
+)
+    requires left { changes ≡ false → AreKept (map D.decision decisions.now)
+        (length relocations.old / 24) }
+    requires made { AllCanBeMade relocations.old section.old (map D.decision decisions.now)
+        (length relocations.old / 24) }
+    requires apart { AreApart relocations.old (map D.decision decisions.now)
+        (length relocations.old / 24) }
+    requires enough { length relocations.old / 24 ≤ length decisions.now }
+    ensures relocations { AreRelocationsAfter (map D.decision decisions.now) relocations.old
+        relocations.new (length relocations.old / 24) }
+    ensures done { AreDone relocations.old (map D.decision decisions.now) section.old section.new
+        (length relocations.old / 24) }
+    ensures others { OthersStay relocations.old (map D.decision decisions.now) section.old
+        section.new (length relocations.old / 24) }
+{
+    if changes {
+        make_all(decisions, relocations, section);
     }
 }
 
@@ -166,8 +193,8 @@ pub fn rewrite_section<D: AsDecision>(
         section,
         decisions,
     ) {
-        Ok(()) => {
-            make_all(decisions, relocations, section);
+        Ok(changes) => {
+            make_changes(changes, decisions, relocations, section);
             Ok(())
         }
         Err(error) => Err(error),
@@ -206,6 +233,34 @@ fn list_deletions<D: AsDecision, L: FromDeletion>(
         len += 1;
     }
     Some(len)
+}
+
+/// Lists what decisions delete, if anything changes, as `list_deletions` says.
+fn list_changes<D: AsDecision, L: FromDeletion>(
+    changes: bool,
+    relocations: &[u8],
+    decisions: &[D],
+    deleted: &mut [L],
+) -> Option<usize>
+    requires left { changes ≡ false → AreKept (map D.decision decisions.now)
+        (length relocations.now / 24) }
+    requires enough { length relocations.now / 24 ≤ length decisions.now }
+    requires fit { (n : ℕ) → n < length relocations.now / 24
+        → deleted_end (relocation_in relocations.now n).offset
+        (deleted_of (decision_at (map D.decision decisions.now) n)) ≤ u64.MAX }
+    ensures listed { IfSome result (λ len. take len (map L.deletion deleted.new)
+        ≡ deletions_by relocations.now (map D.decision decisions.now)
+        (length relocations.now / 24)) }
+    ensures others_stay { IfSome result (λ len. drop len deleted.new ≡ drop len deleted.old) }
+    ensures short { IfNone result (length deleted.old
+        < length (deletions_by relocations.now (map D.decision decisions.now)
+        (length relocations.now / 24))) }
+{
+    if changes {
+        list_deletions(relocations, decisions, deleted)
+    } else {
+        Some(0)
+    }
 }
 
 /// Rewrites the instructions of a section of code in a phase, once addresses are known, and turns its
@@ -326,7 +381,7 @@ pub fn rewrite_placed_section<D: AsDecision, L: FromDeletion>(
     ensures section { OnErr result (section.new ≡ section.old) }
     ensures entries { OnErr result (relocations.new ≡ relocations.old) }
 {
-    if let Err(error) = decide_section(
+    match decide_section(
         architecture,
         phase,
         output,
@@ -338,13 +393,13 @@ pub fn rewrite_placed_section<D: AsDecision, L: FromDeletion>(
         section,
         decisions,
     ) {
-        return Err(error);
-    }
-    match list_deletions(relocations, decisions, deleted) {
-        Some(len) => {
-            make_all(decisions, relocations, section);
-            Ok(len)
-        }
-        None => Err(RewritingError::TooShort),
+        Ok(changes) => match list_changes(changes, relocations, decisions, deleted) {
+            Some(len) => {
+                make_changes(changes, decisions, relocations, section);
+                Ok(len)
+            }
+            None => Err(RewritingError::TooShort),
+        },
+        Err(error) => Err(error),
     }
 }

@@ -1,6 +1,6 @@
 //! Which groups of an object stay as they are, since one of their instructions can't be rewritten.
 
-ghost use Rattle.std.specs.Prelude.{◌≡◌, ◌+◌, ◌<◌, ◌≤◌, ◌/◌, length, slice_get, true};
+ghost use Rattle.std.specs.Prelude.{◌≡◌, ◌+◌, ◌<◌, ◌≤◌, ◌/◌, ℕ, length, slice_get, true};
 ghost use Rattle.linker_section.specs.Relocations.{relocation_in};
 ghost use Rattle.linker_rewriting.specs.Candidates.{calls_tls_get_addr};
 ghost use Rattle.linker_rewriting.specs.Facts.{setting};
@@ -204,6 +204,34 @@ fn keeps_none(
     !asked && !asks_for_mark(architecture, phase, symbols, &relocation)
 }
 
+/// The index of the first relocation from an index on that may keep a group, or how many relocations
+/// there are.
+fn next_keeping(
+    architecture: Architecture,
+    phase: Phase,
+    table: &'static [u8],
+    bit: u8,
+    symbols: &[SymbolFacts],
+    relocations: &[u8],
+    from: usize,
+) -> usize
+    requires table { table.now ≡ table_of architecture }
+    requires bit { bit ≡ group_bit_of phase }
+    requires from { from ≤ length relocations.now / 24 }
+    ensures from { from ≤ result }
+    ensures within { result ≤ length relocations.now / 24 }
+    ensures between { (n : ℕ) → from ≤ n → n < result
+        → KeepsNone architecture phase symbols.now (relocation_in relocations.now n) }
+{
+    let len = relocations_len(relocations);
+    for index in from..len {
+        if !keeps_none(architecture, phase, table, bit, symbols, relocations, index) {
+            return index;
+        }
+    }
+    len
+}
+
 /// Notes which groups stay in a phase, by a section, as `survey` and `survey_placed_section` say.
 #[inline(always)]
 fn survey_in(
@@ -222,10 +250,9 @@ fn survey_in(
 {
     let table = table_of(architecture);
     let bit = group_bit_of(phase);
-    for index in 0..relocations_len(relocations) {
-        if keeps_none(architecture, phase, table, bit, symbols, relocations, index) {
-            continue;
-        }
+    let len = relocations_len(relocations);
+    let mut index = next_keeping(architecture, phase, table, bit, symbols, relocations, 0);
+    while index < len {
         let relocation = relocation_in(relocations, index);
         let group = keeping(
             architecture,
@@ -249,6 +276,15 @@ fn survey_in(
             &relocation,
         );
         keep_threads(kept, unmarked);
+        index = next_keeping(
+            architecture,
+            phase,
+            table,
+            bit,
+            symbols,
+            relocations,
+            index + 1,
+        );
     }
 }
 

@@ -16,17 +16,17 @@ returns-in-Some-clause-groups g c =
     let a = c.args in
     whole (setting a.architecture a.phase a.output.now a.symbols.now a.addresses.now a.values.now)
     a.kept.now a.relocations.now a.section.now (map g.D.AsDecision.decision c.decide_section.new.decisions)
-    (length a.relocations.now / 24) c.in_default.ensures.decided
+    (length a.relocations.now / 24) c.in-Ok.ensures.decided
 
-pub list_deletions-requires-clause-fit : goal.list_deletions-requires-clause-fit
-list_deletions-requires-clause-fit g c =
+pub list_changes-requires-clause-fit : goal.list_changes-requires-clause-fit
+list_changes-requires-clause-fit g c =
     let a = c.args in
     all_fit a.relocations.now a.section.now (map g.D.AsDecision.decision c.decide_section.new.decisions)
-    (length a.relocations.now / 24) _ c.in_default.ensures.made (search rules)
+    (length a.relocations.now / 24) _ c.in-Ok.ensures.made (search rules)
 
 pub returns-in-Some-clause-labels : goal.returns-in-Some-clause-labels
 returns-in-Some-clause-labels g c =
     let a = c.args in
     labels_whole (setting a.architecture a.phase a.output.now a.symbols.now a.addresses.now a.values.now)
     a.kept.now a.relocations.now a.section.now (map g.D.AsDecision.decision c.decide_section.new.decisions)
-    (length a.relocations.now / 24) c.in_default.ensures.decided
+    (length a.relocations.now / 24) c.in-Ok.ensures.decided

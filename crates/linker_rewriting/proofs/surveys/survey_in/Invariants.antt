@@ -1,8 +1,14 @@
+use Rattle.std.proofs.Common.{ℕ, ◌≤◌, ◌/◌, ◌-◌, length}
 use Rattle.linker_rewriting.specs.Facts.{setting}
 use Rattle.linker_rewriting.specs.Surveys.{IsSurveyedIn}
 use Rattle.linker_rewriting.proofs.surveys.survey_in.Given as goal
 
 abbrev pub invariant-loop-index : goal.invariant-loop-index
-invariant-loop-index l =
-    IsSurveyedIn (setting l.architecture l.phase l.output l.symbols l.addresses l.values) l.relocations
-    l.section l.fn.kept l.kept l.index
+invariant-loop-index l = record {
+  within : l.index ≤ length l.relocations / 24;
+  surveyed : IsSurveyedIn (setting l.architecture l.phase l.output l.symbols l.addresses l.values) l.relocations
+      l.section l.fn.kept l.kept l.index;
+}
+
+abbrev pub decreases-loop-index : goal.decreases-loop-index
+decreases-loop-index l = length l.relocations / 24 - l.index

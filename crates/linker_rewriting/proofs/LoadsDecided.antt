@@ -1,0 +1,85 @@
+-- Decisions of loads from words, relocation by relocation.
+use Rattle.std.proofs.Common.{◌≡◌, ℕ, ◌+◌, ◌≤◌, ◌<◌, inl, inr, ◌∙◌, List, length, ap, sym, subst, arith, refl, Bool, Some, None, slice_set}
+use Rattle.std.proofs.lemmas.List.{get_or-set_same, get_or-set_other}
+use Rattle.linker_rewriting.proofs.Deciding.{AreSame, EndsAt, IsGrown, IsReached, start_of, end_of, apart_more, ends_more}
+use Rattle.linker_rewriting.specs.Decisions.{CanBeMade, AllCanBeMade, AreApart, IsEndBehind, decision_at, start_by, end_by}
+use Rattle.linker_rewriting.specs.Facts.{Setting}
+use Rattle.linker_rewriting.specs.Words.{AreLoadsDecided, IsLoadDecided, IsLoadDecision, IsLoadOverlapping}
+use Rattle.linker_rewriting.specs.declared.decisions.Decision.{Decision}
+use Rattle.linker_rewriting.specs.declared.decisions.Decision.TheVariants.{Kept}
+use Rattle.linker_section.specs.Relocations.{relocation_in}
+use Rattle.linker_section.specs.declared.relocations.Rela.{Rela}
+use borrow.Author.Count.{below_more}
+
+pub record AreLoadsDecidedTo (s : Setting) (start : ℕ) (words : List ℕ) (kept : List Bool)
+    (bytes section : List ℕ) (decisions : List Decision) (end k : ℕ) : Type 0 where
+  pub decided : AreLoadsDecided s start words kept bytes section decisions k
+  pub made : AllCanBeMade bytes section decisions k
+  pub apart : AreApart bytes decisions k
+  pub ends : EndsAt bytes decisions end k
+
+pub no_loads : (s : Setting) (start : ℕ) (words : List ℕ) (kept : List Bool)
+    (bytes section : List ℕ) (decisions : List Decision)
+    → AreLoadsDecidedTo s start words kept bytes section decisions 0 0
+no_loads s start words kept bytes section decisions =
+    record {
+      decided = λ n less. absurd (omega (arith, less));
+      made = λ n less. absurd (omega (arith, less));
+      apart = λ i j ij less. absurd (omega (arith, less));
+      ends = record { below = λ n less. absurd (omega (arith, less)); reached = inl refl };
+    }
+
+pub more_loads : (s : Setting) (start : ℕ) (words : List ℕ) (kept : List Bool)
+    (bytes section : List ℕ) (old : List Decision) (end grown k : ℕ) (d : Decision)
+    → AreLoadsDecidedTo s start words kept bytes section old end k
+    → k < length old
+    → IsLoadDecision s start words kept bytes section k (relocation_in bytes k) d
+    → CanBeMade d section (relocation_in bytes k).offset
+    → IsGrown bytes k d end grown
+    → AreLoadsDecidedTo s start words kept bytes section (slice_set old k d) grown (k + 1)
+more_loads s start words kept bytes section old end grown k d before within is can grow =
+    let new : List Decision = slice_set old k d in
+    let same : AreSame old new k =
+    λ n less. get_or-set_other old k n d Kept (λ e. absurd (omega (arith, e, less))) in
+    let here : decision_at new k ≡ d = get_or-set_same old k d Kept within in
+    record {
+      decided = below_more (λ n. IsLoadDecision s start words kept bytes section n (relocation_in bytes n) (decision_at new n)) k
+          (λ n less. subst (IsLoadDecision s start words kept bytes section n (relocation_in bytes n)) (sym (same n less)) (before.decided n less))
+          (subst (IsLoadDecision s start words kept bytes section k (relocation_in bytes k)) (sym here) is);
+      made = below_more (λ n. CanBeMade (decision_at new n) section (relocation_in bytes n).offset) k
+          (λ n less. subst (λ x. CanBeMade x section (relocation_in bytes n).offset) (sym (same n less)) (before.made n less))
+          (subst (λ x. CanBeMade x section (relocation_in bytes k).offset) (sym here) can);
+      apart = apart_more bytes old new k end grown d same here before.ends before.apart grow;
+      ends = ends_more bytes old new k end grown d same here before.ends grow;
+    }
+
+overlapping_one : (s : Setting) (start : ℕ) (words : List ℕ) (kept : List Bool)
+    (bytes section : List ℕ) (decisions : List Decision) (end k : ℕ) (d : Decision)
+    → IsLoadDecision s start words kept bytes section k (relocation_in bytes k) d
+    → IsEndBehind (start_of bytes k d) (end_of bytes k d) end None
+    → IsReached bytes decisions end k
+    → IsLoadOverlapping s start words kept bytes section decisions k
+overlapping_one s start words kept bytes section decisions end k d decided behind (inl none) =
+    absurd (let e = behind.1 in omega (arith, e, none))
+overlapping_one s start words kept bytes section decisions end k d decided behind (inr one) =
+    record {
+      decision = d;
+      decided = decided;
+      writes = behind.0;
+      before = one.0;
+      is_before = one.1;
+      is_written = one.2;
+      overlap = let e = behind.1 in let reach = one.3 in omega (arith, e, reach);
+    }
+
+pub loads_overlap : (s : Setting) (start : ℕ) (words : List ℕ) (kept : List Bool)
+    (bytes section : List ℕ) (decisions : List Decision) (end k : ℕ) (r : Rela) (d : Decision)
+    → IsLoadDecision s start words kept bytes section k r d
+    → r ≡ relocation_in bytes k → IsEndBehind (start_by d r.offset) (end_by d r.offset) end None
+    → EndsAt bytes decisions end k
+    → IsLoadOverlapping s start words kept bytes section decisions k
+loads_overlap s start words kept bytes section decisions end k r d decided same behind ends =
+    overlapping_one s start words kept bytes section decisions end k d
+    (subst (λ x. IsLoadDecision s start words kept bytes section k x d) same decided)
+    (subst (λ x. IsEndBehind (start_by d x.offset) (end_by d x.offset) end None) same behind)
+    ends.reached

@@ -1,0 +1,6 @@
+use Rattle.std.proofs.Common.{ℕ, ◌<◌}
+use Rattle.linker_rewriting.specs.Inner.Left.{AreUnlisted}
+use Rattle.linker_rewriting.proofs.codes.lists_any.Given as goal
+
+abbrev pub invariant-loop-index : goal.invariant-loop-index
+invariant-loop-index l = AreUnlisted l.architecture l.phase l.relocations l.index
