@@ -90,6 +90,7 @@ pub mod rewriting {
     pub use crate::linker_rewriting::phases::Phase;
     pub use crate::linker_rewriting::sections::{rewrite_placed_section, rewrite_section};
     pub use crate::linker_rewriting::surveys::{survey, survey_placed_section};
+    pub use crate::linker_rewriting::words::{rewrite_address_loads, survey_address_loads};
 }
 
 pub mod output {

@@ -15,3 +15,4 @@ mod relocations;
 pub mod sections;
 mod sequences;
 pub mod surveys;
+pub mod words;

@@ -12,7 +12,7 @@ use Rattle.linker_elf.specs.declared.loongarch64.relocations.LoongArch64Relocati
 use Rattle.linker_elf.specs.declared.loongarch64.relocations.LoongArch64Relocation.TheVariants as names
 use Rattle.linker_final.proofs.Early.{isnt}
 use Rattle.linker_final.specs.Final.{Linked, count}
-use Rattle.linker_rewriting.proofs.Loads.{loads_are_whole}
+use Rattle.linker_rewriting.proofs.LoongArchLoads.{loads_are_whole}
 use Rattle.linker_rewriting.specs.Candidates.{IsCandidate, IsCandidateWith}
 use Rattle.linker_rewriting.specs.Decisions.{AreDecidedIn, IsDecidedAfter, IsDecidedAlone, IsScopeDecision, decision_at, decision_of, is_taken, takes_next}
 use Rattle.linker_rewriting.specs.Facts.{Setting, early, link_facts}

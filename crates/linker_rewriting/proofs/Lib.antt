@@ -5,8 +5,8 @@ pub mod KeptBits
 pub mod KeptCalls
 pub mod LabelGroups
 pub mod Listing
-pub mod Loads
 pub mod LoadsDecided
+pub mod LoongArchLoads
 pub mod Making
 pub mod Noted
 pub mod Order

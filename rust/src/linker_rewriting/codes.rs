@@ -7,6 +7,8 @@
 
 use crate::linker_rewriting::groups::scope_in;
 use crate::linker_rewriting::phases::Phase;
+use crate::linker_rewriting::relocations::relocation_in;
+use crate::linker_section::relocations::relocations_len;
 use crate::elf::Architecture;
 
 /// Those of AArch64.
@@ -159,4 +161,17 @@ pub(crate) fn is_asked(
 ) -> bool {
     let scope = scope_in(architecture, phase, code);
     phases_in(table, code) & bit != 0
+}
+
+/// Whether one of the relocations may be rewritten in a phase, by its code.
+pub(crate) fn lists_any(architecture: Architecture, phase: Phase, relocations: &[u8]) -> bool {
+    let table = table_of(architecture);
+    let bit = bit_of(phase);
+    for index in 0..relocations_len(relocations) {
+        let code = relocation_in(relocations, index).code;
+        if is_listed(architecture, phase, table, bit, code) {
+            return true;
+        }
+    }
+    false
 }

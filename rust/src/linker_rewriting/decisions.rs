@@ -3,10 +3,10 @@
 
 use crate::linker_rewriting::calls::keeps_call;
 use crate::linker_rewriting::candidates::candidate;
-use crate::linker_rewriting::codes::{bit_of, is_listed, table_of};
+use crate::linker_rewriting::codes::{bit_of, is_listed, lists_any, table_of};
 use crate::linker_rewriting::facts::{OutputFacts, SymbolFacts};
 use crate::linker_rewriting::groups::{KeptGroups, Scope, group_stays, scope_in};
-use crate::linker_rewriting::labels::{high_of, is_note, label_candidate, note_labels};
+use crate::linker_rewriting::labels::{high_of, is_note, label_candidate, note_labels, set_all};
 use crate::linker_rewriting::phases::Phase;
 use crate::linker_rewriting::relocations::relocation_in;
 use crate::linker_base::rewrite::DeletedBytes;
@@ -360,7 +360,7 @@ fn deleted_end(offset: u64, deleted: Option<DeletedBytes>) -> u64 {
 
 /// Where the bytes begin that a decision rewrites, and where those end that it rewrites or deletes.
 #[inline(always)]
-fn span_of(decision: &Decision, offset: u64) -> (u64, u64) {
+pub(crate) fn span_of(decision: &Decision, offset: u64) -> (u64, u64) {
     let window = decision.window();
     let start = offset.saturating_sub(window.back);
     let end = start + window.len;
@@ -371,7 +371,7 @@ fn span_of(decision: &Decision, offset: u64) -> (u64, u64) {
 /// Where the bytes end that are rewritten or deleted up to some from a start to an end, by where those
 /// before them do. None if they aren't behind those.
 #[inline(always)]
-fn end_behind(start: u64, own: u64, end: u64) -> Option<u64> {
+pub(crate) fn end_behind(start: u64, own: u64, end: u64) -> Option<u64> {
     if own <= start {
         return Some(end);
     }
@@ -382,7 +382,7 @@ fn end_behind(start: u64, own: u64, end: u64) -> Option<u64> {
 }
 
 /// Decides what becomes of each relocation of a section and of its instruction, in the caller's
-/// memory. Nothing is rewritten.
+/// memory. Nothing is rewritten. False if all stay as they are by their codes.
 pub(crate) fn decide_section<D: AsDecision>(
     architecture: Architecture,
     phase: Phase,
@@ -394,10 +394,14 @@ pub(crate) fn decide_section<D: AsDecision>(
     relocations: &[u8],
     section: &[u8],
     decisions: &mut [D],
-) -> Result<(), RewritingError> {
+) -> Result<bool, RewritingError> {
     let len = relocations_len(relocations);
     if decisions.len() < len {
         return Err(RewritingError::TooShort);
+    }
+    if !lists_any(architecture, phase, relocations) {
+        set_all(relocations, Decision::Kept, decisions);
+        return Ok(false);
     }
     note_labels(
         architecture,
@@ -455,5 +459,5 @@ pub(crate) fn decide_section<D: AsDecision>(
         is_taken = decision.takes_next();
         decisions[index] = D::from_decision(decision);
     }
-    Ok(())
+    Ok(true)
 }

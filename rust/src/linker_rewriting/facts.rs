@@ -93,7 +93,7 @@ pub(crate) fn facts_of(output: &OutputFacts, symbol: &SymbolFacts, addend: i64) 
 
 /// S, which counts as the thread pointer's address of a thread-local symbol that nothing defines.
 #[inline(always)]
-fn address_in(addresses: &Addresses, value: &Symbol) -> u64 {
+pub(crate) fn address_in(addresses: &Addresses, value: &Symbol) -> u64 {
     if !value.is_undefined_weak {
         value.address
     } else if value.is_thread_local {

@@ -24,7 +24,7 @@ fn high_code(phase: Phase) -> u32 {
 }
 
 /// The index of the first relocation with a code at an offset, among relocations that ascend.
-fn high_at(relocations: &[u8], code: u32, at: u64) -> Option<usize> {
+pub(crate) fn high_at(relocations: &[u8], code: u32, at: u64) -> Option<usize> {
     let first = first_from(relocations, at);
     for index in first..relocations_len(relocations) {
         let relocation = relocation_in(relocations, index);
@@ -193,7 +193,7 @@ pub(crate) fn is_note(decision: &Decision) -> bool {
 }
 
 /// Sets all decisions of a section to one.
-fn set_all<D: AsDecision>(relocations: &[u8], decision: Decision, decisions: &mut [D]) {
+pub(crate) fn set_all<D: AsDecision>(relocations: &[u8], decision: Decision, decisions: &mut [D]) {
     for index in 0..relocations_len(relocations) {
         decisions[index] = D::from_decision(decision);
     }

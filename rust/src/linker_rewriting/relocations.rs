@@ -4,10 +4,12 @@
 use crate::linker_base::rewrite::overwrite;
 use crate::linker_section::relocations::{RELA_LEN, Rela, relocation_at};
 
-/// The relocation with an index below `relocations_len`.
+/// The relocation with an index below `relocations_len`. Its bounds are tested once: the compiler sees
+/// that its bytes are in the slice.
 #[inline(always)]
 pub(crate) fn relocation_in(relocations: &[u8], index: usize) -> Rela {
-    match relocation_at(relocations, index) {
+    let start = index * RELA_LEN;
+    match relocation_at(&relocations[start..start + RELA_LEN], 0) {
         Some(relocation) => relocation,
         None => Rela {
             offset: 0,

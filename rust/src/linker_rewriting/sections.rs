@@ -33,7 +33,7 @@ fn make(decision: Decision, relocation: &mut Rela, section: &mut [u8]) {
 }
 
 /// Makes what was decided.
-fn make_all<D: AsDecision>(decisions: &[D], relocations: &mut [u8], section: &mut [u8]) {
+pub(crate) fn make_all<D: AsDecision>(decisions: &[D], relocations: &mut [u8], section: &mut [u8]) {
     for index in 0..relocations_len(relocations) {
         let decision = decisions[index].as_decision();
         if let Decision::Kept = decision {
@@ -42,6 +42,18 @@ fn make_all<D: AsDecision>(decisions: &[D], relocations: &mut [u8], section: &mu
         let mut relocation = relocation_in(relocations, index);
         make(decision, &mut relocation, section);
         set_relocation(relocations, index, &relocation);
+    }
+}
+
+/// Makes what was decided, if anything changes.
+fn make_changes<D: AsDecision>(
+    changes: bool,
+    decisions: &[D],
+    relocations: &mut [u8],
+    section: &mut [u8],
+) {
+    if changes {
+        make_all(decisions, relocations, section);
     }
 }
 
@@ -116,8 +128,8 @@ pub fn rewrite_section<D: AsDecision>(
         section,
         decisions,
     ) {
-        Ok(()) => {
-            make_all(decisions, relocations, section);
+        Ok(changes) => {
+            make_changes(changes, decisions, relocations, section);
             Ok(())
         }
         Err(error) => Err(error),
@@ -144,6 +156,20 @@ fn list_deletions<D: AsDecision, L: FromDeletion>(
         len += 1;
     }
     Some(len)
+}
+
+/// Lists what decisions delete, if anything changes, as `list_deletions` says.
+fn list_changes<D: AsDecision, L: FromDeletion>(
+    changes: bool,
+    relocations: &[u8],
+    decisions: &[D],
+    deleted: &mut [L],
+) -> Option<usize> {
+    if changes {
+        list_deletions(relocations, decisions, deleted)
+    } else {
+        Some(0)
+    }
 }
 
 /// Rewrites the instructions of a section of code in a phase, once addresses are known, and turns its
@@ -230,7 +256,7 @@ pub fn rewrite_placed_section<D: AsDecision, L: FromDeletion>(
     decisions: &mut [D],
     deleted: &mut [L],
 ) -> Result<usize, RewritingError> {
-    if let Err(error) = decide_section(
+    match decide_section(
         architecture,
         phase,
         output,
@@ -242,13 +268,13 @@ pub fn rewrite_placed_section<D: AsDecision, L: FromDeletion>(
         section,
         decisions,
     ) {
-        return Err(error);
-    }
-    match list_deletions(relocations, decisions, deleted) {
-        Some(len) => {
-            make_all(decisions, relocations, section);
-            Ok(len)
-        }
-        None => Err(RewritingError::TooShort),
+        Ok(changes) => match list_changes(changes, relocations, decisions, deleted) {
+            Some(len) => {
+                make_changes(changes, decisions, relocations, section);
+                Ok(len)
+            }
+            None => Err(RewritingError::TooShort),
+        },
+        Err(error) => Err(error),
     }
 }

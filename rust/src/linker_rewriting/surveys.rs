@@ -165,6 +165,26 @@ fn keeps_none(
     !asked && !asks_for_mark(architecture, phase, symbols, &relocation)
 }
 
+/// The index of the first relocation from an index on that may keep a group, or how many relocations
+/// there are.
+fn next_keeping(
+    architecture: Architecture,
+    phase: Phase,
+    table: &'static [u8],
+    bit: u8,
+    symbols: &[SymbolFacts],
+    relocations: &[u8],
+    from: usize,
+) -> usize {
+    let len = relocations_len(relocations);
+    for index in from..len {
+        if !keeps_none(architecture, phase, table, bit, symbols, relocations, index) {
+            return index;
+        }
+    }
+    len
+}
+
 /// Notes which groups stay in a phase, by a section, as `survey` and `survey_placed_section` say.
 #[inline(always)]
 fn survey_in(
@@ -180,10 +200,9 @@ fn survey_in(
 ) {
     let table = table_of(architecture);
     let bit = group_bit_of(phase);
-    for index in 0..relocations_len(relocations) {
-        if keeps_none(architecture, phase, table, bit, symbols, relocations, index) {
-            continue;
-        }
+    let len = relocations_len(relocations);
+    let mut index = next_keeping(architecture, phase, table, bit, symbols, relocations, 0);
+    while index < len {
         let relocation = relocation_in(relocations, index);
         let group = keeping(
             architecture,
@@ -207,6 +226,15 @@ fn survey_in(
             &relocation,
         );
         keep_threads(kept, unmarked);
+        index = next_keeping(
+            architecture,
+            phase,
+            table,
+            bit,
+            symbols,
+            relocations,
+            index + 1,
+        );
     }
 }
 

@@ -10,7 +10,7 @@ use crate::linker_runs::packing::code::Code;
 use crate::linker_runs::relaxation::{Item, Site};
 use crate::linker_base::packing::{Position, copy_kept, position_from, position_near, position_of};
 use crate::linker_base::relaxation::{DeltaSlice, RelaxDelta};
-use linker_utils::elf::Architecture;
+use crate::elf::Architecture;
 
 /// The architecture of a section's code.
 #[derive(Debug, Clone, Copy, PartialEq, Eq)]

@@ -1,4 +1,4 @@
-use Rattle.linker_rewriting.proofs.Loads.{loads_are_whole}
+use Rattle.linker_rewriting.proofs.LoongArchLoads.{loads_are_whole}
 use Rattle.linker_rewriting.proofs.laws.loads_are_whole.Goals as goal
 
 pub returns : goal.returns
