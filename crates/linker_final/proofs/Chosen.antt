@@ -31,6 +31,9 @@ pub record IsChosen (s : Setting) (section : List ℕ) (r : Rela) (chosen : Choi
   pub is_choice : IsArchitectureChoice s.architecture r.code section r.offset facts chosen
   pub changed : ¬ IsUnchanged r.code chosen
   pub addend : facts.operands.addend ≡ r.addend
+  -- with its mark
+  pub marked : Bool
+  pub given : link_facts s.phase s.output s.symbols s.addresses s.values r r marked ≡ Some facts
 
 -- ---- the facts have the addend of their subject
 
@@ -78,19 +81,28 @@ by_has phase output addresses values r subject marked (Some symbol) =
 -- ---- candidates
 
 with_facts : (s : Setting) (bytes section : List ℕ) (n : ℕ) (r : Rela)
-    (chosen : Choice Relaxation ℕ) (f : Option LinkFacts) → HasAddend r.addend f
+    (chosen : Choice Relaxation ℕ) (marked : Bool) (f : Option LinkFacts)
+    → link_facts s.phase s.output s.symbols s.addresses s.values r r marked ≡ f → HasAddend r.addend f
     → IsCandidateWith s bytes section n r f (Some chosen) → IsChosen s section r chosen
 unfolding HasAddend
-with_facts s bytes section n r chosen None has is = absurd (let e : Some chosen ≡ None = is in cc)
-with_facts s bytes section n r chosen (Some facts) has is =
-    record { facts = facts; is_choice = is.0; changed = is.1; addend = has facts refl }
+with_facts s bytes section n r chosen marked None given has is =
+    absurd (let e : Some chosen ≡ None = is in cc)
+with_facts s bytes section n r chosen marked (Some facts) given has is =
+    record {
+      facts = facts;
+      is_choice = is.0;
+      changed = is.1;
+      addend = has facts refl;
+      marked = marked;
+      given = given;
+    }
 
 of_candidate : (s : Setting) (bytes section : List ℕ) (n : ℕ) (r : Rela)
     (chosen : Choice Relaxation ℕ) → IsCandidate s bytes section n r (Some chosen)
     → IsChosen s section r chosen
 of_candidate s bytes section n r chosen is =
-    with_facts s bytes section n r chosen
-    (link_facts s.phase s.output s.symbols s.addresses s.values r r (is_marked_at s.architecture bytes n r))
+    with_facts s bytes section n r chosen (is_marked_at s.architecture bytes n r)
+    (link_facts s.phase s.output s.symbols s.addresses s.values r r (is_marked_at s.architecture bytes n r)) refl
     (by_has s.phase s.output s.addresses s.values r r (is_marked_at s.architecture bytes n r) (slice_get s.symbols r.symbol))
     is
 

@@ -17,6 +17,7 @@ pub mod RiscVDescriptors
 pub mod RiscVLoads
 pub mod RiscVNops
 pub mod RiscVOffsets
+pub mod RiscVTested
 pub mod RiscVWritten
 pub mod X86Finals
 pub mod X86Lawful
