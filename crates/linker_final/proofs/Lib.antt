@@ -41,6 +41,7 @@ pub mod RiscVLoads
 pub mod RiscVNops
 pub mod RiscVOffsets
 pub mod RiscVPackedCalls
+pub mod RiscVTested
 pub mod RiscVWritten
 pub mod Written
 pub mod X86Chosen

@@ -2,7 +2,7 @@
 -- values of their relocations (RISC-V ELF psABI, "PC-Relative Symbol Addresses", "Local-Exec TLS
 -- Relaxation", "TLS Descriptors -> Local Exec Relaxation").
 use Rattle.std.specs.Prelude.{◌≡◌, ◌≢◌, ℕ, ◌+◌, ◌<◌, ◌^◌, ◌==◌, Bool, false, List, [], ◌++◌}
-use Rattle.std.specs.Prelude.{Some, Option, IsSomeAnd, slice_get, ⊤}
+use Rattle.std.specs.Prelude.{Some, Option, IsSomeAnd, slice_get, true, ⊤}
 use Rattle.linker_elf.specs.ElfNames.{IsNameOf, code_of}
 use Rattle.linker_elf.specs.RiscVRelocations.{riscv_name, riscv_row}
 use Rattle.linker_elf.specs.Value.{sum_64, difference_64}
@@ -105,6 +105,15 @@ LowPartDoesTheSame l i action row =
     AreAlike (differs_after action differs (rd_of word)) a b
     × GoOn action (rd_of word) (even_in_thread (register k tp) operands) (sum_64 h.pc 4)
     (sum_64 k.pc 4) a b)
+
+-- In the setting by which rewrites were chosen, the offset of a thread-local symbol is a number of
+-- 12 bits.
+abbrev pub OffsetIsLow : Linked → ℕ → RelocationKindInfo → Type 0
+OffsetIsLow l i row =
+    let r = relocation_in l.relocations i in
+    (symbol : Symbol) → slice_get l.setting.values r.symbol ≡ Some symbol
+    → symbol.is_thread_local ≡ true
+    → IsLowOffset (operands_with RiscV l.setting.addresses row symbol r 0)
 
 -- ---- what is deleted before them
 
@@ -349,6 +358,20 @@ Nops =
     × NopsOf names.R_RISCV_TLSDESC_ADD_LO12
 
 -- ---- of what is left by the call that rewrites
+
+-- of every instruction of such an offset: the choice tested it
+abbrev pub OffsetsAreLowOf : RiscVRelocation → Type 0
+OffsetsAreLowOf name =
+    (l : Linked) → AreRewritten l → l.setting.architecture ≡ RiscV
+    → (i : ℕ) (chosen : Choice Relaxation ℕ) → i < count l
+    → IsNameOf riscv_name (relocation_in l.relocations i).code name
+    → decision_at l.decisions i ≡ Rewritten chosen
+    → IsSomeAnd (riscv_row names.R_RISCV_TPREL_LO12_I) (OffsetIsLow l i)
+
+abbrev pub OffsetsAreLow : Type 0
+OffsetsAreLow =
+    OffsetsAreLowOf names.R_RISCV_TPREL_HI20 × OffsetsAreLowOf names.R_RISCV_TPREL_LO12_I
+    × OffsetsAreLowOf names.R_RISCV_TPREL_LO12_S
 
 -- of every load from the GOT
 abbrev pub GotLoadsAnywhere : Type 0

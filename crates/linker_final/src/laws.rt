@@ -58,9 +58,10 @@ pub fn aarch64()
 /// RISC-V: rewritten instructions do in the final bytes what the object's do. They are each load of an
 /// address from the GOT that became a sum of the place and the distance, each low part of an offset that
 /// is over the thread pointer, and each sequence of a TLS descriptor that became one of local-exec. What
-/// became a nop does nothing. The high part and the sum of such an offset are deleted, and of what they
-/// computed nothing is left but the low part's base. Loads, low parts and sequences do the same wherever a
-/// linker writes their values, as in a section that it packs before.
+/// became a nop does nothing. The high part and the sum of such an offset are deleted, and what they
+/// leave in registers is a premise of the low part's law. The offset had 12 bits when rewrites were
+/// chosen. Loads, low parts and sequences do the same wherever a linker applies their relocations, as in
+/// a section that it packs first.
 pub fn riscv64()
     ensures got_loads { riscv64_final.GotLoads }
     ensures low_parts { riscv64_final.LowParts }
@@ -69,6 +70,7 @@ pub fn riscv64()
     ensures descriptors { riscv64_final.Descriptors }
     ensures short_descriptors { riscv64_final.ShortDescriptors }
     ensures nops { riscv64_final.Nops }
+    ensures offsets_are_low { riscv64_final.OffsetsAreLow }
     ensures got_loads_anywhere { riscv64_final.GotLoadsAnywhere }
     ensures low_parts_anywhere { riscv64_final.LowPartsAnywhere }
     ensures descriptors_anywhere { riscv64_final.DescriptorsAnywhere }

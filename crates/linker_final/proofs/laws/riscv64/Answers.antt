@@ -2,6 +2,7 @@ use Rattle.linker_final.proofs.RiscVDescriptors.{descriptors, descriptors_anywhe
 use Rattle.linker_final.proofs.RiscVLoads.{got_loads_anywhere, joined}
 use Rattle.linker_final.proofs.RiscVNops.{nops}
 use Rattle.linker_final.proofs.RiscVOffsets.{high_parts, low_parts, low_parts_anywhere, sums}
+use Rattle.linker_final.proofs.RiscVTested.{offsets_are_low}
 use Rattle.linker_final.proofs.laws.riscv64.Goals as goal
 
 pub returns : goal.returns
@@ -15,6 +16,7 @@ returns c =
       descriptors = descriptors laws;
       short_descriptors = short_descriptors laws;
       nops = nops laws;
+      offsets_are_low = offsets_are_low;
       got_loads_anywhere = got_loads_anywhere laws;
       low_parts_anywhere = low_parts_anywhere laws;
       descriptors_anywhere = descriptors_anywhere laws;
