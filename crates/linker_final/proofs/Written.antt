@@ -1,5 +1,5 @@
 -- Instructions and their relocations in the bytes that rewrites leave, and in the final bytes.
-use Rattle.std.proofs.Common.{◌≡◌, ℕ, ℤ, ◌+◌, ◌-◌, ◌/◌, ◌<◌, ◌≤◌, ◌⊎◌, List, length, take, drop, sym, ap, subst, ◌∙◌, refl, inl, inr, arith, Option, Some, None, Ok, Err, Result, true}
+use Rattle.std.proofs.Common.{◌≡◌, ℕ, ℤ, ◌+◌, ◌-◌, ◌/◌, ◌<◌, ◌≤◌, ◌⊎◌, List, [], ◌∷◌, length, take, drop, sym, ap, subst, ◌∙◌, refl, inl, inr, arith, Option, Some, None, Ok, Err, Result, true}
 use Rattle.std.proofs.lemmas.Bool.{cases_eq, cases_Bool, cond-true, cond-false}
 use Rattle.std.proofs.lemmas.List.{take-take, drop-drop, drop-take}
 use Rattle.std.specs.Int.{w32, from_le_bytes}
@@ -10,11 +10,8 @@ use Rattle.linker_elf.specs.Applied.{IsApplied}
 use Rattle.linker_elf.specs.ElfNames.{ElfName, IsNamed, code_of}
 use Rattle.linker_elf.specs.Rows.{bytes_row}
 use Rattle.linker_elf.specs.Value.{value_of}
-use Rattle.linker_elf.specs.declared.aarch64.forms.AArch64Instruction.TheVariants.{Add}
-use Rattle.linker_elf.specs.declared.elf.RelocationInstruction.TheVariants.{AArch64}
 use Rattle.linker_elf.specs.declared.elf.RelocationKind.TheVariants.{None as NoValue}
 use Rattle.linker_elf.specs.declared.elf.RelocationKindInfo.{RelocationKindInfo}
-use Rattle.linker_elf.specs.declared.elf.RelocationSize.TheVariants.{BitMasking}
 use Rattle.linker_elf.specs.declared.elf.choice.Choice.{Choice}
 use Rattle.linker_elf.specs.declared.elf.value.Operands.{Operands}
 use Rattle.linker_final.proofs.InstructionFields.{IsOfInstruction, applied, instruction_len}
@@ -23,7 +20,6 @@ use Rattle.linker_final.specs.Final.{Linked, IsLinked, IsRewrittenByNoOther, IsW
 use Rattle.linker_rewriting.specs.Decisions.{decision_at, written_end_at, written_end_by}
 use Rattle.linker_rewriting.specs.Rewritten.{IsDone, IsMade, relocation_after}
 use Rattle.linker_rewriting.specs.declared.decisions.Decision.TheVariants.{Rewritten}
-use Rattle.linker_section.proofs.Fronts.{same_window}
 use Rattle.linker_section.specs.Fields.{IsField, field_end, field_len}
 use Rattle.linker_section.specs.Needed.{entry_of}
 use Rattle.linker_section.specs.Relocations.{relocation_in}
@@ -40,19 +36,25 @@ use Rattle.linker_utils.specs.declared.elf.Architecture.{Architecture}
 
 -- ---- words
 
+-- that of the first four bytes
+word_front : (xs : List ℕ) → from_le_bytes w32 (take 4 xs) ≡ from_le_bytes w32 xs
+word_front [] = refl
+word_front (a ∷ []) = refl
+word_front (a ∷ b ∷ []) = refl
+word_front (a ∷ b ∷ c ∷ []) = refl
+word_front (a ∷ b ∷ c ∷ d ∷ xs) = refl
+
 pub word_same : (bytes : List ℕ) (o : ℕ)
     → from_le_bytes w32 (drop o bytes) ≡ from_le_bytes w32 (instruction_at bytes o)
-word_same bytes o =
-    same_window (BitMasking (record { start = 0; end = 12 }) (AArch64 Add)) (drop o bytes) (take 4 (drop o bytes))
-    (sym (take-take 4 4 (drop o bytes) (omega arith)))
+word_same bytes o = sym (word_front (drop o bytes))
 
 -- of two instructions
 
 pub first_same : (bytes : List ℕ) (o : ℕ)
     → from_le_bytes w32 (two_at bytes o) ≡ from_le_bytes w32 (instruction_at bytes o)
 first_same bytes o =
-    same_window (BitMasking (record { start = 0; end = 12 }) (AArch64 Add)) (two_at bytes o) (instruction_at bytes o)
-    (take-take 4 8 (drop o bytes) (omega arith) ∙ sym (take-take 4 4 (drop o bytes) (omega arith)))
+    sym (word_front (two_at bytes o))
+    ∙ ap (from_le_bytes w32) (take-take 4 8 (drop o bytes) (omega arith))
 
 pub second_same : (bytes : List ℕ) (o : ℕ) → drop 4 (two_at bytes o) ≡ instruction_at bytes (o + 4)
 second_same bytes o = drop-take 4 4 (drop o bytes) ∙ ap (take 4) (drop-drop 4 o bytes)
