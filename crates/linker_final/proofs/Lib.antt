@@ -15,13 +15,13 @@ pub mod LoongArchAlone
 pub mod LoongArchChosen
 pub mod LoongArchDescriptors
 pub mod LoongArchLoads
+pub mod LoongArchPackedDeletions
 pub mod LoongArchPackedSites
 pub mod LoongArchPackedStays
 pub mod LoongArchPairs
 pub mod LoongArchWritten
 pub mod Others
 pub mod PackedBytes
-pub mod PackedDeletions
 pub mod PackedInstructions
 pub mod PackedSites
 pub mod PlainRows
@@ -41,6 +41,7 @@ pub mod RiscVLoads
 pub mod RiscVNops
 pub mod RiscVOffsets
 pub mod RiscVPackedCalls
+pub mod RiscVPackedDeletions
 pub mod RiscVTested
 pub mod RiscVWritten
 pub mod Written

@@ -1,6 +1,6 @@
 use Rattle.linker_final.proofs.LoongArchPackedSites.{calls, addresses, loaded_addresses}
 use Rattle.linker_final.proofs.LoongArchPackedStays.{long_calls, long_addresses, long_loaded_addresses}
-use Rattle.linker_final.proofs.PackedDeletions.{loongarch_high_part, loongarch_sum}
+use Rattle.linker_final.proofs.LoongArchPackedDeletions.{high_part, sums}
 use Rattle.linker_final.proofs.packed.shorter_loongarch64.Goals as goal
 
 pub returns : goal.returns
@@ -11,8 +11,8 @@ returns c =
       calls = calls of_relocations.calls;
       addresses = addresses of_relocations.calls of_relocations.relative;
       loaded_addresses = loaded_addresses of_relocations.calls of_relocations.relative;
-      high_parts = loongarch_high_part laws.high_offset;
-      sums = loongarch_sum laws.sum;
+      high_parts = high_part laws.high_offset;
+      sums = sums laws.sum;
       long_calls = long_calls of_relocations.calls;
       long_addresses = long_addresses of_relocations.relative;
       long_loaded_addresses = long_loaded_addresses of_relocations.relative;

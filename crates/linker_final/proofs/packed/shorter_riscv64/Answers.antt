@@ -1,4 +1,4 @@
-use Rattle.linker_final.proofs.PackedDeletions.{high_parts, sums}
+use Rattle.linker_final.proofs.RiscVPackedDeletions.{high_parts, sums}
 use Rattle.linker_final.proofs.RiscVPackedCalls.{sites, long_calls}
 use Rattle.linker_final.proofs.packed.shorter_riscv64.Goals as goal
 
