@@ -146,17 +146,19 @@ static void relax_run(struct run *run) {
     stay = zeros(len, sizeof *stay);
     uint32_t status = linker_utils_relax(items, len, run->start, shapes, len, stay, len, places,
                                          len, freed, len + 1, &at);
-    EACH_SECTION(s)
-        if (status && s->output && s->output->run == run && at - s->first_item < s->items_len)
-            check_items(s, makers[at], status);
+    if (status)
+        EACH_SECTION(s)
+            if (s->output && s->output->run == run && at - s->first_item < s->items_len)
+                check_items(s, makers[at], status);
     if (status) fail("the code can't be relaxed: %s", linker_utils_status_text(status));
+    free(places), free(freed), free(shapes);
     run->deltas = zeros(len, sizeof *run->deltas);
     linker_utils_run_deltas(items, len, stay, len, run->deltas, len, &run->deltas_len);
     run->heads_len = linker_utils_deltas_block_count(run->deltas, run->deltas_len);
     run->heads = zeros(run->heads_len, sizeof *run->heads);
     linker_utils_deltas_heads(run->deltas, run->deltas_len, run->heads, run->heads_len);
     EACH_OUTPUT(o) if (o->run == run && o->shrinks) pack_output(o);
-    free(items), free(makers), free(stay), free(places), free(freed), free(shapes);
+    free(items), free(makers), free(stay);
 }
 
 /* Relaxes all code. */
@@ -164,7 +166,7 @@ void relax(void) {
     bool shrinks = has_short_offsets && relaxes;
     EACH_OUTPUT(o) shrinks |= o->shrinks;
     uint32_t phase = LINKER_UTILS_PHASE_THREAD_OFFSETS;
-    if (shrinks) EACH_OBJECT(o) rewrite_object(o, phase, phase);
+    EACH_OBJECT(o) if (shrinks && o->is_threaded) rewrite_object(o, phase, phase);
     EACH_OUTPUT(o) if (!o->run->deltas) relax_run(o->run);
     set_addresses();
     EACH_OUTPUT(o) {

@@ -101,9 +101,7 @@ void rewrite_object(struct object *o, uint32_t first, uint32_t last) {
     if (hides) hide(o, false);
     for (uint32_t phase = first; phase <= last; phase++) {
         bool is_of_got = phase == LINKER_UTILS_PHASE_GOT_LOADS;
-        bool is_of_threads = phase == LINKER_UTILS_PHASE_THREAD_OFFSETS;
         if (!linker_utils_has_rewrites(machine, phase)) continue;
-        if (is_of_threads && !o->is_threaded) continue;
         memset(kept, 0, o->symbols_len * sizeof *kept);
         kept->got_load = phase == LINKER_UTILS_PHASE_EARLY; /* as in ld.lld */
         for (int is_survey = !is_of_got; is_survey >= 0; is_survey--)
