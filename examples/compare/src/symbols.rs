@@ -11,7 +11,7 @@ pub struct Definers<'a> {
     pub is_linked: Vec<bool>,
     /// Which object defines each global symbol.
     pub of: HashMap<&'a str, usize>,
-    /// The names of the linked objects' local symbols.
+    /// The names of the linked objects' local symbols that global ones have, too.
     locals: HashSet<&'a str>,
 }
 
@@ -28,7 +28,9 @@ impl<'a> Definers<'a> {
         // those members are that define a symbol of the file which no other object does
         let is_linked = objects.iter().map(|object| !object.is_member).collect();
         let mut it = Definers { is_linked, of: HashMap::default(), locals: HashSet::default() };
-        it.locals.extend(it.local_names(objects));
+        let has_global = |name: &&str| all.contains_key(name);
+        let locals: Vec<_> = it.local_names(objects).filter(has_global).collect();
+        it.locals.extend(locals);
         for (name, symbols) in &all {
             if let [(index, symbol)] = symbols[..] {
                 let is_there = is_named(symbol) || linked.globals.contains_key(*name);
@@ -36,7 +38,8 @@ impl<'a> Definers<'a> {
                     is_there && it.address(linked, &objects[index], symbol).is_some();
             }
         }
-        it.locals.extend(it.local_names(objects));
+        let locals: Vec<_> = it.local_names(objects).filter(has_global).collect();
+        it.locals.extend(locals);
         // of those that are linked rather one where it isn't weak, whose bytes are there
         let differences = |index: usize, symbol: &Symbol| {
             let Home::Section(section) = symbol.home else { return u32::MAX };
@@ -58,11 +61,14 @@ impl<'a> Definers<'a> {
         Definers { of, ..it }
     }
 
-    fn local_names(&self, objects: &'a [Object<'a>]) -> Vec<&'a str> {
+    fn local_names<'b>(
+        &'b self,
+        objects: &'a [Object<'a>],
+    ) -> impl Iterator<Item = &'a str> + use<'a, 'b> {
         let linked = objects.iter().zip(&self.is_linked).filter(|(_, is_linked)| **is_linked);
         let all = linked.flat_map(|(object, _)| &object.symbols);
         let all = all.filter(|one| one.is_local && matches!(one.home, Home::Section(_)));
-        all.map(|one| one.name.as_str()).collect()
+        all.map(|one| one.name.as_str())
     }
 
     /// Where a global symbol is, if the object is the one that defines it. It may have become a
@@ -102,7 +108,9 @@ impl LocalSymbols {
         for (index, object) in objects.iter().enumerate() {
             for (at, symbol) in object.symbols.iter().enumerate() {
                 let Home::Section(section) = symbol.home else { continue };
-                if symbol.is_local && is_named(symbol) && object.sections[section].is_allocated {
+                if symbol.is_local && is_named(symbol) && object.sections[section].is_allocated
+                    && linked.locals.contains_key(&symbol.name)
+                {
                     by_name.entry(&symbol.name).or_default().push((index, at));
                 }
             }
