@@ -1,10 +1,10 @@
 -- Decisions of loads from words, relocation by relocation.
-use Rattle.std.proofs.Common.{◌≡◌, ℕ, ◌+◌, ◌≤◌, ◌<◌, inl, inr, ◌∙◌, List, length, ap, sym, subst, arith, refl, Bool, Some, None, slice_set}
+use Rattle.std.proofs.Common.{◌≡◌, ℕ, ◌+◌, ◌<◌, inl, inr, List, length, sym, subst, arith, refl, Bool, None, slice_set}
 use Rattle.std.proofs.lemmas.List.{get_or-set_same, get_or-set_other}
 use Rattle.linker_rewriting.proofs.Deciding.{AreSame, EndsAt, IsGrown, IsReached, start_of, end_of, apart_more, ends_more}
 use Rattle.linker_rewriting.specs.Decisions.{CanBeMade, AllCanBeMade, AreApart, IsEndBehind, decision_at, start_by, end_by}
 use Rattle.linker_rewriting.specs.Facts.{Setting}
-use Rattle.linker_rewriting.specs.Words.{AreLoadsDecided, IsLoadDecided, IsLoadDecision, IsLoadOverlapping}
+use Rattle.linker_rewriting.specs.Words.{AreLoadsDecided, IsLoadDecision, IsLoadOverlapping}
 use Rattle.linker_rewriting.specs.declared.decisions.Decision.{Decision}
 use Rattle.linker_rewriting.specs.declared.decisions.Decision.TheVariants.{Kept}
 use Rattle.linker_section.specs.Relocations.{relocation_in}

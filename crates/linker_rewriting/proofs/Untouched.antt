@@ -1,5 +1,5 @@
 -- Sections that stay as they are in a phase, and runs of relocations that keep no group.
-use Rattle.std.proofs.Common.{◌≡◌, ℕ, zero, suc, ◌+◌, ◌-◌, ◌≤◌, ◌<◌, ◌∙◌, inl, List, [], ◌++◌, ap, sym, subst, arith, refl, false}
+use Rattle.std.proofs.Common.{◌≡◌, ℕ, zero, suc, ◌+◌, ◌-◌, ◌≤◌, ◌<◌, ◌∙◌, List, [], ◌++◌, ap, sym, subst, arith, refl, false}
 use Rattle.linker_rewriting.proofs.Surveying.{one_left}
 use Rattle.linker_rewriting.specs.Decisions.{CanBeMade, AllCanBeMade, AreApart, AreDecidedIn, IsDecidedAfter, decision_at, is_taken, takes_next, start_by, end_by, deleted_of, deletion_by, deletions_by}
 use Rattle.linker_rewriting.specs.Facts.{Setting, setting}

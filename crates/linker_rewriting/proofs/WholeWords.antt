@@ -1,18 +1,16 @@
 -- Of a word all loads are rewritten, or none is.
-use Rattle.std.proofs.Common.{◌≡◌, ℕ, ◌<◌, ◌∙◌, inl, inr, None, Some, Option, List, ap, sym, subst, refl, Bool, true, false, true≢false}
-use Rattle.linker_elf.specs.declared.elf.choice.Choice.{Choice}
+use Rattle.std.proofs.Common.{◌≡◌, ℕ, ◌∙◌, inl, inr, None, Some, Option, List, ap, sym, subst, refl, Bool, true, false, true≢false}
 use Rattle.linker_rewriting.proofs.LabelGroups.{one_high_from}
 use Rattle.linker_rewriting.proofs.Unique.{one_candidate_with}
 use Rattle.linker_rewriting.specs.Facts.{Setting, link_facts}
 use Rattle.linker_rewriting.specs.Rewritten.{IsRewritten}
-use Rattle.linker_rewriting.specs.Words.{IsLoad, IsLoadCandidate, IsLoadDecision, IsDecisionBy, IsWordDecision, IsKeepingWord, IsLoadNotSurveyed, HasLoadRewrite, StaysBy, AreLoadsDecided, AreLoadsRejected, AreWordsNoted, MeansWordsUnsurveyed, WordsAreWhole, WordsAreWholeAcross, entry_code, word_code, word_offset, word_stays}
+use Rattle.linker_rewriting.specs.Words.{IsLoad, IsLoadCandidate, IsLoadDecision, IsDecisionBy, IsWordDecision, IsKeepingWord, HasLoadRewrite, StaysBy, AreLoadsDecided, AreLoadsRejected, MeansWordsUnsurveyed, WordsAreWhole, WordsAreWholeAcross, word_code, word_offset, word_stays}
 use Rattle.linker_rewriting.specs.declared.decisions.Decision.{Decision}
 use Rattle.linker_rewriting.specs.declared.decisions.RewritingError.{RewritingError}
 use Rattle.linker_rewriting.specs.declared.decisions.RewritingError.TheVariants.{TooShort, NotSurveyed, Overlaps}
 use Rattle.linker_section.specs.Relocations.{relocation_in}
 use Rattle.linker_section.specs.Values.{IsAscending}
 use Rattle.linker_section.specs.declared.relocations.Rela.{Rela}
-use Rattle.linker_utils.specs.declared.architecture.Relaxation.{Relaxation}
 
 -- ---- one load
 

@@ -1,5 +1,5 @@
 -- The words that stay, noted relocation by relocation.
-use Rattle.std.proofs.Common.{◌≡◌, ℕ, ◌+◌, ◌<◌, ◌⊎◌, ◌↔◌, inl, inr, List, Bool, Option, None, Some, true, sym, subst, arith, refl}
+use Rattle.std.proofs.Common.{◌≡◌, ℕ, ◌+◌, ◌⊎◌, ◌↔◌, inl, inr, List, Bool, Option, None, Some, true, sym, subst, arith, refl}
 use Rattle.linker_rewriting.specs.Facts.{Setting}
 use Rattle.linker_rewriting.specs.Inner.Words.{IsThatWord}
 use Rattle.linker_rewriting.specs.Words.{AreLoadsSurveyed, IsKeepingWord, IsWordNoted, StaysBy, word_stays}

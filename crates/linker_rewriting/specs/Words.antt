@@ -1,7 +1,7 @@
 -- Instructions that load addresses from the words of a section, as from those of PowerPC64's `.toc`
 -- (64-bit ELF V2 ABI for Power, "TOC"). Nothing changes such a word, so that the instructions may compute
 -- its address: all that load it, or none.
-use Rattle.std.specs.Prelude.{◌≡◌, ℕ, ℤ, ◌+◌, ◌<◌, ◌≤◌, ◌/◌, ◌⊎◌, ◌==◌, if◌then◌else◌, Bool, true}
+use Rattle.std.specs.Prelude.{◌≡◌, ℕ, ℤ, ◌<◌, ◌/◌, ◌⊎◌, ◌==◌, if◌then◌else◌, Bool, true}
 use Rattle.std.specs.Prelude.{false, List, length, Option, None, Some, slice_get}
 use Rattle.std.specs.Int.{w64, cast_unsigned}
 use Rattle.linker_elf.specs.ElfNames.{code_of}

@@ -2,7 +2,7 @@
 //! Nothing changes such a word, so that once addresses are known the instructions may compute its
 //! address: all that load it, or none.
 
-ghost use Rattle.std.specs.Prelude.{◌≡◌, ◌⊎◌, ◌↔◌, ◌+◌, ◌<◌, ◌≤◌, ◌/◌, ℕ, length, map, slice_get, take};
+ghost use Rattle.std.specs.Prelude.{◌≡◌, ◌⊎◌, ◌↔◌, ◌+◌, ◌<◌, ◌≤◌, ◌/◌, ℕ, length, map, take};
 ghost use Rattle.std.specs.Prelude.{drop, IfSome, IfErr, OnOk, OnErr, All, true};
 ghost use Rattle.linker_base.specs.Rewrite.{CanRewrite};
 ghost use Rattle.linker_rewriting.specs.Candidates.{deletes_within};

@@ -1,4 +1,3 @@
-use Rattle.std.proofs.Common.{ℕ, ◌<◌}
 use Rattle.linker_rewriting.specs.Inner.Left.{AreUnlisted}
 use Rattle.linker_rewriting.proofs.codes.lists_any.Given as goal
 

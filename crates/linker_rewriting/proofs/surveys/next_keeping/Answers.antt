@@ -1,4 +1,4 @@
-use Rattle.std.proofs.Common.{ℕ, ◌≤◌, ◌<◌, arith, refl}
+use Rattle.std.proofs.Common.{◌≤◌, arith, refl}
 use Rattle.linker_rewriting.specs.Inner.Codes.{KeepsNone}
 use Rattle.linker_section.specs.Relocations.{relocation_in}
 use Rattle.linker_rewriting.proofs.surveys.next_keeping.Goals as goal

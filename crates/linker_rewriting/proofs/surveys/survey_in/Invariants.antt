@@ -1,4 +1,4 @@
-use Rattle.std.proofs.Common.{ℕ, ◌≤◌, ◌/◌, ◌-◌, length}
+use Rattle.std.proofs.Common.{◌≤◌, ◌/◌, ◌-◌, length}
 use Rattle.linker_rewriting.specs.Facts.{setting}
 use Rattle.linker_rewriting.specs.Surveys.{IsSurveyedIn}
 use Rattle.linker_rewriting.proofs.surveys.survey_in.Given as goal
