@@ -222,6 +222,40 @@ static inline uint32_t linker_utils_address_section(uint16_t machine, uint8_t *n
  * asks for each first. LINKER_UTILS_NOT_PROVIDED of other types. */
 uint32_t linker_utils_entry_relocation(uint16_t machine, uint32_t r_type, uint32_t *entry_type);
 
+/* Notes in `kept` which words of an object's section of addresses stay, by one of its sections of code.
+ * A word stays where an instruction loads its address and can't compute it. It is none that the rewrite
+ * is meant for, or the address may be of another file, isn't fixed or is out of reach. So survey all
+ * sections of code of an object, once addresses are known, before one of them is rewritten.
+ *
+ * `words` are the relocations of the section of addresses, as `Elf64_Rela`, ascending by offset.
+ * `words_start` is its address. `kept` has an element for each of them, which is false at first. What
+ * stays there already stays, and so does a word without an element. A relocation is of the word at the
+ * address that it refers to, whichever its symbol. `symbols` and `values` are those of
+ * `linker_utils_survey_placed_section`. Where an architecture has no such section nothing is noted. It
+ * takes a search in log n steps for each load. LINKER_UTILS_UNKNOWN_ARCHITECTURE. */
+static inline uint32_t linker_utils_survey_address_loads(
+    uint16_t machine, const struct linker_utils_output_facts *output,
+    const struct linker_utils_symbol_facts *symbols, size_t symbols_len,
+    const struct linker_utils_addresses *addresses, const struct linker_utils_symbol *values,
+    size_t values_len, uint64_t words_start, const uint8_t *words, size_t words_len,
+    const uint8_t *relocations, size_t relocations_len, const uint8_t *section, size_t section_len,
+    bool *kept, size_t kept_len);
+
+/* Has the instructions of a section of code compute the addresses that they load from such words: all
+ * that load a word, or none. Their relocations become those after it. The fate of these is
+ * LINKER_UTILS_FATE_REDIRECTED: they get the symbol and the addend of the word's relocation. `kept` is
+ * what `linker_utils_survey_address_loads` noted of all sections of code of the object, with the same
+ * facts, addresses and words. Nothing is deleted. The statuses, and what an error leaves, are those of
+ * `linker_utils_rewrite_section`. */
+static inline uint32_t linker_utils_rewrite_address_loads(
+    uint16_t machine, const struct linker_utils_output_facts *output,
+    const struct linker_utils_symbol_facts *symbols, size_t symbols_len,
+    const struct linker_utils_addresses *addresses, const struct linker_utils_symbol *values,
+    size_t values_len, uint64_t words_start, const uint8_t *words, size_t words_len, const bool *kept,
+    size_t kept_len, uint8_t *relocations, size_t relocations_len, uint8_t *section,
+    size_t section_len, struct linker_utils_decision *decisions, size_t decisions_len,
+    size_t *faulty);
+
 /* A symbol that a linker defines if an object refers to it. */
 struct linker_utils_provided_symbol {
     uint64_t offset; /* how many bytes above its place */

@@ -317,6 +317,56 @@ static inline uint32_t linker_utils_interpreter(
         machine, flags, LINKER_UTILS_SLICE(uint8_t, path), path_len, path_used);
 }
 
+uint32_t linker_utils_survey_address_loads_nonnull(
+    uint16_t machine, const struct linker_utils_output_facts *output,
+    const struct linker_utils_symbol_facts *symbols, size_t symbols_len,
+    const struct linker_utils_addresses *addresses, const struct linker_utils_symbol *values,
+    size_t values_len, uint64_t words_start, const uint8_t *words, size_t words_len,
+    const uint8_t *relocations, size_t relocations_len, const uint8_t *section, size_t section_len,
+    bool *kept, size_t kept_len);
+static inline uint32_t linker_utils_survey_address_loads(
+    uint16_t machine, const struct linker_utils_output_facts *output,
+    const struct linker_utils_symbol_facts *symbols, size_t symbols_len,
+    const struct linker_utils_addresses *addresses, const struct linker_utils_symbol *values,
+    size_t values_len, uint64_t words_start, const uint8_t *words, size_t words_len,
+    const uint8_t *relocations, size_t relocations_len, const uint8_t *section, size_t section_len,
+    bool *kept, size_t kept_len) {
+    return linker_utils_survey_address_loads_nonnull(
+        machine, output, LINKER_UTILS_SLICE(const struct linker_utils_symbol_facts, symbols),
+        symbols_len, addresses, LINKER_UTILS_SLICE(const struct linker_utils_symbol, values),
+        values_len, words_start, LINKER_UTILS_SLICE(const uint8_t, words), words_len,
+        LINKER_UTILS_SLICE(const uint8_t, relocations), relocations_len,
+        LINKER_UTILS_SLICE(const uint8_t, section), section_len, LINKER_UTILS_SLICE(bool, kept),
+        kept_len);
+}
+
+uint32_t linker_utils_rewrite_address_loads_nonnull(
+    uint16_t machine, const struct linker_utils_output_facts *output,
+    const struct linker_utils_symbol_facts *symbols, size_t symbols_len,
+    const struct linker_utils_addresses *addresses, const struct linker_utils_symbol *values,
+    size_t values_len, uint64_t words_start, const uint8_t *words, size_t words_len, const bool *kept,
+    size_t kept_len, uint8_t *relocations, size_t relocations_len, uint8_t *section,
+    size_t section_len, struct linker_utils_decision *decisions, size_t decisions_len,
+    size_t *faulty);
+static inline uint32_t linker_utils_rewrite_address_loads(
+    uint16_t machine, const struct linker_utils_output_facts *output,
+    const struct linker_utils_symbol_facts *symbols, size_t symbols_len,
+    const struct linker_utils_addresses *addresses, const struct linker_utils_symbol *values,
+    size_t values_len, uint64_t words_start, const uint8_t *words, size_t words_len, const bool *kept,
+    size_t kept_len, uint8_t *relocations, size_t relocations_len, uint8_t *section,
+    size_t section_len, struct linker_utils_decision *decisions, size_t decisions_len,
+    size_t *faulty) {
+    size_t ignored;
+    return linker_utils_rewrite_address_loads_nonnull(
+        machine, output, LINKER_UTILS_SLICE(const struct linker_utils_symbol_facts, symbols),
+        symbols_len, addresses, LINKER_UTILS_SLICE(const struct linker_utils_symbol, values),
+        values_len, words_start, LINKER_UTILS_SLICE(const uint8_t, words), words_len,
+        LINKER_UTILS_SLICE(const bool, kept), kept_len, LINKER_UTILS_SLICE(uint8_t, relocations),
+        relocations_len, LINKER_UTILS_SLICE(uint8_t, section), section_len,
+        LINKER_UTILS_SLICE(struct linker_utils_decision, decisions), decisions_len,
+        faulty ? faulty : &ignored);
+}
+
 uint32_t linker_utils_address_section_nonnull(
     uint16_t machine, uint8_t *name, size_t name_len, size_t *name_used);
 static inline uint32_t linker_utils_address_section(

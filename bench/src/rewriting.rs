@@ -332,6 +332,123 @@ fn rewrites_of_placed(report: &mut Report, input: &Input) {
     report.line(&name, input.count(), true, [Some(exports), None, None, None]);
 }
 
+/// Loads of addresses from `.toc`: addis 3,2 and ld 3,0(3).
+const ADDRESS_LOADS: Sequence = (&[0, 0, 0x62, 0x3c, 0, 0, 0x63, 0xe8], &[(0, 50), (4, 64)]);
+
+/// Where the section of addresses is, by symbol 1, and a word in it for each other symbol.
+const WORDS_START: u64 = PLACED.got_base - 0x8000;
+
+/// A section of loads: each pair loads a word at random.
+struct Loads {
+    bytes: Vec<u8>,
+    words: Vec<u8>,
+    values: Vec<Symbol>,
+    symbols: Vec<sathunne::SymbolFacts>,
+}
+
+impl Loads {
+    fn of(random: &mut Random) -> Loads {
+        let (code, listed) = ADDRESS_LOADS;
+        let mut bytes: Vec<u8> = code.repeat(LEN / code.len());
+        for at in (0..LEN).step_by(code.len()) {
+            let word = 8 * random.below(SYMBOLS as u128) as i64;
+            for (offset, r_type) in listed {
+                bytes.extend((at as u64 + offset).to_le_bytes());
+                bytes.extend((u64::from(*r_type) | 1 << 32).to_le_bytes());
+                bytes.extend(word.to_le_bytes());
+            }
+        }
+        let word = |symbol: u64| [8 * symbol, 38 | symbol << 32, 0].map(u64::to_le_bytes).concat();
+        let mut values = vec![Symbol { address: 0x60_0010, ..Symbol::default() }; SYMBOLS];
+        values[1].address = WORDS_START;
+        let defined = sathunne::SymbolFacts { is_local: true, ..Default::default() };
+        Loads {
+            bytes,
+            words: (0..SYMBOLS as u64).flat_map(word).collect(),
+            values,
+            symbols: vec![defined; SYMBOLS],
+        }
+    }
+
+    fn count(&self) -> usize {
+        (self.bytes.len() - LEN) / 24
+    }
+}
+
+fn address_loads(report: &mut Report, loads: &Loads) {
+    let (is_executable, is_fixed) = EXECUTABLE;
+    let output = sathunne::OutputFacts { is_executable, is_fixed };
+    let (section, relocations) = loads.bytes.split_at(LEN);
+    let exports = Side::over(
+        vec![false; SYMBOLS],
+        |kept: &mut Vec<bool>| kept.fill(false),
+        move |kept: &mut Vec<bool>| {
+            // SAFETY: a slice's pointer and length are its own, and a reference is of one value.
+            let status = unsafe {
+                linker_utils_survey_address_loads_nonnull(
+                    PPC64,
+                    &output,
+                    loads.symbols.as_ptr(),
+                    loads.symbols.len(),
+                    &PLACED,
+                    loads.values.as_ptr(),
+                    loads.values.len(),
+                    WORDS_START,
+                    loads.words.as_ptr(),
+                    loads.words.len(),
+                    relocations.as_ptr(),
+                    relocations.len(),
+                    section.as_ptr(),
+                    section.len(),
+                    kept.as_mut_ptr(),
+                    kept.len(),
+                )
+            };
+            assert_eq!(status, 0);
+        },
+        |kept: &Vec<bool>| kept.iter().filter(|it| **it).count(),
+    );
+    let name = "`linker_utils_survey_address_loads`";
+    report.line(name, loads.count(), true, [Some(exports), None, None, None]);
+    let mut decisions = vec![sathunne::raw::Decision::default(); loads.count()];
+    let exports = Side::over(
+        loads.bytes.clone(),
+        |bytes: &mut Vec<u8>| bytes.copy_from_slice(&loads.bytes),
+        move |bytes: &mut Vec<u8>| {
+            let (section, relocations) = bytes.split_at_mut(LEN);
+            let kept = [false; SYMBOLS];
+            // SAFETY: a slice's pointer and length are its own, and a reference is of one value.
+            let status = unsafe {
+                linker_utils_rewrite_address_loads_nonnull(
+                    PPC64,
+                    &output,
+                    loads.symbols.as_ptr(),
+                    loads.symbols.len(),
+                    &PLACED,
+                    loads.values.as_ptr(),
+                    loads.values.len(),
+                    WORDS_START,
+                    loads.words.as_ptr(),
+                    loads.words.len(),
+                    kept.as_ptr(),
+                    kept.len(),
+                    relocations.as_mut_ptr(),
+                    relocations.len(),
+                    section.as_mut_ptr(),
+                    section.len(),
+                    decisions.as_mut_ptr(),
+                    decisions.len(),
+                    &mut 0,
+                )
+            };
+            assert_eq!(status, 0);
+        },
+        Vec::clone,
+    );
+    let name = "`linker_utils_rewrite_address_loads`";
+    report.line(name, loads.count(), true, [Some(exports), None, None, None]);
+}
+
 /// Stubs that go to words in reach.
 fn stubs(report: &mut Report, machine: u16) {
     const COUNT: u64 = 1000;
@@ -590,6 +707,9 @@ pub fn rewriting(report: &mut Report) {
         surveys_of_placed(report, input);
         rewrites_of_placed(report, input);
     }
+    let loads = Loads::of(random);
+    report.heading("Loads of addresses from PowerPC64's `.toc`, a relocation", Beside::Nothing);
+    address_loads(report, &loads);
     report.heading("Stubs", Beside::Nothing);
     for input in &inputs {
         stubs(report, input.machine);

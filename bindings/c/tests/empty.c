@@ -49,6 +49,10 @@ int main(void) {
     EXPECT(OK, keep_facts(&output, NULL, 0, NULL, 0));
     EXPECT(OK, relocate_rewritten_section(machine, &output, NULL, 0, NULL, 0, &addresses, NULL, 0,
                                           NULL, 0, NULL, 0, NULL, 0, NULL));
+    EXPECT(OK, survey_address_loads(machine, &output, NULL, 0, &addresses, NULL, 0, 0, NULL, 0, NULL,
+                                    0, NULL, 0, NULL, 0));
+    EXPECT(OK, rewrite_address_loads(machine, &output, NULL, 0, &addresses, NULL, 0, 0, NULL, 0, NULL,
+                                     0, NULL, 0, NULL, 0, NULL, 0, NULL));
     struct linker_utils_provided_symbol symbol;
     struct linker_utils_provided_run run;
     EXPECT(TOO_SHORT, dynamic_name(LINKER_UTILS_X86_64, 8, NULL, 0, &count));

@@ -1075,6 +1075,61 @@ static void call_rewrite_placed_section(void) {
     finish(status == LINKER_UTILS_OK);
 }
 
+/* Whether each word of a section of addresses stays. */
+static struct buffer *kept_words(enum use use, size_t count) {
+    struct buffer *buffer = place(use, count, sizeof(bool));
+    bool *at = filled(buffer);
+    for (size_t i = 0; i < count; i++) at[i] = once_in(4);
+    return buffer;
+}
+
+static void call_survey_address_loads(void) {
+    uint16_t machine = any_machine();
+    struct buffer *section = bytes(READ, any_section_len());
+    struct buffer *facts = output_facts(), *known = symbol_facts(any_len(8));
+    struct buffer *values = symbols(any_len(8)), *where = addresses();
+    size_t symbols_len = LEN(known, struct linker_utils_symbol_facts);
+    struct buffer *words = relocations(READ, machine, any_section_len(), symbols_len);
+    struct buffer *kept = kept_words(WRITTEN, any_len(8));
+    struct buffer *given = relocations(READ, machine, section->len, symbols_len);
+    uint32_t status = CALL(survey_address_loads, machine, facts->given, FACTS(known), where->given,
+                           SYMBOLS(values), any_number(), words->given, words->len, given->given,
+                           given->len, section->given, section->len, kept->given, kept->len);
+    const uint8_t *now = filled(kept);
+    for (size_t i = 0; i < kept->len; i++) expect(now[i] <= 1 && now[i] >= kept->was[i], "no flags");
+    finish_with(status, 0 OR(UNKNOWN_ARCHITECTURE));
+}
+
+static void call_rewrite_address_loads(void) {
+    uint16_t machine = any_machine();
+    struct buffer *section = bytes(WRITTEN, any_section_len());
+    struct buffer *facts = output_facts(), *known = symbol_facts(any_len(8));
+    struct buffer *values = symbols(any_len(8)), *where = addresses();
+    size_t symbols_len = LEN(known, struct linker_utils_symbol_facts);
+    struct buffer *words = relocations(READ, machine, any_section_len(), symbols_len);
+    struct buffer *kept = kept_words(READ, any_len(8));
+    struct buffer *given = relocations(WRITTEN, machine, section->len, symbols_len);
+    size_t needed = given->len / 24;
+    bool is_short;
+    size_t count = any_room(needed, &is_short);
+    struct buffer *decisions = place(WRITTEN, count, sizeof(struct linker_utils_decision));
+    changes(given, 0, 24 * needed);
+    changes(decisions, 0, needed * sizeof(struct linker_utils_decision));
+    size_t *faulty = any_faulty();
+    uint32_t status = CALL(rewrite_address_loads, machine, facts->given, FACTS(known), where->given,
+                           SYMBOLS(values), any_number(), words->given, words->len, kept->given,
+                           kept->len, given->given, given->len, section->given, section->len,
+                           decisions->given, count, faulty);
+    expect_status(status,
+                  0 OR(UNKNOWN_ARCHITECTURE) OR(SHORT_MEMORY) OR(NOT_SURVEYED) OR(OVERLAPS));
+    expect((status == LINKER_UTILS_SHORT_MEMORY) <= is_short, "the memory is long enough");
+    if (status == LINKER_UTILS_OK) expect_decisions(filled(decisions), needed, machine);
+    bool is_of_entry = status == LINKER_UTILS_NOT_SURVEYED || status == LINKER_UTILS_OVERLAPS;
+    finish_faulty(faulty, is_of_entry, needed);
+    if (is_of_entry) keep_decisions(decisions, needed);
+    finish(status == LINKER_UTILS_OK);
+}
+
 #define UNKNOWN OR(UNKNOWN_ARCHITECTURE)
 
 /* The class of an entry of the GOT, or another number. */
@@ -2249,6 +2304,7 @@ static void (*const all[])(void) = {
     call_relocate_all, call_needs, call_value_at, call_relocate_section, call_survey,
     call_rewrite_section, call_has_rewrites, call_survey_placed_section, call_keep_facts,
     call_relocate_rewritten_section,
+    call_survey_address_loads, call_rewrite_address_loads,
     call_rewrite_placed_section, call_dynamic_types, call_dynamic_name, call_dynamic_words,
     call_entry_words, call_origins, call_static_words, call_got, call_join_flags,
     call_output_facts, call_interpreter, call_address_section, call_entry_relocation,

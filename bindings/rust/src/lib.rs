@@ -1201,6 +1201,84 @@ pub fn survey_placed_section(
     debug_assert_eq!(status, 0);
 }
 
+/// Notes in `kept` which words of an object's section of addresses stay, by one of its sections of code:
+/// an instruction loads a word's address and can't compute it. `words` are the relocations of the section
+/// of addresses, ascending by offset, and `words_start` is its address; `kept` has an element for each,
+/// false at first.
+pub fn survey_address_loads(
+    architecture: Architecture,
+    placed: Placed<'_>,
+    words_start: u64,
+    words: &[u8],
+    relocations: &[u8],
+    section: &[u8],
+    kept: &mut [bool],
+) {
+    let status = unsafe {
+        raw::linker_utils_survey_address_loads_nonnull(
+            architecture.machine(),
+            placed.output,
+            placed.symbols.as_ptr(),
+            placed.symbols.len(),
+            placed.addresses,
+            placed.values.as_ptr(),
+            placed.values.len(),
+            words_start,
+            words.as_ptr(),
+            words.len(),
+            relocations.as_ptr(),
+            relocations.len(),
+            section.as_ptr(),
+            section.len(),
+            kept.as_mut_ptr(),
+            kept.len(),
+        )
+    };
+    debug_assert_eq!(status, 0);
+}
+
+/// Has the instructions of a section of code compute the addresses that they load from such words, all
+/// that load a word or none, as `survey_address_loads` noted. What became of each relocation is returned.
+/// The entry at fault is the first relocation that isn't accepted.
+pub fn rewrite_address_loads(
+    architecture: Architecture,
+    placed: Placed<'_>,
+    words_start: u64,
+    words: &[u8],
+    kept: &[bool],
+    relocations: &mut [u8],
+    section: &mut [u8],
+) -> Result<Vec<Decision>, ArrayError> {
+    let mut decisions = decisions_of(relocations)?;
+    result_over(|faulty| unsafe {
+        raw::linker_utils_rewrite_address_loads_nonnull(
+            architecture.machine(),
+            placed.output,
+            placed.symbols.as_ptr(),
+            placed.symbols.len(),
+            placed.addresses,
+            placed.values.as_ptr(),
+            placed.values.len(),
+            words_start,
+            words.as_ptr(),
+            words.len(),
+            kept.as_ptr(),
+            kept.len(),
+            relocations.as_mut_ptr(),
+            relocations.len(),
+            section.as_mut_ptr(),
+            section.len(),
+            decisions.as_mut_ptr(),
+            decisions.len(),
+            faulty,
+        )
+    })?;
+    Ok(decisions
+        .iter()
+        .map(|made| decided(architecture, made))
+        .collect())
+}
+
 /// Rewrites the instructions of a section of code in a phase once addresses are known, as
 /// `rewrite_section` does before. What became of each relocation is returned, and what is to be deleted.
 pub fn rewrite_placed_section(

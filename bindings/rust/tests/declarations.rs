@@ -431,6 +431,7 @@ fn c_element(kind: &str, element: &str) -> String {
         "Branch" => "struct linker_utils_branch".to_string(),
         "PlacedStub" => "struct linker_utils_placed_stub".to_string(),
         "usize" => "size_t".to_string(),
+        "bool" => "bool".to_string(),
         number => format!("{}_t", number.replace('u', "uint")),
     };
     let is_const = kind.starts_with("*const");

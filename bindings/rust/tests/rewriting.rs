@@ -273,3 +273,44 @@ fn values_are_written_where_facts_are_as_kept() {
     others[3].is_local = true;
     assert_eq!(written(&EXECUTABLE, &others, &kept).0, Ok(()));
 }
+
+#[test]
+fn loads_from_words_compute_the_address() {
+    // addis 3,2,.toc@toc@ha; ld 3,.toc@toc@l(3), with R_PPC64_TOC16_HA and R_PPC64_TOC16_LO_DS of `.toc`,
+    // whose first word has R_PPC64_ADDR64 of symbol 1
+    let words = |listed: [u32; 2]| listed.map(u32::to_le_bytes).concat();
+    let (machine, start) = (Architecture::Ppc64, 0x1_0000);
+    let table = relas(&[(0, 38, 1, 0)]);
+    let addresses = Addresses {
+        section: 0x1000,
+        got_base: 0x1_8000,
+        ..Addresses::default()
+    };
+    let values = [0, 0x1_2340, 0, start].map(|address| Symbol {
+        address,
+        ..Symbol::default()
+    });
+    let symbols = symbols();
+    let placed = Placed {
+        output: &EXECUTABLE,
+        symbols: &symbols,
+        addresses: &addresses,
+        values: &values,
+    };
+    let mut relocations = relas(&[(0, 50, 3, 0), (4, 64, 3, 0)]);
+    let mut section = words([0x3c62_0000, 0xe863_0000]);
+    let mut kept = [false];
+    survey_address_loads(machine, placed, start, &table, &relocations, &section, &mut kept);
+    assert_eq!(kept, [false]);
+    let (given, code) = (&mut relocations, &mut section);
+    let made = rewrite_address_loads(machine, placed, start, &table, &kept, given, code).unwrap();
+    assert!(made.iter().all(|it| matches!(it, Decision::Redirected { symbol: 1, addend: 0, .. })));
+    assert_eq!(section, words([0x3c62_0000, 0x3863_0000]));
+    // R_PPC64_TOC16_HA and R_PPC64_TOC16_LO of the word's symbol
+    assert_eq!(relocations, relas(&[(0, 50, 1, 0), (4, 48, 1, 0)]));
+    // lwz 3,.toc@toc@l(3), which loads no address, keeps the word
+    let relocations = relas(&[(0, 64, 3, 0)]);
+    let section = 0x8063_0000u32.to_le_bytes();
+    survey_address_loads(machine, placed, start, &table, &relocations, &section, &mut kept);
+    assert_eq!(kept, [true]);
+}

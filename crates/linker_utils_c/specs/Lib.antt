@@ -1,3 +1,4 @@
+pub mod AddressLoads
 pub mod Choices
 pub mod Deltas
 pub mod Forms

@@ -4,8 +4,10 @@ ghost use Rattle.std.specs.Prelude.{◌≡◌, ◌/◌, length, IfSome, IfNone, 
 ghost use Rattle.linker_rewriting.specs.Facts.{early, setting};
 ghost use Rattle.linker_rewriting.specs.Groups.{has_rewrites};
 ghost use Rattle.linker_rewriting.specs.Surveys.{IsSurveyed, IsSurveyedIn};
+ghost use Rattle.linker_rewriting.specs.Words.{AreLoadsSurveyed};
 ghost use Rattle.linker_utils.specs.Architectures.{relaxation_architecture};
 ghost use Rattle.linker_utils.specs.Machines.{architecture_of, machine_of};
+ghost use Rattle.linker_utils_c.specs.AddressLoads.{AreLoadsReturned};
 ghost use Rattle.linker_utils_c.specs.Rewriting.{phase_of, of_fate, choice_in, subject_in};
 ghost use Rattle.linker_utils_c.specs.Rewriting.{IsRewriteReturned, IsPlacedReturned};
 ghost use Rattle.linker_utils_c.specs.Rewriting.{rewriting_status, faulty_after};
@@ -19,6 +21,7 @@ use linker_rewriting::groups::{KeptGroups, has_rewrites};
 use linker_rewriting::phases::Phase;
 use linker_rewriting::sections::{rewrite_placed_section, rewrite_section};
 use linker_rewriting::surveys::{survey, survey_placed_section};
+use linker_rewriting::words::{rewrite_address_loads, survey_address_loads};
 use linker_section::facts::{Addresses, Symbol};
 use linker_utils::architecture::Relaxation;
 use linker_utils::elf::{Architecture, Choice};
@@ -390,6 +393,99 @@ pub extern "C" fn linker_utils_rewrite_placed_section_nonnull(
             *deleted_used = len;
             Status::Success.number()
         }
+        Err(error) => put_error(error, faulty),
+    }
+}
+
+/// Notes which words of an object's section of addresses stay, by one of its sections of code, as
+/// `survey_address_loads` of `linker_rewriting`. `UnknownArchitecture`.
+#[unsafe(no_mangle)]
+pub extern "C" fn linker_utils_survey_address_loads_nonnull(
+    machine: u16,
+    output: &OutputFacts,
+    symbols: &[SymbolFacts],
+    addresses: &Addresses,
+    values: &[Symbol],
+    words_start: u64,
+    words: &[u8],
+    relocations: &[u8],
+    section: &[u8],
+    kept: &mut [bool],
+) -> u32
+    ensures known { IfSome (architecture_of machine) (λ architecture. (result ≡ code Status.Success)
+        × AreLoadsSurveyed (setting architecture Phase.Distances output.now symbols.now
+        addresses.now values.now) words_start words.now relocations.now section.now kept.old kept.new
+        (length relocations.now / 24)) }
+    ensures unknown { IfNone (architecture_of machine)
+        ((result ≡ code Status.UnknownArchitecture) × (kept.new ≡ kept.old)) }
+{
+    let Some(architecture) = Architecture::from_machine(machine) else {
+        return Status::UnknownArchitecture.number();
+    };
+    survey_address_loads(
+        architecture,
+        output,
+        symbols,
+        addresses,
+        values,
+        words_start,
+        words,
+        relocations,
+        section,
+        kept,
+    );
+    Status::Success.number()
+}
+
+/// Has the instructions of a section of code compute the addresses that they load from words of an
+/// object's section of addresses, and turns their relocations into those after it, as
+/// `rewrite_address_loads` of `linker_rewriting`. What became of each relocation is in `decisions`, whose
+/// elements behind those of the relocations are unchanged.
+///
+/// The first that applies of `UnknownArchitecture`; `ShortMemory`, where there are fewer decisions than
+/// relocations; and why it can't rewrite the relocation at `faulty`: `NotSurveyed` or `Overlaps`.
+/// Then the section and its relocations are unchanged, and the decisions below `faulty` are made.
+#[unsafe(no_mangle)]
+pub extern "C" fn linker_utils_rewrite_address_loads_nonnull(
+    machine: u16,
+    output: &OutputFacts,
+    symbols: &[SymbolFacts],
+    addresses: &Addresses,
+    values: &[Symbol],
+    words_start: u64,
+    words: &[u8],
+    kept: &[bool],
+    relocations: &mut [u8],
+    section: &mut [u8],
+    decisions: &mut [DecisionNumbers],
+    faulty: &mut usize,
+) -> u32
+    ensures known { IfSome (architecture_of machine) (λ architecture.
+        AreLoadsReturned (setting architecture Phase.Distances output.now symbols.now addresses.now
+        values.now) words_start words.now kept.now relocations.old relocations.new section.old
+        section.new decisions.old decisions.new faulty.old faulty.new result) }
+    ensures unknown { IfNone (architecture_of machine)
+        ((result ≡ code Status.UnknownArchitecture) × (relocations.new ≡ relocations.old)
+        × (section.new ≡ section.old) × (decisions.new ≡ decisions.old)
+        × (faulty.new ≡ faulty.old)) }
+{
+    let Some(architecture) = Architecture::from_machine(machine) else {
+        return Status::UnknownArchitecture.number();
+    };
+    match rewrite_address_loads(
+        architecture,
+        output,
+        symbols,
+        addresses,
+        values,
+        words_start,
+        words,
+        kept,
+        relocations,
+        section,
+        decisions,
+    ) {
+        Ok(()) => Status::Success.number(),
         Err(error) => put_error(error, faulty),
     }
 }

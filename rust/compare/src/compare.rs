@@ -241,7 +241,7 @@ impl Made for u8 {
 
     /// Instructions that some call takes, relocations, and any bytes.
     fn several(random: &mut Random, name: &str) -> Vec<u8> {
-        if name == "relocations" {
+        if matches!(name, "relocations" | "words") {
             let mut bytes: Vec<u8> = (0..random.below(6)).flat_map(|_| relocation(random)).collect();
             bytes.truncate(bytes.len().saturating_sub(random.below(3) as usize));
             return bytes;
@@ -283,7 +283,8 @@ impl Made for u8 {
 
 /// A relocation as files have it, mostly near the beginning of a section and of a symbol that is there.
 fn relocation(random: &mut Random) -> Vec<u8> {
-    let r_type = [random.below(1200), random.below(60), 60, 61, 35, 39][random.below(6) as usize];
+    let any = [random.below(1200), random.below(60)];
+    let r_type = [any[0], any[1], 60, 61, 35, 39, 38, 64][random.below(8) as usize];
     let symbol = [random.below(4), random.below(1 << 32)][usize::from(random.below(8) == 0)];
     let offset = [4 * random.below(8), random.number()][usize::from(random.below(8) == 0)];
     let words = [offset, symbol << 32 | r_type, random.number()];

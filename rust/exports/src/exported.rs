@@ -1948,6 +1948,83 @@ unsafe extern "C" fn linker_utils_rewrite_placed_section_nonnull(
 }
 
 #[unsafe(no_mangle)]
+unsafe extern "C" fn linker_utils_survey_address_loads_nonnull(
+    machine: u16,
+    output: *const OutputFacts,
+    symbols: *const SymbolFacts,
+    symbols_len: usize,
+    addresses: *const Addresses,
+    values: *const Symbol,
+    values_len: usize,
+    words_start: u64,
+    words: *const u8,
+    words_len: usize,
+    relocations: *const u8,
+    relocations_len: usize,
+    section: *const u8,
+    section_len: usize,
+    kept: *mut bool,
+    kept_len: usize,
+) -> u32 {
+    // SAFETY: the arguments are as the head of the header says.
+    unsafe {
+        crate::rewriting::linker_utils_survey_address_loads_nonnull(
+            machine,
+            &*output,
+            from_raw_parts(symbols, symbols_len),
+            &*addresses,
+            from_raw_parts(values, values_len),
+            words_start,
+            from_raw_parts(words, words_len),
+            from_raw_parts(relocations, relocations_len),
+            from_raw_parts(section, section_len),
+            from_raw_parts_mut(kept, kept_len),
+        )
+    }
+}
+
+#[unsafe(no_mangle)]
+unsafe extern "C" fn linker_utils_rewrite_address_loads_nonnull(
+    machine: u16,
+    output: *const OutputFacts,
+    symbols: *const SymbolFacts,
+    symbols_len: usize,
+    addresses: *const Addresses,
+    values: *const Symbol,
+    values_len: usize,
+    words_start: u64,
+    words: *const u8,
+    words_len: usize,
+    kept: *const bool,
+    kept_len: usize,
+    relocations: *mut u8,
+    relocations_len: usize,
+    section: *mut u8,
+    section_len: usize,
+    decisions: *mut DecisionNumbers,
+    decisions_len: usize,
+    faulty: *mut usize,
+) -> u32 {
+    // SAFETY: the arguments are as the head of the header says.
+    unsafe {
+        crate::rewriting::linker_utils_rewrite_address_loads_nonnull(
+            machine,
+            &*output,
+            from_raw_parts(symbols, symbols_len),
+            &*addresses,
+            from_raw_parts(values, values_len),
+            words_start,
+            from_raw_parts(words, words_len),
+            from_raw_parts(kept, kept_len),
+            from_raw_parts_mut(relocations, relocations_len),
+            from_raw_parts_mut(section, section_len),
+            from_raw_parts_mut(decisions, decisions_len),
+            &mut *faulty,
+        )
+    }
+}
+
+#[unsafe(no_mangle)]
 unsafe extern "C" fn linker_utils_route_at_nonnull(
     machine: u16,
     addresses: *const Addresses,

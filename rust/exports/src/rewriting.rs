@@ -9,6 +9,7 @@ use linker_utils::rewriting::{KeptGroups, has_rewrites};
 use linker_utils::rewriting::Phase;
 use linker_utils::rewriting::{rewrite_placed_section, rewrite_section};
 use linker_utils::rewriting::{survey, survey_placed_section};
+use linker_utils::rewriting::{rewrite_address_loads, survey_address_loads};
 use linker_utils::section::{Addresses, Symbol};
 use linker_utils::architecture::Relaxation;
 use linker_utils::elf::{Architecture, Choice};
@@ -309,6 +310,81 @@ pub fn linker_utils_rewrite_placed_section_nonnull(
             *deleted_used = len;
             Status::Success.number()
         }
+        Err(error) => put_error(error, faulty),
+    }
+}
+
+/// Notes which words of an object's section of addresses stay, by one of its sections of code, as
+/// `survey_address_loads` of `linker_rewriting`. `UnknownArchitecture`.
+pub fn linker_utils_survey_address_loads_nonnull(
+    machine: u16,
+    output: &OutputFacts,
+    symbols: &[SymbolFacts],
+    addresses: &Addresses,
+    values: &[Symbol],
+    words_start: u64,
+    words: &[u8],
+    relocations: &[u8],
+    section: &[u8],
+    kept: &mut [bool],
+) -> u32 {
+    let Some(architecture) = Architecture::from_machine(machine) else {
+        return Status::UnknownArchitecture.number();
+    };
+    survey_address_loads(
+        architecture,
+        output,
+        symbols,
+        addresses,
+        values,
+        words_start,
+        words,
+        relocations,
+        section,
+        kept,
+    );
+    Status::Success.number()
+}
+
+/// Has the instructions of a section of code compute the addresses that they load from words of an
+/// object's section of addresses, and turns their relocations into those after it, as
+/// `rewrite_address_loads` of `linker_rewriting`. What became of each relocation is in `decisions`, whose
+/// elements behind those of the relocations are unchanged.
+///
+/// The first that applies of `UnknownArchitecture`; `ShortMemory`, where there are fewer decisions than
+/// relocations; and why it can't rewrite the relocation at `faulty`: `NotSurveyed` or `Overlaps`.
+/// Then the section and its relocations are unchanged, and the decisions below `faulty` are made.
+pub fn linker_utils_rewrite_address_loads_nonnull(
+    machine: u16,
+    output: &OutputFacts,
+    symbols: &[SymbolFacts],
+    addresses: &Addresses,
+    values: &[Symbol],
+    words_start: u64,
+    words: &[u8],
+    kept: &[bool],
+    relocations: &mut [u8],
+    section: &mut [u8],
+    decisions: &mut [DecisionNumbers],
+    faulty: &mut usize,
+) -> u32 {
+    let Some(architecture) = Architecture::from_machine(machine) else {
+        return Status::UnknownArchitecture.number();
+    };
+    match rewrite_address_loads(
+        architecture,
+        output,
+        symbols,
+        addresses,
+        values,
+        words_start,
+        words,
+        kept,
+        relocations,
+        section,
+        decisions,
+    ) {
+        Ok(()) => Status::Success.number(),
         Err(error) => put_error(error, faulty),
     }
 }
