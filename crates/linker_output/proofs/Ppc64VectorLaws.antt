@@ -41,7 +41,7 @@ stores i v =
     let s = (placed i v).counted.state in
     record v {
       counted =
-          with_state (go_on (store 16 (v.vectors (20 + i)) (place (v.counted.state.registers 0) i) s)) v.counted
+          with_state (go_on (store 16 (v.vectors (20 + i)) (place (v.counted.state.registers 0) i) s)) v.counted;
     }
 
 abbrev loads : ℕ → Vectored → Vectored
