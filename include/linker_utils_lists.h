@@ -804,7 +804,7 @@ enum linker_utils_fate {
     /* the relocation goes: the rewrite at the one before or at the next one takes it along */
     LINKER_UTILS_FATE_TAKEN_ALONG = 2,
     /* the instruction is rewritten, and the relocation gets another symbol and addend: those of the high
-     * part whose label was its symbol, or those of the word that the instruction loaded */
+     * part whose label was its symbol, or of the word that it loaded */
     LINKER_UTILS_FATE_REDIRECTED = 3
 };
 
