@@ -32,8 +32,8 @@ pub enum Decision {
     Kept,
     /// The instruction is rewritten by this, and the relocation becomes the one after it.
     Rewritten(Choice<Relaxation, u32>),
-    /// The same, but the relocation after it is of another symbol and addend: of a TLS descriptor of
-    /// RISC-V all get those of the high part, whose label was their symbol.
+    /// The same, but the relocation after it is of another symbol and addend: those of the high part of
+    /// a TLS descriptor of RISC-V, whose label was its symbol, or those of the word that was loaded.
     Redirected(Choice<Relaxation, u32>, Subject),
     /// The relocation goes, since the rewrite at the one before or at the next one takes it along.
     TakenAlong,
