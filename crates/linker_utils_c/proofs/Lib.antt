@@ -1,3 +1,4 @@
+pub mod AddressLoads
 pub mod Decisions
 pub mod DeltaLists
 pub mod Found

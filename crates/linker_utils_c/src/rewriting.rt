@@ -1,10 +1,12 @@
 //! The rewrites of a section in one call, before addresses are known and once they are.
 
-ghost use Rattle.std.specs.Prelude.{◌≡◌, ◌/◌, length, IfSome, IfNone, Some, false};
+ghost use Rattle.std.specs.Prelude.{◌≡◌, ◌/◌, ℕ, length, IfSome, IfNone, Some, false};
+ghost use Rattle.linker_output.specs.Addresses.{entry_code_of};
+ghost use Rattle.linker_output.specs.Targets.{target_of};
 ghost use Rattle.linker_rewriting.specs.Facts.{early, setting};
 ghost use Rattle.linker_rewriting.specs.Groups.{has_rewrites};
 ghost use Rattle.linker_rewriting.specs.Surveys.{IsSurveyed, IsSurveyedIn};
-ghost use Rattle.linker_rewriting.specs.Words.{AreLoadsSurveyed};
+ghost use Rattle.linker_rewriting.specs.Words.{AreLoadsSurveyed, entry_code};
 ghost use Rattle.linker_utils.specs.Architectures.{relaxation_architecture};
 ghost use Rattle.linker_utils.specs.Machines.{architecture_of, machine_of};
 ghost use Rattle.linker_utils_c.specs.AddressLoads.{AreLoadsReturned};
@@ -440,7 +442,8 @@ pub extern "C" fn linker_utils_survey_address_loads_nonnull(
 /// Has the instructions of a section of code compute the addresses that they load from words of an
 /// object's section of addresses, and turns their relocations into those after it, as
 /// `rewrite_address_loads` of `linker_rewriting`. What became of each relocation is in `decisions`, whose
-/// elements behind those of the relocations are unchanged.
+/// elements behind those of the relocations are unchanged. The types of loads are those of which
+/// `linker_utils_entry_relocation` says another one.
 ///
 /// The first that applies of `UnknownArchitecture`; `ShortMemory`, where there are fewer decisions than
 /// relocations; and why it can't rewrite the relocation at `faulty`: `NotSurveyed` or `Overlaps`.
@@ -464,6 +467,8 @@ pub extern "C" fn linker_utils_rewrite_address_loads_nonnull(
         AreLoadsReturned (setting architecture Phase.Distances output.now symbols.now addresses.now
         values.now) words_start words.now kept.now relocations.old relocations.new section.old
         section.new decisions.old decisions.new faulty.old faulty.new result) }
+    ensures loads { (architecture : Architecture) (r_type : ℕ)
+        → entry_code_of (target_of architecture).addresses r_type ≡ entry_code architecture r_type }
     ensures unknown { IfNone (architecture_of machine)
         ((result ≡ code Status.UnknownArchitecture) × (relocations.new ≡ relocations.old)
         × (section.new ≡ section.old) × (decisions.new ≡ decisions.old)
