@@ -349,7 +349,8 @@ pub fn linker_utils_survey_address_loads_nonnull(
 /// Has the instructions of a section of code compute the addresses that they load from words of an
 /// object's section of addresses, and turns their relocations into those after it, as
 /// `rewrite_address_loads` of `linker_rewriting`. What became of each relocation is in `decisions`, whose
-/// elements behind those of the relocations are unchanged.
+/// elements behind those of the relocations are unchanged. The types of loads are those of which
+/// `linker_utils_entry_relocation` says another one.
 ///
 /// The first that applies of `UnknownArchitecture`; `ShortMemory`, where there are fewer decisions than
 /// relocations; and why it can't rewrite the relocation at `faulty`: `NotSurveyed` or `Overlaps`.
