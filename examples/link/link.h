@@ -114,7 +114,7 @@ struct section {
     uint64_t offset, len;           /* in the output */
     Elf64_Rela *relocations;
     struct linker_utils_deletion *deleted; /* by rewrites, in their order */
-    bool *kept_words; /* by relocations: some instruction can't compute what the word has */
+    bool *kept_words; /* by relocations of words of addresses: which have to stay */
     uint32_t relocations_len, deleted_len, first_item, items_len, gap; /* before it, in such code */
     bool is_discarded; /* SHF_EXCLUDE, or of a group that an earlier object has too */
     bool has_loads, has_numbers; /* of addresses in the GOT; ULEB128 ones that are added to */
@@ -171,7 +171,6 @@ struct kind {
     struct linker_utils_relocation_reach reach;
     struct linker_utils_requirements needs[2]; /* without an addend; of a thread-local symbol */
     enum linker_utils_role role;               /* at a ULEB128 number */
-    uint32_t entry_type; /* by the GOT instead of a word of addresses; 0 where there is none */
     bool is_known, is_direct[256]; /* by `st_other`: a branch that reaches needs no thunk */
 };
 

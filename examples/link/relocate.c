@@ -65,7 +65,6 @@ struct kind *ask_kind(const struct section *s, const Elf64_Rela *r) {
     for (int is_tls = 0; is_tls < 2; is_tls++)
         check(s, r, linker_utils_needs(machine, type, 0, is_tls, &kind->needs[is_tls]));
     if (changes_numbers()) kind->role = linker_utils_uleb128_role(machine, type);
-    linker_utils_entry_relocation(machine, type, &kind->entry_type);
     kind->is_known = true;
     return kind;
 }

@@ -7,6 +7,8 @@
 static struct linker_utils_symbol_facts *facts;
 static struct linker_utils_symbol *values;
 struct linker_utils_kept_groups *kept;
+static struct linker_utils_decision *decisions; /* of one section after another */
+static size_t decisions_room;
 static const struct symbol *tls_get_addr;
 
 /* Whether the library is not shown a relocation: nothing here has its symbol, or it would be
@@ -48,9 +50,8 @@ static bool note_symbols(struct object *o, bool has_addresses) {
 
 /* Rewrites a section of an object in a phase, or notes which groups of it stay. */
 static void rewrite_in(uint32_t phase, struct section *s, bool is_survey) {
-    static struct linker_utils_decision *decisions; /* these are for one section after another */
     static struct linker_utils_deletion *deleted;
-    static size_t rooms[2];
+    static size_t room;
     size_t count = s->object->symbols_len, len = s->relocations_len, used = 0, at = 0;
     size_t values_len = phase == LINKER_UTILS_PHASE_EARLY ? 0 : count;
     size_t relocations_len = len * sizeof *s->relocations;
@@ -62,8 +63,8 @@ static void rewrite_in(uint32_t phase, struct section *s, bool is_survey) {
                                            s->len, kept, count);
         return;
     }
-    decisions = grow(decisions, len, &rooms[0], sizeof *decisions);
-    deleted = grow(deleted, len, &rooms[1], sizeof *deleted);
+    decisions = grow(decisions, len, &decisions_room, sizeof *decisions);
+    deleted = grow(deleted, len, &room, sizeof *deleted);
     uint32_t status = linker_utils_rewrite_placed_section(
         machine, phase, &linked, facts, count, &addresses, values, values_len, kept, count,
         relocations, relocations_len, bytes, s->len, decisions, len, deleted, len, &used, &at);
@@ -84,10 +85,34 @@ static void rewrite_got_loads(struct section *s) {
     if (!stays) rewrite_in(LINKER_UTILS_PHASE_GOT_LOADS, s, false);
 }
 
+/* Has code compute the addresses that it loads from words of a section, all that load a word or none,
+ * or notes which words stay. */
+static void rewrite_loads(struct section *s, struct section *words, bool is_survey) {
+    size_t count = s->object->symbols_len, len = s->relocations_len, at = 0;
+    size_t relocations_len = len * sizeof *s->relocations;
+    size_t words_len = words->relocations_len * sizeof *words->relocations;
+    uint8_t *relocations = (uint8_t *)s->relocations, *bytes = s->output->bytes + s->offset;
+    const uint8_t *of_words = (const uint8_t *)words->relocations;
+    struct linker_utils_addresses addresses = addresses_of(s->output->address + s->offset);
+    uint64_t start = words->output->address + words->offset;
+    if (is_survey) {
+        linker_utils_survey_address_loads(machine, &linked, facts, count, &addresses, values, count,
+                                          start, of_words, words_len, relocations, relocations_len,
+                                          bytes, s->len, words->kept_words, words->relocations_len);
+        return;
+    }
+    decisions = grow(decisions, len, &decisions_room, sizeof *decisions);
+    uint32_t status = linker_utils_rewrite_address_loads(
+        machine, &linked, facts, count, &addresses, values, count, start, of_words, words_len,
+        words->kept_words, words->relocations_len, relocations, relocations_len, bytes, s->len,
+        decisions, len, &at);
+    check(s, &s->relocations[at < len ? at : 0], status);
+}
+
 /* Hides relocations of an object's code from the library, and shows them again. */
 static void hide(struct object *o, bool is_shown) {
     EACH_SECTION_OF(o, s)
-        if (is_code(s))
+        if (is_code(s) || s->kept_words)
             EACH_RELOCATION(s, r) {
                 if (is_shown) r->r_info &= ~HIDDEN;
                 else if (is_hidden(s, r)) r->r_info |= HIDDEN;
@@ -99,6 +124,10 @@ void rewrite_object(struct object *o, uint32_t first, uint32_t last) {
     bool hides = note_symbols(o, first != LINKER_UTILS_PHASE_EARLY);
     memset(kept, 0, (o->symbols_len + 1) * sizeof *kept);
     if (hides) hide(o, false);
+    bool is_placed = first == LINKER_UTILS_PHASE_GOT_LOADS;
+    EACH_SECTION_OF(o, words)
+        for (int is_survey = 1; is_placed && words->kept_words && is_survey >= 0; is_survey--)
+            EACH_SECTION_OF(o, s) if (is_code(s)) rewrite_loads(s, words, is_survey);
     for (uint32_t phase = first; phase <= last; phase++) {
         bool is_of_got = phase == LINKER_UTILS_PHASE_GOT_LOADS;
         if (!linker_utils_has_rewrites(machine, phase)) continue;
@@ -120,60 +149,10 @@ bool is_of_addresses(const char *name) {
     return *known && !strcmp(name, known);
 }
 
-static int by_offset(const void *left, const void *right) {
-    return order(((const Elf64_Rela *)left)->r_offset, ((const Elf64_Rela *)right)->r_offset);
-}
-
-/* The word of such a section that a relocation refers to, if it has an address; else null. */
-static const Elf64_Rela *word_of(const struct section *s, const Elf64_Rela *r,
-                                 struct section **in) {
-    const struct symbol *to = symbol_at(s, r);
-    if (!kind_of(s, r)->entry_type) return NULL;
-    if (to->object != s->object || to->elf.st_shndx >= s->object->sections_len) return NULL;
-    *in = &s->object->sections[to->elf.st_shndx];
-    if (!(*in)->kept_words) return NULL;
-    Elf64_Rela key = {.r_offset = to->elf.st_value + (uint64_t)r->r_addend}, *word;
-    word = bsearch(&key, (*in)->relocations, (*in)->relocations_len, sizeof key, by_offset);
-    return word && type_of(word) == types.word ? word : NULL;
-}
-
-/* Has instructions compute the addresses that they load from such words, or notes that one of a
- * word can't: then none of it does. */
-static void rewrite_loads(struct section *s, bool is_survey) {
-    EACH_RELOCATION(s, r) {
-        struct section *in;
-        const Elf64_Rela *word = word_of(s, r, &in);
-        bool *is_kept = word ? &in->kept_words[word - in->relocations] : NULL;
-        if (!word || *is_kept) continue;
-        const struct symbol *to = symbol_at(in, word);
-        uint64_t at = r->r_offset;
-        int64_t addend = word->r_addend;
-        uint8_t *bytes = s->output->bytes + s->offset;
-        uint32_t type = kind_of(s, r)->entry_type;
-        struct linker_utils_choice choice;
-        struct linker_utils_link_facts known = {
-            .is_local = is_defined(to) && !to->is_imported, .has_fixed_distance = 1,
-            .has_addresses = 1, .operands = {.got_base = known_got().base, .addend = addend,
-                         .symbol = address_of(to->output, to->offset)}};
-        check(s, r, linker_utils_choose(machine, type, bytes, s->len, at, &known, &choice));
-        *is_kept = is_survey && linker_utils_is_unchanged(machine, type, &choice);
-        if (is_survey) continue;
-        check(s, r, linker_utils_apply(machine, choice.rewrite, choice.opcode_len, bytes, s->len,
-                                       &at, &addend));
-        r->r_info = ELF64_R_INFO(ELF64_R_SYM(word->r_info), choice.relocation);
-        r->r_addend = addend;
-    }
-}
-
 /* Makes the rewrites of each object that wait for all addresses, and writes its values. */
 void relocate(void) {
-    uint8_t name[LINKER_UTILS_NAME_SIZE];
-    size_t used;
-    bool has_words = relaxes && !linker_utils_address_section(machine, name, sizeof name, &used);
     uint32_t last = LINKER_UTILS_PHASE_DISTANCES;
     EACH_OBJECT(o) {
-        for (int is_survey = has_words; has_words && is_survey >= 0; is_survey--)
-            EACH_SECTION_OF(o, s) if (is_code(s)) rewrite_loads(s, is_survey);
         rewrite_object(o, relaxes ? LINKER_UTILS_PHASE_GOT_LOADS : last + 1, last);
         relocate_object(o, values);
     }
