@@ -37,6 +37,7 @@ pub mod PutBack
 pub mod RelocatedFields
 pub mod RiscVChosen
 pub mod RiscVDescriptors
+pub mod RiscVJoined
 pub mod RiscVLoads
 pub mod RiscVNops
 pub mod RiscVOffsets

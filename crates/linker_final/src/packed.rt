@@ -11,6 +11,7 @@ ghost use Rattle.linker_final.specs.LoongArchPacked as loongarch_packed;
 ghost use Rattle.linker_final.specs.Packed as packed;
 ghost use Rattle.linker_final.specs.Packed.{architecture_of, packed_as, IsAtPlace};
 ghost use Rattle.linker_final.specs.Packed.{IsFirstUntranslated, IsPackCause, IsPacked};
+ghost use Rattle.linker_final.specs.RiscVJoined as riscv_joined;
 ghost use Rattle.linker_final.specs.RiscVPacked as riscv_packed;
 ghost use Rattle.linker_runs.specs.Packing.{packed_offset, section_of};
 ghost use Rattle.linker_section.specs.Relocations.{relocation_in};
@@ -215,6 +216,15 @@ pub fn shorter_riscv64()
     ensures long_calls { riscv_packed.LongCallsStay }
     ensures high_parts { riscv_packed.HighPartsAreLeftOut }
     ensures sums { riscv_packed.SumIsLeftOut }
+{
+    linker_laws::rewrites::riscv64();
+}
+
+/// RISC-V: what was rewritten before the section was packed, and stays, does in the final bytes what
+/// the object's instructions do, each with the values of its relocations in its own layout. It is
+/// each low part of an offset that is over the thread pointer.
+pub fn joined_riscv64()
+    ensures low_parts { riscv_joined.PackedLowParts }
 {
     linker_laws::rewrites::riscv64();
 }

@@ -1,0 +1,137 @@
+-- RISC-V: rewritten instructions in the final bytes of a section that was packed then.
+use Rattle.std.proofs.Common.{◌≡◌, ℕ, ◌/◌, ◌<◌, length, refl, sym, ap, subst, ◌∙◌, arith, Some, Ok, IsSomeAnd}
+use Rattle.std.specs.Prelude.{slice_get}
+use Rattle.linker_elf.specs.Applied.{IsApplied}
+use Rattle.linker_elf.specs.RiscVRelocations.{riscv_row}
+use Rattle.linker_elf.specs.declared.elf.value.Operands.{Operands}
+use Rattle.linker_elf.specs.declared.riscv64.relocations.RiscVRelocation.{RiscVRelocation}
+use Rattle.linker_elf.specs.declared.riscv64.relocations.RiscVRelocation.TheVariants as names
+use Rattle.linker_final.proofs.InstructionFields.{IsOfInstruction, applied}
+use Rattle.linker_final.proofs.PackedBytes.{same_there, places_inside, stay_inside}
+use Rattle.linker_final.proofs.RiscVOffsets.{low_i, of_low_i, low_s, of_low_s, low_parts_anywhere, mapped}
+use Rattle.linker_final.proofs.RiscVWritten.{IsAfter, bytes_there, long_there, row_in}
+use Rattle.linker_final.specs.Final.{AreBytes, Linked, count, instruction_at}
+use Rattle.linker_final.specs.Joined.{IsRewrittenAndPacked, IsKeptInstruction}
+use Rattle.linker_final.specs.Packed.{Packed, architecture_of, place_of}
+use Rattle.linker_final.specs.Packed as packed
+use Rattle.linker_final.specs.RiscVFinal.{LowPartsAnywhereOf, named_as}
+use Rattle.linker_final.specs.RiscVJoined.{FinalLowPartDoesTheSame, PackedLowParts, PackedLowPartsOf, final_instruction, final_operands}
+use Rattle.linker_laws.specs.Machine.{Relocated}
+use Rattle.linker_laws.specs.RiscVRewriteLaws.{Laws, action_at, offset_row}
+use Rattle.linker_runs.specs.declared.packing.Machine.TheVariants.{RiscV64}
+use Rattle.linker_section.specs.Needed.{entry_of}
+use Rattle.linker_section.specs.Relocations.{relocation_in}
+use Rattle.linker_section.specs.Values.{entry_address, offset_at, operands_by, operands_in, operands_of, operands_with}
+use Rattle.linker_section.specs.declared.facts.Addresses.{Addresses}
+use Rattle.linker_section.specs.declared.facts.Symbol.{Symbol}
+use Rattle.linker_section.specs.declared.relocations.Rela.{Rela}
+use Rattle.linker_utils.specs.Architectures.{IsRow}
+use Rattle.linker_utils.specs.declared.elf.Architecture.TheVariants.{RiscV}
+
+-- ---- an instruction that stays
+
+module _ (l : Linked) (p : Packed) (joined : IsRewrittenAndPacked l p) (riscv : p.machine ≡ RiscV64)
+    (i : ℕ) (below : i < count l) (name : RiscVRelocation) (a : IsAfter name) (subject : Rela)
+    (after_is : relocation_in l.relocations_after i ≡ named_as name (relocation_in l.relocations i) subject)
+    (kept : IsKeptInstruction p i) where
+  abbrev o : ℕ
+  o = (relocation_in l.relocations i).offset
+
+  abbrev after : Rela
+  after = relocation_in p.relocations_after i
+
+  pub machine_is : architecture_of p.machine ≡ RiscV
+  machine_is = ap architecture_of riscv
+
+  pub within : i < packed.count p
+  within =
+      subst (λ n. i < n / 24)
+      (sym (joined.packed.as_many ∙ (ap length joined.relocations ∙ joined.as_many))) below
+
+  before_is : relocation_in p.relocations i ≡ named_as name (relocation_in l.relocations i) subject
+  before_is = ap (λ bytes. relocation_in bytes i) joined.relocations ∙ after_is
+
+  offset_is : offset_at p.relocations i ≡ o
+  offset_is = ap (λ (x : Rela). x.offset) before_is
+
+  pub stay : packed.StayTogether p o 4
+  stay = subst (λ n. packed.StayTogether p n 4) offset_is kept.bytes
+
+  pub place_is : offset_at p.relocations_after i ≡ place_of p o
+  place_is = (joined.packed.translated i within).offset ∙ ap (place_of p) offset_is
+
+  pub row_is : IsRow (architecture_of p.machine) after.code (Some a.row)
+  row_is =
+      subst (λ x. IsRow x after.code (Some a.row)) (sym machine_is)
+      (row_in (architecture_of p.machine) machine_is after name a
+      (kept.code ∙ ap (λ (x : Rela). x.code) before_is) p.addresses p.relocations_after p.symbols
+      (joined.packed.written.can.found i) (joined.packed.written.can.are_found i within))
+
+  -- with what was applied to its bytes
+  pub relocated : (y : Operands)
+      → IsApplied a.row y (instruction_at p.packed (offset_at p.relocations_after i)) (instruction_at p.final (offset_at p.relocations_after i))
+      → Relocated (Some a.row) y (instruction_at l.rewritten o) (final_instruction p o)
+  relocated y there =
+      let is = joined.packed in
+      let same : instruction_at p.packed (place_of p o) ≡ instruction_at l.rewritten o =
+      same_there p is o 4 (omega arith) stay ∙ ap (λ bytes. instruction_at bytes o) joined.bytes in
+      let here : IsApplied a.row y (instruction_at p.packed (place_of p o)) (instruction_at p.final (place_of p o)) =
+      subst (λ n. IsApplied a.row y (instruction_at p.packed n) (instruction_at p.final n)) place_is there in
+      let inside = stay_inside p is o 4 (omega arith) stay in
+      let places = places_inside p is o 4 (omega arith) stay in
+      let len = ap length joined.bytes in
+      let same_length = is.written.same_length in
+      record {
+        applied = subst (λ bytes. IsApplied a.row y bytes (instruction_at p.final (place_of p o))) same here;
+        len =
+            long_there p.final (place_of p o) (omega (arith, places, same_length))
+            ∙ sym (long_there l.rewritten o (omega (arith, inside, len)));
+        old_bytes = bytes_there l.rewritten o (subst AreBytes joined.bytes is.section_bytes);
+        bytes = bytes_there p.final (place_of p o) is.final_bytes;
+      }
+
+  -- with the value of its own symbol
+  pub relocated_own : (of : IsOfInstruction 4 a.row) (symbol : Symbol)
+      → operands_by RiscV p.addresses a.row after symbol
+      (entry_address p.addresses symbol (entry_of a.row after.addend symbol.is_thread_local))
+      ≡ Ok (final_operands p i a.row symbol)
+      → slice_get p.symbols after.symbol ≡ Some symbol
+      → Relocated (Some a.row) (final_operands p i a.row symbol) (instruction_at l.rewritten o) (final_instruction p o)
+  relocated_own of symbol entry_is is_symbol =
+      let y = final_operands p i a.row symbol in
+      let taken : operands_of (architecture_of p.machine) p.addresses p.symbols a.row after ≡ Ok y =
+      subst (λ x. operands_of x p.addresses p.symbols a.row after ≡ Ok y) (sym machine_is)
+      (ap (operands_in RiscV p.addresses a.row after) is_symbol ∙ entry_is) in
+      relocated y
+      (applied (architecture_of p.machine) p.addresses p.relocations_after p.symbols p.packed p.final joined.packed.written
+      i within 4 (omega arith) a.row of row_is y taken)
+
+-- ---- low parts
+
+packed_of : (name : RiscVRelocation) (a : IsAfter name) (of : IsOfInstruction 4 a.row)
+    (is_row : riscv_row name ≡ Some a.row)
+    (no_entry : (addresses : Addresses) (r : Rela) (symbol : Symbol)
+    → operands_by RiscV addresses a.row r symbol
+    (entry_address addresses symbol (entry_of a.row r.addend symbol.is_thread_local))
+    ≡ Ok (operands_with RiscV addresses a.row symbol r 0))
+    → LowPartsAnywhereOf name → PackedLowPartsOf name
+packed_of name a of is_row no_entry anywhere l p joined riscv i chosen below is_name decided kept =
+    let r = relocation_in l.relocations i in
+    let any = anywhere l joined.rewritten (joined.architecture ∙ ap architecture_of riscv) i chosen below is_name decided in
+    mapped (λ action law is_of.
+    subst (λ q. IsSomeAnd q (FinalLowPartDoesTheSame l p i action)) (sym is_row)
+    (λ symbol is_symbol x one low h k differs original small new_small alike base stores of_original.
+    let y = final_operands p i a.row symbol in
+    let new : Relocated (offset_row action) y (instruction_at l.rewritten r.offset) (final_instruction p r.offset) =
+    subst (λ q. Relocated q y (instruction_at l.rewritten r.offset) (final_instruction p r.offset)) (sym (is_of ∙ is_row))
+    (relocated_own l p joined riscv i below name a r (any.0) kept of symbol
+    (no_entry p.addresses (relocation_in p.relocations_after i) symbol) is_symbol) in
+    law x y one low h k differs original (final_instruction p r.offset) small new_small alike base stores of_original new))
+    (action_at l.section r.offset) (any.1)
+
+pub packed_low_parts : Laws → PackedLowParts
+packed_low_parts laws =
+    let any = low_parts_anywhere laws in (
+      packed_of names.R_RISCV_TPREL_LO12_I low_i of_low_i refl (λ addresses r symbol. refl) (any.0),
+      packed_of names.R_RISCV_TPREL_LO12_S low_s of_low_s refl (λ addresses r symbol. refl) (any.1),
+    )

@@ -1,0 +1,74 @@
+-- RISC-V: in the final bytes of a section that was rewritten and then packed, rewritten instructions
+-- do what the object's do with the values of their relocations.
+use Rattle.std.specs.Prelude.{◌≡◌, ℕ, ◌<◌, ◌^◌, Bool, List, Some, IsSomeAnd, slice_get}
+use Rattle.linker_elf.specs.ElfNames.{IsNameOf}
+use Rattle.linker_elf.specs.RiscVRelocations.{riscv_name, riscv_row}
+use Rattle.linker_elf.specs.Value.{sum_64}
+use Rattle.linker_elf.specs.declared.elf.RelocationKindInfo.{RelocationKindInfo}
+use Rattle.linker_elf.specs.declared.elf.choice.Choice.{Choice}
+use Rattle.linker_elf.specs.declared.elf.value.Operands.{Operands}
+use Rattle.linker_elf.specs.declared.riscv64.relocations.RiscVRelocation.{RiscVRelocation}
+use Rattle.linker_elf.specs.declared.riscv64.relocations.RiscVRelocation.TheVariants as names
+use Rattle.linker_final.specs.Final.{Linked, count, instruction_at}
+use Rattle.linker_final.specs.Joined.{IsRewrittenAndPacked, IsKeptInstruction}
+use Rattle.linker_final.specs.Packed.{Packed, place_of}
+use Rattle.linker_laws.specs.Machine.{Relocated}
+use Rattle.linker_laws.specs.RiscVMachine.{Action, Hart, register, rs1_of, rs2_of}
+use Rattle.linker_laws.specs.RiscVRewriteLaws.{AreAlike, EndSo, GoOn, HaveOneOffset, IsLowOffset}
+use Rattle.linker_laws.specs.RiscVRewriteLaws.{StoresTheSame, action_at, differs_after}
+use Rattle.linker_laws.specs.RiscVRewriteLaws.{even_in_thread, offset_row, word_of}
+use Rattle.linker_rewriting.specs.Decisions.{decision_at}
+use Rattle.linker_rewriting.specs.declared.decisions.Decision.TheVariants.{Rewritten}
+use Rattle.linker_riscv64.specs.RiscVRewrites.{rd_of, tp}
+use Rattle.linker_runs.specs.declared.packing.Machine.TheVariants.{RiscV64}
+use Rattle.linker_section.specs.Relocations.{relocation_in}
+use Rattle.linker_section.specs.Values.{operands_with}
+use Rattle.linker_section.specs.declared.facts.Symbol.{Symbol}
+use Rattle.linker_utils.specs.declared.architecture.Relaxation.{Relaxation}
+use Rattle.linker_utils.specs.declared.elf.Architecture.TheVariants.{RiscV}
+
+-- what the formula of the relocation at an index takes in the final section
+abbrev pub final_operands : Packed → ℕ → RelocationKindInfo → Symbol → Operands
+final_operands p i row symbol =
+    operands_with RiscV p.addresses row symbol (relocation_in p.relocations_after i) 0
+
+-- the final bytes of an instruction at an offset of the section before
+abbrev pub final_instruction : Packed → ℕ → List ℕ
+final_instruction p o = instruction_at p.final (place_of p o)
+
+-- ---- low parts of offsets from the thread pointer
+
+-- From a base with the thread pointer's number, the object's instruction with the value of its
+-- relocation computes what the final bytes do, where the offset is the same, a number of 12 bits.
+abbrev pub FinalLowPartDoesTheSame : Linked → Packed → ℕ → Action → RelocationKindInfo → Type 0
+FinalLowPartDoesTheSame l p i action row =
+    let o = (relocation_in l.relocations i).offset in
+    let word = word_of (instruction_at l.section o) in
+    (symbol : Symbol)
+    → slice_get p.symbols (relocation_in p.relocations_after i).symbol ≡ Some symbol
+    → (x : Operands) → HaveOneOffset x (final_operands p i row symbol) → IsLowOffset x
+    → (h k : Hart) (differs : ℕ → Bool) (original : List ℕ)
+    → h.pc < 2 ^ 64 → k.pc < 2 ^ 64 → AreAlike differs h k
+    → register h (rs1_of word) ≡ register k tp → StoresTheSame action (rs2_of word) h k
+    → Relocated (offset_row action) x (instruction_at l.section o) original
+    → EndSo 1 original h 1 (final_instruction p o) k (λ a b.
+    AreAlike (differs_after action differs (rd_of word)) a b
+    × GoOn action (rd_of word) (even_in_thread (register k tp) x) (sum_64 h.pc 4) (sum_64 k.pc 4)
+    a b)
+
+-- ---- the laws
+
+-- of every low part that is rewritten, whose instruction then stays
+abbrev pub PackedLowPartsOf : RiscVRelocation → Type 0
+PackedLowPartsOf name =
+    (l : Linked) (p : Packed) → IsRewrittenAndPacked l p → p.machine ≡ RiscV64
+    → (i : ℕ) (chosen : Choice Relaxation ℕ) → i < count l
+    → IsNameOf riscv_name (relocation_in l.relocations i).code name
+    → decision_at l.decisions i ≡ Rewritten chosen → IsKeptInstruction p i
+    → IsSomeAnd (action_at l.section (relocation_in l.relocations i).offset) (λ action.
+    offset_row action ≡ riscv_row name
+    → IsSomeAnd (riscv_row name) (FinalLowPartDoesTheSame l p i action))
+
+abbrev pub PackedLowParts : Type 0
+PackedLowParts =
+    PackedLowPartsOf names.R_RISCV_TPREL_LO12_I × PackedLowPartsOf names.R_RISCV_TPREL_LO12_S
