@@ -1,21 +1,26 @@
 -- RISC-V: rewritten instructions in the final bytes of a section that was packed then.
-use Rattle.std.proofs.Common.{◌≡◌, ℕ, ◌/◌, ◌<◌, length, refl, sym, ap, subst, ◌∙◌, arith, Some, Ok, IsSomeAnd}
+use Rattle.std.proofs.Common.{◌≡◌, ℕ, ◌+◌, ◌/◌, ◌<◌, length, refl, sym, ap, subst, ◌∙◌, arith, Some, Ok, IsSomeAnd}
 use Rattle.std.specs.Prelude.{slice_get}
+use Rattle.linker_base.specs.declared.bit_misc.BitRange.{BitRange}
 use Rattle.linker_elf.specs.Applied.{IsApplied}
 use Rattle.linker_elf.specs.RiscVRelocations.{riscv_row}
+use Rattle.linker_elf.specs.declared.elf.RelocationInstruction.TheVariants as insns
 use Rattle.linker_elf.specs.declared.elf.value.Operands.{Operands}
+use Rattle.linker_elf.specs.declared.riscv64.forms.RiscVInstruction.TheVariants.{IType}
 use Rattle.linker_elf.specs.declared.riscv64.relocations.RiscVRelocation.{RiscVRelocation}
 use Rattle.linker_elf.specs.declared.riscv64.relocations.RiscVRelocation.TheVariants as names
-use Rattle.linker_final.proofs.InstructionFields.{IsOfInstruction, applied}
-use Rattle.linker_final.proofs.PackedBytes.{same_there, places_inside, stay_inside}
+use Rattle.linker_final.proofs.InstructionFields.{IsOfInstruction, applied, applied_found}
+use Rattle.linker_final.proofs.Labels.{low_found}
+use Rattle.linker_final.proofs.PackedBytes.{place_behind, places_inside, same_there, stay_inside}
+use Rattle.linker_final.proofs.RiscVLoads.{got_loads_anywhere, high_after, low_after, of_high}
 use Rattle.linker_final.proofs.RiscVOffsets.{low_i, of_low_i, low_s, of_low_s, low_parts_anywhere, mapped}
 use Rattle.linker_final.proofs.RiscVWritten.{IsAfter, bytes_there, long_there, row_in}
-use Rattle.linker_final.specs.Final.{AreBytes, Linked, count, instruction_at}
+use Rattle.linker_final.specs.Final.{AreBytes, IsRewrittenByNoOther, Linked, count, instruction_at}
 use Rattle.linker_final.specs.Joined.{IsRewrittenAndPacked, IsKeptInstruction}
 use Rattle.linker_final.specs.Packed.{Packed, architecture_of, place_of}
 use Rattle.linker_final.specs.Packed as packed
-use Rattle.linker_final.specs.RiscVFinal.{LowPartsAnywhereOf, named_as}
-use Rattle.linker_final.specs.RiscVJoined.{FinalLowPartDoesTheSame, PackedLowParts, PackedLowPartsOf, final_instruction, final_operands}
+use Rattle.linker_final.specs.RiscVFinal.{LoadsTheSameAnywhere, LowPartsAnywhereOf, named_as}
+use Rattle.linker_final.specs.RiscVJoined.{AreOfFinalLoad, FinalBytesLoadTheSame, FinalLowPartDoesTheSame, PackedGotLoads, PackedLowParts, PackedLowPartsOf, final_instruction, final_operands}
 use Rattle.linker_laws.specs.Machine.{Relocated}
 use Rattle.linker_laws.specs.RiscVRewriteLaws.{Laws, action_at, offset_row}
 use Rattle.linker_runs.specs.declared.packing.Machine.TheVariants.{RiscV64}
@@ -135,3 +140,67 @@ packed_low_parts laws =
       packed_of names.R_RISCV_TPREL_LO12_I low_i of_low_i refl (λ addresses r symbol. refl) (any.0),
       packed_of names.R_RISCV_TPREL_LO12_S low_s of_low_s refl (λ addresses r symbol. refl) (any.1),
     )
+
+-- ---- loads from the GOT
+
+module _ (laws : Laws) (l : Linked) (p : Packed) (joined : IsRewrittenAndPacked l p)
+    (riscv : p.machine ≡ RiscV64) (i j : ℕ) (of : AreOfFinalLoad l p i j)
+    (alone : IsRewrittenByNoOther l i (relocation_in l.relocations i).offset) where
+  abbrev first : Rela
+  first = relocation_in l.relocations i
+
+  abbrev second : Rela
+  second = relocation_in l.relocations j
+
+  any : (relocation_in l.relocations_after i ≡ named_as names.R_RISCV_PCREL_HI20 first first)
+      × (relocation_in l.relocations_after j ≡ named_as names.R_RISCV_PCREL_LO12_I second second)
+      × LoadsTheSameAnywhere l i
+  any =
+      got_loads_anywhere laws l joined.rewritten (joined.architecture ∙ ap architecture_of riscv) i j of.pair alone
+
+  module _ (symbol : Symbol)
+      (is_symbol : slice_get p.symbols (relocation_in p.relocations_after i).symbol ≡ Some symbol) where
+    abbrev y : Operands
+    y = final_operands p i high_after.row symbol
+
+    -- the distance in the `auipc`
+    high : Relocated (Some high_after.row) y (instruction_at l.rewritten first.offset) (final_instruction p first.offset)
+    high =
+        relocated_own l p joined riscv i of.pair.first_below names.R_RISCV_PCREL_HI20 high_after first (any.0) of.high_kept
+        of_high symbol refl is_symbol
+
+    -- and in the `addi`
+    low : Relocated (Some low_after.row) y (instruction_at l.rewritten second.offset) (final_instruction p second.offset)
+    low =
+        let architecture = architecture_of p.machine in
+        let bytes = p.relocations_after in
+        let written = joined.packed.written in
+        let is = machine_is l p joined riscv i of.pair.first_below names.R_RISCV_PCREL_HI20 high_after first (any.0) of.high_kept in
+        let below = within l p joined riscv i of.pair.first_below names.R_RISCV_PCREL_HI20 high_after first (any.0) of.high_kept in
+        let below' = within l p joined riscv j of.pair.second_below names.R_RISCV_PCREL_LO12_I low_after second (any.1) of.low_kept in
+        let row = row_is l p joined riscv i of.pair.first_below names.R_RISCV_PCREL_HI20 high_after first (any.0) of.high_kept in
+        let low_row = row_is l p joined riscv j of.pair.second_below names.R_RISCV_PCREL_LO12_I low_after second (any.1) of.low_kept in
+        let taken : operands_of architecture p.addresses p.symbols high_after.row (relocation_in bytes i) ≡ Ok y =
+        subst (λ x. operands_of x p.addresses p.symbols high_after.row (relocation_in bytes i) ≡ Ok y) (sym is)
+        (ap (operands_in RiscV p.addresses high_after.row (relocation_in bytes i)) is_symbol) in
+        let bits : BitRange = record { start = 0; end = 32 } in
+        relocated l p joined riscv j of.pair.second_below names.R_RISCV_PCREL_LO12_I low_after second (any.1) of.low_kept y
+        (applied_found architecture p.addresses bytes p.symbols p.packed p.final written
+        j below' 4 (omega arith) low_after.row bits (insns.RiscV IType) refl refl refl refl y
+        (low_found architecture p.addresses bytes p.symbols p.packed written.can.apart
+        i below high_after.row row refl y taken (relocation_in bytes j) low_after.row low_row refl refl
+        of.label of.label_is of.labels tt (written.can.found j) (written.can.are_found j below')))
+
+  loads_the_same : FinalBytesLoadTheSame l p i high_after.row
+  loads_the_same over not_zero symbol is_symbol x small new_small h k auipc_of ld_of holds at new_at alike of_auipc of_ld =
+      let o = first.offset in
+      let there = stay l p joined riscv i of.pair.first_below names.R_RISCV_PCREL_HI20 high_after first (any.0) of.high_kept in
+      let behind : place_of p (o + 4) ≡ place_of p o + 4 = place_behind p joined.packed o 4 (omega arith) there in
+      let lower : Relocated (Some low_after.row) (y symbol is_symbol) (instruction_at l.rewritten (o + 4)) (instruction_at p.final (place_of p o + 4)) =
+      subst (λ q. Relocated (Some low_after.row) (y symbol is_symbol) (instruction_at l.rewritten (o + 4)) (instruction_at p.final q)) behind
+      (subst (λ n. Relocated (Some low_after.row) (y symbol is_symbol) (instruction_at l.rewritten n) (final_instruction p n)) of.pair.next (low symbol is_symbol)) in
+      (any.2) over not_zero x (y symbol is_symbol) small new_small h k auipc_of ld_of
+      (final_instruction p o) (instruction_at p.final (place_of p o + 4)) holds at new_at alike of_auipc of_ld (high symbol is_symbol) lower
+
+pub packed_got_loads : Laws → PackedGotLoads
+packed_got_loads laws l p joined riscv i j of alone = loads_the_same laws l p joined riscv i j of alone

@@ -1,22 +1,26 @@
 -- RISC-V: in the final bytes of a section that was rewritten and then packed, rewritten instructions
 -- do what the object's do with the values of their relocations.
-use Rattle.std.specs.Prelude.{◌≡◌, ℕ, ◌<◌, ◌^◌, Bool, List, Some, IsSomeAnd, slice_get}
+use Rattle.std.specs.Prelude.{◌≡◌, ◌≢◌, ℕ, ◌+◌, ◌<◌, ◌^◌, Bool, List, ◌++◌, Some, IsSomeAnd}
+use Rattle.std.specs.Prelude.{slice_get}
 use Rattle.linker_elf.specs.ElfNames.{IsNameOf}
 use Rattle.linker_elf.specs.RiscVRelocations.{riscv_name, riscv_row}
-use Rattle.linker_elf.specs.Value.{sum_64}
+use Rattle.linker_elf.specs.Value.{sum_64, difference_64}
 use Rattle.linker_elf.specs.declared.elf.RelocationKindInfo.{RelocationKindInfo}
 use Rattle.linker_elf.specs.declared.elf.choice.Choice.{Choice}
 use Rattle.linker_elf.specs.declared.elf.value.Operands.{Operands}
 use Rattle.linker_elf.specs.declared.riscv64.relocations.RiscVRelocation.{RiscVRelocation}
 use Rattle.linker_elf.specs.declared.riscv64.relocations.RiscVRelocation.TheVariants as names
-use Rattle.linker_final.specs.Final.{Linked, count, instruction_at}
+use Rattle.linker_final.specs.Final.{IsRewrittenByNoOther, Linked, count, instruction_at}
 use Rattle.linker_final.specs.Joined.{IsRewrittenAndPacked, IsKeptInstruction}
 use Rattle.linker_final.specs.Packed.{Packed, place_of}
-use Rattle.linker_laws.specs.Machine.{Relocated}
+use Rattle.linker_final.specs.RiscVFinal.{AreOfPair}
+use Rattle.linker_laws.specs.Machine.{Relocated, loaded}
 use Rattle.linker_laws.specs.RiscVMachine.{Action, Hart, register, rs1_of, rs2_of}
-use Rattle.linker_laws.specs.RiscVRewriteLaws.{AreAlike, EndSo, GoOn, HaveOneOffset, IsLowOffset}
+use Rattle.linker_laws.specs.RiscVRewriteLaws.{AreAlike, EndSo, GoOn, HaveAddress}
+use Rattle.linker_laws.specs.RiscVRewriteLaws.{HaveOneOffset, IsLowOffset, no_register, of_entry}
 use Rattle.linker_laws.specs.RiscVRewriteLaws.{StoresTheSame, action_at, differs_after}
 use Rattle.linker_laws.specs.RiscVRewriteLaws.{even_in_thread, offset_row, word_of}
+use Rattle.linker_laws.specs.Schemes.{AreAddresses, entry_and_addend, symbol_address}
 use Rattle.linker_rewriting.specs.Decisions.{decision_at}
 use Rattle.linker_rewriting.specs.declared.decisions.Decision.TheVariants.{Rewritten}
 use Rattle.linker_riscv64.specs.RiscVRewrites.{rd_of, tp}
@@ -35,6 +39,43 @@ final_operands p i row symbol =
 -- the final bytes of an instruction at an offset of the section before
 abbrev pub final_instruction : Packed → ℕ → List ℕ
 final_instruction p o = instruction_at p.final (place_of p o)
+
+-- ---- loads of addresses from the GOT
+
+-- The relocations at two indexes are those of an `auipc` and of the `ld` behind it, which both are
+-- rewritten, and stay then. In the final section the symbol of the second labels the `auipc`.
+pub record AreOfFinalLoad (l : Linked) (p : Packed) (i j : ℕ) : Type 0 where
+  pub pair : AreOfPair l i j
+  pub high_kept : IsKeptInstruction p i
+  pub low_kept : IsKeptInstruction p j
+  pub label : Symbol
+  pub label_is : slice_get p.symbols (relocation_in p.relocations_after j).symbol ≡ Some label
+  pub labels : difference_64 label.address p.addresses.section
+      ≡ (relocation_in p.relocations_after i).offset
+
+-- Where the entry holds S + A, the object's `auipc` and `ld` with the values of their relocations
+-- leave it in the register of the `ld`. The final bytes leave S + A of the final layout there. Of
+-- other registers only that of the `auipc` may differ.
+abbrev pub FinalBytesLoadTheSame : Linked → Packed → ℕ → RelocationKindInfo → Type 0
+FinalBytesLoadTheSame l p i row =
+    let o = (relocation_in l.relocations i).offset in
+    let auipc = instruction_at l.section o in
+    let ld = instruction_at l.section (o + 4) in
+    let base = rd_of (word_of auipc) in
+    rs1_of (word_of ld) ≡ base → base ≢ 0
+    → (symbol : Symbol)
+    → slice_get p.symbols (relocation_in p.relocations_after i).symbol ≡ Some symbol
+    → let y = final_operands p i row symbol in
+    (x : Operands) → AreAddresses x → AreAddresses y
+    → (h k : Hart) (auipc_of ld_of : List ℕ)
+    → loaded 8 h.memory (entry_and_addend x) ≡ symbol_address x
+    → h.pc ≡ x.place → k.pc ≡ y.place → AreAlike no_register h k
+    → Relocated (riscv_row names.R_RISCV_GOT_HI20) x auipc auipc_of
+    → Relocated (riscv_row names.R_RISCV_PCREL_LO12_I) (of_entry x) ld ld_of
+    → EndSo 2 (auipc_of ++ ld_of) h 2
+    (instruction_at p.final (place_of p o) ++ instruction_at p.final (place_of p o + 4)) k
+    (HaveAddress base (rd_of (word_of ld)) (symbol_address x) (symbol_address y) (sum_64 h.pc 8)
+    (sum_64 k.pc 8))
 
 -- ---- low parts of offsets from the thread pointer
 
@@ -57,6 +98,15 @@ FinalLowPartDoesTheSame l p i action row =
     a b)
 
 -- ---- the laws
+
+-- of every load of an address from the GOT that is rewritten, where no other rewrite has a byte of
+-- the `auipc`
+abbrev pub PackedGotLoads : Type 0
+PackedGotLoads =
+    (l : Linked) (p : Packed) → IsRewrittenAndPacked l p → p.machine ≡ RiscV64
+    → (i j : ℕ) → AreOfFinalLoad l p i j
+    → IsRewrittenByNoOther l i (relocation_in l.relocations i).offset
+    → IsSomeAnd (riscv_row names.R_RISCV_PCREL_HI20) (FinalBytesLoadTheSame l p i)
 
 -- of every low part that is rewritten, whose instruction then stays
 abbrev pub PackedLowPartsOf : RiscVRelocation → Type 0
