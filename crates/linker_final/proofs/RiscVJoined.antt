@@ -4,6 +4,7 @@ use Rattle.std.specs.Prelude.{slice_get}
 use Rattle.linker_base.specs.declared.bit_misc.BitRange.{BitRange}
 use Rattle.linker_elf.specs.Applied.{IsApplied}
 use Rattle.linker_elf.specs.RiscVRelocations.{riscv_row}
+use Rattle.linker_elf.specs.Value.{value_of}
 use Rattle.linker_elf.specs.declared.elf.RelocationInstruction.TheVariants as insns
 use Rattle.linker_elf.specs.declared.elf.value.Operands.{Operands}
 use Rattle.linker_elf.specs.declared.riscv64.forms.RiscVInstruction.TheVariants.{IType}
@@ -12,17 +13,21 @@ use Rattle.linker_elf.specs.declared.riscv64.relocations.RiscVRelocation.TheVari
 use Rattle.linker_final.proofs.InstructionFields.{IsOfInstruction, applied, applied_found}
 use Rattle.linker_final.proofs.Labels.{low_found}
 use Rattle.linker_final.proofs.PackedBytes.{place_behind, places_inside, same_there, stay_inside}
+use Rattle.linker_final.proofs.RiscVDescriptors.{descriptors_anywhere, high_tp, of_high_tp, short_descriptors_anywhere}
 use Rattle.linker_final.proofs.RiscVLoads.{got_loads_anywhere, high_after, low_after, of_high}
 use Rattle.linker_final.proofs.RiscVOffsets.{low_i, of_low_i, low_s, of_low_s, low_parts_anywhere, mapped}
 use Rattle.linker_final.proofs.RiscVWritten.{IsAfter, bytes_there, long_there, row_in}
+use Rattle.linker_final.proofs.Written.{rela, with_operands}
 use Rattle.linker_final.specs.Final.{AreBytes, IsRewrittenByNoOther, Linked, count, instruction_at}
 use Rattle.linker_final.specs.Joined.{IsRewrittenAndPacked, IsKeptInstruction}
 use Rattle.linker_final.specs.Packed.{Packed, architecture_of, place_of}
 use Rattle.linker_final.specs.Packed as packed
-use Rattle.linker_final.specs.RiscVFinal.{LoadsTheSameAnywhere, LowPartsAnywhereOf, named_as}
-use Rattle.linker_final.specs.RiscVJoined.{AreOfFinalLoad, FinalBytesLoadTheSame, FinalLowPartDoesTheSame, PackedGotLoads, PackedLowParts, PackedLowPartsOf, final_instruction, final_operands}
+use Rattle.linker_final.specs.RiscVFinal.{IsOfDescriptor, LoadsTheSameAnywhere, LowPartsAnywhereOf, named_as}
+use Rattle.linker_final.specs.RiscVJoined.{AreOfFinalLoad, FinalBytesLoadTheSame, FinalLowPartDoesTheSame, PackedDescriptors, PackedGotLoads, PackedLowParts, PackedLowPartsOf, PackedShortDescriptors, final_instruction, final_operands}
 use Rattle.linker_laws.specs.Machine.{Relocated}
 use Rattle.linker_laws.specs.RiscVRewriteLaws.{Laws, action_at, offset_row}
+use Rattle.linker_riscv64.specs.declared.rewrites.RelaxationKind.{RelaxationKind}
+use Rattle.linker_riscv64.specs.declared.rewrites.RelaxationKind.TheVariants as kinds
 use Rattle.linker_runs.specs.declared.packing.Machine.TheVariants.{RiscV64}
 use Rattle.linker_section.specs.Needed.{entry_of}
 use Rattle.linker_section.specs.Relocations.{relocation_in}
@@ -55,6 +60,13 @@ module _ (l : Linked) (p : Packed) (joined : IsRewrittenAndPacked l p) (riscv : 
 
   before_is : relocation_in p.relocations i ≡ named_as name (relocation_in l.relocations i) subject
   before_is = ap (λ bytes. relocation_in bytes i) joined.relocations ∙ after_is
+
+  -- of the same symbol, with the same addend
+  pub symbol_is : after.symbol ≡ subject.symbol
+  symbol_is = (joined.packed.translated i within).symbol ∙ ap (λ (x : Rela). x.symbol) before_is
+
+  pub addend_is : after.addend ≡ subject.addend
+  addend_is = (joined.packed.translated i within).addend ∙ ap (λ (x : Rela). x.addend) before_is
 
   offset_is : offset_at p.relocations i ≡ o
   offset_is = ap (λ (x : Rela). x.offset) before_is
@@ -204,3 +216,108 @@ module _ (laws : Laws) (l : Linked) (p : Packed) (joined : IsRewrittenAndPacked 
 
 pub packed_got_loads : Laws → PackedGotLoads
 packed_got_loads laws l p joined riscv i j of alone = loads_the_same laws l p joined riscv i j of alone
+
+-- ---- TLS descriptors
+
+-- the `jalr` of a descriptor, which became an `addi`
+module _ (l : Linked) (p : Packed) (joined : IsRewrittenAndPacked l p) (riscv : p.machine ≡ RiscV64)
+    (high call : ℕ) (kind : RelaxationKind)
+    (of_call : IsOfDescriptor l high names.R_RISCV_TLSDESC_CALL 12 kind call)
+    (call_after : relocation_in l.relocations_after call
+    ≡ named_as names.R_RISCV_TPREL_LO12_I (relocation_in l.relocations call) (relocation_in l.relocations high))
+    (kept : IsKeptInstruction p call)
+    (symbol : Symbol)
+    (is_symbol : slice_get p.symbols (relocation_in p.relocations_after call).symbol ≡ Some symbol) where
+  abbrev start : ℕ
+  start = (relocation_in l.relocations high).offset
+
+  pub call_relocated : Relocated (Some low_i.row) (final_operands p call low_i.row symbol)
+      (instruction_at l.rewritten (start + 12)) (final_instruction p (start + 12))
+  call_relocated =
+      let y = final_operands p call low_i.row symbol in
+      subst (λ n. Relocated (Some low_i.row) y (instruction_at l.rewritten n) (final_instruction p n)) of_call.behind
+      (relocated_own l p joined riscv call of_call.below names.R_RISCV_TPREL_LO12_I low_i (relocation_in l.relocations high)
+      call_after kept of_low_i symbol refl is_symbol)
+
+pub packed_short_descriptors : Laws → PackedShortDescriptors
+packed_short_descriptors laws l p joined riscv high call of_call kept symbol is_symbol x one is_low function c h k auipc_of ld_of addi_of ran small alike =
+    let any = short_descriptors_anywhere laws l joined.rewritten (joined.architecture ∙ ap architecture_of riscv) high call of_call in
+    let place = (relocation_in l.relocations high).offset in
+    (any.1) x (final_operands p call low_i.row symbol) one is_low function c h k auipc_of ld_of addi_of
+    (final_instruction p (place + 12)) ran small alike
+    (call_relocated l p joined riscv high call kinds.CallToAddiZero of_call (any.0) kept symbol is_symbol)
+
+-- the `addi`, which became a `lui`
+module _ (l : Linked) (p : Packed) (joined : IsRewrittenAndPacked l p) (riscv : p.machine ≡ RiscV64)
+    (high add call : ℕ)
+    (of_add : IsOfDescriptor l high names.R_RISCV_TLSDESC_ADD_LO12 8 kinds.AddiToLui add)
+    (of_call : IsOfDescriptor l high names.R_RISCV_TLSDESC_CALL 12 kinds.CallToAddi call)
+    (add_after : relocation_in l.relocations_after add
+    ≡ named_as names.R_RISCV_TPREL_HI20 (relocation_in l.relocations add) (relocation_in l.relocations high))
+    (call_after : relocation_in l.relocations_after call
+    ≡ named_as names.R_RISCV_TPREL_LO12_I (relocation_in l.relocations call) (relocation_in l.relocations high))
+    (add_kept : IsKeptInstruction p add) (call_kept : IsKeptInstruction p call) where
+  abbrev sequence : ℕ
+  sequence = (relocation_in l.relocations high).offset
+
+  abbrev subject : Rela
+  subject = relocation_in l.relocations high
+
+  abbrev add' : Rela
+  add' = relocation_in p.relocations_after add
+
+  abbrev call' : Rela
+  call' = relocation_in p.relocations_after call
+
+  same_symbol : add'.symbol ≡ call'.symbol
+  same_symbol =
+      symbol_is l p joined riscv add of_add.below names.R_RISCV_TPREL_HI20 high_tp subject add_after add_kept
+      ∙ sym (symbol_is l p joined riscv call of_call.below names.R_RISCV_TPREL_LO12_I low_i subject call_after call_kept)
+
+  same_addend : call'.addend ≡ add'.addend
+  same_addend =
+      addend_is l p joined riscv call of_call.below names.R_RISCV_TPREL_LO12_I low_i subject call_after call_kept
+      ∙ sym (addend_is l p joined riscv add of_add.below names.R_RISCV_TPREL_HI20 high_tp subject add_after add_kept)
+
+  -- by the operands of the `jalr`, which is for the same variable
+  pub add_relocated : (symbol : Symbol) → slice_get p.symbols call'.symbol ≡ Some symbol
+      → Relocated (Some high_tp.row) (final_operands p call low_i.row symbol)
+      (instruction_at l.rewritten (sequence + 8)) (final_instruction p (sequence + 8))
+  add_relocated symbol is_symbol =
+      let y = final_operands p call low_i.row symbol in
+      let own = relocated_own l p joined riscv add of_add.below names.R_RISCV_TPREL_HI20 high_tp subject add_after add_kept
+      of_high_tp symbol refl (ap (slice_get p.symbols) same_symbol ∙ is_symbol) in
+      let there = (relocation_in l.relocations add).offset in
+      let same_value : value_of high_tp.row y ≡ value_of high_tp.row (final_operands p add high_tp.row symbol) =
+      ap (λ z. value_of high_tp.row (operands_with RiscV p.addresses low_i.row symbol (rela 0 0 0 z) 0)) same_addend in
+      let one : Relocated (Some high_tp.row) y (instruction_at l.rewritten there) (final_instruction p there) =
+      record {
+        applied =
+            with_operands high_tp.row (final_operands p add high_tp.row symbol) y (instruction_at l.rewritten there)
+            (final_instruction p there) same_value own.applied;
+        len = own.len;
+        old_bytes = own.old_bytes;
+        bytes = own.bytes;
+      } in
+      subst (λ n. Relocated (Some high_tp.row) y (instruction_at l.rewritten n) (final_instruction p n)) of_add.behind one
+
+  -- the `jalr` is behind it
+  pub call_behind : place_of p (sequence + 12) ≡ place_of p (sequence + 8) + 4
+  call_behind =
+      let there = stay l p joined riscv add of_add.below names.R_RISCV_TPREL_HI20 high_tp subject add_after add_kept in
+      let e : sequence + 12 ≡ sequence + 8 + 4 = omega arith in
+      ap (place_of p) e
+      ∙ place_behind p joined.packed (sequence + 8) 4 (omega arith) (subst (λ n. packed.StayTogether p n 4) of_add.behind there)
+
+pub packed_descriptors : Laws → PackedDescriptors
+packed_descriptors laws l p joined riscv high add call of_add of_call add_kept call_kept symbol is_symbol x one addresses function c h k auipc_of ld_of addi_of ran small alike =
+    let any = descriptors_anywhere laws l joined.rewritten (joined.architecture ∙ ap architecture_of riscv) high add call of_add of_call in
+    let o = (relocation_in l.relocations high).offset in
+    let y = final_operands p call low_i.row symbol in
+    let low : Relocated (Some low_i.row) y (instruction_at l.rewritten (o + 12)) (instruction_at p.final (place_of p (o + 8) + 4)) =
+    subst (λ q. Relocated (Some low_i.row) y (instruction_at l.rewritten (o + 12)) (instruction_at p.final q))
+    (call_behind l p joined riscv high add call of_add of_call (any.0) (any.1) add_kept call_kept)
+    (call_relocated l p joined riscv high call kinds.CallToAddi of_call (any.1) call_kept symbol is_symbol) in
+    (any.2) x y one addresses function c h k auipc_of ld_of addi_of
+    (final_instruction p (o + 8)) (instruction_at p.final (place_of p (o + 8) + 4)) ran small alike
+    (add_relocated l p joined riscv high add call of_add of_call (any.0) (any.1) add_kept call_kept symbol is_symbol) low

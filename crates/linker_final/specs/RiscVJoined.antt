@@ -1,7 +1,7 @@
--- RISC-V: in the final bytes of a section that was rewritten and then packed, rewritten instructions
--- do what the object's do with the values of their relocations.
+-- RISC-V: in the final bytes of a section that was rewritten and then packed, rewritten
+-- instructions do what the object's do with the values of their relocations.
 use Rattle.std.specs.Prelude.{◌≡◌, ◌≢◌, ℕ, ◌+◌, ◌<◌, ◌^◌, Bool, List, ◌++◌, Some, IsSomeAnd}
-use Rattle.std.specs.Prelude.{slice_get}
+use Rattle.std.specs.Prelude.{Option, slice_get}
 use Rattle.linker_elf.specs.ElfNames.{IsNameOf}
 use Rattle.linker_elf.specs.RiscVRelocations.{riscv_name, riscv_row}
 use Rattle.linker_elf.specs.Value.{sum_64, difference_64}
@@ -13,10 +13,10 @@ use Rattle.linker_elf.specs.declared.riscv64.relocations.RiscVRelocation.TheVari
 use Rattle.linker_final.specs.Final.{IsRewrittenByNoOther, Linked, count, instruction_at}
 use Rattle.linker_final.specs.Joined.{IsRewrittenAndPacked, IsKeptInstruction}
 use Rattle.linker_final.specs.Packed.{Packed, place_of}
-use Rattle.linker_final.specs.RiscVFinal.{AreOfPair}
+use Rattle.linker_final.specs.RiscVFinal.{AreOfPair, EndsAsReturned, IsOfDescriptor, RunsToCall}
 use Rattle.linker_laws.specs.Machine.{Relocated, loaded}
 use Rattle.linker_laws.specs.RiscVMachine.{Action, Hart, register, rs1_of, rs2_of}
-use Rattle.linker_laws.specs.RiscVRewriteLaws.{AreAlike, EndSo, GoOn, HaveAddress}
+use Rattle.linker_laws.specs.RiscVRewriteLaws.{AreAlike, Changes, EndSo, GoOn, HaveAddress}
 use Rattle.linker_laws.specs.RiscVRewriteLaws.{HaveOneOffset, IsLowOffset, no_register, of_entry}
 use Rattle.linker_laws.specs.RiscVRewriteLaws.{StoresTheSame, action_at, differs_after}
 use Rattle.linker_laws.specs.RiscVRewriteLaws.{even_in_thread, offset_row, word_of}
@@ -24,6 +24,7 @@ use Rattle.linker_laws.specs.Schemes.{AreAddresses, entry_and_addend, symbol_add
 use Rattle.linker_rewriting.specs.Decisions.{decision_at}
 use Rattle.linker_rewriting.specs.declared.decisions.Decision.TheVariants.{Rewritten}
 use Rattle.linker_riscv64.specs.RiscVRewrites.{rd_of, tp}
+use Rattle.linker_riscv64.specs.declared.rewrites.RelaxationKind.TheVariants as kinds
 use Rattle.linker_runs.specs.declared.packing.Machine.TheVariants.{RiscV64}
 use Rattle.linker_section.specs.Relocations.{relocation_in}
 use Rattle.linker_section.specs.Values.{operands_with}
@@ -97,6 +98,36 @@ FinalLowPartDoesTheSame l p i action row =
     × GoOn action (rd_of word) (even_in_thread (register k tp) x) (sum_64 h.pc 4) (sum_64 k.pc 4)
     a b)
 
+-- ---- TLS descriptors
+
+-- The object's sequence, whose high part is at an index, runs to the call with the values of its
+-- relocations. The `addi` and the `jalr` that were rewritten end in the final bytes as the function
+-- returns, where the offset is the same. The second index is that of the call.
+abbrev pub FinalOffsetIsTheSame : Linked → Packed → ℕ → ℕ → RelocationKindInfo → Type 0
+FinalOffsetIsTheSame l p high last row =
+    let o = (relocation_in l.relocations high).offset in
+    (symbol : Symbol)
+    → slice_get p.symbols (relocation_in p.relocations_after last).symbol ≡ Some symbol
+    → let y = final_operands p last row symbol in
+    (x : Operands) → HaveOneOffset x y → AreAddresses y
+    → (call : Hart → Option Hart) (c : Changes) (h k : Hart) (auipc_of ld_of addi_of : List ℕ)
+    → RunsToCall l o call c x h auipc_of ld_of addi_of → k.pc < 2 ^ 64 → AreAlike no_register h k
+    → let place = place_of p (o + 8) in
+    EndsAsReturned l o call c h auipc_of ld_of addi_of 2
+    (instruction_at p.final place ++ instruction_at p.final (place + 4)) k
+
+-- So does the `jalr` alone, where the offset is a number of 12 bits.
+abbrev pub FinalShortOffsetIsTheSame : Linked → Packed → ℕ → ℕ → RelocationKindInfo → Type 0
+FinalShortOffsetIsTheSame l p high last row =
+    let o = (relocation_in l.relocations high).offset in
+    (symbol : Symbol)
+    → slice_get p.symbols (relocation_in p.relocations_after last).symbol ≡ Some symbol
+    → let y = final_operands p last row symbol in
+    (x : Operands) → HaveOneOffset x y → IsLowOffset y
+    → (call : Hart → Option Hart) (c : Changes) (h k : Hart) (auipc_of ld_of addi_of : List ℕ)
+    → RunsToCall l o call c x h auipc_of ld_of addi_of → k.pc < 2 ^ 64 → AreAlike no_register h k
+    → EndsAsReturned l o call c h auipc_of ld_of addi_of 1 (final_instruction p (o + 12)) k
+
 -- ---- the laws
 
 -- of every load of an address from the GOT that is rewritten, where no other rewrite has a byte of
@@ -122,3 +153,22 @@ PackedLowPartsOf name =
 abbrev pub PackedLowParts : Type 0
 PackedLowParts =
     PackedLowPartsOf names.R_RISCV_TPREL_LO12_I × PackedLowPartsOf names.R_RISCV_TPREL_LO12_S
+
+-- of every sequence of a TLS descriptor whose last two instructions, or last one, became those of
+-- local-exec, and stay then
+abbrev pub PackedDescriptors : Type 0
+PackedDescriptors =
+    (l : Linked) (p : Packed) → IsRewrittenAndPacked l p → p.machine ≡ RiscV64
+    → (high add call : ℕ)
+    → IsOfDescriptor l high names.R_RISCV_TLSDESC_ADD_LO12 8 kinds.AddiToLui add
+    → IsOfDescriptor l high names.R_RISCV_TLSDESC_CALL 12 kinds.CallToAddi call
+    → IsKeptInstruction p add → IsKeptInstruction p call
+    → IsSomeAnd (riscv_row names.R_RISCV_TPREL_LO12_I) (FinalOffsetIsTheSame l p high call)
+
+abbrev pub PackedShortDescriptors : Type 0
+PackedShortDescriptors =
+    (l : Linked) (p : Packed) → IsRewrittenAndPacked l p → p.machine ≡ RiscV64
+    → (high call : ℕ)
+    → IsOfDescriptor l high names.R_RISCV_TLSDESC_CALL 12 kinds.CallToAddiZero call
+    → IsKeptInstruction p call
+    → IsSomeAnd (riscv_row names.R_RISCV_TPREL_LO12_I) (FinalShortOffsetIsTheSame l p high call)

@@ -1,4 +1,4 @@
-use Rattle.linker_final.proofs.RiscVJoined.{packed_got_loads, packed_low_parts}
+use Rattle.linker_final.proofs.RiscVJoined.{packed_descriptors, packed_got_loads, packed_low_parts, packed_short_descriptors}
 use Rattle.linker_final.proofs.packed.joined_riscv64.Goals as goal
 
 pub returns : goal.returns
@@ -7,4 +7,6 @@ returns c =
     record {
       got_loads = packed_got_loads laws;
       low_parts = packed_low_parts laws;
+      descriptors = packed_descriptors laws;
+      short_descriptors = packed_short_descriptors laws;
     }
