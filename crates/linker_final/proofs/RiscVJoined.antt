@@ -1,18 +1,19 @@
 -- RISC-V: rewritten instructions in the final bytes of a section that was packed then.
-use Rattle.std.proofs.Common.{◌≡◌, ℕ, ◌+◌, ◌/◌, ◌<◌, length, refl, sym, ap, subst, ◌∙◌, arith, Some, Ok, IsSomeAnd}
+use Rattle.std.proofs.Common.{◌≡◌, ℕ, ◌+◌, ◌<◌, refl, sym, ap, subst, ◌∙◌, arith, Some, Ok, IsSomeAnd}
 use Rattle.std.specs.Prelude.{slice_get}
 use Rattle.linker_base.specs.declared.bit_misc.BitRange.{BitRange}
 use Rattle.linker_elf.specs.Applied.{IsApplied}
-use Rattle.linker_elf.specs.RiscVRelocations.{riscv_row}
+use Rattle.linker_elf.specs.ElfNames.{code_of}
+use Rattle.linker_elf.specs.RiscVRelocations.{riscv_name, riscv_row}
 use Rattle.linker_elf.specs.Value.{value_of}
 use Rattle.linker_elf.specs.declared.elf.RelocationInstruction.TheVariants as insns
 use Rattle.linker_elf.specs.declared.elf.value.Operands.{Operands}
 use Rattle.linker_elf.specs.declared.riscv64.forms.RiscVInstruction.TheVariants.{IType}
 use Rattle.linker_elf.specs.declared.riscv64.relocations.RiscVRelocation.{RiscVRelocation}
 use Rattle.linker_elf.specs.declared.riscv64.relocations.RiscVRelocation.TheVariants as names
-use Rattle.linker_final.proofs.InstructionFields.{IsOfInstruction, applied, applied_found}
+use Rattle.linker_final.proofs.InstructionFields.{IsOfInstruction, applied_found}
+use Rattle.linker_final.proofs.Joined.{behind, code_is, addend_is, final_inside, kept_there, own_there, rewritten_inside, symbol_is, within}
 use Rattle.linker_final.proofs.Labels.{low_found}
-use Rattle.linker_final.proofs.PackedBytes.{place_behind, places_inside, same_there, stay_inside}
 use Rattle.linker_final.proofs.RiscVDescriptors.{descriptors_anywhere, high_tp, of_high_tp, short_descriptors_anywhere}
 use Rattle.linker_final.proofs.RiscVLoads.{got_loads_anywhere, high_after, low_after, of_high}
 use Rattle.linker_final.proofs.RiscVOffsets.{low_i, of_low_i, low_s, of_low_s, low_parts_anywhere, mapped}
@@ -21,7 +22,6 @@ use Rattle.linker_final.proofs.Written.{rela, with_operands}
 use Rattle.linker_final.specs.Final.{AreBytes, IsRewrittenByNoOther, Linked, count, instruction_at}
 use Rattle.linker_final.specs.Joined.{IsRewrittenAndPacked, IsKeptInstruction}
 use Rattle.linker_final.specs.Packed.{Packed, architecture_of, place_of}
-use Rattle.linker_final.specs.Packed as packed
 use Rattle.linker_final.specs.RiscVFinal.{IsOfDescriptor, LoadsTheSameAnywhere, LowPartsAnywhereOf, named_as}
 use Rattle.linker_final.specs.RiscVJoined.{AreOfFinalLoad, FinalBytesLoadTheSame, FinalLowPartDoesTheSame, PackedDescriptors, PackedGotLoads, PackedLowParts, PackedLowPartsOf, PackedShortDescriptors, final_instruction, final_operands}
 use Rattle.linker_laws.specs.Machine.{Relocated}
@@ -31,7 +31,7 @@ use Rattle.linker_riscv64.specs.declared.rewrites.RelaxationKind.TheVariants as 
 use Rattle.linker_runs.specs.declared.packing.Machine.TheVariants.{RiscV64}
 use Rattle.linker_section.specs.Needed.{entry_of}
 use Rattle.linker_section.specs.Relocations.{relocation_in}
-use Rattle.linker_section.specs.Values.{entry_address, offset_at, operands_by, operands_in, operands_of, operands_with}
+use Rattle.linker_section.specs.Values.{entry_address, operands_by, operands_in, operands_of, operands_with}
 use Rattle.linker_section.specs.declared.facts.Addresses.{Addresses}
 use Rattle.linker_section.specs.declared.facts.Symbol.{Symbol}
 use Rattle.linker_section.specs.declared.relocations.Rela.{Rela}
@@ -50,61 +50,27 @@ module _ (l : Linked) (p : Packed) (joined : IsRewrittenAndPacked l p) (riscv : 
   abbrev after : Rela
   after = relocation_in p.relocations_after i
 
-  pub machine_is : architecture_of p.machine ≡ RiscV
-  machine_is = ap architecture_of riscv
-
-  pub within : i < packed.count p
-  within =
-      subst (λ n. i < n / 24)
-      (sym (joined.packed.as_many ∙ (ap length joined.relocations ∙ joined.as_many))) below
-
-  before_is : relocation_in p.relocations i ≡ named_as name (relocation_in l.relocations i) subject
-  before_is = ap (λ bytes. relocation_in bytes i) joined.relocations ∙ after_is
-
-  -- of the same symbol, with the same addend
-  pub symbol_is : after.symbol ≡ subject.symbol
-  symbol_is = (joined.packed.translated i within).symbol ∙ ap (λ (x : Rela). x.symbol) before_is
-
-  pub addend_is : after.addend ≡ subject.addend
-  addend_is = (joined.packed.translated i within).addend ∙ ap (λ (x : Rela). x.addend) before_is
-
-  offset_is : offset_at p.relocations i ≡ o
-  offset_is = ap (λ (x : Rela). x.offset) before_is
-
-  pub stay : packed.StayTogether p o 4
-  stay = subst (λ n. packed.StayTogether p n 4) offset_is kept.bytes
-
-  pub place_is : offset_at p.relocations_after i ≡ place_of p o
-  place_is = (joined.packed.translated i within).offset ∙ ap (place_of p) offset_is
+  abbrev code : ℕ
+  code = code_of (riscv_name name)
 
   pub row_is : IsRow (architecture_of p.machine) after.code (Some a.row)
   row_is =
-      subst (λ x. IsRow x after.code (Some a.row)) (sym machine_is)
-      (row_in (architecture_of p.machine) machine_is after name a
-      (kept.code ∙ ap (λ (x : Rela). x.code) before_is) p.addresses p.relocations_after p.symbols
-      (joined.packed.written.can.found i) (joined.packed.written.can.are_found i within))
+      subst (λ x. IsRow x after.code (Some a.row)) (sym (ap architecture_of riscv))
+      (row_in (architecture_of p.machine) (ap architecture_of riscv) after name a
+      (code_is l p joined i below code subject.symbol subject.addend after_is kept) p.addresses p.relocations_after p.symbols
+      (joined.packed.written.can.found i)
+      (joined.packed.written.can.are_found i (within l p joined i below code subject.symbol subject.addend after_is kept)))
 
-  -- with what was applied to its bytes
-  pub relocated : (y : Operands)
-      → IsApplied a.row y (instruction_at p.packed (offset_at p.relocations_after i)) (instruction_at p.final (offset_at p.relocations_after i))
+  pub relocated : (y : Operands) → IsApplied a.row y (instruction_at l.rewritten o) (final_instruction p o)
       → Relocated (Some a.row) y (instruction_at l.rewritten o) (final_instruction p o)
   relocated y there =
-      let is = joined.packed in
-      let same : instruction_at p.packed (place_of p o) ≡ instruction_at l.rewritten o =
-      same_there p is o 4 (omega arith) stay ∙ ap (λ bytes. instruction_at bytes o) joined.bytes in
-      let here : IsApplied a.row y (instruction_at p.packed (place_of p o)) (instruction_at p.final (place_of p o)) =
-      subst (λ n. IsApplied a.row y (instruction_at p.packed n) (instruction_at p.final n)) place_is there in
-      let inside = stay_inside p is o 4 (omega arith) stay in
-      let places = places_inside p is o 4 (omega arith) stay in
-      let len = ap length joined.bytes in
-      let same_length = is.written.same_length in
       record {
-        applied = subst (λ bytes. IsApplied a.row y bytes (instruction_at p.final (place_of p o))) same here;
+        applied = there;
         len =
-            long_there p.final (place_of p o) (omega (arith, places, same_length))
-            ∙ sym (long_there l.rewritten o (omega (arith, inside, len)));
-        old_bytes = bytes_there l.rewritten o (subst AreBytes joined.bytes is.section_bytes);
-        bytes = bytes_there p.final (place_of p o) is.final_bytes;
+            long_there p.final (place_of p o) (final_inside l p joined i below code subject.symbol subject.addend after_is kept)
+            ∙ sym (long_there l.rewritten o (rewritten_inside l p joined i below code subject.symbol subject.addend after_is kept));
+        old_bytes = bytes_there l.rewritten o (subst AreBytes joined.bytes joined.packed.section_bytes);
+        bytes = bytes_there p.final (place_of p o) joined.packed.final_bytes;
       }
 
   -- with the value of its own symbol
@@ -115,13 +81,14 @@ module _ (l : Linked) (p : Packed) (joined : IsRewrittenAndPacked l p) (riscv : 
       → slice_get p.symbols after.symbol ≡ Some symbol
       → Relocated (Some a.row) (final_operands p i a.row symbol) (instruction_at l.rewritten o) (final_instruction p o)
   relocated_own of symbol entry_is is_symbol =
-      let y = final_operands p i a.row symbol in
-      let taken : operands_of (architecture_of p.machine) p.addresses p.symbols a.row after ≡ Ok y =
-      subst (λ x. operands_of x p.addresses p.symbols a.row after ≡ Ok y) (sym machine_is)
-      (ap (operands_in RiscV p.addresses a.row after) is_symbol ∙ entry_is) in
-      relocated y
-      (applied (architecture_of p.machine) p.addresses p.relocations_after p.symbols p.packed p.final joined.packed.written
-      i within 4 (omega arith) a.row of row_is y taken)
+      relocated (final_operands p i a.row symbol)
+      (subst (λ x. IsApplied a.row (operands_with x p.addresses a.row symbol after 0) (instruction_at l.rewritten o) (final_instruction p o))
+      (ap architecture_of riscv)
+      (own_there l p joined i below code subject.symbol subject.addend after_is kept a.row of row_is symbol
+      (subst (λ x. operands_by x p.addresses a.row after symbol
+      (entry_address p.addresses symbol (entry_of a.row after.addend symbol.is_thread_local))
+      ≡ Ok (operands_with x p.addresses a.row symbol after 0)) (sym (ap architecture_of riscv)) entry_is)
+      is_symbol))
 
 -- ---- low parts
 
@@ -187,9 +154,9 @@ module _ (laws : Laws) (l : Linked) (p : Packed) (joined : IsRewrittenAndPacked 
         let architecture = architecture_of p.machine in
         let bytes = p.relocations_after in
         let written = joined.packed.written in
-        let is = machine_is l p joined riscv i of.pair.first_below names.R_RISCV_PCREL_HI20 high_after first (any.0) of.high_kept in
-        let below = within l p joined riscv i of.pair.first_below names.R_RISCV_PCREL_HI20 high_after first (any.0) of.high_kept in
-        let below' = within l p joined riscv j of.pair.second_below names.R_RISCV_PCREL_LO12_I low_after second (any.1) of.low_kept in
+        let is = ap architecture_of riscv in
+        let below = within l p joined i of.pair.first_below (code_of (riscv_name names.R_RISCV_PCREL_HI20)) first.symbol first.addend (any.0) of.high_kept in
+        let below' = within l p joined j of.pair.second_below (code_of (riscv_name names.R_RISCV_PCREL_LO12_I)) second.symbol second.addend (any.1) of.low_kept in
         let row = row_is l p joined riscv i of.pair.first_below names.R_RISCV_PCREL_HI20 high_after first (any.0) of.high_kept in
         let low_row = row_is l p joined riscv j of.pair.second_below names.R_RISCV_PCREL_LO12_I low_after second (any.1) of.low_kept in
         let taken : operands_of architecture p.addresses p.symbols high_after.row (relocation_in bytes i) ≡ Ok y =
@@ -197,19 +164,19 @@ module _ (laws : Laws) (l : Linked) (p : Packed) (joined : IsRewrittenAndPacked 
         (ap (operands_in RiscV p.addresses high_after.row (relocation_in bytes i)) is_symbol) in
         let bits : BitRange = record { start = 0; end = 32 } in
         relocated l p joined riscv j of.pair.second_below names.R_RISCV_PCREL_LO12_I low_after second (any.1) of.low_kept y
+        (kept_there l p joined j of.pair.second_below (code_of (riscv_name names.R_RISCV_PCREL_LO12_I)) second.symbol second.addend (any.1) of.low_kept low_after.row y
         (applied_found architecture p.addresses bytes p.symbols p.packed p.final written
         j below' 4 (omega arith) low_after.row bits (insns.RiscV IType) refl refl refl refl y
         (low_found architecture p.addresses bytes p.symbols p.packed written.can.apart
         i below high_after.row row refl y taken (relocation_in bytes j) low_after.row low_row refl refl
-        of.label of.label_is of.labels tt (written.can.found j) (written.can.are_found j below')))
+        of.label of.label_is of.labels tt (written.can.found j) (written.can.are_found j below'))))
 
   loads_the_same : FinalBytesLoadTheSame l p i high_after.row
   loads_the_same over not_zero symbol is_symbol x small new_small h k auipc_of ld_of holds at new_at alike of_auipc of_ld =
       let o = first.offset in
-      let there = stay l p joined riscv i of.pair.first_below names.R_RISCV_PCREL_HI20 high_after first (any.0) of.high_kept in
-      let behind : place_of p (o + 4) ≡ place_of p o + 4 = place_behind p joined.packed o 4 (omega arith) there in
+      let next = behind l p joined i of.pair.first_below (code_of (riscv_name names.R_RISCV_PCREL_HI20)) first.symbol first.addend (any.0) of.high_kept in
       let lower : Relocated (Some low_after.row) (y symbol is_symbol) (instruction_at l.rewritten (o + 4)) (instruction_at p.final (place_of p o + 4)) =
-      subst (λ q. Relocated (Some low_after.row) (y symbol is_symbol) (instruction_at l.rewritten (o + 4)) (instruction_at p.final q)) behind
+      subst (λ q. Relocated (Some low_after.row) (y symbol is_symbol) (instruction_at l.rewritten (o + 4)) (instruction_at p.final q)) next
       (subst (λ n. Relocated (Some low_after.row) (y symbol is_symbol) (instruction_at l.rewritten n) (final_instruction p n)) of.pair.next (low symbol is_symbol)) in
       (any.2) over not_zero x (y symbol is_symbol) small new_small h k auipc_of ld_of
       (final_instruction p o) (instruction_at p.final (place_of p o + 4)) holds at new_at alike of_auipc of_ld (high symbol is_symbol) lower
@@ -271,13 +238,13 @@ module _ (l : Linked) (p : Packed) (joined : IsRewrittenAndPacked l p) (riscv : 
 
   same_symbol : add'.symbol ≡ call'.symbol
   same_symbol =
-      symbol_is l p joined riscv add of_add.below names.R_RISCV_TPREL_HI20 high_tp subject add_after add_kept
-      ∙ sym (symbol_is l p joined riscv call of_call.below names.R_RISCV_TPREL_LO12_I low_i subject call_after call_kept)
+      symbol_is l p joined add of_add.below (code_of (riscv_name names.R_RISCV_TPREL_HI20)) subject.symbol subject.addend add_after add_kept
+      ∙ sym (symbol_is l p joined call of_call.below (code_of (riscv_name names.R_RISCV_TPREL_LO12_I)) subject.symbol subject.addend call_after call_kept)
 
   same_addend : call'.addend ≡ add'.addend
   same_addend =
-      addend_is l p joined riscv call of_call.below names.R_RISCV_TPREL_LO12_I low_i subject call_after call_kept
-      ∙ sym (addend_is l p joined riscv add of_add.below names.R_RISCV_TPREL_HI20 high_tp subject add_after add_kept)
+      addend_is l p joined call of_call.below (code_of (riscv_name names.R_RISCV_TPREL_LO12_I)) subject.symbol subject.addend call_after call_kept
+      ∙ sym (addend_is l p joined add of_add.below (code_of (riscv_name names.R_RISCV_TPREL_HI20)) subject.symbol subject.addend add_after add_kept)
 
   -- by the operands of the `jalr`, which is for the same variable
   pub add_relocated : (symbol : Symbol) → slice_get p.symbols call'.symbol ≡ Some symbol
@@ -304,10 +271,10 @@ module _ (l : Linked) (p : Packed) (joined : IsRewrittenAndPacked l p) (riscv : 
   -- the `jalr` is behind it
   pub call_behind : place_of p (sequence + 12) ≡ place_of p (sequence + 8) + 4
   call_behind =
-      let there = stay l p joined riscv add of_add.below names.R_RISCV_TPREL_HI20 high_tp subject add_after add_kept in
       let e : sequence + 12 ≡ sequence + 8 + 4 = omega arith in
       ap (place_of p) e
-      ∙ place_behind p joined.packed (sequence + 8) 4 (omega arith) (subst (λ n. packed.StayTogether p n 4) of_add.behind there)
+      ∙ subst (λ n. place_of p (n + 4) ≡ place_of p n + 4) of_add.behind
+      (behind l p joined add of_add.below (code_of (riscv_name names.R_RISCV_TPREL_HI20)) subject.symbol subject.addend add_after add_kept)
 
 pub packed_descriptors : Laws → PackedDescriptors
 packed_descriptors laws l p joined riscv high add call of_add of_call add_kept call_kept symbol is_symbol x one addresses function c h k auipc_of ld_of addi_of ran small alike =

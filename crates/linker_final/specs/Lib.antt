@@ -2,6 +2,7 @@ pub mod AArch64Final
 pub mod Final
 pub mod Joined
 pub mod LoongArchFinal
+pub mod LoongArchJoined
 pub mod LoongArchPacked
 pub mod Packed
 pub mod Ppc64Final

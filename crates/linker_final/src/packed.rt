@@ -7,6 +7,7 @@ ghost use Rattle.linker_base.specs.Deletions.{rank};
 ghost use Rattle.linker_base.specs.Deltas.{deletions_of};
 ghost use Rattle.linker_base.specs.Listed.{AreValidDeltas};
 ghost use Rattle.linker_elf.specs.Value.{sum_64};
+ghost use Rattle.linker_final.specs.LoongArchJoined as loongarch_joined;
 ghost use Rattle.linker_final.specs.LoongArchPacked as loongarch_packed;
 ghost use Rattle.linker_final.specs.Packed as packed;
 ghost use Rattle.linker_final.specs.Packed.{architecture_of, packed_as, IsAtPlace};
@@ -252,5 +253,14 @@ pub fn shorter_loongarch64()
     ensures sums { loongarch_packed.SumIsLeftOut }
 {
     linker_laws::relocations::loongarch64();
+    linker_laws::rewrites::loongarch64();
+}
+
+/// LoongArch: what was rewritten before the section was packed, and stays, does in the final bytes
+/// what the object's instruction does, each with the value of its relocation in its own layout. It is
+/// each low part of local-exec that is over the thread pointer.
+pub fn joined_loongarch64()
+    ensures low_parts { loongarch_joined.PackedLowParts }
+{
     linker_laws::rewrites::loongarch64();
 }
