@@ -1,7 +1,7 @@
 -- RISC-V: in the final bytes of a section that was rewritten and then packed, rewritten
 -- instructions do what the object's do with the values of their relocations.
 use Rattle.std.specs.Prelude.{◌≡◌, ◌≢◌, ℕ, ◌+◌, ◌<◌, ◌^◌, Bool, List, ◌++◌, Some, IsSomeAnd}
-use Rattle.std.specs.Prelude.{Option, slice_get}
+use Rattle.std.specs.Prelude.{[], Option, slice_get}
 use Rattle.linker_elf.specs.ElfNames.{IsNameOf}
 use Rattle.linker_elf.specs.RiscVRelocations.{riscv_name, riscv_row}
 use Rattle.linker_elf.specs.Value.{sum_64, difference_64}
@@ -12,17 +12,19 @@ use Rattle.linker_elf.specs.declared.riscv64.relocations.RiscVRelocation.{RiscVR
 use Rattle.linker_elf.specs.declared.riscv64.relocations.RiscVRelocation.TheVariants as names
 use Rattle.linker_final.specs.Final.{IsRewrittenByNoOther, Linked, count, instruction_at}
 use Rattle.linker_final.specs.Joined.{IsRewrittenAndPacked, IsKeptInstruction}
-use Rattle.linker_final.specs.Packed.{Packed, place_of}
+use Rattle.linker_final.specs.Packed.{Packed, IsUnwritten, StayTogether, place_of}
 use Rattle.linker_final.specs.RiscVFinal.{AreOfPair, EndsAsReturned, IsOfDescriptor, RunsToCall}
 use Rattle.linker_laws.specs.Machine.{Relocated, loaded}
 use Rattle.linker_laws.specs.RiscVMachine.{Action, Hart, register, rs1_of, rs2_of}
 use Rattle.linker_laws.specs.RiscVRewriteLaws.{AreAlike, Changes, EndSo, GoOn, HaveAddress}
-use Rattle.linker_laws.specs.RiscVRewriteLaws.{HaveOneOffset, IsLowOffset, no_register, of_entry}
+use Rattle.linker_laws.specs.RiscVRewriteLaws.{HaveGoneOn, HaveOneOffset, IsLowOffset}
+use Rattle.linker_laws.specs.RiscVRewriteLaws.{no_register, of_entry}
 use Rattle.linker_laws.specs.RiscVRewriteLaws.{StoresTheSame, action_at, differs_after}
 use Rattle.linker_laws.specs.RiscVRewriteLaws.{even_in_thread, offset_row, word_of}
 use Rattle.linker_laws.specs.Schemes.{AreAddresses, entry_and_addend, symbol_address}
 use Rattle.linker_rewriting.specs.Decisions.{decision_at}
-use Rattle.linker_rewriting.specs.declared.decisions.Decision.TheVariants.{Rewritten}
+use Rattle.linker_rewriting.specs.declared.decisions.Decision.TheVariants.{Redirected, Rewritten}
+use Rattle.linker_rewriting.specs.declared.decisions.Subject.{Subject}
 use Rattle.linker_riscv64.specs.RiscVRewrites.{rd_of, tp}
 use Rattle.linker_riscv64.specs.declared.rewrites.RelaxationKind.TheVariants as kinds
 use Rattle.linker_runs.specs.declared.packing.Machine.TheVariants.{RiscV64}
@@ -30,6 +32,7 @@ use Rattle.linker_section.specs.Relocations.{relocation_in}
 use Rattle.linker_section.specs.Values.{operands_with}
 use Rattle.linker_section.specs.declared.facts.Symbol.{Symbol}
 use Rattle.linker_utils.specs.declared.architecture.Relaxation.{Relaxation}
+use Rattle.linker_utils.specs.declared.architecture.Relaxation.TheVariants as relaxations
 use Rattle.linker_utils.specs.declared.elf.Architecture.TheVariants.{RiscV}
 
 -- what the formula of the relocation at an index takes in the final section
@@ -128,6 +131,14 @@ FinalShortOffsetIsTheSame l p high last row =
     → RunsToCall l o call c x h auipc_of ld_of addi_of → k.pc < 2 ^ 64 → AreAlike no_register h k
     → EndsAsReturned l o call c h auipc_of ld_of addi_of 1 (final_instruction p (o + 12)) k
 
+-- ---- nops
+
+-- The final bytes of an instruction, which became a nop, change nothing but the pc.
+abbrev pub FinalBytesDoNothing : Packed → ℕ → Type 0
+FinalBytesDoNothing p o =
+    (h k : Hart) (differs : ℕ → Bool) → h.pc < 2 ^ 64 → AreAlike differs h k
+    → EndSo 1 (final_instruction p o) h 0 [] k (HaveGoneOn differs (sum_64 h.pc 4) k.pc)
+
 -- ---- the laws
 
 -- of every load of an address from the GOT that is rewritten, where no other rewrite has a byte of
@@ -172,3 +183,20 @@ PackedShortDescriptors =
     → IsOfDescriptor l high names.R_RISCV_TLSDESC_CALL 12 kinds.CallToAddiZero call
     → IsKeptInstruction p call
     → IsSomeAnd (riscv_row names.R_RISCV_TPREL_LO12_I) (FinalShortOffsetIsTheSame l p high call)
+
+-- of every instruction of a descriptor that became a nop, and stays then, where no relocation has a
+-- field in it
+abbrev pub PackedNopsOf : RiscVRelocation → Type 0
+PackedNopsOf name =
+    (l : Linked) (p : Packed) → IsRewrittenAndPacked l p → p.machine ≡ RiscV64
+    → (i : ℕ) (chosen : Choice Relaxation ℕ) (subject : Subject) → i < count l
+    → IsNameOf riscv_name (relocation_in l.relocations i).code name
+    → decision_at l.decisions i ≡ Redirected chosen subject
+    → chosen.kind ≡ relaxations.RiscV kinds.ReplaceWithLongNop
+    → let o = (relocation_in l.relocations i).offset in
+    StayTogether p o 4 → IsUnwritten p (place_of p o) 4 → FinalBytesDoNothing p o
+
+abbrev pub PackedNops : Type 0
+PackedNops =
+    PackedNopsOf names.R_RISCV_TLSDESC_HI20 × PackedNopsOf names.R_RISCV_TLSDESC_LOAD_LO12
+    × PackedNopsOf names.R_RISCV_TLSDESC_ADD_LO12

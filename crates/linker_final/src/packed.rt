@@ -225,12 +225,13 @@ pub fn shorter_riscv64()
 /// the object's instructions do, each with the values of its relocations in its own layout. It is
 /// each load of an address from the GOT that became a sum of the place and the distance, each low part
 /// of an offset that is over the thread pointer, and each sequence of a TLS descriptor that became one
-/// of local-exec.
+/// of local-exec. What became a nop does nothing.
 pub fn joined_riscv64()
     ensures got_loads { riscv_joined.PackedGotLoads }
     ensures low_parts { riscv_joined.PackedLowParts }
     ensures descriptors { riscv_joined.PackedDescriptors }
     ensures short_descriptors { riscv_joined.PackedShortDescriptors }
+    ensures nops { riscv_joined.PackedNops }
 {
     linker_laws::rewrites::riscv64();
 }

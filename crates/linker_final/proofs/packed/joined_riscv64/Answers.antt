@@ -1,4 +1,5 @@
 use Rattle.linker_final.proofs.RiscVJoined.{packed_descriptors, packed_got_loads, packed_low_parts, packed_short_descriptors}
+use Rattle.linker_final.proofs.RiscVNops.{packed_nops}
 use Rattle.linker_final.proofs.packed.joined_riscv64.Goals as goal
 
 pub returns : goal.returns
@@ -9,4 +10,5 @@ returns c =
       low_parts = packed_low_parts laws;
       descriptors = packed_descriptors laws;
       short_descriptors = packed_short_descriptors laws;
+      nops = packed_nops laws;
     }
