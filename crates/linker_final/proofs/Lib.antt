@@ -10,10 +10,12 @@ pub mod Entries
 pub mod Fields
 pub mod Inner
 pub mod InstructionFields
+pub mod Joined
 pub mod Labels
 pub mod LoongArchAlone
 pub mod LoongArchChosen
 pub mod LoongArchDescriptors
+pub mod LoongArchJoined
 pub mod LoongArchLoads
 pub mod LoongArchPackedDeletions
 pub mod LoongArchPackedSites
@@ -37,6 +39,7 @@ pub mod PutBack
 pub mod RelocatedFields
 pub mod RiscVChosen
 pub mod RiscVDescriptors
+pub mod RiscVJoined
 pub mod RiscVLoads
 pub mod RiscVNops
 pub mod RiscVOffsets

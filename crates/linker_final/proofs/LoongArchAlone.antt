@@ -66,7 +66,7 @@ low_after =
       };
     }
 
-abbrev part_after : IsAfter names.R_LARCH_TLS_LE_LO12_R
+abbrev pub part_after : IsAfter names.R_LARCH_TLS_LE_LO12_R
 part_after =
     record {
       row = low_row TpOff;
@@ -114,7 +114,7 @@ low_entry section o chosen by =
       ]
     ]
 
-part_entry : (section : List ℕ) (o : ℕ) (chosen : Choice Relaxation ℕ)
+pub part_entry : (section : List ℕ) (o : ℕ) (chosen : Choice Relaxation ℕ)
     → IsByTable names.R_LARCH_TLS_LE_LO12_R section o chosen
     → IsEntry kinds.BaseToTp names.R_LARCH_TLS_LE_LO12_R names.R_LARCH_TLS_LE_LO12_R section o chosen
 part_entry section o chosen by =

@@ -95,10 +95,10 @@ short_becomes section o chosen kind (inr (inr (inr nothing))) = absurd nothing
 
 -- ---- rows
 
-abbrev high_tp : IsAfter names.R_RISCV_TPREL_HI20
+abbrev pub high_tp : IsAfter names.R_RISCV_TPREL_HI20
 high_tp = record { row = pair_row TpOff 32 UType; is = refl; named = tt }
 
-abbrev of_high_tp : IsOfInstruction 4 (pair_row TpOff 32 UType)
+abbrev pub of_high_tp : IsOfInstruction 4 (pair_row TpOff 32 UType)
 of_high_tp =
     record {
       bits = record { start = 0; end = 32 };

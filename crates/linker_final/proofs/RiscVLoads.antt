@@ -45,10 +45,10 @@ use Rattle.linker_utils.specs.declared.elf.Architecture.TheVariants.{RiscV}
 abbrev got_row : RelocationKindInfo
 got_row = pair_row formulas.GotRelative 32 UType
 
-abbrev high_after : IsAfter names.R_RISCV_PCREL_HI20
+abbrev pub high_after : IsAfter names.R_RISCV_PCREL_HI20
 high_after = record { row = pair_row formulas.Relative 32 UType; is = refl; named = tt }
 
-abbrev of_high : IsOfInstruction 4 (pair_row formulas.Relative 32 UType)
+abbrev pub of_high : IsOfInstruction 4 (pair_row formulas.Relative 32 UType)
 of_high =
     record {
       bits = record { start = 0; end = 32 };
@@ -61,7 +61,7 @@ of_high =
       some = λ o. tt;
     }
 
-abbrev low_after : IsAfter names.R_RISCV_PCREL_LO12_I
+abbrev pub low_after : IsAfter names.R_RISCV_PCREL_LO12_I
 low_after = record { row = pair_row formulas.RelativeRiscVLow12 32 IType; is = refl; named = tt }
 
 -- ---- both have the address

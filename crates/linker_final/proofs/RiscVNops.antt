@@ -1,25 +1,31 @@
 -- Instructions of RISC-V's TLS descriptors that became nops do nothing in the final bytes.
-use Rattle.std.proofs.Common.{◌≡◌, ℕ, List, [], refl, sym, ap, subst, ◌∙◌, inl, inr, arith}
-use Rattle.linker_elf.specs.ElfNames.{IsNamed}
+use Rattle.std.proofs.Common.{◌≡◌, ℕ, ◌+◌, ◌<◌, ◌≤◌, ◌^◌, Bool, List, [], length, refl, sym, ap, subst, ◌∙◌, inl, inr, arith}
+use Rattle.linker_elf.specs.ElfNames.{IsNameOf, IsNamed}
 use Rattle.linker_elf.specs.RiscVRelocations.{riscv_name, riscv_relocation}
 use Rattle.linker_elf.specs.Rows.{bytes_row}
 use Rattle.linker_elf.specs.declared.elf.RelocationKind.TheVariants.{None as NoValue}
 use Rattle.linker_elf.specs.declared.elf.choice.Choice.{Choice}
 use Rattle.linker_elf.specs.declared.riscv64.relocations.RiscVRelocation.{RiscVRelocation}
 use Rattle.linker_elf.specs.declared.riscv64.relocations.RiscVRelocation.TheVariants as names
+use Rattle.linker_final.proofs.PackedBytes.{packed_there, places_inside, same_there}
 use Rattle.linker_final.proofs.Written.{IsRowOf, by_name, unwritten_without}
 use Rattle.linker_final.proofs.RiscVChosen.{IsOfSome, of_some}
 use Rattle.linker_final.proofs.RiscVDescriptors.{Becomes, same_kind}
 use Rattle.linker_final.proofs.RiscVWritten.{are_rewritten, becomes, long_there, redirected_after}
 use Rattle.linker_final.specs.Final.{instruction_at}
-use Rattle.linker_final.specs.Final.{Linked}
+use Rattle.linker_final.specs.Final.{AreRewritten, Linked, count}
+use Rattle.linker_final.specs.Packed.{architecture_of, place_of}
 use Rattle.linker_final.specs.RiscVFinal.{Nops, NopsOf}
-use Rattle.linker_laws.specs.RiscVRewriteLaws.{EndSo, HaveGoneOn, Laws, after_rewrite}
+use Rattle.linker_final.specs.RiscVJoined.{PackedNops, PackedNopsOf, final_instruction}
+use Rattle.linker_laws.specs.RiscVMachine.{Hart}
+use Rattle.linker_laws.specs.RiscVRewriteLaws.{AreAlike, EndSo, HaveGoneOn, Laws, after_rewrite}
 use Rattle.linker_elf.specs.Value.{sum_64}
 use Rattle.linker_riscv64.specs.RiscVRewrites.{riscv_entries}
 use Rattle.linker_riscv64.specs.declared.rewrites.RelaxationKind.TheVariants as kinds
+use Rattle.linker_rewriting.specs.Decisions.{decision_at}
 use Rattle.linker_rewriting.specs.Rewritten.{IsMade}
 use Rattle.linker_rewriting.specs.declared.decisions.Decision.TheVariants.{Redirected}
+use Rattle.linker_rewriting.specs.declared.decisions.Subject.{Subject}
 use Rattle.linker_section.specs.Relocations.{relocation_in}
 use Rattle.linker_section.specs.declared.relocations.Rela.{Rela}
 use Rattle.linker_utils.specs.Architectures.{IsRow, relaxation_rewrite}
@@ -80,28 +86,65 @@ module _ (laws : Laws) (name : RiscVRelocation) (named : IsNamed (riscv_name nam
     → chosen.kind ≡ relaxations.RiscV kinds.ReplaceWithLongNop
     → IsOfSome name (riscv_entries name) section o chosen → Becomes names.R_RISCV_NONE section o chosen)
   where
-    nops_of : NopsOf name
-    nops_of l linked riscv i chosen subject below is_name decided kind_is alone h k differs small alike =
+    -- what the rewrite leaves
+    nop_there : (l : Linked) → AreRewritten l → l.setting.architecture ≡ RiscV
+        → (i : ℕ) (chosen : Choice Relaxation ℕ) (subject : Subject) → i < count l
+        → IsNameOf riscv_name (relocation_in l.relocations i).code name
+        → decision_at l.decisions i ≡ Redirected chosen subject
+        → chosen.kind ≡ relaxations.RiscV kinds.ReplaceWithLongNop
+        → let o = (relocation_in l.relocations i).offset in
+        Becomes names.R_RISCV_NONE l.section o chosen
+        × (instruction_at l.rewritten o ≡ after_rewrite kinds.ReplaceWithLongNop (instruction_at l.section o) 0)
+    nop_there l rewriting riscv i chosen subject below is_name decided kind_is =
         let o = (relocation_in l.relocations i).offset in
-        let instruction = instruction_at l.section o in
         let nop = becomes_nop l.section o chosen kind_is
-        (of_some l (are_rewritten l linked) riscv i (Redirected chosen subject) chosen below decided refl name named is_name) in
-        let inside = nop.inside in
+        (of_some l rewriting riscv i (Redirected chosen subject) chosen below decided refl name named is_name) in (
+          nop,
+          becomes l rewriting i below (Redirected chosen subject) decided (λ _. 0x13)
+              (λ done. subst (λ k. IsMade (relaxation_rewrite k) o l.section l.rewritten) kind_is done) nop.inside,
+        )
+
+    -- the code that it leaves does nothing
+    does_nothing : (section code : List ℕ) (o : ℕ) → o + 4 ≤ length section
+        → code ≡ after_rewrite kinds.ReplaceWithLongNop (instruction_at section o) 0
+        → (h k : Hart) (differs : ℕ → Bool) → h.pc < 2 ^ 64 → AreAlike differs h k
+        → EndSo 1 code h 0 [] k (HaveGoneOn differs (sum_64 h.pc 4) k.pc)
+    does_nothing section code o inside left h k differs small alike =
+        let long = long_there section o inside in
+        subst (λ code. EndSo 1 code h 0 [] k (HaveGoneOn differs (sum_64 h.pc 4) k.pc)) (sym left)
+        (laws.nops (instruction_at section o) 0 (omega (arith, long), tt) [] h k differs small alike)
+
+    nops_of : NopsOf name
+    nops_of l linked riscv i chosen subject below is_name decided kind_is alone =
+        let o = (relocation_in l.relocations i).offset in
+        let there = nop_there l (are_rewritten l linked) riscv i chosen subject below is_name decided kind_is in
+        let inside = (there.0).inside in
         let code : (relocation_in l.relocations_after i).code ≡ 0 =
         ap (λ (x : Rela). x.code)
-        (redirected_after l (are_rewritten l linked) i chosen below kinds.ReplaceWithLongNop names.R_RISCV_NONE kind_is nop.code_is (λ o. refl) (λ a. refl) subject decided) in
-        let made : instruction_at l.rewritten o ≡ after_rewrite kinds.ReplaceWithLongNop instruction 0 =
-        becomes l (are_rewritten l linked) i below (Redirected chosen subject) decided (λ _. 0x13)
-        (λ done. subst (λ k. IsMade (relaxation_rewrite k) o l.section l.rewritten) kind_is done) inside in
-        let left : instruction_at l.final o ≡ after_rewrite kinds.ReplaceWithLongNop instruction 0 =
-        unwritten_without l linked i o (none_has_no_value l riscv) code inside alone ∙ made in
-        let long = long_there l.section o inside in
-        subst (λ code. EndSo 1 code h 0 [] k (HaveGoneOn differs (sum_64 h.pc 4) k.pc)) (sym left)
-        (laws.nops instruction 0 (omega (arith, long), tt) [] h k differs small alike)
+        (redirected_after l (are_rewritten l linked) i chosen below kinds.ReplaceWithLongNop names.R_RISCV_NONE kind_is (there.0).code_is (λ o. refl) (λ a. refl) subject decided) in
+        does_nothing l.section (instruction_at l.final o) o inside
+        (unwritten_without l linked i o (none_has_no_value l riscv) code inside alone ∙ there.1)
+
+    packed_nops_of : PackedNopsOf name
+    packed_nops_of l p joined riscv i chosen subject below is_name decided kind_is stay free =
+        let o = (relocation_in l.relocations i).offset in
+        let is = joined.packed in
+        let there = nop_there l joined.rewritten (joined.architecture ∙ ap architecture_of riscv) i chosen subject below is_name decided kind_is in
+        does_nothing l.section (final_instruction p o) o ((there.0).inside)
+        (packed_there p is (place_of p o) 4 (places_inside p is o 4 (omega arith) stay) free
+        ∙ (same_there p is o 4 (omega arith) stay
+        ∙ (ap (λ bytes. instruction_at bytes o) joined.bytes ∙ there.1)))
 
 pub nops : Laws → Nops
 nops laws = (
   nops_of laws names.R_RISCV_TLSDESC_HI20 tt high_becomes,
   nops_of laws names.R_RISCV_TLSDESC_LOAD_LO12 tt load_becomes,
   nops_of laws names.R_RISCV_TLSDESC_ADD_LO12 tt add_becomes,
+)
+
+pub packed_nops : Laws → PackedNops
+packed_nops laws = (
+  packed_nops_of laws names.R_RISCV_TLSDESC_HI20 tt high_becomes,
+  packed_nops_of laws names.R_RISCV_TLSDESC_LOAD_LO12 tt load_becomes,
+  packed_nops_of laws names.R_RISCV_TLSDESC_ADD_LO12 tt add_becomes,
 )

@@ -55,10 +55,10 @@ of_low_i =
       some = λ o. tt;
     }
 
-abbrev low_s : IsAfter names.R_RISCV_TPREL_LO12_S
+abbrev pub low_s : IsAfter names.R_RISCV_TPREL_LO12_S
 low_s = record { row = pair_row TpOff 32 SType; is = refl; named = tt }
 
-abbrev of_low_s : IsOfInstruction 4 (pair_row TpOff 32 SType)
+abbrev pub of_low_s : IsOfInstruction 4 (pair_row TpOff 32 SType)
 of_low_s =
     record {
       bits = record { start = 0; end = 32 };
@@ -73,7 +73,7 @@ of_low_s =
 
 -- ---- one instruction
 
-mapped : {A : Type 0} {P Q : A → Type 0} → ((x : A) → P x → Q x) → (value : Option A)
+pub mapped : {A : Type 0} {P Q : A → Type 0} → ((x : A) → P x → Q x) → (value : Option A)
     → IsSomeAnd value P → IsSomeAnd value Q
 mapped each None is = is
 mapped each (Some x) is = each x is

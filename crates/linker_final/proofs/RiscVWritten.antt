@@ -29,11 +29,13 @@ use Rattle.linker_section.specs.Needed.{entry_of}
 use Rattle.linker_section.specs.Relocations.{relocation_in}
 use Rattle.linker_section.specs.Sections.{IsRowValue}
 use Rattle.linker_section.specs.Values.{operands_with, operands_by, operands_of, operands_in, entry_address}
+use Rattle.linker_section.specs.declared.facts.Addresses.{Addresses}
 use Rattle.linker_section.specs.declared.facts.Symbol.{Symbol}
 use Rattle.linker_section.specs.declared.relocations.Rela.{Rela}
 use Rattle.linker_utils.specs.Architectures.{IsRow, relaxation_rewrite}
 use Rattle.linker_utils.specs.declared.architecture.Relaxation.{Relaxation}
 use Rattle.linker_utils.specs.declared.architecture.Relaxation.TheVariants as relaxations
+use Rattle.linker_utils.specs.declared.elf.Architecture.{Architecture}
 use Rattle.linker_utils.specs.declared.elf.Architecture.TheVariants.{RiscV}
 
 -- ---- bytes
@@ -115,24 +117,23 @@ pub record IsAfter (name : RiscVRelocation) : Type 0 where
   pub named : IsNamed (riscv_name name)
 
 -- the code of what is there has the row
-row_by : (l : Linked) → l.setting.architecture ≡ RiscV → (r : Rela) (name : RiscVRelocation)
-    → (a : IsAfter name) → r.code ≡ code_of (riscv_name name)
-    → (row : _) → IsRow l.setting.architecture r.code row → IsRow RiscV r.code (Some a.row)
-row_by l riscv r name a code row is =
-    let there : IsRow RiscV r.code row = subst (λ x. IsRow x r.code row) riscv is in
-    let same : there.name ≡ name = there.is_name.named name a.named (sym code) in
-    record {
-      name = there.name;
-      is_name = there.is_name;
-      value_is = sym (ap (λ (n : RiscVRelocation). (riscv_relocation n).row) same ∙ a.is);
-    }
+module _ (architecture : Architecture) (riscv : architecture ≡ RiscV) (r : Rela)
+    (name : RiscVRelocation) (a : IsAfter name) (code : r.code ≡ code_of (riscv_name name)) where
+  row_by : (row : _) → IsRow architecture r.code row → IsRow RiscV r.code (Some a.row)
+  row_by row is =
+      let there : IsRow RiscV r.code row = subst (λ x. IsRow x r.code row) riscv is in
+      let same : there.name ≡ name = there.is_name.named name a.named (sym code) in
+      record {
+        name = there.name;
+        is_name = there.is_name;
+        value_is = sym (ap (λ (n : RiscVRelocation). (riscv_relocation n).row) same ∙ a.is);
+      }
 
-pub row_in : (l : Linked) → l.setting.architecture ≡ RiscV → (r : Rela) (name : RiscVRelocation)
-    → (a : IsAfter name) → r.code ≡ code_of (riscv_name name)
-    → (found : _) → IsRowValue l.setting.architecture l.addresses l.relocations_after l.symbols r (Ok found)
-    → IsRow RiscV r.code (Some a.row)
-row_in l riscv r name a code (Some one) has = row_by l riscv r name a code (Some (one.0)) has.is_row
-row_in l riscv r name a code None marked = row_by l riscv r name a code (marked.0) (marked.1)
+  pub row_in : (addresses : Addresses) (bytes : List ℕ) (symbols : List Symbol) (found : _)
+      → IsRowValue architecture addresses bytes symbols r (Ok found)
+      → IsRow RiscV r.code (Some a.row)
+  row_in addresses bytes symbols (Some one) has = row_by (Some (one.0)) has.is_row
+  row_in addresses bytes symbols None marked = row_by (marked.0) (marked.1)
 
 module _ (l : Linked) (linked : IsLinked l) (riscv : l.setting.architecture ≡ RiscV) (i : ℕ)
     (below : i < count l) (name : RiscVRelocation) (a : IsAfter name) (after : Rela)
@@ -143,7 +144,8 @@ module _ (l : Linked) (linked : IsLinked l) (riscv : l.setting.architecture ≡ 
 
   pub row_after : IsRow RiscV (relocation_in l.relocations_after i).code (Some a.row)
   row_after =
-      row_in l riscv (relocation_in l.relocations_after i) name a (ap (λ (x : Rela). x.code) after_is ∙ code_is)
+      row_in l.setting.architecture riscv (relocation_in l.relocations_after i) name a
+      (ap (λ (x : Rela). x.code) after_is ∙ code_is) l.addresses l.relocations_after l.symbols
       (linked.written.can.found i) (linked.written.can.are_found i within_after)
 
   -- is applied to the bytes between

@@ -1,10 +1,13 @@
 pub mod AArch64Final
 pub mod Final
+pub mod Joined
 pub mod LoongArchFinal
+pub mod LoongArchJoined
 pub mod LoongArchPacked
 pub mod Packed
 pub mod Ppc64Final
 pub mod RiscVFinal
+pub mod RiscVJoined
 pub mod RiscVPacked
 pub mod X86Final
 pub mod X86ThreadFinal

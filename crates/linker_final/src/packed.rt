@@ -7,10 +7,12 @@ ghost use Rattle.linker_base.specs.Deletions.{rank};
 ghost use Rattle.linker_base.specs.Deltas.{deletions_of};
 ghost use Rattle.linker_base.specs.Listed.{AreValidDeltas};
 ghost use Rattle.linker_elf.specs.Value.{sum_64};
+ghost use Rattle.linker_final.specs.LoongArchJoined as loongarch_joined;
 ghost use Rattle.linker_final.specs.LoongArchPacked as loongarch_packed;
 ghost use Rattle.linker_final.specs.Packed as packed;
 ghost use Rattle.linker_final.specs.Packed.{architecture_of, packed_as, IsAtPlace};
 ghost use Rattle.linker_final.specs.Packed.{IsFirstUntranslated, IsPackCause, IsPacked};
+ghost use Rattle.linker_final.specs.RiscVJoined as riscv_joined;
 ghost use Rattle.linker_final.specs.RiscVPacked as riscv_packed;
 ghost use Rattle.linker_runs.specs.Packing.{packed_offset, section_of};
 ghost use Rattle.linker_section.specs.Relocations.{relocation_in};
@@ -219,6 +221,21 @@ pub fn shorter_riscv64()
     linker_laws::rewrites::riscv64();
 }
 
+/// RISC-V: what was rewritten before the section was packed, and stays, does in the final bytes what
+/// the object's instructions do, each with the values of its relocations in its own layout. It is
+/// each load of an address from the GOT that became a sum of the place and the distance, each low part
+/// of an offset that is over the thread pointer, and each sequence of a TLS descriptor that became one
+/// of local-exec. What became a nop does nothing.
+pub fn joined_riscv64()
+    ensures got_loads { riscv_joined.PackedGotLoads }
+    ensures low_parts { riscv_joined.PackedLowParts }
+    ensures descriptors { riscv_joined.PackedDescriptors }
+    ensures short_descriptors { riscv_joined.PackedShortDescriptors }
+    ensures nops { riscv_joined.PackedNops }
+{
+    linker_laws::rewrites::riscv64();
+}
+
 /// LoongArch: each call that a run may make shorter, `b`, `bl` or still `pcaddu18i` and `jirl`,
 /// goes to where its target goes, and each address by `pcaddi`, or still by `pcalau12i` and
 /// `addi.d`, is that where its target goes, as the object's instructions do in their own layout. So
@@ -237,5 +254,14 @@ pub fn shorter_loongarch64()
     ensures sums { loongarch_packed.SumIsLeftOut }
 {
     linker_laws::relocations::loongarch64();
+    linker_laws::rewrites::loongarch64();
+}
+
+/// LoongArch: what was rewritten before the section was packed, and stays, does in the final bytes
+/// what the object's instruction does, each with the value of its relocation in its own layout. It is
+/// each low part of local-exec that is over the thread pointer.
+pub fn joined_loongarch64()
+    ensures low_parts { loongarch_joined.PackedLowParts }
+{
     linker_laws::rewrites::loongarch64();
 }

@@ -1,0 +1,98 @@
+-- Instructions that were rewritten, and stay in a section that was packed then.
+use Rattle.std.proofs.Common.{◌≡◌, ℕ, ℤ, ◌+◌, ◌/◌, ◌<◌, length, sym, ap, subst, ◌∙◌, arith, Ok, Some, ◌≤◌}
+use Rattle.std.specs.Prelude.{slice_get}
+use Rattle.linker_elf.specs.Applied.{IsApplied}
+use Rattle.linker_elf.specs.declared.elf.RelocationKindInfo.{RelocationKindInfo}
+use Rattle.linker_elf.specs.declared.elf.value.Operands.{Operands}
+use Rattle.linker_final.proofs.InstructionFields.{IsOfInstruction, applied}
+use Rattle.linker_final.proofs.PackedBytes.{place_behind, places_inside, same_there, stay_inside}
+use Rattle.linker_final.proofs.Written.{rela}
+use Rattle.linker_final.specs.Final.{Linked, count, instruction_at}
+use Rattle.linker_final.specs.Joined.{IsRewrittenAndPacked, IsKeptInstruction}
+use Rattle.linker_final.specs.Packed.{Packed, StayTogether, architecture_of, place_of}
+use Rattle.linker_final.specs.Packed as packed
+use Rattle.linker_section.specs.Needed.{entry_of}
+use Rattle.linker_section.specs.Relocations.{relocation_in}
+use Rattle.linker_section.specs.Values.{entry_address, offset_at, operands_by, operands_in, operands_with}
+use Rattle.linker_section.specs.declared.facts.Symbol.{Symbol}
+use Rattle.linker_section.specs.declared.relocations.Rela.{Rela}
+use Rattle.linker_utils.specs.Architectures.{IsRow}
+
+module _ (l : Linked) (p : Packed) (joined : IsRewrittenAndPacked l p) (i : ℕ) (below : i < count l)
+    (code symbol : ℕ) (addend : ℤ)
+    (after_is : relocation_in l.relocations_after i ≡ rela (relocation_in l.relocations i).offset code symbol addend)
+    (kept : IsKeptInstruction p i) where
+  abbrev o : ℕ
+  o = (relocation_in l.relocations i).offset
+
+  abbrev after : Rela
+  after = relocation_in p.relocations_after i
+
+  pub within : i < packed.count p
+  within =
+      subst (λ n. i < n / 24)
+      (sym (joined.packed.as_many ∙ (ap length joined.relocations ∙ joined.as_many))) below
+
+  before_is : relocation_in p.relocations i ≡ rela o code symbol addend
+  before_is = ap (λ bytes. relocation_in bytes i) joined.relocations ∙ after_is
+
+  -- the relocation in the packed section
+  pub code_is : after.code ≡ code
+  code_is = kept.code ∙ ap (λ (x : Rela). x.code) before_is
+
+  pub symbol_is : after.symbol ≡ symbol
+  symbol_is = (joined.packed.translated i within).symbol ∙ ap (λ (x : Rela). x.symbol) before_is
+
+  pub addend_is : after.addend ≡ addend
+  addend_is = (joined.packed.translated i within).addend ∙ ap (λ (x : Rela). x.addend) before_is
+
+  offset_is : offset_at p.relocations i ≡ o
+  offset_is = ap (λ (x : Rela). x.offset) before_is
+
+  place_is : offset_at p.relocations_after i ≡ place_of p o
+  place_is = (joined.packed.translated i within).offset ∙ ap (place_of p) offset_is
+
+  stay : StayTogether p o 4
+  stay = subst (λ n. StayTogether p n 4) offset_is kept.bytes
+
+  -- its instruction, and where it is
+  pub rewritten_inside : o + 4 ≤ length l.rewritten
+  rewritten_inside =
+      let inside = stay_inside p joined.packed o 4 (omega arith) stay in
+      let len = ap length joined.bytes in
+      omega (arith, inside, len)
+
+  pub final_inside : place_of p o + 4 ≤ length p.final
+  final_inside =
+      let inside = places_inside p joined.packed o 4 (omega arith) stay in
+      let len = joined.packed.written.same_length in
+      omega (arith, inside, len)
+
+  pub behind : place_of p (o + 4) ≡ place_of p o + 4
+  behind = place_behind p joined.packed o 4 (omega arith) stay
+
+  -- what is written there, is written to what was rewritten
+  pub kept_there : (row : RelocationKindInfo) (y : Operands)
+      → IsApplied row y (instruction_at p.packed (offset_at p.relocations_after i)) (instruction_at p.final (offset_at p.relocations_after i))
+      → IsApplied row y (instruction_at l.rewritten o) (instruction_at p.final (place_of p o))
+  kept_there row y there =
+      let same : instruction_at p.packed (place_of p o) ≡ instruction_at l.rewritten o =
+      same_there p joined.packed o 4 (omega arith) stay ∙ ap (λ bytes. instruction_at bytes o) joined.bytes in
+      subst (λ bytes. IsApplied row y bytes (instruction_at p.final (place_of p o))) same
+      (subst (λ n. IsApplied row y (instruction_at p.packed n) (instruction_at p.final n)) place_is there)
+
+  -- so is the value of its own symbol
+  pub own_there : (row : RelocationKindInfo) (of : IsOfInstruction 4 row)
+      → IsRow (architecture_of p.machine) after.code (Some row) → (here : Symbol)
+      → operands_by (architecture_of p.machine) p.addresses row after here
+      (entry_address p.addresses here (entry_of row after.addend here.is_thread_local))
+      ≡ Ok (operands_with (architecture_of p.machine) p.addresses row here after 0)
+      → slice_get p.symbols after.symbol ≡ Some here
+      → IsApplied row (operands_with (architecture_of p.machine) p.addresses row here after 0)
+      (instruction_at l.rewritten o) (instruction_at p.final (place_of p o))
+  own_there row of is_row here entry_is is_here =
+      let y = operands_with (architecture_of p.machine) p.addresses row here after 0 in
+      kept_there row y
+      (applied (architecture_of p.machine) p.addresses p.relocations_after p.symbols p.packed p.final joined.packed.written
+      i within 4 (omega arith) row of is_row y
+      (ap (operands_in (architecture_of p.machine) p.addresses row after) is_here ∙ entry_is))

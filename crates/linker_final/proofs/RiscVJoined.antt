@@ -1,0 +1,290 @@
+-- RISC-V: rewritten instructions in the final bytes of a section that was packed then.
+use Rattle.std.proofs.Common.{◌≡◌, ℕ, ◌+◌, ◌<◌, refl, sym, ap, subst, ◌∙◌, arith, Some, Ok, IsSomeAnd}
+use Rattle.std.specs.Prelude.{slice_get}
+use Rattle.linker_base.specs.declared.bit_misc.BitRange.{BitRange}
+use Rattle.linker_elf.specs.Applied.{IsApplied}
+use Rattle.linker_elf.specs.ElfNames.{code_of}
+use Rattle.linker_elf.specs.RiscVRelocations.{riscv_name, riscv_row}
+use Rattle.linker_elf.specs.Value.{value_of}
+use Rattle.linker_elf.specs.declared.elf.RelocationInstruction.TheVariants as insns
+use Rattle.linker_elf.specs.declared.elf.value.Operands.{Operands}
+use Rattle.linker_elf.specs.declared.riscv64.forms.RiscVInstruction.TheVariants.{IType}
+use Rattle.linker_elf.specs.declared.riscv64.relocations.RiscVRelocation.{RiscVRelocation}
+use Rattle.linker_elf.specs.declared.riscv64.relocations.RiscVRelocation.TheVariants as names
+use Rattle.linker_final.proofs.InstructionFields.{IsOfInstruction, applied_found}
+use Rattle.linker_final.proofs.Joined.{behind, code_is, addend_is, final_inside, kept_there, own_there, rewritten_inside, symbol_is, within}
+use Rattle.linker_final.proofs.Labels.{low_found}
+use Rattle.linker_final.proofs.RiscVDescriptors.{descriptors_anywhere, high_tp, of_high_tp, short_descriptors_anywhere}
+use Rattle.linker_final.proofs.RiscVLoads.{got_loads_anywhere, high_after, low_after, of_high}
+use Rattle.linker_final.proofs.RiscVOffsets.{low_i, of_low_i, low_s, of_low_s, low_parts_anywhere, mapped}
+use Rattle.linker_final.proofs.RiscVWritten.{IsAfter, bytes_there, long_there, row_in}
+use Rattle.linker_final.proofs.Written.{rela, with_operands}
+use Rattle.linker_final.specs.Final.{AreBytes, IsRewrittenByNoOther, Linked, count, instruction_at}
+use Rattle.linker_final.specs.Joined.{IsRewrittenAndPacked, IsKeptInstruction}
+use Rattle.linker_final.specs.Packed.{Packed, architecture_of, place_of}
+use Rattle.linker_final.specs.RiscVFinal.{IsOfDescriptor, LoadsTheSameAnywhere, LowPartsAnywhereOf, named_as}
+use Rattle.linker_final.specs.RiscVJoined.{AreOfFinalLoad, FinalBytesLoadTheSame, FinalLowPartDoesTheSame, PackedDescriptors, PackedGotLoads, PackedLowParts, PackedLowPartsOf, PackedShortDescriptors, final_instruction, final_operands}
+use Rattle.linker_laws.specs.Machine.{Relocated}
+use Rattle.linker_laws.specs.RiscVRewriteLaws.{Laws, action_at, offset_row}
+use Rattle.linker_riscv64.specs.declared.rewrites.RelaxationKind.{RelaxationKind}
+use Rattle.linker_riscv64.specs.declared.rewrites.RelaxationKind.TheVariants as kinds
+use Rattle.linker_runs.specs.declared.packing.Machine.TheVariants.{RiscV64}
+use Rattle.linker_section.specs.Needed.{entry_of}
+use Rattle.linker_section.specs.Relocations.{relocation_in}
+use Rattle.linker_section.specs.Values.{entry_address, operands_by, operands_in, operands_of, operands_with}
+use Rattle.linker_section.specs.declared.facts.Addresses.{Addresses}
+use Rattle.linker_section.specs.declared.facts.Symbol.{Symbol}
+use Rattle.linker_section.specs.declared.relocations.Rela.{Rela}
+use Rattle.linker_utils.specs.Architectures.{IsRow}
+use Rattle.linker_utils.specs.declared.elf.Architecture.TheVariants.{RiscV}
+
+-- ---- an instruction that stays
+
+module _ (l : Linked) (p : Packed) (joined : IsRewrittenAndPacked l p) (riscv : p.machine ≡ RiscV64)
+    (i : ℕ) (below : i < count l) (name : RiscVRelocation) (a : IsAfter name) (subject : Rela)
+    (after_is : relocation_in l.relocations_after i ≡ named_as name (relocation_in l.relocations i) subject)
+    (kept : IsKeptInstruction p i) where
+  abbrev o : ℕ
+  o = (relocation_in l.relocations i).offset
+
+  abbrev after : Rela
+  after = relocation_in p.relocations_after i
+
+  abbrev code : ℕ
+  code = code_of (riscv_name name)
+
+  pub row_is : IsRow (architecture_of p.machine) after.code (Some a.row)
+  row_is =
+      subst (λ x. IsRow x after.code (Some a.row)) (sym (ap architecture_of riscv))
+      (row_in (architecture_of p.machine) (ap architecture_of riscv) after name a
+      (code_is l p joined i below code subject.symbol subject.addend after_is kept) p.addresses p.relocations_after p.symbols
+      (joined.packed.written.can.found i)
+      (joined.packed.written.can.are_found i (within l p joined i below code subject.symbol subject.addend after_is kept)))
+
+  pub relocated : (y : Operands) → IsApplied a.row y (instruction_at l.rewritten o) (final_instruction p o)
+      → Relocated (Some a.row) y (instruction_at l.rewritten o) (final_instruction p o)
+  relocated y there =
+      record {
+        applied = there;
+        len =
+            long_there p.final (place_of p o) (final_inside l p joined i below code subject.symbol subject.addend after_is kept)
+            ∙ sym (long_there l.rewritten o (rewritten_inside l p joined i below code subject.symbol subject.addend after_is kept));
+        old_bytes = bytes_there l.rewritten o (subst AreBytes joined.bytes joined.packed.section_bytes);
+        bytes = bytes_there p.final (place_of p o) joined.packed.final_bytes;
+      }
+
+  -- with the value of its own symbol
+  pub relocated_own : (of : IsOfInstruction 4 a.row) (symbol : Symbol)
+      → operands_by RiscV p.addresses a.row after symbol
+      (entry_address p.addresses symbol (entry_of a.row after.addend symbol.is_thread_local))
+      ≡ Ok (final_operands p i a.row symbol)
+      → slice_get p.symbols after.symbol ≡ Some symbol
+      → Relocated (Some a.row) (final_operands p i a.row symbol) (instruction_at l.rewritten o) (final_instruction p o)
+  relocated_own of symbol entry_is is_symbol =
+      relocated (final_operands p i a.row symbol)
+      (subst (λ x. IsApplied a.row (operands_with x p.addresses a.row symbol after 0) (instruction_at l.rewritten o) (final_instruction p o))
+      (ap architecture_of riscv)
+      (own_there l p joined i below code subject.symbol subject.addend after_is kept a.row of row_is symbol
+      (subst (λ x. operands_by x p.addresses a.row after symbol
+      (entry_address p.addresses symbol (entry_of a.row after.addend symbol.is_thread_local))
+      ≡ Ok (operands_with x p.addresses a.row symbol after 0)) (sym (ap architecture_of riscv)) entry_is)
+      is_symbol))
+
+-- ---- low parts
+
+packed_of : (name : RiscVRelocation) (a : IsAfter name) (of : IsOfInstruction 4 a.row)
+    (is_row : riscv_row name ≡ Some a.row)
+    (no_entry : (addresses : Addresses) (r : Rela) (symbol : Symbol)
+    → operands_by RiscV addresses a.row r symbol
+    (entry_address addresses symbol (entry_of a.row r.addend symbol.is_thread_local))
+    ≡ Ok (operands_with RiscV addresses a.row symbol r 0))
+    → LowPartsAnywhereOf name → PackedLowPartsOf name
+packed_of name a of is_row no_entry anywhere l p joined riscv i chosen below is_name decided kept =
+    let r = relocation_in l.relocations i in
+    let any = anywhere l joined.rewritten (joined.architecture ∙ ap architecture_of riscv) i chosen below is_name decided in
+    mapped (λ action law is_of.
+    subst (λ q. IsSomeAnd q (FinalLowPartDoesTheSame l p i action)) (sym is_row)
+    (λ symbol is_symbol x one low h k differs original small new_small alike base stores of_original.
+    let y = final_operands p i a.row symbol in
+    let new : Relocated (offset_row action) y (instruction_at l.rewritten r.offset) (final_instruction p r.offset) =
+    subst (λ q. Relocated q y (instruction_at l.rewritten r.offset) (final_instruction p r.offset)) (sym (is_of ∙ is_row))
+    (relocated_own l p joined riscv i below name a r (any.0) kept of symbol
+    (no_entry p.addresses (relocation_in p.relocations_after i) symbol) is_symbol) in
+    law x y one low h k differs original (final_instruction p r.offset) small new_small alike base stores of_original new))
+    (action_at l.section r.offset) (any.1)
+
+pub packed_low_parts : Laws → PackedLowParts
+packed_low_parts laws =
+    let any = low_parts_anywhere laws in (
+      packed_of names.R_RISCV_TPREL_LO12_I low_i of_low_i refl (λ addresses r symbol. refl) (any.0),
+      packed_of names.R_RISCV_TPREL_LO12_S low_s of_low_s refl (λ addresses r symbol. refl) (any.1),
+    )
+
+-- ---- loads from the GOT
+
+module _ (laws : Laws) (l : Linked) (p : Packed) (joined : IsRewrittenAndPacked l p)
+    (riscv : p.machine ≡ RiscV64) (i j : ℕ) (of : AreOfFinalLoad l p i j)
+    (alone : IsRewrittenByNoOther l i (relocation_in l.relocations i).offset) where
+  abbrev first : Rela
+  first = relocation_in l.relocations i
+
+  abbrev second : Rela
+  second = relocation_in l.relocations j
+
+  any : (relocation_in l.relocations_after i ≡ named_as names.R_RISCV_PCREL_HI20 first first)
+      × (relocation_in l.relocations_after j ≡ named_as names.R_RISCV_PCREL_LO12_I second second)
+      × LoadsTheSameAnywhere l i
+  any =
+      got_loads_anywhere laws l joined.rewritten (joined.architecture ∙ ap architecture_of riscv) i j of.pair alone
+
+  module _ (symbol : Symbol)
+      (is_symbol : slice_get p.symbols (relocation_in p.relocations_after i).symbol ≡ Some symbol) where
+    abbrev y : Operands
+    y = final_operands p i high_after.row symbol
+
+    -- the distance in the `auipc`
+    high : Relocated (Some high_after.row) y (instruction_at l.rewritten first.offset) (final_instruction p first.offset)
+    high =
+        relocated_own l p joined riscv i of.pair.first_below names.R_RISCV_PCREL_HI20 high_after first (any.0) of.high_kept
+        of_high symbol refl is_symbol
+
+    -- and in the `addi`
+    low : Relocated (Some low_after.row) y (instruction_at l.rewritten second.offset) (final_instruction p second.offset)
+    low =
+        let architecture = architecture_of p.machine in
+        let bytes = p.relocations_after in
+        let written = joined.packed.written in
+        let is = ap architecture_of riscv in
+        let below = within l p joined i of.pair.first_below (code_of (riscv_name names.R_RISCV_PCREL_HI20)) first.symbol first.addend (any.0) of.high_kept in
+        let below' = within l p joined j of.pair.second_below (code_of (riscv_name names.R_RISCV_PCREL_LO12_I)) second.symbol second.addend (any.1) of.low_kept in
+        let row = row_is l p joined riscv i of.pair.first_below names.R_RISCV_PCREL_HI20 high_after first (any.0) of.high_kept in
+        let low_row = row_is l p joined riscv j of.pair.second_below names.R_RISCV_PCREL_LO12_I low_after second (any.1) of.low_kept in
+        let taken : operands_of architecture p.addresses p.symbols high_after.row (relocation_in bytes i) ≡ Ok y =
+        subst (λ x. operands_of x p.addresses p.symbols high_after.row (relocation_in bytes i) ≡ Ok y) (sym is)
+        (ap (operands_in RiscV p.addresses high_after.row (relocation_in bytes i)) is_symbol) in
+        let bits : BitRange = record { start = 0; end = 32 } in
+        relocated l p joined riscv j of.pair.second_below names.R_RISCV_PCREL_LO12_I low_after second (any.1) of.low_kept y
+        (kept_there l p joined j of.pair.second_below (code_of (riscv_name names.R_RISCV_PCREL_LO12_I)) second.symbol second.addend (any.1) of.low_kept low_after.row y
+        (applied_found architecture p.addresses bytes p.symbols p.packed p.final written
+        j below' 4 (omega arith) low_after.row bits (insns.RiscV IType) refl refl refl refl y
+        (low_found architecture p.addresses bytes p.symbols p.packed written.can.apart
+        i below high_after.row row refl y taken (relocation_in bytes j) low_after.row low_row refl refl
+        of.label of.label_is of.labels tt (written.can.found j) (written.can.are_found j below'))))
+
+  loads_the_same : FinalBytesLoadTheSame l p i high_after.row
+  loads_the_same over not_zero symbol is_symbol x small new_small h k auipc_of ld_of holds at new_at alike of_auipc of_ld =
+      let o = first.offset in
+      let next = behind l p joined i of.pair.first_below (code_of (riscv_name names.R_RISCV_PCREL_HI20)) first.symbol first.addend (any.0) of.high_kept in
+      let lower : Relocated (Some low_after.row) (y symbol is_symbol) (instruction_at l.rewritten (o + 4)) (instruction_at p.final (place_of p o + 4)) =
+      subst (λ q. Relocated (Some low_after.row) (y symbol is_symbol) (instruction_at l.rewritten (o + 4)) (instruction_at p.final q)) next
+      (subst (λ n. Relocated (Some low_after.row) (y symbol is_symbol) (instruction_at l.rewritten n) (final_instruction p n)) of.pair.next (low symbol is_symbol)) in
+      (any.2) over not_zero x (y symbol is_symbol) small new_small h k auipc_of ld_of
+      (final_instruction p o) (instruction_at p.final (place_of p o + 4)) holds at new_at alike of_auipc of_ld (high symbol is_symbol) lower
+
+pub packed_got_loads : Laws → PackedGotLoads
+packed_got_loads laws l p joined riscv i j of alone = loads_the_same laws l p joined riscv i j of alone
+
+-- ---- TLS descriptors
+
+-- the `jalr` of a descriptor, which became an `addi`
+module _ (l : Linked) (p : Packed) (joined : IsRewrittenAndPacked l p) (riscv : p.machine ≡ RiscV64)
+    (high call : ℕ) (kind : RelaxationKind)
+    (of_call : IsOfDescriptor l high names.R_RISCV_TLSDESC_CALL 12 kind call)
+    (call_after : relocation_in l.relocations_after call
+    ≡ named_as names.R_RISCV_TPREL_LO12_I (relocation_in l.relocations call) (relocation_in l.relocations high))
+    (kept : IsKeptInstruction p call)
+    (symbol : Symbol)
+    (is_symbol : slice_get p.symbols (relocation_in p.relocations_after call).symbol ≡ Some symbol) where
+  abbrev start : ℕ
+  start = (relocation_in l.relocations high).offset
+
+  pub call_relocated : Relocated (Some low_i.row) (final_operands p call low_i.row symbol)
+      (instruction_at l.rewritten (start + 12)) (final_instruction p (start + 12))
+  call_relocated =
+      let y = final_operands p call low_i.row symbol in
+      subst (λ n. Relocated (Some low_i.row) y (instruction_at l.rewritten n) (final_instruction p n)) of_call.behind
+      (relocated_own l p joined riscv call of_call.below names.R_RISCV_TPREL_LO12_I low_i (relocation_in l.relocations high)
+      call_after kept of_low_i symbol refl is_symbol)
+
+pub packed_short_descriptors : Laws → PackedShortDescriptors
+packed_short_descriptors laws l p joined riscv high call of_call kept symbol is_symbol x one is_low function c h k auipc_of ld_of addi_of ran small alike =
+    let any = short_descriptors_anywhere laws l joined.rewritten (joined.architecture ∙ ap architecture_of riscv) high call of_call in
+    let place = (relocation_in l.relocations high).offset in
+    (any.1) x (final_operands p call low_i.row symbol) one is_low function c h k auipc_of ld_of addi_of
+    (final_instruction p (place + 12)) ran small alike
+    (call_relocated l p joined riscv high call kinds.CallToAddiZero of_call (any.0) kept symbol is_symbol)
+
+-- the `addi`, which became a `lui`
+module _ (l : Linked) (p : Packed) (joined : IsRewrittenAndPacked l p) (riscv : p.machine ≡ RiscV64)
+    (high add call : ℕ)
+    (of_add : IsOfDescriptor l high names.R_RISCV_TLSDESC_ADD_LO12 8 kinds.AddiToLui add)
+    (of_call : IsOfDescriptor l high names.R_RISCV_TLSDESC_CALL 12 kinds.CallToAddi call)
+    (add_after : relocation_in l.relocations_after add
+    ≡ named_as names.R_RISCV_TPREL_HI20 (relocation_in l.relocations add) (relocation_in l.relocations high))
+    (call_after : relocation_in l.relocations_after call
+    ≡ named_as names.R_RISCV_TPREL_LO12_I (relocation_in l.relocations call) (relocation_in l.relocations high))
+    (add_kept : IsKeptInstruction p add) (call_kept : IsKeptInstruction p call) where
+  abbrev sequence : ℕ
+  sequence = (relocation_in l.relocations high).offset
+
+  abbrev subject : Rela
+  subject = relocation_in l.relocations high
+
+  abbrev add' : Rela
+  add' = relocation_in p.relocations_after add
+
+  abbrev call' : Rela
+  call' = relocation_in p.relocations_after call
+
+  same_symbol : add'.symbol ≡ call'.symbol
+  same_symbol =
+      symbol_is l p joined add of_add.below (code_of (riscv_name names.R_RISCV_TPREL_HI20)) subject.symbol subject.addend add_after add_kept
+      ∙ sym (symbol_is l p joined call of_call.below (code_of (riscv_name names.R_RISCV_TPREL_LO12_I)) subject.symbol subject.addend call_after call_kept)
+
+  same_addend : call'.addend ≡ add'.addend
+  same_addend =
+      addend_is l p joined call of_call.below (code_of (riscv_name names.R_RISCV_TPREL_LO12_I)) subject.symbol subject.addend call_after call_kept
+      ∙ sym (addend_is l p joined add of_add.below (code_of (riscv_name names.R_RISCV_TPREL_HI20)) subject.symbol subject.addend add_after add_kept)
+
+  -- by the operands of the `jalr`, which is for the same variable
+  pub add_relocated : (symbol : Symbol) → slice_get p.symbols call'.symbol ≡ Some symbol
+      → Relocated (Some high_tp.row) (final_operands p call low_i.row symbol)
+      (instruction_at l.rewritten (sequence + 8)) (final_instruction p (sequence + 8))
+  add_relocated symbol is_symbol =
+      let y = final_operands p call low_i.row symbol in
+      let own = relocated_own l p joined riscv add of_add.below names.R_RISCV_TPREL_HI20 high_tp subject add_after add_kept
+      of_high_tp symbol refl (ap (slice_get p.symbols) same_symbol ∙ is_symbol) in
+      let there = (relocation_in l.relocations add).offset in
+      let same_value : value_of high_tp.row y ≡ value_of high_tp.row (final_operands p add high_tp.row symbol) =
+      ap (λ z. value_of high_tp.row (operands_with RiscV p.addresses low_i.row symbol (rela 0 0 0 z) 0)) same_addend in
+      let one : Relocated (Some high_tp.row) y (instruction_at l.rewritten there) (final_instruction p there) =
+      record {
+        applied =
+            with_operands high_tp.row (final_operands p add high_tp.row symbol) y (instruction_at l.rewritten there)
+            (final_instruction p there) same_value own.applied;
+        len = own.len;
+        old_bytes = own.old_bytes;
+        bytes = own.bytes;
+      } in
+      subst (λ n. Relocated (Some high_tp.row) y (instruction_at l.rewritten n) (final_instruction p n)) of_add.behind one
+
+  -- the `jalr` is behind it
+  pub call_behind : place_of p (sequence + 12) ≡ place_of p (sequence + 8) + 4
+  call_behind =
+      let e : sequence + 12 ≡ sequence + 8 + 4 = omega arith in
+      ap (place_of p) e
+      ∙ subst (λ n. place_of p (n + 4) ≡ place_of p n + 4) of_add.behind
+      (behind l p joined add of_add.below (code_of (riscv_name names.R_RISCV_TPREL_HI20)) subject.symbol subject.addend add_after add_kept)
+
+pub packed_descriptors : Laws → PackedDescriptors
+packed_descriptors laws l p joined riscv high add call of_add of_call add_kept call_kept symbol is_symbol x one addresses function c h k auipc_of ld_of addi_of ran small alike =
+    let any = descriptors_anywhere laws l joined.rewritten (joined.architecture ∙ ap architecture_of riscv) high add call of_add of_call in
+    let o = (relocation_in l.relocations high).offset in
+    let y = final_operands p call low_i.row symbol in
+    let low : Relocated (Some low_i.row) y (instruction_at l.rewritten (o + 12)) (instruction_at p.final (place_of p (o + 8) + 4)) =
+    subst (λ q. Relocated (Some low_i.row) y (instruction_at l.rewritten (o + 12)) (instruction_at p.final q))
+    (call_behind l p joined riscv high add call of_add of_call (any.0) (any.1) add_kept call_kept)
+    (call_relocated l p joined riscv high call kinds.CallToAddi of_call (any.1) call_kept symbol is_symbol) in
+    (any.2) x y one addresses function c h k auipc_of ld_of addi_of
+    (final_instruction p (o + 8)) (instruction_at p.final (place_of p (o + 8) + 4)) ran small alike
+    (add_relocated l p joined riscv high add call of_add of_call (any.0) (any.1) add_kept call_kept symbol is_symbol) low

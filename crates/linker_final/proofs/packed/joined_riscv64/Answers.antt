@@ -1,0 +1,14 @@
+use Rattle.linker_final.proofs.RiscVJoined.{packed_descriptors, packed_got_loads, packed_low_parts, packed_short_descriptors}
+use Rattle.linker_final.proofs.RiscVNops.{packed_nops}
+use Rattle.linker_final.proofs.packed.joined_riscv64.Goals as goal
+
+pub returns : goal.returns
+returns c =
+    let laws = c.riscv64.ensures.laws in
+    record {
+      got_loads = packed_got_loads laws;
+      low_parts = packed_low_parts laws;
+      descriptors = packed_descriptors laws;
+      short_descriptors = packed_short_descriptors laws;
+      nops = packed_nops laws;
+    }

@@ -1,0 +1,22 @@
+-- A section of code that is rewritten, then packed, and whose values are written last.
+use Rattle.std.specs.Prelude.{◌≡◌, ℕ, length}
+use Rattle.linker_final.specs.Final.{AreRewritten, Linked}
+use Rattle.linker_final.specs.Packed.{Packed, IsPacked, StayTogether, architecture_of}
+use Rattle.linker_section.specs.Relocations.{relocation_in}
+use Rattle.linker_section.specs.Values.{offset_at}
+
+-- All calls succeeded, and the second took what the first left.
+pub record IsRewrittenAndPacked (l : Linked) (p : Packed) : Type 0 where
+  pub rewritten : AreRewritten l
+  pub packed : IsPacked p
+  pub architecture : l.setting.architecture ≡ architecture_of p.machine
+  pub bytes : p.section.bytes ≡ l.rewritten
+  pub relocations : p.relocations ≡ l.relocations_after
+  -- what slices have
+  pub as_many : length l.relocations_after ≡ length l.relocations
+
+-- The instruction of the relocation at an index stays as it was rewritten, and its relocation is
+-- written.
+pub record IsKeptInstruction (p : Packed) (i : ℕ) : Type 0 where
+  pub bytes : StayTogether p (offset_at p.relocations i) 4
+  pub code : (relocation_in p.relocations_after i).code ≡ (relocation_in p.relocations i).code
