@@ -284,7 +284,7 @@ impl Made for u8 {
 /// A relocation as files have it, mostly near the beginning of a section and of a symbol that is there.
 fn relocation(random: &mut Random) -> Vec<u8> {
     let any = [random.below(1200), random.below(60)];
-    let r_type = [any[0], any[1], 60, 61, 35, 39, 38, 64][random.below(8) as usize];
+    let r_type = [any[0], any[1], 60, 61, 35, 39, 38, 64, 4, 10][random.below(10) as usize];
     let symbol = [random.below(4), random.below(1 << 32)][usize::from(random.below(8) == 0)];
     let offset = [4 * random.below(8), random.number()][usize::from(random.below(8) == 0)];
     let words = [offset, symbol << 32 | r_type, random.number()];
